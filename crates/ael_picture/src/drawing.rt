@@ -162,14 +162,12 @@ fn name_text(alloc: Global, header: Header) -> Result<String, AllocError> {
     if header.len < 5 {
         return format!(in alloc; "{}.{}", header.mutator, header.serial);
     }
-    let kind = match header.kind {
-        Kind::Fields => "fields",
-        Kind::Raw => "raw",
+    let (kind, len) = match header.kind {
+        Kind::Fields => ("fields", header.len),
+        Kind::Raw => ("raw", header.len),
+        Kind::Mixed => ("mixed", header.len.saturating_sub(1)),
     };
-    format!(in alloc;
-        "{kind} {} {}.{}",
-        header.len, header.mutator, header.serial
-    )
+    format!(in alloc; "{kind} {len} {}.{}", header.mutator, header.serial)
 }
 
 /// The text on a record, where it has room for one.

@@ -92,6 +92,19 @@ impl<'a> Heap<'a> {
         }
     }
 
+    /// How many of the words behind a record's header are tagged, if it has so many: those of a mixed one are the count of its fields,
+    /// and these.
+    fn tagged_words(&self, addr: u32, kind: Kind) -> u64 {
+        match kind {
+            Kind::Fields => u64::MAX,
+            Kind::Raw => 0,
+            Kind::Mixed => {
+                let count = Word(self.word(addr.saturating_add(1))).as_number();
+                count.unwrap_or(0).saturating_add(1)
+            }
+        }
+    }
+
     /// Marks the words of what begins at an address, and answers how many follow the first.
     fn mark(&self, classes: &mut Vec<Class>, addr: u32) -> u32 {
         let Some(found) = self.found(addr) else {
@@ -99,11 +112,13 @@ impl<'a> Heap<'a> {
         };
         set(classes, addr, found.class);
         if found.class == Class::Header {
+            let tagged = self.tagged_words(addr, found.kind);
             for i in 0..found.len {
                 let at = addr.saturating_add(i).saturating_add(1);
-                let class = match found.kind {
-                    Kind::Raw => Class::Raw,
-                    Kind::Fields => self.tagged(self.word(at)),
+                let class = if u64::from(i) < tagged {
+                    self.tagged(self.word(at))
+                } else {
+                    Class::Raw
                 };
                 set(classes, at, class);
             }

@@ -11,7 +11,10 @@ use Rattle.atom_store.specs.Acts.{MakesStep, after_next_step}
 use Rattle.atom_store.specs.Step.{words_after}
 use Rattle.atom_store.proofs.Acting.{no_step}
 use Rattle.atom_store.proofs.Steps.{slice_index-words_after, slice_index-stored}
+use Rattle.heap_words.specs.declared.kind.Kind.{Kind}
+use Rattle.heap_words.specs.declared.kind.Kind.TheVariants.{Fields, Raw, Mixed}
 use Rattle.heap_words.specs.Decoded.{encode}
+use Rattle.heap_words.specs.Word.{number_word}
 use Rattle.record_layout.specs.Layout.{header_says}
 use Rattle.space_map.specs.declared.area_word.AreaWord.{AreaWord}
 use Rattle.space_map.specs.declared.page_word.PageWord.TheVariants.{Open}
@@ -27,10 +30,10 @@ use Rattle.alloc_end.specs.declared.new_pages.NewPages.{NewPages}
 use Rattle.alloc_end.specs.declared.allocated.Allocated.{Allocated}
 use Rattle.alloc_end.specs.declared.allocated.Allocated.TheVariants.{Placed, Full}
 use Rattle.alloc_end.specs.declared.place_stage.PlaceStage.{PlaceStage}
-use Rattle.alloc_end.specs.declared.place_stage.PlaceStage.TheVariants.{LoadsTraced, LoadsArea, ExchangesArea, StoresZero, OpensPage, StoresHeader, Ended}
-use Rattle.alloc_end.specs.Place.{Placing, at_stage, size_of, pages_for, words_for, fits, shortage, place_machine, told, taken_at, looked_at_area, cleared, after_opening}
+use Rattle.alloc_end.specs.declared.place_stage.PlaceStage.TheVariants.{LoadsTraced, LoadsArea, ExchangesArea, StoresZero, OpensPage, StoresCount, StoresHeader, Ended}
+use Rattle.alloc_end.specs.Place.{Placing, at_stage, size_of, pages_for, words_for, fits, shortage, place_machine, stores_first, told, told_at, taken_at, looked_at_area, cleared, after_opening}
 use Rattle.alloc_end.specs.Soundness.{IsSoundPlacing}
-use Rattle.alloc_end.specs.Theorems.{area_word, AreZero, AreOpen, IsReady, PlacesRecord}
+use Rattle.alloc_end.specs.Theorems.{area_word, AreZero, AreOpen, IsRunReady, AwaitsHeader, IsReady, PlacesRecord, zeros_from}
 
 -- ---- stores in heap words and page words
 
@@ -96,9 +99,11 @@ zero_stays : (n from upto page value : ℕ) (before after : List ℕ) → page �
 zero_stays n from upto page value before after is_page below zero makes a low high =
     word_stays n a page value before after is_page (omega arith) makes ∙ zero a low high
 
-zero_behind : (n at upto value : ℕ) (before after : List ℕ) → AreZero n at upto before
-    → after ≡ words_after (Store (place_of n (HeapWord at)) value) before → AreZero n (at + 1) upto after
-zero_behind n at upto value before after zero makes a low high = other_word n a at value before after makes (omega arith) ∙ zero a (omega arith) high
+-- behind the word that is written
+zero_behind : (n from behind at upto value : ℕ) (before after : List ℕ) → AreZero n from upto before → from ≤ behind → at < behind
+    → after ≡ words_after (Store (place_of n (HeapWord at)) value) before → AreZero n behind upto after
+zero_behind n from behind at upto value before after zero later past makes a low high =
+    other_word n a at value before after makes (omega arith) ∙ zero a (omega arith) high
 
 open_more : (n epoch from next : ℕ) (before after : List ℕ) → HoldsTable n before → next ≤ 2 * n → epoch < 2 ^ 32 → AreOpen n epoch from next before
     → after ≡ words_after (Store (place_of n (Page next)) (encode_page (Open epoch))) before → AreOpen n epoch from (next + 1) after
@@ -116,10 +121,14 @@ open_stays n epoch from upto a value before after below is_word opened makes pag
 
 -- ---- what is made ready
 
-ready_by_area : (p : Placing) (traced : Bool) (o : Option AreaWord) (words : List ℕ) → IsReady p (looked_at_area p traced o) words
+-- at the stage that it has come to
+abbrev IsReadyAt : Placing → PlaceStage → List ℕ → Type 0
+IsReadyAt p stage words = IsReady (at_stage p stage) stage words
+
+ready_by_area : (p : Placing) (traced : Bool) (o : Option AreaWord) (words : List ℕ) → IsReadyAt p (looked_at_area p traced o) words
 ready_by_area p traced (Some area) words = by_test (fits traced (words_for p.header) area)
   where
-    by_test : (b : Bool) → IsReady p (cond b (ExchangesArea (record { traced = traced; area = area })) (Ended (Full (shortage traced p.header area)))) words
+    by_test : (b : Bool) → IsReadyAt p (cond b (ExchangesArea (record { traced = traced; area = area })) (Ended (Full (shortage traced p.header area)))) words
     by_test true = tt
     by_test false = tt
 ready_by_area p traced None words = tt
@@ -130,15 +139,35 @@ ready_by_exchange p f true found words = λ a low high. absurd (omega arith)
 ready_by_exchange p f false found words = tt
 
 ready_by_zero : (p : Placing) (new : NewPages) (words : List ℕ) → new.next < new.first + words_for p.header → AreZero p.layout.pages new.first (new.next + 1) words
-    → IsReady p (cleared (words_for p.header) new) words
+    → IsReadyAt p (cleared (words_for p.header) new) words
 ready_by_zero p new words below zero = by_test (nat_lt (new.next + 1) (new.first + words_for p.header)) refl
   where
     by_test : (b : Bool) → nat_lt (new.next + 1) (new.first + words_for p.header) ≡ b
-        → IsReady p (cond b (StoresZero (record { first = new.first; next = new.next + 1 })) (OpensPage (record { first = new.first; next = page_of new.first }))) words
+        → IsReadyAt p (cond b (StoresZero (record { first = new.first; next = new.next + 1 })) (OpensPage (record { first = new.first; next = page_of new.first }))) words
     by_test true test = zero
     by_test false test =
         let last : new.first + words_for p.header ≤ new.next + 1 = grind (arith, nat_tests) in
         (λ a low high. zero a low (omega arith), λ page low high. absurd (omega arith))
+
+zeros_from-pos : (kind : Kind) → 0 < zeros_from kind
+zeros_from-pos Fields = omega arith
+zeros_from-pos Raw = omega arith
+zeros_from-pos Mixed = omega arith
+
+-- a run that is ready awaits the header of a record that isn't mixed
+header_next : (p : Placing) (words : List ℕ) → p.header.kind ≢ Mixed → p.run.at < p.run.end → IsRunReady p words → AwaitsHeader p words
+header_next p words other room ready = record {
+  place = ready.0 p.run.at (omega arith) room;
+  counted = λ mixed. absurd (other mixed);
+  zero = λ a low high. ready.0 a (omega arith) high;
+  opened = ready.1;
+}
+
+-- where a run with room is ready, it is so for the record's first store
+ready_first : (p : Placing) (kind : Kind) (words : List ℕ) → p.header.kind ≡ kind → p.run.at < p.run.end → IsRunReady p words → IsReady p (stores_first kind) words
+ready_first p Mixed words is room ready = ready
+ready_first p Fields words is room ready = header_next p words (λ mixed. cc) room ready
+ready_first p Raw words is room ready = header_next p words (λ mixed. cc) room ready
 
 ready_by_page : (p : Placing) (new : NewPages) (words : List ℕ) → AreZero p.layout.pages new.first (new.first + words_for p.header) words
     → AreOpen p.layout.pages p.epoch (page_of new.first) (new.next + 1) words → IsReady (after_opening p new) (after_opening p new).stage words
@@ -146,12 +175,27 @@ ready_by_page p new words zero open_pages = by_test (nat_lt (new.next + 1) (page
   where
     by_test : (b : Bool) → nat_lt (new.next + 1) (page_of new.first + pages_for (size_of p.header)) ≡ b
         → let next = cond b (at_stage p (OpensPage (record { first = new.first; next = new.next + 1 })))
-        (record p { run = record { at = new.first; end = new.first + words_for p.header }; stage = StoresHeader })
+        (record p { run = record { at = new.first; end = new.first + words_for p.header }; stage = stores_first p.header.kind })
         in IsReady next next.stage words
     by_test true test = (zero, open_pages)
     by_test false test =
         let last : page_of new.first + pages_for (size_of p.header) ≤ new.next + 1 = grind (arith, nat_tests) in
-        (zero, λ page low high. open_pages page low (omega arith))
+        ready_first (record p { run = record { at = new.first; end = new.first + words_for p.header }; stage = stores_first p.header.kind }) p.header.kind words refl
+        (omega arith) (zero, λ page low high. open_pages page low (omega arith))
+
+-- the count of a mixed record's fields is stored
+count_stored : (p : Placing) (before after : List ℕ) → HoldsTable p.layout.pages before → p.header.kind ≡ Mixed → p.run.at + 1 < p.run.end → p.run.end ≤ 128 * p.layout.pages
+    → IsRunReady p before → after ≡ words_after (Store (place_of p.layout.pages (HeapWord (p.run.at + 1))) (number_word p.fields)) before → AwaitsHeader p after
+count_stored p before after whole is room inside ready makes =
+    let n : ℕ = p.layout.pages in
+    let at : ℕ = p.run.at in
+    let two : zeros_from p.header.kind ≡ 2 = ap zeros_from is in
+    record {
+      place = other_word n at (at + 1) (number_word p.fields) before after makes (omega arith) ∙ ready.0 at (omega arith) (omega (arith, room));
+      counted = λ mixed. this_word n (at + 1) (number_word p.fields) before after whole (omega (arith, room, inside)) makes;
+      zero = zero_behind n at (at + zeros_from p.header.kind) (at + 1) p.run.end (number_word p.fields) before after ready.0 (omega arith) (omega (arith, two)) makes;
+      opened = open_stays n p.epoch (page_of at) (page_of p.run.end) (at + 1) (number_word p.fields) before after (omega (arith, inside)) (omega (arith, room, inside)) ready.1 makes;
+    }
 
 pub ready : (p : Placing) (stage : PlaceStage) (before after : List ℕ) (turn : Turn Allocated) → IsSoundPlacing (at_stage p stage) → HoldsTable p.layout.pages before
     → IsReady (at_stage p stage) stage before → MakesStep place_machine (at_stage p stage) before after turn
@@ -168,6 +212,13 @@ ready p (OpensPage new) before after turn sound whole is acts =
     ready_by_page p new after
     (zero_stays p.layout.pages new.first (new.first + words_for p.header) new.next value before after (omega arith) stage.0 is.0 acts.makes)
     (open_more p.layout.pages p.epoch (page_of new.first) new.next before after whole (omega arith) sound.epoch is.1 acts.makes)
+ready p StoresCount before after turn sound whole is acts =
+    let stage = sound.stage in
+    let long = stage.1 in
+    let room = stage.2 in
+    let run = sound.run in
+    let inside = run.1 in
+    count_stored (at_stage p StoresHeader) before after whole stage.0 (omega (arith, long, room)) inside is acts.makes
 ready p StoresHeader before after turn sound whole is acts = tt
 ready p (Ended result) before after turn sound whole is acts = tt
 
@@ -194,13 +245,18 @@ never_ends_at_zero p new result tells = by_test (nat_lt (new.next + 1) (new.firs
     by_test true e = cc
     by_test false e = cc
 
+never_ends_at_first : (kind : Kind) (result : Allocated) → told_at (stores_first kind) ≡ Finished result → ⊥
+never_ends_at_first Fields result e = cc
+never_ends_at_first Raw result e = cc
+never_ends_at_first Mixed result e = cc
+
 pub never_ends_at_page : (p : Placing) (new : NewPages) (result : Allocated) → told (after_opening p new) ≡ Finished result → ⊥
 never_ends_at_page p new result tells = by_test (nat_lt (new.next + 1) (page_of new.first + pages_for (size_of p.header))) tells
   where
     by_test : (b : Bool) → told (cond b (at_stage p (OpensPage (record { first = new.first; next = new.next + 1 })))
-        (record p { run = record { at = new.first; end = new.first + words_for p.header }; stage = StoresHeader })) ≡ Finished result → ⊥
+        (record p { run = record { at = new.first; end = new.first + words_for p.header }; stage = stores_first p.header.kind })) ≡ Finished result → ⊥
     by_test true e = cc
-    by_test false e = cc
+    by_test false e = never_ends_at_first p.header.kind result e
 
 pub more_never_ends : (result : Allocated) → More ≡ Finished result → ⊥
 more_never_ends result e = cc
@@ -213,6 +269,7 @@ places p (LoadsArea traced) before after at sound whole is acts = absurd (never_
 places p (ExchangesArea f) before after at sound whole is acts = absurd (never_ends_at_exchange p f _ (Placed at) acts.tells)
 places p (StoresZero new) before after at sound whole is acts = absurd (never_ends_at_zero p new (Placed at) acts.tells)
 places p (OpensPage new) before after at sound whole is acts = absurd (never_ends_at_page p new (Placed at) acts.tells)
+places p StoresCount before after at sound whole is acts = absurd (more_never_ends (Placed at) acts.tells)
 places p StoresHeader before after at sound whole is acts = subst (PlacesRecord (at_stage p StoresHeader) before after) same record_placed
   where
     same : p.run.at ≡ at
@@ -226,8 +283,10 @@ places p StoresHeader before after at sound whole is acts = subst (PlacesRecord 
           at_run = refl;
           in_run = room;
           header = this_word p.layout.pages p.run.at (encode (header_says p.header)) before after whole (omega arith) acts.makes;
-          zero = zero_behind p.layout.pages p.run.at p.run.end (encode (header_says p.header)) before after is.0 acts.makes;
-          opened = open_stays p.layout.pages p.epoch (page_of p.run.at) (page_of p.run.end) p.run.at (encode (header_says p.header)) before after (omega arith) (omega arith) is.1 acts.makes;
+          counted = λ mixed. other_word p.layout.pages (p.run.at + 1) p.run.at (encode (header_says p.header)) before after acts.makes (omega arith) ∙ is.counted mixed;
+          zero = zero_behind p.layout.pages (p.run.at + zeros_from p.header.kind) (p.run.at + zeros_from p.header.kind) p.run.at p.run.end (encode (header_says p.header))
+              before after is.zero (omega arith) (omega (arith, zeros_from-pos p.header.kind)) acts.makes;
+          opened = open_stays p.layout.pages p.epoch (page_of p.run.at) (page_of p.run.end) p.run.at (encode (header_says p.header)) before after (omega arith) (omega arith) is.opened acts.makes;
           run_goes_on = refl;
           others = λ place apart. ap (λ ws. slice_index ws place) acts.makes
               ∙ slice_index-words_after (Store (place_of p.layout.pages (HeapWord p.run.at)) (encode (header_says p.header))) before place apart;

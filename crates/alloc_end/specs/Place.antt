@@ -7,7 +7,10 @@ use Rattle.atom_store.specs.declared.turn.Turn.{Turn}
 use Rattle.atom_store.specs.declared.turn.Turn.TheVariants.{More, Finished}
 use Rattle.atom_store.specs.Machine.{Machine}
 use Rattle.atom_store.specs.StepOn.{StepOn, Load, Store, Exchange, step_at}
+use Rattle.heap_words.specs.declared.kind.Kind.{Kind}
+use Rattle.heap_words.specs.declared.kind.Kind.TheVariants.{Fields, Raw, Mixed}
 use Rattle.heap_words.specs.Decoded.{encode}
+use Rattle.heap_words.specs.Word.{number_word}
 use Rattle.record_layout.specs.declared.header.Header.{Header}
 use Rattle.record_layout.specs.Layout.{header_says}
 use Rattle.space_map.specs.declared.area_word.AreaWord.{AreaWord}
@@ -23,13 +26,14 @@ use Rattle.alloc_end.specs.declared.shortage.Shortage.{Shortage}
 use Rattle.alloc_end.specs.declared.allocated.Allocated.{Allocated}
 use Rattle.alloc_end.specs.declared.allocated.Allocated.TheVariants.{Placed, Full}
 use Rattle.alloc_end.specs.declared.place_stage.PlaceStage.{PlaceStage}
-use Rattle.alloc_end.specs.declared.place_stage.PlaceStage.TheVariants.{LoadsTraced, LoadsArea, ExchangesArea, StoresZero, OpensPage, StoresHeader, Ended}
+use Rattle.alloc_end.specs.declared.place_stage.PlaceStage.TheVariants.{LoadsTraced, LoadsArea, ExchangesArea, StoresZero, OpensPage, StoresCount, StoresHeader, Ended}
 
--- the allocation of a record with this header, by a mutator of an epoch that has this run
+-- the allocation of a record with this header, and if it is mixed with so many fields, by a mutator of an epoch that has this run
 pub record Placing : Type 0 where
   pub layout : Layout
   pub run : Run
   pub header : Header
+  pub fields : ℕ
   pub epoch : ℕ
   pub stage : PlaceStage
 
@@ -47,12 +51,19 @@ words_for header = 64 * pages_for (size_of header)
 
 -- ---- how it begins
 
+-- the first store of a record into a run: the count of a mixed one's fields, else the header
+abbrev pub stores_first : Kind → PlaceStage
+stores_first Fields = StoresHeader
+stores_first Raw = StoresHeader
+stores_first Mixed = StoresCount
+
 -- in the run, where the record fits there
 abbrev pub first_stage : Run → Header → PlaceStage
-first_stage run header = if nat_le (run.at + size_of header) run.end then StoresHeader else LoadsTraced
+first_stage run header = if nat_le (run.at + size_of header) run.end then stores_first header.kind else LoadsTraced
 
-abbrev pub begun : Layout → Run → Header → (epoch : ℕ) → Placing
-begun layout run header epoch = record { layout = layout; run = run; header = header; epoch = epoch; stage = first_stage run header }
+abbrev pub begun : Layout → Run → Header → (epoch fields : ℕ) → Placing
+begun layout run header epoch fields =
+    record { layout = layout; run = run; header = header; fields = fields; epoch = epoch; stage = first_stage run header }
 
 -- ---- the claim of pages
 
@@ -96,6 +107,7 @@ wants_at p (LoadsArea traced) = Some (Load (Area (to_space p.epoch)))
 wants_at p (ExchangesArea f) = Some (Exchange (Area (to_space p.epoch)) (encode_area f.area) (encode_area (area_after (words_for p.header) f)))
 wants_at p (StoresZero new) = Some (Store (HeapWord new.next) 0)
 wants_at p (OpensPage new) = Some (Store (Page new.next) (encode_page (Open p.epoch)))
+wants_at p StoresCount = Some (Store (HeapWord (p.run.at + 1)) (number_word p.fields))
 wants_at p StoresHeader = Some (Store (HeapWord p.run.at) (encode (header_says p.header)))
 wants_at p (Ended result) = None
 
@@ -127,7 +139,7 @@ abbrev pub after_opening : Placing → NewPages → Placing
 after_opening p new =
     if nat_lt (new.next + 1) (page_of new.first + pages_for (size_of p.header))
     then at_stage p (OpensPage (record { first = new.first; next = new.next + 1 }))
-    else record p { run = record { at = new.first; end = new.first + words_for p.header }; stage = StoresHeader }
+    else record p { run = record { at = new.first; end = new.first + words_for p.header }; stage = stores_first p.header.kind }
 
 -- the record stands, and the run goes on behind it
 abbrev pub placed : Placing → Placing
@@ -140,6 +152,7 @@ taken_at p (ExchangesArea f) Won = at_stage p (StoresZero (record { first = firs
 taken_at p (ExchangesArea f) (Lost word) = at_stage p LoadsTraced
 taken_at p (StoresZero new) Done = at_stage p (cleared (words_for p.header) new)
 taken_at p (OpensPage new) Done = after_opening p new
+taken_at p StoresCount Done = at_stage p StoresHeader
 taken_at p StoresHeader Done = placed p
 taken_at p stage answer = p
 
@@ -163,11 +176,12 @@ place_machine = record { wanted = wanted; taken = taken; told = told }
 
 -- where the record needs so many pages
 abbrev pub left_at : (asked : ℕ) → PlaceStage → ℕ
-left_at asked LoadsTraced = 65 * asked + 4
-left_at asked (LoadsArea traced) = 65 * asked + 3
-left_at asked (ExchangesArea f) = 65 * asked + 2
-left_at asked (StoresZero new) = 65 * asked + 1 - (new.next - new.first)
-left_at asked (OpensPage new) = asked + 1 - (new.next - page_of new.first)
+left_at asked LoadsTraced = 65 * asked + 5
+left_at asked (LoadsArea traced) = 65 * asked + 4
+left_at asked (ExchangesArea f) = 65 * asked + 3
+left_at asked (StoresZero new) = 65 * asked + 2 - (new.next - new.first)
+left_at asked (OpensPage new) = asked + 2 - (new.next - page_of new.first)
+left_at asked StoresCount = 2
 left_at asked StoresHeader = 1
 left_at asked (Ended result) = 0
 
@@ -181,6 +195,7 @@ advances_at (LoadsArea traced) (Value word) = is_some (decode_area word)
 advances_at (ExchangesArea f) Won = true
 advances_at (StoresZero new) Done = true
 advances_at (OpensPage new) Done = true
+advances_at StoresCount Done = true
 advances_at StoresHeader Done = true
 advances_at stage answer = false
 

@@ -1,17 +1,22 @@
 -- What an allocation keeps of itself: its places are in the table, its run and the pages that it claimed are in the spaces, and
 -- the areas that it writes fit their words.
-use Rattle.std.specs.Prelude.{ℕ, ◌+◌, ◌*◌, ◌^◌, ◌<◌, ◌≤◌, ⊤}
+use Rattle.std.specs.Prelude.{◌≡◌, ℕ, ◌+◌, ◌*◌, ◌^◌, ◌<◌, ◌≤◌, ⊤}
 use Rattle.space_map.specs.Spaces.{IsPageCount, page_of}
+use Rattle.heap_words.specs.declared.kind.Kind.TheVariants.{Mixed}
 use Rattle.record_layout.specs.declared.header.Header.{Header}
 use Rattle.alloc_end.specs.declared.run.Run.{Run}
 use Rattle.alloc_end.specs.declared.fitting.Fitting.{Fitting}
 use Rattle.alloc_end.specs.declared.place_stage.PlaceStage.{PlaceStage}
-use Rattle.alloc_end.specs.declared.place_stage.PlaceStage.TheVariants.{LoadsTraced, LoadsArea, ExchangesArea, StoresZero, OpensPage, StoresHeader, Ended}
+use Rattle.alloc_end.specs.declared.place_stage.PlaceStage.TheVariants.{LoadsTraced, LoadsArea, ExchangesArea, StoresZero, OpensPage, StoresCount, StoresHeader, Ended}
 use Rattle.alloc_end.specs.Place.{Placing, size_of, pages_for, kept_room}
 
 -- the run lies in the spaces
 abbrev pub RunLiesInSpaces : (pages : ℕ) → Run → Type 0
 RunLiesInSpaces n run = (run.at ≤ run.end) × (run.end ≤ 128 * n)
+
+-- a mixed record holds its fields and their count
+abbrev pub HoldsFields : Header → (fields : ℕ) → Type 0
+HoldsFields header fields = header.kind ≡ Mixed → fields < header.len
 
 -- the area has room for so many words, and its parts are in their ranges
 pub record AreaHoldsClaim (pages words : ℕ) (f : Fitting) : Type 0 where
@@ -31,12 +36,14 @@ FitsPlaceStage n asked run header (ExchangesArea f) = AreaHoldsClaim n (64 * ask
 FitsPlaceStage n asked run header (StoresZero new) = IsClaimed n (64 * asked) new.first × (new.first ≤ new.next) × (new.next < new.first + 64 * asked)
 FitsPlaceStage n asked run header (OpensPage new) =
     IsClaimed n (64 * asked) new.first × (page_of new.first ≤ new.next) × (new.next < page_of new.first + asked)
+FitsPlaceStage n asked run header StoresCount = (header.kind ≡ Mixed) × (1 < size_of header) × (run.at + size_of header ≤ run.end)
 FitsPlaceStage n asked run header StoresHeader = run.at + size_of header ≤ run.end
 FitsPlaceStage n asked run header (Ended result) = ⊤
 
 pub record IsSoundPlacing (p : Placing) : Type 0 where
   pub pages : IsPageCount p.layout.pages
   pub run : RunLiesInSpaces p.layout.pages p.run
+  pub fields : HoldsFields p.header p.fields
   pub epoch : p.epoch < 2 ^ 32
   pub stage : FitsPlaceStage p.layout.pages (pages_for (size_of p.header)) p.run p.header p.stage
 

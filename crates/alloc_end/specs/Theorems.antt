@@ -3,7 +3,10 @@ use Rattle.std.specs.Prelude.{◌≡◌, ◌≢◌, ℕ, ◌+◌, ◌-◌, ◌*�
 use Rattle.atom_store.specs.declared.turn.Turn.{Turn}
 use Rattle.atom_store.specs.declared.turn.Turn.TheVariants.{Finished}
 use Rattle.atom_store.specs.Acts.{MakesStep, after_next_step}
+use Rattle.heap_words.specs.declared.kind.Kind.{Kind}
+use Rattle.heap_words.specs.declared.kind.Kind.TheVariants.{Fields, Raw, Mixed}
 use Rattle.heap_words.specs.Decoded.{encode}
+use Rattle.heap_words.specs.Word.{number_word}
 use Rattle.record_layout.specs.Layout.{header_says}
 use Rattle.space_map.specs.declared.area_word.AreaWord.{AreaWord}
 use Rattle.space_map.specs.declared.page_word.PageWord.TheVariants.{Open}
@@ -17,7 +20,7 @@ use Rattle.alloc_end.specs.declared.shortage.Shortage.{Shortage}
 use Rattle.alloc_end.specs.declared.allocated.Allocated.{Allocated}
 use Rattle.alloc_end.specs.declared.allocated.Allocated.TheVariants.{Placed, Full}
 use Rattle.alloc_end.specs.declared.place_stage.PlaceStage.{PlaceStage}
-use Rattle.alloc_end.specs.declared.place_stage.PlaceStage.TheVariants.{LoadsTraced, LoadsArea, ExchangesArea, StoresZero, OpensPage, StoresHeader, Ended}
+use Rattle.alloc_end.specs.declared.place_stage.PlaceStage.TheVariants.{LoadsTraced, LoadsArea, ExchangesArea, StoresZero, OpensPage, StoresCount, StoresHeader, Ended}
 use Rattle.alloc_end.specs.Place.{Placing, at_stage, size_of, pages_for, words_for, kept_room, room_in, area_after, first_claimed, shortage, place_machine}
 use Rattle.alloc_end.specs.Soundness.{IsSoundPlacing}
 
@@ -72,7 +75,28 @@ AreZero n from upto words = (a : ℕ) → from ≤ a → a < upto → row_word n
 abbrev pub AreOpen : (pages epoch from upto : ℕ) → List ℕ → Type 0
 AreOpen n epoch from upto words = (page : ℕ) → from ≤ page → page < upto → decode_page (row_word n (Page page) words) ≡ Some (Open epoch)
 
--- What an allocation has made ready: words that are 0, pages that are open. A run that it is given is to be so.
+-- at which word behind its place a new record's zeros begin: a mixed one's behind the count of its fields
+abbrev pub zeros_from : Kind → ℕ
+zeros_from Fields = 1
+zeros_from Raw = 1
+zeros_from Mixed = 2
+
+-- the count of a mixed record's fields stands behind the record's place
+abbrev pub IsCounted : Placing → (at : ℕ) → List ℕ → Type 0
+IsCounted p at words = p.header.kind ≡ Mixed → row_word p.layout.pages (HeapWord (at + 1)) words ≡ number_word p.fields
+
+-- the run's words are 0, and its pages are open
+abbrev pub IsRunReady : Placing → List ℕ → Type 0
+IsRunReady p words = AreZero p.layout.pages p.run.at p.run.end words × AreOpen p.layout.pages p.epoch (page_of p.run.at) (page_of p.run.end) words
+
+-- the run but for the header: of a mixed record the count of its fields stands behind the place, all other words are 0, and the pages are open
+pub record AwaitsHeader (p : Placing) (words : List ℕ) : Type 0 where
+  pub place : row_word p.layout.pages (HeapWord p.run.at) words ≡ 0
+  pub counted : IsCounted p p.run.at words
+  pub zero : AreZero p.layout.pages (p.run.at + zeros_from p.header.kind) p.run.end words
+  pub opened : AreOpen p.layout.pages p.epoch (page_of p.run.at) (page_of p.run.end) words
+
+-- What an allocation has made ready: words that are 0 or a count, pages that are open. A run that it is given is to be so.
 abbrev pub IsReady : Placing → PlaceStage → List ℕ → Type 0
 IsReady p LoadsTraced words = ⊤
 IsReady p (LoadsArea traced) words = ⊤
@@ -80,7 +104,8 @@ IsReady p (ExchangesArea f) words = ⊤
 IsReady p (StoresZero new) words = AreZero p.layout.pages new.first new.next words
 IsReady p (OpensPage new) words =
     AreZero p.layout.pages new.first (new.first + words_for p.header) words × AreOpen p.layout.pages p.epoch (page_of new.first) new.next words
-IsReady p StoresHeader words = AreZero p.layout.pages p.run.at p.run.end words × AreOpen p.layout.pages p.epoch (page_of p.run.at) (page_of p.run.end) words
+IsReady p StoresCount words = IsRunReady p words
+IsReady p StoresHeader words = AwaitsHeader p words
 IsReady p (Ended result) words = ⊤
 
 -- nobody else writes these words; and the allocation's own steps keep it
@@ -89,13 +114,14 @@ PagesAreMadeReady = (p : Placing) (before after : List ℕ) (turn : Turn Allocat
     → IsReady p p.stage before → MakesStep place_machine p before after turn
     → IsReady (after_next_step place_machine p before) (after_next_step place_machine p before).stage after
 
--- The record's header stands where the run was, inside it and on open pages; its words are 0, and so is what is left of the run,
--- which goes on behind the record. No other word changes.
+-- The record's header stands where the run was, inside it and on open pages; of a mixed record the count of its fields stands behind
+-- it. The record's other words are 0, and so is what is left of the run, which goes on behind the record. No other word changes.
 pub record PlacesRecord (p : Placing) (before after : List ℕ) (at : ℕ) : Type 0 where
   pub at_run : at ≡ p.run.at
   pub in_run : at + size_of p.header ≤ p.run.end
   pub header : row_word p.layout.pages (HeapWord at) after ≡ encode (header_says p.header)
-  pub zero : AreZero p.layout.pages (at + 1) p.run.end after
+  pub counted : IsCounted p at after
+  pub zero : AreZero p.layout.pages (at + zeros_from p.header.kind) p.run.end after
   pub opened : AreOpen p.layout.pages p.epoch (page_of at) (page_of p.run.end) after
   pub run_goes_on : (after_next_step place_machine p before).run ≡ record { at = at + size_of p.header; end = p.run.end }
   pub others : ChangesOnly p.layout.pages (HeapWord at) before after

@@ -1,6 +1,6 @@
 //! What holds of the machines. Each function here does nothing: its contract is what is proved.
 
-ghost use Rattle.alloc_end.specs.Rows.{FirstPairIsPlaced, NextRecordIsPlaced, ReserveIsKept, ReserveIsFreeOnceTraced, FullTellsItsNumbers, LongestIsFull, LostClaimIsTriedAgain};
+ghost use Rattle.alloc_end.specs.Rows.{FirstPairIsPlaced, NextRecordIsPlaced, CountIsStoredFirst, MixedRecordIsPlaced, ReserveIsKept, ReserveIsFreeOnceTraced, FullTellsItsNumbers, LongestIsFull, LostClaimIsTriedAgain};
 ghost use Rattle.alloc_end.specs.HeldUp.{GoesOn};
 ghost use Rattle.alloc_end.specs.Theorems.{TracedIsRead, PagesAreClaimed, PagesAreLost, PagesAreMadeReady, RecordsArePlaced, FullHeapsAreShort, ShortHeapsAreFull};
 
@@ -11,7 +11,7 @@ pub fn claims_keep_the_reserve()
     ensures lost { PagesAreLost }
 {}
 
-/// A record is placed on open pages, in words that are 0.
+/// A record is placed on open pages, in words that are 0, but for the count of a mixed one's fields, which stands there before it.
 pub fn records_are_placed_in_cleared_pages()
     ensures ready { PagesAreMadeReady }
     ensures placed { RecordsArePlaced }
@@ -32,6 +32,8 @@ pub fn allocations_go_on()
 pub fn rows_are_worked_out()
     ensures first_pair_is_placed { FirstPairIsPlaced }
     ensures next_record_is_placed { NextRecordIsPlaced }
+    ensures count_is_stored_first { CountIsStoredFirst }
+    ensures mixed_record_is_placed { MixedRecordIsPlaced }
     ensures reserve_is_kept { ReserveIsKept }
     ensures reserve_is_free_once_traced { ReserveIsFreeOnceTraced }
     ensures full_tells_its_numbers { FullTellsItsNumbers }

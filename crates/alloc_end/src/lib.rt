@@ -5,6 +5,7 @@
 //! the epoch in which they are made. A mutator has a run of such pages and places its records in it one behind the other.
 //! Where one doesn't fit there, it claims pages for it. While the epoch is not traced, the words between FRONT and LOW have
 //! to suffice for all records that may still be copied, so a claim is made only where that many are left.
+//! The store of its header makes a record; if it is mixed, the count of its fields is stored before that.
 //!
 //! [`Place`] is a machine: it names its next atomic step, and takes the reply. [`PlaceStage`] lists what it does in turn. After
 //! its result it tells the [`Run`] that the mutator has then.

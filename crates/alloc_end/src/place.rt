@@ -4,8 +4,8 @@ ghost use Rattle.record_layout.specs.declared.header.Header.{Header};
 ghost use Rattle.space_map.specs.AreaWord.{AreaFits, decode_area};
 ghost use Rattle.space_map.specs.Spaces.{to_space};
 ghost use Rattle.space_map.specs.Table.{Area, place_of, table_length};
-ghost use Rattle.alloc_end.specs.Place.{begun, wanted, taken, told, left, advances, size_of, pages_for, words_for, kept_room, looked_at_area, area_after, shortage, cleared, after_opening, placed, at_stage, first_claimed};
-ghost use Rattle.alloc_end.specs.Soundness.{RunLiesInSpaces, IsSoundPlacing, IsPlacingGoing, FitsPlaceStage, AreaHoldsClaim};
+ghost use Rattle.alloc_end.specs.Place.{begun, wanted, taken, told, left, advances, size_of, pages_for, words_for, kept_room, looked_at_area, area_after, shortage, cleared, after_opening, placed, at_stage, first_claimed, stores_first};
+ghost use Rattle.alloc_end.specs.Soundness.{RunLiesInSpaces, HoldsFields, IsSoundPlacing, IsPlacingGoing, FitsPlaceStage, AreaHoldsClaim};
 
 use crate::allocated::Allocated;
 use crate::fitting::Fitting;
@@ -14,6 +14,7 @@ use crate::place_stage::PlaceStage;
 use crate::run::Run;
 use crate::shortage::Shortage;
 use atom_store::{Reply, Step, Turn};
+use heap_words::{Kind, Word};
 use record_layout::{Header, pack};
 use space_map::{AreaWord, PAGE_WORDS, PageWord, Spaces};
 use std::marker::Model;
@@ -24,6 +25,7 @@ pub struct Place {
     spaces: Spaces,
     run: Run,
     header: Header,
+    fields: u16,
     epoch: u32,
     stage: PlaceStage,
 }
@@ -34,22 +36,24 @@ impl Model for Place {
 
     ghost Value = { Placing };
 
-    ghost view = { λ p. record { layout = p.spaces; run = p.run; header = p.header; epoch = p.epoch; stage = p.stage } };
+    ghost view = { λ p. record { layout = p.spaces; run = p.run; header = p.header; fields = p.fields; epoch = p.epoch; stage = p.stage } };
 
-    ghost invariant = { λ p. IsSoundPlacing (record { layout = p.spaces; run = p.run; header = p.header; epoch = p.epoch; stage = p.stage }) };
+    ghost invariant = { λ p. IsSoundPlacing (record { layout = p.spaces; run = p.run; header = p.header; fields = p.fields; epoch = p.epoch; stage = p.stage }) };
 
-    ghost inverse = { λ p. record { spaces = p.layout; run = p.run; header = p.header; epoch = p.epoch; stage = p.stage } };
+    ghost inverse = { λ p. record { spaces = p.layout; run = p.run; header = p.header; fields = p.fields; epoch = p.epoch; stage = p.stage } };
 }
 
 impl Place {
-    /// The allocation of a record with this header, by a mutator of this epoch that has this run.
-    pub fn new(spaces: Spaces, run: Run, header: Header, epoch: u32) -> Place
-        requires { RunLiesInSpaces spaces.pages run }
-        ensures { result ≡ begun spaces run header epoch }
+    /// The allocation of a record with this header, and if it is mixed with so many fields, by a mutator of this epoch that
+    /// has this run.
+    pub fn new(spaces: Spaces, run: Run, header: Header, epoch: u32, fields: u16) -> Place
+        requires in_spaces { RunLiesInSpaces spaces.pages run }
+        requires holds { HoldsFields header fields }
+        ensures { result ≡ begun spaces run header epoch fields }
     {
         spaces.known();
         let stage = if run.at + size(header) <= run.end {
-            PlaceStage::StoresHeader
+            first_store(header.kind)
         } else {
             PlaceStage::LoadsTraced
         };
@@ -57,6 +61,7 @@ impl Place {
             spaces,
             run,
             header,
+            fields,
             epoch,
             stage,
         }
@@ -92,6 +97,10 @@ impl Place {
                     PageWord::Open(self.epoch).pack(),
                 )
             }
+            PlaceStage::StoresCount => Step::Store(
+                spaces.word_place(self.run.at + 1),
+                Word::number(u64::from(self.fields)).0,
+            ),
             PlaceStage::StoresHeader => {
                 Step::Store(spaces.word_place(self.run.at), pack(&self.header))
             }
@@ -121,6 +130,10 @@ impl Place {
             }
             (PlaceStage::StoresZero(new), Reply::Done) => self.clear(new),
             (PlaceStage::OpensPage(new), Reply::Done) => self.open(new),
+            (PlaceStage::StoresCount, Reply::Done) => {
+                self.stage = PlaceStage::StoresHeader;
+                Turn::More
+            }
             (PlaceStage::StoresHeader, Reply::Done) => self.place(),
             _ => Turn::More,
         }
@@ -204,7 +217,7 @@ impl Place {
                 at: first,
                 end: first + PAGE_WORDS * asked,
             };
-            self.stage = PlaceStage::StoresHeader;
+            self.stage = first_store(self.header.kind);
         }
         Turn::More
     }
@@ -258,6 +271,16 @@ fn pages(header: Header) -> u32
     ensures in_range { result ≤ 64 }
 {
     size(header).div_ceil(PAGE_WORDS)
+}
+
+/// The first store of a record into the run.
+fn first_store(kind: Kind) -> PlaceStage
+    ensures { result ≡ stores_first kind }
+{
+    match kind {
+        Kind::Mixed => PlaceStage::StoresCount,
+        Kind::Fields | Kind::Raw => PlaceStage::StoresHeader,
+    }
 }
 
 fn size(header: Header) -> u32

@@ -15,6 +15,8 @@ pub enum PlaceStage {
     StoresZero(NewPages),
     /// Open the next of the pages claimed.
     OpensPage(NewPages),
+    /// Store the count of a mixed record's fields in the word behind the run's place.
+    StoresCount,
     /// Store the header at the run's place.
     StoresHeader,
     /// Nothing more: it has come to this.

@@ -1,5 +1,5 @@
 -- What the instructions of a clerk do to its records and registers, if their operands are what they ask for.
-use Rattle.std.proofs.Common.{◌≡◌, ℕ, ◌+◌, ◌-◌, ◌^◌, ◌<◌, ◌≤◌, List, [], ◌∷◌, ◌++◌, length, Some, None, Result, Ok, slice_index_or, slice_set, refl, ap, sym, ◌∙◌, arith}
+use Rattle.std.proofs.Common.{◌≡◌, ℕ, ◌+◌, ◌-◌, ◌^◌, ◌<◌, ◌≤◌, List, [], ◌∷◌, ◌++◌, length, Some, None, Result, Ok, Err, slice_index_or, slice_set, refl, ap, sym, ◌∙◌, arith}
 use Rattle.std.specs.Prelude.{IsOk, IsTrue}
 use Rattle.std.specs.Option.{option_map}
 use Rattle.std.proofs.lemmas.Bool.{le-leb, lt-ltb}
@@ -10,6 +10,7 @@ use Rattle.plain_state.specs.declared.kind.Kind.TheVariants.{Fields, Raw}
 use Rattle.plain_state.specs.declared.sizes.TheConstants.{LONGEST_RECORD}
 use Rattle.plain_state.specs.declared.value.Value.{Value}
 use Rattle.plain_state.specs.declared.value.Value.TheVariants.{Number, Reference}
+use Rattle.plain_state.specs.Layout.{values_at}
 use Rattle.plain_state.specs.State.{Heap, Mutator, Record, made_by}
 use Rattle.plain_state.specs.Writing.{stored, with_value, zeros}
 use Rattle.mutator_asm.specs.declared.instr.Instr.{Instr}
@@ -26,6 +27,7 @@ use Rattle.heap_state.specs.Worker.{Account}
 use Rattle.gc_worker.specs.Plain.Seen.{making_in, seen}
 use Rattle.gc_worker.specs.Workers.Fits.{FitsCall}
 use Rattle.gc_worker.proofs.Plain.RecordsMade.{made_of}
+use Rattle.plain_heap.proofs.Calls.Records.{held_same}
 use Rattle.concordance.specs.Desk.{CanDo, CanMake, Desk, HasWord, LeadsTo, MayTake, desk_after, desk_at, desk_size_made, desk_values, desk_with_record, desk_with_word, desk_word, own}
 
 -- ---- the record to which a value leads
@@ -40,10 +42,12 @@ module _ (desk : Desk) (v : Value) (r : Record) (leads : LeadsTo desk v r) where
   pub with_word_there : (x : ℕ) (w : Value) → desk_with_word desk v x w ≡ record desk { records = slice_set desk.records (leads.serial - 1) (with_value r x w) }
   with_word_there x w = rw (leads.is, leads.found) refl
 
-held_is : (kind : Kind) (w : Value) → IsOk (may_hold kind w) → may_hold kind w ≡ Ok w
-held_is Fields w is = refl
-held_is Raw (Number n) is = refl
-held_is Raw (Reference i) is = cc
+held_is : (kind : Kind) (x : ℕ) (w : Value) → IsOk (may_hold kind x w) → may_hold kind x w ≡ Ok w
+held_is kind x w is = by_outcome (may_hold kind x w) refl is
+  where
+    by_outcome : (o : Result Value End) → may_hold kind x w ≡ o → IsOk o → may_hold kind x w ≡ Ok w
+    by_outcome (Ok v) e is = e ∙ ap Ok (sym (held_same kind x w v e))
+    by_outcome (Err why) e is = cc
 
 -- ---- the plain machine's call
 
@@ -68,10 +72,10 @@ module _ (m : ℕ) (heap : Heap) (k : Mutator) where
   unfolding call action
   call-len d a r leads = rw (leads.is, leads.found) refl
 
-  pub call-st : (a x b : ℕ) (r : Record) (leads : LeadsTo here (register k a) r) → x < length r.values → IsOk (may_hold r.kind (register k b))
+  pub call-st : (a x b : ℕ) (r : Record) (leads : LeadsTo here (register k a) r) → x < length r.values → IsOk (may_hold r.kind x (register k b))
       → call m heap k (instrs.St a (operands.Number x) b) ≡ Ok (record { heap = stored heap (record { mutator = m; serial = leads.serial }) r x (register k b); mutator = went_on k })
   unfolding call action
-  call-st a x b r leads within holds = rw (leads.is, leads.found, lt-ltb x (length r.values) within, held_is r.kind (register k b) holds) refl
+  call-st a x b r leads within holds = rw (leads.is, leads.found, lt-ltb x (length r.values) within, held_is r.kind x (register k b) holds) refl
 
   pub call-new : (d n : ℕ) → n ≤ LONGEST_RECORD → call m heap k (instrs.New d (operands.Number n)) ≡ Ok (allocated m heap k Fields d n)
   unfolding call action
@@ -160,13 +164,14 @@ record_none _ none = refl
 pub does_none : (k : Mutator) (desk : Desk) (i : Instr) → CanDo desk i → making_in (action k i) ≡ None
 does_none k desk (instrs.New d x) can = absurd can
 does_none k desk (instrs.Raw d x) can = absurd can
+does_none k desk (instrs.Mix d fields raw) can = absurd can
 does_none k desk i can = made_of k i
 
 pub does_no_record : (k : Mutator) (desk : Desk) (i : Instr) → CanDo desk i → new_record k i ≡ None
 does_no_record k desk i can = record_none (action k i) (does_none k desk i can)
 
-zeros_pages : (kind : Kind) (n : ℕ) → pages_of (zeros kind n) ≡ pages_for (n + 1)
-zeros_pages kind n = ap (λ (len : ℕ). pages_for (len + 1)) (length-replicate n (Number 0))
+zeros_pages : (kind : Kind) (n : ℕ) → pages_of (zeros kind n) ≡ pages_for (n + values_at kind)
+zeros_pages kind n = ap (λ (len : ℕ). pages_for (len + values_at kind)) (length-replicate n (Number 0))
 
 -- the pages that are asked for
 pub makes_pages : (k : Mutator) (desk : Desk) (i : Instr) → CanMake desk i → option_map pages_of (new_record k i) ≡ Some (pages_for (desk_size_made i))

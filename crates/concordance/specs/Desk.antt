@@ -84,7 +84,7 @@ pub record MayTake (desk : Desk) (v : Value) (x : ℕ) (w : Value) : Type 0 wher
   pub found : Record
   pub leads : LeadsTo desk v found
   pub within : x < length found.values
-  pub holds : IsOk (may_hold found.kind w)
+  pub holds : IsOk (may_hold found.kind x w)
 
 -- The instruction leaves the board alone and makes no record, and its operands are what it asks for: so it is executed.
 abbrev pub CanDo : Desk → Instr → Type 0

@@ -9,6 +9,8 @@ mod claims;
 #[cfg(test)]
 mod copies;
 #[cfg(test)]
+mod exchanges;
+#[cfg(test)]
 mod faults;
 #[cfg(test)]
 mod pace;

@@ -10,3 +10,4 @@ pub mod Cycles
 pub mod Needs
 pub mod Inside
 pub mod Told
+pub mod Stores

@@ -3,6 +3,7 @@
 ghost use Rattle.gc_core.specs.Cycles.{CyclesKeepWhatIsLive, FullHeapsAreFilled, InstructionsFlipOnce};
 ghost use Rattle.gc_core.specs.Law.{EventsMeet, IsLawful};
 ghost use Rattle.gc_core.specs.Needs.{ClaimsAreForRecords, ClaimsAreMadeOrSetAside, LargeHeapsAreNeverFull, LoneFullsFollowTheirFlips, LoneHeapsAreNeverFull, OrdersAreFilledByClaims, OrdersFillTheSpace};
+ghost use Rattle.gc_core.specs.Stores.{ExchangesOfRunsFindTheLastStore, LoadsOfRunsGetTheLastStore};
 ghost use Rattle.gc_core.specs.Told.{WhatStandsIsTold};
 ghost use Rattle.gc_core.specs.Whole.{CopiedPagesAreWonOnce, FlipsAreOfTracedCores, FullsFollowFlips, MissingWorkersAreIdle, NoPageIsWonTwice, RunsArePlainRuns, RunsFollow};
 
@@ -34,6 +35,14 @@ pub fn runs_are_plain_runs()
 /// executes the same instructions in one order, the order of the run: its run is a plain run.
 pub fn runs_follow()
     ensures { RunsFollow }
+{}
+
+/// In the order of a run, by which the core represents the plain machine, a load of a word of a record gets what the last store in that
+/// word before it wrote. An exchange finds that there, tells whether it is what it expects, and is such a store itself if so. What no step
+/// has stored in is the number 0.
+pub fn runs_find_the_last_store()
+    ensures loads { LoadsOfRunsGetTheLastStore }
+    ensures exchanges { ExchangesOfRunsFindTheLastStore }
 {}
 
 /// A worker that isn't there is idle.

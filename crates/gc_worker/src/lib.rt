@@ -26,7 +26,7 @@ pub use access::Access;
 pub use access::access_stage::AccessStage;
 pub use access::accessed::Accessed;
 pub use access::board_access::{BoardAccess, BoardSwap, BoardUse};
-pub use access::field_access::{FieldAccess, FieldUse, Role};
+pub use access::field_access::{FieldAccess, FieldExchange, FieldUse, Role};
 pub use access::record_access::{RecordAccess, RecordUse};
 pub use calls::call::Call;
 pub use calls::did::Did;

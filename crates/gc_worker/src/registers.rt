@@ -6,7 +6,7 @@ ghost use Rattle.std.specs.Prelude.{◌≡◌, ◌^◌, ◌<◌, IfOk, if◌then
 ghost use Rattle.plain_state.specs.declared.value.Value.TheVariants.{Number};
 ghost use Rattle.plain_state.specs.Operation.{one_if};
 ghost use Rattle.plain_heap.specs.Action.{are_same, board_place, is_reference, is_zero, next_of, as_number, operand, reference_in, register};
-ghost use Rattle.gc_worker.specs.Plain.Seen.{length_named};
+ghost use Rattle.gc_worker.specs.Plain.Seen.{length_named, mixed_named};
 ghost use Rattle.gc_worker.specs.Steps.Stepped.{FitsValue, seen_by};
 
 use crate::registers::seen_value::value_in;
@@ -81,6 +81,18 @@ impl State {
             Ok(number as u16)
         } else {
             Err(End::OutOfRange)
+        }
+    }
+
+    /// The fields and the length of a mixed record that two operands name.
+    pub fn mixed_length(&self, fields: Operand, raw: Operand) -> Result<(u16, u16), End>
+        ensures { result ≡ mixed_named (seen_by self.now) fields raw }
+    {
+        let fields = self.operand(fields)?;
+        let raw = self.operand(raw)?;
+        match fields.checked_add(raw) {
+            Some(len) if len < LONGEST_RECORD => Ok((fields as u16, len as u16)),
+            _ => Err(End::OutOfRange),
         }
     }
 

@@ -1,7 +1,9 @@
 pub mod FreeWords
 pub mod Stocks
 pub mod Laws
+pub mod StockWords
 pub mod Zeroed
+pub mod Ahead
 pub mod Opened
 pub mod Claimed
 pub mod Parts

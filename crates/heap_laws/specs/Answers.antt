@@ -1,7 +1,8 @@
 -- What a load may answer, by what the worker is about; and that the row which is read is one of the table.
 use Rattle.std.specs.Prelude.{◌≡◌, ◌≢◌, ℕ, ◌+◌, ◌*◌, ◌<◌, ◌≤◌, ◌⊎◌, ⊤, true, false, Some, None, is_some, length}
 use Rattle.heap_words.specs.declared.kind.Kind.{Kind as HeaderKind}
-use Rattle.heap_words.specs.Decoded.{Decoded, HeaderWord, BusyWord, ForwardWord, decode}
+use Rattle.heap_words.specs.declared.kind.Kind.TheVariants as header_kinds
+use Rattle.heap_words.specs.Decoded.{Decoded, NumberWord, HeaderWord, BusyWord, ForwardWord, decode}
 use Rattle.plain_state.specs.State.{Plain}
 use Rattle.space_map.specs.declared.area_word.AreaWord.{AreaWord}
 use Rattle.space_map.specs.declared.gate_word.GateWord.{GateWord}
@@ -12,7 +13,7 @@ use Rattle.heap_state.specs.Configuration.{Configuration, Stands, table, era, me
 use Rattle.heap_state.specs.Memory.Era.{Era, Memory}
 use Rattle.heap_state.specs.Invariant.Ghost.{Ghost, Lands}
 use Rattle.heap_state.specs.Invariant.Parts.Knowledge.{Passes}
-use Rattle.heap_state.specs.Worker.{Team, Passage, Enter, Park, Request, Forwarded, Resume, Leave, Quest, Copy, Scan, SeenRecord}
+use Rattle.heap_state.specs.Worker.{Team, Passage, Enter, Park, Request, Forwarded, Resume, Leave, Quest, Copy, SeenHeader, Scan, SeenRecord}
 use Rattle.heap_laws.specs.Gate.{gate_after}
 use Rattle.heap_laws.specs.Scanning.Words.{AtField, IsScanning}
 use Rattle.heap_laws.specs.Steps.{Ready, IsAreaNow}
@@ -48,7 +49,7 @@ CopiesAreThere = (E : Era) (m : Memory) (team : Team) (g : Ghost) (k : ℕ) (c :
 
 -- ---- a page that is scanned
 
--- a record's header stands there, and the record ends at FRONT or before
+-- a record's header stands there, and the record ends at FRONT or before; a mixed one has a word for its count
 pub record MeetsHeader (m : Memory) (a : ℕ) : Type 0 where
   pub kind : HeaderKind
   pub len : ℕ
@@ -56,14 +57,16 @@ pub record MeetsHeader (m : Memory) (a : ℕ) : Type 0 where
   pub mutator : ℕ
   pub header : decode (m.heap a) ≡ HeaderWord kind len serial mutator
   pub within : a + (len + 1) ≤ m.front
+  pub counted : kind ≡ header_kinds.Mixed → 0 < len
 
 -- What a scan reads: of a page that isn't the board, the crossing, which lies in the space and not behind the page's first word; the
--- header of the record over that word, which reaches past it; the next header, which is never 0; and a field or a board word,
+-- header of the record over that word, which reaches past it; the next header, which is never 0; the count of a mixed record, which has room for so many fields; and a field or a board word,
 -- which leads to a record that nobody writes if it is a pointer. All are rows of the table.
 pub record ScanAnswers (E : Era) (m : Memory) (g : Ghost) (s : Scan) : Type 0 where
   pub crossing : s.page ≢ page_of E.board → (s.page < page_of E.board) × (E.start ≤ m.cross s.page) × (m.cross s.page ≤ first_word s.page)
   pub first : (a : ℕ) → s.page ≢ page_of E.board → s.over ≡ Some a → (a ≤ first_word s.page) × ((h : MeetsHeader m a) × (first_word s.page < a + (h.len + 1)))
   pub next : (r : SeenRecord) → s.page ≢ page_of E.board → s.current ≡ Some r → s.cursor ≡ r.next → s.cursor < first_word s.page + PAGE_WORDS → (s.inner ≡ true) ⊎ (s.in_place ≡ false) → MeetsHeader m s.cursor
+  pub count : (h : SeenHeader) → s.headed ≡ Some h → (count : ℕ) × (decode (m.heap (h.at + 1)) ≡ NumberWord count) × (count + 2 ≤ h.size)
   pub field : AtField E s → (s.cursor < E.board + PAGE_WORDS) × Lands g.size g.writer (m.heap s.cursor)
   pub front : m.front ≤ E.board
 

@@ -19,6 +19,7 @@ pub record IsLessScan (s u : Scan) : Type 0 where
   pub cursor : s.cursor ≡ u.cursor
   pub in_place : s.in_place ≡ u.in_place
   pub over : IsLess s.over u.over
+  pub headed : IsLess s.headed u.headed
   pub current : IsLess s.current u.current
   pub inner : s.inner ≡ true → u.inner ≡ true
   pub ended : s.ended ≡ u.ended
@@ -100,7 +101,7 @@ TracedIsForgotten = (w : Worker) → is_flipper w.post ≡ false → w.gate_step
 
 -- a scan of which it is not known which record the cursor is in
 abbrev pub of_no_record : Scan → Scan
-of_no_record s = record s { over = None; current = None }
+of_no_record s = record s { over = None; headed = None; current = None }
 
 abbrev pub ScannedRecordsAreForgotten : Type 0
 ScannedRecordsAreForgotten = (w : Worker) (s : Scan) → w.scan ≡ Some s → IsAtMost (record w { scan = Some (of_no_record s) }) w

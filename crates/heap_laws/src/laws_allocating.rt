@@ -1,6 +1,6 @@
 //! Allocation: pages are claimed, made 0 and opened, and new records placed in them.
 
-ghost use Rattle.heap_laws.specs.Allocation.Stocks.{RoomIsSeen, StocksAreClaimed, StocksAreOpened, StocksAreZeroed};
+ghost use Rattle.heap_laws.specs.Allocation.Stocks.{RoomIsSeen, StocksAreClaimed, StocksAreOpened, StocksAreZeroed, WordsAreStoredAhead};
 ghost use Rattle.heap_laws.specs.Fields.Stores.{MutatorsPlace};
 ghost use Rattle.heap_laws.specs.Allocation.Records.{ZerosShow};
 
@@ -20,8 +20,13 @@ pub fn stocks_are_opened()
     ensures { StocksAreOpened }
 {}
 
+/// A word is stored behind a run's place, ahead of the next record's header.
+pub fn words_are_stored_ahead()
+    ensures { WordsAreStoredAhead }
+{}
+
 /// The header of a new record is stored at the run's place, and the mutator points to it: the plain heap gains the record that
-/// the words behind the header show. Where they still are 0, that is one of zeros.
+/// the words behind the header show. These are 0, but for a mixed record's count: the record is one of zeros.
 pub fn mutators_place()
     ensures places { MutatorsPlace }
     ensures zeros { ZerosShow }

@@ -1,7 +1,7 @@
 //! Pages that are claimed, scanned and opened.
 
 ghost use Rattle.heap_laws.specs.Scanning.Claims.{BeginningClaimKeeps, LookingAtPlaceKeeps, LookingAtGateKeeps, ClaimingKeeps, SleeperLosesPage, OpeningKeeps};
-ghost use Rattle.heap_laws.specs.Scanning.Words.{ReadingCrossingKeeps, ReadingFirstHeaderKeeps, ReadingFrontKeeps, ReadingNextHeaderKeeps, PassingFieldKeeps, AskingKeeps, StoringCopyKeeps};
+ghost use Rattle.heap_laws.specs.Scanning.Words.{ReadingCrossingKeeps, ReadingFirstHeaderKeeps, ReadingFirstMixedKeeps, ReadingFrontKeeps, ReadingNextHeaderKeeps, ReadingNextMixedKeeps, ReadingCountKeeps, PassingFieldKeeps, AskingKeeps, StoringCopyKeeps};
 
 /// The loads before a claim: of the page's word, of each announced place, of the gate again.
 pub fn claims_are_made_ready()
@@ -21,12 +21,16 @@ pub fn pages_are_opened()
     ensures { OpeningKeeps }
 {}
 
-/// The records on a page: its crossing is read, then each header, and FRONT where the page is being filled.
+/// The records on a page: its crossing is read, then each header, the count behind that of a mixed record, and FRONT where the
+/// page is being filled.
 pub fn records_are_scanned()
     ensures crossing { ReadingCrossingKeeps }
     ensures first { ReadingFirstHeaderKeeps }
+    ensures first_mixed { ReadingFirstMixedKeeps }
     ensures front { ReadingFrontKeeps }
     ensures next { ReadingNextHeaderKeeps }
+    ensures next_mixed { ReadingNextMixedKeeps }
+    ensures count { ReadingCountKeeps }
 {}
 
 /// The fields of a page: a clean one is passed, one that leads into the old space asks for the copy, whose address then takes its place.

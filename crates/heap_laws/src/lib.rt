@@ -18,6 +18,7 @@ mod laws_tracing;
 
 pub use laws_allocating::{
     mutators_place, stocks_are_claimed, stocks_are_opened, stocks_are_zeroed,
+    words_are_stored_ahead,
 };
 pub use laws_answers::{
     areas_are_answered, copies_are_answered, gates_are_answered, scans_are_answered,

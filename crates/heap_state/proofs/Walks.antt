@@ -4,3 +4,4 @@ pub mod Spaces
 pub mod Reserving
 pub mod InHeap
 pub mod Copies
+pub mod WalkPlaces

@@ -1,5 +1,5 @@
 -- What a worker holds between two steps, by component. Each machine's state is read as these, whatever its phases are.
-use Rattle.std.specs.Prelude.{ℕ, ◌+◌, ◌==◌, ◌&&◌, Bool, true, false, List, [], Option, None}
+use Rattle.std.specs.Prelude.{◌≡◌, ℕ, ◌+◌, ◌<◌, ◌==◌, ◌&&◌, ◌⊎◌, Bool, true, false, List, [], length, Option, None}
 use Rattle.plain_state.specs.declared.end.End.{End}
 use Rattle.space_map.specs.declared.gate_word.GateWord.{GateWord}
 use Rattle.space_map.specs.declared.page_word.PageWord.{PageWord}
@@ -63,28 +63,42 @@ pub record Reset : Type 0 where
 -- ---- new records and accesses
 
 -- Words that a mutator has claimed to place new records in: those from `at` to `end`, in this epoch. Those below `zeroed`
--- are 0 and the pages below `opened` are open. A run is a stock with both at its end.
+-- are 0, but for the words `ahead`, which are stored behind the place ahead of a record's header. The pages below `opened`
+-- are open. A run is a stock with both at its end.
 pub record Stock : Type 0 where
   pub epoch : ℕ
   pub at : ℕ
   pub end : ℕ
   pub zeroed : ℕ
   pub opened : ℕ
+  pub ahead : List ℕ
 
--- a record whose header a scan has read: its address, the one where its fields end, and the one where the next record begins
+-- the address is that of none of the words stored ahead
+abbrev pub IsNotAhead : Stock → ℕ → Type 0
+IsNotAhead q x = (x ≡ q.at) ⊎ (q.at + length q.ahead < x)
+
+-- a record that a scan has entered: its address, the one where its fields end, and the one where the next record begins
 pub record SeenRecord : Type 0 where
   pub at : ℕ
   pub fields_end : ℕ
   pub next : ℕ
 
--- what stands at a word of a record: a field, or a plain number
+-- the header of a mixed record that a scan has read, whose count of fields it has still to read: its address, and the record's size
+pub record SeenHeader : Type 0 where
+  pub at : ℕ
+  pub size : ℕ
+
+-- what stands at a word of a record: a field, or a plain number; or one of these, as the record's count has still to say
 pub data Role : Type 0 where
   FieldRole : Role
   NumberRole : Role
+  UnknownRole : Role
 
--- the access to a word of a record whose header was read: the record's place, the word counted from its first, and its role
+-- The access to a word of a record whose header was read: the record's place; the word at which its values begin and the one
+-- that is accessed, both counted from its first; and the role of that word.
 pub record Access : Type 0 where
   pub at : ℕ
+  pub first : ℕ
   pub word : ℕ
   pub role : Role
 
@@ -119,13 +133,14 @@ pub record Copy : Type 0 where
 -- ---- scanning
 
 -- A scan: the page, the first word not passed, whether the page was claimed as the filling one, the record over the page's
--- first word once CROSS is read, the record in which the cursor stands, whether FRONT was seen past the cursor, and
--- whether nothing is left to pass.
+-- first word once CROSS is read, the mixed record whose count is to be read, the record in which the cursor stands, whether
+-- FRONT was seen past the cursor, and whether nothing is left to pass.
 pub record Scan : Type 0 where
   pub page : ℕ
   pub cursor : ℕ
   pub in_place : Bool
   pub over : Option ℕ
+  pub headed : Option SeenHeader
   pub current : Option SeenRecord
   pub inner : Bool
   pub ended : Bool

@@ -6,7 +6,7 @@ use Rattle.heap_words.specs.declared.kind.Kind.{Kind}
 use Rattle.heap_words.specs.declared.word.TheConstants.{NUMBERS}
 use Rattle.heap_words.specs.Word.{tag_spelled, tag_of, number_word, header_word}
 use Rattle.heap_words.specs.Decoded.{Decoded, NumberWord, PointerWord, HeaderWord, ForwardWord, BusyWord, Malformed, kind_spelled, decode_as, decode_header, decode_forward, decode, IsInRange}
-use Rattle.heap_words.proofs.Spelling.{number_word-decode, header_word-decode}
+use Rattle.heap_words.proofs.Spelling.{header_word-decode}
 
 -- the parts are in range but for one that reaches up to a word's end, the mutator
 abbrev IsBounded : Decoded → Type 0
@@ -24,7 +24,8 @@ bounded_if false d bounded = tt
 bounded_header : (code w : ℕ) → IsBounded (decode_header (kind_spelled code) w)
 bounded_header zero w = (omega arith, omega arith)
 bounded_header (suc zero) w = (omega arith, omega arith)
-bounded_header (suc (suc code)) w = tt
+bounded_header (suc (suc zero)) w = (omega arith, omega arith)
+bounded_header (suc (suc (suc code))) w = tt
 
 bounded_forward : (form w : ℕ) → IsBounded (decode_forward form w)
 bounded_forward zero w =

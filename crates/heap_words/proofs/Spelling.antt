@@ -20,7 +20,8 @@ spells-header : (code w : ℕ) → w % 4 ≡ 2 → w / 4 % 4 ≡ code → Spells
 unfolding header_word
 spells-header zero w tag kind formed = omega arith
 spells-header (suc zero) w tag kind formed = omega arith
-spells-header (suc (suc code)) w tag kind formed = absurd (formed refl)
+spells-header (suc (suc zero)) w tag kind formed = omega arith
+spells-header (suc (suc (suc code))) w tag kind formed = absurd (formed refl)
 
 spells-forward : (form w : ℕ) → w % 4 ≡ 3 → w / 4 % 4 ≡ form → Spells (decode_forward form w) w
 unfolding forward_word busy_word

@@ -2,7 +2,7 @@
 use Rattle.std.specs.Prelude.{ℕ, ◌/◌, ◌%◌, ◌^◌, ◌<◌, ◌≤◌, ⊤, Option, Some, None, nat_lt, if◌then◌else◌}
 use Rattle.std.proofs.Common.{zero, suc}
 use Rattle.heap_words.specs.declared.kind.Kind.{Kind}
-use Rattle.heap_words.specs.declared.kind.Kind.TheVariants.{Fields, Raw}
+use Rattle.heap_words.specs.declared.kind.Kind.TheVariants.{Fields, Raw, Mixed}
 use Rattle.heap_words.specs.declared.tag.Tag.{Tag}
 use Rattle.heap_words.specs.declared.tag.Tag.TheVariants.{Number, Pointer, Header, Forward}
 use Rattle.heap_words.specs.declared.word.TheConstants.{NUMBERS}
@@ -23,7 +23,8 @@ pub data Decoded : Type 0 where
 abbrev pub kind_spelled : ℕ → Option Kind
 kind_spelled zero = Some Fields
 kind_spelled (suc zero) = Some Raw
-kind_spelled (suc (suc bits)) = None
+kind_spelled (suc (suc zero)) = Some Mixed
+kind_spelled (suc (suc (suc bits))) = None
 
 -- a header of this kind
 abbrev pub decode_header : Option Kind → ℕ → Decoded

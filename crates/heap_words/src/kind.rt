@@ -5,4 +5,6 @@ pub enum Kind {
     Fields,
     /// Plain numbers without a tag.
     Raw,
+    /// A count of fields, then that many tagged words, then plain numbers.
+    Mixed,
 }

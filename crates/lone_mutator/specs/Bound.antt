@@ -22,7 +22,7 @@ round_cost n = 2 * n + 34
 
 -- a page: its scan, its opening, and the next round
 abbrev pub page_cost : ℕ → ℕ
-page_cost n = round_cost n + 451
+page_cost n = round_cost n + 452
 
 -- the tracing of a whole epoch: the board and all pages, and four steps for each word that is copied
 unfoldable pub longest_tracing : ℕ → ℕ
@@ -38,7 +38,7 @@ most_pages = 64
 
 -- an allocation of so many
 abbrev pub longest_placing : ℕ
-longest_placing = 65 * most_pages + 4
+longest_placing = 65 * most_pages + 5
 
 -- a whole instruction, in a traced epoch
 abbrev pub whole_cost : ℕ → ℕ

@@ -15,14 +15,14 @@ use Rattle.heap_state.specs.Configuration.{table}
 use Rattle.heap_state.specs.Memory.Era.{era_of, memory_of}
 use Rattle.heap_state.specs.Memory.Table.{Table}
 use Rattle.gc_worker.specs.declared.access.access_stage.AccessStage.{AccessStage}
-use Rattle.gc_worker.specs.declared.access.access_stage.AccessStage.TheVariants.{LooksAtRecord, LooksAtField, LooksAtBoard, SwapsBoard}
+use Rattle.gc_worker.specs.declared.access.access_stage.AccessStage.TheVariants.{LooksAtRecord, LooksAtCount, LooksAtField, ExchangesField, LooksAtBoard, SwapsBoard}
 use Rattle.gc_worker.specs.declared.stage.after.After.{After}
 use Rattle.gc_worker.specs.declared.stage.after.After.TheVariants as afters
 use Rattle.gc_worker.specs.declared.stage.back.Back.{Back}
 use Rattle.gc_worker.specs.declared.stage.back.Back.TheVariants.{ToAccess, ToPlace, ToScanner}
 use Rattle.gc_worker.specs.declared.stage.Stage.{Stage}
 use Rattle.gc_worker.specs.declared.stage.Stage.TheVariants.{Looks, Passes, Flips, Forwards, Accesses, Places, Serves, Scans, Evacuates, Opens, Gone}
-use Rattle.gc_worker.specs.Steps.Access.{board_at}
+use Rattle.gc_worker.specs.Steps.Access.{board_at, field_at}
 use Rattle.gc_worker.specs.Workers.Begun.{IsPastLook}
 use Rattle.gc_worker.specs.Workers.Held.{Held}
 use Rattle.gc_worker.specs.Laws.Step.{Heap, read, held_at}
@@ -53,14 +53,16 @@ PassageStands t x (Resume epoch) after = GoesOnPlacing t.gate.epoch x.begun afte
 PassageStands t x Forwarded after = GoesOnPlacing t.gate.epoch x.begun after
 PassageStands t x Leave after = ⊥
 
--- the board's word is as it was read
+-- the field's word, or the board's, is as it was read
 abbrev pub AccessStands : Table → Layout → AccessStage → Type 0
+AccessStands t l (ExchangesField f e old) = t.heap (field_at f) ≡ old
 AccessStands t l (SwapsBoard s old) = t.heap (board_at l s.word) ≡ old
 AccessStands t l stage = ⊤
 
 -- an access faults at a look
 abbrev pub IsLook : AccessStage → Type 0
 IsLook (LooksAtRecord r) = ⊤
+IsLook (LooksAtCount m) = ⊤
 IsLook (LooksAtField f usage) = ⊤
 IsLook (LooksAtBoard b) = ⊤
 IsLook stage = ⊥

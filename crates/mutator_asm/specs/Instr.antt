@@ -2,11 +2,11 @@
 use Rattle.std.specs.Prelude.{ℕ, List, [], ◌∷◌, Result, Ok, Err, if◌then◌else◌, codes}
 use Rattle.std.specs.Str.{bytes_eq}
 use Rattle.mutator_asm.specs.declared.instr.Instr.{Instr}
-use Rattle.mutator_asm.specs.declared.instr.Instr.TheVariants.{Li, Mov, Add, Sub, Mul, Div, Rem, Lt, Eq, Jmp, Jz, Jal, Jr, New, Raw, Ld, St, Len, Isp, Get, Put, Swap, Out, Halt}
+use Rattle.mutator_asm.specs.declared.instr.Instr.TheVariants.{Li, Mov, Add, Sub, Mul, Div, Rem, Lt, Eq, Jmp, Jz, Jal, Jr, New, Raw, Mix, Ld, St, Cas, Len, Isp, Get, Put, Swap, Out, Halt}
 use Rattle.mutator_asm.specs.declared.listing.jump.Jump.{Jump}
 use Rattle.mutator_asm.specs.declared.listing.jump.Jump.TheVariants.{Always, IfZero, Link}
 use Rattle.mutator_asm.specs.declared.errors.mistake.Mistake.{Mistake}
-use Rattle.mutator_asm.specs.declared.errors.mistake.Mistake.TheVariants.{UnknownInstr, BadOperand}
+use Rattle.mutator_asm.specs.declared.errors.mistake.Mistake.TheVariants.{UnknownInstr, BadOperand, NumberTooBig}
 use Rattle.mutator_asm.specs.declared.operand.Operand.{Operand}
 use Rattle.mutator_asm.specs.Token.{register_of, number_of, operand_of}
 
@@ -83,6 +83,21 @@ two_registers_operand (d ∷ a ∷ x ∷ []) = do
   Ok (d, a, x)
 two_registers_operand _ = Err BadOperand
 
+-- two operands; one that is none counts before a number that is too big
+abbrev pub both : Result Operand Mistake → Result Operand Mistake → Result (Operand × Operand) Mistake
+both (Ok x) (Ok y) = Ok (x, y)
+both (Ok x) (Err mistake) = Err mistake
+both (Err NumberTooBig) (Err mistake) = Err mistake
+both (Err mistake) y = Err mistake
+
+-- rd x y
+abbrev pub register_two_operands : List (List ℕ) → Result (ℕ × Operand × Operand) Mistake
+register_two_operands (d ∷ x ∷ y ∷ []) = do
+  d ← register_of d
+  two ← both (operand_of x) (operand_of y)
+  Ok (d, two.0, two.1)
+register_two_operands _ = Err BadOperand
+
 -- ra x rb
 abbrev pub register_operand_register : List (List ℕ) → Result (ℕ × Operand × ℕ) Mistake
 register_operand_register (a ∷ x ∷ b ∷ []) = do
@@ -91,6 +106,17 @@ register_operand_register (a ∷ x ∷ b ∷ []) = do
   x ← operand_of x
   Ok (a, x, b)
 register_operand_register _ = Err BadOperand
+
+-- rd ra x rb rc
+abbrev pub registers_operand_registers : List (List ℕ) → Result (ℕ × ℕ × Operand × ℕ × ℕ) Mistake
+registers_operand_registers (d ∷ a ∷ x ∷ b ∷ c ∷ []) = do
+  d ← register_of d
+  a ← register_of a
+  b ← register_of b
+  c ← register_of c
+  x ← operand_of x
+  Ok (d, a, x, b, c)
+registers_operand_registers _ = Err BadOperand
 
 -- ---- instructions
 
@@ -115,8 +141,10 @@ instr_of name operands =
     else (if bytes_eq name (codes "jr") then made Jr (one_register operands)
     else (if bytes_eq name (codes "new") then made (λ o. New o.0 o.1) (register_operand operands)
     else (if bytes_eq name (codes "raw") then made (λ o. Raw o.0 o.1) (register_operand operands)
+    else (if bytes_eq name (codes "mix") then made (λ o. Mix o.0 o.1 o.2) (register_two_operands operands)
     else (if bytes_eq name (codes "ld") then made (λ o. Ld o.0 o.1 o.2) (two_registers_operand operands)
     else (if bytes_eq name (codes "st") then made (λ o. St o.0 o.1 o.2) (register_operand_register operands)
+    else (if bytes_eq name (codes "cas") then made (λ o. Cas o.0 o.1 o.2 o.3 o.4) (registers_operand_registers operands)
     else (if bytes_eq name (codes "len") then made (λ o. Len o.0 o.1) (two_registers operands)
     else (if bytes_eq name (codes "isp") then made (λ o. Isp o.0 o.1) (two_registers operands)
     else (if bytes_eq name (codes "get") then made (λ o. Get o.0 o.1) (register_operand operands)
@@ -124,4 +152,4 @@ instr_of name operands =
     else (if bytes_eq name (codes "swap") then made (λ o. Swap o.0 o.1) (register_operand operands)
     else (if bytes_eq name (codes "out") then made Out (one_register operands)
     else (if bytes_eq name (codes "halt") then made (λ o. Halt) (nothing operands)
-    else Err UnknownInstr))))))))))))))))))))
+    else Err UnknownInstr))))))))))))))))))))))

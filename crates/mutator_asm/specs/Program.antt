@@ -3,7 +3,7 @@ use Rattle.std.specs.Prelude.{ℕ, ◌≤◌, Bool, true, ◌&&◌, List, [], le
 use Rattle.std.specs.List.{list_all}
 use Rattle.plain_state.specs.declared.sizes.TheConstants.{NUMBERS, REGISTERS}
 use Rattle.mutator_asm.specs.declared.instr.Instr.{Instr}
-use Rattle.mutator_asm.specs.declared.instr.Instr.TheVariants.{Li, Mov, Add, Sub, Mul, Div, Rem, Lt, Eq, Jmp, Jz, Jal, Jr, New, Raw, Ld, St, Len, Isp, Get, Put, Swap, Out, Halt}
+use Rattle.mutator_asm.specs.declared.instr.Instr.TheVariants.{Li, Mov, Add, Sub, Mul, Div, Rem, Lt, Eq, Jmp, Jz, Jal, Jr, New, Raw, Mix, Ld, St, Cas, Len, Isp, Get, Put, Swap, Out, Halt}
 use Rattle.mutator_asm.specs.declared.item.Item.{Item}
 use Rattle.mutator_asm.specs.declared.item.TheConstants.{LAST_WORKER, TIMES_MAX}
 use Rattle.mutator_asm.specs.declared.operand.Operand.{Operand}
@@ -47,8 +47,10 @@ is_valid (Jal d t) = is_register d && is_target t
 is_valid (Jr a) = is_register a
 is_valid (New d x) = is_register d && is_operand x
 is_valid (Raw d x) = is_register d && is_operand x
+is_valid (Mix d f x) = is_register d && is_operand f && is_operand x
 is_valid (Ld d a x) = is_register d && is_register a && is_operand x
 is_valid (St a x b) = is_register a && is_operand x && is_register b
+is_valid (Cas d a x b c) = is_register d && is_register a && is_operand x && is_register b && is_register c
 is_valid (Len d a) = is_register d && is_register a
 is_valid (Isp d a) = is_register d && is_register a
 is_valid (Get d x) = is_register d && is_operand x

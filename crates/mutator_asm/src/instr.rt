@@ -1,6 +1,6 @@
 //! The instructions.
 
-use crate::listing::spelling::{label, one, one_label, three, two};
+use crate::listing::spelling::{five, label, one, one_label, three, two};
 use crate::operand::Operand::{self, Number, Reg};
 use std::fmt;
 
@@ -38,10 +38,15 @@ pub enum Instr {
     New(u8, Operand),
     /// `raw rd x`: rd becomes a new record of x raw words.
     Raw(u8, Operand),
+    /// `mix rd xf xr`: rd becomes a new record of xf fields, and behind them xr raw words.
+    Mix(u8, Operand, Operand),
     /// `ld rd ra x`: rd becomes word x of the record in ra.
     Ld(u8, u8, Operand),
     /// `st ra x rb`: word x of the record in ra becomes rb.
     St(u8, Operand, u8),
+    /// `cas rd ra x rb rc`: where word x of the record in ra is what rb is, it becomes rc and rd becomes 1;
+    /// else rd becomes 0.
+    Cas(u8, u8, Operand, u8, u8),
     /// `len rd ra`: rd becomes the length of the record in ra.
     Len(u8, u8),
     /// `isp rd ra`: rd becomes 1 where ra refers to a record, else 0.
@@ -93,8 +98,10 @@ impl Instr {
             Instr::Jr(..) => "jr",
             Instr::New(..) => "new",
             Instr::Raw(..) => "raw",
+            Instr::Mix(..) => "mix",
             Instr::Ld(..) => "ld",
             Instr::St(..) => "st",
+            Instr::Cas(..) => "cas",
             Instr::Len(..) => "len",
             Instr::Isp(..) => "isp",
             Instr::Get(..) => "get",
@@ -131,8 +138,10 @@ impl fmt::Display for Instr {
             Instr::New(d, x) | Instr::Raw(d, x) | Instr::Get(d, x) | Instr::Swap(d, x) => {
                 two(f, name, Reg(d), x)
             }
+            Instr::Mix(d, fields, raw) => three(f, name, Reg(d), fields, raw),
             Instr::Ld(d, a, x) => three(f, name, Reg(d), Reg(a), x),
             Instr::St(a, x, b) => three(f, name, Reg(a), x, Reg(b)),
+            Instr::Cas(d, a, x, b, c) => five(f, name, Reg(d), Reg(a), x, Reg(b), Reg(c)),
             Instr::Put(x, a) => two(f, name, x, Reg(a)),
             Instr::Halt => f.write_str(name),
         }

@@ -10,7 +10,7 @@ use Rattle.space_map.specs.Spaces.{Layout, first_word, board_page}
 use Rattle.space_map.specs.Table.{HeapWord, place_of, table_length}
 use Rattle.page_scan.specs.declared.ending.Ending.{Ending}
 use Rattle.page_scan.specs.declared.scan_stage.ScanStage.{ScanStage}
-use Rattle.page_scan.specs.declared.scan_stage.ScanStage.TheVariants.{LoadsCross, LoadsFirst, LoadsWord, Asks, StoresCopy, LoadsFront, LoadsNext, Ended}
+use Rattle.page_scan.specs.declared.scan_stage.ScanStage.TheVariants.{LoadsCross, LoadsFirst, LoadsCount, LoadsWord, Asks, StoresCopy, LoadsFront, LoadsNext, Ended}
 use Rattle.page_scan.specs.declared.spot.Spot.{Spot}
 use Rattle.page_scan.specs.declared.spot.Spot.TheVariants.{OnBoard, InRecord}
 use Rattle.page_scan.specs.Answering.{LeadsBack, ReplacesPointers, answered_by, answering, heap_in}
@@ -105,6 +105,7 @@ module _ (l : Layout) (epoch : ℕ) (in_place : Bool) (words : List ℕ) (answer
   runs zero x now known = known
   runs (suc n) LoadsCross now known = absurd known
   runs (suc n) (LoadsFirst a) now known = absurd known
+  runs (suc n) (LoadsCount h) now known = absurd known
   runs (suc n) (LoadsWord spot) now known = runs n _ now (spot-Knows spot now known)
   runs (suc n) (Asks asked) now known = absurd known
   runs (suc n) (StoresCopy asked to) now known = runs n _ _ (stored-Knows asked.spot asked.old to now known.0 known.1 known.2)

@@ -5,7 +5,7 @@ use Rattle.std.proofs.lemmas.Option.{same_Some}
 use Rattle.atom_store.specs.Step.{reply_of}
 use Rattle.atom_store.specs.declared.step.Step.{Step}
 use Rattle.page_scan.specs.declared.scan_stage.ScanStage.{ScanStage}
-use Rattle.page_scan.specs.declared.scan_stage.ScanStage.TheVariants.{LoadsCross, LoadsFirst, LoadsWord, Asks, StoresCopy, LoadsFront, LoadsNext, Ended}
+use Rattle.page_scan.specs.declared.scan_stage.ScanStage.TheVariants.{LoadsCross, LoadsFirst, LoadsCount, LoadsWord, Asks, StoresCopy, LoadsFront, LoadsNext, Ended}
 use Rattle.page_scan.specs.Left.{IsHeldUp, advances}
 use Rattle.page_scan.specs.Scanning.{Scanning, wanted_at}
 use Rattle.page_scan.specs.Theorems.{GoesOn}
@@ -21,6 +21,7 @@ module _ (v : Scanning) (step : Step) (met : List ℕ) where
   held : (x : ScanStage) → wanted_at v.layout v.page v.epoch x ≡ Some step → Holds x step
   held LoadsCross wants = subst (Holds LoadsCross) (same_Some _ _ wants) (λ stays. absurd (cc))
   held (LoadsFirst at) wants = subst (Holds (LoadsFirst at)) (same_Some _ _ wants) (λ stays. stays)
+  held (LoadsCount h) wants = subst (Holds (LoadsCount h)) (same_Some _ _ wants) (λ stays. stays)
   held (LoadsWord spot) wants = subst (Holds (LoadsWord spot)) (same_Some _ _ wants) (λ stays. absurd (cc))
   held (Asks asked) wants = absurd (cc)
   held (StoresCopy asked to) wants = subst (Holds (StoresCopy asked to)) (same_Some _ _ wants) (λ stays. absurd (cc))

@@ -1,5 +1,5 @@
 -- What the code reads in the first word at an address is what the scan makes of it.
-use Rattle.std.proofs.Common.{◌≡◌, ℕ, Bool, Some, None, refl, sym, ap, ◌∙◌}
+use Rattle.std.proofs.Common.{◌≡◌, ℕ, ◌+◌, Bool, Some, None, refl, sym, ap, ◌∙◌}
 use Rattle.atom_store.specs.declared.turn.Turn.TheVariants.{More}
 use Rattle.heap_words.specs.Decoded.{Decoded, NumberWord, PointerWord, HeaderWord, ForwardWord, BusyWord, Malformed, decode, encode}
 use Rattle.heap_words.proofs.Decoding.{decode-header_word}
@@ -7,12 +7,12 @@ use Rattle.record_layout.specs.declared.header.Header.{Header}
 use Rattle.record_layout.specs.Layout.{header_in, header_says}
 use Rattle.record_layout.proofs.Rereading.{header_in-said}
 use Rattle.page_scan.specs.declared.scan_stage.ScanStage.{ScanStage}
-use Rattle.page_scan.specs.declared.scan_stage.ScanStage.TheVariants.{LoadsCross, LoadsFirst, LoadsWord, Asks, StoresCopy, LoadsFront, LoadsNext, Ended}
+use Rattle.page_scan.specs.declared.scan_stage.ScanStage.TheVariants.{LoadsCross, LoadsFirst, LoadsCount, LoadsWord, Asks, StoresCopy, LoadsFront, LoadsNext, Ended}
 use Rattle.page_scan.specs.Scanning.{HasStep}
-use Rattle.page_scan.specs.Taken.{by_header, enters, told}
+use Rattle.page_scan.specs.Taken.{by_header, by_kind, told}
 
 pub by_header-header : (page : ℕ) (in_place : Bool) (at : ℕ) (stage : ScanStage) (w : ℕ) (h : Header) → w ≡ encode (header_says h)
-    → by_header page in_place at stage (decode w) ≡ enters page in_place at h.kind h.len
+    → by_header page in_place at stage (decode w) ≡ by_kind page in_place at h.kind (h.len + 1)
 by_header-header page in_place at stage w h spelled =
     ap (by_header page in_place at stage) (ap decode spelled ∙ decode-header_word h.kind h.len h.serial h.mutator h.short h.counted)
 
@@ -34,6 +34,7 @@ by_header-none page in_place at stage w none = no_header page in_place at stage 
 pub told-HasStep : (x : ScanStage) → HasStep x → told x ≡ More
 told-HasStep LoadsCross going = refl
 told-HasStep (LoadsFirst at) going = refl
+told-HasStep (LoadsCount h) going = refl
 told-HasStep (LoadsWord spot) going = refl
 told-HasStep (Asks asked) going = absurd going
 told-HasStep (StoresCopy asked to) going = refl

@@ -1,31 +1,34 @@
 -- What one step of a scan looks at, stores and asks.
 use Rattle.std.proofs.Common.{◌≡◌, ℕ, ◌+◌, ◌*◌, ◌<◌, ◌≤◌, Bool, true, false, Option, Some, None, refl, sym, ap, ◌∙◌, subst, arith, ⊎_elim, max, if◌then◌else◌}
 use Rattle.std.specs.Prelude.{◌==◌}
-use Rattle.std.proofs.lemmas.Bool.{cases_lt, lt-ltb, le-ltb, eqb-true}
+use Rattle.std.proofs.lemmas.Bool.{cases_lt, lt-ltb, le-ltb, le-leb, lt-leb, eqb-true}
 use Rattle.std.proofs.lemmas.Bool.Decides.{nat_tests}
 use Rattle.std.proofs.lemmas.Option.{same_Some}
 use Rattle.atom_store.specs.declared.reply.Reply.{Reply}
 use Rattle.atom_store.specs.declared.reply.Reply.TheVariants.{Value, Done}
 use Rattle.atom_store.specs.declared.step.Step.{Step}
 use Rattle.atom_store.specs.declared.turn.Turn.TheVariants.{Finished}
+use Rattle.plain_state.specs.declared.kind.Kind.{Kind}
+use Rattle.plain_state.specs.declared.kind.Kind.TheVariants.{Fields, Raw, Mixed}
 use Rattle.heap_state.specs.Memory.FieldSpan.{first_field}
-use Rattle.heap_state.specs.Invariant.Ghost.{said_kind}
-use Rattle.heap_words.specs.declared.kind.Kind.{Kind}
+use Rattle.heap_words.specs.declared.kind.Kind.{Kind as HeaderKind}
+use Rattle.heap_words.specs.declared.kind.Kind.TheVariants as header
 use Rattle.heap_words.specs.Decoded.{Decoded, NumberWord, PointerWord, HeaderWord, ForwardWord, BusyWord, Malformed, decode}
 use Rattle.space_map.specs.declared.area_word.AreaWord.{AreaWord}
 use Rattle.space_map.specs.AreaWord.{decode_area}
 use Rattle.space_map.specs.Spaces.{Layout, to_space, space_start, first_word}
 use Rattle.page_scan.specs.declared.asked.Asked.{Asked}
 use Rattle.page_scan.specs.declared.ending.Ending.{Ending}
+use Rattle.page_scan.specs.declared.headed_record.HeadedRecord.{HeadedRecord}
 use Rattle.page_scan.specs.declared.scan_stage.ScanStage.{ScanStage}
-use Rattle.page_scan.specs.declared.scan_stage.ScanStage.TheVariants.{LoadsCross, LoadsFirst, LoadsWord, Asks, StoresCopy, LoadsFront, LoadsNext, Ended}
+use Rattle.page_scan.specs.declared.scan_stage.ScanStage.TheVariants.{LoadsCross, LoadsFirst, LoadsCount, LoadsWord, Asks, StoresCopy, LoadsFront, LoadsNext, Ended}
 use Rattle.page_scan.specs.declared.scanned.Scanned.TheVariants as comes_to
 use Rattle.page_scan.specs.declared.scanned_record.ScannedRecord.{ScannedRecord}
 use Rattle.page_scan.specs.declared.spot.Spot.{Spot}
 use Rattle.page_scan.specs.declared.spot.Spot.TheVariants.{OnBoard, InRecord}
 use Rattle.page_scan.specs.Scanning.{Scanning, HasStep, address_of, wanted_at}
 use Rattle.page_scan.specs.Soundness.{IsOnPage, FitsStage}
-use Rattle.page_scan.specs.Taken.{board_words, by_area, by_header, by_word, enters, goes_on_at, is_old, passes_word, record_at, scan_end, stage_after, told}
+use Rattle.page_scan.specs.Taken.{board_words, by_area, by_count, by_header, by_kind, by_word, enters, goes_on_at, is_old, passes_word, record_at, scan_end, stage_after, told}
 use Rattle.page_scan.specs.Theorems.{AsksAtWords, AsksOfPointers, CursorRises, EndsInPlace, StoresAnswer, StoresOnlyAnswers, cursor_at}
 
 -- ---- stores
@@ -33,6 +36,7 @@ use Rattle.page_scan.specs.Theorems.{AsksAtWords, AsksOfPointers, CursorRises, E
 stores : (v : Scanning) (x : ScanStage) (step : Step) → v.stage ≡ x → wanted_at v.layout v.page v.epoch x ≡ Some step → StoresAnswer v step
 stores v LoadsCross step is wants = subst (StoresAnswer v) (same_Some _ _ wants) tt
 stores v (LoadsFirst at) step is wants = subst (StoresAnswer v) (same_Some _ _ wants) tt
+stores v (LoadsCount h) step is wants = subst (StoresAnswer v) (same_Some _ _ wants) tt
 stores v (LoadsWord spot) step is wants = subst (StoresAnswer v) (same_Some _ _ wants) tt
 stores v (Asks asked) step is wants = absurd (cc)
 stores v (StoresCopy asked to) step is wants = subst (StoresAnswer v) (same_Some _ _ wants) (asked, to, is, refl, refl)
@@ -76,15 +80,34 @@ module _ (P : ScanStage → Type 0) where
       (cases_lt (x + 1) (64 * page + board_words))
   of_passes page in_place (InRecord r x) word end goes = goes r x refl
 
+  of_kind : (page : ℕ) (in_place : Bool) (at : ℕ) (kind : HeaderKind) (size : ℕ)
+      → ((k : Kind) → P (enters page in_place at k size)) → P (LoadsCount (record { at = at; size = size })) → P (by_kind page in_place at kind size)
+  of_kind page in_place at header.Fields size entered mixed = entered Fields
+  of_kind page in_place at header.Raw size entered mixed = entered Raw
+  of_kind page in_place at header.Mixed size entered mixed = mixed
+
   pub of_header : (page : ℕ) (in_place : Bool) (at : ℕ) (stage : ScanStage) (d : Decoded)
-      → ((kind : Kind) (len serial mutator : ℕ) → d ≡ HeaderWord kind len serial mutator → P (enters page in_place at kind len))
+      → ((k : Kind) (size : ℕ) → P (enters page in_place at k size)) → ((size : ℕ) → P (LoadsCount (record { at = at; size = size })))
       → P stage → P (by_header page in_place at stage d)
-  of_header page in_place at stage (HeaderWord kind len serial mutator) header other = header kind len serial mutator refl
-  of_header page in_place at stage (NumberWord n) header other = other
-  of_header page in_place at stage (PointerWord a) header other = other
-  of_header page in_place at stage (ForwardWord len a) header other = other
-  of_header page in_place at stage (BusyWord len worker) header other = other
-  of_header page in_place at stage Malformed header other = other
+  of_header page in_place at stage (HeaderWord kind len serial mutator) entered mixed other =
+      of_kind page in_place at kind (len + 1) (λ k. entered k (len + 1)) (mixed (len + 1))
+  of_header page in_place at stage (NumberWord n) entered mixed other = other
+  of_header page in_place at stage (PointerWord a) entered mixed other = other
+  of_header page in_place at stage (ForwardWord len a) entered mixed other = other
+  of_header page in_place at stage (BusyWord len worker) entered mixed other = other
+  of_header page in_place at stage Malformed entered mixed other = other
+
+  pub of_count : (page : ℕ) (in_place : Bool) (h : HeadedRecord) (d : Decoded)
+      → ((c : ℕ) → c + 2 ≤ h.size → P (enters page in_place h.at (Mixed c) h.size)) → P (LoadsCount h) → P (by_count page in_place h d)
+  of_count page in_place h (NumberWord c) counted other = ⊎_elim
+      (λ (a : h.size < c + 2). rw (lt-leb (c + 2) h.size a) other)
+      (λ (a : c + 2 ≤ h.size). rw (le-leb (c + 2) h.size a) (counted c a))
+      (cases_lt h.size (c + 2))
+  of_count page in_place h (PointerWord a) counted other = other
+  of_count page in_place h (HeaderWord kind len serial mutator) counted other = other
+  of_count page in_place h (ForwardWord len a) counted other = other
+  of_count page in_place h (BusyWord len worker) counted other = other
+  of_count page in_place h Malformed counted other = other
 
   of_old : (b : Bool) (x y : ScanStage) → (b ≡ true → P x) → P y → P (if b then x else y)
   of_old true x y here there = here refl
@@ -117,8 +140,11 @@ module _ (P : ScanStage → Type 0) where
 pub record OfEachWay (l : Layout) (page epoch : ℕ) (in_place : Bool) (P : ScanStage → Reply → ScanStage → Type 0) : Type 0 where
   pub stays : (x : ScanStage) (reply : Reply) → P x reply x
   pub crosses : (w : ℕ) → P LoadsCross (Value w) (LoadsFirst w)
-  pub enters_first : (at w : ℕ) (kind : Kind) (len : ℕ) → P (LoadsFirst at) (Value w) (enters page in_place at kind len)
-  pub enters_next : (r : ScannedRecord) (w : ℕ) (kind : Kind) (len : ℕ) → P (LoadsNext r) (Value w) (enters page in_place r.next kind len)
+  pub enters_first : (at w : ℕ) (k : Kind) (size : ℕ) → P (LoadsFirst at) (Value w) (enters page in_place at k size)
+  pub heads_first : (at w size : ℕ) → P (LoadsFirst at) (Value w) (LoadsCount (record { at = at; size = size }))
+  pub enters_next : (r : ScannedRecord) (w : ℕ) (k : Kind) (size : ℕ) → P (LoadsNext r) (Value w) (enters page in_place r.next k size)
+  pub heads_next : (r : ScannedRecord) (w size : ℕ) → P (LoadsNext r) (Value w) (LoadsCount (record { at = r.next; size = size }))
+  pub enters_counted : (h : HeadedRecord) (w c : ℕ) → c + 2 ≤ h.size → P (LoadsCount h) (Value w) (enters page in_place h.at (Mixed c) h.size)
   pub asks : (spot : Spot) (w old : ℕ) → decode w ≡ PointerWord old → P (LoadsWord spot) (Value w) (Asks (record { spot = spot; old = old }))
   pub passes_read : (spot : Spot) (w : ℕ) → P (LoadsWord spot) (Value w) (passes_word page in_place spot)
   pub passes_stored : (asked : Asked) (to : ℕ) → P (StoresCopy asked to) Done (passes_word page in_place asked.spot)
@@ -130,14 +156,15 @@ pub of_each_way : (l : Layout) (page epoch : ℕ) (in_place : Bool) (P : ScanSta
     → (x : ScanStage) (reply : Reply) → P x reply (stage_after l page epoch in_place x reply)
 of_each_way l p e i P each LoadsCross (Value w) = each.crosses w
 of_each_way l p e i P each (LoadsFirst at) (Value w) =
-    of_header (P (LoadsFirst at) (Value w)) p i at (LoadsFirst at) (decode w) (λ kind len serial mutator is. each.enters_first at w kind len) (each.stays _ _)
+    of_header (P (LoadsFirst at) (Value w)) p i at (LoadsFirst at) (decode w) (each.enters_first at w) (each.heads_first at w) (each.stays _ _)
+of_each_way l p e i P each (LoadsCount h) (Value w) = of_count (P (LoadsCount h) (Value w)) p i h (decode w) (each.enters_counted h w) (each.stays _ _)
 of_each_way l p e i P each (LoadsWord spot) (Value w) =
     of_word (P (LoadsWord spot) (Value w)) l p e i spot (decode w) (λ old is back. each.asks spot w old is) (each.passes_read spot w)
 of_each_way l p e i P each (StoresCopy asked to) Done = each.passes_stored asked to
 of_each_way l p e i P each (LoadsFront r) (Value w) =
     of_area (P (LoadsFront r) (Value w)) l e r (decode_area w) (each.ends r w) (each.is_inside r w) (each.stays _ _)
 of_each_way l p e i P each (LoadsNext r) (Value w) =
-    of_header (P (LoadsNext r) (Value w)) p i r.next (LoadsNext r) (decode w) (λ kind len serial mutator is. each.enters_next r w kind len) (each.stays _ _)
+    of_header (P (LoadsNext r) (Value w)) p i r.next (LoadsNext r) (decode w) (each.enters_next r w) (each.heads_next r w) (each.stays _ _)
 of_each_way l p e i P each x reply = each.stays x reply
 
 -- ---- questions
@@ -150,9 +177,8 @@ passes_without_asking : (page : ℕ) (in_place : Bool) (spot : Spot) (asked : As
 passes_without_asking page in_place spot asked =
     of_passes (λ z. z ≡ Asks asked → ⊥) page in_place spot (λ x is a z. cc) (λ x is a z. cc) (λ r x is. never_asks page in_place r (x + 1) asked)
 
-never_enters : (page : ℕ) (in_place : Bool) (at : ℕ) (kind : Kind) (len : ℕ) (asked : Asked) → enters page in_place at kind len ≡ Asks asked → ⊥
-never_enters page in_place at kind len asked =
-    never_asks page in_place (record_at at kind len) (max (at + first_field (said_kind kind 0)) (first_word page)) asked
+never_enters : (page : ℕ) (in_place : Bool) (at : ℕ) (k : Kind) (size : ℕ) (asked : Asked) → enters page in_place at k size ≡ Asks asked → ⊥
+never_enters page in_place at k size asked = never_asks page in_place (record_at at k size) (max (at + first_field k) (first_word page)) asked
 
 pub asks_at_words : AsksAtWords
 asks_at_words v reply asked =
@@ -161,8 +187,11 @@ asks_at_words v reply asked =
     of_each_way v.layout v.page v.epoch v.in_place P (record {
       stays = λ x reply going is. absurd (subst HasStep is going);
       crosses = λ w going is. absurd (cc);
-      enters_first = λ at w kind len going is. absurd (never_enters v.page v.in_place at kind len asked is);
-      enters_next = λ r w kind len going is. absurd (never_enters v.page v.in_place r.next kind len asked is);
+      enters_first = λ at w k size going is. absurd (never_enters v.page v.in_place at k size asked is);
+      heads_first = λ at w size going is. absurd (cc);
+      enters_next = λ r w k size going is. absurd (never_enters v.page v.in_place r.next k size asked is);
+      heads_next = λ r w size going is. absurd (cc);
+      enters_counted = λ h w c fits going is. absurd (never_enters v.page v.in_place h.at (Mixed c) h.size asked is);
       asks = λ spot w old leads going is.
           let same : record { spot = spot; old = old } ≡ asked = cc in
           (ap (λ (a : Asked). LoadsWord a.spot) same, (w, refl, leads ∙ ap (λ (a : Asked). PointerWord a.old) same));
@@ -206,11 +235,11 @@ passes-cursor n page in_place (InRecord r x) on =
     let fields = on.0.fields in let below = on.5 in
     goes_on-cursor page in_place r (x + 1) x (omega arith) (omega arith)
 
-enters-cursor : (n page : ℕ) (in_place : Bool) (at : ℕ) (kind : Kind) (len : ℕ) → FitsStage n page (enters page in_place at kind len)
-    → 64 * page ≤ cursor_at page (enters page in_place at kind len)
-enters-cursor n page in_place at kind len =
-    of_goes_on (λ z. FitsStage n page z → 64 * page ≤ cursor_at page z) page in_place (record_at at kind len)
-    (max (at + first_field (said_kind kind 0)) (first_word page))
+enters-cursor : (n page : ℕ) (in_place : Bool) (at : ℕ) (k : Kind) (size : ℕ) → FitsStage n page (enters page in_place at k size)
+    → 64 * page ≤ cursor_at page (enters page in_place at k size)
+enters-cursor n page in_place at k size =
+    of_goes_on (λ z. FitsStage n page z → 64 * page ≤ cursor_at page z) page in_place (record_at at k size)
+    (max (at + first_field k) (first_word page))
     (λ a b fits. omega arith) (λ a b fits. omega arith) (λ a b fits. fits.2) (λ a b fits. fits.2) (λ a b fits. omega arith)
 
 pub cursor_rises : CursorRises
@@ -220,9 +249,14 @@ cursor_rises v reply before after =
     of_each_way v.layout v.page v.epoch v.in_place P (record {
       stays = λ x reply from to. omega arith;
       crosses = λ w from to. omega arith;
-      enters_first = λ at w kind len from to. enters-cursor n v.page v.in_place at kind len to;
-      enters_next = λ r w kind len from to.
-          goes_on-cursor v.page v.in_place (record_at r.next kind len) (max (r.next + first_field (said_kind kind 0)) (first_word v.page)) r.next (omega arith) (omega arith);
+      enters_first = λ at w k size from to. enters-cursor n v.page v.in_place at k size to;
+      heads_first = λ at w size from to. omega arith;
+      enters_next = λ r w k size from to.
+          goes_on-cursor v.page v.in_place (record_at r.next k size) (max (r.next + first_field k) (first_word v.page)) r.next (omega arith) (omega arith);
+      heads_next = λ r w size from to. omega arith;
+      enters_counted = λ h w c fits from to.
+          let begins = from.begins in let reaches = from.reaches in
+          goes_on-cursor v.page v.in_place (record_at h.at (Mixed c) h.size) (max (h.at + 2) (first_word v.page)) (max h.at (first_word v.page)) (omega arith) (omega arith);
       asks = λ spot w old leads from to. omega arith;
       passes_read = λ spot w from to. passes-cursor n v.page v.in_place spot from;
       passes_stored = λ asked to' from to. passes-cursor n v.page v.in_place asked.spot from;
@@ -274,10 +308,14 @@ module _ (v : Scanning) (ending : Ending) where
       of_each_way v.layout v.page v.epoch v.in_place P (record {
         stays = λ x reply fits going is. absurd (subst HasStep is going);
         crosses = λ w fits going is. absurd (cc);
-        enters_first = λ at w kind len fits going is.
-            goes_on-ends (LoadsFirst at) (Value w) (record_at at kind len) (max (at + first_field (said_kind kind 0)) (first_word v.page)) fits.0 is;
-        enters_next = λ r w kind len fits going is.
-            goes_on-ends (LoadsNext r) (Value w) (record_at r.next kind len) (max (r.next + first_field (said_kind kind 0)) (first_word v.page)) fits.1 is;
+        enters_first = λ at w k size fits going is.
+            goes_on-ends (LoadsFirst at) (Value w) (record_at at k size) (max (at + first_field k) (first_word v.page)) fits.0 is;
+        heads_first = λ at w size fits going is. absurd (cc);
+        enters_next = λ r w k size fits going is.
+            goes_on-ends (LoadsNext r) (Value w) (record_at r.next k size) (max (r.next + first_field k) (first_word v.page)) fits.1 is;
+        heads_next = λ r w size fits going is. absurd (cc);
+        enters_counted = λ h w c counted fits going is.
+            goes_on-ends (LoadsCount h) (Value w) (record_at h.at (Mixed c) h.size) (max (h.at + 2) (first_word v.page)) fits.low is;
         asks = λ spot w old leads fits going is. absurd (cc);
         passes_read = λ spot w fits going is. passes-ends (LoadsWord spot) (Value w) spot fits is;
         passes_stored = λ asked to fits going is. passes-ends (StoresCopy asked to) Done asked.spot fits is;

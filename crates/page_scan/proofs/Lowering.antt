@@ -1,15 +1,35 @@
--- What is left of a scan goes down where a word is passed or asked about.
-use Rattle.std.proofs.Common.{ℕ, ◌+◌, ◌-◌, ◌*◌, ◌<◌, Bool, true, false, if◌then◌else◌, arith}
+-- What is left of a scan where a count is to be read, and that it goes down where a word is passed or asked about.
+use Rattle.std.proofs.Common.{◌≡◌, ℕ, ◌+◌, ◌-◌, ◌*◌, ◌<◌, ◌≤◌, Bool, true, false, if◌then◌else◌, refl, arith, ⊎_elim}
+use Rattle.std.proofs.lemmas.Bool.{cases_lt, le-ltb, lt-ltb}
 use Rattle.std.proofs.lemmas.Bool.Decides.{nat_tests}
 use Rattle.heap_words.specs.Decoded.{Decoded, NumberWord, PointerWord, HeaderWord, ForwardWord, BusyWord, Malformed}
 use Rattle.space_map.specs.Spaces.{Layout}
-use Rattle.page_scan.specs.declared.scan_stage.ScanStage.TheVariants.{Asks}
+use Rattle.page_scan.specs.declared.scan_stage.ScanStage.TheVariants.{Asks, LoadsCount}
+use Rattle.page_scan.specs.declared.headed_record.HeadedRecord.{HeadedRecord}
 use Rattle.page_scan.specs.declared.spot.Spot.{Spot}
 use Rattle.page_scan.specs.declared.spot.Spot.TheVariants.{OnBoard, InRecord}
 use Rattle.page_scan.specs.Left.{left_at}
 use Rattle.page_scan.specs.Scanning.{address_of}
 use Rattle.page_scan.specs.Soundness.{IsOnPage}
 use Rattle.page_scan.specs.Taken.{by_word, is_old, passes_word, scan_end}
+
+-- ---- a count
+
+-- the count of a mixed record is to be read, which begins before the page
+pub counts-before : (end : ℕ) (h : HeadedRecord) → h.at < end - 64 → left_at end (LoadsCount h) ≡ 449
+counts-before end h before = rw (lt-ltb h.at (end - 64) before) refl
+
+-- or on it
+pub counts-on : (end : ℕ) (h : HeadedRecord) → end - 64 ≤ h.at → left_at end (LoadsCount h) ≡ 7 * (end - h.at) - 2
+counts-on end h on = rw (le-ltb h.at (end - 64) on) refl
+
+pub counts-lt : (end : ℕ) (h : HeadedRecord) → left_at end (LoadsCount h) < 450
+counts-lt end h = ⊎_elim
+    (λ (before : h.at < end - 64). let e = counts-before end h before in omega (arith, e))
+    (λ (on : end - 64 ≤ h.at). let e = counts-on end h on in omega (arith, e, on))
+    (cases_lt h.at (end - 64))
+
+-- ---- a word
 
 pub passes-lt : (l : Layout) (p : ℕ) (in_place : Bool) (spot : Spot) → IsOnPage l.pages p spot
     → left_at (scan_end l p) (passes_word p in_place spot) < 7 * (scan_end l p - address_of spot)

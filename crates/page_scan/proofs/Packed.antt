@@ -1,29 +1,47 @@
 -- Records that lie packed: where they begin, and where their fields are.
-use Rattle.std.proofs.Common.{refl, ◌≡◌, ℕ, zero, suc, ◌+◌, ◌-◌, ◌<◌, ◌≤◌, ap, subst, arith, ⊎_elim}
-use Rattle.std.proofs.lemmas.Bool.{cases_lt}
-use Rattle.heap_words.specs.declared.kind.Kind.{Kind}
-use Rattle.heap_words.specs.declared.kind.Kind.TheVariants.{Fields, Raw}
+use Rattle.std.proofs.Common.{IsTrue, refl, ◌≡◌, ℕ, zero, suc, ◌+◌, ◌-◌, ◌<◌, ◌≤◌, ap, subst, arith, ⊎_elim}
+use Rattle.std.proofs.lemmas.Bool.{cases_lt, leb-true}
+use Rattle.heap_words.specs.declared.kind.Kind.{Kind as HeaderKind}
+use Rattle.heap_words.specs.declared.kind.Kind.TheVariants as header
 use Rattle.heap_words.specs.Decoded.{Decoded, NumberWord, PointerWord, HeaderWord, ForwardWord, BusyWord, Malformed, decode}
-use Rattle.heap_state.specs.Memory.FieldSpan.{first_field, fields_end}
-use Rattle.heap_state.specs.Invariant.Ghost.{said_kind}
+use Rattle.plain_state.specs.declared.kind.Kind.TheVariants.{Mixed}
+use Rattle.heap_state.specs.Invariant.Ghost.{count_said, said_kind}
+use Rattle.heap_state.proofs.Records.FieldSpans.{span-within}
 use Rattle.heap_state.specs.Kept.{size_said}
-use Rattle.page_scan.specs.Fields.{IsFieldBelow, record_begins, fields_said}
+use Rattle.page_scan.specs.Fields.{IsFieldBelow, record_begins, first_said, fields_said}
+use Rattle.page_scan.specs.Taken.{is_count}
 
-pub fields_end-le : (kind : Kind) (size : ℕ) → 0 < size → fields_end (said_kind kind 0) size ≤ size
-fields_end-le Fields size some = omega arith
-fields_end-le Raw size some = omega arith
+-- where the next word is a count, it is said
+count-le : (size : ℕ) (d : Decoded) → IsTrue (is_count size d) → count_said d + 2 ≤ size
+count-le size (NumberWord c) is = leb-true (c + 2) size is
+count-le size (PointerWord a) is = absurd (cc)
+count-le size (HeaderWord kind len serial mutator) is = absurd (cc)
+count-le size (ForwardWord len a) is = absurd (cc)
+count-le size (BusyWord len worker) is = absurd (cc)
+count-le size Malformed is = absurd (cc)
 
-pub first_field-is : (kind : Kind) → first_field (said_kind kind 0) ≡ 1
-first_field-is Fields = refl
-first_field-is Raw = refl
+-- the word behind a mixed record's header is its count
+abbrev pub IsCounted : Decoded → (next : ℕ) → Type 0
+IsCounted d next = (len serial mutator : ℕ) → d ≡ HeaderWord header.Mixed len serial mutator → IsTrue (is_count (len + 1) (decode next))
 
-fields_said-le : (d : Decoded) → fields_said d ≤ size_said d
-fields_said-le (HeaderWord kind len serial mutator) = fields_end-le kind (len + 1) (omega arith)
-fields_said-le (NumberWord n) = omega arith
-fields_said-le (PointerWord a) = omega arith
-fields_said-le (ForwardWord len a) = omega arith
-fields_said-le (BusyWord len worker) = omega arith
-fields_said-le Malformed = omega arith
+room-said : (kind : HeaderKind) (len serial mutator next : ℕ) → IsCounted (HeaderWord kind len serial mutator) next
+    → (count : ℕ) → said_kind kind next ≡ Mixed count → count + 2 ≤ len + 1
+room-said header.Fields len serial mutator next counted count is = absurd (cc)
+room-said header.Raw len serial mutator next counted count is = absurd (cc)
+room-said header.Mixed len serial mutator next counted count is =
+    let said : count_said (decode next) ≡ count = cc in
+    let le = count-le (len + 1) (decode next) (counted len serial mutator refl) in
+    omega arith
+
+-- a record's fields begin and end within it
+said-within : (d : Decoded) (next : ℕ) → IsCounted d next → (first_said d next ≤ size_said d) × (fields_said d next ≤ size_said d)
+said-within (HeaderWord kind len serial mutator) next counted =
+    let z = span-within (said_kind kind next) (len + 1) (omega arith) (room-said kind len serial mutator next counted) in (z.1, z.2)
+said-within (NumberWord n) next counted = (omega arith, omega arith)
+said-within (PointerWord a) next counted = (omega arith, omega arith)
+said-within (ForwardWord len a) next counted = (omega arith, omega arith)
+said-within (BusyWord len worker) next counted = (omega arith, omega arith)
+said-within Malformed next counted = (omega arith, omega arith)
 
 module _ (heap : ℕ → ℕ) (from front : ℕ) where
   abbrev at : ℕ → ℕ
@@ -42,22 +60,30 @@ module _ (heap : ℕ → ℕ) (from front : ℕ) where
   pub begins-le : (n m : ℕ) → n ≤ m → at n ≤ at m
   begins-le n m le = let e : n + (m - n) ≡ m = omega arith in subst (λ k. at n ≤ at k) e (further n (m - n))
 
-  pub field-below : (x : ℕ) (f : IsFieldBelow heap from front x) → x < at (f.0 + 1)
-  field-below x f = let s = begins-next f.0 in let z = fields_said-le (decode (heap (at f.0))) in let b = f.3 in omega arith
+  -- the number of words of the record of this number up to its fields, and up to their end
+  abbrev pub first : ℕ → ℕ
+  first n = first_said (decode (heap (at n))) (heap (at n + 1))
 
-  -- a field between two records' first words is one of the first's
-  pub field-of : (x k : ℕ) → IsFieldBelow heap from front x → at k < x → x < at (k + 1) → x < at k + fields_said (decode (heap (at k)))
-  field-of x k f behind before = ⊎_elim
-      (λ (l : f.0 < k). let z = begins-le (f.0 + 1) k (omega arith) in let b = field-below x f in absurd (omega arith))
-      (λ (l : k ≤ f.0). ⊎_elim
-      (λ (m : k < f.0). let z = begins-le (k + 1) f.0 (omega arith) in let b = f.2 in absurd (omega arith))
-      (λ (m : f.0 ≤ k). let e : f.0 ≡ k = omega arith in subst (λ n. x < at n + fields_said (decode (heap (at n)))) e f.3)
-      (cases_lt k f.0))
-      (cases_lt f.0 k)
+  abbrev pub last : ℕ → ℕ
+  last n = fields_said (decode (heap (at n))) (heap (at n + 1))
 
-  -- a record's first word is no field
-  pub no_field-first : (k : ℕ) → IsFieldBelow heap from front (at k) → ⊥
-  no_field-first k f = ⊎_elim
-      (λ (l : f.0 < k). let z = begins-le (f.0 + 1) k (omega arith) in let b = field-below (at k) f in omega arith)
-      (λ (l : k ≤ f.0). let z = begins-le k f.0 l in let b = f.2 in omega arith)
-      (cases_lt f.0 k)
+  pub first-before : (n : ℕ) → IsCounted (decode (heap (at n))) (heap (at n + 1)) → at n + first n ≤ at (n + 1)
+  first-before n counted = let s = begins-next n in let z = (said-within (decode (heap (at n))) (heap (at n + 1)) counted).0 in omega arith
+
+  pub last-before : (n : ℕ) → IsCounted (decode (heap (at n))) (heap (at n + 1)) → at n + last n ≤ at (n + 1)
+  last-before n counted = let s = begins-next n in let z = (said-within (decode (heap (at n))) (heap (at n + 1)) counted).1 in omega arith
+
+  module _ (counted : (n : ℕ) → at n < front → IsCounted (decode (heap (at n))) (heap (at n + 1))) where
+    pub field-below : (x : ℕ) (f : IsFieldBelow heap from front x) → x < at (f.0 + 1)
+    field-below x f =
+        let s = begins-next f.0 in let z = (said-within (decode (heap (at f.0))) (heap (at f.0 + 1)) (counted f.0 f.1)).1 in let b = f.3 in omega arith
+
+    -- a field that lies between two records' first words is one of the first's
+    pub field-of : (x k : ℕ) → IsFieldBelow heap from front x → at k ≤ x → x < at (k + 1) → (at k + first k ≤ x) × (x < at k + last k)
+    field-of x k f behind before = ⊎_elim
+        (λ (l : f.0 < k). let z = begins-le (f.0 + 1) k (omega arith) in let b = field-below x f in absurd (omega arith))
+        (λ (l : k ≤ f.0). ⊎_elim
+        (λ (m : k < f.0). let z = begins-le (k + 1) f.0 (omega arith) in let b = f.2 in absurd (omega arith))
+        (λ (m : f.0 ≤ k). let e : f.0 ≡ k = omega arith in subst (λ n. (at n + first n ≤ x) × (x < at n + last n)) e (f.2, f.3))
+        (cases_lt k f.0))
+        (cases_lt f.0 k)

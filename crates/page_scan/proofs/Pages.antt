@@ -4,10 +4,12 @@ use Rattle.std.specs.Prelude.{◌==◌}
 use Rattle.std.proofs.lemmas.Bool.{lt-ltb, le-ltb, cases_lt}
 use Rattle.std.proofs.lemmas.Bool.Decides.{nat_tests}
 use Rattle.atom_store.specs.Runs.{Working, alone}
-use Rattle.heap_words.specs.declared.kind.Kind.{Kind}
+use Rattle.plain_state.specs.declared.kind.Kind.TheVariants.{Mixed}
+use Rattle.heap_words.specs.declared.kind.Kind.{Kind as HeaderKind}
+use Rattle.heap_words.specs.declared.kind.Kind.TheVariants as header
 use Rattle.heap_words.specs.Decoded.{Decoded, NumberWord, PointerWord, HeaderWord, ForwardWord, BusyWord, Malformed, decode}
 use Rattle.heap_state.specs.Memory.FieldSpan.{first_field}
-use Rattle.heap_state.specs.Invariant.Ghost.{said_kind}
+use Rattle.heap_state.specs.Invariant.Ghost.{count_said, said_kind}
 use Rattle.heap_state.specs.Kept.{size_said}
 use Rattle.heap_words.specs.FirstWords.{is_header}
 use Rattle.heap_words.specs.Word.{pointer_word}
@@ -15,18 +17,19 @@ use Rattle.space_map.specs.AreaWord.{decode_area}
 use Rattle.space_map.specs.Spaces.{Layout, to_space, first_word, board_page}
 use Rattle.space_map.specs.Table.{Area, HeapWord, place_of}
 use Rattle.page_scan.specs.declared.ending.Ending.{Ending}
+use Rattle.page_scan.specs.declared.headed_record.HeadedRecord.{HeadedRecord}
 use Rattle.page_scan.specs.declared.scan_stage.ScanStage.{ScanStage}
-use Rattle.page_scan.specs.declared.scan_stage.ScanStage.TheVariants.{LoadsCross, LoadsFirst, LoadsWord, Asks, StoresCopy, LoadsFront, LoadsNext, Ended}
+use Rattle.page_scan.specs.declared.scan_stage.ScanStage.TheVariants.{LoadsCross, LoadsFirst, LoadsCount, LoadsWord, Asks, StoresCopy, LoadsFront, LoadsNext, Ended}
 use Rattle.page_scan.specs.declared.scanned_record.ScannedRecord.{ScannedRecord}
 use Rattle.page_scan.specs.declared.spot.Spot.{Spot}
 use Rattle.page_scan.specs.declared.spot.Spot.TheVariants.{OnBoard, InRecord}
 use Rattle.page_scan.specs.Answering.{IsPacked, LeadsBack, ReplacesPointers, answered_by, answering, crossing_in, heap_in}
-use Rattle.page_scan.specs.Fields.{IsFieldBelow, IsFieldOn, record_begins, fields_said}
+use Rattle.page_scan.specs.Fields.{IsFieldOn, record_begins, first_said, fields_said}
 use Rattle.page_scan.specs.Scanning.{Scanning, address_of}
-use Rattle.page_scan.specs.Taken.{by_area, by_header, by_word, goes_on_at, is_old, passes_word, record_at}
+use Rattle.page_scan.specs.Taken.{by_area, by_count, by_header, by_kind, by_word, enters, goes_on_at, is_count, is_old, passes_word, record_at}
 use Rattle.page_scan.specs.Theorems.{ScansPages}
-use Rattle.page_scan.proofs.Packed.{begins-next, begins-le, field-below, field-of, no_field-first, fields_end-le, first_field-is}
-use Rattle.page_scan.proofs.Replacing.{Replaced, begun-Replaced, unread, area_stays, cross_stays, passed, stored, ended-Replaced}
+use Rattle.page_scan.proofs.Packed.{IsCounted, begins-next, begins-le, field-below, field-of, first, first-before, last, last-before}
+use Rattle.page_scan.proofs.Replacing.{Replaced, begun-Replaced, unread, word_places, area_stays, cross_stays, passed, stored, ended-Replaced}
 
 module _ (l : Layout) (page epoch : ℕ) (in_place : Bool) (words : List ℕ) (front : ℕ) (answer : ℕ → ℕ) (lies : IsPacked l page epoch in_place words front) where
   abbrev heap : ℕ → ℕ
@@ -44,21 +47,41 @@ module _ (l : Layout) (page epoch : ℕ) (in_place : Bool) (words : List ℕ) (f
   abbrev Below : ℕ → List ℕ → Type 0
   Below cursor now = Replaced l epoch answer words Looked cursor now
 
+  -- where the record of a number has its first field, and its last
+  abbrev first_at : ℕ → ℕ
+  first_at k = at k + first heap from front k
+
+  abbrev last_at : ℕ → ℕ
+  last_at k = at k + last heap from front k
+
+  counted : (k : ℕ) → at k < front → IsCounted (decode (heap (at k))) (heap (at k + 1))
+  counted k below len serial mutator says = lies.counts k len serial mutator below says
+
   -- the record is the one of this number
   record IsNumber (k : ℕ) (r : ScannedRecord) : Type 0 where
-    kind : Kind
+    kind : HeaderKind
     len : ℕ
     serial : ℕ
     mutator : ℕ
     says : decode (heap (at k)) ≡ HeaderWord kind len serial mutator
-    is : r ≡ record_at (at k) kind len
+    is : r ≡ record_at (at k) (said_kind kind (heap (at k + 1))) (len + 1)
     below : at k < front
+
+  -- the mixed record is the one of this number, which lies over the page or on it
+  record IsHeadedNumber (k : ℕ) (h : HeadedRecord) : Type 0 where
+    serial : ℕ
+    mutator : ℕ
+    len : ℕ
+    says : decode (heap (at k)) ≡ HeaderWord header.Mixed len serial mutator
+    is : h ≡ record { at = at k; size = len + 1 }
+    below : at k < front
+    reaches : 64 * page ≤ at (k + 1)
 
   -- the word is a field of that record, on the page, and the cursor stands there
   record StandsAt (k : ℕ) (r : ScannedRecord) (x : ℕ) (now : List ℕ) : Type 0 where
     number : IsNumber k r
     replaced : Below x now
-    behind : at k < x
+    behind : first_at k ≤ x
     in_fields : x < r.fields_end
     on_page : 64 * page ≤ x
     before : x < 64 * (page + 1)
@@ -77,6 +100,7 @@ module _ (l : Layout) (page epoch : ℕ) (in_place : Bool) (words : List ℕ) (f
   abbrev Knows : ScanStage → List ℕ → Type 0
   Knows LoadsCross now = Below (64 * page) now
   Knows (LoadsFirst a) now = Below (64 * page) now × (a ≡ from)
+  Knows (LoadsCount h) now = (k : ℕ) × IsHeadedNumber k h × Below (max (at k) (64 * page)) now
   Knows (LoadsWord spot) now = KnowsSpot spot now
   Knows (Asks asked) now = ⊥
   Knows (StoresCopy asked to) now =
@@ -92,24 +116,24 @@ module _ (l : Layout) (page epoch : ℕ) (in_place : Bool) (words : List ℕ) (f
   next-IsNumber : (k : ℕ) (r : ScannedRecord) → IsNumber k r → r.next ≡ at (k + 1)
   next-IsNumber k r n = ap (λ (z : ScannedRecord). z.next) n.is ∙ sym (begins-next heap from front k ∙ ap (λ d. at k + size_said d) n.says)
 
-  fields-IsNumber : (k : ℕ) (r : ScannedRecord) → IsNumber k r → r.fields_end ≡ at k + fields_said (decode (heap (at k)))
-  fields-IsNumber k r n = ap (λ (z : ScannedRecord). z.fields_end) n.is ∙ sym (ap (λ d. at k + fields_said d) n.says)
+  fields-IsNumber : (k : ℕ) (r : ScannedRecord) → IsNumber k r → r.fields_end ≡ last_at k
+  fields-IsNumber k r n = ap (λ (z : ScannedRecord). z.fields_end) n.is ∙ sym (ap (λ d. at k + fields_said d (heap (at k + 1))) n.says)
 
   fields-le : (k : ℕ) (r : ScannedRecord) → IsNumber k r → r.fields_end ≤ r.next
   fields-le k r n =
-      let f = ap (λ (z : ScannedRecord). z.fields_end) n.is in
-      let b = ap (λ (z : ScannedRecord). z.next) n.is in
-      let z = fields_end-le n.kind (n.len + 1) (omega arith) in
+      let f = fields-IsNumber k r n in
+      let b = next-IsNumber k r n in
+      let z = last-before heap from front k (counted k n.below) in
       omega arith
 
   -- behind a record's fields, up to the next record, nothing is looked at
-  over_rest : (k : ℕ) (r : ScannedRecord) (y : ℕ) (now : List ℕ) → IsNumber k r → Below y now → at k < y → r.fields_end ≤ y → y ≤ r.next → Below r.next now
+  over_rest : (k : ℕ) (r : ScannedRecord) (y : ℕ) (now : List ℕ) → IsNumber k r → Below y now → at k ≤ y → r.fields_end ≤ y → y ≤ r.next → Below r.next now
   over_rest k r y now n replaced behind past before =
       passed l epoch answer words Looked y r.next now replaced before
       (λ x old back from below.
       let next = next-IsNumber k r n in
       let fields = fields-IsNumber k r n in
-      let field = field-of heap (crossing_in l words page) front x k back.looked.0 (omega arith) (omega arith) in
+      let field = field-of heap (crossing_in l words page) front counted x k back.looked.0 (omega arith) (omega arith) in
       omega arith)
 
   -- behind a record the scan looks for FRONT, or goes on
@@ -118,7 +142,7 @@ module _ (l : Layout) (page epoch : ℕ) (in_place : Bool) (words : List ℕ) (f
   behind_record true is k r now stands = (k, stands)
   behind_record false is k r now stands = let whole = lies.full is in let b = stands.before in (k, stands, omega arith)
 
-  goes_on-Knows : (k : ℕ) (r : ScannedRecord) (y : ℕ) (now : List ℕ) → IsNumber k r → Below y now → at k < y → 64 * page ≤ y → y ≤ r.next
+  goes_on-Knows : (k : ℕ) (r : ScannedRecord) (y : ℕ) (now : List ℕ) → IsNumber k r → Below y now → first_at k ≤ y → 64 * page ≤ y → y ≤ r.next
       → Knows (goes_on_at page in_place r y) now
   goes_on-Knows k r y now n replaced behind on_page before = ⊎_elim
       (λ (in_fields : y < r.fields_end). rw (lt-ltb y r.fields_end in_fields) (⊎_elim
@@ -127,7 +151,7 @@ module _ (l : Layout) (page epoch : ℕ) (in_place : Bool) (words : List ℕ) (f
       (λ (off : 64 * (page + 1) ≤ y). rw (le-ltb y (64 * (page + 1)) off) (replaced, inl off))
       (cases_lt y (64 * (page + 1)))))
       (λ (past : r.fields_end ≤ y). rw (le-ltb y r.fields_end past)
-      (let rest = over_rest k r y now n replaced behind past before in ⊎_elim
+      (let rest = over_rest k r y now n replaced (omega arith) past before in ⊎_elim
       (λ (on : r.next < 64 * (page + 1)). rw (lt-ltb r.next (64 * (page + 1)) on)
       (behind_record in_place refl k r now (record { number = n; replaced = rest; on_page = omega arith; before = on })))
       (λ (off : 64 * (page + 1) ≤ r.next). rw (le-ltb r.next (64 * (page + 1)) off) (rest, inl off))
@@ -137,6 +161,7 @@ module _ (l : Layout) (page epoch : ℕ) (in_place : Bool) (words : List ℕ) (f
   still : (x : ScanStage) (now : List ℕ) → Knows x now → Knows (answered_by answer x) now
   still LoadsCross now known = known
   still (LoadsFirst a) now known = known
+  still (LoadsCount h) now known = known
   still (LoadsWord spot) now known = known
   still (Asks asked) now known = absurd known
   still (StoresCopy asked to) now known = known
@@ -146,24 +171,35 @@ module _ (l : Layout) (page epoch : ℕ) (in_place : Bool) (words : List ℕ) (f
 
   -- ---- headers
 
-  enters-Knows : (k : ℕ) (r : ScannedRecord) (first : ℕ) (now : List ℕ) → first ≡ 1 → IsNumber k r → Below (max (at k) (64 * page)) now
-      → 64 * page ≤ at (k + 1) → Knows (goes_on_at page in_place r (max (r.at + first) (64 * page))) now
-  enters-Knows k r first now is_first n replaced reaches =
-      let begins = at-IsNumber k r n in
+  enters-Knows : (k : ℕ) (kind : HeaderKind) (len serial mutator : ℕ) (now : List ℕ) → decode (heap (at k)) ≡ HeaderWord kind len serial mutator → at k < front
+      → Below (max (at k) (64 * page)) now → 64 * page ≤ at (k + 1) → Knows (enters page in_place (at k) (said_kind kind (heap (at k + 1))) (len + 1)) now
+  enters-Knows k kind len serial mutator now says below replaced reaches =
+      let r : ScannedRecord = record_at (at k) (said_kind kind (heap (at k + 1))) (len + 1) in
+      let n : IsNumber k r = record { kind = kind; len = len; serial = serial; mutator = mutator; says = says; is = refl; below = below } in
       let next = next-IsNumber k r n in
-      let size = ap (λ (z : ScannedRecord). z.next) n.is in
-      let rest : Below (max (r.at + first) (64 * page)) now =
-      passed l epoch answer words Looked (max (at k) (64 * page)) (max (r.at + first) (64 * page)) now replaced (omega arith)
-      (λ x old back from below.
-      let here : x ≡ at k = omega arith in
-      no_field-first heap (crossing_in l words page) front k (subst (λ z. IsFieldBelow heap (crossing_in l words page) front z) here back.looked.0)) in
-      goes_on-Knows k r (max (r.at + first) (64 * page)) now n rest (omega arith) (omega arith) (omega arith)
+      let starts : first heap from front k ≡ first_field (said_kind kind (heap (at k + 1))) = ap (λ d. first_said d (heap (at k + 1))) says in
+      let before = first-before heap from front k (counted k below) in
+      let y : ℕ = max (first_at k) (64 * page) in
+      let rest : Below y now =
+      passed l epoch answer words Looked (max (at k) (64 * page)) y now replaced (omega arith)
+      (λ x old back from_here to_here.
+      let on_page = back.looked.1 in
+      let field = field-of heap from front counted x k back.looked.0 (omega arith) (omega arith) in
+      omega arith) in
+      subst (λ f. Knows (goes_on_at page in_place r (max (at k + f) (64 * page))) now) starts
+      (goes_on-Knows k r y now n rest (omega arith) (omega arith) (omega arith))
+
+  kind-Knows : (k : ℕ) (kind : HeaderKind) (len serial mutator : ℕ) (now : List ℕ) → decode (heap (at k)) ≡ HeaderWord kind len serial mutator → at k < front
+      → Below (max (at k) (64 * page)) now → 64 * page ≤ at (k + 1) → Knows (by_kind page in_place (at k) kind (len + 1)) now
+  kind-Knows k header.Fields len serial mutator now says below replaced reaches = enters-Knows k header.Fields len serial mutator now says below replaced reaches
+  kind-Knows k header.Raw len serial mutator now says below replaced reaches = enters-Knows k header.Raw len serial mutator now says below replaced reaches
+  kind-Knows k header.Mixed len serial mutator now says below replaced reaches =
+      (k, record { serial = serial; mutator = mutator; len = len; says = says; is = refl; below = below; reaches = reaches }, replaced)
 
   header-Knows : (k : ℕ) (now : List ℕ) (stage : ScanStage) (d : Decoded) → decode (heap (at k)) ≡ d → IsTrue (is_header d) → at k < front
       → Below (max (at k) (64 * page)) now → 64 * page ≤ at (k + 1) → Knows (by_header page in_place (at k) stage d) now
   header-Knows k now stage (HeaderWord kind len serial mutator) says header below replaced reaches =
-      enters-Knows k (record_at (at k) kind len) (first_field (said_kind kind 0)) now (first_field-is kind)
-      (record { kind = kind; len = len; serial = serial; mutator = mutator; says = says; is = refl; below = below }) replaced reaches
+      kind-Knows k kind len serial mutator now says below replaced reaches
   header-Knows k now stage (NumberWord n) says header below replaced reaches = absurd (cc)
   header-Knows k now stage (PointerWord a) says header below replaced reaches = absurd (cc)
   header-Knows k now stage (ForwardWord len a) says header below replaced reaches = absurd (cc)
@@ -202,6 +238,44 @@ module _ (l : Layout) (page epoch : ℕ) (in_place : Bool) (words : List ℕ) (f
       let further = begins-le heap (crossing_in l words page) front (k + 1) (k + 1 + 1) (omega arith) in
       reads-Knows (k + 1) r.next now (LoadsNext r) next (unread l epoch answer words Looked r.next now stands.replaced r.next (omega arith))
       (omega arith) (subst (λ z. Below z now) most stands.replaced) (omega arith)
+
+  -- ---- counts
+
+  -- the count's word is no field
+  count_unread : (k : ℕ) (now : List ℕ) → Below (max (at k) (64 * page)) now → heap_in l now (at k + 1) ≡ heap (at k + 1)
+  count_unread k now replaced =
+      ⊎_elim
+      (λ (off : at k + 1 < 64 * page).
+      replaced.others (place_of l.pages (HeapWord (at k + 1)))
+      (λ x old back below same. absurd (let on_page = back.looked.1 in let e = word_places l epoch answer words Looked (at k + 1) x same in omega arith)))
+      (λ (on : 64 * page ≤ at k + 1). unread l epoch answer words Looked (max (at k) (64 * page)) now replaced (at k + 1) (omega arith))
+      (cases_lt (at k + 1) (64 * page))
+
+  counted-Knows : (k len serial mutator c : ℕ) (now : List ℕ) → decode (heap (at k)) ≡ HeaderWord header.Mixed len serial mutator → at k < front
+      → Below (max (at k) (64 * page)) now → 64 * page ≤ at (k + 1) → decode (heap (at k + 1)) ≡ NumberWord c → IsTrue (is_count (len + 1) (NumberWord c))
+      → Knows (by_count page in_place (record { at = at k; size = len + 1 }) (NumberWord c)) now
+  counted-Knows k len serial mutator c now says below replaced reaches is fits =
+      rw fits
+      (subst (λ d. Knows (enters page in_place (at k) (Mixed (count_said d)) (len + 1)) now) is
+      (enters-Knows k header.Mixed len serial mutator now says below replaced reaches))
+
+  count-Knows : (k len serial mutator : ℕ) (d : Decoded) (now : List ℕ) → decode (heap (at k)) ≡ HeaderWord header.Mixed len serial mutator → at k < front
+      → Below (max (at k) (64 * page)) now → 64 * page ≤ at (k + 1) → decode (heap (at k + 1)) ≡ d → IsTrue (is_count (len + 1) d)
+      → Knows (by_count page in_place (record { at = at k; size = len + 1 }) d) now
+  count-Knows k len serial mutator (NumberWord c) now says below replaced reaches is fits = counted-Knows k len serial mutator c now says below replaced reaches is fits
+  count-Knows k len serial mutator (PointerWord a) now says below replaced reaches is fits = absurd (cc)
+  count-Knows k len serial mutator (HeaderWord kind n i m) now says below replaced reaches is fits = absurd (cc)
+  count-Knows k len serial mutator (ForwardWord n a) now says below replaced reaches is fits = absurd (cc)
+  count-Knows k len serial mutator (BusyWord n worker) now says below replaced reaches is fits = absurd (cc)
+  count-Knows k len serial mutator Malformed now says below replaced reaches is fits = absurd (cc)
+
+  reads_count-Knows : (k : ℕ) (h : HeadedRecord) (now : List ℕ) → IsHeadedNumber k h → Below (max (at k) (64 * page)) now
+      → Knows (by_count page in_place h (decode (heap_in l now (h.at + 1)))) now
+  reads_count-Knows k h now n replaced =
+      subst (λ z. Knows (by_count page in_place z (decode (heap_in l now (z.at + 1)))) now) (sym n.is)
+      (subst (λ w. Knows (by_count page in_place (record { at = at k; size = n.len + 1 }) (decode w)) now) (sym (count_unread k now replaced))
+      (count-Knows k n.len n.serial n.mutator (decode (heap (at k + 1))) now n.says n.below replaced n.reaches refl
+      (lies.counts k n.len n.serial n.mutator n.below n.says)))
 
   -- ---- FRONT
 
@@ -308,6 +382,7 @@ module _ (l : Layout) (page epoch : ℕ) (in_place : Bool) (words : List ℕ) (f
   runs (suc n) LoadsCross now known =
       runs n (LoadsFirst _) now (known, cross_stays l epoch answer words Looked (64 * page) now known page (let within = lies.in_space in omega arith))
   runs (suc n) (LoadsFirst a) now known = runs n _ now (still _ now (first-Knows now a known.0 known.1))
+  runs (suc n) (LoadsCount h) now known = runs n _ now (still _ now (reads_count-Knows known.0 h now known.1 known.2))
   runs (suc n) (LoadsWord spot) now known = runs n _ now (spot-Knows spot now known)
   runs (suc n) (Asks asked) now known = absurd known
   runs (suc n) (StoresCopy asked to) now known = runs n _ _ (stored-Knows asked.spot asked.old to now known.0 known.1 known.2)
@@ -320,7 +395,7 @@ module _ (l : Layout) (page epoch : ℕ) (in_place : Bool) (words : List ℕ) (f
   all-below : (ending : Ending) → (64 * (page + 1) ≤ ending.cursor) ⊎ (ending.cursor ≡ front) → (x : ℕ) → Looked x → x < ending.cursor
   all-below ending (inl off) x looked = let before = looked.2 in omega arith
   all-below ending (inr is) x looked =
-      let field = field-below heap (crossing_in l words page) front x looked.0 in
+      let field = field-below heap from front counted x looked.0 in
       let packed = lies.packed looked.0.0 looked.0.1 in
       omega arith
 

@@ -24,7 +24,7 @@ module _ (l : Layout) (epoch : ℕ) (answer : ℕ → ℕ) (words : List ℕ) (I
     others = λ place far. refl;
   }
 
-  word_places : (x y : ℕ) → place_of l.pages (HeapWord x) ≡ place_of l.pages (HeapWord y) → x ≡ y
+  pub word_places : (x y : ℕ) → place_of l.pages (HeapWord x) ≡ place_of l.pages (HeapWord y) → x ≡ y
   unfolding place_of
   word_places x y same = omega arith
 

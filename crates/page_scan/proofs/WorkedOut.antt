@@ -6,10 +6,10 @@ use Rattle.heap_words.specs.Word.{tag_of, pointer_word}
 use Rattle.space_map.specs.AreaWord.{decode_area, area_in}
 use Rattle.space_map.specs.Table.{place_of}
 use Rattle.page_scan.specs.Theorems.{IsWorkedOut}
-use Rattle.page_scan.specs.Worked.{full_words_with, words_with}
+use Rattle.page_scan.specs.Worked.{full_words_with, mixed_words_with, words_with}
 
 pub is_worked_out : IsWorkedOut
-unfolding decode tag_of pointer_word decode_area area_in place_of alone words_with full_words_with
+unfolding decode tag_of pointer_word decode_area area_in place_of alone words_with full_words_with mixed_words_with
 is_worked_out = record {
   on_board = record { steps = refl; ends = refl };
   on_board_asks = record { steps = refl; ends = refl };
@@ -17,6 +17,9 @@ is_worked_out = record {
   on_filling_asks = record { steps = refl; ends = refl };
   on_filling_goes_on = record { steps = refl; ends = refl };
   on_full = record { steps = refl; ends = refl };
+  on_mixed_asks = record { steps = refl; ends = refl };
+  on_mixed_goes_on = record { steps = refl; ends = refl };
   words = refl;
   full_words = refl;
+  mixed_words = refl;
 }

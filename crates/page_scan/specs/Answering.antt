@@ -1,7 +1,8 @@
 -- A scan that nobody disturbs, and that is answered at once.
 use Rattle.std.specs.Prelude.{◌≡◌, ◌≢◌, ℕ, ◌+◌, ◌*◌, ◌<◌, ◌≤◌, Bool, false, true, List, Some, length, slice_index, IsTrue}
 use Rattle.atom_store.specs.Machine.{Machine}
-use Rattle.heap_words.specs.Decoded.{PointerWord, decode}
+use Rattle.heap_words.specs.declared.kind.Kind.TheVariants.{Mixed}
+use Rattle.heap_words.specs.Decoded.{HeaderWord, PointerWord, decode}
 use Rattle.heap_words.specs.FirstWords.{is_header}
 use Rattle.heap_words.specs.Word.{pointer_word}
 use Rattle.space_map.specs.declared.area_word.AreaWord.{AreaWord}
@@ -13,7 +14,7 @@ use Rattle.page_scan.specs.declared.scan_stage.ScanStage.TheVariants.{Asks, Stor
 use Rattle.page_scan.specs.declared.scanned.Scanned.{Scanned}
 use Rattle.page_scan.specs.Fields.{record_begins}
 use Rattle.page_scan.specs.Scanning.{Scanning, wanted}
-use Rattle.page_scan.specs.Taken.{is_old, taken, told}
+use Rattle.page_scan.specs.Taken.{is_count, is_old, taken, told}
 
 -- what was asked is answered
 abbrev pub answered_by : (answer : ℕ → ℕ) → ScanStage → ScanStage
@@ -36,7 +37,8 @@ heap_in l words x = slice_index words (place_of l.pages (HeapWord x))
 abbrev pub crossing_in : Layout → List ℕ → ℕ → ℕ
 crossing_in l words page = slice_index words (place_of l.pages (Cross page))
 
--- Records lie packed from the one over the page's first word up to FRONT. A page that isn't claimed as the filling page is full.
+-- Records lie packed from the one over the page's first word up to FRONT, and behind each mixed one's header stands its count of
+-- fields. A page that isn't claimed as the filling page is full.
 pub record IsPacked (l : Layout) (page epoch : ℕ) (in_place : Bool) (words : List ℕ) (front : ℕ) : Type 0 where
   pub whole : table_length l.pages ≤ length words
   pub in_space : page < board_page l.pages
@@ -49,6 +51,9 @@ pub record IsPacked (l : Layout) (page epoch : ℕ) (in_place : Bool) (words : L
   pub below : crossing_in l words page < front
   pub headers : (n : ℕ) → record_begins (heap_in l words) (crossing_in l words page) n < front
       → IsTrue (is_header (decode (heap_in l words (record_begins (heap_in l words) (crossing_in l words page) n))))
+  pub counts : (n len serial mutator : ℕ) → record_begins (heap_in l words) (crossing_in l words page) n < front
+      → decode (heap_in l words (record_begins (heap_in l words) (crossing_in l words page) n)) ≡ HeaderWord Mixed len serial mutator
+      → IsTrue (is_count (len + 1) (decode (heap_in l words (record_begins (heap_in l words) (crossing_in l words page) n + 1))))
   pub packed : (n : ℕ) → record_begins (heap_in l words) (crossing_in l words page) n < front
       → record_begins (heap_in l words) (crossing_in l words page) (n + 1) ≤ front
   pub full : in_place ≡ false → first_word (page + 1) ≤ front

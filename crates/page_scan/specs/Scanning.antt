@@ -1,12 +1,12 @@
 -- The scan of a page: its stages, and the step that each wants.
-use Rattle.std.specs.Prelude.{ℕ, ◌==◌, Bool, ⊤, Option, Some, None, option_map, if◌then◌else◌}
+use Rattle.std.specs.Prelude.{ℕ, ◌+◌, ◌==◌, Bool, ⊤, Option, Some, None, option_map, if◌then◌else◌}
 use Rattle.atom_store.specs.declared.step.Step.{Step}
 use Rattle.atom_store.specs.StepOn.{StepOn, Load, Store, step_at}
 use Rattle.heap_words.specs.Word.{pointer_word}
 use Rattle.space_map.specs.Spaces.{Layout, to_space, first_word, board_page}
 use Rattle.space_map.specs.Table.{Row, Area, Cross, HeapWord, place_of}
 use Rattle.page_scan.specs.declared.scan_stage.ScanStage.{ScanStage}
-use Rattle.page_scan.specs.declared.scan_stage.ScanStage.TheVariants.{LoadsCross, LoadsFirst, LoadsWord, Asks, StoresCopy, LoadsFront, LoadsNext, Ended}
+use Rattle.page_scan.specs.declared.scan_stage.ScanStage.TheVariants.{LoadsCross, LoadsFirst, LoadsCount, LoadsWord, Asks, StoresCopy, LoadsFront, LoadsNext, Ended}
 use Rattle.page_scan.specs.declared.spot.Spot.{Spot}
 use Rattle.page_scan.specs.declared.spot.Spot.TheVariants.{OnBoard, InRecord}
 
@@ -53,6 +53,7 @@ address_of (InRecord r x) = x
 abbrev pub wants_at : (page epoch : ℕ) → ScanStage → Option (StepOn Row)
 wants_at p e LoadsCross = Some (Load (Cross p))
 wants_at p e (LoadsFirst at) = Some (Load (HeapWord at))
+wants_at p e (LoadsCount h) = Some (Load (HeapWord (h.at + 1)))
 wants_at p e (LoadsWord spot) = Some (Load (HeapWord (address_of spot)))
 wants_at p e (Asks asked) = None
 wants_at p e (StoresCopy asked to) = Some (Store (HeapWord (address_of asked.spot)) (pointer_word to))

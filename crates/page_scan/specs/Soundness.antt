@@ -1,13 +1,23 @@
 -- What the scan of a page knows of itself: its steps are in the table, and its words are those of its page.
 use Rattle.std.specs.Prelude.{◌≡◌, ℕ, ◌+◌, ◌*◌, ◌^◌, ◌<◌, ◌≤◌}
 use Rattle.space_map.specs.Spaces.{IsPageCount, first_word, board_page}
+use Rattle.page_scan.specs.declared.headed_record.HeadedRecord.{HeadedRecord}
 use Rattle.page_scan.specs.declared.scan_stage.ScanStage.{ScanStage}
-use Rattle.page_scan.specs.declared.scan_stage.ScanStage.TheVariants.{LoadsCross, LoadsFirst, LoadsWord, Asks, StoresCopy, LoadsFront, LoadsNext, Ended}
+use Rattle.page_scan.specs.declared.scan_stage.ScanStage.TheVariants.{LoadsCross, LoadsFirst, LoadsCount, LoadsWord, Asks, StoresCopy, LoadsFront, LoadsNext, Ended}
 use Rattle.page_scan.specs.declared.scanned_record.ScannedRecord.{ScannedRecord}
 use Rattle.page_scan.specs.declared.spot.Spot.{Spot}
 use Rattle.page_scan.specs.declared.spot.Spot.TheVariants.{OnBoard, InRecord}
 use Rattle.page_scan.specs.Scanning.{Scanning}
 use Rattle.page_scan.specs.Taken.{board_words}
+
+-- a mixed record has a count behind its header, and lies on the page with a part of its words at least
+pub record IsHeadedOn (pages page : ℕ) (h : HeadedRecord) : Type 0 where
+  pub low : page < board_page pages
+  pub counted : 2 ≤ h.size
+  pub short : h.size ≤ 4096
+  pub inside : h.at + h.size ≤ 128 * pages
+  pub begins : h.at < first_word (page + 1)
+  pub reaches : first_word page < h.at + h.size
 
 -- a record begins before its fields end, and the next one is not before that
 pub record IsScannedRecord (r : ScannedRecord) : Type 0 where
@@ -29,6 +39,7 @@ NextIsOnPage n p r = IsScannedRecord r × (p < board_page n) × (first_word p �
 abbrev pub FitsStage : (pages page : ℕ) → ScanStage → Type 0
 FitsStage n p LoadsCross = p < board_page n
 FitsStage n p (LoadsFirst at) = (p < board_page n) × (at < 128 * n)
+FitsStage n p (LoadsCount h) = IsHeadedOn n p h
 FitsStage n p (LoadsWord spot) = IsOnPage n p spot
 FitsStage n p (Asks asked) = IsOnPage n p asked.spot
 FitsStage n p (StoresCopy asked to) = IsOnPage n p asked.spot

@@ -5,15 +5,18 @@ use Rattle.atom_store.specs.declared.reply.Reply.TheVariants.{Value, Done}
 use Rattle.atom_store.specs.declared.turn.Turn.{Turn}
 use Rattle.atom_store.specs.declared.turn.Turn.TheVariants.{More, Finished}
 use Rattle.atom_store.specs.Machine.{Machine}
-use Rattle.heap_words.specs.declared.kind.Kind.{Kind}
+use Rattle.heap_words.specs.declared.kind.Kind.{Kind as HeaderKind}
+use Rattle.heap_words.specs.declared.kind.Kind.TheVariants as header
+use Rattle.plain_state.specs.declared.kind.Kind.{Kind}
+use Rattle.plain_state.specs.declared.kind.Kind.TheVariants.{Fields, Raw, Mixed}
 use Rattle.heap_state.specs.Memory.FieldSpan.{first_field, fields_end}
-use Rattle.heap_state.specs.Invariant.Ghost.{said_kind}
 use Rattle.heap_words.specs.Decoded.{Decoded, NumberWord, PointerWord, HeaderWord, ForwardWord, BusyWord, Malformed, decode}
 use Rattle.space_map.specs.declared.area_word.AreaWord.{AreaWord}
 use Rattle.space_map.specs.AreaWord.{decode_area}
 use Rattle.space_map.specs.Spaces.{Layout, to_space, space_start, first_word, board_page}
+use Rattle.page_scan.specs.declared.headed_record.HeadedRecord.{HeadedRecord}
 use Rattle.page_scan.specs.declared.scan_stage.ScanStage.{ScanStage}
-use Rattle.page_scan.specs.declared.scan_stage.ScanStage.TheVariants.{LoadsCross, LoadsFirst, LoadsWord, Asks, StoresCopy, LoadsFront, LoadsNext, Ended}
+use Rattle.page_scan.specs.declared.scan_stage.ScanStage.TheVariants.{LoadsCross, LoadsFirst, LoadsCount, LoadsWord, Asks, StoresCopy, LoadsFront, LoadsNext, Ended}
 use Rattle.page_scan.specs.declared.scanned.Scanned.{Scanned}
 use Rattle.page_scan.specs.declared.scanned.Scanned.TheVariants as told_as
 use Rattle.page_scan.specs.declared.scanned_record.ScannedRecord.{ScannedRecord}
@@ -31,9 +34,14 @@ board_words = 16
 abbrev pub scan_end : Layout → ℕ → ℕ
 scan_end l page = if page == board_page l.pages then first_word page + board_words else first_word (page + 1)
 
--- the record at this address, by the kind and the length that its header says; no kind asks for the word behind the header
-abbrev pub record_at : ℕ → Kind → ℕ → ScannedRecord
-record_at at kind len = record { at = at; fields_end = at + fields_end (said_kind kind 0) (len + 1); next = at + (len + 1) }
+-- the record of this kind and size at this address
+abbrev pub record_at : ℕ → Kind → (size : ℕ) → ScannedRecord
+record_at at kind size = record { at = at; fields_end = at + fields_end kind size; next = at + size }
+
+-- the word says how many fields a mixed record of this size has
+abbrev pub is_count : (size : ℕ) → Decoded → Bool
+is_count size (NumberWord c) = nat_le (c + 2) size
+is_count size _ = false
 
 -- the word leads into the space from which records are copied in this epoch, to this address
 abbrev pub is_old : Layout → (epoch address : ℕ) → Bool
@@ -62,8 +70,14 @@ passes_word page in_place (OnBoard x) =
 passes_word page in_place (InRecord r x) = goes_on_at page in_place r (x + 1)
 
 -- a record is entered at its first field on the page
-abbrev pub enters : (page : ℕ) (in_place : Bool) (at : ℕ) → Kind → (len : ℕ) → ScanStage
-enters page in_place at kind len = goes_on_at page in_place (record_at at kind len) (max (at + first_field (said_kind kind 0)) (first_word page))
+abbrev pub enters : (page : ℕ) (in_place : Bool) (at : ℕ) → Kind → (size : ℕ) → ScanStage
+enters page in_place at kind size = goes_on_at page in_place (record_at at kind size) (max (at + first_field kind) (first_word page))
+
+-- by the kind that a header says: where the fields of a mixed record end is known once its count is read
+abbrev pub by_kind : (page : ℕ) (in_place : Bool) (at : ℕ) → HeaderKind → (size : ℕ) → ScanStage
+by_kind page in_place at header.Fields size = enters page in_place at Fields size
+by_kind page in_place at header.Raw size = enters page in_place at Raw size
+by_kind page in_place at header.Mixed size = LoadsCount (record { at = at; size = size })
 
 -- ---- what a word makes of it
 
@@ -77,14 +91,23 @@ by_word l page epoch in_place spot (ForwardWord len address) = passes_word page 
 by_word l page epoch in_place spot (BusyWord len worker) = passes_word page in_place spot
 by_word l page epoch in_place spot Malformed = passes_word page in_place spot
 
--- by the first word at an address: a header is entered; there is no other word
+-- by the first word at an address: a header; there is no other word
 abbrev pub by_header : (page : ℕ) (in_place : Bool) → (at : ℕ) → ScanStage → Decoded → ScanStage
-by_header page in_place at stage (HeaderWord kind len serial mutator) = enters page in_place at kind len
+by_header page in_place at stage (HeaderWord kind len serial mutator) = by_kind page in_place at kind (len + 1)
 by_header page in_place at stage (NumberWord n) = stage
 by_header page in_place at stage (PointerWord address) = stage
 by_header page in_place at stage (ForwardWord len address) = stage
 by_header page in_place at stage (BusyWord len worker) = stage
 by_header page in_place at stage Malformed = stage
+
+-- by the word behind a mixed record's header: with its count the record is entered; there is no other word
+abbrev pub by_count : (page : ℕ) (in_place : Bool) → HeadedRecord → Decoded → ScanStage
+by_count page in_place h (NumberWord c) = if nat_le (c + 2) h.size then enters page in_place h.at (Mixed c) h.size else LoadsCount h
+by_count page in_place h (PointerWord address) = LoadsCount h
+by_count page in_place h (HeaderWord kind len serial mutator) = LoadsCount h
+by_count page in_place h (ForwardWord len address) = LoadsCount h
+by_count page in_place h (BusyWord len worker) = LoadsCount h
+by_count page in_place h Malformed = LoadsCount h
 
 -- by the area: a scan in place ends at FRONT
 abbrev pub by_area : Layout → ℕ → ScannedRecord → Option AreaWord → ScanStage
@@ -100,6 +123,7 @@ by_area l epoch r None = LoadsFront r
 abbrev pub stage_after : Layout → (page epoch : ℕ) (in_place : Bool) → ScanStage → Reply → ScanStage
 stage_after l p e in_place LoadsCross (Value w) = LoadsFirst w
 stage_after l p e in_place (LoadsFirst at) (Value w) = by_header p in_place at (LoadsFirst at) (decode w)
+stage_after l p e in_place (LoadsCount h) (Value w) = by_count p in_place h (decode w)
 stage_after l p e in_place (LoadsWord spot) (Value w) = by_word l p e in_place spot (decode w)
 stage_after l p e in_place (StoresCopy asked to) Done = passes_word p in_place asked.spot
 stage_after l p e in_place (LoadsFront r) (Value w) = by_area l e r (decode_area w)

@@ -1,5 +1,5 @@
 -- What is proved of the scan of a page.
-use Rattle.std.specs.Prelude.{◌≡◌, ℕ, ◌+◌, ◌≤◌, ◌↔◌, ⊤, Bool, true, false, List, Some, length}
+use Rattle.std.specs.Prelude.{◌≡◌, ℕ, ◌+◌, ◌≤◌, ◌↔◌, ⊤, Bool, true, false, List, Some, length, max}
 use Rattle.atom_store.specs.Machine.{RunsTo}
 use Rattle.atom_store.specs.Runs.{Working, alone}
 use Rattle.atom_store.specs.Step.{reply_of}
@@ -18,7 +18,7 @@ use Rattle.space_map.specs.Worked.{four_pages}
 use Rattle.page_scan.specs.declared.asked.Asked.{Asked}
 use Rattle.page_scan.specs.declared.ending.Ending.{Ending}
 use Rattle.page_scan.specs.declared.scan_stage.ScanStage.{ScanStage}
-use Rattle.page_scan.specs.declared.scan_stage.ScanStage.TheVariants.{LoadsCross, LoadsFirst, LoadsWord, Asks, StoresCopy, LoadsFront, LoadsNext, Ended}
+use Rattle.page_scan.specs.declared.scan_stage.ScanStage.TheVariants.{LoadsCross, LoadsFirst, LoadsCount, LoadsWord, Asks, StoresCopy, LoadsFront, LoadsNext, Ended}
 use Rattle.page_scan.specs.declared.scanned.Scanned.TheVariants as comes_to
 use Rattle.page_scan.specs.declared.scanned_record.ScannedRecord.{ScannedRecord}
 use Rattle.page_scan.specs.declared.spot.Spot.{Spot}
@@ -28,7 +28,7 @@ use Rattle.page_scan.specs.Left.{IsHeldUp, advances}
 use Rattle.page_scan.specs.Scanning.{Scanning, HasStep, address_of, begun, wanted}
 use Rattle.page_scan.specs.Soundness.{IsSound}
 use Rattle.page_scan.specs.Taken.{answered, is_old, scan_end, scan_machine, taken, told}
-use Rattle.page_scan.specs.Worked.{answered_after, board, board_loads, board_asks, board_goes_on, filling, filling_asks, filling_goes_on, full, full_loads, full_words_with, words_with}
+use Rattle.page_scan.specs.Worked.{answered_after, board, board_loads, board_asks, board_goes_on, filling, filling_asks, filling_goes_on, full, full_loads, full_words_with, mixed, mixed_asks, mixed_goes_on, mixed_words_with, words_with}
 
 -- ---- one step of a scan
 
@@ -36,6 +36,7 @@ use Rattle.page_scan.specs.Worked.{answered_after, board, board_loads, board_ask
 abbrev pub cursor_at : (page : ℕ) → ScanStage → ℕ
 cursor_at page LoadsCross = first_word page
 cursor_at page (LoadsFirst at) = first_word page
+cursor_at page (LoadsCount h) = max h.at (first_word page)
 cursor_at page (LoadsWord spot) = address_of spot
 cursor_at page (Asks asked) = address_of asked.spot
 cursor_at page (StoresCopy asked to) = address_of asked.spot
@@ -83,10 +84,11 @@ GoesOn = (v : Scanning) (step : Step) (met : List ℕ) → wanted v ≡ Some ste
 
 -- ---- a scan that nobody disturbs
 
--- on the worked pages, the filling one and the full one, records lie packed
+-- on the worked pages records lie packed: the filling one, the full one, and the one with a mixed record
 pub record WorkedArePacked : Type 0 where
   pub filling_page : IsPacked four_pages 4 1 true (words_with 0x301) 259
   pub full_page : IsPacked four_pages 5 1 false (full_words_with 0x301) 422
+  pub mixed_page : IsPacked four_pages 4 1 false (mixed_words_with 0x301) 320
 
 -- after so many steps, answered at once
 abbrev pub after_steps : (answer : ℕ → ℕ) → ℕ → Scanning → List ℕ → Working Scanning
@@ -123,7 +125,11 @@ pub record IsWorkedOut : Type 0 where
   pub on_filling_asks : RunsTo scan_machine filling filling_asks (comes_to.Ask 192)
   pub on_filling_goes_on : RunsTo scan_machine (answered_after filling filling_asks 256) filling_goes_on (comes_to.Ended true)
   pub on_full : RunsTo scan_machine full full_loads (comes_to.Ended false)
+  pub on_mixed_asks : RunsTo scan_machine mixed mixed_asks (comes_to.Ask 192)
+  pub on_mixed_goes_on : RunsTo scan_machine (answered_after mixed mixed_asks 256) mixed_goes_on (comes_to.Ended false)
   pub words : alone scan_machine 2 (answered_over (alone scan_machine 4 (record { machine = filling; words = words_with 0x301 })) 256)
       ≡ record { machine = record filling { stage = Ended (record { cursor = 259; at_front = true }) }; words = words_with 0x401 }
   pub full_words : after_steps (λ old. 256) 5 full (full_words_with 0x301)
       ≡ record { machine = record full { stage = Ended (record { cursor = 422; at_front = false }) }; words = full_words_with 0x401 }
+  pub mixed_words : after_steps (λ old. 256) 6 mixed (mixed_words_with 0x301)
+      ≡ record { machine = record mixed { stage = Ended (record { cursor = 320; at_front = false }) }; words = mixed_words_with 0x401 }

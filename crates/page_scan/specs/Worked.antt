@@ -64,6 +64,25 @@ full_loads =
     ∷ (Load (33 + 321), Value 0x0000_0000_0002_0646)
     ∷ []
 
+-- ---- a page with a mixed record
+
+-- On page 4 a mixed record begins, with one field and one plain number, which both look like pointers to the old record at 192. A
+-- raw record behind it ends with the page.
+abbrev pub mixed : Scanning
+mixed = begun four_pages 4 1 false
+
+abbrev pub mixed_asks : List (Step × Reply)
+mixed_asks =
+    (Load (25 + 4), Value 256)
+    ∷ (Load (33 + 256), Value 0x0000_0000_0001_003a)
+    ∷ (Load (33 + 257), Value 0x4)
+    ∷ (Load (33 + 258), Value 0x301)
+    ∷ []
+
+-- the plain number is neither loaded nor changed
+abbrev pub mixed_goes_on : List (Step × Reply)
+mixed_goes_on = (Store (33 + 258) 0x401, Done) ∷ (Load (33 + 260), Value 0x0000_0000_0002_03b6) ∷ []
+
 -- ---- the words
 
 -- the scan after these steps and the answer to what it then asked
@@ -94,5 +113,19 @@ full_words_with field =
     ∷ (33 + 320, field)
     ∷ (33 + 321, 0x0000_0000_0002_0646)
     ∷ (33 + 330, 0x301)
+    ∷ [])
+    (replicate 633 0)
+
+-- one with the records of the page that has a mixed one, whose field is this word; FRONT is 320
+unfoldable pub mixed_words_with : ℕ → List ℕ
+mixed_words_with field =
+    with_words
+    ((5, 0x0000_0000_0400_0040)
+    ∷ (25 + 4, 256)
+    ∷ (33 + 256, 0x0000_0000_0001_003a)
+    ∷ (33 + 257, 0x4)
+    ∷ (33 + 258, field)
+    ∷ (33 + 259, 0x301)
+    ∷ (33 + 260, 0x0000_0000_0002_03b6)
     ∷ [])
     (replicate 633 0)

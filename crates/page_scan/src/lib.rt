@@ -4,7 +4,8 @@
 //! at each word of its records' fields, and has put in place of each pointer into the old space one to the copy of the
 //! record that it leads to. Records lie packed and over the ends of pages, so a scan begins with the record that lies over
 //! the page's first word, whose address the page's crossing word says. A page that holds FRONT is scanned as the filling
-//! page: there is no record at FRONT yet, so the scan ends there.
+//! page: there is no record at FRONT yet, so the scan ends there. Where the fields of a mixed record end its header doesn't
+//! say: behind each such header the scan reads the count of fields.
 //!
 //! [`Scan`] is a machine: it names its next atomic step, and takes the reply. It asks for the copy of a record by the result
 //! [`Scanned::Ask`], and goes on when it is answered. [`ScanStage`] lists what it does in turn.
@@ -12,6 +13,7 @@
 
 mod asked;
 mod ending;
+mod headed_record;
 mod laws;
 mod scan;
 mod scan_stage;
@@ -21,6 +23,7 @@ mod spot;
 
 pub use asked::Asked;
 pub use ending::Ending;
+pub use headed_record::HeadedRecord;
 pub use laws::{
     each_word_is_looked_at_once, pages_are_scanned, scans_go_on, worked_pages_are_scanned,
 };

@@ -1,18 +1,17 @@
-ghost use Rattle.std.specs.Prelude.{◌≡◌, ◌+◌, ◌^◌, ◌<◌, ◌≤◌, Some, IsTrue, ◌≢◌, ℕ};
+ghost use Rattle.std.specs.Prelude.{◌≡◌, ◌+◌, ◌^◌, ◌<◌, ◌≤◌, Some, IsTrue, ◌≢◌, ℕ, max};
 ghost use Rattle.atom_store.specs.Step.{place_in};
-ghost use Rattle.heap_state.specs.Memory.FieldSpan.{first_field};
-ghost use Rattle.heap_state.specs.Invariant.Ghost.{said_kind};
 ghost use Rattle.heap_words.specs.Decoded.{PointerWord, decode};
 ghost use Rattle.space_map.specs.AreaWord.{decode_area};
-ghost use Rattle.space_map.specs.Spaces.{board_page, to_space};
+ghost use Rattle.space_map.specs.Spaces.{board_page, first_word, to_space};
 ghost use Rattle.space_map.specs.Table.{table_length};
 ghost use Rattle.page_scan.specs.Left.{advances, left};
 ghost use Rattle.page_scan.specs.Scanning.{HasStep, IsAsking, address_of, begun, wanted};
-ghost use Rattle.page_scan.specs.Soundness.{IsOnPage, IsSound};
-ghost use Rattle.page_scan.specs.Taken.{answered, by_area, by_header, by_word, enters, goes_on_at, passes_word, record_at, taken, told};
+ghost use Rattle.page_scan.specs.Soundness.{IsHeadedOn, IsOnPage, IsSound};
+ghost use Rattle.page_scan.specs.Taken.{answered, by_area, by_count, by_header, by_kind, by_word, goes_on_at, passes_word, taken, told};
 
 use crate::asked::Asked;
 use crate::ending::Ending;
+use crate::headed_record::HeadedRecord;
 use crate::scan_stage::ScanStage;
 use crate::scanned::Scanned;
 use crate::scanned_record::ScannedRecord;
@@ -88,6 +87,7 @@ impl Scan {
         match self.stage {
             ScanStage::LoadsCross => Step::Load(spaces.cross_place(self.page)),
             ScanStage::LoadsFirst(at) => Step::Load(spaces.word_place(at)),
+            ScanStage::LoadsCount(h) => Step::Load(spaces.word_place(h.at + 1)),
             ScanStage::LoadsWord(spot) => Step::Load(spaces.word_place(address(spot))),
             ScanStage::StoresCopy(asked, to) => {
                 Step::Store(spaces.word_place(address(asked.spot)), Word::pointer(to).0)
@@ -127,6 +127,7 @@ impl Scan {
         match self.stage {
             ScanStage::LoadsCross => self.goes_to(ScanStage::LoadsFirst(word as u32)),
             ScanStage::LoadsFirst(at) => self.reads_header(at, ScanStage::LoadsFirst(at), word),
+            ScanStage::LoadsCount(h) => self.reads_count(h, word),
             ScanStage::LoadsWord(spot) => self.reads_word(spot, word),
             ScanStage::LoadsFront(r) => self.reads_area(r, word),
             ScanStage::LoadsNext(r) => self.reads_header(r.next, ScanStage::LoadsNext(r), word),
@@ -221,7 +222,7 @@ impl Scan {
         }
     }
 
-    /// A header is entered. Another word can't be there, and is loaded again at the stage given.
+    /// A header. Another word can't be there, and is loaded again at the stage given.
     #[inline(always)]
     fn reads_header(&mut self, at: u32, stage: ScanStage, word: u64) -> Turn<Scanned>
         requires going { HasStep stage }
@@ -231,8 +232,59 @@ impl Scan {
         ensures told { result ≡ told (by_header self.old.page self.old.in_place at stage (decode word)) }
     {
         match read(word) {
-            Some(header) => self.enters(at, header.kind, header.len),
+            Some(header) => self.goes_by_kind(at, header.kind, header.len),
             None => self.goes_to(stage),
+        }
+    }
+
+    /// By its header a record is entered, but that a mixed one's count is read first.
+    fn goes_by_kind(&mut self, at: u32, kind: Kind, len: u16) -> Turn<Scanned>
+        requires at { at < 2 ^ 19 }
+        requires sound { IsSound (record self.old { stage = by_kind self.old.page self.old.in_place at kind (len + 1) }) }
+        ensures state { self.new ≡ record self.old { stage = by_kind self.old.page self.old.in_place at kind (len + 1) } }
+        ensures told { result ≡ told (by_kind self.old.page self.old.in_place at kind (len + 1)) }
+    {
+        let size = u32::from(len) + 1;
+        let next = at + size;
+        match kind {
+            Kind::Fields => self.enters(
+                ScannedRecord {
+                    at,
+                    fields_end: next,
+                    next,
+                },
+                1,
+            ),
+            Kind::Raw => self.enters(
+                ScannedRecord {
+                    at,
+                    fields_end: at + 1,
+                    next,
+                },
+                1,
+            ),
+            Kind::Mixed => self.goes_to(ScanStage::LoadsCount(HeadedRecord { at, size })),
+        }
+    }
+
+    /// A mixed record's count of fields. Another word can't be there, and is loaded again.
+    #[inline(always)]
+    fn reads_count(&mut self, h: HeadedRecord, word: u64) -> Turn<Scanned>
+        requires on_page { IsHeadedOn self.old.layout.pages self.old.page h }
+        requires sound { IsSound (record self.old { stage = by_count self.old.page self.old.in_place h (decode word) }) }
+        ensures state { self.new ≡ record self.old { stage = by_count self.old.page self.old.in_place h (decode word) } }
+        ensures told { result ≡ told (by_count self.old.page self.old.in_place h (decode word)) }
+    {
+        match Word(word).as_number() {
+            Some(count) if count + 2 <= u64::from(h.size) => self.enters(
+                ScannedRecord {
+                    at: h.at,
+                    fields_end: h.at + 2 + count as u32,
+                    next: h.at + h.size,
+                },
+                2,
+            ),
+            _ => self.goes_to(ScanStage::LoadsCount(h)),
         }
     }
 
@@ -288,16 +340,16 @@ impl Scan {
         }
     }
 
-    /// A record is entered at its first field on the page.
-    fn enters(&mut self, at: u32, kind: Kind, len: u16) -> Turn<Scanned>
-        requires at { at < 2 ^ 19 }
-        requires sound { IsSound (record self.old { stage = enters self.old.page self.old.in_place at kind len }) }
-        ensures state { self.new ≡ record self.old { stage = enters self.old.page self.old.in_place at kind len } }
-        ensures told { result ≡ told (enters self.old.page self.old.in_place at kind len) }
+    /// A record whose fields begin at this word of it is entered at the first that lies on the page.
+    fn enters(&mut self, r: ScannedRecord, first: u32) -> Turn<Scanned>
+        requires at { r.at + first < 2 ^ 32 }
+        requires sound { IsSound (record self.old { stage = goes_on_at self.old.page self.old.in_place r (max (r.at + first) (first_word self.old.page)) }) }
+        ensures state { self.new ≡ record self.old { stage = goes_on_at self.old.page self.old.in_place r (max (r.at + first) (first_word self.old.page)) } }
+        ensures told { result ≡ told (goes_on_at self.old.page self.old.in_place r (max (r.at + first) (first_word self.old.page))) }
     {
         self.spaces.known();
-        let first = self.spaces.first_word(self.page);
-        self.goes_on(record_at(at, kind, len), first.max(at + first_field(kind)))
+        let page = self.spaces.first_word(self.page);
+        self.goes_on(r, page.max(r.at + first))
     }
 
     /// At a word of a record: a field on the page is loaded. Behind the fields the next record is, unless it begins behind the
@@ -324,31 +376,6 @@ impl Scan {
         } else {
             self.goes_to(ScanStage::LoadsNext(r))
         }
-    }
-}
-
-/// The number of a record's first field.
-fn first_field(kind: Kind) -> u32
-    ensures first { result ≡ first_field (said_kind kind 0) }
-    ensures behind_header { result ≡ 1 }
-{
-    match kind {
-        Kind::Fields | Kind::Raw => 1,
-    }
-}
-
-fn record_at(at: u32, kind: Kind, len: u16) -> ScannedRecord
-    requires { at < 2 ^ 19 }
-    ensures { result ≡ record_at at kind len }
-{
-    let next = at + 1 + u32::from(len);
-    ScannedRecord {
-        at,
-        fields_end: match kind {
-            Kind::Fields => next,
-            Kind::Raw => at + 1,
-        },
-        next,
     }
 }
 

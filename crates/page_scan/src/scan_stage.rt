@@ -1,5 +1,6 @@
 use crate::asked::Asked;
 use crate::ending::Ending;
+use crate::headed_record::HeadedRecord;
 use crate::scanned_record::ScannedRecord;
 use crate::spot::Spot;
 
@@ -10,6 +11,8 @@ pub enum ScanStage {
     LoadsCross,
     /// Loads the first word of the record at this address, which lies over the page's first word.
     LoadsFirst(u32),
+    /// Loads the number of fields of this mixed record.
+    LoadsCount(HeadedRecord),
     /// Loads a word of the board, or a field.
     LoadsWord(Spot),
     /// Waits for the answer to what it asked.

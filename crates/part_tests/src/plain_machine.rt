@@ -24,14 +24,24 @@ jal keeps the number of the next|out r0/jal r1 over/halt/over: out r1/halt|0/2/h
 jr goes on at its number|li r1 3/jr r1/out r0/halt|halt
 new makes a record of zeros|li r1 3/new r2 r1/len r3 r2/out r3/ld r4 r2 2/out r4/halt|3/0/halt
 raw makes a record of zeros|raw r2 3/len r3 r2/out r3/ld r4 r2 2/out r4/halt|3/0/halt
+mix makes fields and raw words of zeros|mix r2 1 2/len r3 r2/out r3/ld r4 r2 2/out r4/st r2 0 r2/ld r3 r2 0/eq r4 r3 r2/out r4/halt|3/0/1/halt
+a mixed record may have 4094 words|li r1 4093/mix r2 1 r1/len r3 r2/out r3/halt|4094/halt
 a record may have 4095 words|li r1 1/raw r2 4095/len r3 r2/out r3/halt|4095/halt
 st and ld have a word of a record|new r1 2/li r2 9/st r1 1 r2/ld r3 r1 1/out r3/ld r3 r1 0/out r3/halt|9/0/halt
 st and ld have a reference|new r1 1/st r1 0 r1/ld r2 r1 0/eq r3 r1 r2/out r3/halt|1/halt
+cas exchanges what it expects|new r1 1/li r2 9/cas r3 r1 0 r0 r2/out r3/ld r4 r1 0/out r4/halt|1/9/halt
+cas leaves what it doesn't expect|new r1 1/li r2 9/cas r3 r1 0 r2 r2/out r3/ld r4 r1 0/out r4/halt|0/0/halt
+cas exchanges references|new r1 1/st r1 0 r1/mov r2 r1/cas r3 r1 0 r2 r0/out r3/ld r4 r1 0/out r4/halt|1/0/halt
+cas tells records apart|new r1 1/new r2 1/st r1 0 r1/cas r3 r1 0 r2 r0/out r3/ld r4 r1 0/eq r5 r4 r1/out r5/halt|0/1/halt
+cas compares a raw word as a number|raw r1 1/li r2 4/st r1 0 r2/li r3 1/cas r4 r1 0 r3 r0/out r4/cas r4 r1 0 r2 r3/out r4/ld r4 r1 0/out r4/halt|0/1/1/halt
+cas never finds a reference in a raw word|raw r1 1/cas r3 r1 0 r1 r0/out r3/halt|0/halt
+cas reads its operands first|new r1 1/li r2 7/cas r2 r1 0 r0 r2/out r2/ld r1 r1 0/out r1/halt|1/7/halt
 isp tells references|new r1 0/isp r2 r1/out r2/isp r2 r0/out r2/halt|1/0/halt
 put and get have a word of the board|li r1 5/put 15 r1/get r2 15/out r2/get r2 14/out r2/halt|5/0/halt
 swap exchanges|li r1 5/put 3 r1/li r2 6/swap r2 3/out r2/get r4 3/out r4/halt|5/6/halt
 ld asks for a reference|new r2 1/ld r1 r0 r2|not a pointer
 st asks for a reference|new r2 1/st r0 r2 r2|not a pointer
+cas asks for a reference|new r2 1/cas r1 r0 r2 r0 r0|not a pointer
 len asks for a reference|len r1 r0|not a pointer
 add asks for numbers|new r1 0/add r2 r1 r0|not a number
 sub asks for numbers|new r1 0/sub r2 r0 r1|not a number
@@ -42,20 +52,29 @@ lt asks for numbers|new r1 0/lt r2 r0 r1|not a number
 jr asks for a number|new r1 0/jr r1|not a number
 new asks for a number|new r1 0/new r2 r1|not a number
 raw asks for a number|new r1 0/raw r2 r1|not a number
+mix asks for a number first|new r1 0/mix r2 r1 5000|not a number
+and for another before it adds|new r1 0/mix r2 5000 r1|not a number
 ld asks for a number next|new r1 0/ld r2 r1 r1|not a number
 st asks for a number next|raw r1 1/st r1 r1 r1|not a number
+cas asks for a number next|raw r1 1/cas r2 r1 r1 r0 r1|not a number
 get asks for a number|new r1 0/get r2 r1|not a number
 put asks for a number|new r1 0/put r1 r0|not a number
 swap asks for a number|new r1 0/swap r2 r1|not a number
 out asks for a number|new r1 0/out r1|not a number
 new is too long|new r1 4096|out of range
 raw is too long|raw r1 4096|out of range
+mix is too long|mix r1 4094 1|out of range
 ld is past the record|new r1 2/ld r2 r1 2|out of range
+st is past a mixed record|mix r1 1 1/st r1 2 r1|out of range
 st is past the record, which comes first|raw r1 2/st r1 2 r1|out of range
+cas is past the record, which comes first|raw r1 2/cas r2 r1 2 r0 r1|out of range
 get is past the board|get r1 16|out of range
 put is past the board|put 16 r1|out of range
 swap is past the board|swap r1 16|out of range
 st of a reference into raw words|raw r1 1/st r1 0 r1|pointer into raw
+st of a reference behind the fields|mix r1 1 1/st r1 0 r1/st r1 1 r1|pointer into raw
+cas of a reference behind the fields|mix r1 1 1/cas r2 r1 0 r0 r1/cas r2 r1 1 r0 r1|pointer into raw
+cas of a reference into raw words, whatever stands there|raw r1 1/li r2 5/cas r3 r1 0 r2 r1|pointer into raw
 div by zero|li r1 7/div r2 r1 r0|zero divisor
 rem by zero|li r1 7/rem r2 r1 r0|zero divisor
 the code ends|out r0|0/jump out

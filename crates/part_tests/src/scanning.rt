@@ -83,3 +83,47 @@ fn filling_page_is_scanned_up_to_front(rt: HostRuntime) -> Result<(), BadPages> 
     );
     Ok(())
 }
+
+#[test]
+#[tactic(auto, unfolding(heap_words::specs::Decoded::decode, heap_words::specs::Word::tag_of))]
+fn plain_numbers_of_a_mixed_record_are_passed(rt: HostRuntime) -> Result<(), BadPages> {
+    let mut scan = Scan::new(Spaces::new(4)?, 4, 1, false);
+    check_step(
+        &rt,
+        &mut scan,
+        Step::Load(25 + 4),
+        Reply::Value(256),
+        Turn::More,
+    );
+    check_step(
+        &rt,
+        &mut scan,
+        Step::Load(33 + 256),
+        Reply::Value(0x0000_0000_0001_003a),
+        Turn::More,
+    );
+    check_step(
+        &rt,
+        &mut scan,
+        Step::Load(33 + 257),
+        Reply::Value(0x4),
+        Turn::More,
+    );
+    check_step(
+        &rt,
+        &mut scan,
+        Step::Load(33 + 258),
+        Reply::Value(0x301),
+        Turn::Finished(Scanned::Ask(192)),
+    );
+    scan.answer(256);
+    check_step(
+        &rt,
+        &mut scan,
+        Step::Store(33 + 258, 0x401),
+        Reply::Done,
+        Turn::More,
+    );
+    assert_same(&rt, &scan.want(), &Step::Load(33 + 260));
+    Ok(())
+}

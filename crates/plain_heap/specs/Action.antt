@@ -3,7 +3,7 @@ use Rattle.std.specs.Prelude.{ℕ, ◌+◌, ◌%◌, Bool, true, false, ◌&&◌
 use Rattle.plain_state.specs.declared.end.End.{End}
 use Rattle.plain_state.specs.declared.end.End.TheVariants.{Halt, NotPointer, NotNumber, OutOfRange, OutputFull}
 use Rattle.plain_state.specs.declared.kind.Kind.{Kind}
-use Rattle.plain_state.specs.declared.kind.Kind.TheVariants.{Fields, Raw}
+use Rattle.plain_state.specs.declared.kind.Kind.TheVariants.{Fields, Raw, Mixed}
 use Rattle.plain_state.specs.declared.operation.Operation.{Operation}
 use Rattle.plain_state.specs.declared.operation.Operation.TheVariants as operations
 use Rattle.plain_state.specs.declared.sizes.TheConstants.{NUMBERS, MOST_PRINTED, LONGEST_RECORD, BOARD_WORDS}
@@ -17,7 +17,7 @@ use Rattle.mutator_asm.specs.declared.instr.Instr.TheVariants as instrs
 use Rattle.mutator_asm.specs.declared.operand.Operand.{Operand}
 use Rattle.mutator_asm.specs.declared.operand.Operand.TheVariants as operands
 use Rattle.plain_heap.specs.declared.action.Action.{Action}
-use Rattle.plain_heap.specs.declared.action.Action.TheVariants.{Sets, Jumps, Links, Prints, Makes, Measures, Loads, Stores, Gets, Puts, Swaps}
+use Rattle.plain_heap.specs.declared.action.Action.TheVariants.{Sets, Jumps, Links, Prints, Makes, Measures, Loads, Stores, Exchanges, Gets, Puts, Swaps}
 
 -- the first end of two steps is the end of both
 infixl 10 ◌>>=◌
@@ -67,6 +67,10 @@ next_of k = (k.counter + 1) % NUMBERS
 abbrev pub length_of : ℕ → Result ℕ End
 length_of n = if nat_le n LONGEST_RECORD then Ok n else Err OutOfRange
 
+-- how many values a mixed record has, if the word for their count leaves room for them
+abbrev pub mixed_length : (fields raw : ℕ) → Result ℕ End
+mixed_length fields raw = if nat_lt (fields + raw) LONGEST_RECORD then Ok (fields + raw) else Err OutOfRange
+
 -- the number as that of a value in a record with so many of them
 abbrev pub in_record : (len x : ℕ) → Result ℕ End
 in_record len x = if nat_lt x len then Ok x else Err OutOfRange
@@ -91,6 +95,14 @@ allocates k kind d x = do
   x ← operand k x
   n ← length_of x
   Ok (Makes kind d n)
+
+-- register d refers to a new mixed record, of as many fields and as many plain numbers as two operands name
+abbrev pub mixes : Mutator → (d : ℕ) → (fields raw : Operand) → Result Action End
+mixes k d fields raw = do
+  fields ← operand k fields
+  raw ← operand k raw
+  n ← mixed_length fields raw
+  Ok (Makes (Mixed fields) d n)
 
 -- a word of the board, which an operand names
 abbrev pub board_place : Mutator → Operand → Result ℕ End
@@ -120,6 +132,7 @@ action k (instrs.Jr a) = do
   Ok (Jumps n)
 action k (instrs.New d x) = allocates k Fields d x
 action k (instrs.Raw d x) = allocates k Raw d x
+action k (instrs.Mix d fields raw) = mixes k d fields raw
 action k (instrs.Ld d a x) = do
   i ← reference_in (register k a)
   x ← operand k x
@@ -128,6 +141,10 @@ action k (instrs.St a x b) = do
   i ← reference_in (register k a)
   x ← operand k x
   Ok (Stores i x (register k b))
+action k (instrs.Cas d a x b c) = do
+  i ← reference_in (register k a)
+  x ← operand k x
+  Ok (Exchanges d i x (register k b) (register k c))
 action k (instrs.Len d a) = do
   i ← reference_in (register k a)
   Ok (Measures d i)

@@ -1,10 +1,10 @@
 -- One instruction on the plain heap: its action, as far as the registers tell, and what that does to the heap and its mutator.
-use Rattle.std.specs.Prelude.{ℕ, ◌+◌, List, [], ◌∷◌, ◌++◌, length, Option, Some, None, Result, Ok, Err, slice_index_or, slice_set}
+use Rattle.std.specs.Prelude.{ℕ, ◌+◌, List, [], ◌∷◌, ◌++◌, length, Option, Some, None, Result, Ok, Err, nat_lt, if◌then◌else◌, slice_index_or, slice_set}
 use Rattle.std.specs.Option.{option_map_or}
 use Rattle.plain_state.specs.declared.end.End.{End}
 use Rattle.plain_state.specs.declared.end.End.TheVariants.{OutOfRange, IntoRaw}
 use Rattle.plain_state.specs.declared.kind.Kind.{Kind}
-use Rattle.plain_state.specs.declared.kind.Kind.TheVariants.{Fields, Raw}
+use Rattle.plain_state.specs.declared.kind.Kind.TheVariants.{Fields, Raw, Mixed}
 use Rattle.plain_state.specs.declared.value.Identity.{Identity}
 use Rattle.plain_state.specs.declared.value.Value.{Value}
 use Rattle.plain_state.specs.declared.value.Value.TheVariants.{Number, Reference}
@@ -13,8 +13,8 @@ pub use Rattle.plain_state.specs.Writing.{zeros}
 use Rattle.plain_state.specs.Writing.{stored, with_board, gained}
 use Rattle.mutator_asm.specs.declared.instr.Instr.{Instr}
 use Rattle.plain_heap.specs.declared.action.Action.{Action}
-use Rattle.plain_heap.specs.declared.action.Action.TheVariants.{Sets, Jumps, Links, Prints, Makes, Measures, Loads, Stores, Gets, Puts, Swaps}
-use Rattle.plain_heap.specs.Action.{◌>>=◌, action, next_of, in_record}
+use Rattle.plain_heap.specs.declared.action.Action.TheVariants.{Sets, Jumps, Links, Prints, Makes, Measures, Loads, Stores, Exchanges, Gets, Puts, Swaps}
+use Rattle.plain_heap.specs.Action.{◌>>=◌, action, are_same, next_of, in_record}
 
 -- what an instruction leaves: the heap, and the mutator that executed it
 pub record After : Type 0 where
@@ -54,17 +54,22 @@ set_register k d v = record k { registers = slice_set k.registers d v }
 abbrev pub loads : Heap → Mutator → ℕ → Value → After
 loads heap k d v = record { heap = heap; mutator = went_on (set_register k d v) }
 
--- no reference stands in a raw record
-abbrev pub may_hold : Kind → Value → Result Value End
-may_hold Fields v = Ok v
-may_hold Raw (Number n) = Ok (Number n)
-may_hold Raw (Reference i) = Err IntoRaw
+-- no reference stands in a plain number
+abbrev pub as_plain : Value → Result Value End
+as_plain (Number n) = Ok (Number n)
+as_plain (Reference i) = Err IntoRaw
+
+-- nor where a record of this kind has plain numbers
+abbrev pub may_hold : Kind → (x : ℕ) → Value → Result Value End
+may_hold Fields x v = Ok v
+may_hold Raw x v = as_plain v
+may_hold (Mixed count) x v = if nat_lt x count then Ok v else as_plain v
 
 -- a value of the record with an identity is replaced, where the record is there and may hold it
 abbrev pub store_in : Heap → Identity → Option Record → ℕ → Value → Result Heap End
 store_in heap i None x v = Err OutOfRange
 store_in heap i (Some r) x v = do
-  v ← may_hold r.kind v
+  v ← may_hold r.kind x v
   Ok (stored heap i r x v)
 
 -- mutator m allocates a record of n values, all 0, and register d refers to it
@@ -91,6 +96,10 @@ performed m heap k (Stores i x v) = do
   old ← value_in heap i x
   heap ← store_in heap i (record_of heap i) x v
   Ok (record { heap = heap; mutator = went_on k })
+performed m heap k (Exchanges d i x expected new) = do
+  found ← value_in heap i x
+  later ← store_in heap i (record_of heap i) x new
+  Ok (if are_same found expected then loads later k d (Number 1) else loads heap k d (Number 0))
 performed m heap k (Gets d x) = Ok (loads heap k d (board_word heap x))
 performed m heap k (Puts x v) = Ok (record { heap = with_board heap x v; mutator = went_on k })
 performed m heap k (Swaps d x v) = Ok (loads (with_board heap x v) k d (board_word heap x))

@@ -9,3 +9,4 @@ pub mod Order
 pub mod Print
 pub mod Alone
 pub mod Consistent
+pub mod Stores

@@ -1,17 +1,18 @@
--- What an instruction does to the records that are there: it changes a word by a store alone, and no record's kind or length.
-use Rattle.std.specs.Prelude.{◌≡◌, ℕ, ◌==◌, ◌&&◌, length, Option, Some, Result, Ok, if◌then◌else◌, slice_index_or}
+-- What an instruction does to the records that are there: it changes a word only by storing in it, and no record's kind or length.
+use Rattle.std.specs.Prelude.{◌≡◌, ℕ, Bool, false, ◌==◌, ◌&&◌, length, Option, Some, Result, Ok, if◌then◌else◌, slice_index_or}
 use Rattle.std.specs.Option.{option_map}
 use Rattle.plain_state.specs.declared.end.End.{End}
 use Rattle.plain_state.specs.declared.kind.Kind.{Kind}
 use Rattle.plain_state.specs.declared.value.Identity.{Identity}
 use Rattle.plain_state.specs.declared.value.Value.{Value}
 use Rattle.plain_state.specs.declared.value.Value.TheVariants.{Number, Reference}
+use Rattle.plain_state.specs.Operation.{one_if}
 use Rattle.plain_state.specs.State.{Record, Heap, Mutator, record_of}
 use Rattle.mutator_asm.specs.declared.instr.Instr.{Instr}
 use Rattle.plain_heap.specs.declared.action.Action.{Action}
-use Rattle.plain_heap.specs.declared.action.Action.TheVariants.{Loads, Stores}
+use Rattle.plain_heap.specs.declared.action.Action.TheVariants.{Loads, Stores, Exchanges}
 use Rattle.plain_heap.specs.Action.{action, are_same}
-use Rattle.plain_heap.specs.Call.{After, values_of, loads, call}
+use Rattle.plain_heap.specs.Call.{After, values_of, set_register, went_on, loads, call}
 
 -- ---- words
 
@@ -19,9 +20,14 @@ use Rattle.plain_heap.specs.Call.{After, values_of, loads, call}
 abbrev pub record_word : Heap → Identity → (index : ℕ) → Value
 record_word heap identity index = slice_index_or (values_of heap identity) index (Number 0)
 
--- what an action leaves in that word, in which this stands: what it stores there, else the same
+-- whether that is word `at` of this target
+abbrev pub is_word : (target : Identity) → (at : ℕ) → Identity → (index : ℕ) → Bool
+is_word target at identity index = are_same (Reference target) (Reference identity) && (at == index)
+
+-- What an action leaves in that word, in which this stands: what it stores there, else the same. An exchange stores if this is what it expects.
 abbrev pub word_after : Result Action End → Identity → (index : ℕ) → Value → Value
-word_after (Ok (Stores target at value)) identity index now = if are_same (Reference target) (Reference identity) && (at == index) then value else now
+word_after (Ok (Stores target at value)) identity index now = if is_word target at identity index then value else now
+word_after (Ok (Exchanges register target at expected value)) identity index now = if is_word target at identity index && are_same now expected then value else now
 word_after _ identity index now = now
 
 -- an instruction leaves each word of each record as it was, but for the one in which it stores
@@ -34,6 +40,21 @@ abbrev pub LoadsTakeTheWord : Type 0
 LoadsTakeTheWord = (number : ℕ) (heap : Heap) (mutator : Mutator) (instr : Instr) (after : After) (register : ℕ) (identity : Identity) (index : ℕ)
     → action mutator instr ≡ Ok (Loads register identity index) → call number heap mutator instr ≡ Ok after
     → after ≡ loads heap mutator register (record_word heap identity index)
+
+-- what an exchange tells that finds this: 1 if it is what it expects, else 0
+abbrev pub success : (found expected : Value) → Value
+success found expected = Number (one_if (are_same found expected))
+
+-- what it leaves: its register takes that, and nothing else changes unless it is 1
+pub record IsExchanged (heap : Heap) (mutator : Mutator) (register : ℕ) (found expected : Value) (after : After) : Type 0 where
+  pub mutator_is : after.mutator ≡ went_on (set_register mutator register (success found expected))
+  pub fails : are_same found expected ≡ false → after.heap ≡ heap
+
+-- an instruction that exchanges finds the word
+abbrev pub ExchangesFindTheWord : Type 0
+ExchangesFindTheWord = (number : ℕ) (heap : Heap) (mutator : Mutator) (instr : Instr) (after : After) (register : ℕ) (identity : Identity) (index : ℕ) (expected new : Value)
+    → action mutator instr ≡ Ok (Exchanges register identity index expected new) → call number heap mutator instr ≡ Ok after
+    → IsExchanged heap mutator register (record_word heap identity index) expected after
 
 -- ---- kinds and lengths
 

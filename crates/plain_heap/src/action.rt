@@ -22,6 +22,8 @@ pub enum Action {
     Loads(u8, Identity, u64),
     /// A word of a record takes a value.
     Stores(Identity, u64, Value),
+    /// A word of a record takes the second value if it is the first, and a register takes whether it was.
+    Exchanges(u8, Identity, u64, Value, Value),
     /// A register takes a word of the board.
     Gets(u8, u64),
     /// A word of the board takes a value.

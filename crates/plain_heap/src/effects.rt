@@ -50,6 +50,16 @@ pub fn perform(
             heap.store(i, x, value)?;
             mutator.go_on();
         }
+        Action::Exchanges(d, i, x, expected, new) => {
+            let found = heap.word(i, x)?;
+            // A reference that the record may not hold is an end whatever stands there.
+            heap.admit(i, x, new)?;
+            let same = found == expected;
+            if same {
+                heap.store(i, x, new)?;
+            }
+            mutator.load(d, Value::Number(u64::from(same)));
+        }
         Action::Gets(d, x) => mutator.load(d, heap.board_word(x)),
         Action::Puts(x, value) => {
             heap.set_board(x, value);

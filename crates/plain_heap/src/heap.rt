@@ -3,7 +3,7 @@
 pub mod record;
 pub mod record_list;
 
-ghost use Rattle.std.specs.Prelude.{◌≡◌, ◌<◌, ◌+◌, [], length, IfOk, IfSome, MatchResult, OnOk, OnErr, option_copied, replicate};
+ghost use Rattle.std.specs.Prelude.{◌≡◌, ◌<◌, ◌+◌, [], length, IfOk, IfSome, IsOk, MatchResult, OnOk, OnErr, option_copied, replicate};
 ghost use Rattle.plain_state.specs.declared.value.Value.TheVariants.{Number};
 
 use crate::heap::record::PlainRecord;
@@ -101,6 +101,17 @@ impl PlainHeap {
         }
     }
 
+    /// Whether a record may hold a value in a word, else the end for a value that it may not.
+    pub fn admit(&self, i: Identity, x: u64, value: Value) -> Result<(), End>
+        ensures { MatchResult result
+            (λ _. IsOk (store_in self.now i (record_of self.now i) x value))
+            (λ why. store_in self.now i (record_of self.now i) x value ≡ Err why) }
+    {
+        let record = self.record(i).ok_or(End::OutOfRange)?;
+        record.admit(x, value)?;
+        Ok(())
+    }
+
     /// Puts a value into a word of a record that may hold it. At an end nothing changes.
     pub fn store(&mut self, i: Identity, x: u64, value: Value) -> Result<(), End>
         ensures outcome { MatchResult result
@@ -109,7 +120,7 @@ impl PlainHeap {
         ensures unchanged { OnErr result (self.new ≡ self.old) }
     {
         let record = self.record(i).ok_or(End::OutOfRange)?;
-        let value = record.admit(value)?;
+        let value = record.admit(x, value)?;
         self.set_word(i, x, value);
         Ok(())
     }

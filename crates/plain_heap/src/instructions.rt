@@ -15,7 +15,9 @@ use crate::action::Action;
 use crate::effects::perform;
 use crate::heap::PlainHeap;
 use crate::instructions::numbers::{compute, jump_to, print};
-use crate::instructions::places::{allocate, get, load, measure, put, store, swap};
+use crate::instructions::places::{
+    allocate, allocate_mixed, exchange, get, load, measure, put, store, swap,
+};
 use crate::instructions::values::{are_same, is_reference, target_if_zero};
 use crate::mutator::PlainMutator;
 use crate::stop::Stop;
@@ -44,8 +46,10 @@ pub fn action_of(mutator: &PlainMutator, instr: Instr) -> Result<Action, End>
         Instr::Jr(a) => jump_to(mutator, a),
         Instr::New(d, x) => allocate(mutator, Kind::Fields, d, x),
         Instr::Raw(d, x) => allocate(mutator, Kind::Raw, d, x),
+        Instr::Mix(d, fields, raw) => allocate_mixed(mutator, d, fields, raw),
         Instr::Ld(d, a, x) => load(mutator, d, a, x),
         Instr::St(a, x, b) => store(mutator, a, x, b),
+        Instr::Cas(d, a, x, b, c) => exchange(mutator, d, a, x, b, c),
         Instr::Len(d, a) => measure(mutator, d, a),
         Instr::Isp(d, a) => Ok(Action::Sets(d, is_reference(mutator, a))),
         Instr::Get(d, x) => get(mutator, d, x),

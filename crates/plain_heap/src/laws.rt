@@ -2,8 +2,9 @@
 
 ghost use Rattle.plain_heap.specs.Calls.{CallLeavesOthers, CallKeepsCount, CallMakesNewRecord, NewRecordIsMade, ElseNoneIsMade, AsksForNewRecord};
 ghost use Rattle.plain_heap.specs.Consistent.{OpensConsistent, MarksKeepConsistent, RunsStayConsistent};
-ghost use Rattle.plain_heap.specs.Records.{LoadsTakeTheWord, OnlyStoresChangeWords, ShapesStay};
+ghost use Rattle.plain_heap.specs.Records.{ExchangesFindTheWord, LoadsTakeTheWord, OnlyStoresChangeWords, ShapesStay};
 ghost use Rattle.plain_heap.specs.Order.{StoryIsPlain, StoryHasOpening, StoryHasLastFlip};
+ghost use Rattle.plain_heap.specs.Stores.{OrdersStoreWords, StepsCompareTheLastStore, StepsLoadTheLastStore};
 ghost use Rattle.plain_heap.specs.Alone.{AlwaysTheSame, EndsAlone};
 
 /// In a program without `get`, `put` and `swap`, whatever the order, each mutator has printed the
@@ -46,12 +47,25 @@ pub fn call_makes_the_new_record()
     ensures asked { AsksForNewRecord }
 {}
 
-/// An instruction changes a word of a record by a store to it alone: any other, also one that makes
-/// a record, leaves each word as it is read. A load takes the word into its register, and changes
-/// nothing else. A word that isn't there is read as the number 0, as a new record has it.
+/// An instruction changes a word of a record only by storing in it, as a store does, and an exchange
+/// that finds there what it expects: any other, also one that makes a record, leaves each word as it
+/// is read. A load takes the word into its register, and changes nothing else. An exchange tells in its
+/// register whether the word is what it expects, and changes nothing else if it isn't. A word that
+/// isn't there is read as the number 0, as a new record has it.
 pub fn only_stores_change_words()
     ensures stores { OnlyStoresChangeWords }
     ensures loads { LoadsTakeTheWord }
+    ensures exchanges { ExchangesFindTheWord }
+{}
+
+/// In an order, of whatever mutators, a load of a word of a record gets what the last store in that word
+/// before it wrote; an exchange finds that there, tells whether it is what it expects, and is such a store
+/// itself if so. What no step has stored in is the number 0. And so it is of each word at any time,
+/// whether loaded or not.
+pub fn steps_find_the_last_store()
+    ensures loads { StepsLoadTheLastStore }
+    ensures exchanges { StepsCompareTheLastStore }
+    ensures words { OrdersStoreWords }
 {}
 
 /// An instruction leaves each record there, with its kind and its length.

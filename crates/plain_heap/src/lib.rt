@@ -19,7 +19,7 @@ pub use action::Action;
 pub use laws::{
     alone_mutators_are_independent, call_leaves_the_others, call_makes_the_new_record,
     only_stores_change_words, reached_states_are_consistent, shapes_stay,
-    stories_keep_the_last_flip,
+    steps_find_the_last_store, stories_keep_the_last_flip,
 };
 pub use mark::Mark;
 pub use order::plain_run;

@@ -1,7 +1,7 @@
 //! What a mutator does next.
 
 ghost use Rattle.std.specs.Prelude.{◌≡◌, ◌<◌, ◌≤◌, ◌^◌, length, Ok, Err, IfErr, IfSome, OnOk, OnErr, option_map};
-ghost use Rattle.plain_state.specs.Layout.{size_of};
+ghost use Rattle.plain_state.specs.Layout.{size_of, values_at};
 ghost use Rattle.plain_heap.specs.declared.stop.Stop.TheVariants.{OutOfMemory};
 ghost use Rattle.plain_heap.specs.Memory.{TurnTakesMemory};
 ghost use Rattle.plain_heap.specs.Outcome.{Leaves, StopsBy};
@@ -13,7 +13,7 @@ use crate::instructions::{action_of, execute};
 use crate::mutator::PlainMutator;
 use crate::stop::Stop;
 use mutator_asm::{Code, Instr};
-use plain_state::{End, PAGE_WORDS};
+use plain_state::{End, Kind, PAGE_WORDS};
 use std::alloc::Global;
 
 /// The instruction that mutator m executes next, or the end that stands in its place.
@@ -51,17 +51,28 @@ pub fn take_turn(
 /// The words of the record that an instruction would allocate, with its header.
 fn size_allocated(mutator: &PlainMutator, instr: Instr) -> Option<usize>
     ensures exact { result ≡ option_map size_of (new_record mutator.now instr) }
-    ensures short { IfSome result (λ size. size ≤ 2 ^ 16) }
+    ensures short { IfSome result (λ size. size ≤ 2 ^ 17) }
 {
     match action_of(mutator, instr) {
-        Ok(Action::Makes(_, _, len)) => Some(usize::from(len) + 1),
+        Ok(Action::Makes(kind, _, len)) => Some(usize::from(len) + values_at(kind)),
         _ => None,
+    }
+}
+
+/// The words of a record of this kind before its values.
+fn values_at(kind: Kind) -> usize
+    ensures word { result ≡ values_at kind }
+    ensures few { result ≤ 2 }
+{
+    match kind {
+        Kind::Fields | Kind::Raw => 1,
+        Kind::Mixed(_) => 2,
     }
 }
 
 /// The pages that so many words take.
 fn pages_for(size: usize) -> u32
-    requires { size ≤ 2 ^ 16 }
+    requires { size ≤ 2 ^ 17 }
     ensures { result ≡ pages_for size }
 {
     size.div_ceil(PAGE_WORDS) as u32

@@ -7,4 +7,6 @@ pub enum Kind {
     Fields,
     /// Each word is a number.
     Raw,
+    /// So many words are each a number or a reference, and those behind them are numbers.
+    Mixed(u16),
 }

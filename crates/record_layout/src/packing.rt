@@ -56,5 +56,6 @@ fn kind_bits(kind: Kind) -> u64
     match kind {
         Kind::Fields => 0,
         Kind::Raw => 1,
+        Kind::Mixed => 2,
     }
 }

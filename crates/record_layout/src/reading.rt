@@ -1,4 +1,4 @@
-ghost use Rattle.std.specs.Prelude.{◌≡◌, ℕ, ◌^◌, ◌<◌, ◌↔◌, IsSome, IfSome};
+ghost use Rattle.std.specs.Prelude.{◌≡◌, ℕ, ◌^◌, ◌<◌, ◌↔◌, ◌⊎◌, IsSome, IfSome};
 ghost use Rattle.std.specs.Int.{bit_at};
 ghost use Rattle.heap_words.specs.Word.{tag_of};
 ghost use Rattle.heap_words.specs.Decoded.{decode, encode, kind_spelled};
@@ -16,7 +16,7 @@ use heap_words::{Kind, Tag, Word};
 /// The header that this word is, if it is one.
 pub fn read(w: u64) -> Option<Header>
     ensures decoded { result ≡ header_in (decode w) }
-    ensures only_headers { IsSome result ↔ ((tag_of w ≡ Tag.Header) × (bit_at w 3 ≡ 0)) }
+    ensures only_headers { IsSome result ↔ ((tag_of w ≡ Tag.Header) × ((bit_at w 2 ≡ 0) ⊎ (bit_at w 3 ≡ 0))) }
     ensures one_spelling { IfSome result (λ h. w ≡ encode (header_says h)) }
 {
     match Word(w).tag() {
@@ -69,6 +69,7 @@ fn kind_of(bits: u64) -> Option<Kind>
     match bits {
         0 => Some(Kind::Fields),
         1 => Some(Kind::Raw),
+        2 => Some(Kind::Mixed),
         _ => None,
     }
 }

@@ -20,12 +20,13 @@ use Rattle.plain_state.specs.Writing.{with_board, with_records, with_value, stor
 use Rattle.mutator_asm.specs.declared.instr.Instr.{Instr}
 use Rattle.mutator_asm.specs.declared.instr.Instr.TheVariants as instrs
 use Rattle.plain_heap.specs.declared.action.Action.{Action}
-use Rattle.plain_heap.specs.declared.action.Action.TheVariants.{Sets, Jumps, Links, Prints, Makes, Measures, Loads, Stores, Gets, Puts, Swaps}
+use Rattle.plain_heap.specs.declared.action.Action.TheVariants.{Sets, Jumps, Links, Prints, Makes, Measures, Loads, Stores, Exchanges, Gets, Puts, Swaps}
 use Rattle.plain_heap.specs.Action.{◌>>=◌, action, in_record, next_of, register}
 use Rattle.plain_heap.specs.Call.{After, board_word, call, jumped, may_hold, performed, set_register, store_in, value_in, values_of, went_on, zeros}
 use Rattle.plain_heap.proofs.Calls.Named.{Names, Spells, named}
-use Rattle.plain_heap.proofs.Calls.Outcomes.{if_ok-bind, if_ok-then}
+use Rattle.plain_heap.proofs.Calls.Outcomes.{if_ok-bind, if_ok-then, performed_exchange}
 use Rattle.plain_heap.proofs.Alone.Owned.{found_serial, read_all}
+use Rattle.plain_heap.proofs.Calls.Records.{held_same}
 
 -- a number, or a reference to a record of another than mutator m
 abbrev pub IsElse : ℕ → Value → Type 0
@@ -52,10 +53,12 @@ set_read : {A : Type 0} (P : A → Type 0) (xs : List A) (i : ℕ) (x d : A) →
 set_read P xs i x d is none (inl within) = subst P (sym (get_or-set_same xs i x d within)) is
 set_read P xs i x d is none (inr past) = subst P (sym (get_or_past (slice_set xs i x) i d (omega (arith, length-set xs i x, past)))) none
 
-held_else : (m : ℕ) (kind : Kind) (v : Value) → IsElse m v → IfOk (may_hold kind v) (IsElse m)
-held_else m Fields v is = is
-held_else m Raw (Number n) is = tt
-held_else m Raw (Reference i) is = tt
+held_else : (m : ℕ) (kind : Kind) (x : ℕ) (v : Value) → IsElse m v → IfOk (may_hold kind x v) (IsElse m)
+held_else m kind x v is = by_outcome (may_hold kind x v) refl
+  where
+    by_outcome : (o : Result Value End) → may_hold kind x v ≡ o → IfOk o (IsElse m)
+    by_outcome (Ok w) e = subst (IsElse m) (held_same kind x v w e) is
+    by_outcome (Err why) e = tt
 
 computed : (o : Result ℕ End) → IfOk o (λ n. ⊤)
 computed (Ok n) = tt
@@ -115,17 +118,19 @@ module _ (m j : ℕ) (other : j ≢ m) (heap : Heap) (k : Mutator) (spared : IsS
       (All-push (AllElse m) (made_by heap j) (zeros kind n) (spared.records j other) (All-replicate (IsElse m) n (Number 0) tt))
       (All-set (IsElse m) k.registers d (Reference (record { mutator = j; serial = serial_of heap j + 1 })) other registers)
 
-  stored_so : (i : Identity) (r : Record) (x : ℕ) (o : Result Value End) → i.mutator ≢ m → record_of heap i ≡ Some r → IfOk o (IsElse m)
-      → IfOk ((o >>= (λ v. Ok (stored heap i r x v))) >>= (λ h. Ok (record { heap = h; mutator = went_on k }))) (Spares m heap)
-  stored_so i r x (Ok v) else found is = writes i.mutator (slice_set (made_by heap i.mutator) (i.serial - 1) (with_value r x v)) (went_on k) else
-      (All-set (AllElse m) (made_by heap i.mutator) (i.serial - 1) (with_value r x v) (All-set (IsElse m) r.values x v is (found_else i r else found)) (spared.records i.mutator else))
-      registers
-  stored_so i r x (Err why) else found is = tt
+  -- a store, after which the mutator is this
+  module _ (next : Mutator) (next_registers : All (IsElse m) next.registers) where
+    stored_so : (i : Identity) (r : Record) (x : ℕ) (o : Result Value End) → i.mutator ≢ m → record_of heap i ≡ Some r → IfOk o (IsElse m)
+        → IfOk ((o >>= (λ v. Ok (stored heap i r x v))) >>= (λ h. Ok (record { heap = h; mutator = next }))) (Spares m heap)
+    stored_so i r x (Ok v) else found is = writes i.mutator (slice_set (made_by heap i.mutator) (i.serial - 1) (with_value r x v)) next else
+        (All-set (AllElse m) (made_by heap i.mutator) (i.serial - 1) (with_value r x v) (All-set (IsElse m) r.values x v is (found_else i r else found)) (spared.records i.mutator else))
+        next_registers
+    stored_so i r x (Err why) else found is = tt
 
-  stores_so : (i : Identity) (o : Option Record) (x : ℕ) (v : Value) → i.mutator ≢ m → record_of heap i ≡ o → IsElse m v
-      → IfOk (store_in heap i o x v >>= (λ h. Ok (record { heap = h; mutator = went_on k }))) (Spares m heap)
-  stores_so i None x v else found is = tt
-  stores_so i (Some r) x v else found is = stored_so i r x (may_hold r.kind v) else found (held_else m r.kind v is)
+    stores_so : (i : Identity) (o : Option Record) (x : ℕ) (v : Value) → i.mutator ≢ m → record_of heap i ≡ o → IsElse m v
+        → IfOk (store_in heap i o x v >>= (λ h. Ok (record { heap = h; mutator = next }))) (Spares m heap)
+    stores_so i None x v else found is = tt
+    stores_so i (Some r) x v else found is = stored_so i r x (may_hold r.kind x v) else found (held_else m r.kind x v is)
 
   -- ---- the instructions
 
@@ -140,7 +145,10 @@ module _ (m j : ℕ) (other : j ≢ m) (heap : Heap) (k : Mutator) (spared : IsS
   performed_spares (Makes kind d n) is = makes_so kind d n
   performed_spares (Measures d i) is = loads_so d (next_of k) (Number (length (values_of heap i))) tt
   performed_spares (Loads d i x) is = if_ok-then (IsElse m) (Spares m heap) (value_in heap i x) _ (word_else i x is) (λ v is_v. loads_so d (next_of k) v is_v)
-  performed_spares (Stores i x v) is = if_ok-bind (Spares m heap) (value_in heap i x) _ (λ old. stores_so i (record_of heap i) x v is.0 refl is.1)
+  performed_spares (Stores i x v) is = if_ok-bind (Spares m heap) (value_in heap i x) _ (λ old. stores_so (went_on k) registers i (record_of heap i) x v is.0 refl is.1)
+  performed_spares (Exchanges d i x expected v) is =
+      performed_exchange j heap k d i x expected v (Spares m heap) (loads_so d (next_of k) (Number 0) tt)
+      (stores_so (went_on (set_register k d (Number 1))) (All-set (IsElse m) k.registers d (Number 1) tt registers) i (record_of heap i) x v is.0 refl is.2)
   performed_spares (Gets d x) is = loads_so d (next_of k) (board_word heap x) (board_else x)
   performed_spares (Puts x v) is = posts x v (went_on k) is.2 registers
   performed_spares (Swaps d x v) is =

@@ -3,7 +3,7 @@ use Rattle.std.proofs.Common.{◌≡◌, ℕ, Bool, true, false, cond, List, Opt
 use Rattle.std.specs.Prelude.{⊤}
 use Rattle.plain_state.specs.declared.end.End.{End}
 use Rattle.plain_heap.specs.declared.action.Action.{Action}
-use Rattle.plain_heap.specs.declared.action.Action.TheVariants.{Sets, Jumps, Links, Prints, Makes, Measures, Loads, Stores, Gets, Puts, Swaps}
+use Rattle.plain_heap.specs.declared.action.Action.TheVariants.{Sets, Jumps, Links, Prints, Makes, Measures, Loads, Stores, Exchanges, Gets, Puts, Swaps}
 use Rattle.plain_heap.specs.Action.{action}
 use Rattle.atom_store.specs.declared.reply.Reply.{Reply}
 use Rattle.atom_store.specs.declared.reply.Reply.TheVariants as replies
@@ -85,6 +85,7 @@ module _ (x : Held) where
   by_action task (Measures d i) = tt
   by_action task (Loads d i n) = tt
   by_action task (Stores i n v) = tt
+  by_action task (Exchanges d i n u v) = tt
   by_action task (Gets d n) = tt
   by_action task (Puts n v) = tt
   by_action task (Swaps d n v) = tt

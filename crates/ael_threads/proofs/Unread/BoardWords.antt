@@ -17,12 +17,12 @@ use Rattle.mutator_asm.specs.declared.instr.Instr.{Instr}
 use Rattle.mutator_asm.specs.declared.instr.Instr.TheVariants as instrs
 use Rattle.mutator_asm.specs.declared.operand.Operand.TheVariants as operands
 use Rattle.plain_heap.specs.declared.action.Action.{Action}
-use Rattle.plain_heap.specs.declared.action.Action.TheVariants.{Sets, Jumps, Links, Prints, Makes, Measures, Loads, Stores, Gets, Puts, Swaps}
+use Rattle.plain_heap.specs.declared.action.Action.TheVariants.{Sets, Jumps, Links, Prints, Makes, Measures, Loads, Stores, Exchanges, Gets, Puts, Swaps}
 use Rattle.plain_heap.specs.Action.{◌>>=◌, action, register}
 use Rattle.plain_heap.specs.Call.{After, board_word, call, may_hold, performed, store_in, value_in}
 use Rattle.plain_heap.specs.Step.{settled}
 use Rattle.plain_heap.proofs.Alone.Alike.{Same}
-use Rattle.plain_heap.proofs.Calls.Outcomes.{if_ok-bind, if_ok-then}
+use Rattle.plain_heap.proofs.Calls.Outcomes.{if_ok-bind, if_ok-then, performed_exchange}
 use Rattle.heap_laws.specs.Opening.{opening_plain}
 use Rattle.gc_worker.specs.declared.task.Task.{Task}
 use Rattle.gc_worker.specs.declared.task.Task.TheVariants.{Calls, Stops}
@@ -98,7 +98,7 @@ module _ (m : ℕ) (heap : Heap) (k : Mutator) where
 
   stored-long : (i : Identity) (x : ℕ) (v : Value) (o : Option Record) → IfOk (store_in heap i o x v) AsLong
   stored-long i x v None = tt
-  stored-long i x v (Some r) = if_ok-bind AsLong (may_hold r.kind v) _ (λ w. refl)
+  stored-long i x v (Some r) = if_ok-bind AsLong (may_hold r.kind x v) _ (λ w. refl)
 
   performed-long : (act : Action) → IfOk (performed m heap k act) (λ a. AsLong a.heap)
   performed-long (Sets d v) = refl
@@ -110,6 +110,9 @@ module _ (m : ℕ) (heap : Heap) (k : Mutator) where
   performed-long (Loads d i x) = if_ok-bind (λ (a : After). AsLong a.heap) (value_in heap i x) _ (λ v. refl)
   performed-long (Stores i x v) = if_ok-bind (λ (a : After). AsLong a.heap) (value_in heap i x) _
       (λ old. if_ok-then AsLong (λ (a : After). AsLong a.heap) (store_in heap i (record_of heap i) x v) _ (stored-long i x v (record_of heap i)) (λ h same. same))
+  performed-long (Exchanges d i x expected v) =
+      performed_exchange m heap k d i x expected v (λ (a : After). AsLong a.heap) refl
+      (if_ok-then AsLong (λ (a : After). AsLong a.heap) (store_in heap i (record_of heap i) x v) _ (stored-long i x v (record_of heap i)) (λ h same. same))
   performed-long (Gets d x) = refl
   performed-long (Puts x v) = length-set heap.board x v
   performed-long (Swaps d x v) = length-set heap.board x v

@@ -1,20 +1,21 @@
 -- An instruction that leaves the board alone, on two heaps with the same records: it does the same on both, and leaves each its board.
-use Rattle.std.proofs.Common.{◌≡◌, ℕ, true, List, Option, Some, None, Result, Ok, Err, refl}
+use Rattle.std.proofs.Common.{◌≡◌, ℕ, Bool, true, false, cond, List, Option, Some, None, Result, Ok, Err, refl}
 use Rattle.std.specs.Bool.{⊤}
 use Rattle.std.specs.Result.{IfOk}
 use Rattle.plain_state.specs.declared.end.End.{End}
 use Rattle.plain_state.specs.declared.value.Identity.{Identity}
 use Rattle.plain_state.specs.declared.value.Value.{Value}
+use Rattle.plain_state.specs.declared.value.Value.TheVariants.{Number}
 use Rattle.plain_state.specs.Operation.{applied}
 use Rattle.plain_state.specs.State.{Heap, Mutator, Record, record_of}
 use Rattle.plain_state.specs.Writing.{stored}
 use Rattle.mutator_asm.specs.declared.instr.Instr.{Instr}
 use Rattle.mutator_asm.specs.declared.instr.Instr.TheVariants as instrs
 use Rattle.plain_heap.specs.declared.action.Action.{Action}
-use Rattle.plain_heap.specs.declared.action.Action.TheVariants.{Sets, Jumps, Links, Prints, Makes, Measures, Loads, Stores, Gets, Puts, Swaps}
-use Rattle.plain_heap.specs.Action.{◌>>=◌, action}
+use Rattle.plain_heap.specs.declared.action.Action.TheVariants.{Sets, Jumps, Links, Prints, Makes, Measures, Loads, Stores, Exchanges, Gets, Puts, Swaps}
+use Rattle.plain_heap.specs.Action.{◌>>=◌, action, are_same}
 use Rattle.plain_heap.specs.Alone.{leaves_board}
-use Rattle.plain_heap.specs.Call.{After, call, may_hold, performed, store_in, value_in, went_on}
+use Rattle.plain_heap.specs.Call.{After, call, loads, may_hold, performed, store_in, value_in, went_on}
 use Rattle.plain_heap.proofs.Alone.Alike.{Same, same-bind}
 use Rattle.plain_heap.proofs.Calls.Named.{Names, Spells, named}
 
@@ -44,7 +45,20 @@ module _ (m : ℕ) (heap : Heap) (board : List Value) (k : Mutator) where
   stores_same : (i : Identity) (o : Option Record) (x : ℕ) (v : Value)
       → DoTheSame (store_in heap i o x v >>= (λ h. Ok (record { heap = h; mutator = went_on k }))) (store_in other i o x v >>= (λ h. Ok (record { heap = h; mutator = went_on k })))
   stores_same i None x v = refl
-  stores_same i (Some r) x v = stored_same i r x (may_hold r.kind v)
+  stores_same i (Some r) x v = stored_same i r x (may_hold r.kind x v)
+
+  exchanged_same : (d : ℕ) (i : Identity) (r : Record) (x : ℕ) (same : Bool) (o : Result Value End)
+      → DoTheSame ((o >>= (λ v. Ok (stored heap i r x v))) >>= (λ h. Ok (cond same (loads h k d (Number 1)) (loads heap k d (Number 0)))))
+      ((o >>= (λ v. Ok (stored other i r x v))) >>= (λ h. Ok (cond same (loads h k d (Number 1)) (loads other k d (Number 0)))))
+  exchanged_same d i r x true (Ok v) = record { mutator = refl; records = refl; here = refl; there = refl }
+  exchanged_same d i r x false (Ok v) = record { mutator = refl; records = refl; here = refl; there = refl }
+  exchanged_same d i r x same (Err why) = refl
+
+  exchanges_same : (d : ℕ) (i : Identity) (o : Option Record) (x : ℕ) (v : Value) (same : Bool)
+      → DoTheSame (store_in heap i o x v >>= (λ h. Ok (cond same (loads h k d (Number 1)) (loads heap k d (Number 0)))))
+      (store_in other i o x v >>= (λ h. Ok (cond same (loads h k d (Number 1)) (loads other k d (Number 0)))))
+  exchanges_same d i None x v same = refl
+  exchanges_same d i (Some r) x v same = exchanged_same d i r x same (may_hold r.kind x v)
 
   performed-same : (act : Action) → Names (λ v. ⊤) ⊥ k act → DoTheSame (performed m heap k act) (performed m other k act)
   performed-same (Sets d v) is = record { mutator = refl; records = refl; here = refl; there = refl }
@@ -55,6 +69,7 @@ module _ (m : ℕ) (heap : Heap) (board : List Value) (k : Mutator) where
   performed-same (Measures d i) is = record { mutator = refl; records = refl; here = refl; there = refl }
   performed-same (Loads d i x) is = same-bind (KeepBoards heap board) (value_in heap i x) _ _ (λ v at. record { mutator = refl; records = refl; here = refl; there = refl })
   performed-same (Stores i x v) is = same-bind (KeepBoards heap board) (value_in heap i x) _ _ (λ old at. stores_same i (record_of heap i) x v)
+  performed-same (Exchanges d i x expected v) is = same-bind (KeepBoards heap board) (value_in heap i x) _ _ (λ found at. exchanges_same d i (record_of heap i) x v (are_same found expected))
   performed-same (Gets d x) is = absurd is.0
   performed-same (Puts x v) is = absurd is.0
   performed-same (Swaps d x v) is = absurd is.0

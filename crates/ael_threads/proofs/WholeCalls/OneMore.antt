@@ -14,12 +14,12 @@ use Rattle.plain_state.specs.Writing.{zeros}
 use Rattle.plain_state.proofs.Lists.{slice_get-replicate, slice_get-set_same}
 use Rattle.mutator_asm.specs.declared.instr.Instr.{Instr}
 use Rattle.plain_heap.specs.declared.action.Action.{Action}
-use Rattle.plain_heap.specs.declared.action.Action.TheVariants.{Sets, Jumps, Links, Prints, Makes, Measures, Loads, Stores, Gets, Puts, Swaps}
+use Rattle.plain_heap.specs.declared.action.Action.TheVariants.{Sets, Jumps, Links, Prints, Makes, Measures, Loads, Stores, Exchanges, Gets, Puts, Swaps}
 use Rattle.plain_heap.specs.Action.{action}
 use Rattle.plain_heap.specs.Call.{After, call, may_hold, performed, store_in, value_in}
 use Rattle.plain_heap.specs.Step.{ended, fetch, settled}
 use Rattle.plain_heap.proofs.Calls.Counts.{Went, call-went}
-use Rattle.plain_heap.proofs.Calls.Outcomes.{if_ok-bind, if_ok-then}
+use Rattle.plain_heap.proofs.Calls.Outcomes.{if_ok-bind, if_ok-then, performed_exchange}
 use Rattle.heap_laws.specs.Opening.{opening_mutator, opening_plain}
 use Rattle.gc_worker.specs.declared.task.Task.{Task}
 use Rattle.gc_worker.specs.declared.task.Task.TheVariants.{Calls, Stops}
@@ -49,7 +49,7 @@ module _ (m : ℕ) (heap : Heap) (k : Mutator) where
 
   stores-makers : (i : Identity) (x : ℕ) (v : Value) (o : Option Record) → IfOk (store_in heap i o x v) AsMany
   stores-makers i x v None = tt
-  stores-makers i x v (Some r) = if_ok-bind AsMany (may_hold r.kind v) _ (λ w. length-set heap.records i.mutator _)
+  stores-makers i x v (Some r) = if_ok-bind AsMany (may_hold r.kind x v) _ (λ w. length-set heap.records i.mutator _)
 
   performed-makers : (act : Action) → IfOk (performed m heap k act) (λ a. AsMany a.heap)
   performed-makers (Sets d v) = refl
@@ -61,6 +61,9 @@ module _ (m : ℕ) (heap : Heap) (k : Mutator) where
   performed-makers (Loads d i x) = if_ok-bind (λ (a : After). AsMany a.heap) (value_in heap i x) _ (λ v. refl)
   performed-makers (Stores i x v) = if_ok-bind (λ (a : After). AsMany a.heap) (value_in heap i x) _
       (λ old. if_ok-then AsMany (λ (a : After). AsMany a.heap) (store_in heap i (record_of heap i) x v) _ (stores-makers i x v (record_of heap i)) (λ h same. same))
+  performed-makers (Exchanges d i x expected v) =
+      performed_exchange m heap k d i x expected v (λ (a : After). AsMany a.heap) refl
+      (if_ok-then AsMany (λ (a : After). AsMany a.heap) (store_in heap i (record_of heap i) x v) _ (stores-makers i x v (record_of heap i)) (λ h same. same))
   performed-makers (Gets d x) = refl
   performed-makers (Puts x v) = refl
   performed-makers (Swaps d x v) = refl

@@ -16,11 +16,20 @@ eq of a number spelled as a reference|sim|.mutator/new r0 0/li r1 16320/eq r2 r0
 jr|sim|.mutator/li r0 3/jr r0/out r0/halt/|0: halt/||0
 new|sim|.mutator/new r0 2/ld r1 r0 0/out r1/ld r1 r0 1/out r1/len r2 r0/out r2/halt/|0: 0/0: 0/0: 2/0: halt/||0
 raw|sim|.mutator/raw r0 2/li r1 9/st r0 1 r1/ld r2 r0 1/out r2/ld r2 r0 0/out r2/len r2 r0/out r2/halt/|0: 9/0: 0/0: 2/0: halt/||0
+mix|sim|.mutator/mix r0 2 3/li r1 1201/st r0 2 r1/st r0 0 r0/len r2 r0/out r2/ld r2 r0 2/out r2/st r0 4 r0/halt/|0: 5/0: 1201/0: pointer into raw/||3
+a field of a mixed record|sim|.mutator/li r2 1/mix r0 r2 0/st r0 0 r0/ld r1 r0 0/eq r2 r1 r0/out r2/halt/|0: 1/0: halt/||0
+a mixed record without values|sim|.mutator/mix r0 0 0/len r1 r0/out r1/ld r1 r0 0/|0: 0/0: out of range/||3
+the longest mixed record|sim|.mutator/mix r0 1 4093/li r1 6/st r0 4093 r1/ld r2 r0 4093/out r2/len r2 r0/out r2/halt/|0: 6/0: 4094/0: halt/||0
 a raw word spelled as a pointer|sim|.mutator/raw r0 1/li r1 65281/st r0 0 r1/ld r2 r0 0/out r2/isp r2 r2/out r2/halt/|0: 65281/0: 0/0: halt/||0
 the greatest raw word|sim|.mutator/raw r0 1/li r1 4611686018427387903/st r0 0 r1/ld r2 r0 0/out r2/halt/|0: 4611686018427387903/0: halt/||0
 the longest record|sim|.mutator/new r0 4095/li r1 6/st r0 4094 r1/ld r2 r0 4094/out r2/len r2 r0/out r2/halt/|0: 6/0: 4095/0: halt/||0
 a cycle of records|sim|.mutator/new r0 1/new r1 1/st r0 0 r1/st r1 0 r0/ld r2 r0 0/ld r2 r2 0/eq r3 r2 r0/out r3/halt/|0: 1/0: halt/||0
 an index from a register|sim|.mutator/new r0 2/li r1 1/li r2 8/st r0 r1 r2/ld r3 r0 r1/out r3/halt/|0: 8/0: halt/||0
+cas|sim|.mutator/new r0 1/li r1 0/li r2 9/cas r3 r0 0 r1 r2/out r3/cas r3 r0 0 r1 r2/out r3/ld r3 r0 0/out r3/halt/|0: 1/0: 0/0: 9/0: halt/||0
+cas of records|sim|.mutator/new r0 1/new r1 1/st r0 0 r1/cas r3 r0 0 r0 r2/out r3/cas r3 r0 0 r1 r0/out r3/ld r3 r0 0/eq r3 r3 r0/out r3/halt/|0: 0/0: 1/0: 1/0: halt/||0
+cas of a raw word|sim|.mutator/raw r0 1/li r1 4/st r0 0 r1/li r2 1/cas r3 r0 0 r2 r1/out r3/cas r3 r0 0 r1 r2/out r3/ld r3 r0 0/out r3/halt/|0: 0/0: 1/0: 1/0: halt/||0
+cas of a raw word spelled as a pointer|sim|.mutator/raw r0 1/li r1 65281/st r0 0 r1/cas r3 r0 0 r0 r1/out r3/cas r3 r0 0 r1 r2/out r3/halt/|0: 0/0: 1/0: halt/||0
+operands of cas are read before the result is written|sim|.mutator/new r0 1/li r1 7/cas r1 r0 0 r2 r1/out r1/ld r0 r0 0/out r0/halt/|0: 1/0: 7/0: halt/||0
 isp|sim|.mutator/isp r1 r0/out r1/new r0 0/isp r1 r0/out r1/halt/|0: 0/0: 1/0: halt/||0
 an empty board|sim|.mutator/get r0 0/out r0/get r0 15/out r0/halt/|0: 0/0: 0/0: halt/||0
 a reference on the board|sim|.mutator/new r0 1/put 3 r0/get r1 3/eq r2 r0 r1/out r2/halt/|0: 1/0: halt/||0
@@ -47,6 +56,11 @@ new of a length that is a reference|sim|.mutator/new r0 0/new r1 r0/|0: not a nu
 new too long|sim|.mutator/li r0 4096/new r1 r0/|0: out of range/||3
 raw of a length that is a reference|sim|.mutator/new r0 0/raw r1 r0/|0: not a number/||3
 raw too long|sim|.mutator/raw r1 4096/|0: out of range/||3
+mix of as many fields as a reference|sim|.mutator/new r0 0/mix r1 r0 5000/|0: not a number/||3
+mix of as many raw words as a reference|sim|.mutator/new r0 0/mix r1 5000 r0/|0: not a number/||3
+mix too long|sim --pages 4|.mutator/mix r0 4094 1/|0: out of range/||3
+mix far too long|sim|.mutator/li r1 4611686018427387903/mix r0 r1 r1/|0: out of range/||3
+mix of more than the heap has|sim --pages 4|.mutator/mix r0 4094 0/|0: heap full asked 64 room 256 live 0/||3
 ld of a number|sim|.mutator/ld r0 r1 0/|0: not a pointer/||3
 ld of a number at a reference|sim|.mutator/new r2 0/ld r0 r1 r2/|0: not a pointer/||3
 ld at a reference|sim|.mutator/new r1 0/ld r0 r1 r1/|0: not a number/||3
@@ -57,6 +71,15 @@ st to a number at a reference|sim|.mutator/new r1 0/st r0 r1 r1/|0: not a pointe
 st at a reference|sim|.mutator/new r0 0/st r0 r0 r1/|0: not a number/||3
 st past the record|sim|.mutator/new r0 1/st r0 1 r1/|0: out of range/||3
 st of a reference past a raw record|sim|.mutator/raw r0 1/st r0 1 r0/|0: out of range/||3
+st of a reference past a mixed record|sim|.mutator/mix r0 1 1/st r0 2 r0/|0: out of range/||3
+cas of a mixed record|sim|.mutator/mix r0 1 1/cas r3 r0 0 r1 r0/out r3/li r2 1201/cas r3 r0 1 r1 r2/out r3/ld r4 r0 1/out r4/cas r3 r0 1 r1 r0/|0: 1/0: 1/0: 1201/0: pointer into raw/||3
+cas of a number|sim|.mutator/cas r1 r0 0 r1 r1/|0: not a pointer/||3
+cas of a number at a reference|sim|.mutator/new r1 0/cas r2 r0 r1 r1 r1/|0: not a pointer/||3
+cas at a reference|sim|.mutator/new r0 0/cas r1 r0 r0 r1 r1/|0: not a number/||3
+cas past the record|sim|.mutator/new r0 1/cas r1 r0 1 r1 r1/|0: out of range/||3
+cas of a reference past a raw record|sim|.mutator/raw r0 1/cas r1 r0 1 r1 r0/|0: out of range/||3
+cas of a reference into raw|sim|.mutator/raw r0 1/cas r1 r0 0 r1 r0/|0: pointer into raw/||3
+cas of a reference into raw where it would fail|sim|.mutator/raw r0 1/li r1 5/cas r2 r0 0 r1 r0/|0: pointer into raw/||3
 len of a number|sim|.mutator/len r0 r1/|0: not a pointer/||3
 get at a reference|sim|.mutator/new r0 0/get r1 r0/|0: not a number/||3
 get past the board|sim|.mutator/get r1 16/|0: out of range/||3

@@ -29,7 +29,7 @@ module _ (base : List Record) (r : Record) (register : ℕ) (b : Desk) (fresh : 
   fresh_loads d v c other l = record { records = l.records ∙ fresh.records; leads = l.others register other ∙ (fresh.leads ∙ ap (λ (m : ℕ). own m (length base + 1)) (sym l.number)) }
 
   -- it takes a value
-  pub fresh_takes : (x : ℕ) (v : Value) → x < length r.values → IsOk (may_hold r.kind v) → MayTake b (desk_register b register) x v
+  pub fresh_takes : (x : ℕ) (v : Value) → x < length r.values → IsOk (may_hold r.kind x v) → MayTake b (desk_register b register) x v
   fresh_takes x v within holds = record { found = r; leads = fresh_leads; within = within; holds = holds }
 
   pub fresh_stores : (x : ℕ) (v : Value) (c : Desk) → c ≡ desk_with_word b (desk_register b register) x v → IsFresh base (with_value r x v) register c

@@ -44,7 +44,7 @@ module _ (a : Seated) (word : List ℕ) where
     pub takes_letter : i < length word → MayTake (desk_of t) (desk_register (desk_of t) LETTERS) place (desk_register (desk_of t) NUMBER)
     takes_letter within =
         let n = length_written word i in
-        fresh_takes base (raw (written word i)) LETTERS (desk_of t) fresh_still place (desk_register (desk_of t) NUMBER) (omega (arith, n, within, is_place)) (subst (λ (v : Value). IsOk (may_hold Raw v)) (sym it_loads.taken) refl)
+        fresh_takes base (raw (written word i)) LETTERS (desk_of t) fresh_still place (desk_register (desk_of t) NUMBER) (omega (arith, n, within, is_place)) (subst (λ (v : Value). IsOk (may_hold Raw place v)) (sym it_loads.taken) refl)
 
     module _ (u : Seated) (put : desk_of u ≡ desk_with_word (desk_of t) (desk_register (desk_of t) LETTERS) place (desk_register (desk_of t) NUMBER)) where
       values_are : slice_set (written word i) place (desk_register (desk_of t) NUMBER) ≡ written word (i + 1)

@@ -35,7 +35,7 @@ use Rattle.page_scan.specs.Taken as scan_taken
 use Rattle.page_slots.specs.declared.opened.Opened.{Opened}
 use Rattle.page_slots.specs.Open as open_page
 use Rattle.plain_heap.specs.declared.action.Action.{Action}
-use Rattle.plain_heap.specs.declared.action.Action.TheVariants.{Sets, Jumps, Links, Prints, Makes, Measures, Loads, Stores, Gets, Puts, Swaps}
+use Rattle.plain_heap.specs.declared.action.Action.TheVariants.{Sets, Jumps, Links, Prints, Makes, Measures, Loads, Stores, Exchanges, Gets, Puts, Swaps}
 use Rattle.plain_heap.specs.Action.{action}
 use Rattle.gc_worker.specs.declared.access.Access.{Access}
 use Rattle.gc_worker.specs.declared.access.accessed.Accessed.{Accessed}
@@ -180,6 +180,7 @@ module _ (x : Held) where
   by_action (Measures d i) = refl
   by_action (Loads d i n) = refl
   by_action (Stores i n v) = refl
+  by_action (Exchanges d i n u v) = refl
   by_action (Gets d n) = refl
   by_action (Puts n v) = refl
   by_action (Swaps d n v) = refl

@@ -33,7 +33,7 @@ use Rattle.page_scan.specs.Taken as scan_taken
 use Rattle.page_slots.specs.declared.opened.Opened.{Opened}
 use Rattle.page_slots.specs.Open as open_page
 use Rattle.plain_heap.specs.declared.action.Action.{Action}
-use Rattle.plain_heap.specs.declared.action.Action.TheVariants.{Sets, Jumps, Links, Prints, Makes, Measures, Loads, Stores, Gets, Puts, Swaps}
+use Rattle.plain_heap.specs.declared.action.Action.TheVariants.{Sets, Jumps, Links, Prints, Makes, Measures, Loads, Stores, Exchanges, Gets, Puts, Swaps}
 use Rattle.plain_heap.specs.Action.{action}
 use Rattle.gc_worker.specs.declared.access.Access.{Access}
 use Rattle.gc_worker.specs.declared.access.accessed.Accessed.{Accessed}
@@ -100,6 +100,7 @@ module _ (x : Held) where
     by_action (Measures d i) = turns (acts (begins x) (Measures d i)) Silent (refl, refl, refl) refl
     by_action (Loads d i n) = turns (acts (begins x) (Loads d i n)) Silent (refl, refl, refl) refl
     by_action (Stores i n v) = turns (acts (begins x) (Stores i n v)) Silent (refl, refl, refl) refl
+    by_action (Exchanges d i n u v) = turns (acts (begins x) (Exchanges d i n u v)) Silent (refl, refl, refl) refl
     by_action (Gets d n) = turns (acts (begins x) (Gets d n)) Silent (refl, refl, refl) refl
     by_action (Puts n v) = turns (acts (begins x) (Puts n v)) Silent (refl, refl, refl) refl
     by_action (Swaps d n v) = turns (acts (begins x) (Swaps d n v)) Silent (refl, refl, refl) refl

@@ -52,7 +52,7 @@ use Rattle.page_scan.specs.Taken as scan_taken
 use Rattle.page_slots.specs.declared.opened.Opened.{Opened}
 use Rattle.page_slots.specs.Open as open_page
 use Rattle.plain_heap.specs.declared.action.Action.{Action}
-use Rattle.plain_heap.specs.declared.action.Action.TheVariants.{Sets, Jumps, Links, Prints, Makes, Measures, Loads, Stores, Gets, Puts, Swaps}
+use Rattle.plain_heap.specs.declared.action.Action.TheVariants.{Sets, Jumps, Links, Prints, Makes, Measures, Loads, Stores, Exchanges, Gets, Puts, Swaps}
 use Rattle.plain_heap.specs.Action.{action}
 use Rattle.gc_worker.specs.declared.access.Access.{Access}
 use Rattle.gc_worker.specs.declared.access.accessed.Accessed.{Accessed}
@@ -117,6 +117,7 @@ module _ (x : Held) (here : IsHere x.stage) where
   acts_here y (Measures d i) = tt
   acts_here y (Loads d i n) = tt
   acts_here y (Stores i n v) = tt
+  acts_here y (Exchanges d i n u v) = tt
   acts_here y (Gets d n) = tt
   acts_here y (Puts n v) = tt
   acts_here y (Swaps d n v) = tt

@@ -5,6 +5,8 @@ use Rattle.atom_store.specs.declared.reply.Reply.{Reply}
 use Rattle.atom_store.specs.declared.reply.Reply.TheVariants as replies
 use Rattle.space_map.specs.declared.spaces.TheConstants.{PAGE_WORDS}
 use Rattle.space_map.specs.Spaces.{page_of}
+use Rattle.heap_words.specs.declared.kind.Kind.{Kind}
+use Rattle.heap_words.specs.declared.kind.Kind.TheVariants.{Fields, Raw, Mixed}
 use Rattle.record_layout.specs.declared.header.Header.{Header}
 use Rattle.atom_store.specs.declared.turn.Turn.{Turn}
 use Rattle.atom_store.specs.declared.turn.Turn.TheVariants.{More}
@@ -12,8 +14,8 @@ use Rattle.alloc_end.specs.declared.allocated.Allocated.{Allocated}
 use Rattle.alloc_end.specs.declared.run.Run.{Run}
 use Rattle.alloc_end.specs.declared.new_pages.NewPages.{NewPages}
 use Rattle.alloc_end.specs.declared.place_stage.PlaceStage.{PlaceStage}
-use Rattle.alloc_end.specs.declared.place_stage.PlaceStage.TheVariants.{LoadsTraced, LoadsArea, ExchangesArea, StoresZero, OpensPage, StoresHeader, Ended}
-use Rattle.alloc_end.specs.Place.{Placing, pages_for, size_of, words_for}
+use Rattle.alloc_end.specs.declared.place_stage.PlaceStage.TheVariants.{LoadsTraced, LoadsArea, ExchangesArea, StoresZero, OpensPage, StoresCount, StoresHeader, Ended}
+use Rattle.alloc_end.specs.Place.{Placing, pages_for, size_of, stores_first, words_for}
 use Rattle.alloc_end.specs.Place as place
 use Rattle.alloc_end.specs.Soundness.{IsPlacingGoing}
 use Rattle.gc_worker.specs.Laws.Cycles.{MakesRecord, IsForRecord, SetAsideIsForRecords, ClaimsAreSetAside, SetsAside, words_claimed, claimed_at, set_aside, set_aside_at, set_aside_by}
@@ -62,9 +64,12 @@ module _ (x : Held) (z : Placing) (task : IsMaking x.account x.registers x.task)
   clears new some other true = within (StoresZero new) 0 (record z { stage = StoresZero some }) refl (omega arith)
   clears new some other false = within (StoresZero new) 0 (record z { stage = OpensPage other }) refl (omega arith)
 
-  opens : (new other : NewPages) (run : Run) (b : Bool) → After (OpensPage new) 0 (cond b (record z { stage = OpensPage other }) (record z { run = run; stage = StoresHeader }))
-  opens new other run true = within (OpensPage new) 0 (record z { stage = OpensPage other }) refl (omega arith)
-  opens new other run false = within (OpensPage new) 0 (record z { run = run; stage = StoresHeader }) refl (omega arith)
+  opens : (new other : NewPages) (run : Run) (kind : Kind) (b : Bool)
+      → After (OpensPage new) 0 (cond b (record z { stage = OpensPage other }) (record z { run = run; stage = stores_first kind }))
+  opens new other run kind true = within (OpensPage new) 0 (record z { stage = OpensPage other }) refl (omega arith)
+  opens new other run Fields false = within (OpensPage new) 0 (record z { run = run; stage = StoresHeader }) refl (omega arith)
+  opens new other run Raw false = within (OpensPage new) 0 (record z { run = run; stage = StoresHeader }) refl (omega arith)
+  opens new other run Mixed false = within (OpensPage new) 0 (record z { run = run; stage = StoresCount }) refl (omega arith)
 
   places : After StoresHeader 0 (place.placed z)
   places =
@@ -84,9 +89,13 @@ module _ (x : Held) (z : Placing) (task : IsMaking x.account x.registers x.task)
   by_place (StoresZero new) (replies.Lost word) going = omega arith
   by_place (OpensPage new) (replies.Value word) going = omega arith
   by_place (OpensPage new) replies.Done going =
-      opens new (record { first = new.first; next = new.next + 1 }) (record { at = new.first; end = new.first + words_for z.header }) (nat_lt (new.next + 1) (page_of new.first + pages_for (size_of z.header)))
+      opens new (record { first = new.first; next = new.next + 1 }) (record { at = new.first; end = new.first + words_for z.header }) z.header.kind (nat_lt (new.next + 1) (page_of new.first + pages_for (size_of z.header)))
   by_place (OpensPage new) replies.Won going = omega arith
   by_place (OpensPage new) (replies.Lost word) going = omega arith
+  by_place StoresCount (replies.Value word) going = omega arith
+  by_place StoresCount replies.Done going = within StoresCount 0 (record z { stage = StoresHeader }) refl (omega arith)
+  by_place StoresCount replies.Won going = omega arith
+  by_place StoresCount (replies.Lost word) going = omega arith
   by_place StoresHeader (replies.Value word) going = omega arith
   by_place StoresHeader replies.Done going = places
   by_place StoresHeader replies.Won going = omega arith
@@ -136,6 +145,7 @@ module _ (h : Heap) (p o : Plain) (k : ℕ) (x : Held) (st : WorkersStand h p o)
       most : words_for z.header ≡ PAGE_WORDS * pages_needed y → (stage : PlaceStage) → set_aside_by z stage ≤ PAGE_WORDS * pages_needed y
       most a (StoresZero new) = omega (arith, a)
       most a (OpensPage new) = omega (arith, a)
+      most a StoresCount = omega (arith, a)
       most a StoresHeader = omega (arith, a)
       most a stage = omega arith
 

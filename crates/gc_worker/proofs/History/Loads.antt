@@ -1,22 +1,21 @@
 -- The words of records along a history, and their kinds and lengths.
-use Rattle.std.proofs.Common.{◌≡◌, ℕ, zero, suc, ◌<◌, ◌≤◌, List, [], ◌∷◌, ◌++◌, replicate, Option, Some, None, Result, Ok, Err, slice_get, slice_index_or, refl, sym, ap, subst, ◌∙◌, ⊎_elim}
+use Rattle.std.proofs.Common.{◌≡◌, ℕ, List, [], ◌∷◌, ◌++◌, Option, Some, None, Result, Ok, Err, slice_get, refl, sym, ap, subst, ◌∙◌}
 use Rattle.std.specs.Prelude.{IsOk}
-use Rattle.std.specs.Option.{option_map_or}
-use Rattle.std.proofs.lemmas.Bool.{cases_lt}
-use Rattle.std.proofs.lemmas.List.{get_or-replicate, get_or_past, length-replicate}
 use Rattle.std.proofs.lemmas.Option.{same_Some, slice_get_within}
 use Rattle.plain_state.specs.declared.end.End.{End}
 use Rattle.plain_state.specs.declared.value.Identity.{Identity}
 use Rattle.plain_state.specs.declared.value.Value.{Value}
-use Rattle.plain_state.specs.declared.value.Value.TheVariants.{Number}
-use Rattle.plain_state.specs.State.{Mutator, Plain, Record, at_serial, made_by}
+use Rattle.plain_state.specs.State.{Mutator, Plain}
 use Rattle.plain_state.proofs.Lists.{slice_get-set_same}
 use Rattle.mutator_asm.specs.declared.instr.Instr.{Instr}
+use Rattle.plain_heap.specs.declared.action.Action.{Action}
+use Rattle.plain_heap.specs.declared.action.Action.TheVariants.{Loads, Exchanges}
 use Rattle.plain_heap.specs.Action.{action}
 use Rattle.plain_heap.specs.Call.{After, call, set_register, went_on}
-use Rattle.plain_heap.specs.Records.{RecordShape, record_word, shape_of, word_after}
+use Rattle.plain_heap.specs.Records.{RecordShape, record_word, shape_of, success, word_after}
 use Rattle.plain_heap.specs.Step.{settled}
-use Rattle.plain_heap.proofs.Calls.Records.{loads_take_the_word, only_stores_change_words, shapes_stay}
+use Rattle.plain_heap.proofs.Orders.Words.{no_words}
+use Rattle.plain_heap.proofs.Calls.Records.{exchanges_find_the_word, loads_take_the_word, only_stores_change_words, shapes_stay}
 use Rattle.heap_laws.specs.Opening.{opening_plain}
 use Rattle.gc_worker.specs.Plain.Answer.{ComesTo, MayCome, after_answer, after_outcome}
 use Rattle.gc_worker.specs.declared.calls.call.Call.{Call}
@@ -27,7 +26,7 @@ use Rattle.gc_worker.specs.declared.calls.entry.Entry.TheVariants.{Made, Exchang
 use Rattle.gc_worker.specs.declared.task.Task.{Task}
 use Rattle.gc_worker.specs.declared.task.Task.TheVariants.{Calls, Stops}
 use Rattle.gc_worker.specs.History.Legal.{IsLegal, after_all, after_call}
-use Rattle.gc_worker.specs.History.Loads.{IsLoad, LoadsGetTheLastStore, RecordsKeepTheirShape, WordsAreStored, WordsBeginAsZero, last_stored, word_after_call, word_after_task}
+use Rattle.gc_worker.specs.History.Loads.{CallDoes, ExchangesFindTheLastStore, LoadsGetTheLastStore, RecordsKeepTheirShape, WordsAreStored, WordsBeginAsZero, last_stored, word_after_call, word_after_task}
 use Rattle.gc_worker.proofs.History.Extensions.{after_append}
 
 -- ---- words
@@ -58,49 +57,51 @@ words_are_stored p (Made c ∷ es) i x legal =
     words_are_stored (after_call p c) es i x legal.1 ∙ ap (λ (first : Value). last_stored (after_call p c) es i x first) (call_word p c i x legal.0)
 words_are_stored p (Exchanged by asked ∷ es) i x legal = words_are_stored p es i x legal
 
-no_records : (mutators m : ℕ) → made_by (opening_plain mutators).heap m ≡ []
-no_records mutators m =
-    let none : List Record = [] in
-    ⊎_elim
-    (λ (l : m < mutators). get_or-replicate mutators m none none l)
-    (λ (l : mutators ≤ m). get_or_past (replicate mutators none) m none (rw (length-replicate mutators none) l))
-    (cases_lt m mutators)
-
 pub words_begin_as_zero : WordsBeginAsZero
-words_begin_as_zero mutators i x = rw (no_records mutators i.mutator) (by_serial i.serial)
-  where
-    by_serial : (serial : ℕ) → slice_index_or (option_map_or (λ (r : Record). r.values) (at_serial [] serial) []) x (Number 0) ≡ Number 0
-    by_serial zero = refl
-    by_serial (suc n) = refl
+words_begin_as_zero mutators i x = no_words mutators (opening_plain mutators).heap.board i x
 
--- ---- loads
+-- ---- loads and exchanges
 
 legal_at : (p : Plain) (front rest : List Entry) (c : Call) → IsLegal p (front ++ Made c ∷ rest) → IsLegal p front × ComesTo (after_all p front) c.by c.task c.did
 legal_at p [] rest c h = (tt, h.0)
 legal_at p (Made d ∷ es) rest c h = let later = legal_at (after_call p d) es rest c h.1 in ((h.0, later.0), later.1)
 legal_at p (Exchanged by asked ∷ es) rest c h = legal_at p es rest c h
 
-module _ (p : Plain) (c : Call) (q : Mutator) (d : ℕ) (i : Identity) (x : ℕ) (load : IsLoad p c q d i x) (h : ComesTo p c.by c.task c.did) where
+-- what a legal call that does this leaves of its mutator
+module _ (p : Plain) (c : Call) (q : Mutator) (act : Action) (call_does : CallDoes p c q act) (h : ComesTo p c.by c.task c.did) where
   same : h.mutator ≡ q
-  same = same_Some h.mutator q (sym h.is ∙ load.mutator)
+  same = same_Some h.mutator q (sym h.is ∙ call_does.mutator)
 
-  executed : IsOk (call c.by p.heap q load.instr)
-  executed = subst (λ (z : Mutator). MayCome c.by p.heap z (Calls load.instr) Done) same (rw (load.task, load.done) at h.may)
+  executed : IsOk (call c.by p.heap q call_does.instr)
+  executed = subst (λ (z : Mutator). MayCome c.by p.heap z (Calls call_does.instr) Done) same (rw (call_does.task, call_does.done) at h.may)
 
-  by_outcome_of : (o : Result After End) → call c.by p.heap q load.instr ≡ o → IsOk o → slice_get (settled p c.by q o).mutators c.by ≡ Some (went_on (set_register q d (record_word p.heap i x)))
-  by_outcome_of (Ok after) is ok =
-      slice_get-set_same p.mutators c.by after.mutator (slice_get_within p.mutators c.by q load.mutator)
-      ∙ ap (λ (a : After). Some a.mutator) (loads_take_the_word c.by p.heap q load.instr after d i x load.loads is)
-  by_outcome_of (Err why) is ok = absurd (cc)
+  -- whatever is so of the mutator that the plain machine's call leaves
+  module _ (next : Mutator) (leaves : (after : After) → call c.by p.heap q call_does.instr ≡ Ok after → after.mutator ≡ next) where
+    by_outcome_of : (o : Result After End) → call c.by p.heap q call_does.instr ≡ o → IsOk o → slice_get (settled p c.by q o).mutators c.by ≡ Some next
+    by_outcome_of (Ok after) is ok =
+        slice_get-set_same p.mutators c.by after.mutator (slice_get_within p.mutators c.by q call_does.mutator) ∙ ap (λ (l : Mutator). Some l) (leaves after is)
+    by_outcome_of (Err why) is ok = absurd (cc)
 
-  load_gets : slice_get (after_call p c).mutators c.by ≡ Some (went_on (set_register q d (record_word p.heap i x)))
-  load_gets = rw (load.mutator, load.task, load.done) (by_outcome_of (call c.by p.heap q load.instr) refl executed)
+    goes_on : slice_get (after_call p c).mutators c.by ≡ Some next
+    goes_on = rw (call_does.mutator, call_does.task, call_does.done) (by_outcome_of (call c.by p.heap q call_does.instr) refl executed)
 
 pub loads_get_the_last_store : LoadsGetTheLastStore
 loads_get_the_last_store p front rest c q d i x legal load =
     let at = legal_at p front rest c legal in
+    let here = after_all p front in
     ap (λ (z : Plain). slice_get z.mutators c.by) (after_append p front (Made c ∷ []))
-    ∙ (load_gets (after_all p front) c q d i x load at.1 ∙ ap (λ (v : Value). Some (went_on (set_register q d v))) (words_are_stored p front i x at.0))
+    ∙ (goes_on here c q (Loads d i x) load at.1 (went_on (set_register q d (record_word here.heap i x)))
+    (λ after is. ap (λ (a : After). a.mutator) (loads_take_the_word c.by here.heap q load.instr after d i x load.does is))
+    ∙ ap (λ (v : Value). Some (went_on (set_register q d v))) (words_are_stored p front i x at.0))
+
+pub exchanges_find_the_last_store : ExchangesFindTheLastStore
+exchanges_find_the_last_store p front rest c q d i x expected new legal exchange =
+    let at = legal_at p front rest c legal in
+    let here = after_all p front in
+    ap (λ (z : Plain). slice_get z.mutators c.by) (after_append p front (Made c ∷ []))
+    ∙ (goes_on here c q (Exchanges d i x expected new) exchange at.1 (went_on (set_register q d (success (record_word here.heap i x) expected)))
+    (λ after is. (exchanges_find_the_word c.by here.heap q exchange.instr after d i x expected new exchange.does is).mutator_is)
+    ∙ ap (λ (v : Value). Some (went_on (set_register q d (success v expected)))) (words_are_stored p front i x at.0))
 
 -- ---- kinds and lengths
 

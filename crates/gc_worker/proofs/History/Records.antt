@@ -9,7 +9,7 @@ use Rattle.heap_words.specs.Decoded.{Decoded, NumberWord, PointerWord, HeaderWor
 use Rattle.plain_state.specs.declared.end.End.{End}
 use Rattle.plain_state.specs.declared.end.End.TheVariants.{OutputFull}
 use Rattle.plain_state.specs.declared.kind.Kind.{Kind}
-use Rattle.plain_state.specs.declared.kind.Kind.TheVariants.{Fields, Raw}
+use Rattle.plain_state.specs.declared.kind.Kind.TheVariants.{Fields, Raw, Mixed}
 use Rattle.plain_state.specs.declared.operation.Operation.{Operation}
 use Rattle.plain_state.specs.declared.operation.Operation.TheVariants as operations
 use Rattle.plain_state.specs.declared.sizes.TheConstants.{MOST_PRINTED, REGISTERS}
@@ -23,7 +23,7 @@ use Rattle.mutator_asm.specs.declared.operand.Operand.TheVariants as operands
 use Rattle.mutator_asm.specs.Program.{is_operand, is_register, is_valid}
 use Rattle.plain_heap.specs.declared.action.Action.{Action}
 use Rattle.plain_heap.specs.declared.action.Action.TheVariants.{Makes, Prints}
-use Rattle.plain_heap.specs.Action.{◌>>=◌, action, allocates, board_place, computes, length_of, as_number, operand, reference_in, register}
+use Rattle.plain_heap.specs.Action.{◌>>=◌, action, allocates, board_place, computes, length_of, mixed_length, mixes, as_number, operand, reference_in, register}
 use Rattle.plain_heap.proofs.Calls.Outcomes.{if_ok-bind, if_ok-is}
 use Rattle.gc_worker.specs.Laws.Between.{ShowsRegisters}
 use Rattle.gc_worker.specs.Workers.Fits.{IsMaking}
@@ -74,6 +74,28 @@ module _ (x : Held) (q : Mutator) (eight : length x.registers ≡ REGISTERS) (va
       by_operand (Ok n) is = rw (operand_of y n valid is) (by_length (length_of n))
       by_operand (Err why) is = tt
 
+  -- a mixed record of so many fields and of this length, and of so many fields and raw words
+  abbrev of_length : (d f : ℕ) → Result ℕ End → Result Action End
+  of_length d f o = o >>= (λ n. Ok (Makes (Mixed f) d n))
+
+  abbrev of_raw : (d f : ℕ) → Result ℕ End → Result Action End
+  of_raw d f o = o >>= (λ r. of_length d f (mixed_length f r))
+
+  mixed : (d : ℕ) (y z : Operand) → is_operand y ≡ true → is_operand z ≡ true → IfOk (mixes sight d y z) (IsSameRecord (mixes q d y z))
+  mixed d y z valid_y valid_z = by_fields (operand sight y) refl
+    where
+      by_length : (f : ℕ) (o : Result ℕ End) → IfOk (of_length d f o) (IsSameRecord (of_length d f o))
+      by_length f (Ok n) = refl
+      by_length f (Err why) = tt
+
+      by_raw : (f : ℕ) (o : Result ℕ End) → operand sight z ≡ o → IfOk (of_raw d f o) (IsSameRecord (of_raw d f (operand q z)))
+      by_raw f (Ok r) is = rw (operand_of z r valid_z is) (by_length f (mixed_length f r))
+      by_raw f (Err why) is = tt
+
+      by_fields : (o : Result ℕ End) → operand sight y ≡ o → IfOk (o >>= (λ f. of_raw d f (operand sight z))) (IsSameRecord (mixes q d y z))
+      by_fields (Ok f) is = rw (operand_of y f valid_y is) (by_raw f (operand sight z) refl)
+      by_fields (Err why) is = tt
+
   -- what makes no record
   module _ (theirs : Result Action End) where
     abbrev IsSo : Result Action End → Type 0
@@ -94,6 +116,7 @@ module _ (x : Held) (q : Mutator) (eight : length x.registers ≡ REGISTERS) (va
   unfolding action
   makes_same (instrs.New d y) valid = allocated Fields d y (second d _ valid)
   makes_same (instrs.Raw d y) valid = allocated Raw d y (second d _ valid)
+  makes_same (instrs.Mix d y z) valid = let l = and_parts (is_register d && is_operand y) (is_operand z) valid in mixed d y z (second d (is_operand y) l.0) l.1
   makes_same (instrs.Li d n) valid = tt
   makes_same (instrs.Mov d a) valid = tt
   makes_same (instrs.Add d a b) valid = computed _ operations.Add d a b
@@ -109,6 +132,7 @@ module _ (x : Held) (q : Mutator) (eight : length x.registers ≡ REGISTERS) (va
   makes_same (instrs.Jr a) valid = if_ok-bind _ (as_number (register sight a)) _ (λ n. tt)
   makes_same (instrs.Ld d a y) valid = if_ok-bind _ (reference_in (register sight a)) _ (λ i. if_ok-bind _ (operand sight y) _ (λ n. tt))
   makes_same (instrs.St a y b) valid = if_ok-bind _ (reference_in (register sight a)) _ (λ i. if_ok-bind _ (operand sight y) _ (λ n. tt))
+  makes_same (instrs.Cas d a y b c) valid = if_ok-bind _ (reference_in (register sight a)) _ (λ i. if_ok-bind _ (operand sight y) _ (λ n. tt))
   makes_same (instrs.Len d a) valid = if_ok-bind _ (reference_in (register sight a)) _ (λ i. tt)
   makes_same (instrs.Isp d a) valid = tt
   makes_same (instrs.Get d y) valid = if_ok-bind _ (board_place sight y) _ (λ n. tt)

@@ -20,8 +20,8 @@ use Rattle.mutator_asm.specs.declared.operand.Operand.{Operand}
 use Rattle.mutator_asm.specs.declared.operand.Operand.TheVariants as operands
 use Rattle.mutator_asm.specs.Program.{is_valid, is_register, is_operand}
 use Rattle.plain_heap.specs.declared.action.Action.{Action}
-use Rattle.plain_heap.specs.declared.action.Action.TheVariants.{Sets, Jumps, Links, Prints, Makes, Measures, Loads, Stores, Gets, Puts, Swaps}
-use Rattle.plain_heap.specs.Action.{◌>>=◌, register, as_number, reference_in, is_zero, is_reference, are_same, operand, next_of, length_of, on_board, board_place, computes, allocates, prints, action}
+use Rattle.plain_heap.specs.declared.action.Action.TheVariants.{Sets, Jumps, Links, Prints, Makes, Measures, Loads, Stores, Exchanges, Gets, Puts, Swaps}
+use Rattle.plain_heap.specs.Action.{◌>>=◌, register, as_number, reference_in, is_zero, is_reference, are_same, operand, next_of, length_of, on_board, board_place, computes, allocates, prints, action, mixed_length, mixes}
 
 -- ---- what the plain machine has for what a worker sees
 
@@ -38,6 +38,7 @@ plain_action identity (Makes kind d n) = Makes kind d n
 plain_action identity (Measures d i) = Measures d (identity i.serial)
 plain_action identity (Loads d i x) = Loads d (identity i.serial) x
 plain_action identity (Stores i x v) = Stores (identity i.serial) x (plain_value identity v)
+plain_action identity (Exchanges d i x expected v) = Exchanges d (identity i.serial) x (plain_value identity expected) (plain_value identity v)
 plain_action identity (Gets d x) = Gets d x
 plain_action identity (Puts x v) = Puts x (plain_value identity v)
 plain_action identity (Swaps d x v) = Swaps d x (plain_value identity v)
@@ -121,6 +122,10 @@ module _ (identity : ℕ → Identity) (m q : Mutator) (alike : AreAlikeBy ident
   allocated : (kind : Kind) (d : ℕ) (x : Operand) → is_operand x ≡ true → Same (allocates m kind d x) (allocates q kind d x)
   allocated kind d x valid = with_operand x valid _ _ (λ n. through (length_of n) _ _ (λ len. refl))
 
+  mixed : (d : ℕ) (fields raw : Operand) → is_operand fields ≡ true → is_operand raw ≡ true → Same (mixes m d fields raw) (mixes q d fields raw)
+  mixed d fields raw valid_fields valid_raw =
+      with_operand fields valid_fields _ _ (λ f. with_operand raw valid_raw _ _ (λ r. through (mixed_length f r) _ _ (λ len. refl)))
+
   printing : (n : ℕ) (few : Bool) → Same (cond few (Ok (Prints n)) (Err OutputFull)) (cond few (Ok (Prints n)) (Err OutputFull))
   printing n true = refl
   printing n false = refl
@@ -161,12 +166,19 @@ module _ (identity : ℕ → Identity) (m q : Mutator) (alike : AreAlikeBy ident
   acts_alike (instrs.Jr a) valid = with_number a (is_small a valid) _ _ (λ n. refl)
   acts_alike (instrs.New d x) valid = allocated Fields d x (second d _ valid)
   acts_alike (instrs.Raw d x) valid = allocated Raw d x (second d _ valid)
+  acts_alike (instrs.Mix d fields raw) valid = let l = and_parts (is_register d && is_operand fields) (is_operand raw) valid in mixed d fields raw (second d (is_operand fields) l.0) l.1
   acts_alike (instrs.Ld d a x) valid = let l = and_parts (is_register d && is_register a) (is_operand x) valid in
       with_reference a (is_small a (second d (is_register a) l.0)) _ _ (λ i. with_operand x l.1 _ _ (λ n. refl))
   acts_alike (instrs.St a x b) valid =
       let l = and_parts (is_register a && is_operand x) (is_register b) valid in
       let n = and_parts (is_register a) (is_operand x) l.0 in
       with_reference a (is_small a n.0) _ _ (λ i. with_operand x n.1 _ _ (λ y. ap (λ (v : Value). Ok (Stores (identity i.serial) y v)) (alike.values b (is_small b l.1))))
+  acts_alike (instrs.Cas d a x b c) valid =
+      let all = and_parts (is_register d && is_register a && is_operand x && is_register b) (is_register c) valid in
+      let l = and_parts (is_register d && is_register a && is_operand x) (is_register b) all.0 in
+      let n = and_parts (is_register d && is_register a) (is_operand x) l.0 in
+      with_reference a (is_small a (second d (is_register a) n.0)) _ _ (λ i. with_operand x n.1 _ _ (λ y.
+      λ t. Ok (Exchanges d (identity i.serial) y (alike.values b (is_small b l.1) t) (alike.values c (is_small c all.1) t))))
   acts_alike (instrs.Len d a) valid = with_reference a (is_small a (second d _ valid)) _ _ (λ i. refl)
   acts_alike (instrs.Isp d a) valid =
       ap (λ (is : Bool). Ok (Sets d (Number (one_if is)))) (ap is_reference (alike.values a (is_small a (second d _ valid))) ∙ same_reference identity (register m a))

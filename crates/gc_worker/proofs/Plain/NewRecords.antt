@@ -1,12 +1,16 @@
 -- A worker that executes an instruction which makes a record: the record's header, and the pages that it needs.
-use Rattle.std.proofs.Common.{◌≡◌, ℕ, ◌+◌, ◌≤◌, Some, None, Result, Ok, Err, ap, subst, ◌∙◌}
+use Rattle.std.proofs.Common.{◌≡◌, ℕ, ◌+◌, ◌<◌, ◌≤◌, refl, Some, None, Result, Ok, Err, ap, subst, ◌∙◌, arith}
 use Rattle.std.proofs.lemmas.List.{length-replicate}
 use Rattle.std.specs.Bool.{⊤}
 use Rattle.std.specs.Option.{option_and_then, option_map}
 use Rattle.std.specs.Result.{IfOk}
 use Rattle.plain_state.specs.declared.end.End.{End}
+use Rattle.plain_state.specs.declared.kind.Kind.{Kind}
+use Rattle.plain_state.specs.declared.kind.Kind.TheVariants.{Fields, Raw, Mixed}
+use Rattle.heap_words.specs.declared.kind.Kind.TheVariants as headers
 use Rattle.plain_state.specs.declared.sizes.TheConstants.{LONGEST_RECORD}
 use Rattle.plain_state.specs.declared.value.Value.TheVariants.{Number}
+use Rattle.plain_state.specs.Layout.{values_at}
 use Rattle.plain_state.specs.Operation.{applied}
 use Rattle.plain_state.specs.State.{Mutator}
 use Rattle.mutator_asm.specs.declared.instr.Instr.{Instr}
@@ -15,13 +19,17 @@ use Rattle.plain_heap.specs.declared.action.Action.{Action}
 use Rattle.plain_heap.specs.declared.action.Action.TheVariants.{Makes}
 use Rattle.plain_heap.specs.Action.{action}
 use Rattle.plain_heap.specs.Step.{new_record, record_made, pages_of}
-use Rattle.plain_heap.proofs.Calls.Named.{Spells, Names, named}
+use Rattle.plain_heap.proofs.Calls.Named.{FitsKind, Spells, Names, named}
 use Rattle.record_layout.specs.declared.header.Header.{Header}
 use Rattle.record_layout.proofs.Rereading.{header_in-header_says}
 use Rattle.alloc_end.specs.Place.{size_of, pages_for}
-use Rattle.heap_state.specs.Invariant.Ghost.{header_kind}
+use Rattle.alloc_end.specs.Soundness.{HoldsFields}
+use Rattle.heap_state.specs.Memory.FieldSpan.{fields_end}
+use Rattle.heap_state.specs.Invariant.Ghost.{header_kind, header_len}
+use Rattle.heap_state.proofs.Records.Layouts.{values_behind_header}
 use Rattle.gc_worker.specs.Workers.Fits.{Fits, IsMaking}
-use Rattle.gc_worker.specs.Workers.Held.{Held, making_for, header_of, header_for, pages_asked, pages_needed}
+use Rattle.gc_worker.specs.Workers.Held.{Held, making_for, header_of, header_for, fields_of, fields_made, fields_for, pages_asked, pages_needed}
+use Rattle.gc_worker.specs.Workers.Knows.{kind_with}
 use Rattle.gc_worker.specs.Plain.Seen.{Making, making_in, seen}
 
 -- ---- no record is too long
@@ -47,8 +55,10 @@ spelled (instrs.Jal d target) = tt
 spelled (instrs.Jr a) = tt
 spelled (instrs.New d x) = tt
 spelled (instrs.Raw d x) = tt
+spelled (instrs.Mix d fields raw) = tt
 spelled (instrs.Ld d a x) = tt
 spelled (instrs.St a x b) = tt
+spelled (instrs.Cas d a x b c) = tt
 spelled (instrs.Len d a) = tt
 spelled (instrs.Isp d a) = tt
 spelled (instrs.Get d x) = tt
@@ -57,10 +67,37 @@ spelled (instrs.Swap d x) = tt
 spelled (instrs.Out a) = tt
 spelled instrs.Halt = tt
 
-pub makes_short : (q : Mutator) (i : Instr) (m : Making) → action q i ≡ Ok (Makes m.kind m.into m.len) → m.len ≤ LONGEST_RECORD
+pub makes_short : (q : Mutator) (i : Instr) (m : Making) → action q i ≡ Ok (Makes m.kind m.into m.len) → FitsKind m.kind m.len
 makes_short q i m is =
     subst (λ (o : Result Action End). IfOk o (Names (λ v. ⊤) ⊤ q)) is
     (named (λ v. ⊤) ⊤ q (λ r. tt) tt (λ b. tt) (λ operation a b is_a is_b. computed (applied operation a b)) i (spelled i))
+
+-- nor is its header's length
+pub header_short : (kind : Kind) (n : ℕ) → FitsKind kind n → header_len kind n ≤ LONGEST_RECORD
+header_short Fields n fits = omega (arith, fits)
+header_short Raw n fits = omega (arith, fits)
+header_short (Mixed fields) n fits = omega (arith, fits)
+
+-- it holds its fields
+pub fields_held : (kind : Kind) (n : ℕ) → FitsKind kind n → fields_end kind (header_len kind n + 1) ≤ header_len kind n + 1
+fields_held Fields n fits = omega arith
+fields_held Raw n fits = omega arith
+fields_held (Mixed fields) n fits = omega (arith, fits)
+
+holds_by : (kind : Kind) (n : ℕ) → FitsKind kind n → header_kind kind ≡ headers.Mixed → fields_of kind < header_len kind n
+holds_by Fields n fits mixed = absurd (cc)
+holds_by Raw n fits mixed = absurd (cc)
+holds_by (Mixed fields) n fits mixed = omega (arith, fits)
+
+-- its kind is the one that its header says, with its fields
+pub kind_said : (kind : Kind) → kind_with (header_kind kind) (fields_of kind) ≡ kind
+kind_said Fields = refl
+kind_said Raw = refl
+kind_said (Mixed fields) = refl
+
+-- with the header it has as many words as the plain record
+pub sized : (kind : Kind) (n : ℕ) → n + values_at kind ≡ header_len kind n + 1
+sized kind n = omega (arith, values_behind_header kind)
 
 -- ---- the record that a worker makes
 
@@ -74,19 +111,29 @@ module _ (x : Held) (making : IsMaking x.account x.registers x.task) where
   pub made_is : making_for x x.task ≡ Some made
   made_is = ap (making_for x) making.executes.task_is ∙ made_as
 
+  pub fits_kind : FitsKind made.kind made.len
+  fits_kind = makes_short (seen x.account x.registers) making.executes.instr made making.executes.acts
+
   -- its header
   abbrev pub header_made : Header
   header_made = record {
     kind = header_kind made.kind;
-    len = made.len;
+    len = header_len made.kind made.len;
     serial = x.account.serial + 1;
     mutator = x.number;
-    short = makes_short (seen x.account x.registers) making.executes.instr made making.executes.acts;
+    short = header_short made.kind made.len fits_kind;
     counted = making.executes.call.serial made made_as;
   }
 
   pub header_is : header_for x ≡ Some header_made
   header_is = ap (option_and_then (header_of x)) made_is ∙ header_in-header_says header_made
+
+  -- the fields that it has if it is mixed
+  pub fields_is : fields_for x ≡ fields_of made.kind
+  fields_is = ap fields_made made_is
+
+  pub holds_fields : HoldsFields header_made (fields_for x)
+  holds_fields mixed = let e = fields_is in let h = holds_by made.kind made.len fits_kind mixed in omega (arith, e, h)
 
   -- the pages that it needs
   pub asked_is : pages_needed x ≡ pages_for (size_of header_made)
@@ -97,7 +144,7 @@ module _ (x : Held) (making : IsMaking x.account x.registers x.task) where
       → option_map pages_of (new_record q making.executes.instr) ≡ Some (pages_for (size_of header_made))
   plain_pages q is =
       ap (λ (o : Result Action End). option_map pages_of (record_made o)) is
-      ∙ ap (λ (n : ℕ). Some (pages_for (n + 1))) (length-replicate made.len (Number 0))
+      ∙ ap (λ (n : ℕ). Some (pages_for (n + values_at made.kind))) (length-replicate made.len (Number 0)) ∙ ap (λ (n : ℕ). Some (pages_for n)) (sized made.kind made.len)
 
 -- a worker that makes a record has its header
 pub makes_header : (n mutators k : ℕ) (x : Held) (f : Fits n mutators k x) (making : IsMaking x.account x.registers x.task) → header_for x ≡ None → ⊥

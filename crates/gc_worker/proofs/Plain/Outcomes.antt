@@ -17,13 +17,13 @@ use Rattle.mutator_asm.specs.declared.instr.Instr.{Instr}
 use Rattle.mutator_asm.specs.Program.{instr_at}
 use Rattle.plain_heap.specs.declared.mark.Mark.TheVariants as marks
 use Rattle.plain_heap.specs.declared.action.Action.{Action}
-use Rattle.plain_heap.specs.declared.action.Action.TheVariants.{Sets, Jumps, Links, Prints, Makes, Measures, Loads, Stores, Gets, Puts, Swaps}
+use Rattle.plain_heap.specs.declared.action.Action.TheVariants.{Sets, Jumps, Links, Prints, Makes, Measures, Loads, Stores, Exchanges, Gets, Puts, Swaps}
 use Rattle.plain_heap.specs.Action.{◌>>=◌, action}
-use Rattle.plain_heap.specs.Call.{After, call, performed, value_in, store_in, may_hold, went_on}
+use Rattle.plain_heap.specs.Call.{After, call, performed, value_in, store_in, may_hold, set_register, went_on}
 use Rattle.plain_heap.specs.Order.{marked, state_after, end_of}
 use Rattle.plain_heap.specs.Step.{fetch, executes, ended, settled, stepped, asked_by, new_record, pages_of}
 use Rattle.plain_heap.proofs.Calls.Counts.{Went, call-went}
-use Rattle.plain_heap.proofs.Calls.Outcomes.{if_ok-bind}
+use Rattle.plain_heap.proofs.Calls.Outcomes.{if_ok-bind, performed_exchange}
 use Rattle.heap_laws.specs.Opening.{opening_plain}
 use Rattle.plain_heap.specs.Order as order
 use Rattle.gc_worker.specs.Plain.Answer.{MayEnd, MayCome, after_outcome}
@@ -71,6 +71,15 @@ module _ (m : ℕ) (heap : Heap) (k : Mutator) (made : m < length heap.records) 
   abbrev Counted : After → Type 0
   Counted a = serial_of a.heap m ≤ serial_of heap m + 1
 
+  -- a store makes no record
+  stores : (l : Mutator) (i : Identity) (x : ℕ) (v : Value) (o : Option Record) → record_of heap i ≡ o → IfOk (store_in heap i o x v >>= (λ h. Ok (record { heap = h; mutator = l }))) Counted
+  stores l i x v None e = tt
+  stores l i x v (Some r) e = by_held (may_hold r.kind x v)
+    where
+      by_held : (o : Result Value End) → IfOk ((o >>= (λ v. Ok (stored heap i r x v))) >>= (λ h. Ok (record { heap = h; mutator = l }))) Counted
+      by_held (Ok y) = let z = stored_serial heap i r x y e m in omega (arith, z)
+      by_held (Err why) = tt
+
   performed-counted : (act : Action) → IfOk (performed m heap k act) Counted
   performed-counted (Sets d v) = omega arith
   performed-counted (Jumps target) = omega arith
@@ -79,15 +88,9 @@ module _ (m : ℕ) (heap : Heap) (k : Mutator) (made : m < length heap.records) 
   performed-counted (Makes kind d n) = let g = gained_serial heap m (zeros kind n) made in omega (arith, g)
   performed-counted (Measures d i) = omega arith
   performed-counted (Loads d i x) = if_ok-bind Counted (value_in heap i x) _ (λ v. omega arith)
-  performed-counted (Stores i x v) = if_ok-bind Counted (value_in heap i x) _ (λ old. stores i x v (record_of heap i) refl)
-    where
-      stores : (i : Identity) (x : ℕ) (v : Value) (o : Option Record) → record_of heap i ≡ o → IfOk (store_in heap i o x v >>= (λ h. Ok (record { heap = h; mutator = went_on k }))) Counted
-      stores i x v None e = tt
-      stores i x v (Some r) e = by_held (may_hold r.kind v)
-        where
-          by_held : (o : Result Value End) → IfOk ((o >>= (λ v. Ok (stored heap i r x v))) >>= (λ h. Ok (record { heap = h; mutator = went_on k }))) Counted
-          by_held (Ok y) = let z = stored_serial heap i r x y e m in omega (arith, z)
-          by_held (Err why) = tt
+  performed-counted (Stores i x v) = if_ok-bind Counted (value_in heap i x) _ (λ old. stores (went_on k) i x v (record_of heap i) refl)
+  performed-counted (Exchanges d i x expected v) =
+      performed_exchange m heap k d i x expected v Counted (omega arith) (stores (went_on (set_register k d (Number 1))) i x v (record_of heap i) refl)
   performed-counted (Gets d x) = omega arith
   performed-counted (Puts x v) = omega arith
   performed-counted (Swaps d x v) = omega arith

@@ -1,5 +1,6 @@
--- The record that an instruction makes: `new` and `raw` make one, of the length that their operand names, and no other does.
+-- The record that an instruction makes: `new`, `raw` and `mix` make one, of the length that their operands name, and no other does.
 use Rattle.std.proofs.Common.{◌≡◌, ℕ, Bool, true, false, Option, Some, None, Result, Ok, Err, nat_lt, if◌then◌else◌, length, refl, sym, ap, ◌∙◌}
+use Rattle.mutator_asm.specs.declared.operand.Operand.{Operand}
 use Rattle.mutator_asm.specs.declared.instr.Instr.{Instr}
 use Rattle.mutator_asm.specs.declared.instr.Instr.TheVariants as instrs
 use Rattle.plain_state.specs.declared.end.End.{End}
@@ -11,14 +12,14 @@ use Rattle.plain_state.specs.declared.sizes.TheConstants.{MOST_PRINTED}
 use Rattle.plain_state.specs.Operation.{applied}
 use Rattle.plain_state.specs.State.{Mutator}
 use Rattle.plain_heap.specs.declared.action.Action.{Action}
-use Rattle.plain_heap.specs.declared.action.Action.TheVariants.{Prints}
-use Rattle.plain_heap.specs.Action.{◌>>=◌, action, allocates, board_place, computes, as_number, operand, reference_in, register}
+use Rattle.plain_heap.specs.declared.action.Action.TheVariants.{Makes, Prints}
+use Rattle.plain_heap.specs.Action.{◌>>=◌, action, allocates, board_place, computes, as_number, mixed_length, mixes, operand, reference_in, register}
 use Rattle.gc_worker.specs.declared.task.due.Due.{Due}
 use Rattle.gc_worker.specs.declared.task.due.Due.TheVariants as dues
 use Rattle.gc_worker.specs.declared.task.Task.{Task}
 use Rattle.gc_worker.specs.declared.task.Task.TheVariants.{Calls}
 use Rattle.gc_worker.specs.Workers.Fits.{IsMaking}
-use Rattle.gc_worker.specs.Plain.Seen.{Making, making_in, seen}
+use Rattle.gc_worker.specs.Plain.Seen.{Making, making_in, mixed_made, mixed_named, seen}
 use Rattle.gc_worker.specs.Steps.Stepped.{task_due}
 use Rattle.gc_worker.specs.Workers.Held.{Held, making_for}
 use Rattle.gc_worker.proofs.Plain.NewRecords.{made_is}
@@ -35,10 +36,32 @@ prints_no_record : (n : ℕ) (few : Bool) → making_in (if few then Ok (Prints 
 prints_no_record n true = refl
 prints_no_record n false = refl
 
+-- the action that makes a mixed record of these fields and this length
+abbrev made_mixed : (d : ℕ) → ℕ × ℕ → Result Action End
+made_mixed d m = Ok (Makes (kinds.Mixed m.0) d m.1)
+
+-- `mix` makes a record of the fields and the length that its operands name
+pub mixed_makes : (q : Mutator) (d : ℕ) (fields raw : Operand) → mixes q d fields raw ≡ (mixed_named q fields raw >>= (λ m. Ok (Makes (kinds.Mixed m.0) d m.1)))
+mixed_makes q d fields raw = by_fields (operand q fields)
+  where
+    by_length : (f : ℕ) (o : Result ℕ End) → (o >>= (λ n. Ok (Makes (kinds.Mixed f) d n))) ≡ ((o >>= (λ n. Ok (f, n))) >>= made_mixed d)
+    by_length f (Ok n) = refl
+    by_length f (Err why) = refl
+
+    by_raw : (f : ℕ) (o : Result ℕ End) → (o >>= (λ r. mixed_length f r >>= (λ n. Ok (Makes (kinds.Mixed f) d n)))) ≡ ((o >>= (λ r. mixed_length f r >>= (λ n. Ok (f, n)))) >>= made_mixed d)
+    by_raw f (Ok r) = by_length f (mixed_length f r)
+    by_raw f (Err why) = refl
+
+    by_fields : (o : Result ℕ End) → (o >>= (λ f. operand q raw >>= (λ r. mixed_length f r >>= (λ n. Ok (Makes (kinds.Mixed f) d n)))))
+        ≡ ((o >>= (λ f. operand q raw >>= (λ r. mixed_length f r >>= (λ n. Ok (f, n))))) >>= made_mixed d)
+    by_fields (Ok f) = by_raw f (operand q raw)
+    by_fields (Err why) = refl
+
 -- what an instruction makes, as the code works it out
 abbrev pub makes_of : Mutator → Instr → Option Making
 makes_of q (instrs.New d x) = making_in (allocates q kinds.Fields d x)
 makes_of q (instrs.Raw d x) = making_in (allocates q kinds.Raw d x)
+makes_of q (instrs.Mix d fields raw) = mixed_made q d fields raw
 makes_of q instr = None
 
 pub made_of : (q : Mutator) (instr : Instr) → making_in (action q instr) ≡ makes_of q instr
@@ -58,8 +81,10 @@ made_of q (instrs.Jal d target) = refl
 made_of q (instrs.Jr a) = no_record_then (as_number (register q a)) _ (λ n. refl)
 made_of q (instrs.New d x) = refl
 made_of q (instrs.Raw d x) = refl
+made_of q (instrs.Mix d fields raw) = ap making_in (mixed_makes q d fields raw)
 made_of q (instrs.Ld d a x) = no_record_then (reference_in (register q a)) _ (λ i. no_record_then (operand q x) _ (λ n. refl))
 made_of q (instrs.St a x b) = no_record_then (reference_in (register q a)) _ (λ i. no_record_then (operand q x) _ (λ n. refl))
+made_of q (instrs.Cas d a x b c) = no_record_then (reference_in (register q a)) _ (λ i. no_record_then (operand q x) _ (λ n. refl))
 made_of q (instrs.Len d a) = no_record_then (reference_in (register q a)) _ (λ i. refl)
 made_of q (instrs.Isp d a) = refl
 made_of q (instrs.Get d x) = no_record_then (board_place q x) _ (λ n. refl)

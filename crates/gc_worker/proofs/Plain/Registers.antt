@@ -87,7 +87,7 @@ points identity a i e = by_word (decode (pointer_word a)) refl e
 
 -- ---- values
 
-are_same-true : (v y : Value) → are_same v y ≡ true → v ≡ y
+pub are_same-true : (v y : Value) → are_same v y ≡ true → v ≡ y
 are_same-true (Number m) (Number n) e = ap Number (eqb-true m n e)
 are_same-true (Number m) (Reference j) e = absurd (let e = e in cc)
 are_same-true (Reference i) (Number n) e = absurd (let e = e in cc)
@@ -97,7 +97,7 @@ are_same-true (Reference i) (Reference j) e =
     let serial = eqb-true i.serial j.serial l.1 in
     λ t. Reference (record { mutator = mutator t; serial = serial t })
 
-same-are : (v : Value) → are_same v v ≡ true
+pub same-are : (v : Value) → are_same v v ≡ true
 same-are (Number n) = eq-eqb n n refl
 same-are (Reference i) = and_from (i.mutator == i.mutator) (i.serial == i.serial) (eq-eqb i.mutator i.mutator refl) (eq-eqb i.serial i.serial refl)
 
@@ -236,8 +236,10 @@ module _ (c : Configuration) (p : Plain) (s : Stands c p) (k : ℕ) (x : Held) (
     spells (instrs.Jr a) valid = tt
     spells (instrs.New d y) valid = tt
     spells (instrs.Raw d y) valid = tt
+    spells (instrs.Mix d y z) valid = tt
     spells (instrs.Ld d a y) valid = tt
     spells (instrs.St a y b) valid = tt
+    spells (instrs.Cas d a y b e) valid = tt
     spells (instrs.Len d a) valid = tt
     spells (instrs.Isp d a) valid = tt
     spells (instrs.Get d y) valid = tt

@@ -16,8 +16,8 @@ use Rattle.mutator_asm.specs.declared.instr.Instr.TheVariants as instrs
 use Rattle.mutator_asm.specs.declared.operand.Operand.{Operand}
 use Rattle.mutator_asm.specs.Program.{is_valid, is_register, is_operand}
 use Rattle.plain_heap.specs.declared.action.Action.{Action}
-use Rattle.plain_heap.specs.declared.action.Action.TheVariants.{Sets, Links, Makes, Measures, Loads, Gets, Swaps}
-use Rattle.plain_heap.specs.Action.{register, as_number, reference_in, operand, length_of, board_place, computes, allocates, prints, action}
+use Rattle.plain_heap.specs.declared.action.Action.TheVariants.{Sets, Links, Makes, Measures, Loads, Exchanges, Gets, Swaps}
+use Rattle.plain_heap.specs.Action.{register, as_number, reference_in, operand, length_of, board_place, computes, allocates, prints, action, mixed_length, mixes}
 use Rattle.plain_heap.proofs.Calls.Outcomes.{if_ok-bind}
 
 -- where it writes one
@@ -27,6 +27,7 @@ WritesRegister (Links d target) = d < REGISTERS
 WritesRegister (Makes kind d n) = d < REGISTERS
 WritesRegister (Measures d i) = d < REGISTERS
 WritesRegister (Loads d i x) = d < REGISTERS
+WritesRegister (Exchanges d i x expected v) = d < REGISTERS
 WritesRegister (Gets d x) = d < REGISTERS
 WritesRegister (Swaps d x v) = d < REGISTERS
 WritesRegister act = ⊤
@@ -47,6 +48,10 @@ module _ (q : Mutator) where
 
   allocated : (kind : Kind) (d : ℕ) (x : Operand) → d < REGISTERS → Writes (allocates q kind d x)
   allocated kind d x small = if_ok-bind WritesRegister (operand q x) _ (λ y. if_ok-bind WritesRegister (length_of y) _ (λ n. small))
+
+  mixed : (d : ℕ) (fields raw : Operand) → d < REGISTERS → Writes (mixes q d fields raw)
+  mixed d fields raw small =
+      if_ok-bind WritesRegister (operand q fields) _ (λ f. if_ok-bind WritesRegister (operand q raw) _ (λ r. if_ok-bind WritesRegister (mixed_length f r) _ (λ n. small)))
 
   printed : (n : ℕ) (few : Bool) → nat_lt (length q.printed) MOST_PRINTED ≡ few → Writes (prints q n)
   printed n true few = rw few tt
@@ -69,8 +74,13 @@ module _ (q : Mutator) where
   writes_register (instrs.Jr a) valid = if_ok-bind WritesRegister (as_number (register q a)) _ (λ n. tt)
   writes_register (instrs.New d x) valid = allocated Fields d x (first d _ valid)
   writes_register (instrs.Raw d x) valid = allocated Raw d x (first d _ valid)
+  writes_register (instrs.Mix d fields raw) valid = mixed d fields raw (first d (is_operand fields) (and_parts (is_register d && is_operand fields) (is_operand raw) valid).0)
   writes_register (instrs.Ld d a x) valid = if_ok-bind WritesRegister (reference_in (register q a)) _ (λ i. if_ok-bind WritesRegister (operand q x) _ (λ y. first_of_three d a (is_operand x) valid))
   writes_register (instrs.St a x b) valid = if_ok-bind WritesRegister (reference_in (register q a)) _ (λ i. if_ok-bind WritesRegister (operand q x) _ (λ y. tt))
+  writes_register (instrs.Cas d a x b c) valid =
+      let l = and_parts (is_register d && is_register a && is_operand x && is_register b) (is_register c) valid in
+      let n = and_parts (is_register d && is_register a && is_operand x) (is_register b) l.0 in
+      if_ok-bind WritesRegister (reference_in (register q a)) _ (λ i. if_ok-bind WritesRegister (operand q x) _ (λ y. first_of_three d a (is_operand x) n.0))
   writes_register (instrs.Len d a) valid = if_ok-bind WritesRegister (reference_in (register q a)) _ (λ i. first d _ valid)
   writes_register (instrs.Isp d a) valid = first d _ valid
   writes_register (instrs.Get d x) valid = if_ok-bind WritesRegister (board_place q x) _ (λ y. first d _ valid)

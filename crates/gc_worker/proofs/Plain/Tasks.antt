@@ -16,7 +16,7 @@ use Rattle.mutator_asm.specs.declared.operand.Operand.{Operand}
 use Rattle.mutator_asm.specs.declared.operand.Operand.TheVariants as operands
 use Rattle.plain_heap.specs.declared.action.Action.{Action}
 use Rattle.plain_heap.specs.declared.action.Action.TheVariants.{Makes}
-use Rattle.plain_heap.specs.Action.{◌>>=◌, action, allocates, length_of, operand, register, as_number}
+use Rattle.plain_heap.specs.Action.{◌>>=◌, action, allocates, length_of, mixed_length, operand, register, as_number}
 use Rattle.heap_state.specs.Worker.{Account}
 use Rattle.gc_worker.proofs.Plain.RecordsMade.{makes_of, made_of}
 use Rattle.gc_worker.specs.declared.stage.after.After.{After}
@@ -24,7 +24,7 @@ use Rattle.gc_worker.specs.declared.stage.after.After.TheVariants as afters
 use Rattle.gc_worker.specs.declared.task.Task.{Task}
 use Rattle.gc_worker.specs.declared.task.Task.TheVariants.{Calls, Stops}
 use Rattle.gc_worker.specs.Workers.Fits.{FitsCall, MayBegin, IsMaking}
-use Rattle.gc_worker.specs.Plain.Seen.{Making, making_in, seen, seen_as, value_seen}
+use Rattle.gc_worker.specs.Plain.Seen.{Making, making_in, mixed_made, seen, seen_as, value_seen}
 
 abbrev TaskAfter : Account → List ℕ → Option Task → After → Type 0
 TaskAfter account registers task afters.Looks = MayBegin account registers task
@@ -32,14 +32,25 @@ TaskAfter account registers task afters.Places = IsMaking account registers task
 
 -- ---- the record that an instruction makes
 
+-- the fields and the length of a mixed record of so many fields and raw words, and the record
+abbrev mixed_of : (fields raw : Result ℕ End) → Result (ℕ × ℕ) End
+mixed_of fields raw = fields >>= (λ f. raw >>= (λ r. mixed_length f r >>= (λ n. Ok (f, n))))
+
+abbrev mixed_by : (d : ℕ) (fields raw : Result ℕ End) → Option Making
+mixed_by d fields raw = making_in (mixed_of fields raw >>= (λ m. Ok (Makes (kinds.Mixed m.0) d m.1)))
+
 -- two mutators whose operands are the same make the same record
 module _ (k j : Mutator) (same : (x : Operand) → operand k x ≡ operand j x) where
   allocates_same : (kind : Kind) (d : ℕ) (x : Operand) → making_in (allocates k kind d x) ≡ making_in (allocates j kind d x)
   allocates_same kind d x = ap (λ (o : Result ℕ End). making_in (o >>= (λ n. length_of n >>= (λ len. Ok (Makes kind d len))))) (same x)
 
+  mixes_same : (d : ℕ) (fields raw : Operand) → mixed_made k d fields raw ≡ mixed_made j d fields raw
+  mixes_same d fields raw = ap (λ (o : Result ℕ End). mixed_by d o (operand k raw)) (same fields) ∙ ap (mixed_by d (operand j fields)) (same raw)
+
   makes_of_same : (i : Instr) → makes_of k i ≡ makes_of j i
   makes_of_same (instrs.New d x) = allocates_same kinds.Fields d x
   makes_of_same (instrs.Raw d x) = allocates_same kinds.Raw d x
+  makes_of_same (instrs.Mix d fields raw) = mixes_same d fields raw
   makes_of_same i = refl
 
   makes_same : (i : Instr) → making_in (action k i) ≡ making_in (action j i)

@@ -1,9 +1,11 @@
 -- A reply that takes a machine on leaves it less to do: of passages, flips, openings, allocations and accesses. Copies and scans have files
 -- of their own, claims and rounds are told of in their crates.
-use Rattle.std.proofs.Common.{◌≡◌, ℕ, ◌+◌, ◌-◌, ◌*◌, ◌<◌, Bool, true, false, cond, Option, Some, None, is_some, arith}
+use Rattle.std.proofs.Common.{◌≡◌, ℕ, ◌+◌, ◌-◌, ◌*◌, ◌<◌, ◌≤◌, Bool, true, false, cond, Option, Some, None, is_some, arith}
 use Rattle.std.proofs.lemmas.Bool.Decides.{nat_tests}
 use Rattle.atom_store.specs.declared.reply.Reply.{Reply}
 use Rattle.atom_store.specs.declared.reply.Reply.TheVariants.{Value, Done, Won}
+use Rattle.heap_words.specs.declared.kind.Kind.{Kind}
+use Rattle.heap_words.specs.declared.kind.Kind.TheVariants.{Fields, Raw, Mixed}
 use Rattle.space_map.specs.declared.area_word.AreaWord.{AreaWord}
 use Rattle.space_map.specs.declared.gate_word.GateWord.{GateWord}
 use Rattle.space_map.specs.AreaWord.{decode_area}
@@ -89,20 +91,25 @@ module _ (p : place.Placing) where
   abbrev asked : ℕ
   asked = place.pages_for (place.size_of p.header)
 
-  by_fits : (traced : Bool) (area : AreaWord) (b : Bool) → place.left_at asked (cond b (place_stage.ExchangesArea (record { traced = traced; area = area })) (place_stage.Ended (Full (place.shortage traced p.header area)))) < 65 * asked + 3
+  by_fits : (traced : Bool) (area : AreaWord) (b : Bool) → place.left_at asked (cond b (place_stage.ExchangesArea (record { traced = traced; area = area })) (place_stage.Ended (Full (place.shortage traced p.header area)))) < 65 * asked + 4
   by_fits traced area true = omega arith
   by_fits traced area false = omega arith
 
-  by_place_area : (traced : Bool) (o : Option AreaWord) → is_some o ≡ true → place.left_at asked (place.looked_at_area p traced o) < 65 * asked + 3
+  by_place_area : (traced : Bool) (o : Option AreaWord) → is_some o ≡ true → place.left_at asked (place.looked_at_area p traced o) < 65 * asked + 4
   by_place_area traced (Some area) t = by_fits traced area (place.fits traced (place.words_for p.header) area)
   by_place_area traced None t = absurd (cc)
 
   by_cleared : (new : NewPages) → FitsPlaceStage p.layout.pages asked p.run p.header (place_stage.StoresZero new)
-      → place.left_at asked (place.cleared (place.words_for p.header) new) < 65 * asked + 1 - (new.next - new.first)
+      → place.left_at asked (place.cleared (place.words_for p.header) new) < 65 * asked + 2 - (new.next - new.first)
   by_cleared new fits = grind (arith, nat_tests)
 
-  by_opened : (new : NewPages) → FitsPlaceStage p.layout.pages asked p.run p.header (place_stage.OpensPage new) → place.left (place.after_opening p new) < asked + 1 - (new.next - page_of new.first)
-  by_opened new fits = grind (arith, nat_tests)
+  by_first : (kind : Kind) → place.left_at asked (place.stores_first kind) ≤ 2
+  by_first Fields = omega arith
+  by_first Raw = omega arith
+  by_first Mixed = omega arith
+
+  by_opened : (new : NewPages) → FitsPlaceStage p.layout.pages asked p.run p.header (place_stage.OpensPage new) → place.left (place.after_opening p new) < asked + 2 - (new.next - page_of new.first)
+  by_opened new fits = let first = by_first p.header.kind in grind (arith, nat_tests, first)
 
   pub allocations_lower : (stage : PlaceStage) (r : Reply) → FitsPlaceStage p.layout.pages asked p.run p.header stage → place.advances_at stage r ≡ true
       → place.left (place.taken_at p stage r) < place.left_at asked stage
@@ -111,5 +118,6 @@ module _ (p : place.Placing) where
   allocations_lower (place_stage.ExchangesArea f) Won fits t = omega arith
   allocations_lower (place_stage.StoresZero new) Done fits t = by_cleared new fits
   allocations_lower (place_stage.OpensPage new) Done fits t = by_opened new fits
+  allocations_lower place_stage.StoresCount Done fits t = omega arith
   allocations_lower place_stage.StoresHeader Done fits t = omega arith
   allocations_lower stage r fits t = cc

@@ -1,6 +1,7 @@
 -- What a step may read, by its machine's stage: a word that takes the machine on, or that of another worker which copies the record; or its
 -- exchange is lost.
-use Rattle.std.proofs.Common.{◌≡◌, ◌≢◌, ℕ, zero, suc, ◌*◌, ◌<◌, ◌≤◌, ◌==◌, ◌||◌, Bool, true, false, cond, Some, is_some, slice_index, refl, sym, ap, subst, ◌∙◌, arith}
+use Rattle.std.specs.Bool.{⊤}
+use Rattle.std.proofs.Common.{◌≡◌, ◌≢◌, ℕ, zero, suc, ◌+◌, ◌*◌, ◌<◌, ◌≤◌, ◌==◌, ◌||◌, Bool, true, false, cond, Some, is_some, slice_index, refl, sym, ap, subst, ◌∙◌, arith}
 use Rattle.std.proofs.lemmas.Option.{same_Some}
 use Rattle.plain_state.specs.State.{Plain}
 use Rattle.atom_store.specs.declared.reply.Reply.{Reply}
@@ -9,7 +10,7 @@ use Rattle.atom_store.specs.declared.step.Step.{Step}
 use Rattle.atom_store.specs.declared.step.Step.TheVariants.{Load}
 use Rattle.atom_store.specs.declared.turn.Turn.TheVariants.{More}
 use Rattle.atom_store.specs.Step.{reply_of}
-use Rattle.heap_words.specs.Decoded.{Decoded, BusyWord, decode}
+use Rattle.heap_words.specs.Decoded.{Decoded, BusyWord, decode, number_in}
 use Rattle.heap_words.specs.FirstWords.{is_header, is_forward}
 use Rattle.space_map.specs.AreaWord.{decode_area}
 use Rattle.space_map.specs.GateWord.{decode_gate}
@@ -38,6 +39,7 @@ use Rattle.gate_core.specs.Gate as gate
 use Rattle.page_scan.specs.declared.scan_stage.ScanStage.{ScanStage}
 use Rattle.page_scan.specs.declared.scan_stage.ScanStage.TheVariants as scan_stage
 use Rattle.page_scan.specs.Left as scan_left
+use Rattle.page_scan.specs.Taken.{is_count}
 use Rattle.page_scan.specs.Scanning as scan
 use Rattle.page_slots.specs.declared.claim_stage.ClaimStage.{ClaimStage}
 use Rattle.page_slots.specs.declared.claim_stage.ClaimStage.TheVariants as claim_stage
@@ -49,11 +51,13 @@ use Rattle.heap_state.specs.Configuration.{Configuration, Stands, era, memory}
 use Rattle.heap_state.specs.Memory.Table.{word_in}
 use Rattle.heap_state.proofs.Table.Places.{word_in-row}
 use Rattle.heap_laws.specs.Answers.{OldHeader, InPlace, KeptBy, Forwards}
-use Rattle.page_scan.specs.declared.scanned_record.ScannedRecord.{ScannedRecord}
 use Rattle.gc_worker.specs.declared.access.Access.{Access}
 use Rattle.gc_worker.specs.declared.access.access_stage.AccessStage.{AccessStage}
-use Rattle.gc_worker.specs.declared.access.access_stage.AccessStage.TheVariants.{LooksAtRecord, LoadsHeader, LooksAtField, LoadsField, StoresField, LooksAtBoard, LoadsBoard, StoresBoard, LoadsForSwap, SwapsBoard}
+use Rattle.gc_worker.specs.declared.access.access_stage.AccessStage.TheVariants.{LooksAtRecord, LoadsHeader, LooksAtCount, LoadsCount, LooksAtField, LoadsField, StoresField, LoadsForCas, ExchangesField, LooksAtBoard, LoadsBoard, StoresBoard, LoadsForSwap, SwapsBoard}
 use Rattle.gc_worker.specs.declared.access.board_access.BoardSwap.{BoardSwap}
+use Rattle.gc_worker.specs.declared.access.field_access.FieldAccess.{FieldAccess}
+use Rattle.gc_worker.specs.declared.access.field_access.FieldExchange.{FieldExchange}
+use Rattle.gc_worker.specs.declared.access.mixed_access.MixedAccess.{MixedAccess}
 use Rattle.gc_worker.specs.declared.access.record_access.RecordAccess.{RecordAccess}
 use Rattle.gc_worker.specs.Steps.Access as access
 use Rattle.gc_worker.proofs.Words.Areas.{area_says, is_space}
@@ -134,6 +138,7 @@ module _ (c : Configuration) (p : Plain) (s : Stands c p) (k : ℕ) where
   placing a (place_stage.ExchangesArea f) q same asked = subst (On (place.advances_at (place_stage.ExchangesArea f))) (same_Some _ q asked) (won_or_lost _ _ _ _ refl)
   placing a (place_stage.StoresZero new) q same asked = subst (On (place.advances_at (place_stage.StoresZero new))) (same_Some _ q asked) (Advances refl)
   placing a (place_stage.OpensPage new) q same asked = subst (On (place.advances_at (place_stage.OpensPage new))) (same_Some _ q asked) (Advances refl)
+  placing a place_stage.StoresCount q same asked = subst (On (place.advances_at place_stage.StoresCount)) (same_Some _ q asked) (Advances refl)
   placing a place_stage.StoresHeader q same asked = subst (On (place.advances_at place_stage.StoresHeader)) (same_Some _ q asked) (Advances refl)
   placing a (place_stage.Ended result) q same asked = absurd (cc)
 
@@ -233,33 +238,50 @@ module _ (c : Configuration) (p : Plain) (s : Stands c p) (k : ℕ) where
     More_at stage = access.told (access.at_stage a stage) (reply_of (its_step stage) c.words) ≡ More
 
     pub accessing : (stage : AccessStage) → More_at stage → ((r : RecordAccess) → stage ≡ LoadsHeader r → access.is_header (decode (word_at a.spaces.pages (HeapWord r.at))) ≡ true)
+        → ((m : MixedAccess) → stage ≡ LoadsCount m → is_some (number_in (decode (word_at a.spaces.pages (HeapWord (access.count_at m))))) ≡ true)
         → On (access.advances_at stage) (its_step stage)
-    accessing (LooksAtRecord r) more header = Advances refl
-    accessing (LoadsHeader r) more header = Advances (header r refl)
-    accessing (LooksAtField f usage) more header = Advances refl
-    accessing (LoadsField f into) more header = absurd (cc)
-    accessing (StoresField f new) more header = absurd (cc)
-    accessing (LooksAtBoard b) more header = Advances refl
-    accessing (LoadsBoard y into) more header = absurd (cc)
-    accessing (StoresBoard y new) more header = absurd (cc)
-    accessing (LoadsForSwap b) more header = Advances refl
-    accessing (SwapsBoard b old) more header = swapped b old (slice_index c.words (place_of a.spaces.pages (HeapWord (access.board_at a.spaces b.word))) == old) more
+    accessing (LooksAtRecord r) more header count = Advances refl
+    accessing (LoadsHeader r) more header count = Advances (header r refl)
+    accessing (LooksAtCount m) more header count = Advances refl
+    accessing (LoadsCount m) more header count = Advances (count m refl)
+    accessing (LooksAtField f usage) more header count = Advances refl
+    accessing (LoadsField f into) more header count = absurd (cc)
+    accessing (StoresField f new) more header count = absurd (cc)
+    accessing (LoadsForCas f e) more header count = Advances refl
+    accessing (ExchangesField f e old) more header count = exchanged f e old (slice_index c.words (place_of a.spaces.pages (HeapWord (access.field_at f))) == old) more
+      where
+        exchanged : (f : FieldAccess) (e : FieldExchange) (old : ℕ) (won : Bool) → access.told (access.at_stage a (ExchangesField f e old)) (cond won Won (Lost (slice_index c.words (place_of a.spaces.pages (HeapWord (access.field_at f)))))) ≡ More
+            → TakesOn (access.advances_at (ExchangesField f e old)) (cond won Won (Lost (slice_index c.words (place_of a.spaces.pages (HeapWord (access.field_at f)))))) (MeetsBusy c k (its_step (ExchangesField f e old)))
+        exchanged f e old true more = absurd (cc)
+        exchanged f e old false more = Loses _ refl
+    accessing (LooksAtBoard b) more header count = Advances refl
+    accessing (LoadsBoard y into) more header count = absurd (cc)
+    accessing (StoresBoard y new) more header count = absurd (cc)
+    accessing (LoadsForSwap b) more header count = Advances refl
+    accessing (SwapsBoard b old) more header count = swapped b old (slice_index c.words (place_of a.spaces.pages (HeapWord (access.board_at a.spaces b.word))) == old) more
       where
         swapped : (b : BoardSwap) (old : ℕ) (won : Bool) → access.told (access.at_stage a (SwapsBoard b old)) (cond won Won (Lost (slice_index c.words (place_of a.spaces.pages (HeapWord (access.board_at a.spaces b.word)))))) ≡ More
             → TakesOn (access.advances_at (SwapsBoard b old)) (cond won Won (Lost (slice_index c.words (place_of a.spaces.pages (HeapWord (access.board_at a.spaces b.word)))))) (MeetsBusy c k (its_step (SwapsBoard b old)))
         swapped b old true more = absurd (cc)
         swapped b old false more = Loses _ refl
 
-  -- ---- scans, but for the headers
+  -- ---- scans, but for the first header
+
+  -- the word of a record that a scan is about to read is the one that has to be there
+  abbrev pub IsThere : (v : scan.Scanning) → ScanStage → Type 0
+  IsThere v (scan_stage.LoadsNext r) = is_header (decode (word_at v.layout.pages (HeapWord r.next))) ≡ true
+  IsThere v (scan_stage.LoadsCount h) = is_count h.size (decode (word_at v.layout.pages (HeapWord (h.at + 1)))) ≡ true
+  IsThere v stage = ⊤
 
   module _ (v : scan.Scanning) (q : Step) (same : v.layout.pages ≡ c.pages) where
     pub scanning : (stage : ScanStage) → scan.wanted_at v.layout v.page v.epoch stage ≡ Some q → ((at : ℕ) → stage ≢ scan_stage.LoadsFirst at)
-        → ((r : ScannedRecord) → stage ≡ scan_stage.LoadsNext r → is_header (decode (word_at v.layout.pages (HeapWord r.next))) ≡ true) → On (scan_left.advances stage) q
-    scanning scan_stage.LoadsCross asked other header = subst (On (scan_left.advances scan_stage.LoadsCross)) (same_Some _ q asked) (Advances refl)
-    scanning (scan_stage.LoadsFirst at) asked other header = absurd (other at refl)
-    scanning (scan_stage.LoadsWord spot) asked other header = subst (On (scan_left.advances (scan_stage.LoadsWord spot))) (same_Some _ q asked) (Advances refl)
-    scanning (scan_stage.Asks ask) asked other header = absurd (cc)
-    scanning (scan_stage.StoresCopy ask to) asked other header = subst (On (scan_left.advances (scan_stage.StoresCopy ask to))) (same_Some _ q asked) (Advances refl)
-    scanning (scan_stage.LoadsFront r) asked other header = subst (On (scan_left.advances (scan_stage.LoadsFront r))) (same_Some _ q asked) (Advances (says_area v.layout.pages same v.epoch))
-    scanning (scan_stage.LoadsNext r) asked other header = subst (On (scan_left.advances (scan_stage.LoadsNext r))) (same_Some _ q asked) (Advances (header r refl))
-    scanning (scan_stage.Ended ending) asked other header = absurd (cc)
+        → IsThere v stage → On (scan_left.advances stage) q
+    scanning scan_stage.LoadsCross asked other there = subst (On (scan_left.advances scan_stage.LoadsCross)) (same_Some _ q asked) (Advances refl)
+    scanning (scan_stage.LoadsFirst at) asked other there = absurd (other at refl)
+    scanning (scan_stage.LoadsCount h) asked other there = subst (On (scan_left.advances (scan_stage.LoadsCount h))) (same_Some _ q asked) (Advances there)
+    scanning (scan_stage.LoadsWord spot) asked other there = subst (On (scan_left.advances (scan_stage.LoadsWord spot))) (same_Some _ q asked) (Advances refl)
+    scanning (scan_stage.Asks ask) asked other there = absurd (cc)
+    scanning (scan_stage.StoresCopy ask to) asked other there = subst (On (scan_left.advances (scan_stage.StoresCopy ask to))) (same_Some _ q asked) (Advances refl)
+    scanning (scan_stage.LoadsFront r) asked other there = subst (On (scan_left.advances (scan_stage.LoadsFront r))) (same_Some _ q asked) (Advances (says_area v.layout.pages same v.epoch))
+    scanning (scan_stage.LoadsNext r) asked other there = subst (On (scan_left.advances (scan_stage.LoadsNext r))) (same_Some _ q asked) (Advances there)
+    scanning (scan_stage.Ended ending) asked other there = absurd (cc)

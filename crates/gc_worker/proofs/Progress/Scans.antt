@@ -1,27 +1,29 @@
 -- A reply that takes the scan of a page on leaves it less to do.
-use Rattle.std.proofs.Common.{◌≡◌, ℕ, ◌+◌, ◌-◌, ◌*◌, ◌<◌, ◌≤◌, ◌==◌, ◌≢◌, Bool, true, false, cond, max, nat_lt, Option, Some, None, is_some, refl, ap, arith}
-use Rattle.std.proofs.lemmas.Bool.{ne_eqb}
+use Rattle.std.proofs.Common.{◌≡◌, ℕ, ◌+◌, ◌-◌, ◌*◌, ◌<◌, ◌≤◌, ◌==◌, ◌≢◌, Bool, true, false, cond, max, nat_lt, Option, Some, None, is_some, refl, ap, arith, ⊎_elim}
+use Rattle.std.proofs.lemmas.Bool.{cases_lt, ne_eqb}
 use Rattle.atom_store.specs.declared.reply.Reply.{Reply}
 use Rattle.atom_store.specs.declared.reply.Reply.TheVariants.{Value, Done}
-use Rattle.heap_words.specs.declared.kind.Kind.{Kind}
+use Rattle.plain_state.specs.declared.kind.Kind.{Kind}
+use Rattle.plain_state.specs.declared.kind.Kind.TheVariants.{Fields, Raw, Mixed}
+use Rattle.heap_words.specs.declared.kind.Kind.{Kind as HeaderKind}
+use Rattle.heap_words.specs.declared.kind.Kind.TheVariants as header_kinds
 use Rattle.heap_words.specs.Decoded.{Decoded, NumberWord, PointerWord, HeaderWord, ForwardWord, BusyWord, Malformed, decode}
 use Rattle.heap_words.specs.FirstWords.{is_header}
 use Rattle.space_map.specs.declared.area_word.AreaWord.{AreaWord}
 use Rattle.space_map.specs.AreaWord.{decode_area}
 use Rattle.space_map.specs.Spaces.{Layout, board_page, first_word, space_start, to_space}
 use Rattle.heap_state.specs.Memory.FieldSpan.{first_field}
-use Rattle.heap_state.specs.Invariant.Ghost.{said_kind}
+use Rattle.page_scan.specs.declared.headed_record.HeadedRecord.{HeadedRecord}
 use Rattle.page_scan.specs.declared.scan_stage.ScanStage.{ScanStage}
-use Rattle.page_scan.specs.declared.scan_stage.ScanStage.TheVariants.{LoadsCross, LoadsFirst, LoadsWord, StoresCopy, LoadsFront, LoadsNext, Ended}
+use Rattle.page_scan.specs.declared.scan_stage.ScanStage.TheVariants.{LoadsCross, LoadsFirst, LoadsCount, LoadsWord, StoresCopy, LoadsFront, LoadsNext, Ended}
 use Rattle.page_scan.specs.declared.scanned_record.ScannedRecord.{ScannedRecord}
 use Rattle.page_scan.specs.declared.spot.Spot.{Spot}
 use Rattle.page_scan.specs.declared.spot.Spot.TheVariants.{OnBoard, InRecord}
 use Rattle.page_scan.specs.Left.{advances, left_at}
 use Rattle.page_scan.specs.Scanning.{address_of}
-use Rattle.page_scan.specs.Soundness.{FitsStage, IsOnPage, NextIsOnPage}
-use Rattle.page_scan.specs.Taken.{by_area, by_header, enters, goes_on_at, passes_word, record_at, scan_end, stage_after}
-use Rattle.page_scan.proofs.Lowering.{by_word-lt}
-use Rattle.page_scan.proofs.Packed.{first_field-is}
+use Rattle.page_scan.specs.Soundness.{FitsStage, IsHeadedOn, IsOnPage, NextIsOnPage}
+use Rattle.page_scan.specs.Taken.{by_area, by_count, by_header, by_kind, enters, is_count, goes_on_at, passes_word, record_at, scan_end, stage_after}
+use Rattle.page_scan.proofs.Lowering.{by_word-lt, counts-before, counts-lt, counts-on}
 
 module _ (l : Layout) (p : ℕ) (in_place : Bool) where
   abbrev end : ℕ
@@ -64,22 +66,36 @@ module _ (l : Layout) (p : ℕ) (in_place : Bool) where
       omega (arith, c)
 
   -- a record is entered
-  enters-lt : (at from : ℕ) (kind : Kind) (len : ℕ) → from ≤ max (at + first_field (said_kind kind 0)) (first_word p) → from ≤ at + (len + 1) → left_at end (enters p in_place at kind len) < 7 * (end - from) + 1
-  enters-lt at from kind len inside next = goes_on-lt (record_at at kind len) (max (at + first_field (said_kind kind 0)) (first_word p)) from inside next
+  enters-lt : (at from : ℕ) (kind : Kind) (size : ℕ) → from ≤ max (at + first_field kind) (first_word p) → from ≤ at + size → left_at end (enters p in_place at kind size) < 7 * (end - from) + 1
+  enters-lt at from kind size inside next = goes_on-lt (record_at at kind size) (max (at + first_field kind) (first_word p)) from inside next
 
-  -- the header over the page's first word, which reaches past it
-  pub first-lt : (at : ℕ) (kind : Kind) (len : ℕ) → first_word p < at + (len + 1) → left_at end (enters p in_place at kind len) < 449
-  first-lt at kind len reaches =
-      let c = enters-lt at (first_word p) kind len (omega arith) (omega (arith, reaches)) in
+  -- the header over the page's first word, of a record that reaches past it
+  first_entered-lt : (at : ℕ) (kind : Kind) (size : ℕ) → first_word p < at + size → left_at end (enters p in_place at kind size) < 450
+  first_entered-lt at kind size reaches =
+      let c = enters-lt at (first_word p) kind size (omega arith) (omega (arith, reaches)) in
       let e = end-le in
       omega (arith, c, e)
 
-  next-lt : (r : ScannedRecord) (kind : Kind) (len : ℕ) → NextIsOnPage l.pages p r → left_at end (enters p in_place r.next kind len) < 7 * (end - r.next) - 1
-  next-lt r kind len on_page =
-      let first = first_field-is kind in
-      let c = enters-lt r.next (r.next + 1) kind len (omega (arith, first)) (omega arith) in
+  pub first-lt : (at : ℕ) (kind : HeaderKind) (size : ℕ) → first_word p < at + size → left_at end (by_kind p in_place at kind size) < 450
+  first-lt at header_kinds.Fields size reaches = first_entered-lt at Fields size reaches
+  first-lt at header_kinds.Raw size reaches = first_entered-lt at Raw size reaches
+  first-lt at header_kinds.Mixed size reaches = counts-lt end (record { at = at; size = size })
+
+  next_entered-lt : (r : ScannedRecord) (kind : Kind) (len : ℕ) → 0 < first_field kind → NextIsOnPage l.pages p r → left_at end (enters p in_place r.next kind (len + 1)) < 7 * (end - r.next) - 1
+  next_entered-lt r kind len first on_page =
+      let c = enters-lt r.next (r.next + 1) kind (len + 1) (omega (arith, first)) (omega arith) in
       let e = end-space on_page.1 in
       let below = on_page.3 in
+      omega (arith, c, e, below)
+
+  next-lt : (r : ScannedRecord) (kind : HeaderKind) (len : ℕ) → NextIsOnPage l.pages p r → left_at end (by_kind p in_place r.next kind (len + 1)) < 7 * (end - r.next) - 1
+  next-lt r header_kinds.Fields len on_page = next_entered-lt r Fields len (omega arith) on_page
+  next-lt r header_kinds.Raw len on_page = next_entered-lt r Raw len (omega arith) on_page
+  next-lt r header_kinds.Mixed len on_page =
+      let e = end-space on_page.1 in
+      let above = on_page.2 in
+      let below = on_page.3 in
+      let c = counts-on end (record { at = r.next; size = len + 1 }) (omega (arith, e, above)) in
       omega (arith, c, e, below)
 
   by_next : (r : ScannedRecord) (d : Decoded) → NextIsOnPage l.pages p r → is_header d ≡ true → left_at end (by_header p in_place r.next (LoadsNext r) d) < 7 * (end - r.next) - 1
@@ -89,6 +105,26 @@ module _ (l : Layout) (p : ℕ) (in_place : Bool) where
   by_next r (ForwardWord len address) on_page t = absurd (cc)
   by_next r (BusyWord len worker) on_page t = absurd (cc)
   by_next r Malformed on_page t = absurd (cc)
+
+  -- the count is read
+  counted-lt : (h : HeadedRecord) (count : ℕ) → IsHeadedOn l.pages p h → left_at end (enters p in_place h.at (Mixed count) h.size) < left_at end (LoadsCount h)
+  counted-lt h count on_page =
+      let e = end-space on_page.low in
+      let reaches = on_page.reaches in
+      let begins = on_page.begins in
+      let counted = on_page.counted in
+      ⊎_elim
+      (λ (before : h.at < end - 64). let c = enters-lt h.at (first_word p) (Mixed count) h.size (omega arith) (omega (arith, reaches)) in let w = counts-before end h before in omega (arith, c, w, e))
+      (λ (on : end - 64 ≤ h.at). let c = enters-lt h.at (h.at + 2) (Mixed count) h.size (omega arith) (omega (arith, counted)) in let w = counts-on end h on in omega (arith, c, w, e, begins))
+      (cases_lt h.at (end - 64))
+
+  by_count-lt : (h : HeadedRecord) (d : Decoded) → IsHeadedOn l.pages p h → is_count h.size d ≡ true → left_at end (by_count p in_place h d) < left_at end (LoadsCount h)
+  by_count-lt h (NumberWord count) on_page t = rw t (counted-lt h count on_page)
+  by_count-lt h (HeaderWord kind len serial mutator) on_page t = absurd (cc)
+  by_count-lt h (PointerWord address) on_page t = absurd (cc)
+  by_count-lt h (ForwardWord len address) on_page t = absurd (cc)
+  by_count-lt h (BusyWord len worker) on_page t = absurd (cc)
+  by_count-lt h Malformed on_page t = absurd (cc)
 
   by_front : (epoch : ℕ) (r : ScannedRecord) (o : Option AreaWord) → NextIsOnPage l.pages p r → is_some o ≡ true → left_at end (by_area l epoch r o) < 7 * (end - r.next)
   by_front epoch r (Some area) on_page t = by_test (space_start l.pages (to_space epoch) + area.front == r.next)
@@ -103,6 +139,7 @@ module _ (l : Layout) (p : ℕ) (in_place : Bool) where
       → left_at end (stage_after l p epoch in_place stage r) < left_at end stage
   scans_lower epoch LoadsCross (Value word) other fits t = omega arith
   scans_lower epoch (LoadsFirst at) (Value word) other fits t = absurd (other at refl)
+  scans_lower epoch (LoadsCount h) (Value word) other fits t = by_count-lt h (decode word) fits t
   scans_lower epoch (LoadsWord spot) (Value word) other fits t = by_word-lt l p epoch in_place spot (decode word) fits
   scans_lower epoch (StoresCopy asked to) Done other fits t = passes-lt asked.spot fits
   scans_lower epoch (LoadsFront r) (Value word) other fits t = by_front epoch r (decode_area word) fits t

@@ -1,5 +1,6 @@
 -- What a step has brought after which the same machine is at work, from what each stage may read and what that leaves it to do.
-use Rattle.std.proofs.Common.{◌≡◌, ◌≢◌, ℕ, ◌<◌, Bool, true, Option, Some, None, refl, sym, ap, subst, ◌∙◌, arith}
+use Rattle.std.proofs.Common.{◌≡◌, ◌≢◌, ℕ, ◌+◌, ◌<◌, Bool, true, Option, Some, None, is_some, refl, sym, ap, subst, ◌∙◌, arith}
+use Rattle.std.proofs.lemmas.Bool.{le-leb}
 use Rattle.std.proofs.lemmas.Option.{same_Some}
 use Rattle.plain_state.specs.State.{Plain}
 use Rattle.atom_store.specs.declared.reply.Reply.{Reply}
@@ -9,7 +10,7 @@ use Rattle.atom_store.specs.declared.step.Step.TheVariants.{Load}
 use Rattle.atom_store.specs.declared.turn.Turn.{Turn}
 use Rattle.atom_store.specs.declared.turn.Turn.TheVariants.{More, Finished}
 use Rattle.atom_store.specs.Step.{reply_of}
-use Rattle.heap_words.specs.Decoded.{Decoded, HeaderWord, decode}
+use Rattle.heap_words.specs.Decoded.{Decoded, HeaderWord, decode, number_in}
 use Rattle.heap_words.specs.FirstWords.{is_header}
 use Rattle.space_map.specs.Spaces.{Layout}
 use Rattle.space_map.specs.Table.{Gate, HeapWord, place_of}
@@ -27,24 +28,27 @@ use Rattle.gate_core.specs.declared.flipped.Flipped.{Flipped}
 use Rattle.gate_core.specs.declared.passed.Passed.{Passed}
 use Rattle.gate_core.specs.Flip as flip
 use Rattle.gate_core.specs.Gate as gate
+use Rattle.page_scan.specs.declared.headed_record.HeadedRecord.{HeadedRecord}
 use Rattle.page_scan.specs.declared.scan_stage.ScanStage.{ScanStage}
 use Rattle.page_scan.specs.declared.scan_stage.ScanStage.TheVariants as scan_stage
 use Rattle.page_scan.specs.declared.scanned.Scanned.{Scanned}
 use Rattle.page_scan.specs.declared.scanned_record.ScannedRecord.{ScannedRecord}
 use Rattle.page_scan.specs.Left as scan_left
 use Rattle.page_scan.specs.Scanning as scan
+use Rattle.page_scan.specs.Taken.{is_count}
 use Rattle.page_scan.specs.Taken as scan_taken
 use Rattle.page_slots.specs.declared.opened.Opened.{Opened}
 use Rattle.page_slots.specs.Open as open_page
 use Rattle.heap_state.specs.Configuration.{Configuration, Stands}
 use Rattle.gc_worker.specs.declared.access.Access.{Access}
 use Rattle.gc_worker.specs.declared.access.access_stage.AccessStage.{AccessStage}
-use Rattle.gc_worker.specs.declared.access.access_stage.AccessStage.TheVariants.{LoadsHeader}
+use Rattle.gc_worker.specs.declared.access.access_stage.AccessStage.TheVariants.{LoadsHeader, LoadsCount}
 use Rattle.gc_worker.specs.declared.access.accessed.Accessed.{Accessed}
 use Rattle.gc_worker.specs.declared.stage.after.After.{After}
 use Rattle.gc_worker.specs.declared.stage.back.Back.{Back}
 use Rattle.gc_worker.specs.declared.stage.back.Back.TheVariants.{ToAccess, ToPlace, ToScanner}
 use Rattle.gc_worker.specs.declared.stage.forwarding_register.ForwardingRegister.{ForwardingRegister}
+use Rattle.gc_worker.specs.declared.access.mixed_access.MixedAccess.{MixedAccess}
 use Rattle.gc_worker.specs.declared.access.record_access.RecordAccess.{RecordAccess}
 use Rattle.gc_worker.specs.declared.stage.Stage.{Stage}
 use Rattle.gc_worker.specs.declared.stage.Stage.TheVariants.{Looks, Passes, Flips, Forwards, Accesses, Places, Serves, Scans, Evacuates, Opens, Gone}
@@ -59,19 +63,20 @@ use Rattle.gc_worker.specs.Progress.{Progress, LessIsLeft, ExchangeWasLost, Anot
 use Rattle.gc_worker.specs.Steps.Turned.{Answers, told_at, told_look, turned_look, turned_access, turned_at, turned_copy, turned_flip, turned_gate, turned_opening, turned_place, turned_register, turned_round, turned_scan, with_evac}
 use Rattle.gc_worker.specs.Steps.Wanted.{wanted_at}
 use Rattle.gc_worker.proofs.Stages.Access.Going as accessing_going
-use Rattle.gc_worker.proofs.Stages.Access.Stages.{header_there}
+use Rattle.gc_worker.proofs.Stages.Access.Stages.{header_there, number_there}
 use Rattle.gc_worker.proofs.Stages.Copies.Finding.{answers}
 use Rattle.gc_worker.proofs.Stages.Copies.Hosts.{Host, ForScan, ForRegister}
 use Rattle.gc_worker.proofs.Stages.Copies.Hosts as hosts
 use Rattle.gc_worker.proofs.Stages.Copies.Words.{heap_word}
 use Rattle.gc_worker.proofs.Workers.Members.{member}
 use Rattle.gc_worker.proofs.Progress.Accesses.{accesses_lower}
-use Rattle.gc_worker.proofs.Progress.Replies.{TakesOn, Advances, Loses, Waits, MeetsBusy, On, accessing, copying, flipping, loads_header, opening, passing, placing, says_gate, scanning, serving, word_at, word_is}
+use Rattle.gc_worker.proofs.Progress.Replies.{TakesOn, Advances, Loses, Waits, MeetsBusy, On, accessing, copying, flipping, loads_header, opening, passing, placing, says_gate, scanning, serving, IsThere, word_at, word_is}
 use Rattle.gc_worker.proofs.Progress.Copies.{copies_lower}
 use Rattle.gc_worker.proofs.Progress.Ends.{IsOfScanner, accesses_end, allocations_end, flips_end, openings_end, passages_end, registers_end, rounds_end, scans_end}
 use Rattle.gc_worker.proofs.Progress.Looks.{IsDone, looks_done}
 use Rattle.gc_worker.proofs.Progress.Lowering.{allocations_lower, flips_lower, openings_lower, passages_lower}
 use Rattle.gc_worker.proofs.Progress.Scans.{first-lt, scans_lower}
+use Rattle.gc_worker.proofs.Stages.Scan.Counts.{count_there}
 use Rattle.gc_worker.proofs.Stages.Scan.Headers.{answer2, first_header}
 
 module _ (c : Configuration) (p : Plain) (s : Stands c p) (k : ℕ) (x : Held) (q : Step) where
@@ -134,22 +139,22 @@ module _ (c : Configuration) (p : Plain) (s : Stands c p) (k : ℕ) (x : Held) (
         let inside = is.fits.stage.0.sound.fits.1 in
         let there = word_is c p s k v.layout.pages pages (HeapWord at) (omega (arith, inside, pages)) in
         let says : decode (word_at c p s k v.layout.pages (HeapWord at)) ≡ HeaderWord f.0.kind f.0.len f.0.serial f.0.mutator = ap decode (there ∙ sym (heap_word c at)) ∙ f.0.header in
-        let fewer = first-lt v.layout v.page v.in_place at f.0.kind f.0.len f.1 in
-        let entered : scan_left.left_at (scan_taken.scan_end v.layout v.page) (scan_taken.by_header v.page v.in_place at (scan_stage.LoadsFirst at) (decode (word_at c p s k v.layout.pages (HeapWord at)))) < 449 =
-        subst (λ (d : Decoded). scan_left.left_at (scan_taken.scan_end v.layout v.page) (scan_taken.by_header v.page v.in_place at (scan_stage.LoadsFirst at) d) < 449) (sym says) fewer in
+        let fewer = first-lt v.layout v.page v.in_place at f.0.kind (f.0.len + 1) f.1 in
+        let entered : scan_left.left_at (scan_taken.scan_end v.layout v.page) (scan_taken.by_header v.page v.in_place at (scan_stage.LoadsFirst at) (decode (word_at c p s k v.layout.pages (HeapWord at)))) < 450 =
+        subst (λ (d : Decoded). scan_left.left_at (scan_taken.scan_end v.layout v.page) (scan_taken.by_header v.page v.in_place at (scan_stage.LoadsFirst at) d) < 450) (sym says) fewer in
         Less (scan_falls (scan_stage.LoadsFirst at) more
-        (subst (λ (z : Step). scan_left.left_at (scan_taken.scan_end v.layout v.page) (scan_taken.stage_after v.layout v.page v.epoch v.in_place (scan_stage.LoadsFirst at) (reply_of z c.words)) < 449)
+        (subst (λ (z : Step). scan_left.left_at (scan_taken.scan_end v.layout v.page) (scan_taken.stage_after v.layout v.page v.epoch v.in_place (scan_stage.LoadsFirst at) (reply_of z c.words)) < 450)
         (same_Some (Load (place_of v.layout.pages (HeapWord at))) q asked) entered))
 
     other_scan : (stage : ScanStage) → ((at : ℕ) → stage ≢ scan_stage.LoadsFirst at) → Is c k (at_stage x (at_scan stage)) → scan.wanted (record v { stage = stage }) ≡ Some q
         → scan_taken.told (scan_then stage) ≡ More
-        → ((z : ScannedRecord) → stage ≡ scan_stage.LoadsNext z → is_header (decode (word_at c p s k v.layout.pages (HeapWord z.next))) ≡ true) → Result (at_scan stage)
-    other_scan stage other is asked more header =
+        → IsThere c p s k v stage → Result (at_scan stage)
+    other_scan stage other is asked more there =
         by_answer (at_scan stage) (scan_left.advances stage)
-        (scanning c p s k v q (pages_of v.layout is.fits.stage.0.layout is.fits.pages) stage asked other header)
+        (scanning c p s k v q (pages_of v.layout is.fits.stage.0.layout is.fits.pages) stage asked other there)
         (λ t. scan_falls stage more (scans_lower v.layout v.page v.in_place v.epoch stage r other is.fits.stage.0.sound.fits t))
 
-    next_there : (z : ScannedRecord) → Is c k (at_stage x (at_scan (scan_stage.LoadsNext z))) → is_header (decode (word_at c p s k v.layout.pages (HeapWord z.next))) ≡ true
+    next_there : (z : ScannedRecord) → Is c k (at_stage x (at_scan (scan_stage.LoadsNext z))) → IsThere c p s k v (scan_stage.LoadsNext z)
     next_there z is =
         let pages = pages_of v.layout is.fits.stage.0.layout is.fits.pages in
         let fits = is.fits.stage.0.sound.fits in
@@ -158,17 +163,27 @@ module _ (c : Configuration) (p : Plain) (s : Stands c p) (k : ℕ) (x : Held) (
         let there = word_is c p s k v.layout.pages pages (HeapWord z.next) (omega (arith, space, low, pages)) in
         ap (λ (w : ℕ). is_header (decode w)) (there ∙ sym (heap_word c z.next)) ∙ ap is_header (answer2 c p s k x v back z is).header
 
+    count_is_there : (h : HeadedRecord) → Is c k (at_stage x (at_scan (scan_stage.LoadsCount h))) → IsThere c p s k v (scan_stage.LoadsCount h)
+    count_is_there h is =
+        let pages = pages_of v.layout is.fits.stage.0.layout is.fits.pages in
+        let fits = is.fits.stage.0.sound.fits in
+        let inside = fits.inside in
+        let counted = fits.counted in
+        let there = word_is c p s k v.layout.pages pages (HeapWord (h.at + 1)) (omega (arith, inside, counted, pages)) in
+        let t = count_there c p s k x v back h is in
+        ap (λ (w : ℕ). is_count h.size (decode w)) (there ∙ sym (heap_word c (h.at + 1))) ∙ ap (is_count h.size) t.1 ∙ le-leb (t.0 + 2) h.size t.2
+
     scans_on : (stage : ScanStage) → Is c k (at_stage x (at_scan stage)) → scan.wanted (record v { stage = stage }) ≡ Some q → scan_taken.told (scan_then stage) ≡ More → Result (at_scan stage)
     scans_on (scan_stage.LoadsFirst at) is asked more = first_scan at is asked more
-    scans_on scan_stage.LoadsCross is asked more = other_scan scan_stage.LoadsCross (λ at e. cc) is asked more (λ z e. absurd (cc))
-    scans_on (scan_stage.LoadsWord spot) is asked more = other_scan (scan_stage.LoadsWord spot) (λ at e. cc) is asked more (λ z e. absurd (cc))
-    scans_on (scan_stage.Asks ask) is asked more = other_scan (scan_stage.Asks ask) (λ at e. cc) is asked more (λ z e. absurd (cc))
-    scans_on (scan_stage.StoresCopy ask to) is asked more = other_scan (scan_stage.StoresCopy ask to) (λ at e. cc) is asked more (λ z e. absurd (cc))
-    scans_on (scan_stage.LoadsFront z) is asked more = other_scan (scan_stage.LoadsFront z) (λ at e. cc) is asked more (λ y e. absurd (cc))
+    scans_on scan_stage.LoadsCross is asked more = other_scan scan_stage.LoadsCross (λ at e. cc) is asked more tt
+    scans_on (scan_stage.LoadsCount h) is asked more = other_scan (scan_stage.LoadsCount h) (λ at e. cc) is asked more (count_is_there h is)
+    scans_on (scan_stage.LoadsWord spot) is asked more = other_scan (scan_stage.LoadsWord spot) (λ at e. cc) is asked more tt
+    scans_on (scan_stage.Asks ask) is asked more = other_scan (scan_stage.Asks ask) (λ at e. cc) is asked more tt
+    scans_on (scan_stage.StoresCopy ask to) is asked more = other_scan (scan_stage.StoresCopy ask to) (λ at e. cc) is asked more tt
+    scans_on (scan_stage.LoadsFront z) is asked more = other_scan (scan_stage.LoadsFront z) (λ at e. cc) is asked more tt
     scans_on (scan_stage.LoadsNext z) is asked more =
-        other_scan (scan_stage.LoadsNext z) (λ at e. cc) is asked more
-        (λ y e. let same : z ≡ y = cc in subst (λ (n : ScannedRecord). is_header (decode (word_at c p s k v.layout.pages (HeapWord n.next))) ≡ true) same (next_there z is))
-    scans_on (scan_stage.Ended ending) is asked more = other_scan (scan_stage.Ended ending) (λ at e. cc) is asked more (λ z e. absurd (cc))
+        other_scan (scan_stage.LoadsNext z) (λ at e. cc) is asked more (next_there z is)
+    scans_on (scan_stage.Ended ending) is asked more = other_scan (scan_stage.Ended ending) (λ at e. cc) is asked more tt
 
   -- ---- accesses
 
@@ -184,11 +199,19 @@ module _ (c : Configuration) (p : Plain) (s : Stands c p) (k : ℕ) (x : Held) (
         let there = word_is c p s k x.layout.pages pages (HeapWord z.at) (omega (arith, inside, pages)) in
         ap (λ (w : ℕ). access.is_header (decode w)) (there ∙ sym (heap_word c z.at)) ∙ header_there c p s k x z it
 
+    count_read : (m : MixedAccess) → stage ≡ LoadsCount m → is_some (number_in (decode (word_at c p s k x.layout.pages (HeapWord (access.count_at m))))) ≡ true
+    count_read m e =
+        let it = subst (λ (n : AccessStage). Is c k (accessing_going.at c p s k x n)) e is in
+        let inside = it.fits.stage.sound.stage.0 in
+        let pages = is.fits.pages in
+        let there = word_is c p s k x.layout.pages pages (HeapWord (access.count_at m)) (omega (arith, inside, pages)) in
+        ap (λ (w : ℕ). is_some (number_in (decode w))) (there ∙ sym (heap_word c (access.count_at m))) ∙ number_there c p s k x m it
+
     accesses_on : access.wanted own ≡ q → access.told own r ≡ More → Result (Accesses own)
     accesses_on step more =
         by_answer (Accesses own) (access.advances_at stage)
         (subst (λ (z : Step). On c p s k (access.advances_at stage) z) step
-        (accessing c p s k own is.fits.pages stage (subst (λ (z : Step). access.told own (reply_of z c.words) ≡ More) (sym step) more) header_read))
+        (accessing c p s k own is.fits.pages stage (subst (λ (z : Step). access.told own (reply_of z c.words) ≡ More) (sym step) more) header_read count_read))
         (λ t. subst (λ (turn : Turn Accessed). left_at (turned_access (at_stage x (Accesses own)) (access.taken own r) turn).stage < access.left own) (sym more)
         (accesses_lower own stage r more t))
 

@@ -3,8 +3,11 @@ pub mod GoingOn
 pub mod Looking
 pub mod Acting
 pub mod Outcomes
+pub mod Storing
 pub mod Headers
 pub mod Fields
+pub mod Exchanges
+pub mod Counts
 pub mod Board
 pub mod Stages
 pub mod RowsFit

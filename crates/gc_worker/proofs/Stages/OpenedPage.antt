@@ -34,6 +34,7 @@ has_ended : (s : Scanning) (stage : ScanStage) → HasEnded stage → (scan_of s
 has_ended s (scan_stage.Ended ending) h = refl
 has_ended s scan_stage.LoadsCross h = absurd h
 has_ended s (scan_stage.LoadsFirst at) h = absurd h
+has_ended s (scan_stage.LoadsCount r) h = absurd h
 has_ended s (scan_stage.LoadsWord spot) h = absurd h
 has_ended s (scan_stage.Asks asked) h = absurd h
 has_ended s (scan_stage.StoresCopy asked to) h = absurd h
@@ -45,6 +46,7 @@ pub of_page : (s : Scanning) (stage : ScanStage) → (scan_of s stage).page ≡ 
 of_page s (scan_stage.Ended ending) = refl
 of_page s scan_stage.LoadsCross = refl
 of_page s (scan_stage.LoadsFirst at) = refl
+of_page s (scan_stage.LoadsCount r) = refl
 of_page s (scan_stage.LoadsWord spot) = refl
 of_page s (scan_stage.Asks asked) = refl
 of_page s (scan_stage.StoresCopy asked to) = refl

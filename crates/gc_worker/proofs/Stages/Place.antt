@@ -1,6 +1,7 @@
 pub mod Claiming
 pub mod Readying
 pub mod Acts
+pub mod Counting
 pub mod Header
 pub mod Full
 pub mod Opened

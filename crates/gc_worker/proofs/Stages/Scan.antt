@@ -2,7 +2,9 @@ pub mod GoingOn
 pub mod Passing
 pub mod Crossing
 pub mod Front
+pub mod Entering
 pub mod Headers
+pub mod Counts
 pub mod Spots
 pub mod Words
 pub mod Stored

@@ -10,7 +10,7 @@ use Rattle.std.proofs.Math.Decide.{dec_le, dec_lt}
 use Rattle.record_layout.proofs.Rereading.{header_in-said, header_in-header_says}
 use Rattle.gc_worker.specs.declared.access.access_stage.AccessStage.TheVariants.{LoadsHeader}
 use Rattle.gc_worker.specs.declared.access.record_access.RecordAccess.{RecordAccess}
-use Rattle.gc_worker.specs.Steps.Access.{GoesTo, read_header, role_in, used_by}
+use Rattle.gc_worker.specs.Steps.Access.{GoesTo, by_kind, read_header}
 use Rattle.gc_worker.specs.Plain.Seen.{IsValueAs, IsValueWord, by_address, making_in, seen, seen_as, value_seen, word_for}
 use Rattle.heap_state.specs.Worker.{Account}
 use Rattle.plain_heap.specs.Action.{register}
@@ -52,7 +52,7 @@ word_of_value_seen w value = word_seen w (decode w) refl value
 -- ---- headers
 
 pub headers_are_read : (r : RecordAccess) (w : ℕ) (h : Header) → w ≡ encode (header_says h)
-    → read_header r (decode w) ≡ used_by r (role_in h.kind) h.len r.usage
+    → read_header r (decode w) ≡ by_kind r h.kind h.len
 headers_are_read r w h spelled = ap (read_header r) (ap decode spelled ∙ decode-header_word h.kind h.len h.serial h.mutator h.short h.counted)
 
 no_header : (r : RecordAccess) (w : ℕ) (d : Decoded) → decode w ≡ d → header_in (decode w) ≡ None → read_header r d ≡ GoesTo (LoadsHeader r)
@@ -190,7 +190,7 @@ serial_fits account registers task m = m.executes.call.serial m.making (ap makin
 
 -- an allocation fits a worker whatever its stage was before
 pub placing_fits : (x : Held) (was : Stage) (header : Option Header) → FitsStage (at_stage x was) (places x header) → FitsStage x (places x header)
-placing_fits x was (Some header) fits = record { layout = fits.layout; epoch = fits.epoch; going = fits.going; sound = fits.sound }
+placing_fits x was (Some header) fits = record { layout = fits.layout; epoch = fits.epoch; fields = fits.fields; going = fits.going; rest = fits.rest; sound = fits.sound }
 placing_fits x was None fits = fits
 
 -- ---- rounds

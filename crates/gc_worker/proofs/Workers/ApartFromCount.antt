@@ -7,7 +7,7 @@ use Rattle.mutator_asm.specs.declared.instr.Instr.{Instr}
 use Rattle.mutator_asm.specs.declared.instr.Instr.TheVariants as instrs
 use Rattle.mutator_asm.specs.declared.operand.Operand.TheVariants as operands
 use Rattle.plain_heap.specs.declared.action.Action.{Action}
-use Rattle.plain_heap.specs.declared.action.Action.TheVariants.{Sets, Jumps, Links, Prints, Makes, Measures, Loads, Stores, Gets, Puts, Swaps}
+use Rattle.plain_heap.specs.declared.action.Action.TheVariants.{Sets, Jumps, Links, Prints, Makes, Measures, Loads, Stores, Exchanges, Gets, Puts, Swaps}
 use Rattle.plain_heap.specs.Action.{action}
 use Rattle.record_layout.specs.declared.header.Header.{Header}
 use Rattle.space_map.specs.declared.gate_word.GateWord.{GateWord}
@@ -55,7 +55,7 @@ use Rattle.gc_worker.specs.declared.task.Task.TheVariants.{Calls, Stops}
 use Rattle.gc_worker.specs.Steps.Access as access
 use Rattle.gc_worker.specs.Workers.Counted.{counted, count_after, CountsAreApart, CountedFit}
 use Rattle.gc_worker.specs.Workers.Fits.{Fits, FitsCall, FitsCopy, FitsRound, FitsScan, FitsStage, FitsTask, FitsTaskAfter, FitsTaskBack, FitsTaskBefore, ExecutesAction, IsAccessing, IsMaking, MayBegin}
-use Rattle.gc_worker.specs.Workers.Held.{Held, pages_needed, at_stage, header_for, header_of, making_for, pages_asked}
+use Rattle.gc_worker.specs.Workers.Held.{Held, pages_needed, at_stage, header_for, header_of, fields_made, fields_for, making_for, pages_asked, run_held}
 use Rattle.gc_worker.specs.Plain.Seen.{Making, making_in, seen}
 use Rattle.gc_worker.specs.Steps.Turned.{Told, Silent, acted, begins, end_by_shortage, ended, full_by, goes_back, goes_on, finds_full, loads, looked_by, of_round, passed_by, passes, places, started, told_access, told_acted, told_at, told_effect, told_end, told_flip, told_full, told_gate, told_place, told_start, turned_access, turned_at, turned_copy, turned_flip, turned_gate, turned_opening, turned_place, turned_register, turned_round, turned_scan, went_on, with_evac, with_record}
 use Rattle.gc_worker.specs.Steps.Wanted.{wanted_at}
@@ -81,10 +81,16 @@ same_action m count (instrs.New d (operands.Reg r)) = refl
 same_action m count (instrs.New d (operands.Number n)) = refl
 same_action m count (instrs.Raw d (operands.Reg r)) = refl
 same_action m count (instrs.Raw d (operands.Number n)) = refl
+same_action m count (instrs.Mix d (operands.Reg f) (operands.Reg r)) = refl
+same_action m count (instrs.Mix d (operands.Reg f) (operands.Number n)) = refl
+same_action m count (instrs.Mix d (operands.Number n) (operands.Reg r)) = refl
+same_action m count (instrs.Mix d (operands.Number n) (operands.Number o)) = refl
 same_action m count (instrs.Ld d a (operands.Reg r)) = refl
 same_action m count (instrs.Ld d a (operands.Number n)) = refl
 same_action m count (instrs.St a (operands.Reg r) b) = refl
 same_action m count (instrs.St a (operands.Number n) b) = refl
+same_action m count (instrs.Cas d a (operands.Reg r) b c) = refl
+same_action m count (instrs.Cas d a (operands.Number n) b c) = refl
 same_action m count (instrs.Len d a) = refl
 same_action m count (instrs.Isp d a) = refl
 same_action m count (instrs.Get d (operands.Reg r)) = refl
@@ -116,9 +122,12 @@ module _ (count : ℕ) (x : Held) where
 
   -- ---- where it goes on
 
+  same_fields : fields_for y ≡ fields_for x
+  same_fields = ap fields_made (same_making x.task)
+
   same_places : (header : Option Header) → places y header ≡ places x header
   same_places None = refl
-  same_places (Some header) = refl
+  same_places (Some header) = ap (λ (n : ℕ). Places (place.begun x.layout (run_held x) header x.epoch n)) same_fields
 
   placing : places y (header_for y) ≡ places x (header_for x)
   placing = same_places (header_for y) ∙ ap (places x) same_header
@@ -235,6 +244,7 @@ module _ (count : ℕ) (x : Held) where
   acting instr (Ok (Measures d i)) = refl
   acting instr (Ok (Loads d i n)) = refl
   acting instr (Ok (Stores i n v)) = refl
+  acting instr (Ok (Exchanges d i n u v)) = refl
   acting instr (Ok (Gets d n)) = refl
   acting instr (Ok (Puts n v)) = refl
   acting instr (Ok (Swaps d n v)) = refl
@@ -400,7 +410,7 @@ module _ (count : ℕ) (x : Held) where
   fits_stage (Flips g) f = record { layout = f.layout; epoch = f.epoch; going = f.going; sound = f.sound }
   fits_stage (Forwards w) f = record { register = f.register; copy = fits_copy (x.epoch + 1) w.evac f.copy }
   fits_stage (Accesses a) f = f
-  fits_stage (Places p) f = record { layout = f.layout; epoch = f.epoch; going = f.going; sound = f.sound }
+  fits_stage (Places p) f = record { layout = f.layout; epoch = f.epoch; fields = f.fields ∙ sym (same_fields count x); going = f.going; rest = f.rest; sound = f.sound }
   fits_stage (Serves d back) f = (fits_round d back f.0, f.1)
   fits_stage (Scans s back) f = (fits_scan s f.0, f.1, f.2)
   fits_stage (Evacuates v s back) f = (fits_copy x.epoch v f.0, fits_scan s f.1, f.2, f.3)

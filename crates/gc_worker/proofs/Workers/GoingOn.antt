@@ -1,76 +1,123 @@
 -- Where a mutator goes on that stopped, or that made a round: to the proofs of the heap it is one that looks at the gate.
-use Rattle.std.proofs.Common.{◌≡◌, ℕ, ◌+◌, Bool, true, false, cond, Option, Some, None, is_some, refl, sym, subst, arith, nat_lt, nat_le}
+use Rattle.std.proofs.Common.{◌≡◌, ℕ, ◌+◌, ◌<◌, Bool, true, false, cond, List, [], Option, Some, None, is_some, refl, ap, sym, subst, arith, nat_lt, nat_le, ◌≤◌, ◌∙◌}
 use Rattle.std.proofs.lemmas.Bool.{leb-true}
+use Rattle.std.proofs.lemmas.Option.{same_Some}
+use Rattle.heap_words.specs.declared.kind.Kind.{Kind}
+use Rattle.heap_words.specs.declared.kind.Kind.TheVariants.{Fields, Raw, Mixed}
 use Rattle.alloc_end.specs.declared.place_stage.PlaceStage.{PlaceStage}
 use Rattle.alloc_end.specs.declared.place_stage.PlaceStage.TheVariants.{LoadsTraced, StoresHeader}
 use Rattle.alloc_end.specs.declared.run.Run.{Run}
 use Rattle.alloc_end.specs.Place as place
-use Rattle.alloc_end.specs.Soundness.{RunLiesInSpaces, IsPlacingGoing, FitsPlaceStage}
+use Rattle.alloc_end.specs.Soundness.{RunLiesInSpaces, HoldsFields, IsPlacingGoing, FitsPlaceStage}
 use Rattle.record_layout.specs.declared.header.Header.{Header}
 use Rattle.gc_worker.specs.declared.stage.after.After.{After}
 use Rattle.gc_worker.specs.declared.stage.after.After.TheVariants as afters
 use Rattle.gc_worker.specs.declared.stage.Stage.TheVariants.{Looks, Places}
-use Rattle.gc_worker.specs.Workers.Fits.{Fits, FitsRun, FitsTaskAfter, IsMaking}
-use Rattle.gc_worker.specs.Workers.Held.{Held, at_stage, header_for, run_held, run_in}
-use Rattle.gc_worker.specs.Workers.Knows.{knows, known_at, stock_at, own_stock}
+use Rattle.gc_worker.specs.Workers.Fits.{Fits, FitsRun, FitsTaskAfter, IsMaking, LeavesShortRun}
+use Rattle.gc_worker.specs.Workers.Held.{Held, at_stage, header_for, run_held, run_in, fields_for}
+use Rattle.gc_worker.specs.Workers.Knows.{knows, known_at, counted_in, kind_with, own_stock, stock_of}
 use Rattle.gc_worker.specs.Steps.Turned.{places, goes_on}
 use Rattle.gc_worker.proofs.Workers.Parts.{refit, page_count}
-use Rattle.gc_worker.proofs.Plain.NewRecords.{makes_header}
+use Rattle.gc_worker.proofs.Plain.NewRecords.{header_is, header_made, holds_fields, makes_header}
+use Rattle.heap_laws.specs.Allocation.Records.{stored_ahead}
 
 -- ---- an allocation begins
 
-abbrev first_at : Bool → PlaceStage
-first_at b = cond b StoresHeader LoadsTraced
+-- the first store of a record fits a run that has room for it
+pub first_fits : (n asked fields : ℕ) (run : Run) (header : Header) (kind : Kind) → header.kind ≡ kind → HoldsFields header fields → run.at + place.size_of header ≤ run.end
+    → FitsPlaceStage n asked run header (place.stores_first kind)
+first_fits n asked fields run header Fields is holds room = room
+first_fits n asked fields run header Raw is holds room = room
+first_fits n asked fields run header Mixed is holds room = let some = holds is in (is, omega (arith, some), room)
+
+-- and leaves less than a page of a short one
+pub first_rest : (run : Run) (header : Header) (kind : Kind) → run.end < run.at + place.size_of header + 64 → LeavesShortRun run header (place.stores_first kind)
+first_rest run header Fields rest = rest
+first_rest run header Raw rest = rest
+first_rest run header Mixed rest = rest
+
+pub first_going : (kind : Kind) → IsPlacingGoing (place.stores_first kind)
+first_going Fields = tt
+first_going Raw = tt
+first_going Mixed = tt
+
+abbrev first_at : Kind → Bool → PlaceStage
+first_at kind b = cond b (place.stores_first kind) LoadsTraced
 
 module _ (x : Held) (header : Header) where
   abbrev begun_at : PlaceStage → place.Placing
-  begun_at stage = record { layout = x.layout; run = run_held x; header = header; epoch = x.epoch; stage = stage }
+  begun_at stage = record { layout = x.layout; run = run_held x; header = header; fields = fields_for x; epoch = x.epoch; stage = stage }
 
   -- a run that isn't there has no room
-  stock_by : (run : Option Run) (b : Bool) → nat_le ((run_in run).at + place.size_of header) (run_in run).end ≡ b
-      → stock_at (record x { run = run }) (record { layout = x.layout; run = run_in run; header = header; epoch = x.epoch; stage = first_at b }) (first_at b) ≡ own_stock x.epoch run
-  stock_by run false is = refl
-  stock_by (Some run) true is = refl
-  stock_by None true is = let l = leb-true (0 + place.size_of header) 0 is in absurd (omega (arith, l))
+  held : (run : Option Run) → nat_le ((run_in run).at + place.size_of header) (run_in run).end ≡ true → Some (stock_of x.epoch (run_in run)) ≡ own_stock x.epoch run
+  held (Some run) is = refl
+  held None is = let l = leb-true (0 + place.size_of header) 0 is in absurd (omega (arith, l))
 
-  known_by : (b : Bool) → nat_le ((run_held x).at + place.size_of header) (run_held x).end ≡ b → known_at x (Places (begun_at (first_at b))) ≡ known_at x Looks
-  known_by true is = λ i. record (known_at x Looks) { stock = stock_by x.run true is i }
-  known_by false is = λ i. record (known_at x Looks) { stock = stock_by x.run false is i }
+  -- nothing stands ahead of a header that is stored first
+  held_first : (kind : Kind) → header.kind ≡ kind → stored_ahead (kind_with kind (fields_for x)) ≡ [] → nat_le ((run_held x).at + place.size_of header) (run_held x).end ≡ true
+      → Some (counted_in (begun_at StoresHeader)) ≡ own_stock x.epoch x.run
+  held_first kind is none room =
+      ap (λ (ahead : List ℕ). Some (record (stock_of x.epoch (run_held x)) { ahead = ahead })) (ap (λ (k : Kind). stored_ahead (kind_with k (fields_for x))) is ∙ none) ∙ held x.run room
 
-  stage_by : (b : Bool) → nat_le ((run_held x).at + place.size_of header) (run_held x).end ≡ b
-      → FitsPlaceStage x.layout.pages (place.pages_for (place.size_of header)) (run_held x) header (first_at b)
-  stage_by true is = leb-true ((run_held x).at + place.size_of header) (run_held x).end is
-  stage_by false is = tt
+  known_by : (kind : Kind) → header.kind ≡ kind → (b : Bool) → nat_le ((run_held x).at + place.size_of header) (run_held x).end ≡ b
+      → known_at x (Places (begun_at (first_at kind b))) ≡ known_at x Looks
+  known_by Fields is true room = λ i. record (known_at x Looks) { stock = held_first Fields is refl room i }
+  known_by Raw is true room = λ i. record (known_at x Looks) { stock = held_first Raw is refl room i }
+  known_by Mixed is true room = λ i. record (known_at x Looks) { stock = held x.run room i }
+  known_by kind is false room = refl
+
+  stage_by : HoldsFields header (fields_for x) → (b : Bool) → nat_le ((run_held x).at + place.size_of header) (run_held x).end ≡ b
+      → FitsPlaceStage x.layout.pages (place.pages_for (place.size_of header)) (run_held x) header (first_at header.kind b)
+  stage_by holds true is =
+      first_fits x.layout.pages (place.pages_for (place.size_of header)) (fields_for x) (run_held x) header header.kind refl holds
+      (leb-true ((run_held x).at + place.size_of header) (run_held x).end is)
+  stage_by holds false is = tt
 
 is_run : (n : ℕ) (run : Option Run) → FitsRun n run → RunLiesInSpaces n (run_in run)
-is_run n (Some run) fits = fits
+is_run n (Some run) fits = fits.0
 is_run n None fits = (omega arith, omega arith)
+
+is_short : (n : ℕ) (run : Option Run) → FitsRun n run → (run_in run).end < (run_in run).at + 64
+is_short n (Some run) fits = fits.1
+is_short n None fits = omega arith
 
 -- ---- wherever it goes on
 
 pub places_known : (x : Held) (header : Option Header) → knows (at_stage x (places x header)) ≡ known_at x Looks
 places_known x None = refl
-places_known x (Some header) = known_by x header (nat_le ((run_held x).at + place.size_of header) (run_held x).end) refl
+places_known x (Some header) = known_by x header header.kind refl (nat_le ((run_held x).at + place.size_of header) (run_held x).end) refl
 
 pub goes_on_known : (x : Held) (after : After) → knows (at_stage x (goes_on x after)) ≡ known_at x Looks
 goes_on_known x afters.Looks = refl
 goes_on_known x afters.Places = places_known x (header_for x)
 
 module _ (n mutators k : ℕ) (x : Held) (f : Fits n mutators k x) (unended : is_some x.account.end ≡ false) (mutator : nat_lt x.number x.mutators ≡ true) where
-  going_by : (header : Header) (b : Bool) → IsPlacingGoing (first_at b)
-  going_by header true = tt
+  going_by : (header : Header) (b : Bool) → IsPlacingGoing (first_at header.kind b)
+  going_by header true = first_going header.kind
   going_by header false = tt
 
+  leaves_by : (header : Header) (b : Bool) → LeavesShortRun (run_held x) header (first_at header.kind b)
+  leaves_by header true = first_rest (run_held x) header header.kind (let s = is_short n x.run f.run in omega arith)
+  leaves_by header false = tt
+
+  -- a mixed record holds its fields
+  holds : (making : IsMaking x.account x.registers x.task) (header : Header) → header_for x ≡ Some header → HoldsFields header (fields_for x)
+  holds making header is =
+      subst (λ (h : Header). HoldsFields h (fields_for x)) (same_Some (header_made x making) header (sym (header_is x making) ∙ is)) (holds_fields x making)
+
   places_by : (making : IsMaking x.account x.registers x.task) (header : Option Header) → header_for x ≡ header → Fits n mutators k (at_stage x (places x header))
-  places_by making (Some header) is = refit n mutators k x f (Places (place.begun x.layout (run_held x) header x.epoch)) unended mutator (making, is) (record {
+  places_by making (Some header) is = refit n mutators k x f (Places (place.begun x.layout (run_held x) header x.epoch (fields_for x))) unended mutator (making, is) (record {
     layout = refl;
     epoch = refl;
+    fields = refl;
     going = going_by header (nat_le ((run_held x).at + place.size_of header) (run_held x).end);
+    rest = leaves_by header (nat_le ((run_held x).at + place.size_of header) (run_held x).end);
     sound = record {
       pages = page_count n mutators k x f;
       run = subst (λ (m : ℕ). RunLiesInSpaces m (run_held x)) (sym f.pages) (is_run n x.run f.run);
+      fields = holds making header is;
       epoch = f.epoch;
-      stage = stage_by x header (nat_le ((run_held x).at + place.size_of header) (run_held x).end) refl;
+      stage = stage_by x header (holds making header is) (nat_le ((run_held x).at + place.size_of header) (run_held x).end) refl;
     };
   })
   places_by making None is = absurd (makes_header n mutators k x f making is)

@@ -1,14 +1,15 @@
--- What the calls of a history have to do with one record: a load gets what the last store wrote, and no record's kind or length changes.
+-- What the calls of a history have to do with one record: a load gets what the last store wrote, an exchange compares with it, and no record's kind or length changes.
 use Rattle.std.specs.Prelude.{◌≡◌, ℕ, List, [], ◌∷◌, ◌++◌, Option, Some, Ok, slice_get}
 use Rattle.plain_state.specs.declared.value.Identity.{Identity}
 use Rattle.plain_state.specs.declared.value.Value.{Value}
 use Rattle.plain_state.specs.declared.value.Value.TheVariants.{Number}
 use Rattle.plain_state.specs.State.{Mutator, Plain}
 use Rattle.mutator_asm.specs.declared.instr.Instr.{Instr}
-use Rattle.plain_heap.specs.declared.action.Action.TheVariants.{Loads}
+use Rattle.plain_heap.specs.declared.action.Action.{Action}
+use Rattle.plain_heap.specs.declared.action.Action.TheVariants.{Loads, Exchanges}
 use Rattle.plain_heap.specs.Action.{action}
 use Rattle.plain_heap.specs.Call.{set_register, went_on}
-use Rattle.plain_heap.specs.Records.{RecordShape, record_word, shape_of, word_after}
+use Rattle.plain_heap.specs.Records.{RecordShape, record_word, shape_of, success, word_after}
 use Rattle.heap_laws.specs.Opening.{opening_plain}
 use Rattle.gc_worker.specs.declared.calls.call.Call.{Call}
 use Rattle.gc_worker.specs.declared.calls.did.Did.{Did}
@@ -46,22 +47,29 @@ WordsAreStored = (plain : Plain) (log : List Entry) (identity : Identity) (index
 abbrev pub WordsBeginAsZero : Type 0
 WordsBeginAsZero = (mutators : ℕ) (identity : Identity) (index : ℕ) → record_word (opening_plain mutators).heap identity index ≡ Number 0
 
--- ---- loads
+-- ---- loads and exchanges
 
--- the call is an instruction of this mutator that had its effect, which was to load the word of a record at this index into a register
-pub record IsLoad (plain : Plain) (call : Call) (own : Mutator) (register : ℕ) (identity : Identity) (index : ℕ) : Type 0 where
+-- the call is an instruction of this mutator that had its effect, which was to do that
+pub record CallDoes (plain : Plain) (call : Call) (own : Mutator) (act : Action) : Type 0 where
   pub mutator : slice_get plain.mutators call.by ≡ Some own
   pub instr : Instr
   pub task : call.task ≡ Calls instr
-  pub loads : action own instr ≡ Ok (Loads register identity index)
+  pub does : action own instr ≡ Ok act
   pub done : call.did ≡ Done
 
--- In a legal history it gets what was stored there last before it: its mutator goes on with that in the register.
+-- In a legal history a load gets what was stored there last before it: its mutator goes on with that in the register.
 abbrev pub LoadsGetTheLastStore : Type 0
 LoadsGetTheLastStore = (plain : Plain) (front rest : List Entry) (call : Call) (own : Mutator) (register : ℕ) (identity : Identity) (index : ℕ)
-    → IsLegal plain (front ++ Made call ∷ rest) → IsLoad (after_all plain front) call own register identity index
+    → IsLegal plain (front ++ Made call ∷ rest) → CallDoes (after_all plain front) call own (Loads register identity index)
     → slice_get (after_all plain (front ++ Made call ∷ [])).mutators call.by
     ≡ Some (went_on (set_register own register (last_stored plain front identity index (record_word plain.heap identity index))))
+
+-- An exchange finds what was stored there last before it: if that is what it expects, its mutator goes on with 1 in the register, else with 0.
+abbrev pub ExchangesFindTheLastStore : Type 0
+ExchangesFindTheLastStore = (plain : Plain) (front rest : List Entry) (call : Call) (own : Mutator) (register : ℕ) (identity : Identity) (index : ℕ) (expected new : Value)
+    → IsLegal plain (front ++ Made call ∷ rest) → CallDoes (after_all plain front) call own (Exchanges register identity index expected new)
+    → slice_get (after_all plain (front ++ Made call ∷ [])).mutators call.by
+    ≡ Some (went_on (set_register own register (success (last_stored plain front identity index (record_word plain.heap identity index)) expected)))
 
 -- ---- kinds and lengths
 

@@ -14,7 +14,7 @@ use Rattle.space_map.specs.AreaWord.{decode_area}
 use Rattle.space_map.specs.Spaces.{to_space}
 use Rattle.space_map.specs.Table.{Area}
 use Rattle.alloc_end.specs.declared.place_stage.PlaceStage.{PlaceStage}
-use Rattle.alloc_end.specs.declared.place_stage.PlaceStage.TheVariants.{ExchangesArea, StoresZero, OpensPage, StoresHeader}
+use Rattle.alloc_end.specs.declared.place_stage.PlaceStage.TheVariants.{ExchangesArea, StoresZero, OpensPage, StoresCount, StoresHeader}
 use Rattle.alloc_end.specs.Place.{Placing, words_for}
 use Rattle.gate_core.specs.declared.passage.Passage.{Passage}
 use Rattle.gate_core.specs.declared.passage.Passage.TheVariants.{Look, Attach, Park, Request, Resume, Forwarded, Leave}
@@ -73,6 +73,7 @@ LowFallsByClaims = (h : Heap) (p o : Plain) (k : ℕ) (x : Held) (q : Step) → 
 abbrev pub set_aside_by : Placing → PlaceStage → ℕ
 set_aside_by p (StoresZero new) = words_for p.header
 set_aside_by p (OpensPage new) = words_for p.header
+set_aside_by p StoresCount = words_for p.header
 set_aside_by p StoresHeader = words_for p.header
 set_aside_by p stage = 0
 

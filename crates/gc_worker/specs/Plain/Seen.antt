@@ -4,6 +4,7 @@ use Rattle.std.specs.Prelude.{ℕ, ⊤, List, map, Option, Some, None, Result, O
 use Rattle.heap_words.specs.Decoded.{Decoded, NumberWord, PointerWord, HeaderWord, ForwardWord, BusyWord, Malformed, decode}
 use Rattle.heap_words.specs.Word.{number_word, pointer_word}
 use Rattle.plain_state.specs.declared.end.End.{End}
+use Rattle.plain_state.specs.declared.kind.Kind.TheVariants.{Mixed}
 use Rattle.plain_state.specs.declared.value.Identity.{Identity}
 use Rattle.plain_state.specs.declared.value.Value.{Value}
 use Rattle.plain_state.specs.declared.value.Value.TheVariants.{Number, Reference}
@@ -11,7 +12,7 @@ use Rattle.plain_state.specs.State.{Mutator}
 use Rattle.mutator_asm.specs.declared.operand.Operand.{Operand}
 use Rattle.plain_heap.specs.declared.action.Action.{Action}
 use Rattle.plain_heap.specs.declared.action.Action.TheVariants.{Makes}
-use Rattle.plain_heap.specs.Action.{◌>>=◌, length_of, operand}
+use Rattle.plain_heap.specs.Action.{◌>>=◌, length_of, mixed_length, operand}
 use Rattle.heap_state.specs.Worker.{Account}
 pub use Rattle.gc_worker.specs.declared.steps.allocating.Making.{Making}
 
@@ -63,7 +64,19 @@ seen account registers = record {
 abbrev pub length_named : Mutator → Operand → Result ℕ End
 length_named k x = operand k x >>= length_of
 
+-- the fields and the length of a mixed record that two operands name, if it is none too long
+abbrev pub mixed_named : Mutator → (fields raw : Operand) → Result (ℕ × ℕ) End
+mixed_named k fields raw = do
+  fields ← operand k fields
+  raw ← operand k raw
+  n ← mixed_length fields raw
+  Ok (fields, n)
+
 -- the record that an instruction makes: its kind, the register that gets it, and its length
 abbrev pub making_in : Result Action End → Option Making
 making_in (Ok (Makes kind d n)) = Some (record { kind = kind; into = d; len = n })
 making_in other = None
+
+-- the mixed record that two operands name
+abbrev pub mixed_made : Mutator → (d : ℕ) → (fields raw : Operand) → Option Making
+mixed_made k d fields raw = making_in (mixed_named k fields raw >>= (λ m. Ok (Makes (Mixed m.0) d m.1)))

@@ -1,5 +1,5 @@
 -- The access to a record or to the board, step by step: what it wants, what a reply makes of it, and what it comes to.
-use Rattle.std.specs.Prelude.{◌≡◌, ℕ, ◌+◌, ◌*◌, ◌<◌, ◌==◌, ⊤, Bool, true, false, Option, Some, None, Result, Ok, Err, if◌then◌else◌}
+use Rattle.std.specs.Prelude.{◌≡◌, ℕ, ◌+◌, ◌-◌, ◌*◌, ◌<◌, ◌==◌, ⊤, Bool, true, false, nat_lt, Option, Some, None, is_some, Result, Ok, Err, if◌then◌else◌}
 use Rattle.atom_store.specs.declared.reply.Reply.{Reply}
 use Rattle.atom_store.specs.declared.reply.Reply.TheVariants as replies
 use Rattle.atom_store.specs.declared.step.Step.{Step}
@@ -8,17 +8,16 @@ use Rattle.atom_store.specs.declared.turn.Turn.TheVariants.{More, Finished}
 use Rattle.atom_store.specs.StepOn.{StepOn, Load, Store, Exchange, step_at}
 use Rattle.heap_words.specs.declared.kind.Kind.{Kind}
 use Rattle.heap_words.specs.declared.kind.Kind.TheVariants as headers
-use Rattle.heap_words.specs.Decoded.{Decoded, NumberWord, PointerWord, HeaderWord, ForwardWord, BusyWord, Malformed, decode}
+use Rattle.heap_words.specs.Decoded.{Decoded, NumberWord, PointerWord, HeaderWord, ForwardWord, BusyWord, Malformed, decode, number_in}
 use Rattle.heap_words.specs.Word.{number_word}
 use Rattle.plain_state.specs.declared.end.End.{End}
 use Rattle.plain_state.specs.declared.kind.Kind as kinds
 use Rattle.plain_state.specs.declared.kind.Kind.TheVariants as kind
 use Rattle.plain_state.specs.declared.value.Value.{Value}
-use Rattle.plain_state.specs.Layout.{word_of_value}
 use Rattle.plain_state.specs.declared.value.Value.TheVariants.{Number, Reference}
 use Rattle.plain_state.specs.declared.sizes.TheConstants.{BOARD_WORDS}
 use Rattle.plain_heap.specs.declared.action.Action.{Action}
-use Rattle.plain_heap.specs.declared.action.Action.TheVariants.{Sets, Jumps, Links, Prints, Makes, Measures, Loads, Stores, Gets, Puts, Swaps}
+use Rattle.plain_heap.specs.declared.action.Action.TheVariants.{Sets, Jumps, Links, Prints, Makes, Measures, Loads, Stores, Exchanges, Gets, Puts, Swaps}
 use Rattle.plain_heap.specs.Action.{in_record}
 use Rattle.plain_heap.specs.Call.{may_hold}
 use Rattle.space_map.specs.declared.spaces.TheConstants.{PAGE_WORDS}
@@ -32,16 +31,18 @@ use Rattle.heap_state.specs.Worker as workers
 use Rattle.heap_laws.specs.Fields.Effects.{word_held, FitsRole}
 use Rattle.gc_worker.specs.declared.access.Access.{Access}
 use Rattle.gc_worker.specs.declared.access.access_stage.AccessStage.{AccessStage}
-use Rattle.gc_worker.specs.declared.access.access_stage.AccessStage.TheVariants.{LooksAtRecord, LoadsHeader, LooksAtField, LoadsField, StoresField, LooksAtBoard, LoadsBoard, StoresBoard, LoadsForSwap, SwapsBoard}
+use Rattle.gc_worker.specs.declared.access.access_stage.AccessStage.TheVariants.{LooksAtRecord, LoadsHeader, LooksAtCount, LoadsCount, LooksAtField, LoadsField, StoresField, LoadsForCas, ExchangesField, LooksAtBoard, LoadsBoard, StoresBoard, LoadsForSwap, SwapsBoard}
 use Rattle.gc_worker.specs.declared.access.accessed.Accessed.{Accessed}
 use Rattle.gc_worker.specs.declared.access.accessed.Accessed.TheVariants.{Faults, Brings, Stored, Fails}
 use Rattle.gc_worker.specs.declared.access.board_access.BoardUse.{BoardUse}
 use Rattle.gc_worker.specs.declared.access.board_access.BoardUse.TheVariants as board_uses
 use Rattle.gc_worker.specs.declared.access.field_access.FieldAccess.{FieldAccess}
+use Rattle.gc_worker.specs.declared.access.field_access.FieldExchange.{FieldExchange}
 use Rattle.gc_worker.specs.declared.access.field_access.FieldUse.{FieldUse}
 use Rattle.gc_worker.specs.declared.access.field_access.FieldUse.TheVariants as field_uses
 use Rattle.gc_worker.specs.declared.access.field_access.Role.{Role}
 use Rattle.gc_worker.specs.declared.access.field_access.Role.TheVariants as roles
+use Rattle.gc_worker.specs.declared.access.mixed_access.MixedAccess.{MixedAccess}
 use Rattle.gc_worker.specs.declared.access.record_access.RecordAccess.{RecordAccess}
 use Rattle.gc_worker.specs.declared.access.record_access.RecordUse.{RecordUse}
 use Rattle.gc_worker.specs.declared.access.record_access.RecordUse.TheVariants as record_uses
@@ -53,17 +54,25 @@ abbrev pub role_of : Role → workers.Role
 role_of roles.Field = workers.FieldRole
 role_of roles.Number = workers.NumberRole
 
--- the kind of a record that has this role at its words, and the role that a header's kind says
+-- the kind of a record all of whose values have this role
 abbrev pub kind_of : Role → kinds.Kind
 kind_of roles.Field = kind.Fields
 kind_of roles.Number = kind.Raw
 
-abbrev pub role_in : Kind → Role
-role_in headers.Fields = roles.Field
-role_in headers.Raw = roles.Number
+-- the role of value x of a mixed record with so many fields
+abbrev pub role_by_count : (count x : ℕ) → Role
+role_by_count count x = if nat_lt x count then roles.Field else roles.Number
 
 abbrev pub field_at : FieldAccess → ℕ
 field_at f = f.at + f.word
+
+-- the word that is read before it, behind which the values begin: the header, or a mixed record's count
+abbrev pub read_before : FieldAccess → ℕ
+read_before f = f.at + (f.first - 1)
+
+-- the count of a mixed record
+abbrev pub count_at : MixedAccess → ℕ
+count_at m = m.at + 1
 
 -- the address of a word of the board
 abbrev pub board_at : Layout → (word : ℕ) → ℕ
@@ -75,9 +84,13 @@ board_at l word = first_word (board_page l.pages) + word
 abbrev pub wants_at : Layout → AccessStage → StepOn Row
 wants_at l (LooksAtRecord r) = Load (Page (page_of r.at))
 wants_at l (LoadsHeader r) = Load (HeapWord r.at)
+wants_at l (LooksAtCount m) = Load (Page (page_of (count_at m)))
+wants_at l (LoadsCount m) = Load (HeapWord (count_at m))
 wants_at l (LooksAtField f usage) = Load (Page (page_of (field_at f)))
 wants_at l (LoadsField f into) = Load (HeapWord (field_at f))
 wants_at l (StoresField f new) = Store (HeapWord (field_at f)) new
+wants_at l (LoadsForCas f e) = Load (HeapWord (field_at f))
+wants_at l (ExchangesField f e old) = Exchange (HeapWord (field_at f)) old e.new
 wants_at l (LooksAtBoard b) = Load (Page (board_page l.pages))
 wants_at l (LoadsBoard word into) = Load (HeapWord (board_at l word))
 wants_at l (StoresBoard word new) = Store (HeapWord (board_at l word)) new
@@ -113,19 +126,24 @@ looked page epoch word next = let_through (access_of page (decode_page word) epo
 abbrev pub uses_field : FieldAccess → FieldUse → AccessStage
 uses_field f (field_uses.Loads into) = LoadsField f into
 uses_field f (field_uses.Stores new) = StoresField f new
+uses_field f (field_uses.Exchanges e) = LoadsForCas f e
 
--- a field on the header's own page needs no other look
+-- a field on the page of the word that was read last needs no other look
 abbrev pub goes_to_field : FieldAccess → FieldUse → AccessStage
-goes_to_field f usage = if page_of f.at == page_of (field_at f) then uses_field f usage else LooksAtField f usage
+goes_to_field f usage = if page_of (read_before f) == page_of (field_at f) then uses_field f usage else LooksAtField f usage
+
+-- nor does a count on the header's own page
+abbrev pub goes_to_count : MixedAccess → AccessStage
+goes_to_count m = if page_of m.at == page_of (count_at m) then LoadsCount m else LooksAtCount m
 
 abbrev pub uses_board : (word : ℕ) → BoardUse → AccessStage
 uses_board word (board_uses.Loads into) = LoadsBoard word into
 uses_board word (board_uses.Stores new) = StoresBoard word new
 uses_board word (board_uses.Swaps into new) = LoadsForSwap (record { word = word; into = into; new = new })
 
--- value x of the record at an address, where what stands there has this role
-abbrev pub field_of : (at : ℕ) → Role → (x : ℕ) → FieldAccess
-field_of at role x = record { at = at; word = word_of_value (kind_of role) x; role = role }
+-- value x of the record at an address whose values begin at this word, where what stands there has this role
+abbrev pub field_of : (at first : ℕ) → Role → (x : ℕ) → FieldAccess
+field_of at first role x = record { at = at; first = first; word = x + first; role = role }
 
 -- the number itself; a reference has none
 abbrev pub number_in_value : Value → ℕ
@@ -142,27 +160,53 @@ word_as roles.Number v = number_in_value v
 abbrev pub to_field : FieldUse → FieldAccess → Answered
 to_field usage f = GoesTo (goes_to_field f usage)
 
-abbrev pub storing : (at : ℕ) → Role → (x : ℕ) → Result Value End → Answered
-storing at role x (Ok v) = to_field (field_uses.Stores (word_as role v)) (field_of at role x)
-storing at role x (Err why) = Comes (Fails why)
+-- the use where this is to be stored
+abbrev pub with_new : FieldUse → (new : ℕ) → FieldUse
+with_new (field_uses.Loads into) new = field_uses.Loads into
+with_new (field_uses.Stores register) new = field_uses.Stores new
+with_new (field_uses.Exchanges e) new = field_uses.Exchanges (record e { new = new })
 
-abbrev pub loading : (at : ℕ) → Role → (into : ℕ) → Result ℕ End → Answered
-loading at role into (Ok x) = to_field (field_uses.Loads into) (field_of at role x)
-loading at role into (Err why) = Comes (Fails why)
+-- a register's word is to be stored, for which something else may stand there
+abbrev pub storing : FieldAccess → FieldUse → Result Value End → Answered
+storing f usage (Ok v) = to_field (with_new usage (word_as f.role v)) f
+storing f usage (Err why) = Comes (Fails why)
+
+abbrev pub loading : FieldAccess → (into : ℕ) → Result ℕ End → Answered
+loading f into (Ok x) = to_field (field_uses.Loads into) f
+loading f into (Err why) = Comes (Fails why)
 
 -- a value is stored where the record has that value, and may hold this one
 abbrev pub may_store : Role → (new : ℕ) → Result ℕ End → Result Value End
-may_store role new (Ok x) = may_hold (kind_of role) (value_seen new)
+may_store role new (Ok x) = may_hold (kind_of role) x (value_seen new)
 may_store role new (Err why) = Err why
 
-abbrev pub used_by : RecordAccess → Role → (len : ℕ) → RecordUse → Answered
-used_by r role len (record_uses.TellsLength into) = Comes (Brings into (number_word len))
-used_by r role len (record_uses.Loads into) = loading r.at role into (in_record len r.value)
-used_by r role len (record_uses.Stores new) = storing r.at role r.value (may_store role new (in_record len r.value))
+-- a record whose values begin at this word, and all have this role
+abbrev pub used_by : RecordAccess → (first : ℕ) → Role → (len : ℕ) → RecordUse → Answered
+used_by r first role len (record_uses.TellsLength into) = Comes (Brings into (number_word len))
+used_by r first role len (record_uses.Loads into) = loading (field_of r.at first role r.value) into (in_record len r.value)
+used_by r first role len (record_uses.Stores new) = storing (field_of r.at first role r.value) (field_uses.Stores new) (may_store role new (in_record len r.value))
+used_by r first role len (record_uses.Exchanges e) = storing (field_of r.at first role r.value) (field_uses.Exchanges e) (may_store role e.new (in_record len r.value))
+
+-- a mixed record: which role the value has, the count says
+abbrev pub counting : (at : ℕ) → FieldUse → Result ℕ End → Answered
+counting at usage (Ok x) = GoesTo (goes_to_count (record { at = at; value = x; usage = usage }))
+counting at usage (Err why) = Comes (Fails why)
+
+abbrev pub counted_by : RecordAccess → (len : ℕ) → RecordUse → Answered
+counted_by r len (record_uses.TellsLength into) = Comes (Brings into (number_word len))
+counted_by r len (record_uses.Loads into) = counting r.at (field_uses.Loads into) (in_record len r.value)
+counted_by r len (record_uses.Stores new) = counting r.at (field_uses.Stores new) (in_record len r.value)
+counted_by r len (record_uses.Exchanges e) = counting r.at (field_uses.Exchanges e) (in_record len r.value)
+
+-- by the header: the count is no value
+abbrev pub by_kind : RecordAccess → Kind → (len : ℕ) → Answered
+by_kind r headers.Fields len = used_by r 1 roles.Field len r.usage
+by_kind r headers.Raw len = used_by r 1 roles.Number len r.usage
+by_kind r headers.Mixed len = counted_by r (len - 1) r.usage
 
 -- what is no header can't be there, and leaves it where it is
 abbrev pub read_header : RecordAccess → Decoded → Answered
-read_header r (HeaderWord head len serial mutator) = used_by r (role_in head) len r.usage
+read_header r (HeaderWord head len serial mutator) = by_kind r head len
 read_header r (NumberWord n) = GoesTo (LoadsHeader r)
 read_header r (PointerWord address) = GoesTo (LoadsHeader r)
 read_header r (ForwardWord len address) = GoesTo (LoadsHeader r)
@@ -173,14 +217,37 @@ abbrev pub is_header : Decoded → Bool
 is_header (HeaderWord head len serial mutator) = true
 is_header decoded = false
 
+-- ---- by the count of a mixed record: its values begin behind that
+
+abbrev pub valued : MixedAccess → Role → FieldUse → Answered
+valued m role (field_uses.Loads into) = to_field (field_uses.Loads into) (field_of m.at 2 role m.value)
+valued m role (field_uses.Stores new) = storing (field_of m.at 2 role m.value) (field_uses.Stores new) (may_hold (kind_of role) m.value (value_seen new))
+valued m role (field_uses.Exchanges e) = storing (field_of m.at 2 role m.value) (field_uses.Exchanges e) (may_hold (kind_of role) m.value (value_seen e.new))
+
+-- what is no number can't be there, and leaves it where it is
+abbrev pub read_count : MixedAccess → Option ℕ → Answered
+read_count m (Some count) = valued m (role_by_count count m.value) m.usage
+read_count m None = GoesTo (LoadsCount m)
+
+-- ---- by the word of a field that is to be exchanged
+
+-- if that is what is expected, it is exchanged from there; else the register gets 0
+abbrev pub compared : FieldAccess → FieldExchange → (word : ℕ) → Answered
+compared f e word = if word_held (role_of f.role) word == e.expected then GoesTo (ExchangesField f e word) else Comes (Brings e.into (number_word 0))
+
 -- ---- the table
 
 abbrev pub answered_at : Layout → (epoch : ℕ) → AccessStage → Reply → Answered
 answered_at l e (LooksAtRecord r) (replies.Value word) = looked (page_of r.at) e word (LoadsHeader r)
 answered_at l e (LoadsHeader r) (replies.Value word) = read_header r (decode word)
+answered_at l e (LooksAtCount m) (replies.Value word) = looked (page_of (count_at m)) e word (LoadsCount m)
+answered_at l e (LoadsCount m) (replies.Value word) = read_count m (number_in (decode word))
 answered_at l e (LooksAtField f usage) (replies.Value word) = looked (page_of (field_at f)) e word (uses_field f usage)
 answered_at l e (LoadsField f into) (replies.Value word) = Comes (Brings into (word_held (role_of f.role) word))
 answered_at l e (StoresField f new) replies.Done = Comes Stored
+answered_at l e (LoadsForCas f exchange) (replies.Value word) = compared f exchange word
+answered_at l e (ExchangesField f exchange old) replies.Won = Comes (Brings exchange.into (number_word 1))
+answered_at l e (ExchangesField f exchange old) (replies.Lost word) = GoesTo (LoadsForCas f exchange)
 answered_at l e (LooksAtBoard b) (replies.Value word) = looked (board_page l.pages) e word (uses_board b.word b.usage)
 answered_at l e (LoadsBoard x into) (replies.Value word) = Comes (Brings into word)
 answered_at l e (StoresBoard x new) replies.Done = Comes Stored
@@ -214,11 +281,15 @@ told a reply = turn_by (answered a reply)
 
 -- but for those after a fault or a lost exchange
 abbrev pub left_at : AccessStage → ℕ
-left_at (LooksAtRecord r) = 4
-left_at (LoadsHeader r) = 3
-left_at (LooksAtField f usage) = 2
+left_at (LooksAtRecord r) = 7
+left_at (LoadsHeader r) = 6
+left_at (LooksAtCount m) = 5
+left_at (LoadsCount m) = 4
+left_at (LooksAtField f usage) = 3
 left_at (LoadsField f into) = 1
 left_at (StoresField f new) = 1
+left_at (LoadsForCas f e) = 2
+left_at (ExchangesField f e old) = 1
 left_at (LooksAtBoard b) = 3
 left_at (LoadsBoard x into) = 1
 left_at (StoresBoard x new) = 1
@@ -232,7 +303,10 @@ left a = left_at a.stage
 abbrev pub advances_at : AccessStage → Reply → Bool
 advances_at (LooksAtRecord r) (replies.Value word) = true
 advances_at (LoadsHeader r) (replies.Value word) = is_header (decode word)
+advances_at (LooksAtCount m) (replies.Value word) = true
+advances_at (LoadsCount m) (replies.Value word) = is_some (number_in (decode word))
 advances_at (LooksAtField f usage) (replies.Value word) = true
+advances_at (LoadsForCas f e) (replies.Value word) = true
 advances_at (LooksAtBoard b) (replies.Value word) = true
 advances_at (LoadsForSwap s) (replies.Value word) = true
 advances_at stage reply = false
@@ -246,10 +320,18 @@ abbrev pub FitsRecordUse : RecordUse → Type 0
 FitsRecordUse (record_uses.TellsLength into) = IsRegister into
 FitsRecordUse (record_uses.Loads into) = IsRegister into
 FitsRecordUse (record_uses.Stores new) = IsValueWord new
+FitsRecordUse (record_uses.Exchanges e) = IsRegister e.into × IsValueWord e.new
+
+-- of a mixed record's value, for which a register's word is still to be stored
+abbrev pub FitsMixedUse : FieldUse → Type 0
+FitsMixedUse (field_uses.Loads into) = IsRegister into
+FitsMixedUse (field_uses.Stores new) = IsValueWord new
+FitsMixedUse (field_uses.Exchanges e) = IsRegister e.into × IsValueWord e.new
 
 abbrev pub FitsFieldUse : FieldUse → Type 0
 FitsFieldUse (field_uses.Loads into) = IsRegister into
 FitsFieldUse (field_uses.Stores new) = ⊤
+FitsFieldUse (field_uses.Exchanges e) = IsRegister e.into
 
 abbrev pub FitsBoardUse : BoardUse → Type 0
 FitsBoardUse (board_uses.Loads into) = IsRegister into
@@ -262,9 +344,13 @@ IsHeapAddress n addr = addr < 2 * (PAGE_WORDS * n)
 abbrev pub FitsStage : (pages : ℕ) → AccessStage → Type 0
 FitsStage n (LooksAtRecord r) = IsHeapAddress n r.at × FitsRecordUse r.usage
 FitsStage n (LoadsHeader r) = IsHeapAddress n r.at × FitsRecordUse r.usage
+FitsStage n (LooksAtCount m) = IsHeapAddress n (m.at + (m.value + 2)) × FitsMixedUse m.usage
+FitsStage n (LoadsCount m) = IsHeapAddress n (m.at + (m.value + 2)) × FitsMixedUse m.usage
 FitsStage n (LooksAtField f usage) = IsHeapAddress n (field_at f) × FitsFieldUse usage
 FitsStage n (LoadsField f into) = IsHeapAddress n (field_at f) × IsRegister into
 FitsStage n (StoresField f new) = IsHeapAddress n (field_at f)
+FitsStage n (LoadsForCas f e) = IsHeapAddress n (field_at f) × IsRegister e.into
+FitsStage n (ExchangesField f e old) = IsHeapAddress n (field_at f) × IsRegister e.into
 FitsStage n (LooksAtBoard b) = (b.word < BOARD_WORDS) × FitsBoardUse b.usage
 FitsStage n (LoadsBoard x into) = (x < BOARD_WORDS) × IsRegister into
 FitsStage n (StoresBoard x new) = x < BOARD_WORDS
@@ -278,6 +364,7 @@ pub record IsSoundAccess (a : Access) : Type 0 where
 -- a plain number that is loaded fits a word
 abbrev pub AccessTakes : AccessStage → Reply → Type 0
 AccessTakes (LoadsField f into) (replies.Value word) = FitsRole (role_of f.role) word
+AccessTakes (LoadsForCas f e) (replies.Value word) = FitsRole (role_of f.role) word
 AccessTakes stage reply = ⊤
 
 -- ---- whose access it is
@@ -287,6 +374,8 @@ abbrev pub begun : Action → Option AccessStage
 begun (Measures d i) = Some (LooksAtRecord (record { at = i.serial; value = 0; usage = record_uses.TellsLength d }))
 begun (Loads d i x) = Some (LooksAtRecord (record { at = i.serial; value = x; usage = record_uses.Loads d }))
 begun (Stores i x v) = Some (LooksAtRecord (record { at = i.serial; value = x; usage = record_uses.Stores (word_for v) }))
+begun (Exchanges d i x expected v) =
+    Some (LooksAtRecord (record { at = i.serial; value = x; usage = record_uses.Exchanges (record { into = d; expected = word_for expected; new = word_for v }) }))
 begun (Gets d x) = Some (LooksAtBoard (record { word = x; usage = board_uses.Loads d }))
 begun (Puts x v) = Some (LooksAtBoard (record { word = x; usage = board_uses.Stores (word_for v) }))
 begun (Swaps d x v) = Some (LooksAtBoard (record { word = x; usage = board_uses.Swaps d (word_for v) }))
@@ -298,17 +387,33 @@ begun (Makes kind d n) = None
 
 -- a field is that of the action: its value, or what stands there for it
 abbrev pub IsFieldOfAction : Action → FieldAccess → FieldUse → Type 0
-IsFieldOfAction (Loads d i x) f usage = (f ≡ field_of i.serial f.role x) × (usage ≡ field_uses.Loads d)
-IsFieldOfAction (Stores i x v) f usage = (f ≡ field_of i.serial f.role x) × (may_hold (kind_of f.role) v ≡ Ok v) × (usage ≡ field_uses.Stores (word_as f.role v))
+IsFieldOfAction (Loads d i x) f usage = (f ≡ field_of i.serial f.first f.role x) × (usage ≡ field_uses.Loads d)
+IsFieldOfAction (Stores i x v) f usage = (f ≡ field_of i.serial f.first f.role x) × (may_hold (kind_of f.role) x v ≡ Ok v) × (usage ≡ field_uses.Stores (word_as f.role v))
+IsFieldOfAction (Exchanges d i x expected v) f usage =
+    (f ≡ field_of i.serial f.first f.role x) × (may_hold (kind_of f.role) x v ≡ Ok v) × (usage ≡ field_uses.Exchanges (record { into = d; expected = word_for expected; new = word_as f.role v }))
 IsFieldOfAction act f usage = ⊥
 
--- the access at this stage is that of the action
+-- the use of a record that a use of a value is
+abbrev pub record_use : FieldUse → RecordUse
+record_use (field_uses.Loads into) = record_uses.Loads into
+record_use (field_uses.Stores new) = record_uses.Stores new
+record_use (field_uses.Exchanges e) = record_uses.Exchanges e
+
+-- the access to a mixed record, as it was before its header was read
+abbrev pub before_header : MixedAccess → RecordAccess
+before_header m = record { at = m.at; value = m.value; usage = record_use m.usage }
+
+-- The access at this stage is that of the action. A field is exchanged from a word that is what is expected.
 abbrev pub IsAccessOf : Action → AccessStage → Type 0
 IsAccessOf act (LooksAtRecord r) = begun act ≡ Some (LooksAtRecord r)
 IsAccessOf act (LoadsHeader r) = begun act ≡ Some (LooksAtRecord r)
+IsAccessOf act (LooksAtCount m) = begun act ≡ Some (LooksAtRecord (before_header m))
+IsAccessOf act (LoadsCount m) = begun act ≡ Some (LooksAtRecord (before_header m))
 IsAccessOf act (LooksAtField f usage) = IsFieldOfAction act f usage
 IsAccessOf act (LoadsField f into) = IsFieldOfAction act f (field_uses.Loads into)
 IsAccessOf act (StoresField f new) = IsFieldOfAction act f (field_uses.Stores new)
+IsAccessOf act (LoadsForCas f e) = IsFieldOfAction act f (field_uses.Exchanges e)
+IsAccessOf act (ExchangesField f e old) = IsFieldOfAction act f (field_uses.Exchanges e) × (word_held (role_of f.role) old ≡ e.expected)
 IsAccessOf act (LooksAtBoard b) = begun act ≡ Some (LooksAtBoard b)
 IsAccessOf act (LoadsBoard x into) = begun act ≡ Some (LooksAtBoard (record { word = x; usage = board_uses.Loads into }))
 IsAccessOf act (StoresBoard x new) = begun act ≡ Some (LooksAtBoard (record { word = x; usage = board_uses.Stores new }))

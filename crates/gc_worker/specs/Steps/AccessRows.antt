@@ -6,7 +6,7 @@ use Rattle.atom_store.specs.declared.step.Step.TheVariants.{Load, Store, Exchang
 use Rattle.atom_store.specs.declared.turn.Turn.{Turn}
 use Rattle.atom_store.specs.declared.turn.Turn.TheVariants.{More, Finished}
 use Rattle.atom_store.specs.Machine.{Machine, RunsTo}
-use Rattle.plain_state.specs.declared.end.End.TheVariants.{OutOfRange}
+use Rattle.plain_state.specs.declared.end.End.TheVariants.{OutOfRange, IntoRaw}
 use Rattle.space_map.specs.Worked.{four_pages}
 use Rattle.gc_worker.specs.declared.access.Access.{Access}
 use Rattle.gc_worker.specs.declared.access.access_stage.AccessStage.{AccessStage}
@@ -14,7 +14,7 @@ use Rattle.gc_worker.specs.declared.access.access_stage.AccessStage.TheVariants.
 use Rattle.gc_worker.specs.declared.access.accessed.Accessed.{Accessed}
 use Rattle.gc_worker.specs.declared.access.accessed.Accessed.TheVariants.{Faults, Brings, Stored, Fails}
 use Rattle.gc_worker.specs.declared.access.board_access.BoardUse.TheVariants.{Swaps}
-use Rattle.gc_worker.specs.declared.access.record_access.RecordUse.TheVariants.{Loads, Stores}
+use Rattle.gc_worker.specs.declared.access.record_access.RecordUse.TheVariants.{Loads, Stores, Exchanges}
 use Rattle.gc_worker.specs.Steps.Access.{taken, told, wanted}
 
 -- an access, and what it told last
@@ -44,11 +44,36 @@ LostSwapIsTriedAgain =
     RunsTo access_machine (begins_at (LooksAtBoard (record { word = 0; usage = Swaps 3 20 })))
     ((Load 24, Value 1) ∷ (Load 545, Value 4) ∷ (Exchange 545 4 20, Lost 8) ∷ (Load 545, Value 8) ∷ (Exchange 545 8 20, Won) ∷ []) (Brings 3 8)
 
+-- The number 3 in a field is exchanged for the number 7. The exchange is lost, as the number 5 stands there by then, which isn't what is expected.
+abbrev pub LostExchangeIsComparedAgain : Type 0
+LostExchangeIsComparedAgain =
+    RunsTo access_machine (begins_at (LooksAtRecord (record { at = 192; value = 0; usage = Exchanges (record { into = 2; expected = 12; new = 28 }) })))
+    ((Load 19, Value 1) ∷ (Load 225, Value 65570) ∷ (Load 226, Value 12) ∷ (Exchange 226 12 28, Lost 20) ∷ (Load 226, Value 20) ∷ []) (Brings 2 0)
+
 -- value 1 of a record whose header is the last word but one of page 3: its page is looked at too
 abbrev pub NextPageIsLookedAt : Type 0
 NextPageIsLookedAt =
     RunsTo access_machine (begins_at (LooksAtRecord (record { at = 254; value = 1; usage = Loads 2 })))
     ((Load 19, Value 1) ∷ (Load 287, Value 65570) ∷ (Load 20, Value 1) ∷ (Load 289, Value 28) ∷ []) (Brings 2 28)
+
+-- Value 1 of a mixed record whose header is the last word of page 3: the count's page is looked at, and not again for the value, which
+-- lies there too. The count is 1, so value 1 is the plain number 7.
+abbrev pub CountsPageIsLookedAt : Type 0
+CountsPageIsLookedAt =
+    RunsTo access_machine (begins_at (LooksAtRecord (record { at = 255; value = 1; usage = Loads 2 })))
+    ((Load 19, Value 1) ∷ (Load 288, Value 65594) ∷ (Load 20, Value 1) ∷ (Load 289, Value 4) ∷ (Load 291, Value 7) ∷ []) (Brings 2 28)
+
+-- the header's length of a mixed record counts its count: with a length of 3 it has no value 2
+abbrev pub CountIsNoValue : Type 0
+CountIsNoValue =
+    RunsTo access_machine (begins_at (LooksAtRecord (record { at = 192; value = 2; usage = Loads 2 })))
+    ((Load 19, Value 1) ∷ (Load 225, Value 65594) ∷ []) (Fails OutOfRange)
+
+-- a pointer isn't stored behind the fields of a mixed record, of which it has one here
+abbrev pub NoPointerIsStoredBehindFields : Type 0
+NoPointerIsStoredBehindFields =
+    RunsTo access_machine (begins_at (LooksAtRecord (record { at = 192; value = 1; usage = Stores 769 })))
+    ((Load 19, Value 1) ∷ (Load 225, Value 65594) ∷ (Load 226, Value 4) ∷ []) (Fails IntoRaw)
 
 -- a value on the header's page is stored there
 abbrev pub SamePageIsNotLookedAt : Type 0

@@ -57,7 +57,7 @@ use Rattle.gc_worker.specs.declared.calls.did.Did.{Did}
 use Rattle.gc_worker.specs.declared.calls.did.Did.TheVariants.{Done, Trap}
 use Rattle.gc_worker.specs.declared.task.Task.TheVariants.{Calls, Stops}
 use Rattle.gc_worker.specs.Steps.Access as access
-use Rattle.gc_worker.specs.Workers.Held.{Held, at_stage, making_for, header_for, pages_needed, run_held}
+use Rattle.gc_worker.specs.Workers.Held.{Held, at_stage, making_for, header_for, fields_for, pages_needed, run_held}
 use Rattle.gc_worker.specs.Plain.Seen.{Making, seen, word_for}
 use Rattle.plain_heap.specs.declared.action.Action.{Action}
 use Rattle.plain_heap.specs.declared.action.Action.TheVariants.{Sets, Jumps, Links, Prints, Makes}
@@ -72,7 +72,7 @@ passes x passage after = Passes (gate.begun x.layout passage) after
 
 -- the allocation of the record that the task asks for
 abbrev pub places : Held → Option Header → Stage
-places x (Some header) = Places (place.begun x.layout (run_held x) header x.epoch)
+places x (Some header) = Places (place.begun x.layout (run_held x) header x.epoch (fields_for x))
 places x None = Looks
 
 -- a mutator that stopped goes on there

@@ -1,10 +1,13 @@
 -- What a worker keeps of itself: each machine is sound, and its layout, its worker and its epoch are the worker's own.
 use Rattle.std.specs.Prelude.{◌≡◌, ℕ, ◌+◌, ◌^◌, ◌<◌, ◌≤◌, ◌⊎◌, ⊤, Bool, true, false, List, length, Option, Some, None, Ok, is_some, nat_lt, slice_index, IsTrue}
 use Rattle.atom_store.specs.declared.reply.Reply.{Reply}
-use Rattle.space_map.specs.declared.spaces.TheConstants.{LAST_WORKER}
+use Rattle.space_map.specs.declared.spaces.TheConstants.{LAST_WORKER, PAGE_WORDS}
 use Rattle.space_map.specs.Spaces.{Layout, IsPageCount, board_page, first_word, space_start, to_space}
 use Rattle.alloc_end.specs.declared.run.Run.{Run}
 use Rattle.alloc_end.specs.Place as place
+use Rattle.alloc_end.specs.declared.place_stage.PlaceStage.{PlaceStage}
+use Rattle.alloc_end.specs.declared.place_stage.PlaceStage.TheVariants.{StoresCount, StoresHeader}
+use Rattle.record_layout.specs.declared.header.Header.{Header}
 use Rattle.alloc_end.specs.Soundness.{RunLiesInSpaces, IsPlacingGoing, IsSoundPlacing}
 use Rattle.fault_duty.specs.declared.caller.Caller.{Caller}
 use Rattle.fault_duty.specs.declared.caller.Caller.TheVariants as callers
@@ -40,7 +43,7 @@ use Rattle.gc_worker.specs.declared.task.Task.TheVariants.{Calls, Stops}
 use Rattle.gc_worker.specs.Steps.Access.{IsSoundAccess, IsAccessOf}
 use Rattle.gc_worker.specs.Steps.Access as access
 use Rattle.gc_worker.specs.Plain.Seen.{IsValueWord, Making, making_in, seen}
-use Rattle.gc_worker.specs.Workers.Held.{Held, pages_needed, header_for}
+use Rattle.gc_worker.specs.Workers.Held.{Held, pages_needed, header_for, fields_for}
 use Rattle.plain_state.specs.declared.end.End.{End}
 use Rattle.plain_state.specs.declared.end.End.TheVariants.{HeapFull}
 use Rattle.plain_state.specs.declared.sizes.TheConstants.{REGISTERS, MOST_PRINTED}
@@ -87,10 +90,18 @@ pub record FitsRegister (x : Held) (w : ForwardingRegister) : Type 0 where
   pub register : w.register < REGISTERS
   pub copy : FitsCopy x (x.epoch + 1) w.evac
 
+-- once a record is to stand in the run, less than a page is left behind it
+abbrev pub LeavesShortRun : Run → Header → PlaceStage → Type 0
+LeavesShortRun run header StoresCount = run.end < run.at + place.size_of header + PAGE_WORDS
+LeavesShortRun run header StoresHeader = run.end < run.at + place.size_of header + PAGE_WORDS
+LeavesShortRun run header stage = ⊤
+
 pub record FitsPlace (x : Held) (p : place.Placing) : Type 0 where
   pub layout : p.layout ≡ x.layout
   pub epoch : p.epoch ≡ x.epoch
+  pub fields : p.fields ≡ fields_for x
   pub going : IsPlacingGoing p.stage
+  pub rest : LeavesShortRun p.run p.header p.stage
   pub sound : IsSoundPlacing p
 
 -- the page is the board, or none before the space of the worker's epoch
@@ -280,9 +291,10 @@ IsOnSide stage is_mutator ended = is_mutator ≡ true
 
 -- ---- the whole
 
+-- a run between two records: it lies in the spaces, and less than a page is left of it
 abbrev pub FitsRun : (pages : ℕ) → Option Run → Type 0
 FitsRun n None = ⊤
-FitsRun n (Some run) = RunLiesInSpaces n run
+FitsRun n (Some run) = RunLiesInSpaces n run × (run.end < run.at + PAGE_WORDS)
 
 abbrev pub AreValues : List ℕ → Type 0
 AreValues registers = (r : ℕ) → r < REGISTERS → IsValueWord (slice_index registers r)

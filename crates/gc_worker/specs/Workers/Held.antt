@@ -2,13 +2,15 @@
 use Rattle.std.specs.Prelude.{ℕ, ◌+◌, List, Option, Some, None}
 use Rattle.std.specs.Option.{option_and_then}
 use Rattle.heap_words.specs.Decoded.{HeaderWord}
+use Rattle.plain_state.specs.declared.kind.Kind.{Kind}
+use Rattle.plain_state.specs.declared.kind.Kind.TheVariants.{Fields, Raw, Mixed}
 use Rattle.record_layout.specs.declared.header.Header.{Header}
 use Rattle.record_layout.specs.Layout.{header_in}
 use Rattle.space_map.specs.Spaces.{Layout}
 use Rattle.plain_heap.specs.Action.{action}
 use Rattle.alloc_end.specs.declared.run.Run.{Run}
 use Rattle.alloc_end.specs.Place.{size_of, pages_for}
-use Rattle.heap_state.specs.Invariant.Ghost.{header_kind}
+use Rattle.heap_state.specs.Invariant.Ghost.{header_kind, header_len}
 use Rattle.heap_state.specs.Worker.{Account}
 use Rattle.gc_worker.specs.Plain.Seen.{Making, making_in, seen}
 use Rattle.gc_worker.specs.declared.stage.Stage.{Stage}
@@ -43,7 +45,7 @@ making_for x None = None
 
 -- the header of the worker's next record, which is this
 abbrev pub header_of : Held → Making → Option Header
-header_of x m = header_in (HeaderWord (header_kind m.kind) m.len (x.account.serial + 1) x.number)
+header_of x m = header_in (HeaderWord (header_kind m.kind) (header_len m.kind m.len) (x.account.serial + 1) x.number)
 
 -- the header of the record that the task makes, if it does
 abbrev pub header_for : Held → Option Header
@@ -52,6 +54,20 @@ header_for x = option_and_then (header_of x) (making_for x x.task)
 abbrev pub pages_asked : Option Header → ℕ
 pages_asked (Some header) = pages_for (size_of header)
 pages_asked None = 0
+
+-- the fields that a mixed record of this kind has
+abbrev pub fields_of : Kind → ℕ
+fields_of Fields = 0
+fields_of Raw = 0
+fields_of (Mixed fields) = fields
+
+abbrev pub fields_made : Option Making → ℕ
+fields_made (Some m) = fields_of m.kind
+fields_made None = 0
+
+-- those of the record that the task makes, if it is mixed
+abbrev pub fields_for : Held → ℕ
+fields_for x = fields_made (making_for x x.task)
 
 -- the pages that it needs
 abbrev pub pages_needed : Held → ℕ

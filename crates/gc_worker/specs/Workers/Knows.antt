@@ -1,5 +1,9 @@
 -- What the proofs of the heap know of a worker, component by component, each by cases on its stage.
-use Rattle.std.specs.Prelude.{ℕ, ◌+◌, ◌-◌, ◌/◌, ◌==◌, ◌||◌, Bool, true, false, Option, Some, None, nat_lt, slice_index, if◌then◌else◌}
+use Rattle.std.specs.Prelude.{ℕ, ◌+◌, ◌-◌, ◌/◌, ◌==◌, ◌||◌, Bool, true, false, [], Option, Some, None, nat_lt, slice_index, if◌then◌else◌, max}
+use Rattle.heap_words.specs.declared.kind.Kind.{Kind as HeaderKind}
+use Rattle.heap_words.specs.declared.kind.Kind.TheVariants as headers
+use Rattle.plain_state.specs.declared.kind.Kind.{Kind}
+use Rattle.plain_state.specs.declared.kind.Kind.TheVariants.{Fields, Raw, Mixed}
 use Rattle.space_map.specs.declared.spaces.TheConstants.{LAST_WORKER, PAGE_WORDS}
 use Rattle.space_map.specs.Spaces.{Layout, page_of, first_word, board_page}
 use Rattle.alloc_end.specs.declared.place_stage.PlaceStage.{PlaceStage}
@@ -24,6 +28,7 @@ use Rattle.gate_core.specs.declared.gate_stage.GateStage.{GateStage}
 use Rattle.gate_core.specs.declared.gate_stage.GateStage.TheVariants as gate_stage
 use Rattle.gate_core.specs.declared.passage.Passage as gate_passage
 use Rattle.gate_core.specs.declared.passage.Passage.TheVariants as passages
+use Rattle.page_scan.specs.declared.headed_record.HeadedRecord.{HeadedRecord}
 use Rattle.page_scan.specs.declared.scan_stage.ScanStage.{ScanStage}
 use Rattle.page_scan.specs.declared.scan_stage.ScanStage.TheVariants as scan_stage
 use Rattle.page_scan.specs.declared.scanned_record.ScannedRecord.{ScannedRecord}
@@ -33,16 +38,18 @@ use Rattle.page_scan.specs.Scanning as scan
 use Rattle.page_slots.specs.declared.claim_stage.ClaimStage.{ClaimStage}
 use Rattle.page_slots.specs.declared.claim_stage.ClaimStage.TheVariants as claim_stage
 use Rattle.page_slots.specs.Claim.{Claiming}
+use Rattle.heap_laws.specs.Allocation.Records.{stored_ahead}
 use Rattle.heap_laws.specs.Copying.{begun}
-use Rattle.heap_state.specs.Worker.{Worker, Post, Outside, Running, Stopped, Flipping, Passage, Enter, Park, Request, Forwarded, Resume, Leave, GateStep, Reset, Stock, SeenRecord, Role, FieldRole, NumberRole, Origin, Register, Scanned, Quest, Copy, Scan, Round, Claim, Look, LastLook}
+use Rattle.heap_state.specs.Worker.{Worker, Post, Outside, Running, Stopped, Flipping, Passage, Enter, Park, Request, Forwarded, Resume, Leave, GateStep, Reset, Stock, SeenHeader, SeenRecord, Role, FieldRole, NumberRole, UnknownRole, Origin, Register, Scanned, Quest, Copy, Scan, Round, Claim, Look, LastLook}
 use Rattle.heap_state.specs.Worker as workers
 use Rattle.heap_state.specs.Worker.{Access}
 use Rattle.gc_worker.specs.declared.access.access_stage.AccessStage.{AccessStage}
-use Rattle.gc_worker.specs.declared.access.access_stage.AccessStage.TheVariants.{LooksAtRecord, LoadsHeader, LooksAtField, LoadsField, StoresField, LooksAtBoard, LoadsBoard, StoresBoard, LoadsForSwap, SwapsBoard}
+use Rattle.gc_worker.specs.declared.access.access_stage.AccessStage.TheVariants.{LooksAtRecord, LoadsHeader, LooksAtCount, LoadsCount, LooksAtField, LoadsField, StoresField, LoadsForCas, ExchangesField, LooksAtBoard, LoadsBoard, StoresBoard, LoadsForSwap, SwapsBoard}
 use Rattle.gc_worker.specs.declared.stage.back.Back.{Back}
 use Rattle.gc_worker.specs.declared.stage.back.Back.TheVariants.{ToAccess, ToPlace, ToScanner}
 use Rattle.gc_worker.specs.declared.access.field_access.FieldAccess.{FieldAccess}
-use Rattle.gc_worker.specs.Steps.Access.{role_of, field_at}
+use Rattle.gc_worker.specs.declared.access.mixed_access.MixedAccess.{MixedAccess}
+use Rattle.gc_worker.specs.Steps.Access.{role_of, count_at, field_at, read_before}
 use Rattle.gc_worker.specs.declared.stage.Stage.{Stage}
 use Rattle.gc_worker.specs.declared.stage.Stage.TheVariants.{Looks, Passes, Flips, Forwards, Accesses, Places, Serves, Scans, Evacuates, Opens, Gone}
 use Rattle.gc_worker.specs.Workers.Held.{Held, pages_needed}
@@ -146,7 +153,7 @@ epoch_in own stage = own
 -- ---- new records
 
 abbrev pub stock_of : (epoch : ℕ) → Run → Stock
-stock_of epoch run = record { epoch = epoch; at = run.at; end = run.end; zeroed = run.end; opened = run.end }
+stock_of epoch run = record { epoch = epoch; at = run.at; end = run.end; zeroed = run.end; opened = run.end; ahead = [] }
 
 abbrev pub own_stock : (epoch : ℕ) → Option Run → Option Stock
 own_stock epoch None = None
@@ -154,10 +161,20 @@ own_stock epoch (Some run) = Some (stock_of epoch run)
 
 -- pages claimed, of which the words before one are 0, or the pages before one are open
 abbrev pub zeroed_to : Placing → NewPages → Stock
-zeroed_to p new = record { epoch = p.epoch; at = new.first; end = new.first + words_for p.header; zeroed = new.next; opened = new.first }
+zeroed_to p new = record { epoch = p.epoch; at = new.first; end = new.first + words_for p.header; zeroed = new.next; opened = new.first; ahead = [] }
 
 abbrev pub opened_to : Placing → NewPages → Stock
-opened_to p new = record { epoch = p.epoch; at = new.first; end = new.first + words_for p.header; zeroed = new.first + words_for p.header; opened = first_word new.next }
+opened_to p new = record { epoch = p.epoch; at = new.first; end = new.first + words_for p.header; zeroed = new.first + words_for p.header; opened = first_word new.next; ahead = [] }
+
+-- the kind of a record with this header, and if it is mixed with so many fields
+abbrev pub kind_with : HeaderKind → (fields : ℕ) → Kind
+kind_with headers.Fields fields = Fields
+kind_with headers.Raw fields = Raw
+kind_with headers.Mixed fields = Mixed fields
+
+-- a run in which all stands ahead of a record's header
+abbrev pub counted_in : Placing → Stock
+counted_in p = record (stock_of p.epoch p.run) { ahead = stored_ahead (kind_with p.header.kind p.fields) }
 
 abbrev pub stock_at : Held → Placing → PlaceStage → Option Stock
 stock_at x p place_stage.LoadsTraced = own_stock x.epoch x.run
@@ -165,7 +182,8 @@ stock_at x p (place_stage.LoadsArea traced) = own_stock x.epoch x.run
 stock_at x p (place_stage.ExchangesArea f) = own_stock x.epoch x.run
 stock_at x p (place_stage.StoresZero new) = Some (zeroed_to p new)
 stock_at x p (place_stage.OpensPage new) = Some (opened_to p new)
-stock_at x p place_stage.StoresHeader = Some (stock_of p.epoch p.run)
+stock_at x p place_stage.StoresCount = Some (stock_of p.epoch p.run)
+stock_at x p place_stage.StoresHeader = Some (counted_in p)
 stock_at x p (place_stage.Ended result) = own_stock x.epoch x.run
 
 abbrev pub stock_in : Held → Stage → Option Stock
@@ -191,20 +209,32 @@ traced_seen_in stage = false
 -- ---- accesses
 
 abbrev pub known_access : FieldAccess → Access
-known_access f = record { at = f.at; word = f.word; role = role_of f.role }
+known_access f = record { at = f.at; first = f.first; word = f.word; role = role_of f.role }
+
+-- before the count is read it is an access to the value's own word already
+abbrev pub uncounted_access : MixedAccess → Access
+uncounted_access m = record { at = m.at; first = 2; word = m.value + 2; role = UnknownRole }
 
 abbrev pub access_at : AccessStage → Option Access
+access_at (LooksAtCount m) = Some (uncounted_access m)
+access_at (LoadsCount m) = Some (uncounted_access m)
 access_at (LooksAtField f usage) = Some (known_access f)
 access_at (LoadsField f into) = Some (known_access f)
 access_at (StoresField f new) = Some (known_access f)
+access_at (LoadsForCas f e) = Some (known_access f)
+access_at (ExchangesField f e old) = Some (known_access f)
 access_at stage = None
 
--- the page found open: the header's, then the field's; or the board's
+-- the page found open: the header's, then the count's and the field's; or the board's
 abbrev pub opened_at : Layout → AccessStage → Option ℕ
 opened_at l (LoadsHeader r) = Some (page_of r.at)
-opened_at l (LooksAtField f usage) = Some (page_of f.at)
+opened_at l (LooksAtCount m) = Some (page_of m.at)
+opened_at l (LoadsCount m) = Some (page_of (count_at m))
+opened_at l (LooksAtField f usage) = Some (page_of (read_before f))
 opened_at l (LoadsField f into) = Some (page_of (field_at f))
 opened_at l (StoresField f new) = Some (page_of (field_at f))
+opened_at l (LoadsForCas f e) = Some (page_of (field_at f))
+opened_at l (ExchangesField f e old) = Some (page_of (field_at f))
 opened_at l (LoadsBoard word into) = Some (board_page l.pages)
 opened_at l (StoresBoard word new) = Some (board_page l.pages)
 opened_at l (LoadsForSwap s) = Some (board_page l.pages)
@@ -303,12 +333,16 @@ abbrev pub current_at : Spot → Option SeenRecord
 current_at (OnBoard x) = None
 current_at (InRecord r x) = Some (seen_record r)
 
+abbrev pub seen_header : HeadedRecord → SeenHeader
+seen_header h = record { at = h.at; size = h.size }
+
 abbrev pub scan_with : scan.Scanning → (cursor : ℕ) (over : Option ℕ) (current : Option SeenRecord) (inner ended : Bool) → Scan
 scan_with s cursor over current inner ended = record {
   page = s.page;
   cursor = cursor;
   in_place = s.in_place;
   over = over;
+  headed = None;
   current = current;
   inner = inner;
   ended = ended;
@@ -321,6 +355,7 @@ scan_at s spot = scan_with s (scan.address_of spot) None (current_at spot) false
 abbrev pub scan_of : scan.Scanning → ScanStage → Scan
 scan_of s scan_stage.LoadsCross = scan_with s (first_word s.page) None None false false
 scan_of s (scan_stage.LoadsFirst at) = scan_with s (first_word s.page) (Some at) None false false
+scan_of s (scan_stage.LoadsCount h) = record (scan_with s (max h.at (first_word s.page)) None None false false) { headed = Some (seen_header h) }
 scan_of s (scan_stage.LoadsWord spot) = scan_at s spot
 scan_of s (scan_stage.Asks asked) = scan_at s asked.spot
 scan_of s (scan_stage.StoresCopy asked to) = scan_at s asked.spot

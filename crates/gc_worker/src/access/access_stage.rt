@@ -1,5 +1,6 @@
 use crate::access::board_access::{BoardAccess, BoardSwap};
-use crate::access::field_access::{FieldAccess, FieldUse};
+use crate::access::field_access::{FieldAccess, FieldExchange, FieldUse};
+use crate::access::mixed_access::MixedAccess;
 use crate::access::record_access::RecordAccess;
 
 /// What an access is about to do.
@@ -9,12 +10,20 @@ pub enum AccessStage {
     LooksAtRecord(RecordAccess),
     /// Load the header.
     LoadsHeader(RecordAccess),
+    /// Load the word of the count's page, which is another: it must be open.
+    LooksAtCount(MixedAccess),
+    /// Load the count of the record's fields.
+    LoadsCount(MixedAccess),
     /// Load the word of the field's page, which is another: it must be open.
     LooksAtField(FieldAccess, FieldUse),
     /// Load the field into this register.
     LoadsField(FieldAccess, u8),
     /// Store this in the field.
     StoresField(FieldAccess, u64),
+    /// Load the field that is to be exchanged, and compare it.
+    LoadsForCas(FieldAccess, FieldExchange),
+    /// Exchange the field, from this word.
+    ExchangesField(FieldAccess, FieldExchange, u64),
     /// Load the word of the board's page: it must be open.
     LooksAtBoard(BoardAccess),
     /// Load this word of the board into this register.

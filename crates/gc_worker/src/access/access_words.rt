@@ -1,6 +1,6 @@
 //! What an access makes of the words that it reads, and where it goes on.
 
-ghost use Rattle.std.specs.Prelude.{◌≡◌, ◌<◌};
+ghost use Rattle.std.specs.Prelude.{◌≡◌, ◌+◌, ◌^◌, ◌<◌, ℕ};
 ghost use Rattle.std.specs.Result.{result_map_both};
 ghost use Rattle.plain_state.specs.declared.sizes.TheConstants.{BOARD_WORDS};
 ghost use Rattle.plain_heap.specs.Call.{may_hold};
@@ -11,29 +11,30 @@ ghost use Rattle.gc_worker.specs.Plain.Seen.{IsValueWord, value_seen};
 use crate::access::access_stage::AccessStage;
 use crate::access::board_access::{BoardSwap, BoardUse};
 use crate::access::field_access::{FieldAccess, FieldUse, Role};
-use crate::access::record_access::RecordAccess;
-use heap_words::{Kind, Word};
+use heap_words::Word;
 use plain_state::End;
 use space_map::Spaces;
 
-/// The role of the words of a record whose header says this kind.
-pub fn role_of(kind: Kind) -> Role
-    ensures { result ≡ access.role_in kind }
+/// The role of a value of a mixed record with so many fields.
+pub fn role_by_count(count: u64, value: u32) -> Role
+    ensures { result ≡ access.role_by_count count value }
 {
-    match kind {
-        Kind::Fields => Role::Field,
-        Kind::Raw => Role::Number,
+    if u64::from(value) < count {
+        Role::Field
+    } else {
+        Role::Number
     }
 }
 
-/// The value of a record that is wanted, whose words have this role.
-pub fn field(r: RecordAccess, role: Role) -> FieldAccess
-    requires { r.value < 4095 }
-    ensures { result ≡ access.field_of r.at role r.value }
+/// The value of a record whose values begin at this word, where this one has this role.
+pub fn field(at: u32, first: u32, role: Role, value: u32) -> FieldAccess
+    requires { value + first < 2 ^ 32 }
+    ensures { result ≡ access.field_of at first role value }
 {
     FieldAccess {
-        at: r.at,
-        word: r.value as u32 + 1,
+        at,
+        first,
+        word: value + first,
         role,
     }
 }
@@ -53,7 +54,7 @@ pub fn held(role: Role, word: u64) -> u64
 #[tactic(auto, using(crate::proofs::Words::Read::word_of_value_seen))]
 pub fn stored(role: Role, new: u64) -> Result<u64, End>
     requires { IsValueWord new }
-    ensures { result ≡ result_map_both (access.word_as role) (λ why. why) (may_hold (access.kind_of role) (value_seen new)) }
+    ensures { (x : ℕ) → result ≡ result_map_both (access.word_as role) (λ why. why) (may_hold (access.kind_of role) x (value_seen new)) }
 {
     match role {
         Role::Field => Ok(new),
@@ -67,6 +68,7 @@ pub fn using_field(f: FieldAccess, usage: FieldUse) -> AccessStage
     match usage {
         FieldUse::Loads(into) => AccessStage::LoadsField(f, into),
         FieldUse::Stores(new) => AccessStage::StoresField(f, new),
+        FieldUse::Exchanges(e) => AccessStage::LoadsForCas(f, e),
     }
 }
 

@@ -12,9 +12,22 @@ pub enum Role {
 pub struct FieldAccess {
     /// The record's address.
     pub at: u32,
-    /// The word, counted from the header.
+    /// The word at which its values begin, counted from the header.
+    pub first: u32,
+    /// The word that is accessed.
     pub word: u32,
     pub role: Role,
+}
+
+/// The exchange of what stands there for another, if it is what is expected.
+#[derive(Clone, Copy)]
+pub struct FieldExchange {
+    /// The register that gets 1 if it was, else 0.
+    pub into: u8,
+    /// The word that a register has of what is expected.
+    pub expected: u64,
+    /// What takes its place.
+    pub new: u64,
 }
 
 /// What is done with it.
@@ -24,4 +37,22 @@ pub enum FieldUse {
     Loads(u8),
     /// This will stand there.
     Stores(u64),
+    Exchanges(FieldExchange),
+}
+
+impl FieldUse {
+    ghost use Rattle.std.specs.Prelude.{◌≡◌};
+    ghost use Rattle.gc_worker.specs.Steps.Access.{with_new};
+
+    /// The same, where this is to be stored.
+    #[inline(always)]
+    pub fn with_new(self, new: u64) -> FieldUse
+        ensures { result ≡ with_new self new }
+    {
+        match self {
+            FieldUse::Loads(into) => FieldUse::Loads(into),
+            FieldUse::Stores(_) => FieldUse::Stores(new),
+            FieldUse::Exchanges(e) => FieldUse::Exchanges(FieldExchange { new, ..e }),
+        }
+    }
 }

@@ -1,3 +1,5 @@
+use crate::access::field_access::FieldExchange;
+
 /// What is done with a record.
 #[derive(Clone, Copy)]
 pub enum RecordUse {
@@ -7,6 +9,8 @@ pub enum RecordUse {
     Loads(u8),
     /// This word becomes a value of it.
     Stores(u64),
+    /// This word becomes a value of it, if that is what is expected.
+    Exchanges(FieldExchange),
 }
 
 /// The access to a record whose header isn't read yet.

@@ -3,11 +3,11 @@
 ghost use Rattle.std.specs.Prelude.{◌≡◌, ◌+◌, ◌^◌, ◌<◌};
 ghost use Rattle.heap_words.specs.Decoded.{HeaderWord};
 ghost use Rattle.record_layout.specs.Layout.{header_in};
-ghost use Rattle.heap_state.specs.Invariant.Ghost.{header_kind};
+ghost use Rattle.heap_state.specs.Invariant.Ghost.{header_kind, header_len};
 ghost use Rattle.plain_heap.specs.Action.{action, allocates};
 ghost use Rattle.gc_worker.specs.Workers.Fits.{FitsStage, IsMaking, Takes};
-ghost use Rattle.gc_worker.specs.Workers.Held.{pages_needed, at_stage, header_for, making_for};
-ghost use Rattle.gc_worker.specs.Plain.Seen.{making_in};
+ghost use Rattle.gc_worker.specs.Workers.Held.{pages_needed, at_stage, header_for, fields_for, fields_of, making_for};
+ghost use Rattle.gc_worker.specs.Plain.Seen.{making_in, mixed_made};
 ghost use Rattle.gc_worker.specs.Steps.Stepped.{IsPlacing, IsSound, seen_by, stepped_by, uncounted};
 ghost use Rattle.gc_worker.specs.Steps.Turned.{full_by, places, told, told_effect, told_full, turned, with_record};
 
@@ -40,11 +40,16 @@ pub struct Making {
 }
 
 impl State {
-    /// The header of the next record, which has this kind and length, if a header can say that.
-    fn next_header(&self, kind: Kind, len: u16) -> Option<Header>
-        ensures { result ≡ header_in (HeaderWord (header_kind kind) len (self.now.account.serial + 1) self.now.number) }
+    /// The header of the next record, which has this kind and so many values, if a header can say that.
+    fn next_header(&self, kind: Kind, count: u16) -> Option<Header>
+        ensures { result ≡ header_in (HeaderWord (header_kind kind) (header_len kind count) (self.now.account.serial + 1) self.now.number) }
     {
-        header_after(self.serial, header_kind(kind), len, self.number)
+        header_after(
+            self.serial,
+            header_kind(kind),
+            header_len(kind, count),
+            self.number,
+        )
     }
 
     /// The header of the record that the task makes, if it makes one.
@@ -60,6 +65,19 @@ impl State {
         }
     }
 
+    /// The fields that this record has, if it is mixed.
+    fn fields(&self) -> u16
+        ensures { result ≡ fields_for self.now }
+    {
+        match self.due {
+            Due::Call => match self.making(self.instr) {
+                Some(making) => fields_of(making.kind),
+                None => 0,
+            },
+            Due::Stop | Due::Nothing => 0,
+        }
+    }
+
     /// The record that an instruction makes, if it makes one.
     #[tactic(auto, using(crate::proofs::Plain::RecordsMade::made_of))]
     fn making(&self, instr: Instr) -> Option<Making>
@@ -68,10 +86,25 @@ impl State {
         let (kind, into, len) = match instr {
             Instr::New(into, len) => (Kind::Fields, into, len),
             Instr::Raw(into, len) => (Kind::Raw, into, len),
+            Instr::Mix(into, fields, raw) => return self.mixed(into, fields, raw),
             _ => return None,
         };
         match self.length(len) {
             Ok(len) => Some(Making { kind, into, len }),
+            Err(_) => None,
+        }
+    }
+
+    /// The mixed record that two operands name.
+    fn mixed(&self, into: u8, fields: Operand, raw: Operand) -> Option<Making>
+        ensures { result ≡ mixed_made (seen_by self.now) into fields raw }
+    {
+        match self.mixed_length(fields, raw) {
+            Ok((fields, len)) => Some(Making {
+                kind: Kind::Mixed(fields),
+                into,
+                len,
+            }),
             Err(_) => None,
         }
     }
@@ -104,7 +137,8 @@ impl State {
         match self.header() {
             Some(header) => {
                 let run = self.run.unwrap_or(Run { at: 0, end: 0 });
-                Stage::Places(Place::new(self.spaces, run, header, self.epoch))
+                let fields = self.fields();
+                Stage::Places(Place::new(self.spaces, run, header, self.epoch, fields))
             }
             None => Stage::Looks,
         }
@@ -181,7 +215,7 @@ impl State {
 
 /// The header of the record after the one with this serial, if a header can say that.
 #[tactic(auto, using(crate::proofs::Words::Read::header_made, crate::proofs::Words::Read::no_header_long, crate::proofs::Words::Read::no_header_late))]
-fn header_after(serial: u64, kind: HeaderKind, len: u16, mutator: u8) -> Option<Header>
+fn header_after(serial: u64, kind: HeaderKind, len: u32, mutator: u8) -> Option<Header>
     ensures { result ≡ header_in (HeaderWord kind len (serial + 1) mutator) }
 {
     if u64::from(len) > LONGEST_RECORD || serial >= LAST_SERIAL {
@@ -189,10 +223,30 @@ fn header_after(serial: u64, kind: HeaderKind, len: u16, mutator: u8) -> Option<
     }
     Some(Header {
         kind,
-        len,
+        len: len as u16,
         serial: serial + 1,
         mutator,
     })
+}
+
+/// The length that the header of a record of this kind with so many values has.
+fn header_len(kind: Kind, count: u16) -> u32
+    ensures { result ≡ header_len kind count }
+{
+    match kind {
+        Kind::Fields | Kind::Raw => u32::from(count),
+        Kind::Mixed(_) => u32::from(count) + 1,
+    }
+}
+
+/// The fields that a mixed record of this kind has.
+fn fields_of(kind: Kind) -> u16
+    ensures { result ≡ fields_of kind }
+{
+    match kind {
+        Kind::Fields | Kind::Raw => 0,
+        Kind::Mixed(fields) => fields,
+    }
 }
 
 fn header_kind(kind: Kind) -> HeaderKind
@@ -201,5 +255,6 @@ fn header_kind(kind: Kind) -> HeaderKind
     match kind {
         Kind::Fields => HeaderKind::Fields,
         Kind::Raw => HeaderKind::Raw,
+        Kind::Mixed(_) => HeaderKind::Mixed,
     }
 }

@@ -9,7 +9,7 @@ ghost use Rattle.std.specs.Prelude.{◌≡◌, ℕ, ◌^◌, ◌<◌, IsTrue, tr
 ghost use Rattle.mutator_asm.specs.Program.{is_valid};
 ghost use Rattle.plain_state.specs.declared.kind.Kind.{Kind};
 ghost use Rattle.plain_state.specs.declared.sizes.TheConstants.{BOARD_WORDS};
-ghost use Rattle.plain_heap.specs.Action.{action, allocates, computes};
+ghost use Rattle.plain_heap.specs.Action.{action, allocates, computes, mixes};
 ghost use Rattle.gc_worker.specs.declared.task.Task.{Task};
 ghost use Rattle.gc_worker.specs.Workers.Fits.{FitsStage};
 ghost use Rattle.gc_worker.specs.Steps.Stepped.{seen_by, stepped_by, uncounted};
@@ -17,6 +17,7 @@ ghost use Rattle.gc_worker.specs.Steps.Turned.{acted, told_acted};
 
 use crate::access::access_stage::AccessStage;
 use crate::access::board_access::{BoardAccess, BoardUse};
+use crate::access::field_access::FieldExchange;
 use crate::access::record_access::{RecordAccess, RecordUse};
 use crate::registers::seen_value::word_of;
 use crate::stage::Stage;
@@ -54,8 +55,10 @@ impl State {
             Instr::Jr(a) => self.jump_to(a),
             Instr::New(_, x) => self.allocate(x),
             Instr::Raw(_, x) => self.allocate(x),
+            Instr::Mix(_, fields, raw) => self.allocate_mixed(fields, raw),
             Instr::Ld(d, a, x) => self.load_from(d, a, x),
             Instr::St(a, x, b) => self.store_to(a, x, b),
+            Instr::Cas(d, a, x, b, c) => self.exchange_in(d, a, x, b, c),
             Instr::Len(d, a) => self.measure(d, a),
             Instr::Isp(d, a) => self.load(d, Word::number(self.is_reference(a)).0),
             Instr::Get(d, x) => self.get_from_board(d, x),
@@ -127,6 +130,21 @@ impl State {
         }
     }
 
+    /// `mix rd xf xr`
+    #[tactic(auto, using(crate::proofs::Plain::RecordsMade::mixed_makes))]
+    #[inline(always)]
+    fn allocate_mixed(&mut self, fields: Operand, raw: Operand) -> Stepped
+        requires at { self.old.stage ≡ Stage.Looks }
+        requires after { (d : ℕ) × FitsStage (acted self.old (mixes (seen_by self.old) d fields raw)) (acted self.old (mixes (seen_by self.old) d fields raw)).stage }
+        ensures state { (d : ℕ) → self.new ≡ uncounted (acted self.old (mixes (seen_by self.old) d fields raw)) }
+        ensures tells { (task : Task) (d : ℕ) → result ≡ stepped_by self.old.number (told_acted task (mixes (seen_by self.old) d fields raw)) }
+    {
+        match self.mixed_length(fields, raw) {
+            Ok(_) => self.begin_placing(),
+            Err(why) => self.end_with(why),
+        }
+    }
+
     /// `ld rd ra x`
     #[tactic(auto, unfolding(plain_heap::specs::Action::action))]
     #[inline(always)]
@@ -150,6 +168,24 @@ impl State {
         let new = RecordUse::Stores(word_of(self.value(b)));
         match (self.reference(a), self.operand(x)) {
             (Ok(record), Ok(x)) => self.begin_access(to_record(record, x, new)),
+            (Err(why), _) | (_, Err(why)) => self.end_with(why),
+        }
+    }
+
+    /// `cas rd ra x rb rc`
+    #[tactic(auto, unfolding(plain_heap::specs::Action::action))]
+    #[inline(always)]
+    fn exchange_in(&mut self, d: u8, a: u8, x: Operand, b: u8, c: u8) -> Stepped
+        ensures state { self.new ≡ uncounted (acted self.old (action (seen_by self.old) (Instr.Cas d a x b c))) }
+        ensures tells { (task : Task) → result ≡ stepped_by self.old.number (told_acted task (action (seen_by self.old) (Instr.Cas d a x b c))) }
+    {
+        let exchange = RecordUse::Exchanges(FieldExchange {
+            into: d,
+            expected: word_of(self.value(b)),
+            new: word_of(self.value(c)),
+        });
+        match (self.reference(a), self.operand(x)) {
+            (Ok(record), Ok(x)) => self.begin_access(to_record(record, x, exchange)),
             (Err(why), _) | (_, Err(why)) => self.end_with(why),
         }
     }

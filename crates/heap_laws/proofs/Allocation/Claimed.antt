@@ -1,5 +1,5 @@
 -- Pages are claimed below LOW.
-use Rattle.std.proofs.Common.{◌≡◌, ℕ, ◌+◌, ◌-◌, ◌*◌, ◌/◌, ◌<◌, ◌≤◌, true, Some, refl, sym, ap, arith, ⊎_elim, ◌⊎◌, inl, inr}
+use Rattle.std.proofs.Common.{◌≡◌, ℕ, ◌+◌, ◌-◌, ◌*◌, ◌/◌, ◌<◌, ◌≤◌, true, Some, [], refl, sym, ap, arith, ⊎_elim, ◌⊎◌, inl, inr}
 use Rattle.std.proofs.lemmas.Bool.{cases_lt}
 use Rattle.space_map.specs.declared.gate_word.GateWord.{GateWord}
 use Rattle.heap_state.specs.Memory.Era.{Era, IsLaidOut, Memory}
@@ -14,7 +14,7 @@ use Rattle.heap_state.specs.Invariant.Parts.Records.{Laid, NewArea, NewWritten}
 use Rattle.heap_state.specs.Invariant.Parts.Stocks.{Stocks, Stocked}
 use Rattle.heap_state.specs.Worker.{Worker, Team, Stock, is_running, Reset}
 use Rattle.heap_state.proofs.Workers.Frames.{counted_put, staffed_put, scanned_put, stocks_anew, numbered_put, rooted_put}
-use Rattle.heap_state.proofs.Puts.{team_put, some_same}
+use Rattle.heap_state.proofs.Puts.{team_put, none≢some, some_same}
 use Rattle.heap_laws.specs.Steps.{Ready, Preserves}
 use Rattle.heap_laws.proofs.Allocation.Stocks.{stocked_knows, with_stock}
 use Rattle.heap_laws.proofs.Flipping.Sums.{sum_below-term}
@@ -34,7 +34,7 @@ runs_counted gate count worker k c l r =
 
 -- n pages below LOW
 abbrev pub below_low : Era → Memory → ℕ → Stock
-below_low E m n = record { epoch = E.epoch; at = m.low - 64 * n; end = m.low; zeroed = m.low - 64 * n; opened = m.low - 64 * n }
+below_low E m n = record { epoch = E.epoch; at = m.low - 64 * n; end = m.low; zeroed = m.low - 64 * n; opened = m.low - 64 * n; ahead = [] }
 
 -- LOW and owed of the epoch's space are stored
 abbrev pub with_low : Memory → (low owed : ℕ) → Memory
@@ -84,12 +84,12 @@ module _ (E : Era) (m : Memory) (team : Team) (g : Ghost) (k n owed : ℕ) (lay 
   area = record {
     opened = λ a x st u e f z. inv.new.opened a x st (above a st u) e f z;
     prior = λ b st u e d. inv.new.prior b st (above b st u) e d;
-    blank = λ x u e o none. ⊎_elim
+    blank = λ x u e w o none. ⊎_elim
         (λ (y : x < m.low). absurd (
         let a = inv.shut.free (x / 64) (omega (arith, u, has.room, laid.aligned)) (omega (arith, y, inv.laid.aligned)) in
         let b = open_age (m.page (x / 64)) E.epoch o in
         omega arith))
-        (λ (y : m.low ≤ x). inv.new.blank x y e o none)
+        (λ (y : m.low ≤ x). inv.new.blank x y e w o none)
         (cases_lt x m.low);
   }
 
@@ -100,11 +100,14 @@ module _ (E : Era) (m : Memory) (team : Team) (g : Ghost) (k n owed : ℕ) (lay 
     aligned = (inv.laid.aligned, laid.aligned);
     empty = clear;
     zeros = λ x a b. absurd (omega (arith, a, b));
+    ahead = λ i w e. none≢some e;
+    fits = λ l. absurd (omega arith);
     shut = λ p a b. inv.shut.free p (omega (arith, a, has.room)) b;
     opens = λ x a b. absurd (omega (arith, a, b));
     order = inl (omega arith);
     whole = (omega arith, inr laid.aligned);
     after = inl laid.aligned;
+    on_page = inl laid.aligned;
   }
 
   theirs : (s : Stock) → Stocked E m.low g.size m.heap m.page s → Stocked E low g.size m.heap m.page s

@@ -1,5 +1,5 @@
 -- What a cycle keeps is kept where a new record begins to stand.
-use Rattle.std.proofs.Common.{arith, ◌≡◌, ℕ, ◌+◌, ◌<◌, refl, sym, ◌∙◌, ⊎_elim, inl, inr}
+use Rattle.std.proofs.Common.{◌≡◌, ℕ, ◌+◌, ◌<◌, refl, sym, ◌∙◌, ⊎_elim, inl, inr}
 use Rattle.plain_state.specs.declared.kind.Kind.{Kind}
 use Rattle.plain_state.specs.State as plain
 use Rattle.plain_state.specs.declared.value.Identity.{Identity}
@@ -12,6 +12,7 @@ use Rattle.heap_state.specs.Invariant.Inductive.{Invariant}
 use Rattle.heap_state.specs.Meaning.Values.{value_of, Shows}
 use Rattle.heap_state.specs.Worker.{Worker, Team, Stock, is_mutator, is_late}
 use Rattle.heap_state.proofs.Puts.{put_other, proj_put}
+use Rattle.heap_state.proofs.Records.Layouts.{value_within}
 use Rattle.heap_laws.specs.Allocation.Records.{next_identity, allocated}
 use Rattle.heap_laws.proofs.Allocation.Stocks.{Places}
 use Rattle.heap_laws.specs.Steps.{with_word, with_worker}
@@ -62,10 +63,11 @@ module _ (E : Era) (m : Memory) (team : Team) (g : Ghost) (p : plain.Plain) (k :
     kind = s.kind;
     size = s.size;
     fields = λ x l f.
-        let e = s.size in
-        let t : x + 1 < g.size a = omega (arith, l, e) in
-        value_allocated g.size g.writer g.identity q.at j (heap (a + (x + 1))) (unused is_new_place) (rw (word_same is_free g.writer g.kind m.heap v a (x + 1) t) (field_lands E m team g a (x + 1) inv st u f (omega arith) t)) ∙ s.fields x l f;
+        let t = value_within r s x l in
+        let n = word_of_value (g.kind a) x in
+        value_allocated g.size g.writer g.identity q.at j (heap (a + n)) (unused is_new_place) (rw (word_same is_free g.writer g.kind m.heap v a n t.1) (field_lands E m team g a n inv st u f t.0 t.1)) ∙ s.fields x l f;
     numbers = s.numbers;
+    count = s.count;
   }
 
   -- ---- the parts
@@ -85,8 +87,9 @@ module _ (E : Era) (m : Memory) (team : Team) (g : Ghost) (p : plain.Plain) (k :
     sizes = λ b st l u. let d = below_other is_new_place b u in rw (same_size is_new_place b d, put_other g.kind q.at c b d, put_other g.identity q.at j b d) (y.sizes b (was is_new_place b d st) l u);
     complete = λ b x r i st u l n e f a.
         let d = below_other is_new_place b n in
-        ⊎_elim (λ t. inl (copied_on i t)) (λ t. inr (still_on (heap (b + word_of_value (g.kind b) x)) i t))
-        (y.complete b x r i (was is_new_place b d st) (rw (same_writer is_new_place g.writer b d) at u) l n (rw (put_other g.identity q.at j b d) at e) (rw (put_other g.kind q.at c b d) at f) a);
+        let kind = put_other g.kind q.at c b d in
+        rw kind (⊎_elim (λ t. inl (copied_on i t)) (λ t. inr (still_on (heap (b + word_of_value (g.kind b) x)) i t))
+        (y.complete b x r i (was is_new_place b d st) (rw (same_writer is_new_place g.writer b d) at u) l n (rw (put_other g.identity q.at j b d) at e) (rw kind at f) a));
     only = λ b st l u. let d = below_other is_new_place b u in rw (put_other g.identity q.at j b d) (y.only b (was is_new_place b d st) l u);
   }
 

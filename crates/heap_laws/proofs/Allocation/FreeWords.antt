@@ -1,5 +1,5 @@
 -- The parts that read heap words, where a word below the board is stored that belongs to no record.
-use Rattle.std.proofs.Common.{◌≡◌, ℕ, ◌+◌, ◌<◌, ◌≤◌, Bool, Option, arith, ⊎_elim, ◌⊎◌, inl, inr, Some}
+use Rattle.std.proofs.Common.{◌≡◌, ℕ, ◌+◌, ◌<◌, ◌≤◌, Bool, Option, arith, ◌∙◌, ⊎_elim, ◌⊎◌, inl, inr, Some}
 use Rattle.plain_state.specs.declared.kind.Kind.{Kind}
 use Rattle.plain_state.specs.State as plain
 use Rattle.plain_state.specs.declared.value.Identity.{Identity}
@@ -14,11 +14,12 @@ use Rattle.heap_state.specs.Invariant.Inductive.{Knows}
 use Rattle.heap_state.specs.Invariant.Parts.Copying.{Copies, Keeps, IsOrigin}
 use Rattle.heap_state.specs.Invariant.Parts.Leading.{Opened, Landing, Older}
 use Rattle.heap_state.specs.Invariant.Parts.OldSpace.{OldSpace}
-use Rattle.heap_state.specs.Invariant.Parts.Records.{Headed, RawWords}
+use Rattle.heap_state.specs.Invariant.Parts.Records.{Headed, RawWords, Counts}
 use Rattle.heap_state.specs.Invariant.Parts.Scanning.{Scans}
 use Rattle.heap_state.specs.Meaning.Values.{value_of, Shows, ShowsAll, BoardShows}
 use Rattle.heap_state.specs.Worker.{Worker, Copy, Scan, Origin, Register, Scanned, is_late, Quest}
 use Rattle.heap_state.proofs.Puts.{put_other}
+use Rattle.plain_state.specs.Layout.{word_of_value}
 use Rattle.heap_laws.proofs.Frames.OtherWords.{has_place, headed_same, old_space_same, scans_same, copies_same, shows_same}
 use Rattle.heap_laws.proofs.Frames.Values.{copied_within}
 
@@ -51,6 +52,9 @@ module _ {E : Era} {size : ℕ → ℕ} {x : ℕ} (fr : IsFree E size x) (writer
 
   pub raw_free : RawWords size writer kind h → RawWords size writer kind (put h x v)
   raw_free p = record { raw = λ a i st w f l n. rw (word_same a i l) (p.raw a i st w f l n) }
+
+  pub counts_free : Counts size writer kind h → Counts size writer kind (put h x v)
+  counts_free p = record { counts = λ a count st w e. let n = p.counts a count st w e in (word_same a 1 (omega (arith, n.1)) ∙ n.0, n.1) }
 
   pub opened_free : (page : ℕ → PageWord) → Opened E size writer kind h page → Opened E size writer kind (put h x v) page
   opened_free page p = record { opened = λ y u o. rw (here_same y u) (p.opened y u o) }
@@ -102,7 +106,7 @@ module _ {E : Era} {size : ℕ → ℕ} {x : ℕ} (fr : IsFree E size x) (writer
     sound = λ y i u s. c.sound y i u (rw (here_same y u) at s);
     reached = c.reached;
     sizes = c.sizes;
-    complete = λ b y r i st w l u e f o. ⊎_elim (λ t. inl t) (λ t. inr (rw (word_same b (y + 1) (copied_within c b y r (Reference i) st l u e o)) t)) (c.complete b y r i st w l u e f o);
+    complete = λ b y r i st w l u e f o. ⊎_elim (λ t. inl t) (λ t. inr (rw (word_same b (word_of_value (kind b) y) (copied_within c b y r (Reference i) st l u e o)) t)) (c.complete b y r i st w l u e f o);
     only = c.only;
   }
 

@@ -1,33 +1,47 @@
 -- The header of a new record is stored at the run's place.
-use Rattle.std.proofs.Common.{◌≡◌, ◌≢◌, ℕ, ◌+◌, ◌/◌, ◌<◌, ◌≤◌, refl, sym, ap, ◌∙◌, arith, ⊎_elim, ◌⊎◌, inl, inr, Some}
-use Rattle.std.proofs.lemmas.Bool.{cases_eq, ltb-true}
+use Rattle.std.proofs.Common.{◌≡◌, ◌≢◌, ℕ, ◌+◌, ◌/◌, ◌<◌, ◌≤◌, refl, sym, ap, ◌∙◌, arith, ⊎_elim, ◌⊎◌, inl, inr, Some, [], ◌%◌, ◌-◌, slice_get, subst}
+use Rattle.std.proofs.lemmas.Bool.{cases_eq, cases_lt, ltb-true}
 use Rattle.plain_state.specs.declared.kind.Kind.{Kind}
+use Rattle.plain_state.specs.declared.kind.Kind.TheVariants.{Fields, Raw, Mixed}
+use Rattle.plain_state.specs.declared.sizes.TheConstants.{NUMBERS}
+use Rattle.plain_state.specs.Layout.{values_at}
+use Rattle.heap_words.specs.Word.{number_word}
+use Rattle.heap_words.proofs.Ranges.{header_bounds}
 use Rattle.heap_words.specs.Decoded.{PointerWord, decode}
 use Rattle.plain_state.specs.declared.value.Identity.{Identity}
 use Rattle.space_map.specs.declared.page_word.PageWord.TheVariants.{Open}
 use Rattle.heap_state.specs.Memory.Era.{Era, IsLaidOut, Memory}
 use Rattle.heap_state.specs.Functions.{put}
-use Rattle.heap_state.specs.Invariant.Ghost.{Ghost, Leads, Lands}
+use Rattle.heap_state.specs.Invariant.Ghost.{Ghost, Leads, Lands, header_kind}
 use Rattle.heap_state.specs.Invariant.Inductive.{Invariant, Knows}
 use Rattle.heap_state.specs.Invariant.Parts.Stocks.{Stocks, Stocked, Numbered}
-use Rattle.heap_state.specs.Meaning.Values.{value_of}
+use Rattle.heap_state.specs.Meaning.Values.{CountShows, value_of}
+use Rattle.heap_state.specs.Memory.FieldSpan.{fields_end}
 use Rattle.heap_state.specs.Worker.{Worker, Team, Stock}
 use Rattle.heap_state.proofs.Workers.Frames.{counted_put, staffed_put, scanned_put, stocks_anew}
-use Rattle.heap_state.proofs.Puts.{put_at, put_other, put_same, each_put, team_put, some_same}
-use Rattle.heap_laws.specs.Allocation.Records.{next_identity, allocated}
+use Rattle.heap_state.proofs.Puts.{put_at, put_other, put_same, each_put, team_put, none≢some, some_same}
+use Rattle.heap_laws.specs.Allocation.Records.{next_identity, allocated, stored_ahead}
 use Rattle.heap_laws.specs.Fields.Held.{HoldsValue}
 use Rattle.heap_laws.proofs.Allocation.Stocks.{Places}
 use Rattle.plain_state.specs.declared.value.Value.TheVariants.{Reference}
 use Rattle.heap_laws.specs.Steps.{with_word, with_worker}
-use Rattle.heap_laws.proofs.Allocation.FreeWords.{IsFree, headed_free, raw_free, opened_free, landing_free, older_free, old_space_free, worker_free}
-use Rattle.heap_laws.proofs.Allocation.Parts.{NewPlace, was, is, same_size, laid_allocated, kept_allocated, room_allocated, area_allocated, old_space_allocated, new_written_allocated, shut_allocated, crossing_allocated, opened_allocated, landing_allocated, older_allocated, raw_allocated, headed_allocated, copied_allocated, once_allocated}
+use Rattle.heap_laws.proofs.Allocation.FreeWords.{IsFree, headed_free, raw_free, counts_free, opened_free, landing_free, older_free, old_space_free, worker_free}
+use Rattle.heap_laws.proofs.Allocation.Parts.{NewPlace, was, is, same_size, laid_allocated, kept_allocated, room_allocated, area_allocated, old_space_allocated, new_written_allocated, shut_allocated, crossing_allocated, opened_allocated, landing_allocated, older_allocated, raw_allocated, counts_allocated, headed_allocated, copied_allocated, once_allocated}
 use Rattle.heap_laws.proofs.Allocation.Workers.{worker_allocated}
 use Rattle.heap_laws.proofs.Fields.GoingOn.{runs}
+use Rattle.heap_laws.proofs.Frames.OtherWords.{ahead_zeroed}
+
+-- a count of fields that a record has room for is a small word
+count_small : (c : Kind) (heap : ℕ → ℕ) (a z j : ℕ) → z - 1 ≤ 4095 → fields_end c z ≤ z → CountShows c heap a → 0 < j → j < values_at c → heap (a + j) < NUMBERS
+unfolding number_word
+count_small Fields heap a z j len room shows f l = absurd (omega arith)
+count_small Raw heap a z j len room shows f l = absurd (omega arith)
+count_small (Mixed count) heap a z j len room shows f l = let e : j ≡ 1 = omega arith in let w : heap (a + j) ≡ heap (a + 1) = ap (λ i. heap (a + i)) e in omega (arith, w, shows, len, room)
 
 -- worker k has one record more, and its run begins behind it
 abbrev pub placed : Team → ℕ → Stock → ℕ → Worker
 placed team k q z = record (team.worker k) {
-  stock = Some (record q { at = q.at + z });
+  stock = Some (record q { at = q.at + z; ahead = [] });
   account = record (team.worker k).account { serial = (team.worker k).account.serial + 1 };
 }
 
@@ -42,7 +56,7 @@ module _ (E : Era) (m : Memory) (team : Team) (g : Ghost) (k : ℕ) (q : Stock) 
   g' = allocated g q.at z c i
 
   abbrev next : Stock
-  next = record q { at = q.at + z }
+  next = record q { at = q.at + z; ahead = [] }
 
   abbrev w : Worker
   w = placed team k q z
@@ -91,14 +105,36 @@ module _ (E : Era) (m : Memory) (team : Team) (g : Ghost) (k : ℕ) (q : Stock) 
       let s : (g.identity b).serial ≡ i.serial = ap (λ (x : Identity). x.serial) e in
       omega arith
 
-  pub zeros_before : (j : ℕ) → 0 < j → j < z → m.heap (q.at + j) ≡ 0
-  zeros_before j l u = ok.zeros (q.at + j) (omega arith) (let r = places.run.0 in let f = places.fits in omega arith)
+  -- its values are 0, and its count is stored ahead
+  pub zeros_before : (j : ℕ) → values_at c ≤ j → j < z → m.heap (q.at + j) ≡ 0
+  zeros_before j l u = ok.zeros (q.at + j) (omega arith) (let r = places.run.0 in let f = places.fits in omega arith) (inr (let b = places.behind in omega (arith, l, b)))
 
-  pub zeros : (j : ℕ) → 0 < j → j < z → heap (q.at + j) ≡ 0
-  zeros j l u = rw (put_other m.heap q.at v (q.at + j) (omega arith)) (zeros_before j l u)
+  pub zeros : (j : ℕ) → values_at c ≤ j → j < z → heap (q.at + j) ≡ 0
+  zeros j l u = rw (put_other m.heap q.at v (q.at + j) (let b = places.behind in λ e. omega (arith, l, b, e))) (zeros_before j l u)
+
+  pub counted : CountShows c m.heap q.at
+  counted = by_kind c places.ahead
+    where
+      by_kind : (c : Kind) → q.ahead ≡ stored_ahead c → CountShows c m.heap q.at
+      by_kind Fields e = tt
+      by_kind Raw e = tt
+      by_kind (Mixed count) e = ap m.heap (omega arith) ∙ ok.ahead 0 (number_word count) (ap (λ xs. slice_get xs 0) e)
+
+  small : (j : ℕ) → 0 < j → j < z → heap (q.at + j) < NUMBERS
+  small j f l = ⊎_elim
+      (λ (y : j < values_at c). rw (put_other m.heap q.at v (q.at + j) (omega arith)) (count_small c m.heap q.at z j (header_bounds v (header_kind c) (z - 1) i.serial k places.header).0 places.fields counted f y))
+      (λ (n : values_at c ≤ j). let e = zeros j n l in omega (arith, e))
+      (cases_lt j (values_at c))
 
   opens : (x : ℕ) → q.at ≤ x → x < q.at + z → m.page (x / 64) ≡ Open E.epoch
   opens x l u = ok.opens x l (let r = places.run.1 in let f = places.fits in omega arith)
+
+  -- the word behind the record is 0, or the first of a page
+  behind : ((q.at + z) % 64 ≡ 0) ⊎ (heap (q.at + z) ≡ 0)
+  behind = let f = places.fits in let r = places.run.0 in let n = places.some in ⊎_elim
+      (λ (l : q.at + z < q.end). inr (rw (put_other m.heap q.at v (q.at + z) (omega (arith, n))) (ok.zeros (q.at + z) (omega arith) (omega arith) (inr (let b = places.behind in let o = places.room in omega (arith, b, o))))))
+      (λ (l : q.end ≤ q.at + z). let a = ok.aligned.0 in inl (omega arith))
+      (cases_lt (q.at + z) q.end)
 
   -- ---- stocks and numbers
 
@@ -111,7 +147,13 @@ module _ (E : Era) (m : Memory) (team : Team) (g : Ghost) (k : ℕ) (q : Stock) 
         (λ (e : b ≡ q.at). inl (let y = put_at g.size q.at z b e in omega (arith, y, e)))
         (λ (d : b ≢ q.at). rw (same_size new_place b d) (⊎_elim (λ y. inl (omega (arith, y))) (λ y. inr y) (ok.empty b (was new_place b d st))))
         (cases_eq b q.at);
-    zeros = λ x l u. let s = places.some in rw (put_other m.heap q.at v x (omega (arith, l, s))) (ok.zeros x (omega (arith, l)) u);
+    zeros = λ x l u n. let s = places.some in rw (put_other m.heap q.at v x (omega (arith, l, s))) (ok.zeros x (omega (arith, l)) u (inr (let b = places.behind in let o = places.room in omega (arith, l, b, o))));
+    ahead = λ i w e. none≢some e;
+    fits = λ l. absurd (omega arith);
+    on_page = let a = ok.aligned.0 in let s = places.rest in ⊎_elim
+        (λ (e : (q.at + z) % 64 ≡ 0). inl e)
+        (λ (d : (q.at + z) % 64 ≢ 0). inr (omega arith))
+        (cases_eq ((q.at + z) % 64) 0);
     shut = ok.shut;
     opens = λ x l u. ok.opens x (omega (arith, l)) u;
     order = inr r.0;
@@ -132,10 +174,16 @@ module _ (E : Era) (m : Memory) (team : Team) (g : Ghost) (k : ℕ) (q : Stock) 
         (λ (e : b ≡ q.at). let t = put_at g.size q.at z b e in let f = places.fits in ⊎_elim (λ o. inr (omega (arith, o, e))) (λ o. inl (omega (arith, o, e, t, f))) beside)
         (λ (d : b ≢ q.at). rw (same_size new_place b d) (y.empty b (was new_place b d st)))
         (cases_eq b q.at);
-    zeros = λ x l u. let f = places.fits in let n = places.some in rw (put_other m.heap q.at v x (omega (arith, l, u, beside, y.so_far, f, n))) (y.zeros x l u);
+    zeros = λ x l u n. rw (apart x l u) (y.zeros x l u n);
+    ahead = λ i w e. rw (apart (s.at + 1 + i) (omega arith) (ahead_zeroed s y i w e)) (y.ahead i w e);
+    fits = y.fits;
+    on_page = y.on_page;
     after = ⊎_elim (λ t. inl t) (λ (t : (a : ℕ) × (0 < g.size a) × (a + g.size a ≡ s.at)). inr (t.0, is new_place t.0 t.1, rw (same_size new_place t.0 (not_here t.0 t.1)) t.2)) y.after;
   }
     where
+      apart : (x : ℕ) → s.at ≤ x → x < s.zeroed → heap x ≡ m.heap x
+      apart x l u = let f = places.fits in let n = places.some in put_other m.heap q.at v x (λ e. omega (arith, e, l, u, beside, y.so_far, f, n))
+
       not_here : (b : ℕ) → 0 < g.size b → b ≢ q.at
       not_here b st e = let n = none b st in omega (arith, n, e, st)
 
@@ -191,7 +239,8 @@ module _ (E : Era) (m : Memory) (team : Team) (g : Ghost) (k : ℕ) (q : Stock) 
     once = once_allocated new_place g.writer g.kind c g.identity i unused inv.once;
     kept = kept_allocated new_place team.count inv.kept;
     room = room_allocated new_place m.traced m.owed inv.room;
-    raw_words = raw_allocated new_place g.writer g.kind c heap zeros (raw_free free g.writer g.kind m.heap v inv.raw_words);
+    raw_words = raw_allocated new_place g.writer g.kind c heap small (raw_free free g.writer g.kind m.heap v inv.raw_words);
+    counts = counts_allocated new_place g.writer g.kind c heap (λ n e. (put_other m.heap q.at v (q.at + 1) (omega arith) ∙ subst (λ y. CountShows y m.heap q.at) e counted, let t = ap (λ y. fields_end y z) e in let l = places.fields in omega (arith, t, l))) (counts_free free g.writer g.kind m.heap v inv.counts);
     shut = shut_allocated new_place g.writer m.page inv.shut;
     filling = inv.filling;
     tracing = inv.tracing;
@@ -200,7 +249,7 @@ module _ (E : Era) (m : Memory) (team : Team) (g : Ghost) (k : ℕ) (q : Stock) 
     opened = opened_allocated new_place g.writer g.kind c heap zeros m.page (opened_free free g.writer g.kind m.heap v m.page inv.opened);
     landing = landing_allocated new_place g.writer g.kind c heap zeros (landing_free free g.writer g.kind m.heap v inv.landing);
     older = older_allocated new_place g.writer g.kind c heap zeros (older_free free g.writer g.kind m.heap v inv.older);
-    new = area_allocated new_place E.epoch m.heap heap m.page (λ x d. put_other m.heap q.at v x d) opens ok.after inv.new;
+    new = area_allocated new_place E.epoch m.heap heap m.page (λ x d. put_other m.heap q.at v x d) opens ok.after behind inv.new;
     new_written = new_written_allocated new_place g.writer inv.new_written;
     old_space = old_space_allocated new_place m.traced m.old_front m.old_low heap m.page (old_space_free free g.writer g.kind m.heap v m.traced m.old_front m.old_low m.page lay inside.0 inside.1 inv.old_space);
     old_area = inv.old_area;

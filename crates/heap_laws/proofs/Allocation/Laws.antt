@@ -1,5 +1,5 @@
 -- The rows that a mutator writes where it claims pages, makes them 0 and opens them.
-use Rattle.std.proofs.Common.{◌≡◌, ℕ, ◌+◌, ◌-◌, ◌*◌, true, false, Some, refl, sym, arith, subst, ◌⊎◌, inl, inr}
+use Rattle.std.proofs.Common.{◌≡◌, ℕ, ◌+◌, ◌-◌, ◌*◌, true, false, Some, [], refl, sym, arith, subst, ◌⊎◌, inl, inr}
 use Rattle.std.proofs.lemmas.Bool.{cases_Bool}
 use Rattle.space_map.specs.AreaWord.{AreaFits}
 use Rattle.space_map.specs.declared.area_word.AreaWord.{AreaWord}
@@ -53,7 +53,7 @@ module _ (E : Era) (m : Memory) (team : Team) (g : Ghost) (k n owed : ℕ) (area
   memory_is = λ i. with_area m (sym now.front i) (low_is i) owed
 
   stock_is : claimed (team.worker k).epoch E.start area n ≡ below_low E m n
-  stock_is = λ i. record { epoch = epoch i; at = low_is i; end = sym now.low i; zeroed = low_is i; opened = low_is i }
+  stock_is = λ i. record { epoch = epoch i; at = low_is i; end = sym now.low i; zeroed = low_is i; opened = low_is i; ahead = [] }
 
   claims : Steps E m team g k (Some (AreaIs (to_space E.epoch) (lowered area n owed))) (stocked (team.worker k) (claimed (team.worker k).epoch E.start area n)) g
   claims = record {

@@ -17,7 +17,7 @@ use Rattle.heap_state.proofs.Workers.Frames.{counted_put, staffed_put, scanned_p
 use Rattle.heap_state.proofs.Puts.{put_at, put_other, each_put, team_put, some_same}
 use Rattle.heap_laws.specs.Allocation.Stocks.{opened_further}
 use Rattle.heap_laws.specs.Steps.{Ready, Preserves, with_page}
-use Rattle.heap_laws.proofs.Allocation.Stocks.{stocked_knows, Opens, with_stock}
+use Rattle.heap_laws.proofs.Allocation.Stocks.{stocked_knows, is_not_ahead, nothing_ahead, Opens, with_stock}
 use Rattle.heap_laws.proofs.Steps.Learning.{shown_put}
 use Rattle.heap_laws.proofs.Frames.PageWords.{Turns, stays, grows, quiet_turns, tracing_turns, aged_turns, old_pages_turn, old_space_turns, scans_beside, knows_turns}
 use Rattle.heap_laws.proofs.Scanning.Scanners.{scan_age}
@@ -76,9 +76,9 @@ module _ (E : Era) (m : Memory) (team : Team) (g : Ghost) (k p : ℕ) (q : Stock
   new = record {
     opened = λ a x st l e f u. stays turn (x / 64) (inv.new.opened a x st l e f u);
     prior = inv.new.prior;
-    blank = λ x l u o none. ⊎_elim
-        (λ (e : x / 64 ≡ p). ok.zeros x (omega (arith, e, ends)) (let z = opens.blank in omega (arith, e, ends, z)))
-        (λ (d : x / 64 ≢ p). inv.new.blank x l u (rw (other (x / 64) d) at o) none)
+    blank = λ x l u w o none. ⊎_elim
+        (λ (e : x / 64 ≡ p). let from : q.at ≤ x = omega (arith, e, ends) in ok.zeros x from (let z = opens.blank in omega (arith, e, ends, z)) (is_not_ahead q x (nothing_ahead q ok (inr opens.more)) from))
+        (λ (d : x / 64 ≢ p). inv.new.blank x l u w (rw (other (x / 64) d) at o) none)
         (cases_eq (x / 64) p);
   }
 
@@ -87,6 +87,9 @@ module _ (E : Era) (m : Memory) (team : Team) (g : Ghost) (k p : ℕ) (q : Stock
     lies = ok.lies;
     empty = ok.empty;
     zeros = ok.zeros;
+    ahead = ok.ahead;
+    fits = λ l. absurd (let n = nothing_ahead q ok (inr opens.more) in omega (arith, l, n));
+    on_page = ok.on_page;
     after = ok.after;
     so_far = (ok.so_far.0, ok.so_far.1, omega (arith, opens.at, ends));
     aligned = (ok.aligned.0, omega (arith, ok.aligned));

@@ -2,6 +2,8 @@
 use Rattle.std.proofs.Common.{◌≡◌, ◌≢◌, ℕ, ◌+◌, ◌-◌, ◌/◌, ◌%◌, ◌<◌, ◌≤◌, refl, sym, ap, ◌∙◌, arith, ⊎_elim, ◌⊎◌, inl, inr}
 use Rattle.std.proofs.lemmas.Bool.{cases_eq, cases_lt}
 use Rattle.plain_state.specs.declared.kind.Kind.{Kind}
+use Rattle.plain_state.specs.declared.kind.Kind.TheVariants.{Mixed}
+use Rattle.heap_words.specs.Word.{number_word}
 use Rattle.heap_words.specs.Decoded.{HeaderWord, decode}
 use Rattle.plain_state.specs.declared.value.Identity.{Identity}
 use Rattle.space_map.specs.declared.page_word.PageWord.{PageWord}
@@ -14,8 +16,12 @@ use Rattle.heap_state.specs.Invariant.Parts.Crossing.{Crossing}
 use Rattle.heap_state.specs.Invariant.Parts.Leading.{Opened, Landing, Older}
 use Rattle.heap_state.specs.Invariant.Parts.OldSpace.{OldSpace}
 use Rattle.heap_state.specs.Invariant.Parts.Pages.{Shut}
-use Rattle.heap_state.specs.Invariant.Parts.Records.{Laid, Headed, NewArea, NewWritten, SpaceOf, RawWords}
+use Rattle.heap_state.specs.Invariant.Parts.Records.{Laid, Headed, NewArea, NewWritten, SpaceOf, RawWords, WalkComesTo, Counts}
 use Rattle.heap_state.proofs.Puts.{put_at, put_other, put_cases, sum_below-same}
+use Rattle.heap_state.proofs.Walks.WalkPlaces.{comes_to_more}
+use Rattle.heap_state.proofs.Records.Layouts.{field_is_value}
+use Rattle.plain_state.specs.Layout.{values_at}
+use Rattle.plain_state.specs.declared.sizes.TheConstants.{NUMBERS}
 use Rattle.heap_laws.proofs.Frames.Values.{zero_clean, zero_lands}
 
 -- where it is to stand: a place in the new area, free for its whole size, without a copy or a keeper
@@ -90,8 +96,8 @@ module _ {E : Era} {front low : ℕ} {size copy keeper : ℕ → ℕ} {a z : ℕ
   }
 
   pub area_allocated : (epoch : ℕ) (heap heap' : ℕ → ℕ) (page : ℕ → PageWord) → ((x : ℕ) → x ≢ a → heap' x ≡ heap x) → ((x : ℕ) → a ≤ x → x < a + z → page (x / 64) ≡ Open epoch)
-      → ((a % 64 ≡ 0) ⊎ ((b : ℕ) × (0 < size b) × (b + size b ≡ a))) → NewArea low (E.start + E.span) epoch size heap page → NewArea low (E.start + E.span) epoch (put size a z) heap' page
-  area_allocated epoch heap heap' page same opens after p = record {
+      → WalkComesTo size a → ((a + z) % 64 ≡ 0) ⊎ (heap' (a + z) ≡ 0) → NewArea low (E.start + E.span) epoch size heap page → NewArea low (E.start + E.span) epoch (put size a z) heap' page
+  area_allocated epoch heap heap' page same opens after behind p = record {
     opened = λ b x st l u f e. ⊎_elim
         (λ (y : b ≡ a). opens x (omega (arith, y, f)) (let q = put_at size a z b y in omega (arith, q, y, e)))
         (λ (d : b ≢ a). p.opened b x (was b d st) l u f (rw (same_size b d) at e))
@@ -103,14 +109,19 @@ module _ {E : Era} {front low : ℕ} {size copy keeper : ℕ → ℕ} {a z : ℕ
         after)
         (λ (d : b ≢ a). let t = p.prior b (was b d st) l u n in (t.0, is t.0 t.1, rw (same_size t.0 (not_new t.0 t.1)) t.2))
         (cases_eq b a);
-    blank = λ x l u o none.
+    blank = λ x l u w o none.
         let d : x ≢ a = (λ e. let q = none a (let t = put_at size a z a refl in let n = cr.some in omega arith) in let t = put_at size a z a refl in let n = cr.some in omega (arith, q, e, t, n)) in
-        rw (same x d) (p.blank x l u o (λ b st. let q = none b (is b st) in rw (same_size b (not_new b st)) at q));
+        let before : WalkComesTo size x → heap' x ≡ 0 = λ y. rw (same x d) (p.blank x l u y o (λ b st. let q = none b (is b st) in rw (same_size b (not_new b st)) at q)) in
+        ⊎_elim before (λ (e : x ≡ a + z). ⊎_elim (λ (y : (a + z) % 64 ≡ 0). before (inl (omega arith))) (λ (y : heap' (a + z) ≡ 0). ap heap' e ∙ y) behind) (comes_to_more size a z x w);
   }
 
   pub old_space_allocated : (traced old_front old_low : ℕ) (heap : ℕ → ℕ) (page : ℕ → PageWord) → OldSpace E traced old_front old_low size heap page → OldSpace E traced old_front old_low (put size a z) heap page
   old_space_allocated traced old_front old_low heap page p = record { walks = λ t epoch e. space epoch (p.walks t epoch e) }
     where
+      -- the new record ends before the old space, or begins behind it
+      comes : (x : ℕ) → E.old_start ≤ x → x < E.old_start + E.old_span → WalkComesTo (put size a z) x → WalkComesTo size x
+      comes x l u w = ⊎_elim (λ y. y) (λ (e : x ≡ a + z). inl (omega (arith, e, l, u, cr.above, cr.laid.order, cr.ends, cr.lay.apart, cr.lay.old_start))) (comes_to_more size a z x w)
+
       space : (epoch : ℕ) → SpaceOf E.old_start old_front old_low (E.old_start + E.old_span) epoch size heap page → SpaceOf E.old_start old_front old_low (E.old_start + E.old_span) epoch (put size a z) heap page
       space epoch s = record {
         lies = λ b st l u. let d = old_other b l u in rw (same_size b d) (s.lies b (was b d st) l u);
@@ -121,7 +132,7 @@ module _ {E : Era} {front low : ℕ} {size copy keeper : ℕ → ℕ} {a z : ℕ
         new = record {
           opened = λ b x st l u f e. let d = old_other b (let o = s.order in omega (arith, l, o)) u in s.new.opened b x (was b d st) l u f (rw (same_size b d) at e);
           prior = λ b st l u n. let d = old_other b (let o = s.order in omega (arith, l, o)) u in let t = s.new.prior b (was b d st) l u n in (t.0, is t.0 t.1, rw (same_size t.0 (not_new t.0 t.1)) t.2);
-          blank = λ x l u o none. s.new.blank x l u o (λ b st. let q = none b (is b st) in rw (same_size b (not_new b st)) at q);
+          blank = λ x l u w o none. s.new.blank x l u (comes x (omega (arith, l, s.order)) u w) o (λ b st. let q = none b (is b st) in rw (same_size b (not_new b st)) at q);
         };
       }
 
@@ -174,13 +185,13 @@ module _ {E : Era} {front low : ℕ} {size copy keeper : ℕ → ℕ} {a z : ℕ
       here_on x (inr b) = inr b
       here_on x (inl u) = inl (record { a = u.a; i = u.i; field = field_on u.a u.i u.field; inside = u.inside; at = u.at })
 
-      module _ (heap : ℕ → ℕ) (zeros : (j : ℕ) → 0 < j → j < z → heap (a + j) ≡ 0) where
+      module _ (heap : ℕ → ℕ) (zeros : (j : ℕ) → values_at c ≤ j → j < z → heap (a + j) ≡ 0) where
         -- a field or a board word after is one before, or holds 0
         pub here_was : (x : ℕ) → Here E (put size a z) writer' kind' x → Here E size writer kind x ⊎ (heap x ≡ 0)
         unfolding Here
         here_was x (inr b) = inl (inr b)
         here_was x (inl u) = let f : IsField (put size a z) writer' kind' u.a u.i = u.field in ⊎_elim
-            (λ (e : u.a ≡ a). inr (let q : x ≡ a + u.i = omega (arith, e, u.at) in rw q (zeros u.i f.first (let s = put_at size a z u.a e in omega (arith, s, f.last)))))
+            (λ (e : u.a ≡ a). inr (let q : x ≡ a + u.i = omega (arith, e, u.at) in rw q (zeros u.i (field_is_value c u.i f.first (rw (put_at kind a c u.a e) at f.field)) (let s = put_at size a z u.a e in omega (arith, s, f.last)))))
             (λ (d : u.a ≢ a). inl (inl (record { a = u.a; i = u.i; field = field_was u.a u.i d f; inside = u.inside; at = u.at })))
             (cases_eq u.a a)
 
@@ -196,13 +207,23 @@ module _ {E : Era} {front low : ℕ} {size copy keeper : ℕ → ℕ} {a z : ℕ
           written = λ b l u. rw (same_writer b (old_other b l u)) (p.written b l u);
         }
 
-        pub raw_allocated : RawWords size writer kind heap → RawWords (put size a z) writer' kind' heap
-        raw_allocated p = record {
-          raw = λ b j st w f l n. ⊎_elim
-              (λ (e : b ≡ a). let q : heap (b + j) ≡ 0 = rw e (zeros j f (let s = put_at size a z b e in omega (arith, s, l))) in omega arith)
-              (λ (d : b ≢ a). p.raw b j (was b d st) (rw (same_writer b d) at w) f (rw (same_size b d) at l) (rw (same_kind b d) at n))
-              (cases_eq b a);
-        }
+      -- the words behind its header are small
+      pub raw_allocated : (heap : ℕ → ℕ) → ((j : ℕ) → 0 < j → j < z → heap (a + j) < NUMBERS) → RawWords size writer kind heap → RawWords (put size a z) writer' kind' heap
+      raw_allocated heap small p = record {
+        raw = λ b j st w f l n. ⊎_elim
+            (λ (e : b ≡ a). rw e (small j f (let s = put_at size a z b e in omega (arith, s, l))))
+            (λ (d : b ≢ a). p.raw b j (was b d st) (rw (same_writer b d) at w) f (rw (same_size b d) at l) (rw (same_kind b d) at n))
+            (cases_eq b a);
+      }
+
+      -- where the new record is mixed, its count stands, and it has room for it
+      pub counts_allocated : (heap : ℕ → ℕ) → ((count : ℕ) → c ≡ Mixed count → (heap (a + 1) ≡ number_word count) × (count + 2 ≤ z)) → Counts size writer kind heap → Counts (put size a z) writer' kind' heap
+      counts_allocated heap new p = record {
+        counts = λ b count st w e. ⊎_elim
+            (λ (q : b ≡ a). rw (put_at size a z b q, q) (new count (sym (put_at kind a c b q) ∙ e)))
+            (λ (d : b ≢ a). rw (same_size b d) (p.counts b count (was b d st) (rw (same_writer b d) at w) (rw (same_kind b d) at e)))
+            (cases_eq b a);
+      }
 
       -- ---- parts that read identities
 

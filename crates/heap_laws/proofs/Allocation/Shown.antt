@@ -7,6 +7,7 @@ use Rattle.plain_state.specs.declared.kind.Kind.{Kind}
 use Rattle.plain_state.specs.State as plain
 use Rattle.plain_state.specs.declared.value.Identity.{Identity}
 use Rattle.plain_state.specs.declared.value.Value.TheVariants.{Number}
+use Rattle.plain_state.specs.Layout.{values_at, word_of_value}
 use Rattle.plain_state.specs.Writing.{with_heap, gained, zeros as zeros_made}
 use Rattle.heap_state.specs.Memory.Era.{Era, IsLaidOut, Memory}
 use Rattle.heap_state.specs.Functions.{put}
@@ -15,12 +16,13 @@ use Rattle.heap_state.specs.Invariant.Inductive.{Invariant}
 use Rattle.heap_state.specs.Meaning.Values.{value_of, Shows, ShowsAll, Accounts, RegistersShow, BoardShows, Shown}
 use Rattle.heap_state.specs.Worker.{Worker, Team, Stock}
 use Rattle.heap_state.proofs.Puts.{put_at, put_other, put_same, proj_put}
+use Rattle.heap_state.proofs.Records.Layouts.{count_stays, value_within, values_behind_header}
 use Rattle.heap_laws.specs.Opening.{opening_mutator}
 use Rattle.heap_laws.specs.Allocation.Records.{next_identity, allocated, ZerosShow}
 use Rattle.heap_laws.proofs.Allocation.Stocks.{Places, places_of}
 use Rattle.heap_laws.specs.Steps.{with_word, with_worker}
 use Rattle.heap_laws.proofs.Allocation.FreeWords.{IsFree, word_same, board_same}
-use Rattle.heap_laws.proofs.Allocation.Header.{placed, new_place, free, mutator, zeros}
+use Rattle.heap_laws.proofs.Allocation.Header.{placed, new_place, free, mutator, zeros, counted}
 use Rattle.heap_laws.proofs.Allocation.Parts.{NewPlace, unused as unused_place, was, same_size, same_writer}
 use Rattle.heap_laws.proofs.Allocation.Values.{field_lands, value_allocated}
 use Rattle.plain_state.proofs.Gained.{gained_there, gained_elsewhere, gained_serial, gained_serial_other, gained_makers}
@@ -66,20 +68,21 @@ module _ (E : Era) (m : Memory) (team : Team) (g : Ghost) (p : plain.Plain) (k :
   -- ---- values
 
   -- the words behind the header are 0, and denote the same as before
-  zero_behind : (x : ℕ) → x < length new.values → heap (q.at + (x + 1)) ≡ 0
-  zero_behind x l = let n = behind.size in zeros E m team g k q c z v lay inv places (x + 1) (omega arith) (omega arith)
+  zero_behind : (x : ℕ) → x < length new.values → heap (q.at + word_of_value c x) ≡ 0
+  zero_behind x l = let n = value_within new behind x l in zeros E m team g k q c z v lay inv places (word_of_value c x) (omega arith) n.1
 
-  same_behind : (x : ℕ) → heap (q.at + (x + 1)) ≡ m.heap (q.at + (x + 1))
-  same_behind x = put_other m.heap q.at v (q.at + (x + 1)) (λ e. omega (arith, e))
+  same_behind : (x : ℕ) → heap (q.at + word_of_value c x) ≡ m.heap (q.at + word_of_value c x)
+  same_behind x = put_other m.heap q.at v (q.at + word_of_value c x) (λ e. omega (arith, e, values_behind_header c))
 
   shows_new : Shows (value_of g'.identity) heap q.at c z new
   shows_new = record {
     kind = behind.kind;
     size = behind.size;
     fields = λ x l t.
-        let zero : m.heap (q.at + (x + 1)) ≡ 0 = sym (same_behind x) ∙ zero_behind x l in
-        zero_value g'.identity (heap (q.at + (x + 1))) (zero_behind x l) ∙ (sym (zero_value g.identity (m.heap (q.at + (x + 1))) zero) ∙ behind.fields x l t);
+        let zero : m.heap (q.at + word_of_value c x) ≡ 0 = sym (same_behind x) ∙ zero_behind x l in
+        zero_value g'.identity (heap (q.at + word_of_value c x)) (zero_behind x l) ∙ (sym (zero_value g.identity (m.heap (q.at + word_of_value c x)) zero) ∙ behind.fields x l t);
     numbers = λ x l t. ap (λ y. Some (Number y)) (same_behind x) ∙ behind.numbers x l t;
+    count = count_stays new behind heap q.at (λ _ _ _. put_other m.heap q.at v (q.at + 1) (omega arith));
   }
 
   shows_old : (b : ℕ) → 0 < g.size b → g.writer b ≡ 0 → (g.copy b ≡ 0) ⊎ (0 < g.keeper b)
@@ -93,12 +96,11 @@ module _ (E : Era) (m : Memory) (team : Team) (g : Ghost) (p : plain.Plain) (k :
           kind = t.kind;
           size = t.size;
           fields = λ x l f.
-              let u = t.size in
-              let n : x + 1 < g.size b = omega (arith, l, u) in
-              rw (word_same is_free g.writer g.kind m.heap v b (x + 1) n) (value_on (m.heap (b + (x + 1))) (field_lands E m team g b (x + 1) inv st w f (omega arith) n) ∙ t.fields x l f);
-          numbers = λ x l f.
-              let u = t.size in
-              rw (word_same is_free g.writer g.kind m.heap v b (x + 1) (omega (arith, l, u))) (t.numbers x l f);
+              let u = value_within a.0 t x l in
+              let n = word_of_value (g.kind b) x in
+              rw (word_same is_free g.writer g.kind m.heap v b n u.1) (value_on (m.heap (b + n)) (field_lands E m team g b n inv st w f u.0 u.1) ∙ t.fields x l f);
+          numbers = λ x l f. rw (word_same is_free g.writer g.kind m.heap v b (word_of_value (g.kind b) x) (value_within a.0 t x l).1) (t.numbers x l f);
+          count = count_stays a.0 t heap b (λ _ l _. word_same is_free g.writer g.kind m.heap v b 1 l);
         },
       )
 
@@ -168,17 +170,21 @@ module _ (E : Era) (m : Memory) (team : Team) (g : Ghost) (p : plain.Plain) (k :
 pub zeros_show : ZerosShow
 zeros_show E m team g k q c z v ready places' = record {
   kind = refl;
-  size = let n = length-replicate (z - 1) (Number 0) in let l = places.some in omega arith;
-  fields = λ x l t. zero_value g.identity (m.heap (q.at + (x + 1))) (zero x l) ∙ sym (slice_get-of_replicate (z - 1) x (Number 0) (within x l));
-  numbers = λ x l t. ap (λ y. Some (Number y)) (zero x l) ∙ sym (slice_get-of_replicate (z - 1) x (Number 0) (within x l));
+  size = let n = length-replicate count (Number 0) in let l = places'.some in omega arith;
+  fields = λ x l t. zero_value g.identity (m.heap (q.at + word_of_value c x)) (zero x l) ∙ sym (slice_get-of_replicate count x (Number 0) (within x l));
+  numbers = λ x l t. ap (λ y. Some (Number y)) (zero x l) ∙ sym (slice_get-of_replicate count x (Number 0) (within x l));
+  count = counted E m team g k q c z v ready.laid_out ready.invariant places;
 }
   where
+    count : ℕ
+    count = z - values_at c
+
     places : Places E team k q c z v
     places = places_of q c z v ready places'
 
-    within : (x : ℕ) → x < length (zeros_made c (z - 1)).values → x < z - 1
-    within x l = rw (length-replicate (z - 1) (Number 0)) at l
+    within : (x : ℕ) → x < length (zeros_made c count).values → x < count
+    within x l = rw (length-replicate count (Number 0)) at l
 
-    zero : (x : ℕ) → x < length (zeros_made c (z - 1)).values → m.heap (q.at + (x + 1)) ≡ 0
-    zero x l = let u = within x l in
-        sym (put_other m.heap q.at v (q.at + (x + 1)) (λ e. omega (arith, e))) ∙ zeros E m team g k q c z v ready.laid_out ready.invariant places (x + 1) (omega arith) (omega (arith, u))
+    zero : (x : ℕ) → x < length (zeros_made c count).values → m.heap (q.at + word_of_value c x) ≡ 0
+    zero x l = let u = within x l in let b = values_behind_header c in
+        sym (put_other m.heap q.at v (q.at + word_of_value c x) (λ e. omega (arith, e, b))) ∙ zeros E m team g k q c z v ready.laid_out ready.invariant places (word_of_value c x) (omega (arith)) (omega (arith, u))

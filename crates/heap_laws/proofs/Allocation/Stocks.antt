@@ -1,14 +1,21 @@
 -- A worker's stock: that it is of the epoch, and what the worker knows where it alone changes.
-use Rattle.std.proofs.Common.{◌≡◌, ℕ, ◌+◌, ◌-◌, ◌*◌, ◌<◌, ◌≤◌, true, Some, ◌∙◌, arith}
+use Rattle.std.proofs.Common.{◌≡◌, ◌≢◌, ℕ, ◌+◌, ◌-◌, ◌*◌, ◌<◌, ◌≤◌, ◌⊎◌, true, Some, length, refl, ap, ◌∙◌, arith, ⊎_elim, inl, inr}
+use Rattle.std.proofs.lemmas.Bool.{cases_eq, cases_lt}
 use Rattle.heap_words.specs.Decoded.{HeaderWord, decode}
 use Rattle.plain_state.specs.declared.kind.Kind.{Kind}
+use Rattle.plain_state.specs.declared.kind.Kind.TheVariants.{Fields, Raw, Mixed}
+use Rattle.plain_state.specs.Layout.{values_at}
 use Rattle.heap_state.specs.Memory.Era.{Era, Memory}
 use Rattle.heap_state.specs.Invariant.Ghost.{Ghost, header_kind}
 use Rattle.heap_state.specs.Invariant.Inductive.{Knows}
-use Rattle.heap_state.specs.Worker.{Worker, Team, Stock, is_running}
+use Rattle.heap_state.specs.Invariant.Parts.Stocks.{Stocked}
+use Rattle.space_map.specs.declared.page_word.PageWord.{PageWord}
+use Rattle.heap_state.specs.Worker.{Worker, Team, Stock, IsNotAhead, is_running}
 use Rattle.heap_state.proofs.Puts.{some_same}
+use Rattle.heap_state.specs.Memory.FieldSpan.{fields_end}
+use Rattle.heap_state.proofs.Records.Layouts.{values_behind_header}
 use Rattle.heap_laws.specs.Allocation.Stocks.{HasStock, OpensNext}
-use Rattle.heap_laws.specs.Allocation.Records.{PlacesNext}
+use Rattle.heap_laws.specs.Allocation.Records.{PlacesNext, stored_ahead}
 use Rattle.heap_laws.specs.Steps.{Ready, with_worker}
 
 -- what it knows
@@ -18,6 +25,25 @@ pub stocked_knows : (E : Era) (m : Memory) (g : Ghost) (k : ℕ) (w : Worker) (q
 stocked_knows E m g k w q now p =
     let a : (s : Stock) → Some q ≡ Some s → s.epoch ≡ w.epoch = λ s e. rw (← some_same e) now in
     assumption
+
+-- ---- words stored ahead
+
+-- where nothing is stored ahead, no word of the stock is
+pub is_not_ahead : (q : Stock) (x : ℕ) → length q.ahead ≡ 0 → q.at ≤ x → IsNotAhead q x
+is_not_ahead q x none l = ⊎_elim (λ e. inl e) (λ (d : x ≢ q.at). inr (omega arith)) (cases_eq x q.at)
+
+-- nothing is while words are still to be made 0, or pages to be opened
+pub nothing_ahead : {E : Era} {low : ℕ} {size heap : ℕ → ℕ} {page : ℕ → PageWord} (q : Stock) → Stocked E low size heap page q → (q.zeroed < q.end) ⊎ (q.opened < q.end) → length q.ahead ≡ 0
+nothing_ahead q p more = ⊎_elim
+    (λ (l : 0 < length q.ahead). absurd (let f = p.fits l in omega (arith, f, more)))
+    (λ (n : length q.ahead ≤ 0). let z : length q.ahead ≡ 0 = omega arith in z)
+    (cases_lt 0 (length q.ahead))
+
+-- what is stored ahead of a record's header lies between it and its values
+as_far : (c : Kind) → length (stored_ahead c) + 1 ≡ values_at c
+as_far Fields = refl
+as_far Raw = refl
+as_far (Mixed count) = refl
 
 -- ---- stocks of the epoch
 
@@ -40,7 +66,12 @@ pub record Places (E : Era) (team : Team) (k : ℕ) (q : Stock) (c : Kind) (z v 
   pub runs : is_running (team.worker k).post ≡ true
   pub run : (q.zeroed ≡ q.end) × (q.opened ≡ q.end)
   pub some : 0 < z
+  pub fields : fields_end c z ≤ z
   pub fits : q.at + z ≤ q.end
+  pub rest : q.end < q.at + z + 64
+  pub room : values_at c ≤ z
+  pub ahead : q.ahead ≡ stored_ahead c
+  pub behind : length q.ahead + 1 ≡ values_at c
   pub header : decode v ≡ HeaderWord (header_kind c) (z - 1) ((team.worker k).account.serial + 1) k
 
 -- the stock of a worker that runs is of the epoch
@@ -51,7 +82,7 @@ pub opens_of : {E : Era} {m : Memory} {team : Team} {g : Ghost} {k : ℕ} (q : S
 opens_of q page ready opens = record { own = owns q ready opens.own; blank = omega (arith, opens.blank); at = opens.at; more = opens.more }
 
 pub places_of : {E : Era} {m : Memory} {team : Team} {g : Ghost} {k : ℕ} (q : Stock) (c : Kind) (z v : ℕ) → Ready E m team g k → PlacesNext team k q c z v → Places E team k q c z v
-places_of q c z v ready places = record { own = owns q ready places.own; runs = places.own.runs; run = places.run; some = places.some; fits = places.fits; header = places.header }
+places_of q c z v ready places = record { own = owns q ready places.own; runs = places.own.runs; run = places.run; some = (let b = values_behind_header c in let s = places.some in omega (arith, b, s)); fields = places.fields; fits = places.fits; rest = places.rest; room = places.some; ahead = places.ahead; behind = ap (λ xs. length xs + 1) places.ahead ∙ as_far c; header = places.header }
 
 -- the team in which worker k has this stock
 abbrev pub with_stock : Team → ℕ → Stock → Team

@@ -1,6 +1,7 @@
 -- What a worker knows where a record begins to stand in the new area.
-use Rattle.std.proofs.Common.{◌≡◌, ℕ, ◌+◌, ◌<◌, Bool, Option, refl, arith, ⊎_elim, true, None, Some}
+use Rattle.std.proofs.Common.{◌≡◌, ℕ, ◌+◌, ◌<◌, ◌≤◌, Bool, Option, refl, arith, ⊎_elim, true, None, Some}
 use Rattle.plain_state.specs.declared.kind.Kind.{Kind}
+use Rattle.plain_state.specs.Layout.{values_at}
 use Rattle.plain_state.specs.declared.value.Identity.{Identity}
 use Rattle.space_map.specs.declared.page_word.PageWord.{PageWord}
 use Rattle.heap_state.specs.Memory.Era.{Era, Memory}
@@ -64,6 +65,7 @@ module _ {E : Era} {front low : ℕ} {size copy keeper : ℕ → ℕ} {a z : ℕ
       stands = rw (same_size cr f.at d) p.stands;
       written = rw (same_writer cr writer f.at d) p.written;
       inside = p.inside;
+      first = rw (same_kind cr writer kind c f.at d) p.first;
       word = rw (same_size cr f.at d) p.word;
       role = rw (same_kind cr writer kind c f.at d) p.role;
     }
@@ -75,6 +77,14 @@ module _ {E : Era} {front low : ℕ} {size copy keeper : ℕ → ℕ} {a z : ℕ
     pub stepping_allocated : (s : Scan) → Stepping E front size writer kind s → Stepping E front size' writer' kind' s
     stepping_allocated s p = record {
       over = λ b e. let t = p.over b e in let d = not_new cr b t.0 in rw (same_size cr b d, same_writer cr writer b d) t;
+      headed = λ h e. let t = p.headed h e in let d = not_new cr h.at t.stands in record {
+        stands = rw (same_size cr h.at d) t.stands;
+        written = rw (same_writer cr writer h.at d) t.written;
+        mixed = rw (same_kind cr writer kind c h.at d) t.mixed;
+        whole = rw (same_size cr h.at d) t.whole;
+        inside = t.inside;
+        cursor = t.cursor;
+      };
       current = λ r e. let t = p.current r e in let d = below_other cr r.at (omega (arith, t)) in record {
         stands = rw (same_size cr r.at d) t.stands;
         written = rw (same_writer cr writer r.at d) t.written;
@@ -90,7 +100,7 @@ module _ {E : Era} {front low : ℕ} {size copy keeper : ℕ → ℕ} {a z : ℕ
       ended = p.ended;
     }
 
-    pub scans_allocated : (heap : ℕ → ℕ) → ((j : ℕ) → 0 < j → j < z → heap (a + j) ≡ 0) → (page : ℕ → PageWord) (k : ℕ) (s : Scan) → Scans E front size writer kind heap page k s → Scans E front size' writer' kind' heap page k s
+    pub scans_allocated : (heap : ℕ → ℕ) → ((j : ℕ) → values_at c ≤ j → j < z → heap (a + j) ≡ 0) → (page : ℕ → PageWord) (k : ℕ) (s : Scan) → Scans E front size writer kind heap page k s → Scans E front size' writer' kind' heap page k s
     scans_allocated heap zeros page k s p = record {
       claimed = p.claimed;
       place = p.place;
@@ -106,7 +116,7 @@ module _ {E : Era} {front low : ℕ} {size copy keeper : ℕ → ℕ} {a z : ℕ
     }
 
 -- all of it
-pub worker_allocated : (E : Era) (m : Memory) (g : Ghost) (a z : ℕ) (c : Kind) (i : Identity) (heap : ℕ → ℕ) (k : ℕ) (w : Worker) → NewPlace E m.front m.low g.size g.copy g.keeper a z → ((j : ℕ) → 0 < j → j < z → heap (a + j) ≡ 0)
+pub worker_allocated : (E : Era) (m : Memory) (g : Ghost) (a z : ℕ) (c : Kind) (i : Identity) (heap : ℕ → ℕ) (k : ℕ) (w : Worker) → NewPlace E m.front m.low g.size g.copy g.keeper a z → ((j : ℕ) → values_at c ≤ j → j < z → heap (a + j) ≡ 0)
     → Knows E m.gate m.traced m.front m.low m.old_front m.old_low m.old_owed g m.page m.cross m.announced heap k w
     → Knows E m.gate m.traced m.front m.low m.old_front m.old_low m.old_owed (allocated g a z c i) m.page m.cross m.announced heap k w
 worker_allocated E m g a z c i heap k w cr zeros p =

@@ -1,6 +1,8 @@
 -- The copy is whole, and the forward to it is stored at the old place.
 use Rattle.std.proofs.Common.{◌≡◌, ◌≢◌, ℕ, ◌+◌, ◌-◌, ◌*◌, ◌/◌, ◌^◌, ◌<◌, ◌≤◌, Bool, true, false, refl, sym, ap, ◌∙◌, arith, Option, Some, None, ⊎_elim, ◌⊎◌, inl, inr}
 use Rattle.std.proofs.lemmas.Bool.{cases_eq}
+use Rattle.plain_state.specs.declared.kind.Kind.TheVariants.{Mixed}
+use Rattle.heap_words.specs.Word.{number_word}
 use Rattle.heap_words.specs.Decoded.{HeaderWord, ForwardWord, PointerWord, decode}
 use Rattle.plain_state.specs.Layout.{is_field}
 use Rattle.space_map.specs.declared.page_word.PageWord.TheVariants.{Scanning}
@@ -14,14 +16,14 @@ use Rattle.heap_state.specs.Invariant.Parts.Crossing.{Crossing}
 use Rattle.heap_state.specs.Invariant.Parts.Knowledge.{Clean, Accesses}
 use Rattle.heap_state.specs.Invariant.Parts.Leading.{Opened, Landing, Older}
 use Rattle.heap_state.specs.Invariant.Parts.Pages.{Shut}
-use Rattle.heap_state.specs.Invariant.Parts.Records.{Headed, RawWords}
+use Rattle.heap_state.specs.Invariant.Parts.Records.{Headed, RawWords, Counts}
 use Rattle.heap_state.specs.Invariant.Parts.Scanning.{Scans, Stepping, Claims}
 use Rattle.heap_state.specs.Worker.{Worker, Team, Quest, Copy, Scan, Claim, Access, Origin, Register, Scanned, is_late, is_mutator}
 use Rattle.heap_state.proofs.Workers.Frames.{counted_put, staffed_put, scanned_put, stocks_put, numbered_put}
 use Rattle.heap_state.proofs.Puts.{put_at, put_other, put_same, team_put, each_put, some_same, none≢some}
 use Rattle.heap_laws.specs.Copying.{published}
 use Rattle.heap_laws.specs.Steps.{Ready, with_worker, with_word}
-use Rattle.heap_laws.proofs.Copying.UnreadWords.{UnreadWord, opened_unread, landing_unread, older_unread, new_unread, space_unread, raw_unread, stocks_unread, origin_unread, scans_unread}
+use Rattle.heap_laws.proofs.Copying.UnreadWords.{UnreadWord, opened_unread, landing_unread, older_unread, new_unread, space_unread, raw_unread, counts_unread, stocks_unread, origin_unread, scans_unread}
 use Rattle.heap_laws.proofs.Copying.Words.{knows_unread}
 
 -- a whole copy, and the forward to it
@@ -179,6 +181,19 @@ module _ {E : Era} {m : Memory} {team : Team} {g : Ghost} {k : ℕ} {c : Copy} {
       of_copy i f l n = rw (copied_word i f (omega (arith, l, placed.3)))
           (inv.raw_words.raw c.from i (omega (arith, mine.old)) from_written f (omega (arith, l, twin.4)) (ap (λ z. is_field z i) (sym twin.6) ∙ n))
 
+  counts : Counts g'.size g'.writer g'.kind heap'
+  counts = let p = counts_unread unread_word m.heap v g.kind inv.counts in record {
+    counts = λ b count st w e. ⊎_elim
+        (λ (q : b ≡ c.to). rw q (of_copy count (ap g.kind (sym q) ∙ e)))
+        (λ (d : b ≢ c.to). p.counts b count st (was_written b w d) e)
+        (cases_eq b c.to);
+  }
+    where
+      of_copy : (count : ℕ) → g.kind c.to ≡ Mixed count → (heap' (c.to + 1) ≡ number_word count) × (count + 2 ≤ g.size c.to)
+      of_copy count e =
+          let n = inv.counts.counts c.from count (omega (arith, mine.old)) from_written (sym twin.6 ∙ e) in
+          (copied_word 1 (omega arith) (omega (arith, n.1, twin.4, placed.3)) ∙ n.0, omega (arith, n.1, twin.4))
+
   opened : Opened E g'.size g'.writer g'.kind heap' m.page
   opened = let p = opened_unread unread_word m.heap v g.kind m.page inv.opened in record {
     opened = λ x u o. ⊎_elim (λ y. p.opened x y o)
@@ -233,6 +248,8 @@ module _ {E : Era} {m : Memory} {team : Team} {g : Ghost} {k : ℕ} {c : Copy} {
   stepping : (s : Scan) → Stepping E m.front g.size g.writer g.kind s → Stepping E m.front g'.size g'.writer g'.kind s
   stepping s p = record {
     over = λ a e. let y = p.over a e in (y.0, written_on a y.1, y.2, y.3);
+    headed = λ h e. let y = p.headed h e in
+        record { stands = y.stands; written = written_on h.at y.written; mixed = y.mixed; whole = y.whole; inside = y.inside; cursor = y.cursor };
     current = λ r e. let y = p.current r e in
         record { stands = y.stands; written = written_on r.at y.written; fields = y.fields; whole = y.whole; inside = y.inside; entered = y.entered; cursor = y.cursor };
     inner = p.inner;
@@ -245,7 +262,7 @@ module _ {E : Era} {m : Memory} {team : Team} {g : Ghost} {k : ℕ} {c : Copy} {
   claims d x p = record { earlier = p.earlier; full = p.full; last = p.last; late = p.late; in_place = p.in_place; clear = λ e i b j st w l. p.clear e i b j st (writes b j w).1 l }
 
   accesses : (f : Access) → Accesses E g.size g.writer g.kind f → Accesses E g'.size g'.writer g'.kind f
-  accesses f p = record { stands = p.stands; written = written_on f.at p.written; inside = p.inside; word = p.word; role = p.role }
+  accesses f p = record { stands = p.stands; written = written_on f.at p.written; inside = p.inside; first = p.first; word = p.word; role = p.role }
 
   registers : (late : Bool) (done : ℕ) (r : ℕ → ℕ) → Clean E g.size g.writer late done r → Clean E g'.size g'.writer late done r
   registers late done r p = record { clean = p.clean; lands = λ j l. lands_on (r j) (p.lands j l); old = p.old }
@@ -323,6 +340,7 @@ module _ {E : Era} {m : Memory} {team : Team} {g : Ghost} {k : ℕ} {c : Copy} {
     kept = kept;
     room = inv.room;
     raw_words = raw_words;
+    counts = counts;
     shut = shut;
     filling = inv.filling;
     tracing = inv.tracing;

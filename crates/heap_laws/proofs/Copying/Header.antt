@@ -21,7 +21,7 @@ use Rattle.heap_state.proofs.Puts.{put_at, put_other, put_same, team_put, some_s
 use Rattle.heap_laws.specs.Copying.{copying, begun, taken}
 use Rattle.heap_laws.specs.Steps.{Ready, with_worker, with_word, Preserves}
 use Rattle.heap_laws.proofs.Copying.Roots.{asked_reachable}
-use Rattle.heap_laws.proofs.Copying.UnreadWords.{UnreadWord, opened_unread, landing_unread, older_unread, new_unread, space_unread, raw_unread, stocks_unread, origin_unread, scans_unread, objects_unread, board_unread}
+use Rattle.heap_laws.proofs.Copying.UnreadWords.{UnreadWord, opened_unread, landing_unread, older_unread, new_unread, space_unread, raw_unread, counts_unread, stocks_unread, origin_unread, scans_unread, objects_unread, board_unread}
 use Rattle.heap_laws.proofs.Copying.Words.{knows_unread, copying_unread, rooted_unread}
 
 -- a record whose own header stands in its place was not copied, and nobody keeps its header
@@ -176,6 +176,7 @@ module _ (E : Era) (m : Memory) (team : Team) (g : Ghost) (k : ℕ) (q : Quest) 
       let p4 = copied in
       let p5 = kept in
       let p6 = raw_unread unread_word m.heap v g.kind inv.raw_words in
+      let p16 = counts_unread unread_word m.heap v g.kind inv.counts in
       let p7 = scanned_put team.worker k w' refl inv.scanned in
       let p8 = opened_unread unread_word m.heap v g.kind m.page inv.opened in
       let p9 = landing_unread unread_word m.heap v g.kind inv.landing in

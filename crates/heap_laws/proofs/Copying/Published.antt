@@ -6,7 +6,7 @@ use Rattle.heap_words.specs.Decoded.{PointerWord, decode, ForwardWord}
 use Rattle.plain_state.specs.State as plain
 use Rattle.plain_state.specs.declared.value.Identity.{Identity}
 use Rattle.plain_state.specs.declared.value.Value.TheVariants.{Reference}
-use Rattle.plain_state.specs.Layout.{is_field, word_of_value}
+use Rattle.plain_state.specs.Layout.{is_field, values_at, word_of_value}
 use Rattle.heap_state.specs.Cycles.Cycle.{Copying, Rooted, IsCopied, StillLeads}
 use Rattle.heap_state.specs.Memory.Era.{Era, Memory}
 use Rattle.heap_state.specs.Functions.{put}
@@ -17,6 +17,7 @@ use Rattle.heap_state.specs.Meaning.Values.{ShowsAll, Shows, value_of}
 use Rattle.heap_state.specs.Worker.{Worker, Team, Quest, Copy}
 use Rattle.heap_state.proofs.Workers.Frames.{accounts_put, registers_put, rooted_put}
 use Rattle.heap_state.proofs.Puts.{put_at, put_other, some_same}
+use Rattle.heap_state.proofs.Records.Layouts.{count_stays, field_is_value, value_within, values_behind_header}
 use Rattle.heap_laws.specs.Copying.{published}
 use Rattle.heap_laws.specs.Steps.{with_worker, with_word, Preserves, Ready}
 use Rattle.heap_laws.proofs.Copying.Forward.{Publishing, mine, placed, from_written, unread_word, twin, copied_word, was_written, written_on, here_cases, old_target, invariant}
@@ -46,13 +47,19 @@ module _ {E : Era} {m : Memory} {team : Team} {g : Ghost} {k : ℕ} {c : Copy} {
 
   -- ---- what is shown
 
+  -- each value of the old record stands in its copy too
+  copied_value : (r : plain.Record) → Shows (value_of g.identity) m.heap c.from (g.kind c.from) (g.size c.from) r → (x : ℕ) → x < length r.values
+      → heap' (c.to + word_of_value (g.kind c.from) x) ≡ m.heap (c.from + word_of_value (g.kind c.from) x)
+  copied_value r p x l = let v = value_within r p x l in copied_word publishing (word_of_value (g.kind c.from) x) v.0 (omega (arith, v.1, old.3))
+
   -- the copy shows what the old record shows
   moved : (r : plain.Record) → Shows (value_of g.identity) m.heap c.from (g.kind c.from) (g.size c.from) r → Shows (value_of g.identity) heap' c.to (g.kind c.to) (g.size c.to) r
   moved r p = let t = twin publishing in rw (t.6) (record {
     kind = p.kind;
     size = p.size ∙ sym t.4;
-    fields = λ x l y. let z = p.size in rw (copied_word publishing (x + 1) (omega arith) (omega (arith, l, z, old.3))) (p.fields x l y);
-    numbers = λ x l y. let z = p.size in rw (copied_word publishing (x + 1) (omega arith) (omega (arith, l, z, old.3))) (p.numbers x l y);
+    fields = λ x l y. rw (copied_value r p x l) (p.fields x l y);
+    numbers = λ x l y. rw (copied_value r p x l) (p.numbers x l y);
+    count = count_stays r p heap' c.to (λ _ l _. copied_word publishing 1 (omega arith) (omega (arith, l, old.3)));
   })
 
   objects : (records : plain.Heap) → ShowsAll g.size g.writer g.copy g.keeper g.kind g.identity m.heap records → ShowsAll g'.size g'.writer g'.copy g'.keeper g'.kind g'.identity heap' records
@@ -82,10 +89,12 @@ module _ {E : Era} {m : Memory} {team : Team} {g : Ghost} {k : ℕ} {c : Copy} {
     led i b f l y d =
         let s : Shows (value_of g.identity) m.heap c.from (g.kind c.from) (g.size c.from) (source.0) = source.2 in
         let z = s.size in
-        let e : i - 1 + 1 ≡ i = omega arith in
-        let y' : is_field (g.kind c.from) (word_of_value (g.kind c.from) (i - 1)) ≡ true = rw e y in
-        let u : value_of g.identity (m.heap (c.from + i)) ≡ slice_get source.0.values (i - 1) = rw e at (s.fields (i - 1) (omega (arith, f, l, z, old.3)) y') in
-        FromRecord (g.identity c.from) source.0 (i - 1) (g.identity b) reached source.1 (rw s.kind y') (sym u ∙ value_from_pointer g.identity (m.heap (c.from + i)) b d)
+        let k = ap values_at s.kind in
+        let n : ℕ = i - values_at (g.kind c.from) in
+        let e : word_of_value (g.kind c.from) n ≡ i = omega (arith, field_is_value (g.kind c.from) i f y) in
+        let y' : is_field (g.kind c.from) (word_of_value (g.kind c.from) n) ≡ true = rw e y in
+        let u : value_of g.identity (m.heap (c.from + i)) ≡ slice_get source.0.values n = rw e at (s.fields n (omega (arith, e, l, z, k, old.3)) y') in
+        FromRecord (g.identity c.from) source.0 n (g.identity b) reached source.1 (rw s.kind y') (sym u ∙ value_from_pointer g.identity (m.heap (c.from + i)) b d)
 
     sound : (x : ℕ) (i : Identity) → Here E g'.size g'.writer g'.kind x → StillLeads E g'.identity (heap' x) i → Reachable p i
     sound x i u t = ⊎_elim
@@ -105,8 +114,8 @@ module _ {E : Era} {m : Memory} {team : Team} {g : Ghost} {k : ℕ} {c : Copy} {
     still x r i of y refers =
         let w : value_of g.identity (m.heap (c.from + n)) ≡ Some (Reference i) = shown.fields x within y ∙ refers' in
         let a = pointer_from_value g.identity (m.heap (c.from + n)) i w in
-        let z = old_target publishing n a.0 (omega arith) below y a.1 in
-        record { at = a.0; points = ap decode (copied_word publishing n (omega arith) below) ∙ a.1; old = (z.1, z.2); named = a.2 }
+        let z = old_target publishing n a.0 behind below y a.1 in
+        record { at = a.0; points = ap decode (copied_value source.0 shown x within) ∙ a.1; old = (z.1, z.2); named = a.2 }
       where
         n : ℕ
         n = word_of_value (g.kind c.from) x
@@ -122,8 +131,11 @@ module _ {E : Era} {m : Memory} {team : Team} {g : Ghost} {k : ℕ} {c : Copy} {
         within : x < length source.0.values
         within = slice_get_within source.0.values x (Reference i) refers'
 
-        below : word_of_value (g.kind c.from) x < c.size
-        below = let z = shown.size in omega (arith, within, z, old.3)
+        behind : 0 < n
+        behind = (value_within source.0 shown x within).0
+
+        below : n < c.size
+        below = let v = value_within source.0 shown x within in omega (arith, v.1, old.3)
 
     pub copying : Copying E m.front g'.size g'.writer g'.copy g'.keeper g'.kind g'.identity heap' p
     copying = record {
@@ -132,9 +144,9 @@ module _ {E : Era} {m : Memory} {team : Team} {g : Ghost} {k : ℕ} {c : Copy} {
       reached = λ b st l n y. cy.reached b st l n (⊎_elim (λ z. inl z) (λ z. inr (let d : b ≢ c.from = (λ e. let u = put_at g.keeper c.from 0 b e in omega arith) in rw (put_other g.keeper c.from 0 b d) at z)) y);
       sizes = cy.sizes;
       complete = λ b x r i st w l u of f refers. ⊎_elim
-          (λ (y : b ≡ c.to). inr (rw y (still x r i (ap (λ z. plain.record_of p.heap (g.identity z)) (sym y) ∙ of) (rw (y, (twin publishing).6) at f) refers)))
+          (λ (y : b ≡ c.to). inr (rw (y, (twin publishing).6) (still x r i (ap (λ z. plain.record_of p.heap (g.identity z)) (sym y) ∙ of) (rw (y, (twin publishing).6) at f) refers)))
           (λ (d : b ≢ c.to). ⊎_elim (λ y. inl (copied_on i y))
-          (λ y. inr (rw (inner_same (unread_word publishing) m.heap v b (x + 1) (was_written publishing b w d) (omega arith) (copied_within cy b x r (Reference i) st l u of refers)) y))
+          (λ y. inr (rw (inner_same (unread_word publishing) m.heap v b (word_of_value (g.kind b) x) (was_written publishing b w d) (omega (arith, values_behind_header (g.kind b))) (copied_within cy b x r (Reference i) st l u of refers)) y))
           (cy.complete b x r i st (was_written publishing b w d) l u of f refers))
           (cases_eq b c.to);
       only = cy.only;

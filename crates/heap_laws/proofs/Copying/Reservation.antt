@@ -1,5 +1,5 @@
 -- A place at FRONT is given to a copy: what reads where records stand stays as it is.
-use Rattle.std.proofs.Common.{◌≡◌, ◌≢◌, ℕ, ◌+◌, ◌*◌, ◌<◌, ◌≤◌, refl, sym, ap, ◌∙◌, arith, ⊎_elim, ◌⊎◌, inl, inr}
+use Rattle.std.proofs.Common.{◌≡◌, ◌≢◌, ℕ, ◌+◌, ◌*◌, ◌%◌, ◌<◌, ◌≤◌, refl, sym, ap, ◌∙◌, arith, ⊎_elim, ◌⊎◌, inl, inr}
 use Rattle.std.proofs.lemmas.Bool.{cases_eq, cases_lt}
 use Rattle.space_map.specs.declared.page_word.PageWord.{PageWord}
 use Rattle.heap_state.specs.Memory.Era.{Era, IsLaidOut}
@@ -8,11 +8,12 @@ use Rattle.heap_state.specs.Invariant.Ghost.{Ghost, IsField, Here, Lands}
 use Rattle.heap_state.specs.Invariant.Parts.Copies.{Copied, Once}
 use Rattle.heap_state.specs.Invariant.Parts.Crossing.{Crossing}
 use Rattle.heap_state.specs.Invariant.Parts.Leading.{Opened, Landing, Older}
-use Rattle.heap_state.specs.Invariant.Parts.Records.{Laid, Headed, NewArea, NewWritten, SpaceOf, RawWords}
+use Rattle.heap_state.specs.Invariant.Parts.Records.{Laid, Headed, NewArea, NewWritten, SpaceOf, RawWords, WalkComesTo, Counts}
 use Rattle.heap_state.specs.Invariant.Parts.Stocks.{Stocked, Stocks, Numbered}
 use Rattle.heap_state.specs.Meaning.Values.{value_of}
 use Rattle.heap_state.specs.Worker.{Worker, Stock}
 use Rattle.heap_state.proofs.Puts.{put_at, put_other, put_same, put_cases}
+use Rattle.heap_state.proofs.Walks.WalkPlaces.{comes_to_more}
 use Rattle.heap_laws.specs.Copying.{reserved}
 use Rattle.heap_laws.proofs.Frames.Values.{value_agrees}
 
@@ -194,14 +195,23 @@ module _ {E : Era} {front low : ℕ} {g : Ghost} {k a f z : ℕ} (reservation : 
   pub raw_reserved : (heap : ℕ → ℕ) → RawWords g.size g.writer g.kind heap → RawWords g'.size g'.writer g'.kind heap
   raw_reserved heap p = record { raw = λ b i st w l n y. let d = written_new b w in p.raw b i (was b d st) (was_written b w) l (rw (put_other g.size f z b d) at n) (rw (put_other g.kind f (g.kind a) b d) at y) }
 
+  pub counts_reserved : (heap : ℕ → ℕ) → Counts g.size g.writer g.kind heap → Counts g'.size g'.writer g'.kind heap
+  counts_reserved heap p = record { counts = λ b count st w e. let d = written_new b w in rw (put_other g.size f z b d) (p.counts b count (was b d st) (was_written b w) (rw (put_other g.kind f (g.kind a) b d) at e)) }
+
   -- ---- areas
 
-  pub new_reserved : (start end epoch : ℕ) (heap : ℕ → ℕ) (page : ℕ → PageWord) → ((b : ℕ) → start ≤ b → b < end → b ≢ f) → NewArea start end epoch g.size heap page → NewArea start end epoch g'.size heap page
-  new_reserved start end epoch heap page off p = record {
+  pub new_reserved : (start end epoch : ℕ) (heap : ℕ → ℕ) (page : ℕ → PageWord) → start % 64 ≡ 0 → (f + z ≤ start) ⊎ (end ≤ f) → NewArea start end epoch g.size heap page → NewArea start end epoch g'.size heap page
+  new_reserved start end epoch heap page aligned beyond p = record {
     opened = λ b x st l n i j. let d = off b l n in p.opened b x (was b d st) l n i (rw (put_other g.size f z b d) at j);
     prior = λ b st l n al. let d = off b l n in let y = p.prior b (was b d st) l n al in (y.0, is y.0 y.1, rw (put_other g.size f z (y.0) (not_new y.0 y.1)) (y.2));
-    blank = λ x l n o free. p.blank x l n o (λ b st. rw (put_other g.size f z b (not_new b st)) at (free b (is b st)));
+    blank = λ x l n w o free. p.blank x l n (comes x l n w) o (λ b st. rw (put_other g.size f z b (not_new b st)) at (free b (is b st)));
   }
+    where
+      off : (b : ℕ) → start ≤ b → b < end → b ≢ f
+      off b l n e = omega (arith, e, l, n, beyond, some)
+
+      comes : (x : ℕ) → start ≤ x → x < end → WalkComesTo g'.size x → WalkComesTo g.size x
+      comes x l n w = ⊎_elim (λ y. y) (λ (e : x ≡ f + z). inl (omega (arith, e, l, n, beyond, aligned))) (comes_to_more g.size f z x w)
 
   pub written_reserved : NewWritten E low g.size g.writer → NewWritten E low g'.size g'.writer
   written_reserved p = record { written = λ b st l n. let d : b ≢ f = omega (arith, room, some) in rw (put_other g.writer f (k + 1) b d) (p.written b (was b d st) l n) }
@@ -214,7 +224,7 @@ module _ {E : Era} {front low : ℕ} {g : Ghost} {k a f z : ℕ} (reservation : 
     aligned = p.aligned;
     first = ⊎_elim (λ e. inl e) (λ y. inr (is E.old_start y)) p.first;
     next = λ b l n st. let d = old_side b l (omega (arith, n, p.order)) in rw (put_other g.size f z b d) (⊎_elim (λ e. inl e) (λ y. inr (is (b + g.size b) y)) (p.next b l n (was b d st)));
-    new = new_reserved free (E.old_start + E.old_span) epoch heap page (λ b l n. old_side b (omega (arith, l, p.order)) n) p.new;
+    new = new_reserved free (E.old_start + E.old_span) epoch heap page p.aligned (⊎_elim (λ y. inl (omega (arith, y, laid.order, room, p.order))) (λ y. inr (omega (arith, y, laid.order, here))) laid_out.apart) p.new;
   }
 
   pub crossing_reserved : (cross : ℕ → ℕ) → Crossing E front g.size g.writer cross → Crossing E (f + z) g'.size g'.writer cross
@@ -231,6 +241,9 @@ module _ {E : Era} {front low : ℕ} {g : Ghost} {k a f z : ℕ} (reservation : 
     so_far = p.so_far;
     aligned = p.aligned;
     zeros = p.zeros;
+    ahead = p.ahead;
+    fits = p.fits;
+    on_page = p.on_page;
     shut = p.shut;
     opens = p.opens;
     order = p.order;

@@ -16,6 +16,7 @@ use Rattle.heap_state.specs.Meaning.Values.{Shown, ShowsAll, Shows, RegistersSho
 use Rattle.heap_state.specs.Worker.{Team, Copy, is_mutator}
 use Rattle.heap_state.proofs.Workers.Frames.{accounts_put, registers_put, rooted_put}
 use Rattle.heap_state.proofs.Puts.{put_at, put_other}
+use Rattle.heap_state.proofs.Records.Layouts.{value_within}
 use Rattle.heap_laws.specs.Copying.{reserved, copying as in_progress}
 use Rattle.heap_laws.specs.Steps.{with_worker, with_area, Preserves, Ready}
 use Rattle.heap_laws.proofs.Copying.Reservation.{not_new, was, is, was_written, written_on, here_back, old_side, value_reserved}
@@ -62,9 +63,11 @@ module _ {E : Era} {m : Memory} {team : Team} {g : Ghost} {k : ℕ} {c : Copy} (
     kind = p.kind;
     size = p.size;
     numbers = p.numbers;
+    count = p.count;
     fields = λ x l y.
-        let z = p.size in
-        value_reserved (reservation reserving) (m.heap (b + (x + 1))) (field_lands b (x + 1) (record { stands = st; written = w; field = y; first = omega arith; last = omega (arith, l, z) })) ∙ p.fields x l y;
+        let v = value_within r p x l in
+        let i = word_of_value (g.kind b) x in
+        value_reserved (reservation reserving) (m.heap (b + i)) (field_lands b i (record { stands = st; written = w; field = y; first = v.0; last = v.1 })) ∙ p.fields x l y;
   }
 
   -- it has the identity, kind and size that it had
@@ -160,7 +163,8 @@ module _ {E : Era} {m : Memory} {team : Team} {g : Ghost} {k : ℕ} {c : Copy} (
           (cases_eq b c.to);
       complete = λ b x r i st w s l of f refers.
           let d : b ≢ c.to = (λ e. let z = put_at g.writer c.to (k + 1) b e in omega (arith, z, w)) in
-          complete b x r i d (was (reservation reserving) b d st) (was_written (reservation reserving) b w) s l (rw (put_other g.identity c.to (g.identity c.from) b d) at of) (rw (put_other g.kind c.to (g.kind c.from) b d) at f) refers;
+          let kind = put_other g.kind c.to (g.kind c.from) b d in
+          rw kind (complete b x r i d (was (reservation reserving) b d st) (was_written (reservation reserving) b w) s l (rw (put_other g.identity c.to (g.identity c.from) b d) at of) (rw kind at f) refers);
       only = λ b st l n. ⊎_elim
           (λ (e : b ≡ c.to). rw (put_at g.identity c.to (g.identity c.from) b e) (cy.reached c.from from_old.0 from_old.1 from_old.2 (inr from_old.3)))
           (λ (d : b ≢ c.to). let st' = was (reservation reserving) b d st in rw (put_other g.identity c.to (g.identity c.from) b d) (cy.only b st' l (below_front b d st' l n)))

@@ -18,7 +18,7 @@ use Rattle.heap_state.proofs.Puts.{put_at, put_other, put_same, team_put, some_s
 use Rattle.heap_state.proofs.Holds.Still.{open_scanning, still}
 use Rattle.heap_laws.specs.Copying.{copying, reserved}
 use Rattle.heap_laws.specs.Steps.{Ready, with_worker, with_area}
-use Rattle.heap_laws.proofs.Copying.Reservation.{Reservation, empty, not_new, was, is, source_other, old_side, laid_reserved, headed_reserved, copied_reserved, once_reserved, written_on, here_back, here_on, lands_reserved, opened_reserved, landing_reserved, older_reserved, raw_reserved, new_reserved, written_reserved, space_reserved, crossing_reserved, stocks_reserved, numbered_reserved}
+use Rattle.heap_laws.proofs.Copying.Reservation.{Reservation, empty, not_new, was, is, source_other, old_side, laid_reserved, headed_reserved, copied_reserved, once_reserved, written_on, here_back, here_on, lands_reserved, opened_reserved, landing_reserved, older_reserved, raw_reserved, counts_reserved, new_reserved, written_reserved, space_reserved, crossing_reserved, stocks_reserved, numbered_reserved}
 use Rattle.heap_laws.proofs.Copying.Room.{untraced, alone, goes_on, at_source, has_room}
 use Rattle.heap_laws.proofs.Scanning.Scanners.{open_age, scan_age, scan_scan}
 
@@ -174,6 +174,7 @@ module _ {E : Era} {m : Memory} {team : Team} {g : Ghost} {k : ℕ} {c : Copy} (
     stands = is reservation f.at p.stands;
     written = written_on reservation f.at p.stands p.written;
     inside = p.inside;
+    first = rw (put_other g.kind c.to (g.kind c.from) (f.at) n) (p.first);
     word = rw (put_other g.size c.to c.size (f.at) n) (p.word);
     role = rw (put_other g.kind c.to (g.kind c.from) (f.at) n) (p.role);
   }
@@ -213,6 +214,17 @@ module _ {E : Era} {m : Memory} {team : Team} {g : Ghost} {k : ℕ} {c : Copy} (
   stepping : (j : ℕ) (s : Scan) → (team.worker j).scan ≡ Some s → Scans E m.front g.size g.writer g.kind m.heap m.page j s → Stepping E m.front g.size g.writer g.kind s → Stepping E (c.to + c.size) g'.size g'.writer g'.kind s
   stepping j s e sc p = record {
     over = λ a i. let y = p.over a i in let n = not_new reservation a y.0 in (is reservation a y.0, written_on reservation a y.0 y.1, y.2, rw (put_other g.size c.to c.size a n) (y.3));
+    headed = λ h i.
+        let y = p.headed h i in
+        let n = not_new reservation h.at y.stands in
+        record {
+          stands = rw (put_other g.size c.to c.size h.at n) y.stands;
+          written = written_on reservation h.at y.stands y.written;
+          mixed = rw (put_other g.kind c.to (g.kind c.from) h.at n) y.mixed;
+          whole = rw (put_other g.size c.to c.size h.at n) y.whole;
+          inside = (y.inside.0, let q = y.inside.1 in omega (arith, q, at_front));
+          cursor = y.cursor;
+        };
     current = λ r i.
         let y = p.current r i in
         let n = not_new reservation r.at y.stands in
@@ -346,6 +358,7 @@ module _ {E : Era} {m : Memory} {team : Team} {g : Ghost} {k : ℕ} {c : Copy} (
     kept = kept;
     room = room;
     raw_words = raw_reserved reservation m.heap inv.raw_words;
+    counts = counts_reserved reservation m.heap inv.counts;
     shut = shut;
     filling = filling;
     tracing = tracing;
@@ -354,7 +367,7 @@ module _ {E : Era} {m : Memory} {team : Team} {g : Ghost} {k : ℕ} {c : Copy} (
     opened = opened_reserved reservation m.heap m.page inv.opened;
     landing = landing_reserved reservation m.heap inv.landing;
     older = older_reserved reservation m.heap inv.older;
-    new = new_reserved reservation m.low (E.start + E.span) E.epoch m.heap m.page (λ b l n e. omega (arith, l, e, reservation.room, reservation.some)) inv.new;
+    new = new_reserved reservation m.low (E.start + E.span) E.epoch m.heap m.page inv.laid.aligned (inl reservation.room) inv.new;
     new_written = written_reserved reservation inv.new_written;
     old_space = record { walks = λ t d e. space_reserved reservation m.old_front m.old_low d m.heap m.page (inv.old_space.walks t d e) };
     old_area = inv.old_area;

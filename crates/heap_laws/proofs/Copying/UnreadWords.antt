@@ -11,7 +11,7 @@ use Rattle.heap_state.specs.Functions.{put}
 use Rattle.heap_state.specs.Invariant.Ghost.{IsField, Here}
 use Rattle.heap_state.specs.Invariant.Parts.Copying.{IsOrigin, Copies, Keeps}
 use Rattle.heap_state.specs.Invariant.Parts.Leading.{Opened, Landing, Older}
-use Rattle.heap_state.specs.Invariant.Parts.Records.{Laid, NewArea, SpaceOf, RawWords}
+use Rattle.heap_state.specs.Invariant.Parts.Records.{Laid, NewArea, SpaceOf, RawWords, Counts}
 use Rattle.heap_state.specs.Invariant.Parts.Scanning.{Scans}
 use Rattle.heap_state.specs.Invariant.Parts.Stocks.{Stocked, Stocks}
 use Rattle.heap_state.specs.Meaning.Values.{Shows, ShowsAll, BoardShows, value_of}
@@ -83,6 +83,9 @@ module _ {E : Era} {front low : ℕ} {size writer : ℕ → ℕ} {k a0 i0 : ℕ}
 
   pub raw_unread : (kind : ℕ → Kind) → RawWords size writer kind heap → RawWords size writer kind stored
   raw_unread kind p = record { raw = λ a i st w f l n. rw (inner_same a i w f l) (p.raw a i st w f l n) }
+
+  pub counts_unread : (kind : ℕ → Kind) → Counts size writer kind heap → Counts size writer kind stored
+  counts_unread kind p = record { counts = λ a count st w e. let n = p.counts a count st w e in (inner_same a 1 w (omega arith) (omega (arith, n.1)) ∙ n.0, n.1) }
 
   pub stocked_unread : (page : ℕ → PageWord) (q : Stock) → Stocked E low size heap page q → Stocked E low size stored page q
   stocked_unread page q p = stocked_same q (λ x l m. put_other heap (a0 + i0) v x (λ e. let y = p.empty a0 (omega (arith, inside)) in omega (arith, y, inside, e, p.so_far, l, m))) p

@@ -20,10 +20,12 @@ use Rattle.heap_state.specs.Invariant.Parts.Records.{Headed}
 use Rattle.heap_state.specs.Worker.{Worker, Team, Quest, Copy, Scan}
 use Rattle.heap_state.proofs.Workers.Frames.{counted_put, staffed_put, scanned_put, stocks_put, numbered_put, accounts_put, registers_put, rooted_put}
 use Rattle.heap_state.proofs.Puts.{put_at, put_other, team_put, none≢some}
+use Rattle.heap_state.proofs.Records.Layouts.{values_behind_header}
+use Rattle.plain_state.specs.Layout.{word_of_value}
 use Rattle.heap_laws.specs.Copying.{copying, IsNextWord}
 use Rattle.heap_laws.specs.Steps.{Ready, with_worker, with_word, Preserves}
 use Rattle.heap_laws.proofs.Copying.InProgress.{knows_copying}
-use Rattle.heap_laws.proofs.Copying.UnreadWords.{UnreadWord, opened_unread, landing_unread, older_unread, new_unread, space_unread, raw_unread, stocks_unread, origin_unread, scans_unread, copies_unread, keeps_unread, shows_unread, objects_unread, board_unread, here_same, inner_same, board_same}
+use Rattle.heap_laws.proofs.Copying.UnreadWords.{UnreadWord, opened_unread, landing_unread, older_unread, new_unread, space_unread, raw_unread, counts_unread, stocks_unread, origin_unread, scans_unread, copies_unread, keeps_unread, shows_unread, objects_unread, board_unread, here_same, inner_same, board_same}
 use Rattle.heap_laws.proofs.Frames.Values.{one_place, copied_within}
 
 -- ---- any write at a unread_word
@@ -46,7 +48,7 @@ module _ (E : Era) (gate : GateWord) (traced front low old_front old_low old_owe
     sound = λ x i u t. cy.sound x i u (rw (here_same sp heap v g.kind x u) at t);
     reached = cy.reached;
     sizes = cy.sizes;
-    complete = λ b x r i st w l m e f y. ⊎_elim (λ z. inl z) (λ z. inr (rw (inner_same sp heap v b (x + 1) w (omega arith) (copied_within cy b x r (Reference i) st l m e y)) z)) (cy.complete b x r i st w l m e f y);
+    complete = λ b x r i st w l m e f y. ⊎_elim (λ z. inl z) (λ z. inr (rw (inner_same sp heap v b (word_of_value (g.kind b) x) w (omega (arith, values_behind_header (g.kind b))) (copied_within cy b x r (Reference i) st l m e y)) z)) (cy.complete b x r i st w l m e f y);
     only = cy.only;
   }
 
@@ -141,6 +143,7 @@ module _ (E : Era) (m : Memory) (team : Team) (g : Ghost) (k : ℕ) (c : Copy) (
       let q3 = landing_unread unread_word m.heap v g.kind inv.landing in
       let q4 = older_unread unread_word m.heap v g.kind inv.older in
       let q5 = raw_unread unread_word m.heap v g.kind inv.raw_words in
+      let q8 = counts_unread unread_word m.heap v g.kind inv.counts in
       let q6 = new_unread unread_word m.heap v m.low (E.start + E.span) E.epoch m.page inv.new in
       let q7 : OldSpace E m.traced m.old_front m.old_low g.size heap' m.page = record { walks = λ t d e. space_unread unread_word m.heap v E.old_start m.old_front m.old_low (E.old_start + E.old_span) d m.page (inv.old_space.walks t d e) } in
       let others = λ (j : ℕ) (l : j < team.count) (d : j ≢ k). knows_unread E m.gate m.traced m.front m.low m.old_front m.old_low m.old_owed g m.page m.cross m.announced m.heap k c.to c.done v unread_word j (team.worker j) d inv.older (inv.workers j l) in

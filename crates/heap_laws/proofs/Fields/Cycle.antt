@@ -16,6 +16,7 @@ use Rattle.heap_state.specs.Meaning.Reachable.{Reachable}
 use Rattle.heap_state.specs.Meaning.Values.{value_of, Shows}
 use Rattle.heap_state.specs.Worker.{Team}
 use Rattle.heap_state.proofs.Puts.{put_other, each_put}
+use Rattle.heap_state.proofs.Records.Layouts.{values_behind_header}
 use Rattle.heap_laws.specs.Fields.Words.{IsWordOf, MayStore}
 use Rattle.heap_laws.specs.Fields.Held.{MayHold}
 use Rattle.heap_laws.specs.Steps.{with_word}
@@ -47,7 +48,7 @@ module _ (E : Era) (m : Memory) (team : Team) (g : Ghost) (p : plain.Plain) (x v
     reached = cy.copying.reached;
     sizes = cy.copying.sizes;
     complete = λ b y r i st w l u e f o. ⊎_elim (λ c. inl c)
-        (λ t. leads (b + word_of_value (g.kind b) y) i (field_here E g.size g.writer g.kind b (word_of_value (g.kind b) y) (record { stands = st; written = w; field = f; first = omega arith; last = copied_within cy.copying b y r (Reference i) st l u e o }) (l, omega (arith, u, sl.laid.order))) t)
+        (λ t. leads (b + word_of_value (g.kind b) y) i (field_here E g.size g.writer g.kind b (word_of_value (g.kind b) y) (record { stands = st; written = w; field = f; first = omega (arith, values_behind_header (g.kind b)); last = copied_within cy.copying b y r (Reference i) st l u e o }) (l, omega (arith, u, sl.laid.order))) t)
         (cy.copying.complete b y r i st w l u e f o);
     only = cy.copying.only;
   }

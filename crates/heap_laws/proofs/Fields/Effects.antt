@@ -1,12 +1,12 @@
 -- What a running mutator's registers, and the words that it accesses, are to the plain machine.
-use Rattle.std.proofs.Common.{◌≡◌, ℕ, ◌+◌, ◌-◌, ◌/◌, ◌<◌, length, get_or, slice_get, Some, refl, sym, ap, ◌∙◌, arith, inl}
+use Rattle.std.proofs.Common.{◌≡◌, ◌≢◌, ℕ, ◌+◌, ◌-◌, ◌/◌, ◌<◌, length, get_or, slice_get, Some, refl, sym, ap, ◌∙◌, subst, arith, inl}
 use Rattle.std.proofs.lemmas.Bool.{ltb-true}
 use Rattle.std.proofs.lemmas.Option.{slice_get-get_or}
 use Rattle.heap_words.proofs.Decoding.{decode-number_word}
 use Rattle.heap_words.specs.Decoded.{Decoded, NumberWord, PointerWord, HeaderWord, ForwardWord, BusyWord, Malformed, decode, number_in}
 use Rattle.plain_state.specs.declared.sizes.TheConstants.{NUMBERS}
 use Rattle.heap_words.specs.Word.{number_word}
-use Rattle.plain_state.specs.Layout.{word_of_value}
+use Rattle.plain_state.specs.Layout.{is_field, values_at, word_of_value}
 use Rattle.plain_state.specs.State as plain
 use Rattle.plain_state.specs.declared.kind.Kind.{Kind}
 use Rattle.plain_state.specs.declared.value.Identity.{Identity}
@@ -16,12 +16,12 @@ use Rattle.heap_state.specs.Memory.Era.{Era, Memory}
 use Rattle.heap_state.specs.Invariant.Ghost.{Ghost, header_kind}
 use Rattle.heap_state.specs.Invariant.Parts.Knowledge.{HasRole}
 use Rattle.heap_state.specs.Meaning.Values.{value_of, Shown, Shows}
-use Rattle.heap_state.specs.Worker.{Team, Role, FieldRole, NumberRole, Access}
-use Rattle.heap_state.proofs.Records.Headers.{said_kind-header_kind}
+use Rattle.heap_state.specs.Worker.{Team, Role, FieldRole, NumberRole, UnknownRole, Access}
+use Rattle.heap_state.proofs.Records.Headers.{said_there}
 use Rattle.heap_state.proofs.Records.Holding.{uncopied_here}
 use Rattle.heap_state.proofs.Records.Layouts.{raw_is_no_field}
 use Rattle.heap_state.proofs.Puts.{some_same, true_false, none≢some}
-use Rattle.heap_laws.specs.Fields.Effects.{MutatorsAreShown, RegistersHold, HeadersSay, word_held, word_stored, FitsRole, IsValueOf, AccessesAreValues, BoardWordsAreValues}
+use Rattle.heap_laws.specs.Fields.Effects.{MutatorsAreShown, RegistersHold, HeadersSay, CountsAreRead, word_held, word_stored, FitsRole, IsValueOf, AccessesAreValues, BoardWordsAreValues}
 use Rattle.heap_laws.specs.Fields.Words.{IsWordOf, IsAccessed, MayStore, StandsFor}
 use Rattle.heap_laws.specs.Fields.Held.{HoldsValue}
 use Rattle.heap_laws.specs.Opening.{opening_mutator}
@@ -86,21 +86,47 @@ headers_say E m team g p k a len serial mutator w head ready s held points says 
     record {
       record_there = r;
       is = led.shows.1;
-      kind = shows.kind ∙ sym (rw head_is at (said_kind-header_kind (g.kind a) (m.heap (a + 1))));
+      kind = shows.kind ∙ sym (rw head_is at (said_there g.size g.writer g.kind m.heap ready.invariant.raw_words ready.invariant.counts a led.stands.0 led.stands.1));
       long = let z = shows.size in omega arith;
-      access = λ x role l has. record {
+      access = λ x role l has. let z = shows.size in let b = ap values_at shows.kind in record {
         stands = led.stands.0;
         written = led.stands.1;
         inside = led.inside;
-        word = (omega arith, omega (arith, l, len_is));
-        role = rw shows.kind at has;
+        first = b;
+        word = (omega arith, omega (arith, l, z));
+        role = subst (λ k. HasRole k (word_of_value r.kind x) role) shows.kind has;
       };
+    }
+
+-- ---- counts
+
+-- the number of a number word below 2^62 is below it too
+number_short : (v n : ℕ) → v < NUMBERS → v ≡ number_word n → n < NUMBERS
+unfolding number_word
+number_short v n short is = omega (arith, short, is)
+
+pub counts_are_read : CountsAreRead
+counts_are_read E m team g p k f ready s has unknown =
+    let inv = ready.invariant in
+    let a = (inv.workers k ready.member).access f has in
+    let mixed : HasRole (g.kind f.at) f.word UnknownRole = rw unknown at a.role in
+    let shown = s.objects.shows f.at a.stands a.written (inl (uncopied_here E m team g inv ready.laid_out f.at a.stands a.inside.0 a.inside.1).0) in
+    let counted = inv.counts.counts f.at mixed.0 a.stands a.written mixed.1 in
+    let kind_is = shown.2.kind ∙ mixed.1 in
+    record {
+      record_there = shown.0;
+      is = shown.1;
+      count = mixed.0;
+      kind = kind_is;
+      says = ap decode counted.0 ∙ decode-number_word mixed.0 (number_short (m.heap (f.at + 1)) mixed.0 (inv.raw_words.raw f.at 1 a.stands a.written (omega arith) (let l = counted.1 in omega (arith, l)) (ap (λ (k : Kind). is_field k 1) mixed.1)) counted.0);
+      within = let z = shown.2.size in let b = ap values_at kind_is in let l = a.word.1 in omega (arith, z, b, l);
+      access = λ role is. record { stands = a.stands; written = a.written; inside = a.inside; first = a.first; word = a.word; role = subst (λ (k : Kind). HasRole k f.word role) (sym mixed.1) is };
     }
 
 -- ---- words of records
 
 module _ (E : Era) (m : Memory) (team : Team) (g : Ghost) (p : plain.Plain) (k : ℕ) (f : Access) (x : ℕ) (ready : Ready E m team g k) (s : Shown E m team g p) (has : (team.worker k).access ≡ Some f)
-    (opened : (team.worker k).opened ≡ Some ((f.at + f.word) / 64)) (at : f.word ≡ word_of_value (g.kind f.at) x) where
+    (known : f.role ≢ UnknownRole) (opened : (team.worker k).opened ≡ Some ((f.at + f.word) / 64)) (at : f.word ≡ word_of_value (g.kind f.at) x) where
   abbrev kind : Kind
   kind = g.kind f.at
 
@@ -126,7 +152,7 @@ module _ (E : Era) (m : Memory) (team : Team) (g : Ghost) (p : plain.Plain) (k :
   y = get_or r.values x (Number 0)
 
   within : x < length r.values
-  within = let z = shows.size in let l = word.last in omega arith
+  within = let z = shows.size in let b = ap values_at shows.kind in let l = word.last in omega arith
 
   value_is : slice_get r.values x ≡ Some y
   value_is = slice_get-get_or r.values x (Number 0) within
@@ -135,9 +161,10 @@ module _ (E : Era) (m : Memory) (team : Team) (g : Ghost) (p : plain.Plain) (k :
   may = words_are_loaded E m team g k f.at x ready word (rw place at there.opens)
 
   -- by what stands there
-  loaded : (role : Role) → HasRole kind (word_of_value kind x) role → HoldsValue E g (word_held role (m.heap (f.at + word_of_value kind x))) y
-  loaded FieldRole t = record { held = may.held t; denotes = shows.fields x within t ∙ value_is }
-  loaded NumberRole t = let e : Number (m.heap (f.at + word_of_value kind x)) ≡ y = some_same (shows.numbers x within t ∙ value_is) in rw (← e) (holds_number E g (m.heap (f.at + word_of_value kind x)) (may.number (raw_is_no_field kind (word_of_value kind x) t)))
+  loaded : (role : Role) → role ≢ UnknownRole → HasRole kind (word_of_value kind x) role → HoldsValue E g (word_held role (m.heap (f.at + word_of_value kind x))) y
+  loaded FieldRole is t = record { held = may.held t; denotes = shows.fields x within t ∙ value_is }
+  loaded NumberRole is t = let e : Number (m.heap (f.at + word_of_value kind x)) ≡ y = some_same (shows.numbers x within t ∙ value_is) in rw (← e) (holds_number E g (m.heap (f.at + word_of_value kind x)) (may.number (raw_is_no_field kind (word_of_value kind x) t)))
+  loaded UnknownRole is t = absurd (is refl)
 
   stored : (role : Role) → HasRole kind (word_of_value kind x) role → (w v : ℕ) (u : Value) → HoldsValue E g w u → word_stored role w ≡ Some v → FitsRole role v
       → MayStore E g.size g.writer kind x v × StandsFor g kind x v u
@@ -152,6 +179,7 @@ module _ (E : Era) (m : Memory) (team : Team) (g : Ghost) (p : plain.Plain) (k :
         record { held = λ o. true_false n o; number = λ _. fits },
         record { denotes = λ o. true_false n o; number = λ _. some_same (sym (value_of_number g.identity w v d) ∙ holds.denotes) },
       )
+  stored UnknownRole t w v u holds e fits = none≢some e
 
   role_there : HasRole kind (word_of_value kind x) f.role
   role_there = rw at at there.role
@@ -166,7 +194,7 @@ module _ (E : Era) (m : Memory) (team : Team) (g : Ghost) (p : plain.Plain) (k :
     opens = there.opens;
     value = y;
     there = value_is;
-    loaded = rw place (loaded f.role role_there);
+    loaded = rw place (loaded f.role known role_there);
     stored = λ w v u holds e fits. stored f.role role_there w v u holds e fits;
   }
 

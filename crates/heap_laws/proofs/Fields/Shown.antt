@@ -8,7 +8,7 @@ use Rattle.plain_state.specs.State as plain
 use Rattle.plain_state.specs.declared.value.Identity.{Identity}
 use Rattle.plain_state.specs.declared.value.Value.{Value}
 use Rattle.plain_state.specs.Writing.{stored, with_heap, with_value}
-use Rattle.plain_state.specs.Layout.{word_of_value}
+use Rattle.plain_state.specs.Layout.{values_at, word_of_value}
 use Rattle.heap_state.specs.Memory.Era.{Era, IsLaidOut, Memory}
 use Rattle.heap_state.specs.Functions.{put}
 use Rattle.heap_state.specs.Invariant.Ghost.{Ghost, Leads, Lands}
@@ -16,6 +16,7 @@ use Rattle.heap_state.specs.Invariant.Inductive.{Invariant}
 use Rattle.heap_state.specs.Meaning.Values.{value_of, Shows, Shown}
 use Rattle.heap_state.specs.Worker.{Team}
 use Rattle.heap_state.proofs.Puts.{put_at, put_other, some_same}
+use Rattle.heap_state.proofs.Records.Layouts.{count_stays}
 use Rattle.heap_laws.specs.Fields.Words.{IsWordOf, StandsFor, IsLedTo, HeadersAreRead, RegistersAreHeld, NumbersAreHeld}
 use Rattle.heap_laws.specs.Fields.Held.{MayHold}
 use Rattle.heap_state.proofs.Puts.{true_false}
@@ -82,7 +83,7 @@ module _ (E : Era) (m : Memory) (team : Team) (g : Ghost) (p : plain.Plain) (a x
       rw (← e) q.2
 
   value_there : (j : ℕ) → j ≡ x → slice_get changed.values j ≡ Some y
-  value_there j e = rw e (slice_get-set_same r.values x y (let z = was.size in omega (arith, z, f.last)))
+  value_there j e = rw e (slice_get-set_same r.values x y (let z = was.size in let b = ap values_at was.kind in omega (arith, z, b, f.last)))
 
   value_elsewhere : (j : ℕ) → j ≢ x → slice_get changed.values j ≡ slice_get r.values j
   value_elsewhere j d = slice_get-set_other r.values x j y d
@@ -95,13 +96,14 @@ module _ (E : Era) (m : Memory) (team : Team) (g : Ghost) (p : plain.Plain) (a x
     kind = was.kind;
     size = let z = was.size in omega (arith, as_many);
     fields = λ j l t. ⊎_elim
-        (λ (e : j ≡ x). rw (put_at m.heap (a + i) v (a + (j + 1)) (omega (arith, e)), value_there j e) (may.denotes (rw e at t)))
-        (λ (d : j ≢ x). rw (put_other m.heap (a + i) v (a + (j + 1)) (λ e. d (omega (arith, e))), value_elsewhere j d) (was.fields j (rw as_many at l) t))
+        (λ (e : j ≡ x). rw (put_at m.heap (a + i) v (a + word_of_value (g.kind a) j) (omega (arith, e)), value_there j e) (may.denotes (rw e at t)))
+        (λ (d : j ≢ x). rw (put_other m.heap (a + i) v (a + word_of_value (g.kind a) j) (λ e. d (omega (arith, e))), value_elsewhere j d) (was.fields j (rw as_many at l) t))
         (cases_eq j x);
     numbers = λ j l t. ⊎_elim
-        (λ (e : j ≡ x). rw (put_at m.heap (a + i) v (a + (j + 1)) (omega (arith, e)), value_there j e) (ap Some (may.number (rw e at t))))
-        (λ (d : j ≢ x). rw (put_other m.heap (a + i) v (a + (j + 1)) (λ e. d (omega (arith, e))), value_elsewhere j d) (was.numbers j (rw as_many at l) t))
+        (λ (e : j ≡ x). rw (put_at m.heap (a + i) v (a + word_of_value (g.kind a) j) (omega (arith, e)), value_there j e) (ap Some (may.number (rw e at t))))
+        (λ (d : j ≢ x). rw (put_other m.heap (a + i) v (a + word_of_value (g.kind a) j) (λ e. d (omega (arith, e))), value_elsewhere j d) (was.numbers j (rw as_many at l) t))
         (cases_eq j x);
+    count = count_stays r was h a (λ two _ _. put_other m.heap (a + i) v (a + 1) (λ e. omega (arith, two, e)));
   }
 
   elsewhere : (b : ℕ) → 0 < g.size b → g.writer b ≡ 0 → (g.copy b ≡ 0) ⊎ (0 < g.keeper b) → b ≢ a

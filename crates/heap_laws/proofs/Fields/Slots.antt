@@ -1,9 +1,10 @@
 -- A word is stored in a word of a record that nobody writes, or on the board: what reads heap words stays.
 use Rattle.std.proofs.Common.{◌≡◌, ◌≢◌, ℕ, ◌+◌, ◌/◌, ◌^◌, ◌<◌, ◌≤◌, Bool, true, false, Option, Some, refl, sym, ap, ◌∙◌, arith, ⊎_elim, ◌⊎◌, inl, inr}
 use Rattle.plain_state.specs.declared.kind.Kind.{Kind}
+use Rattle.plain_state.specs.declared.kind.Kind.TheVariants.{Mixed}
 use Rattle.plain_state.specs.State as plain
 use Rattle.plain_state.specs.declared.value.Identity.{Identity}
-use Rattle.plain_state.specs.Layout.{is_field}
+use Rattle.plain_state.specs.Layout.{is_field, word_of_value}
 use Rattle.space_map.specs.declared.page_word.PageWord.{PageWord}
 use Rattle.heap_state.specs.Memory.Era.{Era, IsLaidOut}
 use Rattle.heap_state.specs.Functions.{put}
@@ -11,13 +12,13 @@ use Rattle.heap_state.specs.Invariant.Ghost.{IsField, Leads, Lands, OnBoard, Her
 use Rattle.heap_state.specs.Invariant.Parts.Copying.{Copies, Keeps, IsOrigin}
 use Rattle.heap_state.specs.Invariant.Parts.Leading.{Opened, Landing, Older}
 use Rattle.heap_state.specs.Invariant.Parts.OldSpace.{OldSpace}
-use Rattle.heap_state.specs.Invariant.Parts.Records.{Laid, Headed, RawWords, NewArea}
+use Rattle.heap_state.specs.Invariant.Parts.Records.{Laid, Headed, RawWords, Counts, NewArea}
 use Rattle.heap_state.specs.Invariant.Parts.Scanning.{Scans}
 use Rattle.heap_state.specs.Invariant.Parts.Stocks.{Stocks, Stocked}
 use Rattle.heap_state.specs.Meaning.Values.{Shows, ShowsAll, BoardShows, value_of}
 use Rattle.heap_state.specs.Worker.{Worker, Copy, Scan, Stock, Origin, Register, Scanned}
 use Rattle.heap_state.proofs.Puts.{put_other, each_put}
-use Rattle.heap_state.proofs.Records.Layouts.{raw_is_no_field}
+use Rattle.heap_state.proofs.Records.Layouts.{count_stays, raw_is_no_field, value_within}
 use Rattle.heap_laws.specs.Fields.Held.{MayHold}
 use Rattle.heap_laws.proofs.Frames.OtherWords.{has_place, headed_same, area_same, old_space_same, stocked_same, copies_same}
 use Rattle.heap_laws.proofs.Frames.Values.{one_place}
@@ -38,13 +39,14 @@ pub record InWord (E : Era) (size writer : ℕ → ℕ) (x : ℕ) : Type 0 where
   pub at : x ≡ a + i
 
 -- A store of v at x, which is such a word or on the board. In a field or on the board it is what a mutator may hold,
--- elsewhere a number below 2^62.
+-- elsewhere a number below 2^62. The word of a count is no such word.
 pub record Slot (E : Era) (front low : ℕ) (size writer : ℕ → ℕ) (kind : ℕ → Kind) (x v : ℕ) : Type 0 where
   pub lay : IsLaidOut E
   pub laid : Laid E front low size
   pub place : InWord E size writer x ⊎ OnBoard E x
   pub held : Here E size writer kind x → MayHold E size writer v
   pub number : (a i : ℕ) → i < size a → a + i ≡ x → is_field (kind a) i ≡ false → v < 2 ^ 62
+  pub value : (a count : ℕ) → 1 < size a → kind a ≡ Mixed count → a + 1 ≢ x
 
 -- what a word of a record that is x is
 pub record SlotWord (E : Era) (writer : ℕ → ℕ) (a i : ℕ) : Type 0 where
@@ -80,6 +82,7 @@ here_slot {E} {front} {low} {size} {writer} {kind} {x} lay laid here may = recor
   place = by_place here;
   held = λ _. may;
   number = λ a i l e n. let t = sym (here_field lay laid writer kind x here a i l e).1 ∙ n in absurd (cc);
+  value = λ a count l k e. let t = sym (here_field lay laid writer kind x here a 1 l e).1 ∙ ap (λ y. is_field y 1) k in absurd (cc);
 }
   where
     by_place : Here E size writer kind x → InWord E size writer x ⊎ OnBoard E x
@@ -88,7 +91,7 @@ here_slot {E} {front} {low} {size} {writer} {kind} {x} lay laid here may = recor
         inl (record { a = u.a; i = u.i; word = record { stands = f.stands; written = f.written; inside = u.inside; first = f.first; last = f.last }; at = u.at })
 
 module _ {E : Era} {front low : ℕ} {size writer : ℕ → ℕ} {kind : ℕ → Kind} {x v : ℕ} (sl : Slot E front low size writer kind x v) (h : ℕ → ℕ) where
-  open sl use {lay, laid, place, held, number}
+  open sl use {lay, laid, place, held, number, value}
 
   pub word : (a i : ℕ) → i < size a → a + i ≡ x → SlotWord E writer a i
   word a i l e = by_place place
@@ -135,6 +138,9 @@ module _ {E : Era} {front low : ℕ} {size writer : ℕ → ℕ} {kind : ℕ →
 
   pub raw_slot : RawWords size writer kind h → RawWords size writer kind (put h x v)
   raw_slot p = record { raw = λ a i st w f l n. each_put (λ y u. y ≡ a + i → u < 2 ^ 62) h x v (a + i) (λ _ _. p.raw a i st w f l n) (λ e _. number a i l e n) refl }
+
+  pub counts_slot : Counts size writer kind h → Counts size writer kind (put h x v)
+  counts_slot p = record { counts = λ a count st w e. let n = p.counts a count st w e in (put_other h x v (a + 1) (value a count (omega (arith, n.1)) e) ∙ n.0, n.1) }
 
   pub opened_slot : {page : ℕ → PageWord} → Opened E size writer kind h page → Opened E size writer kind (put h x v) page
   opened_slot p = record { opened = λ y u o. each_put (λ z w. z ≡ y → ¬ (Leads E w)) h x v y (λ _ _. p.opened y u o) (λ e _. (held (rw e at u)).clean) refl }
@@ -201,8 +207,9 @@ module _ {E : Era} {front low : ℕ} {size writer : ℕ → ℕ} {kind : ℕ →
       shown a r s = record {
         kind = s.kind;
         size = s.size;
-        fields = λ y l f. each_put (λ z w. z ≡ a + (y + 1) → value_of identity w ≡ value_of identity (h (a + (y + 1)))) h x v (a + (y + 1)) (λ _ _. refl) (λ e _. rw e d) refl ∙ s.fields y l f;
-        numbers = λ y l f. let z = s.size in rw (raw_same a (y + 1) (omega (arith, l, z)) (raw_is_no_field (kind a) (y + 1) f)) (s.numbers y l f);
+        fields = λ y l f. let i = word_of_value (kind a) y in each_put (λ z w. z ≡ a + i → value_of identity w ≡ value_of identity (h (a + i))) h x v (a + i) (λ _ _. refl) (λ e _. rw e d) refl ∙ s.fields y l f;
+        numbers = λ y l f. let i = word_of_value (kind a) y in rw (raw_same a i (value_within r s y l).1 (raw_is_no_field (kind a) i f)) (s.numbers y l f);
+        count = count_stays r s (put h x v) a (λ _. raw_same a 1);
       }
 
   pub board_slot : (identity : ℕ → Identity) {records : plain.Heap} → value_of identity v ≡ value_of identity (h x) → BoardShows E (value_of identity) h records → BoardShows E (value_of identity) (put h x v) records

@@ -7,10 +7,11 @@ use Rattle.heap_state.specs.Functions.{put}
 use Rattle.heap_state.specs.Invariant.Ghost.{Ghost, InRecord, OnBoard, Here}
 use Rattle.heap_state.specs.Invariant.Inductive.{Invariant, Knows}
 use Rattle.heap_state.specs.Worker.{Worker, Team, Quest, Copy, Scan, is_late}
+use Rattle.heap_state.proofs.Records.Layouts.{values_behind_header}
 use Rattle.heap_laws.specs.Fields.Words.{IsWordOf, MayStore, WordsAreLoaded, BoardIsLoaded, AccessesAreAllowed}
 use Rattle.heap_laws.specs.Fields.Held.{MayHold}
 use Rattle.heap_laws.specs.Steps.{with_word}
-use Rattle.heap_laws.proofs.Fields.Slots.{Slot, here_slot, headed_slot, raw_slot, opened_slot, landing_slot, older_slot, new_slot, old_space_slot, stocks_slot, scans_slot, copies_slot, keeps_slot, origin_slot}
+use Rattle.heap_laws.proofs.Fields.Slots.{Slot, here_slot, headed_slot, raw_slot, counts_slot, opened_slot, landing_slot, older_slot, new_slot, old_space_slot, stocks_slot, scans_slot, copies_slot, keeps_slot, origin_slot}
 use Rattle.heap_laws.proofs.Frames.Values.{one_place, board_here, field_here}
 
 -- a store on an open page
@@ -43,6 +44,7 @@ pub slot_keeps : (E : Era) (m : Memory) (team : Team) (g : Ghost) (x v : ℕ) �
 slot_keeps E m team g x v st inv =
     let a = headed_slot st.slot m.heap inv.headed in
     let b = raw_slot st.slot m.heap inv.raw_words in
+    let n = counts_slot st.slot m.heap inv.counts in
     let c = opened_slot st.slot m.heap inv.opened in
     let d = landing_slot st.slot m.heap inv.landing in
     let e = older_slot st.slot m.heap inv.older in
@@ -74,9 +76,10 @@ in_word E m team g a x v lay inv f open_page may = record { slot = slot; opens =
     slot = record {
       lay = lay;
       laid = inv.laid;
-      place = inl (record { a = a; i = i; word = record { stands = f.stands; written = f.written; inside = f.inside; first = omega arith; last = f.last }; at = refl });
+      place = inl (record { a = a; i = i; word = record { stands = f.stands; written = f.written; inside = f.inside; first = omega (arith, values_behind_header (g.kind a)); last = f.last }; at = refl });
       held = by_place;
       number = λ b j l e n. let q = one_place g.size b a j i inv.laid.apart l f.last e in let s : j ≡ i = omega (arith, q, e) in may.number (let t : is_field (g.kind a) i ≡ false = rw (q, s) at n in t);
+      value = λ b count l k e. let q = one_place g.size b a 1 i inv.laid.apart l f.last e in let s : 1 ≡ i = omega (arith, q, e) in absurd (let t : i ≡ x + 2 = ap (λ y. word_of_value y x) (ap g.kind (sym q) ∙ k) in omega (arith, s, t));
     }
 
 -- a word of the board
@@ -106,10 +109,10 @@ board_is_stored E m team g x v lay inv l o may = slot_keeps E m team g (E.board 
 -- ---- loads
 
 pub words_are_loaded : WordsAreLoaded
-words_are_loaded E m team g k a x ready f o = let inv = ready.invariant in record {
-  held = λ t. let h = field_here E g.size g.writer g.kind a (word_of_value (g.kind a) x) (record { stands = f.stands; written = f.written; field = t; first = omega arith; last = f.last }) f.inside in
+words_are_loaded E m team g k a x ready f o = let inv = ready.invariant in let behind : 0 < word_of_value (g.kind a) x = omega (arith, values_behind_header (g.kind a)) in record {
+  held = λ t. let h = field_here E g.size g.writer g.kind a (word_of_value (g.kind a) x) (record { stands = f.stands; written = f.written; field = t; first = behind; last = f.last }) f.inside in
       record { clean = inv.opened.opened (a + word_of_value (g.kind a) x) h o; lands = inv.landing.lands (a + word_of_value (g.kind a) x) h };
-  number = λ t. inv.raw_words.raw a (word_of_value (g.kind a) x) f.stands f.written (omega arith) f.last t;
+  number = λ t. inv.raw_words.raw a (word_of_value (g.kind a) x) f.stands f.written behind f.last t;
 }
 
 pub board_is_loaded : BoardIsLoaded

@@ -26,7 +26,7 @@ use Rattle.heap_state.specs.Memory.Entries.{GateIs, with_entry}
 use Rattle.heap_laws.specs.Steps as laws
 use Rattle.heap_laws.specs.Flipping.Flip.{next_era, next_memory, next_ghost, flipped_gate, after_flip, Flips, FlipKeeps}
 use Rattle.heap_laws.specs.Steps.{with_worker}
-use Rattle.heap_laws.proofs.Flipping.Parts.{ReadyToFlip, nothing, was, laid, headed, copied, once, kept, room, raw_words, shut, filling, tracing, aged, scanned, old_area, old_pages, lands_on, here_board, board_here, opened, landing, older, new, new_written, crossing, old_space}
+use Rattle.heap_laws.proofs.Flipping.Parts.{ReadyToFlip, nothing, was, laid, headed, copied, once, kept, room, raw_words, counts, shut, filling, tracing, aged, scanned, old_area, old_pages, lands_on, here_board, board_here, opened, landing, older, new, new_written, crossing, old_space}
 use Rattle.heap_laws.proofs.Flipping.Reset.{one_flipper}
 use Rattle.heap_laws.proofs.Flipping.Sums.{sum_below-none}
 use Rattle.heap_laws.proofs.Flipping.Workers.{late_is, done_none, other, flipper, none_true, not_live}
@@ -131,6 +131,7 @@ module _ (E : Era) (m : Memory) (team : Team) (g : Ghost) (k : ℕ) (r : Reset) 
     kept = kept ready;
     room = room ready;
     raw_words = raw_words ready;
+    counts = counts ready;
     shut = shut ready;
     filling = filling ready m.gate.live;
     tracing = tracing ready m.gate.live;

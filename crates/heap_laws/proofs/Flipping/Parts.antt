@@ -11,9 +11,10 @@ use Rattle.heap_state.specs.Invariant.Parts.Crossing.{Crossing}
 use Rattle.heap_state.specs.Invariant.Parts.Leading.{Opened, Landing, Older}
 use Rattle.heap_state.specs.Invariant.Parts.OldSpace.{OldSpace, OldArea}
 use Rattle.heap_state.specs.Invariant.Parts.Pages.{Shut, Filling, Tracing, Aged, OldPages, ScannedBy}
-use Rattle.heap_state.specs.Invariant.Parts.Records.{Laid, Headed, NewArea, NewWritten, RawWords, SpaceOf}
+use Rattle.heap_state.specs.Invariant.Parts.Records.{Laid, Headed, NewArea, NewWritten, RawWords, Counts, SpaceOf}
 use Rattle.heap_state.specs.Worker.{Team, Worker}
 use Rattle.heap_state.proofs.Records.Holding.{uncopied_here}
+use Rattle.heap_state.proofs.Walks.WalkPlaces.{comes_to_fewer}
 use Rattle.heap_laws.specs.Flipping.Flip.{next_era, only_in}
 use Rattle.heap_laws.specs.Tracing.{NothingLeads}
 use Rattle.heap_laws.proofs.Flipping.Sums.{stood, inside, only_cases, space_total, owing_only}
@@ -97,6 +98,9 @@ module _ {E : Era} {m : Memory} {team : Team} {g : Ghost} (ready : ReadyToFlip E
 
   pub raw_words : RawWords size' zeros g.kind m.heap
   raw_words = record { raw = λ a i st w l n f. let u = was a st in ready.inv.raw_words.raw a i u.0 (nothing.none_writes a u.0) l (omega (arith, n, u.3)) f }
+
+  pub counts : Counts size' zeros g.kind m.heap
+  counts = record { counts = λ a count st w e. let u = was a st in let n = ready.inv.counts.counts a count u.0 (nothing.none_writes a u.0) e in (n.0, omega (arith, n.1, u.3)) }
 
   -- ---- pages
 
@@ -222,6 +226,6 @@ module _ {E : Era} {m : Memory} {team : Team} {g : Ghost} (ready : ReadyToFlip E
         new = record {
           opened = λ a x st l n b c. let u = was a st in ready.inv.new.opened a x u.0 l n b (omega (arith, c, u.3));
           prior = prior;
-          blank = λ x l n q free. ready.inv.new.blank x l n q (in_record x l n free);
+          blank = λ x l n w q free. ready.inv.new.blank x l n (comes_to_fewer (λ a st. let u = was a st in (u.0, u.3)) x w) q (in_record x l n free);
         };
       }

@@ -40,7 +40,7 @@ module _ {E : Era} {front low : ℕ} {page : ℕ → PageWord} {p : ℕ} {v : Pa
   new_turns n = record {
     opened = λ a x st l m o q. stays turn (x / 64) (n.opened a x st l m o q);
     prior = n.prior;
-    blank = λ x l m o. n.blank x l m (rw (put_other page p v (x / 64) (not_new_word x l m)) at o);
+    blank = λ x l m w o. n.blank x l m w (rw (put_other page p v (x / 64) (not_new_word x l m)) at o);
   }
 
   pub stocks_turn : {count : ℕ} {size heap : ℕ → ℕ} {worker : ℕ → Worker} → Stocks E low count size heap page worker → Stocks E low count size heap page' worker

@@ -1,6 +1,9 @@
 -- Two heaps that agree on some words: what reads those words alone stays.
-use Rattle.std.proofs.Common.{◌≡◌, ℕ, ◌+◌, ◌/◌, ◌<◌, ◌≤◌, true, false, Option, Some, ◌∙◌, arith, ⊎_elim, ◌⊎◌}
+use Rattle.std.proofs.Common.{◌≡◌, ℕ, ◌+◌, ◌/◌, ◌<◌, ◌≤◌, true, false, Option, Some, slice_get, ◌∙◌, arith, ⊎_elim, ◌⊎◌}
+use Rattle.heap_state.proofs.Records.Layouts.{value_within, count_stays}
+use Rattle.plain_state.specs.Layout.{word_of_value}
 use Rattle.std.proofs.lemmas.Bool.{cases_Bool}
+use Rattle.std.proofs.lemmas.Option.{slice_get_within}
 use Rattle.plain_state.specs.declared.kind.Kind.{Kind}
 use Rattle.plain_state.specs.State as plain
 use Rattle.plain_state.specs.declared.value.Identity.{Identity}
@@ -14,11 +17,15 @@ use Rattle.heap_state.specs.Invariant.Parts.Records.{Headed, NewArea, SpaceOf}
 use Rattle.heap_state.specs.Invariant.Parts.Scanning.{Scans}
 use Rattle.heap_state.specs.Invariant.Parts.Stocks.{Stocked}
 use Rattle.heap_state.specs.Meaning.Values.{Shows}
-use Rattle.heap_state.specs.Worker.{Copy, Scan, Stock}
+use Rattle.heap_state.specs.Worker.{Copy, Scan, Stock, IsNotAhead}
 
 -- a copy that has words is in a place that is reserved
 pub has_place : {E : Era} {front : ℕ} {size writer copy keeper kept announced cross heap : ℕ → ℕ} (j : ℕ) (c : Copy) → Copies E front size writer copy keeper kept announced cross heap j c → 0 < c.done → c.reserved ≡ true
 has_place j c p l = ⊎_elim (λ (y : c.reserved ≡ true). y) (λ (y : c.reserved ≡ false). absurd (let z = p.loose y in omega (arith, z, l))) (cases_Bool c.reserved)
+
+-- a word stored ahead lies where words were made 0 before
+pub ahead_zeroed : {E : Era} {low : ℕ} {size heap : ℕ → ℕ} {page : ℕ → PageWord} (q : Stock) → Stocked E low size heap page q → (i w : ℕ) → slice_get q.ahead i ≡ Some w → q.at + 1 + i < q.zeroed
+ahead_zeroed q p i w e = let n = slice_get_within q.ahead i w e in let f = p.fits (omega arith) in omega (arith, f, n)
 
 module _ {h other : ℕ → ℕ} where
   pub headed_same : {size writer copy keeper : ℕ → ℕ} {kind : ℕ → Kind} {identity : ℕ → Identity} → ((a : ℕ) → 0 < size a → other a ≡ h a)
@@ -32,7 +39,7 @@ module _ {h other : ℕ → ℕ} where
   -- words of no record
   pub area_same : {low end epoch : ℕ} {size : ℕ → ℕ} {page : ℕ → PageWord} → ((x : ℕ) → low ≤ x → x < end → ((a : ℕ) → 0 < size a → (x < a) ⊎ (a + size a ≤ x)) → other x ≡ h x)
       → NewArea low end epoch size h page → NewArea low end epoch size other page
-  area_same same p = record { opened = p.opened; prior = p.prior; blank = λ x l u o free. rw (same x l u free) (p.blank x l u o free) }
+  area_same same p = record { opened = p.opened; prior = p.prior; blank = λ x l u w o free. rw (same x l u free) (p.blank x l u w o free) }
 
   pub old_space_same : {E : Era} {traced old_front old_low : ℕ} {size : ℕ → ℕ} {page : ℕ → PageWord}
       → ((x : ℕ) → E.old_start ≤ x → x < E.old_start + E.old_span → ((a : ℕ) → 0 < size a → (x < a) ⊎ (a + size a ≤ x)) → other x ≡ h x)
@@ -42,9 +49,12 @@ module _ {h other : ℕ → ℕ} where
       of_space : (d : ℕ) → SpaceOf E.old_start old_front old_low (E.old_start + E.old_span) d size h page → SpaceOf E.old_start old_front old_low (E.old_start + E.old_span) d size other page
       of_space d s = let a = area_same (λ x l u free. same x (let o = s.order in omega (arith, o, l)) u free) s.new in assumption
 
-  -- the words that were made 0
+  -- the words that were made 0, and those stored ahead
   pub stocked_same : {E : Era} {low : ℕ} {size : ℕ → ℕ} {page : ℕ → PageWord} (q : Stock) → ((x : ℕ) → q.at ≤ x → x < q.zeroed → other x ≡ h x) → Stocked E low size h page q → Stocked E low size other page q
-  stocked_same q same p = let z : (x : ℕ) → q.at ≤ x → x < q.zeroed → other x ≡ 0 = λ x l u. rw (same x l u) (p.zeros x l u) in assumption
+  stocked_same q same p =
+      let z : (x : ℕ) → q.at ≤ x → x < q.zeroed → IsNotAhead q x → other x ≡ 0 = λ x l u n. rw (same x l u) (p.zeros x l u n) in
+      let a : (i w : ℕ) → slice_get q.ahead i ≡ Some w → other (q.at + 1 + i) ≡ w = λ i w e. rw (same (q.at + 1 + i) (omega arith) (ahead_zeroed q p i w e)) (p.ahead i w e) in
+      assumption
 
   -- the words where mutators read
   pub scans_same : {E : Era} {front : ℕ} {size writer : ℕ → ℕ} {kind : ℕ → Kind} {page : ℕ → PageWord} (j : ℕ) (s : Scan) → ((x : ℕ) → Here E size writer kind x → other x ≡ h x)
@@ -63,9 +73,10 @@ module _ {h other : ℕ → ℕ} where
       assumption
 
   pub shows_same : {denotes : ℕ → Option Value} {a z : ℕ} {k : Kind} (r : plain.Record) → ((i : ℕ) → 0 < i → i < z → other (a + i) ≡ h (a + i)) → Shows denotes h a k z r → Shows denotes other a k z r
-  shows_same r same s = record {
+  shows_same {k = k} r same s = record {
     kind = s.kind;
     size = s.size;
-    fields = λ x l t. let w = s.size in rw (same (x + 1) (omega arith) (omega (arith, w, l))) (s.fields x l t);
-    numbers = λ x l t. let w = s.size in rw (same (x + 1) (omega arith) (omega (arith, w, l))) (s.numbers x l t);
+    fields = λ x l t. let w = value_within r s x l in rw (same (word_of_value k x) w.0 w.1) (s.fields x l t);
+    numbers = λ x l t. let w = value_within r s x l in rw (same (word_of_value k x) w.0 w.1) (s.numbers x l t);
+    count = count_stays r s other _ (λ _ l _. same 1 (omega arith) l);
   }

@@ -62,7 +62,7 @@ module _ {E : Era} {page : ℕ → PageWord} {p : ℕ} {v : PageWord} (t : Turns
           opened = λ a x st l m u q. let i = s.lies a st (omega (arith, s.order, l)) m in let c = s.order in
               rw (put_other page p v (x / 64) (off x (omega (arith, c, l, u)) (omega (arith, i, c, l, q)))) (s.new.opened a x st l m u q);
           prior = s.new.prior;
-          blank = λ x l m u. let c = s.order in s.new.blank x l m (rw (put_other page p v (x / 64) (off x (omega (arith, c, l)) m)) at u);
+          blank = λ x l m w u. let c = s.order in s.new.blank x l m w (rw (put_other page p v (x / 64) (off x (omega (arith, c, l)) m)) at u);
         };
       }
 

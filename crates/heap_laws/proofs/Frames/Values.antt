@@ -1,5 +1,5 @@
 -- What a word is part of, where it leads, and what it denotes.
-use Rattle.std.proofs.Common.{◌≡◌, ℕ, ◌+◌, ◌<◌, ◌≤◌, Some, refl, sym, ◌∙◌, arith, ⊎_elim, inl, inr, slice_get}
+use Rattle.std.proofs.Common.{◌≡◌, ℕ, ◌+◌, ◌<◌, ◌≤◌, Some, refl, sym, ap, ◌∙◌, arith, ⊎_elim, inl, inr, slice_get}
 use Rattle.std.proofs.lemmas.Bool.{cases_lt}
 use Rattle.std.proofs.lemmas.Option.{slice_get_within}
 use Rattle.plain_state.specs.declared.kind.Kind.{Kind}
@@ -9,7 +9,7 @@ use Rattle.heap_words.proofs.Decoding.{decode-number_word}
 use Rattle.plain_state.specs.State as plain
 use Rattle.plain_state.specs.declared.value.Identity.{Identity}
 use Rattle.plain_state.specs.declared.value.Value.TheVariants.{Number, Reference}
-use Rattle.plain_state.specs.Layout.{word_of_value, size_of}
+use Rattle.plain_state.specs.Layout.{values_at, word_of_value, size_of}
 use Rattle.plain_state.specs.declared.value.Value.{Value}
 use Rattle.heap_state.specs.Cycles.Cycle.{StillLeads, Copying}
 use Rattle.heap_state.specs.Memory.Era.{Era}
@@ -106,9 +106,10 @@ value_agrees identity other w f = by_word (decode w) f
 -- a value of a copied record stands in one of its words
 pub copied_within : {E : Era} {front : ℕ} {size writer copy keeper : ℕ → ℕ} {kind : ℕ → Kind} {identity : ℕ → Identity} {heap : ℕ → ℕ} {p : plain.Plain} → Copying E front size writer copy keeper kind identity heap p
     → (b x : ℕ) (r : plain.Record) (y : Value) → 0 < size b → E.start ≤ b → b < front → plain.record_of p.heap (identity b) ≡ Some r → slice_get r.values x ≡ Some y → word_of_value (kind b) x < size b
-copied_within {size = size} c b x r y st l u e o =
+copied_within {size = size} {kind = kind} c b x r y st l u e o =
     let q = c.sizes b st l u in
     let same : q.0 ≡ r = some_same (sym q.1 ∙ e) in
     let z : size_of r ≡ size b = rw same at q.2 in
+    let k : values_at r.kind ≡ values_at (kind b) = rw same at (ap values_at q.3) in
     let w = slice_get_within r.values x y o in
-    omega (arith, w, z)
+    omega (arith, w, z, k)

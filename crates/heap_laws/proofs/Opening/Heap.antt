@@ -133,6 +133,7 @@ module _ (n : ℕ) where
           kept = record { kept = λ a k st. absurd (omega (arith, st)) };
           room = record { needs = λ t. absurd (omega (arith, t)); fits = λ t. absurd (omega (arith, t)); small = owes_nothing };
           raw_words = record { raw = λ a i st. absurd (omega (arith, st)) };
+          counts = record { counts = λ a count st. absurd (omega (arith, st)) };
           shut = record { free = λ p a b. rw (free p (omega (arith, b, l))) (omega arith); held = λ b x st. absurd (omega (arith, st)); by = λ b x k st. absurd (omega (arith, st)) };
           filling = record { filling = λ p a b e. quiet };
           tracing = record { begun = omega arith; bottom = omega arith; top = omega arith; quiet = λ t. quiet; last = λ t p a b. absurd (omega (arith, a, f)) };
@@ -141,7 +142,7 @@ module _ (n : ℕ) where
           opened = record { opened = λ x h o. zero_clean E 0 refl };
           landing = record { lands = λ x h. zero_lands (λ a. 0) (λ a. 0) 0 refl };
           older = record { older = λ a i b y. absurd (omega (arith, y.stands)); written = λ a s u. refl };
-          new = record { opened = λ a x st. absurd (omega (arith, st)); prior = λ b st. absurd (omega (arith, st)); blank = λ x a b o none. refl };
+          new = record { opened = λ a x st. absurd (omega (arith, st)); prior = λ b st. absurd (omega (arith, st)); blank = λ x a b w o none. refl };
           new_written = record { written = λ a st. absurd (omega (arith, st)) };
           old_space = record { walks = λ t. absurd (omega (arith, t)) };
           old_area = record { order = old_order };

@@ -140,7 +140,7 @@ module _ (E : Era) (m : Memory) (team : Team) (g : Ghost) (k : ℕ) (q : Claim) 
   }
 
   own_stepping : Stepping E m.front g.size g.writer g.kind (scan_from q)
-  own_stepping = record { over = λ a e. none≢some e; current = λ r e. none≢some e; inner = λ e. absurd (cc); begun = omega arith; ended = λ e. absurd (cc); full = full }
+  own_stepping = record { over = λ a e. none≢some e; headed = λ h e. none≢some e; current = λ r e. none≢some e; inner = λ e. absurd (cc); begun = omega arith; ended = λ e. absurd (cc); full = full }
     where
       full : q.in_place ≡ false → (q.page ≡ E.board / 64) ⊎ (64 * q.page + 64 ≤ m.front)
       full i = ⊎_elim (λ y. inr y.1) (λ y. inl y) (mine.full of_now i)

@@ -18,7 +18,7 @@ use Rattle.heap_state.specs.Memory.Entries.{WordIs}
 use Rattle.heap_laws.specs.Scanning.Words.{scanning, on_to, AtField, PassingFieldKeeps, asking, AskingKeeps, HasFound, past_word}
 use Rattle.heap_laws.specs.Steps.{with_worker, with_word, Ready, Steps, InWord, Preserves}
 use Rattle.heap_laws.proofs.Fields.Cycle.{slot_keeps_cycle}
-use Rattle.heap_laws.proofs.Fields.Slots.{Slot, here_slot, headed_slot, raw_slot, opened_slot, landing_slot, older_slot, new_slot, old_space_slot, stocks_slot, scans_slot, copies_slot, keeps_slot, origin_slot, objects_slot, board_slot, here_field}
+use Rattle.heap_laws.proofs.Fields.Slots.{Slot, here_slot, headed_slot, raw_slot, counts_slot, opened_slot, landing_slot, older_slot, new_slot, old_space_slot, stocks_slot, scans_slot, copies_slot, keeps_slot, origin_slot, objects_slot, board_slot, here_field}
 use Rattle.heap_laws.proofs.Copying.Found.{FoundCopy, found_copy}
 use Rattle.heap_laws.proofs.Steps.Learning.{shown_put, scanned_on, learns, learnt}
 use Rattle.heap_laws.proofs.Scanning.GoingOn.{ScanGoesOn, stepping_on, knows_on, goes_on, same_page, no_copy}
@@ -41,7 +41,7 @@ module _ (E : Era) (m : Memory) (team : Team) (g : Ghost) (k : ℕ) (s : Scan) (
       in_field r e l =
           let c = steps.current r e in
           let o = inv.laid.order in
-          let w = span-within (g.kind r.at) (g.size r.at) c.stands in
+          let w = span-within (g.kind r.at) (g.size r.at) c.stands (λ n e. (inv.counts.counts r.at n c.stands c.written e).1) in
           let first : 0 < s.cursor - r.at = (let q = c.entered in omega (arith, q, w)) in
           let last : s.cursor - r.at < g.size r.at = (let q = c.fields in omega (arith, q, w, l, first)) in
           record {
@@ -73,9 +73,9 @@ module _ (E : Era) (m : Memory) (team : Team) (g : Ghost) (k : ℕ) (s : Scan) (
       in_record : (r : SeenRecord) → s.current ≡ Some r → s.cursor < r.fields_end → ScanGoesOn E m.front g.size g.writer g.kind heap s (on_to E s (next_scanned r (s.cursor + 1)))
       in_record r is l =
           let c = steps.current r is in
-          let z = span-within (g.kind r.at) (g.size r.at) c.stands in
+          let z = span-within (g.kind r.at) (g.size r.at) c.stands (λ n e. (inv.counts.counts r.at n c.stands c.written e).1) in
           let below : s.cursor + 1 ≤ r.next = (let q = c.fields in let y = c.whole in omega (arith, q, y, z, l)) in
-          let w = next_within r (g.kind r.at) (g.size r.at) c.stands c.fields c.whole (s.cursor + 1) below in
+          let w = next_within r (g.kind r.at) (g.size r.at) c.fields c.whole (s.cursor + 1) below in
           let entered = c.entered in
           record {
             page = refl;
@@ -84,7 +84,7 @@ module _ (E : Era) (m : Memory) (team : Team) (g : Ghost) (k : ℕ) (s : Scan) (
                 (λ (d : x ≢ s.cursor). absurd (
                 let whole = c.whole in
                 let q = here_field out inv.laid g.writer g.kind x u r.at (x - r.at) (omega (arith, whole, w, n, f, entered)) (omega (arith, entered, f)) in
-                passes_no_field r (g.kind r.at) (g.size r.at) c.stands c.fields c.whole (s.cursor + 1) x (omega arith) (omega (arith, entered, z, f)) (omega (arith, w, n)) n q.1))
+                passes_no_field r (g.kind r.at) (g.size r.at) c.fields c.whole (s.cursor + 1) x (omega arith) (omega (arith, entered, z, f)) (omega (arith, w, n)) n q.1))
                 (cases_eq x s.cursor);
             top = inr (let q = c.inside.1 in omega (arith, q, w));
             stepping = stepping_on E m.front g.size g.writer g.kind s (next_scanned r (s.cursor + 1)) (omega (arith, w)) (λ q e.
@@ -181,6 +181,7 @@ module _ (E : Era) (m : Memory) (team : Team) (g : Ghost) (k : ℕ) (s : Scan) (
       let p3 : ScannedBy E team.count m.page (put team.worker k w') = scanned_on team.worker k w' (same_page E m team g k s inv ready.member has.scans copy.copies_nothing t refl) inv.scanned in
       let p4 = headed_slot slot m.heap inv.headed in
       let p5 = raw_slot slot m.heap inv.raw_words in
+      let p14 = counts_slot slot m.heap inv.counts in
       let p6 = opened_slot slot m.heap inv.opened in
       let p7 = landing_slot slot m.heap inv.landing in
       let p8 = older_slot slot m.heap inv.older in

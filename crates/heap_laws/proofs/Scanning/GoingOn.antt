@@ -33,6 +33,7 @@ pub stepping_on : (E : Era) (front : ℕ) (size writer : ℕ → ℕ) (kind : �
     → Stepping E front size writer kind s → Stepping E front size writer kind (on_to E s y)
 stepping_on E front size writer kind s y forward within p = record {
   over = p.over;
+  headed = λ h e. none≢some e;
   current = λ r e. let c = p.current r e in
       record { stands = c.stands; written = c.written; fields = c.fields; whole = c.whole; inside = c.inside; entered = let q = c.entered in omega (arith, q, forward); cursor = within r e };
   inner = λ e. absurd (cc);

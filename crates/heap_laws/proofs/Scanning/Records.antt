@@ -3,19 +3,21 @@ use Rattle.std.proofs.Common.{◌≡◌, ◌≢◌, ℕ, zero, suc, ◌+◌, ◌
 use Rattle.std.proofs.lemmas.Bool.{cases_eq, cases_lt, eq-eqb, ne_eqb}
 use Rattle.plain_state.specs.declared.kind.Kind.{Kind}
 use Rattle.plain_state.specs.Layout.{is_field}
+use Rattle.plain_state.specs.declared.kind.Kind.TheVariants.{Mixed}
 use Rattle.heap_words.specs.declared.kind.Kind.{Kind as HeaderKind}
-use Rattle.heap_words.specs.Decoded.{HeaderWord, decode}
+use Rattle.heap_words.specs.declared.kind.Kind.TheVariants as header_kinds
+use Rattle.heap_words.specs.Decoded.{NumberWord, HeaderWord, decode}
 use Rattle.heap_state.specs.Memory.Era.{Era, Memory, IsLaidOut}
-use Rattle.heap_state.specs.Invariant.Ghost.{Ghost, Here, said_kind}
+use Rattle.heap_state.specs.Invariant.Ghost.{Ghost, Here, count_said, said_kind}
 use Rattle.heap_state.specs.Invariant.Inductive.{Invariant, Knows}
 use Rattle.heap_state.specs.Invariant.Parts.Scanning.{Scans, Stepping, IsIn}
-use Rattle.heap_state.specs.Worker.{Team, Copy, Scan, SeenRecord}
+use Rattle.heap_state.specs.Worker.{Team, Copy, SeenHeader, Scan, SeenRecord}
 use Rattle.heap_state.proofs.Records.Holding.{writer, uncopied_here}
 use Rattle.heap_state.proofs.Puts.{some_same, none≢some}
-use Rattle.heap_state.proofs.Records.Headers.{said_kind-header_kind}
-use Rattle.heap_state.specs.Memory.FieldSpan.{seen_at, entry_of}
-use Rattle.heap_state.proofs.Records.FieldSpans.{enters_within, enters_past_no_field}
-use Rattle.heap_laws.specs.Scanning.Words.{scanning, scan_in_record, IsScanning, ReadingCrossingKeeps, ReadingFirstHeaderKeeps, ReadingFrontKeeps, ReadingNextHeaderKeeps}
+use Rattle.heap_state.proofs.Records.Headers.{count_there, said_there}
+use Rattle.heap_state.specs.Memory.FieldSpan.{first_field, seen_at, entry_of}
+use Rattle.heap_state.proofs.Records.FieldSpans.{span-within, enters_within, enters_past_no_field}
+use Rattle.heap_laws.specs.Scanning.Words.{scanning, scan_headed, scan_in_record, IsScanning, ReadingCrossingKeeps, ReadingFirstHeaderKeeps, ReadingFirstMixedKeeps, ReadingFrontKeeps, ReadingNextHeaderKeeps, ReadingNextMixedKeeps, ReadingCountKeeps}
 use Rattle.heap_laws.specs.Steps.{with_worker, Preserves}
 use Rattle.heap_laws.proofs.Fields.Slots.{here_field}
 use Rattle.heap_laws.proofs.Scanning.GoingOn.{past, goes_on, no_copy}
@@ -81,6 +83,7 @@ module _ (E : Era) (m : Memory) (team : Team) (g : Ghost) (k : ℕ) (s : Scan) (
     top = mine.cursor;
     stepping = record {
       over = λ a e. let z : m.cross s.page ≡ a = some_same e in rw z at crossing;
+      headed = steps.headed;
       current = steps.current;
       inner = steps.inner;
       begun = steps.begun;
@@ -102,36 +105,79 @@ module _ (E : Era) (m : Memory) (team : Team) (g : Ghost) (k : ℕ) (s : Scan) (
       let o = inv.laid.order in
       let c = uncopied_here E m team g inv out a st l (omega (arith, n, o, st)) in
       let q = header_same (m.heap a) (inv.headed.own a st w c.0 c.1) e in
-      (sym (said_kind-header_kind (g.kind a) (m.heap (a + 1))) ∙ ap (λ y. said_kind y (m.heap (a + 1))) q.0, omega (arith, q.1, st))
+      (sym (said_there g.size g.writer g.kind m.heap inv.raw_words inv.counts a st w) ∙ ap (λ y. said_kind y (m.heap (a + 1))) q.0, omega (arith, q.1, st))
 
-  -- the scan enters the record at a
-  enters : (a len serial mutator : ℕ) (head : HeaderKind) → 0 < g.size a → g.writer a ≡ 0 → E.start ≤ a → a + g.size a ≤ m.front → a ≤ s.cursor → s.cursor < a + g.size a
-      → decode (m.heap a) ≡ HeaderWord head len serial mutator → Preserves E m m team (with_worker team k (scanning (team.worker k) (scan_in_record E s a (kind_at head a) (len + 1)))) g g
-  enters a len serial mutator head st w l n c d e =
-      let h = header a len serial mutator head st w l n e in
-      let seen : SeenRecord = seen_at a (kind_at head a) (len + 1) in
-      let y = enters_within seen (kind_at head a) (len + 1) (omega arith) refl refl s.cursor (omega (arith, h.1, d)) in
-      goes_on E m team g k s inv below is.scans idle (scan_in_record E s a (kind_at head a) (len + 1)) (record {
+  -- the scan enters the record at a, which has this kind and size
+  enters_as : (a : ℕ) (kind : Kind) (size : ℕ) → 0 < g.size a → g.writer a ≡ 0 → E.start ≤ a → a + g.size a ≤ m.front → a ≤ s.cursor → s.cursor < a + g.size a
+      → (g.kind a ≡ kind) × (g.size a ≡ size) → Preserves E m m team (with_worker team k (scanning (team.worker k) (scan_in_record E s a kind size))) g g
+  enters_as a kind size st w l n c d h =
+      let seen : SeenRecord = seen_at a kind size in
+      let span = span-within (g.kind a) (g.size a) st (λ n k. (inv.counts.counts a n st w k).1) in
+      let first = ap first_field h.0 in
+      let y = enters_within seen kind size refl refl (omega (arith, span, first, h.1)) s.cursor (omega (arith, h.1, d)) in
+      goes_on E m team g k s inv below is.scans idle (scan_in_record E s a kind size) (record {
         page = refl;
         clean = λ x u p f o. absurd (no_field x u (omega (arith, c, f)) f (omega (arith, y.2, o)) o h.0 h.1);
         top = inr (omega (arith, y.2, h.1, n));
         stepping = record {
           over = λ b e. none≢some e;
-          current = λ r i. let z : seen_at a (kind_at head a) (len + 1) ≡ r = some_same i in
+          headed = λ b e. none≢some e;
+          current = λ r i. let z : seen_at a kind size ≡ r = some_same i in
               rw (← z) (record { stands = st; written = w; fields = rw (h.0, h.1) refl; whole = omega (arith, h.1); inside = (l, omega (arith, h.1, n)); entered = rw h.0 y.1; cursor = y.2 });
           inner = λ i. absurd (cc);
           begun = let b = steps.begun in omega (arith, b, y.0);
           full = steps.full;
-          ended = λ i. ⊎_elim (λ z. inl z) (λ z. inr (inl z)) (past E s.page (entry_of seen (kind_at head a) s.cursor) i);
+          ended = λ i. ⊎_elim (λ z. inl z) (λ z. inr (inl z)) (past E s.page (entry_of seen kind s.cursor) i);
         };
       })
     where
-      no_field : (x : ℕ) → Here E g.size g.writer g.kind x → a ≤ x → s.cursor ≤ x → x < a + (len + 1) → x < entry_of (seen_at a (kind_at head a) (len + 1)) (kind_at head a) s.cursor
-          → g.kind a ≡ kind_at head a → g.size a ≡ len + 1 → ⊥
+      no_field : (x : ℕ) → Here E g.size g.writer g.kind x → a ≤ x → s.cursor ≤ x → x < a + size → x < entry_of (seen_at a kind size) kind s.cursor
+          → g.kind a ≡ kind → g.size a ≡ size → ⊥
       no_field x u f c b o kd sz =
           let q = here_field out inv.laid g.writer g.kind x u a (x - a) (omega (arith, sz, b, f, st)) (omega arith) in
-          let e : is_field (kind_at head a) (x - a) ≡ true = rw kd at q.1 in
-          enters_past_no_field (seen_at a (kind_at head a) (len + 1)) (kind_at head a) (len + 1) (omega arith) refl refl s.cursor x c (omega (arith, q.0)) b o e
+          let e : is_field kind (x - a) ≡ true = rw kd at q.1 in
+          enters_past_no_field (seen_at a kind size) kind size refl refl s.cursor x c (omega (arith, q.0)) b o e
+
+  enters : (a len serial mutator : ℕ) (head : HeaderKind) → 0 < g.size a → g.writer a ≡ 0 → E.start ≤ a → a + g.size a ≤ m.front → a ≤ s.cursor → s.cursor < a + g.size a
+      → decode (m.heap a) ≡ HeaderWord head len serial mutator → Preserves E m m team (with_worker team k (scanning (team.worker k) (scan_in_record E s a (kind_at head a) (len + 1)))) g g
+  enters a len serial mutator head st w l n c d e = enters_as a (kind_at head a) (len + 1) st w l n c d (header a len serial mutator head st w l n e)
+
+  -- ---- a mixed record
+
+  -- its header is read
+  heads : (a len serial mutator : ℕ) → 0 < g.size a → g.writer a ≡ 0 → E.start ≤ a → a + g.size a ≤ m.front → a ≤ s.cursor → s.cursor < a + g.size a
+      → decode (m.heap a) ≡ HeaderWord header_kinds.Mixed len serial mutator → Preserves E m m team (with_worker team k (scanning (team.worker k) (scan_headed s a (len + 1)))) g g
+  heads a len serial mutator st w l n c d e =
+      let h = header a len serial mutator header_kinds.Mixed st w l n e in
+      goes_on E m team g k s inv below is.scans idle (scan_headed s a (len + 1)) (record {
+        page = refl;
+        clean = λ x u p f o. absurd (omega (arith, f, o));
+        top = mine.cursor;
+        stepping = record {
+          over = λ b i. none≢some i;
+          headed = λ y i. let z : record { at = a; size = len + 1 } ≡ y = some_same i in
+              rw (← z) (record { stands = st; written = w; mixed = (count_said (decode (m.heap (a + 1))), h.0); whole = sym h.1; inside = (l, omega (arith, h.1, n)); cursor = (c, omega (arith, h.1, d)) });
+          current = λ r i. none≢some i;
+          inner = λ i. absurd (cc);
+          begun = steps.begun;
+          full = steps.full;
+          ended = steps.ended;
+        };
+      })
+
+  -- its count is read
+  pub enters_counted : (h : SeenHeader) (count : ℕ) → s.headed ≡ Some h → decode (m.heap (h.at + 1)) ≡ NumberWord count
+      → Preserves E m m team (with_worker team k (scanning (team.worker k) (scan_in_record E s h.at (Mixed count) h.size))) g g
+  enters_counted h count e d =
+      let t = steps.headed h e in
+      let says = sym (count_there g.size g.writer g.kind m.heap inv.raw_words inv.counts h.at t.stands t.written t.mixed.0 t.mixed.1) ∙ d in
+      let same : t.mixed.0 ≡ count = ap count_said says in
+      let whole = t.whole in
+      let inside = t.inside.1 in
+      let cursor = t.cursor.1 in
+      enters_as h.at (Mixed count) h.size t.stands t.written t.inside.0 (omega (arith, whole, inside)) t.cursor.0 (omega (arith, whole, cursor)) (t.mixed.1 ∙ ap Mixed same, sym whole)
+
+  -- ---- which record
 
   -- a record of the epoch's space that lies over a word of the page, or begins on it, lies below FRONT
   lies_below : (a x : ℕ) → 0 < g.size a → a ≤ x → x < a + g.size a → x < m.front → 64 * s.page ≤ x → (E.start ≤ a) × (a + g.size a ≤ m.front)
@@ -148,6 +194,13 @@ module _ (E : Era) (m : Memory) (team : Team) (g : Ghost) (k : ℕ) (s : Scan) (
       let o = steps.over a e in
       let w = first_lies a e in
       enters a len serial mutator head o.0 o.1 w.0 w.1 (omega (arith, o.2, c)) (omega (arith, o.3, c)) d
+
+  pub heads_first : (a len serial mutator : ℕ) → s.over ≡ Some a → s.cursor ≡ 64 * s.page → decode (m.heap a) ≡ HeaderWord header_kinds.Mixed len serial mutator
+      → Preserves E m m team (with_worker team k (scanning (team.worker k) (scan_headed s a (len + 1)))) g g
+  heads_first a len serial mutator e c d =
+      let o = steps.over a e in
+      let w = first_lies a e in
+      heads a len serial mutator o.0 o.1 w.0 w.1 (omega (arith, o.2, c)) (omega (arith, o.3, c)) d
 
   -- the next record stands below FRONT, and nobody writes it
   pub next_lies : (r : SeenRecord) → s.current ≡ Some r → s.cursor ≡ r.next → s.cursor < 64 * s.page + 64 → (s.inner ≡ true) ⊎ (s.in_place ≡ false)
@@ -176,6 +229,12 @@ module _ (E : Era) (m : Memory) (team : Team) (g : Ghost) (k : ℕ) (s : Scan) (
       let y = next_lies r e c p i in
       enters s.cursor len serial mutator head y.0 y.1 y.2 y.3 (omega arith) (let st = y.0 in omega (arith, st)) d
 
+  pub heads_next : (r : SeenRecord) (len serial mutator : ℕ) → s.current ≡ Some r → s.cursor ≡ r.next → s.cursor < 64 * s.page + 64 → (s.inner ≡ true) ⊎ (s.in_place ≡ false)
+      → decode (m.heap s.cursor) ≡ HeaderWord header_kinds.Mixed len serial mutator → Preserves E m m team (with_worker team k (scanning (team.worker k) (scan_headed s s.cursor (len + 1)))) g g
+  heads_next r len serial mutator e c p i d =
+      let y = next_lies r e c p i in
+      heads s.cursor len serial mutator y.0 y.1 y.2 y.3 (omega arith) (let st = y.0 in omega (arith, st)) d
+
   -- FRONT is read at a record's end
   pub sees_front : Preserves E m m team (with_worker team k (scanning (team.worker k) (cond (eqb s.cursor m.front) (record s { ended = true }) (record s { inner = true })))) g g
   sees_front = ⊎_elim
@@ -188,7 +247,7 @@ module _ (E : Era) (m : Memory) (team : Team) (g : Ghost) (k : ℕ) (s : Scan) (
         page = refl;
         clean = λ x u p l n. absurd (omega (arith, l, n));
         top = mine.cursor;
-        stepping = record { over = steps.over; current = steps.current; inner = steps.inner; begun = steps.begun; full = steps.full; ended = λ i. inr (inr (before_board, e)) };
+        stepping = record { over = steps.over; headed = steps.headed; current = steps.current; inner = steps.inner; begun = steps.begun; full = steps.full; ended = λ i. inr (inr (before_board, e)) };
       })
 
       before : s.cursor ≢ m.front → Preserves E m m team (with_worker team k (scanning (team.worker k) (record s { inner = true }))) g g
@@ -196,7 +255,7 @@ module _ (E : Era) (m : Memory) (team : Team) (g : Ghost) (k : ℕ) (s : Scan) (
         page = refl;
         clean = λ x u p l o. absurd (omega (arith, l, o));
         top = mine.cursor;
-        stepping = record { over = steps.over; current = steps.current; inner = λ i. let b = below_front in omega (arith, b, n); begun = steps.begun; full = steps.full; ended = steps.ended };
+        stepping = record { over = steps.over; headed = steps.headed; current = steps.current; inner = λ i. let b = below_front in omega (arith, b, n); begun = steps.begun; full = steps.full; ended = steps.ended };
       })
 
 pub reads_crossing : ReadingCrossingKeeps
@@ -211,3 +270,13 @@ reads_front E m team g k s ready is n = learnt (sees_front E m team g k s ready.
 pub reads_next_header : ReadingNextHeaderKeeps
 reads_next_header E m team g k s r len serial mutator head ready is n current cursor page inner says =
     learnt (enters_next E m team g k s ready.laid_out ready.invariant ready.member is n r len serial mutator head current cursor page inner says)
+
+pub reads_first_mixed : ReadingFirstMixedKeeps
+reads_first_mixed E m team g k s a len serial mutator ready is n over cursor says = learnt (heads_first E m team g k s ready.laid_out ready.invariant ready.member is n a len serial mutator over cursor says)
+
+pub reads_next_mixed : ReadingNextMixedKeeps
+reads_next_mixed E m team g k s r len serial mutator ready is n current cursor page inner says =
+    learnt (heads_next E m team g k s ready.laid_out ready.invariant ready.member is n r len serial mutator current cursor page inner says)
+
+pub reads_count : ReadingCountKeeps
+reads_count E m team g k s h count ready is n headed says = learnt (enters_counted E m team g k s ready.laid_out ready.invariant ready.member is n h count headed says)

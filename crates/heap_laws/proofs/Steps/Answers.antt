@@ -1,7 +1,10 @@
 -- What a load may answer, and that the row which is read is one of the table.
 use Rattle.std.proofs.Common.{◌≡◌, ◌≢◌, ℕ, ◌+◌, ◌-◌, ◌*◌, ◌<◌, ◌≤◌, true, is_some, refl, sym, ap, arith, ⊎_elim, eq-eqb}
 use Rattle.std.proofs.lemmas.Bool.{cases_eq}
+use Rattle.heap_words.specs.declared.kind.Kind.TheVariants as header
 use Rattle.heap_words.specs.Decoded.{decode}
+use Rattle.plain_state.specs.declared.kind.Kind.{Kind}
+use Rattle.plain_state.specs.declared.kind.Kind.TheVariants.{Fields, Raw, Mixed}
 use Rattle.plain_state.specs.State.{Plain}
 use Rattle.space_map.specs.GateWord.{GateFits}
 use Rattle.space_map.specs.Spaces.{to_space}
@@ -12,6 +15,7 @@ use Rattle.heap_state.specs.Functions.{count_one}
 use Rattle.heap_state.specs.Invariant.Ghost.{Ghost, header_kind}
 use Rattle.heap_state.specs.Invariant.Parts.Knowledge.{Passes}
 use Rattle.heap_state.specs.Worker.{Team, Post, Outside, Stopped, Passage, Enter, Park, Request, Forwarded, Resume, Leave, Scan, is_live, is_running, is_late, is_gone, Flipping, Gone, Running, Scanner}
+use Rattle.heap_state.proofs.Records.Headers.{count_there}
 use Rattle.heap_state.proofs.Records.Holding.{First, OwnHeader, KeptBy as KeptByWorker, GoneTo, first, uncopied_here}
 use Rattle.heap_state.proofs.Table.LaidOut.{table_pages, table_in_use, to_space-before}
 use Rattle.heap_state.proofs.Table.Spelled.{spelled}
@@ -66,6 +70,11 @@ copies_are_there E m team g k c ready has = record {
 -- ---- a page that is scanned
 
 module _ (E : Era) (m : Memory) (team : Team) (g : Ghost) (k : ℕ) (s : Scan) (ready : Ready E m team g k) (is : IsScanning team k s) where
+  mixed_of : (kind : Kind) → header_kind kind ≡ header.Mixed → (count : ℕ) × (kind ≡ Mixed count)
+  mixed_of Fields e = absurd (cc)
+  mixed_of Raw e = absurd (cc)
+  mixed_of (Mixed count) e = (count, refl)
+
   -- a record of the epoch's space below FRONT has its header
   meets : (a : ℕ) → 0 < g.size a → g.writer a ≡ 0 → E.start ≤ a → a + g.size a ≤ m.front → (h : MeetsHeader m a) × (h.len + 1 ≡ g.size a)
   meets a st w l f =
@@ -78,6 +87,7 @@ module _ (E : Era) (m : Memory) (team : Team) (g : Ghost) (k : ℕ) (s : Scan) (
           mutator = (g.identity a).mutator;
           header = ready.invariant.headed.own a st w c.0 c.1;
           within = omega (arith, st, f);
+          counted = λ e. let c = mixed_of (g.kind a) e in let r = (ready.invariant.counts.counts a c.0 st w c.1).1 in omega (arith, r);
         },
         omega (arith, st),
       )
@@ -99,6 +109,12 @@ module _ (E : Era) (m : Memory) (team : Team) (g : Ghost) (k : ℕ) (s : Scan) (
         let z = h.1 in
         (o.2, (h.0, omega (arith, z, o.3)));
     next = λ r n e c p i. let y = next_lies E m team g k s ready.laid_out ready.invariant ready.member is n r e c p i in (meets s.cursor y.0 y.1 y.2 y.3).0;
+    count = λ h e.
+        let t = ((ready.invariant.workers k ready.member).stepping s is.scans).headed h e in
+        let inv = ready.invariant in
+        let room = (inv.counts.counts h.at t.mixed.0 t.stands t.written t.mixed.1).1 in
+        let whole = t.whole in
+        (t.mixed.0, count_there g.size g.writer g.kind m.heap inv.raw_words inv.counts h.at t.stands t.written t.mixed.0 t.mixed.1, omega (arith, room, whole));
     field = λ at. let h = here E m team g k s ready.laid_out ready.invariant ready.member is.scans at in (here_below ready s.cursor h, ready.invariant.landing.lands s.cursor h);
     front = let o = ready.invariant.laid.order in let b = ready.laid_out.below in omega (arith, o, b);
   }

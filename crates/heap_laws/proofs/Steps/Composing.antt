@@ -32,6 +32,7 @@ all_of s u e = record {
   cursor = ap (λ (z : Scan). z.cursor) e;
   in_place = ap (λ (z : Scan). z.in_place) e;
   over = λ x y. ap (λ (z : Scan). z.over) (sym e) ∙ y;
+  headed = λ x y. ap (λ (z : Scan). z.headed) (sym e) ∙ y;
   current = λ x y. ap (λ (z : Scan). z.current) (sym e) ∙ y;
   inner = λ y. ap (λ (z : Scan). z.inner) (sym e) ∙ y;
   ended = ap (λ (z : Scan). z.ended) e;
@@ -58,6 +59,7 @@ less_scans {s = s} {u = u} less p = record {
 less_steps : {E : Era} {front : ℕ} {size writer : ℕ → ℕ} {kind : ℕ → Kind} {s u : Scan} → IsLessScan s u → Stepping E front size writer kind u → Stepping E front size writer kind s
 less_steps {s = s} {u = u} less p = record {
   over = λ a e. rw less.page (p.over a (less.over a e));
+  headed = λ h e. rw less.cursor (p.headed h (less.headed h e));
   current = λ r e. rw less.cursor (p.current r (less.current r e));
   inner = λ e. rw less.cursor (p.inner (less.inner e));
   begun = rw (less.page, less.cursor) p.begun;

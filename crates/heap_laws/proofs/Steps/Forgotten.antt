@@ -33,7 +33,7 @@ of_gate w gate_step reset seen less = record { others = same_to_others w; scan =
 
 pub scanned_records_are_forgotten : ScannedRecordsAreForgotten
 scanned_records_are_forgotten w s has =
-    of_scan w (of_no_record s) s has (record { page = refl; cursor = refl; in_place = refl; over = λ _ e. absurd (cc); current = λ _ e. absurd (cc); inner = λ e. e; ended = refl })
+    of_scan w (of_no_record s) s has (record { page = refl; cursor = refl; in_place = refl; over = λ _ e. absurd (cc); headed = λ _ e. absurd (cc); current = λ _ e. absurd (cc); inner = λ e. e; ended = refl })
 
 -- a round and its last look, and what is to be forgotten of its claim and its look
 pub of_round : (w : Worker) (claim : Option Claim) (look : Option Look) → IsLess claim w.claim → IsLess look w.look → IsAtMost (record w { round = None; claim = claim; look = look; last_look = None }) w

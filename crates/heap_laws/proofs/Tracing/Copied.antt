@@ -1,11 +1,11 @@
 -- At the end of a cycle what was copied is what was reachable at the flip.
-use Rattle.std.proofs.Common.{◌≡◌, ℕ, ◌+◌, ◌<◌, true, Some, sym, ◌∙◌, arith, ⊎_elim}
+use Rattle.std.proofs.Common.{◌≡◌, ℕ, ◌+◌, ◌<◌, true, Some, sym, ap, ◌∙◌, arith, ⊎_elim}
 use Rattle.std.specs.Prelude.{slice_get}
 use Rattle.std.proofs.lemmas.Option.{slice_get_within}
 use Rattle.plain_state.specs.declared.value.Identity.{Identity}
 use Rattle.plain_state.specs.declared.value.Value.TheVariants.{Reference}
 use Rattle.plain_state.specs.State as plain
-use Rattle.plain_state.specs.Layout.{is_field, word_of_value, size_of}
+use Rattle.plain_state.specs.Layout.{is_field, values_at, word_of_value, size_of}
 use Rattle.heap_state.specs.Cycles.Cycle.{Cycle, RootLeads, ByBoard, ByRegister, IsRoot, InRegister, OnTheBoard, IsCopied}
 use Rattle.heap_state.specs.Memory.Era.{Era, Memory, IsLaidOut}
 use Rattle.heap_state.specs.Invariant.Ghost.{Ghost}
@@ -13,6 +13,7 @@ use Rattle.heap_state.specs.Invariant.Inductive.{Invariant}
 use Rattle.heap_state.specs.Meaning.Reachable.{Reachable, FromRegister, FromBoard, FromRecord}
 use Rattle.heap_state.specs.Worker.{Team}
 use Rattle.heap_state.proofs.Puts.{some_same}
+use Rattle.heap_state.proofs.Records.Layouts.{values_behind_header}
 use Rattle.heap_laws.specs.Tracing.{NothingLeads, CopiesReachable}
 use Rattle.heap_laws.proofs.Tracing.Traced.{leads_nowhere}
 use Rattle.heap_laws.proofs.Frames.Values.{board_here, field_here, still_leads}
@@ -41,10 +42,11 @@ module _ (E : Era) (m : Memory) (team : Team) (g : Ghost) (p : plain.Plain) (out
       let kinds : r.kind ≡ g.kind c.at = rw same at s.3 in
       let field : is_field (g.kind c.at) (word_of_value (g.kind c.at) n) ≡ true = rw kinds at f in
       let within = slice_get_within r.values n (Reference j) refers in
-      let small : word_of_value (g.kind c.at) n < g.size c.at = omega (arith, within, len) in
+      let at : values_at r.kind ≡ values_at (g.kind c.at) = ap values_at kinds in
+      let small : word_of_value (g.kind c.at) n < g.size c.at = omega (arith, within, len, at) in
       ⊎_elim (λ y. y)
       (λ t. absurd (nothing.clean (c.at + word_of_value (g.kind c.at) n)
-      (field_here E g.size g.writer g.kind c.at (word_of_value (g.kind c.at) n) (record { stands = c.stands.0; written = c.stands.1; field = field; first = omega arith; last = small }) (c.below.0, let o = inv.laid.order in omega (arith, c.below.1, o)))
+      (field_here E g.size g.writer g.kind c.at (word_of_value (g.kind c.at) n) (record { stands = c.stands.0; written = c.stands.1; field = field; first = omega (arith, values_behind_header (g.kind c.at)); last = small }) (c.below.0, let o = inv.laid.order in omega (arith, c.below.1, o)))
       (still_leads E g.identity (m.heap (c.at + word_of_value (g.kind c.at) n)) j t)))
       (cy.copying.complete c.at n r j c.stands.0 c.stands.1 c.below.0 c.below.1 of' field refers)
 

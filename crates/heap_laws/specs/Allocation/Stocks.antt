@@ -1,5 +1,5 @@
--- A mutator claims pages, makes them 0 and opens them.
-use Rattle.std.specs.Prelude.{◌≡◌, ℕ, ◌+◌, ◌-◌, ◌*◌, ◌<◌, ◌≤◌, Bool, true, Some, if◌then◌else◌}
+-- A mutator claims pages, makes them 0 and opens them; and it stores words there ahead of a record's header.
+use Rattle.std.specs.Prelude.{◌≡◌, ℕ, ◌+◌, ◌-◌, ◌*◌, ◌<◌, ◌≤◌, Bool, true, Some, [], ◌∷◌, ◌++◌, length, if◌then◌else◌}
 use Rattle.space_map.specs.declared.area_word.AreaWord.{AreaWord}
 use Rattle.space_map.specs.declared.page_word.PageWord.TheVariants.{Open}
 use Rattle.space_map.specs.Spaces.{to_space, first_word}
@@ -53,6 +53,7 @@ claimed epoch start area n = record {
   end = start + area.low;
   zeroed = start + (area.low - PAGE_WORDS * n);
   opened = start + (area.low - PAGE_WORDS * n);
+  ahead = [];
 }
 
 -- the area word is exchanged by a running mutator
@@ -87,3 +88,21 @@ pub record OpensNext (team : Team) (k : ℕ) (q : Stock) (page : ℕ) : Type 0 w
 abbrev pub StocksAreOpened : Type 0
 StocksAreOpened = (E : Era) (m : Memory) (team : Team) (g : Ghost) (k page : ℕ) (q : Stock) → Ready E m team g k → OpensNext team k q page
     → Steps E m team g k (Some (PageIs page (Open (team.worker k).epoch))) (stocked (team.worker k) (opened_further q)) g
+
+-- ---- words stored ahead of a header
+
+-- the stock with this word behind those stored ahead
+abbrev pub with_ahead : Stock → ℕ → Stock
+with_ahead q v = record q { ahead = q.ahead ++ v ∷ [] }
+
+-- worker k runs, and has a run with room for one word more ahead of the next header, less than a page behind its place
+pub record StoresAhead (team : Team) (k : ℕ) (q : Stock) : Type 0 where
+  pub own : HasStock team k q
+  pub run : (q.zeroed ≡ q.end) × (q.opened ≡ q.end)
+  pub fits : q.at + 1 + length q.ahead < q.end
+  pub near : length q.ahead + 1 < PAGE_WORDS
+
+-- that word is stored
+abbrev pub WordsAreStoredAhead : Type 0
+WordsAreStoredAhead = (E : Era) (m : Memory) (team : Team) (g : Ghost) (k v : ℕ) (q : Stock) → Ready E m team g k → StoresAhead team k q
+    → Steps E m team g k (Some (WordIs (q.at + 1 + length q.ahead) v)) (stocked (team.worker k) (with_ahead q v)) g

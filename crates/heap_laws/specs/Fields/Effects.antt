@@ -1,10 +1,11 @@
 -- What a running mutator's registers, and the words that it accesses, are to the plain machine.
-use Rattle.std.specs.Prelude.{◌≡◌, ℕ, ◌+◌, ◌<◌, ⊤, true, length, Option, Some, None, slice_get, false}
+use Rattle.std.specs.Prelude.{◌≡◌, ◌≢◌, ℕ, ◌+◌, ◌<◌, ⊤, true, length, Option, Some, None, slice_get, false}
 use Rattle.heap_words.specs.declared.kind.Kind.{Kind as HeaderKind}
 use Rattle.heap_words.specs.Decoded.{NumberWord, PointerWord, HeaderWord, decode, number_in}
 use Rattle.heap_words.specs.Word.{number_word}
-use Rattle.plain_state.specs.Layout.{word_of_value}
+use Rattle.plain_state.specs.Layout.{values_at, word_of_value, size_of}
 use Rattle.plain_state.specs.State as plain
+use Rattle.plain_state.specs.declared.kind.Kind.TheVariants.{Mixed}
 use Rattle.plain_state.specs.declared.value.Value.{Value}
 use Rattle.plain_state.specs.declared.value.Value.TheVariants.{Number, Reference}
 use Rattle.space_map.specs.declared.page_word.PageWord.TheVariants.{Open}
@@ -12,7 +13,7 @@ use Rattle.heap_state.specs.Memory.Era.{Era, Memory}
 use Rattle.heap_state.specs.Invariant.Ghost.{Ghost, said_kind}
 use Rattle.heap_state.specs.Invariant.Parts.Knowledge.{HasRole, Accesses}
 use Rattle.heap_state.specs.Meaning.Values.{Shown}
-use Rattle.heap_state.specs.Worker.{Team, Role, FieldRole, NumberRole, Access, is_mutator, is_late}
+use Rattle.heap_state.specs.Worker.{Team, Role, FieldRole, NumberRole, UnknownRole, Access, is_mutator, is_late}
 use Rattle.heap_laws.specs.Fields.Words.{IsWordOf, MayStore, StandsFor}
 use Rattle.heap_laws.specs.Fields.Held.{MayHold, HoldsValue}
 use Rattle.heap_laws.specs.Fields.Stores.{IsAs}
@@ -48,34 +49,56 @@ RegistersHold = (E : Era) (m : Memory) (team : Team) (g : Ghost) (p : plain.Plai
 
 -- ---- headers
 
--- What the header at a says of the plain record there: its kind and length; and an access to any of its values may begin.
+-- What the header at a says of the plain record there: its kind, and its length in words behind the header; and an access to any of
+-- its values may begin.
 pub record HeaderSays (E : Era) (m : Memory) (g : Ghost) (p : plain.Plain) (a : ℕ) (head : HeaderKind) (len : ℕ) : Type 0 where
   pub record_there : plain.Record
   pub is : plain.record_of p.heap (g.identity a) ≡ Some record_there
   pub kind : record_there.kind ≡ said_kind head (m.heap (a + 1))
-  pub long : length record_there.values ≡ len
-  pub access : (x : ℕ) (role : Role) → x < len → HasRole record_there.kind (word_of_value record_there.kind x) role
-      → Accesses E g.size g.writer g.kind (record { at = a; word = word_of_value record_there.kind x; role = role })
+  pub long : size_of record_there ≡ len + 1
+  pub access : (x : ℕ) (role : Role) → x < length record_there.values → HasRole record_there.kind (word_of_value record_there.kind x) role
+      → Accesses E g.size g.writer g.kind (record { at = a; first = values_at record_there.kind; word = word_of_value record_there.kind x; role = role })
 
 abbrev pub HeadersSay : Type 0
 HeadersSay = (E : Era) (m : Memory) (team : Team) (g : Ghost) (p : plain.Plain) (k a len serial mutator : ℕ) (w : ℕ) (head : HeaderKind) → Ready E m team g k → Shown E m team g p
     → MayHold E g.size g.writer w → decode w ≡ PointerWord a → decode (m.heap a) ≡ HeaderWord head len serial mutator → HeaderSays E m g p a head len
 
+-- ---- counts
+
+-- What the count says of a mixed record to which there is an access whose role isn't known: how many fields the plain record there
+-- has. With the role that the word then has, the access may go on.
+pub record CountSays (E : Era) (m : Memory) (g : Ghost) (p : plain.Plain) (f : Access) : Type 0 where
+  pub record_there : plain.Record
+  pub is : plain.record_of p.heap (g.identity f.at) ≡ Some record_there
+  pub count : ℕ
+  pub kind : record_there.kind ≡ Mixed count
+  pub says : decode (m.heap (f.at + 1)) ≡ NumberWord count
+  pub within : f.word < length record_there.values + values_at (Mixed count)
+  pub access : (role : Role) → HasRole (Mixed count) f.word role → Accesses E g.size g.writer g.kind (record f { role = role })
+
+abbrev pub CountsAreRead : Type 0
+CountsAreRead = (E : Era) (m : Memory) (team : Team) (g : Ghost) (p : plain.Plain) (k : ℕ) (f : Access) → Ready E m team g k → Shown E m team g p
+    → (team.worker k).access ≡ Some f → f.role ≡ UnknownRole → CountSays E m g p f
+
 -- ---- words of records
 
--- the word that a mutator holds for one that it has loaded, and the one that it stores for one that it holds, if it may be stored
+-- The word that a mutator holds for one that it has loaded, and the one that it stores for one that it holds, if it may be stored:
+-- nothing is as long as the role isn't known.
 abbrev pub word_held : Role → ℕ → ℕ
 word_held FieldRole v = v
 word_held NumberRole v = number_word v
+word_held UnknownRole v = v
 
 abbrev pub word_stored : Role → ℕ → Option ℕ
 word_stored FieldRole w = Some w
 word_stored NumberRole w = number_in (decode w)
+word_stored UnknownRole w = None
 
 -- a number that is stored by itself is one of 62 bits
 abbrev pub FitsRole : Role → ℕ → Type 0
 FitsRole FieldRole v = ⊤
 FitsRole NumberRole v = v < NUMBERS
+FitsRole UnknownRole v = ⊤
 
 -- The word that is accessed is value x of the plain record there: on an open page, a word of a record that stands; what is loaded
 -- from it holds that value, and what is stored there for a value stands for it.
@@ -93,7 +116,7 @@ pub record IsValueOf (E : Era) (m : Memory) (g : Ghost) (p : plain.Plain) (f : A
 
 abbrev pub AccessesAreValues : Type 0
 AccessesAreValues = (E : Era) (m : Memory) (team : Team) (g : Ghost) (p : plain.Plain) (k : ℕ) (f : Access) (x : ℕ) → Ready E m team g k → Shown E m team g p
-    → (team.worker k).access ≡ Some f → (team.worker k).opened ≡ Some (page_of (f.at + f.word)) → f.word ≡ word_of_value (g.kind f.at) x → IsValueOf E m g p f x
+    → (team.worker k).access ≡ Some f → f.role ≢ UnknownRole → (team.worker k).opened ≡ Some (page_of (f.at + f.word)) → f.word ≡ word_of_value (g.kind f.at) x → IsValueOf E m g p f x
 
 -- ---- words of the board
 

@@ -1,7 +1,7 @@
 -- One step of a running mutator that is one of the plain machine: it stores nothing, or in a record, on the board, or a new
 -- record's header.
 use Rattle.plain_state.specs.declared.value.Identity.{Identity}
-use Rattle.std.specs.Prelude.{◌≡◌, ℕ, ◌+◌, ◌-◌, ◌*◌, ◌<◌, true, Some, None, slice_get, slice_set}
+use Rattle.std.specs.Prelude.{◌≡◌, ℕ, ◌+◌, ◌-◌, ◌*◌, ◌<◌, true, Some, None, [], slice_get, slice_set}
 use Rattle.heap_words.specs.Decoded.{PointerWord, decode}
 use Rattle.plain_state.specs.declared.end.End.{End}
 use Rattle.plain_state.specs.declared.end.End.TheVariants.{HeapFull}
@@ -66,7 +66,7 @@ MutatorsStoreOnBoard = (E : Era) (m : Memory) (team : Team) (g : Ghost) (p : pla
 -- the mutator that has placed a record of size z at the place of its stock s, with a pointer to it in register d
 abbrev pub with_record : Worker → Stock → (z d pointer : ℕ) → Worker
 with_record w s z d pointer = record w {
-  stock = Some (record s { at = s.at + z });
+  stock = Some (record s { at = s.at + z; ahead = [] });
   account = record w.account { serial = w.account.serial + 1 };
   registers = put w.registers d pointer;
 }

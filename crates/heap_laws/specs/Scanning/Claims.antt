@@ -62,7 +62,7 @@ pub record WinsPage (E : Era) (m : Memory) (team : Team) (k : ℕ) (q : Claim) :
 
 -- the scan that a won claim begins, at the page's first word
 abbrev pub scan_from : Claim → Scan
-scan_from q = record { page = q.page; cursor = first_word q.page; in_place = q.in_place; over = None; current = None; inner = false; ended = false }
+scan_from q = record { page = q.page; cursor = first_word q.page; in_place = q.in_place; over = None; headed = None; current = None; inner = false; ended = false }
 
 -- the worker that scans the page that it claimed
 abbrev pub begins_scan : Worker → Claim → Worker

@@ -1,11 +1,13 @@
 -- The words of a page that is scanned: which are read, and what becomes of those that lead into the old space.
 use Rattle.std.specs.Prelude.{◌≡◌, ◌≢◌, ℕ, ◌+◌, ◌<◌, ◌≤◌, ◌==◌, ◌⊎◌, Bool, true, false, Some, None, nat_le, if◌then◌else◌}
 use Rattle.heap_words.specs.declared.kind.Kind.{Kind as HeaderKind}
+use Rattle.heap_words.specs.declared.kind.Kind.TheVariants as header
 use Rattle.plain_state.specs.declared.kind.Kind.{Kind}
-use Rattle.heap_words.specs.Decoded.{PointerWord, HeaderWord, decode}
+use Rattle.plain_state.specs.declared.kind.Kind.TheVariants.{Mixed}
+use Rattle.heap_words.specs.Decoded.{NumberWord, PointerWord, HeaderWord, decode}
 use Rattle.heap_state.specs.Memory.Era.{Era, Memory}
 use Rattle.heap_state.specs.Invariant.Ghost.{Ghost, OnBoard, Leads, said_kind}
-use Rattle.heap_state.specs.Worker.{Worker, Team, SeenRecord, Scanned, Quest, Scan}
+use Rattle.heap_state.specs.Worker.{Worker, Team, SeenHeader, SeenRecord, Scanned, Quest, Scan}
 use Rattle.heap_state.specs.Memory.FieldSpan.{next_from, seen_at, entry_of}
 use Rattle.heap_state.specs.Memory.Entries.{WordIs}
 use Rattle.heap_laws.specs.Steps.{Ready, Steps}
@@ -24,11 +26,15 @@ is_past E page y = if page == page_of E.board then nat_le (E.board + 16) y else 
 
 -- the scan, gone on to y
 abbrev pub on_to : Era → Scan → ℕ → Scan
-on_to E s y = record s { cursor = y; inner = false; ended = is_past E s.page y }
+on_to E s y = record s { cursor = y; headed = None; inner = false; ended = is_past E s.page y }
 
 -- the scan in a record at a whose header was read, at its first field from the cursor on
 abbrev pub scan_in_record : Era → Scan → (a : ℕ) → Kind → (size : ℕ) → Scan
 scan_in_record E s a k size = record (on_to E s (entry_of (seen_at a k size) k s.cursor)) { over = None; current = Some (seen_at a k size) }
+
+-- the scan that has read the header of a mixed record, of this address and size, and is about to read its count
+abbrev pub scan_headed : Scan → (a size : ℕ) → Scan
+scan_headed s a size = record s { over = None; headed = Some (record { at = a; size = size }); current = None; inner = false }
 
 -- the scan past the word at the cursor
 abbrev pub past_word : Era → Scan → Scan
@@ -57,6 +63,12 @@ ReadingFirstHeaderKeeps = (E : Era) (m : Memory) (team : Team) (g : Ghost) (k : 
     → s.page ≢ page_of E.board → s.over ≡ Some a → s.cursor ≡ first_word s.page → decode (m.heap a) ≡ HeaderWord head len serial mutator
     → Steps E m team g k None (scanning (team.worker k) (scan_in_record E s a (said_kind head (m.heap (a + 1))) (len + 1))) g
 
+-- it is that of a mixed record, whose count is read next
+abbrev pub ReadingFirstMixedKeeps : Type 0
+ReadingFirstMixedKeeps = (E : Era) (m : Memory) (team : Team) (g : Ghost) (k : ℕ) (s : Scan) (a len serial mutator : ℕ) → Ready E m team g k → IsScanning team k s
+    → s.page ≢ page_of E.board → s.over ≡ Some a → s.cursor ≡ first_word s.page → decode (m.heap a) ≡ HeaderWord header.Mixed len serial mutator
+    → Steps E m team g k None (scanning (team.worker k) (scan_headed s a (len + 1))) g
+
 -- at a record's end on the page being filled, FRONT is read: the scan is at it, or another record begins
 abbrev pub ReadingFrontKeeps : Type 0
 ReadingFrontKeeps = (E : Era) (m : Memory) (team : Team) (g : Ghost) (k : ℕ) (s : Scan) → Ready E m team g k → IsScanning team k s
@@ -68,6 +80,19 @@ ReadingNextHeaderKeeps = (E : Era) (m : Memory) (team : Team) (g : Ghost) (k : �
     → s.page ≢ page_of E.board → s.current ≡ Some r → s.cursor ≡ r.next → s.cursor < first_word s.page + PAGE_WORDS → (s.inner ≡ true) ⊎ (s.in_place ≡ false)
     → decode (m.heap s.cursor) ≡ HeaderWord head len serial mutator
     → Steps E m team g k None (scanning (team.worker k) (scan_in_record E s s.cursor (said_kind head (m.heap (s.cursor + 1))) (len + 1))) g
+
+-- it is that of a mixed record, whose count is read next
+abbrev pub ReadingNextMixedKeeps : Type 0
+ReadingNextMixedKeeps = (E : Era) (m : Memory) (team : Team) (g : Ghost) (k : ℕ) (s : Scan) (r : SeenRecord) (len serial mutator : ℕ) → Ready E m team g k → IsScanning team k s
+    → s.page ≢ page_of E.board → s.current ≡ Some r → s.cursor ≡ r.next → s.cursor < first_word s.page + PAGE_WORDS → (s.inner ≡ true) ⊎ (s.in_place ≡ false)
+    → decode (m.heap s.cursor) ≡ HeaderWord header.Mixed len serial mutator
+    → Steps E m team g k None (scanning (team.worker k) (scan_headed s s.cursor (len + 1))) g
+
+-- the count of a mixed record is read
+abbrev pub ReadingCountKeeps : Type 0
+ReadingCountKeeps = (E : Era) (m : Memory) (team : Team) (g : Ghost) (k : ℕ) (s : Scan) (h : SeenHeader) (count : ℕ) → Ready E m team g k → IsScanning team k s
+    → s.page ≢ page_of E.board → s.headed ≡ Some h → decode (m.heap (h.at + 1)) ≡ NumberWord count
+    → Steps E m team g k None (scanning (team.worker k) (scan_in_record E s h.at (Mixed count) h.size)) g
 
 -- ---- the fields
 

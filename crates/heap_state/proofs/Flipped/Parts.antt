@@ -22,7 +22,7 @@ use Rattle.heap_state.specs.Invariant.Parts.Gate.{Counted, Staffed}
 use Rattle.heap_state.specs.Invariant.Parts.Leading.{Opened, Landing, Older}
 use Rattle.heap_state.specs.Invariant.Parts.OldSpace.{OldSpace, OldArea}
 use Rattle.heap_state.specs.Invariant.Parts.Pages.{Shut, Filling, Tracing, Aged, OldPages, ScannedBy}
-use Rattle.heap_state.specs.Invariant.Parts.Records.{Laid, Headed, NewArea, NewWritten, SpaceOf, RawWords}
+use Rattle.heap_state.specs.Invariant.Parts.Records.{Laid, Headed, NewArea, NewWritten, SpaceOf, RawWords, Counts}
 use Rattle.heap_state.specs.Invariant.Parts.Stocks.{Stocks, Stocked, Numbered}
 use Rattle.heap_state.specs.Memory.Table.{Table}
 use Rattle.heap_state.specs.Examples.Worked.{made}
@@ -117,6 +117,9 @@ raw_words = record {
       (cases_eq (a + i) 193);
 }
 
+pub counts : Counts size none (λ a. Raw) heap
+counts = record { counts = λ a count st w e. absurd (cc) }
+
 -- ---- records and copies
 
 pub laid : Laid flipped_era 256 512 size
@@ -203,7 +206,7 @@ pub new_area : NewArea 512 512 1 size heap page
 new_area = record {
   opened = λ a x st l e f m. absurd (omega arith);
   prior = λ b st l e n. absurd (omega arith);
-  blank = λ x l e o free. absurd (omega arith);
+  blank = λ x l e w o free. absurd (omega arith);
 }
 
 pub new_written : NewWritten flipped_era 512 size none
@@ -213,7 +216,7 @@ old_area : NewArea 192 256 0 size heap page
 old_area = record {
   opened = λ a x st l e f m. let q : x / 64 ≡ 3 = omega (arith, only a st) in rw q page_3;
   prior = λ b st l e n. let o = only b st in absurd (n (rw (o.0) refl));
-  blank = λ x l e o free. blank_word x (omega (arith, free 192 (omega arith)));
+  blank = λ x l e w o free. blank_word x (omega (arith, free 192 (omega arith)));
 }
 
 pub old_space : OldSpace flipped_era 1 0 192 size heap page

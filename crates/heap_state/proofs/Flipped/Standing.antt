@@ -23,7 +23,7 @@ use Rattle.heap_state.specs.Meaning.Values.{value_of, ShowsAll, Accounts, Regist
 use Rattle.heap_state.specs.Memory.Walk.{walk, old_walk_of}
 use Rattle.heap_state.specs.Examples.Worked.{made}
 use Rattle.heap_state.specs.Worker.{Worker}
-use Rattle.heap_state.proofs.Flipped.Parts.{flipped_table, flipped_era, flipped_ghost, workers, heap, page, size, none, identity, only, blank_word, zero_word, first_register, number_lands, pointer_lands, counted, staffed, laid, headed, copied, once, kept_by, room, raw_words, shut, filling, tracing, aged, scanned, opened, landing, older, new_area, new_written, old_space, old_words, old_pages, crossing, stocks, numbered}
+use Rattle.heap_state.proofs.Flipped.Parts.{flipped_table, flipped_era, flipped_ghost, workers, heap, page, size, none, identity, only, blank_word, zero_word, first_register, number_lands, pointer_lands, counted, staffed, laid, headed, copied, once, kept_by, room, raw_words, counts, shut, filling, tracing, aged, scanned, opened, landing, older, new_area, new_written, old_space, old_words, old_pages, crossing, stocks, numbered}
 use Rattle.heap_state.proofs.Workers.Idle.{idle_knows}
 use Rattle.heap_state.proofs.Holds.Keeping.{holds}
 use Rattle.heap_state.proofs.Puts.{none≢some, true_false}
@@ -66,7 +66,7 @@ knows (suc k) l = absurd (omega arith)
 
 keeps : Invariant (era_of flipped_table) (memory_of flipped_table) (team flipped) flipped_ghost
 unfolding put
-keeps = assumption (counted, staffed, laid, headed, copied, once, kept_by, room, raw_words, shut, filling, tracing, aged, scanned, opened, landing, older, new_area, new_written, old_space, old_words, old_pages, crossing, stocks, numbered, knows)
+keeps = assumption (counted, staffed, laid, headed, copied, once, kept_by, room, raw_words, counts, shut, filling, tracing, aged, scanned, opened, landing, older, new_area, new_written, old_space, old_words, old_pages, crossing, stocks, numbered, knows)
 
 -- ---- the plain state
 
@@ -84,6 +84,7 @@ objects = record {
           (λ (q : x ≡ 0). rw q refl)
           (λ (n : x ≢ 0). let q : x ≡ 1 = omega arith in rw q refl)
           (cases_eq x 0);
+      count = tt;
     },
   );
 }

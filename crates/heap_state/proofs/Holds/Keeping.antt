@@ -206,7 +206,8 @@ module _ (c : Configuration) (g : Ghost) (inv : Invariant (era c) (memory c) (te
     walked = λ w h. let i = now_sound c g inv w h in let l = inv.laid.lies w.at (omega (arith, i.sized)) in ⊎_elim (λ a. inl (omega (arith, a))) (λ a. inr a) (apart w i l);
     above = λ k q l e n. (inv.stocks.stocked k l q e n).lies.0;
     apart = λ j k p q l n d e f a b. inv.stocks.apart j k l n d p q e f a b;
-    zeros = λ k q x l e n a b. let s = inv.stocks.stocked k l q e n in s.zeros x a (below q x s a b);
+    zeros = λ k q x l e n a b u. let s = inv.stocks.stocked k l q e n in s.zeros x a (below q x s a b) u;
+    ahead = λ k q i w l e n. (inv.stocks.stocked k l q e n).ahead i w;
   }
     where
       -- pages are opened when all words are 0

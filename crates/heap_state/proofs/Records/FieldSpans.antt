@@ -1,8 +1,8 @@
 -- Where the fields of a record lie, and that a scan passes over none.
-use Rattle.std.proofs.Common.{◌≡◌, ℕ, ◌+◌, ◌-◌, ◌<◌, ◌≤◌, ◌↔◌, max, true, refl, arith, lt-ltb, le-ltb, ⊎_elim}
-use Rattle.std.proofs.lemmas.Bool.{cases_lt}
+use Rattle.std.proofs.Common.{◌≡◌, ℕ, ◌+◌, ◌-◌, ◌<◌, ◌≤◌, ◌↔◌, max, true, nat_le, nat_lt, refl, arith, lt-ltb, le-ltb, ⊎_elim}
+use Rattle.std.proofs.lemmas.Bool.{and_parts, cases_lt, le-leb, leb-true, ltb-true}
 use Rattle.plain_state.specs.declared.kind.Kind.{Kind}
-use Rattle.plain_state.specs.declared.kind.Kind.TheVariants.{Fields, Raw}
+use Rattle.plain_state.specs.declared.kind.Kind.TheVariants.{Fields, Raw, Mixed}
 use Rattle.plain_state.specs.Layout.{is_field}
 use Rattle.heap_state.specs.Memory.FieldSpan.{first_field, fields_end, next_scanned, entry_of}
 use Rattle.heap_state.specs.Worker.{SeenRecord}
@@ -11,13 +11,18 @@ use Rattle.heap_state.specs.Worker.{SeenRecord}
 pub field-span : (k : Kind) (i size : ℕ) → 0 < i → i < size → (is_field k i ≡ true) ↔ ((first_field k ≤ i) × (i < fields_end k size))
 field-span Fields i size f l = (λ _. (omega arith, l), λ _. refl)
 field-span Raw i size f l = (λ e. absurd (cc), λ o. absurd (omega (arith, o)))
+field-span (Mixed count) i size f l = (
+  λ e. let p = and_parts (nat_le 2 i) (nat_lt i (count + 2)) e in (leb-true 2 i p.0, ltb-true i (count + 2) p.1),
+  λ o. rw (le-leb 2 i o.0, lt-ltb i (count + 2) o.1) refl,
+)
 
 -- no field is a record's first word, and none lies behind the record
-pub span-within : (k : Kind) (size : ℕ) → 0 < size → (0 < first_field k) × (first_field k ≤ size) × (fields_end k size ≤ size)
-span-within Fields size s = (omega arith, omega arith, omega arith)
-span-within Raw size s = (omega arith, omega arith, omega arith)
+pub span-within : (k : Kind) (size : ℕ) → 0 < size → ((count : ℕ) → k ≡ Mixed count → count + 2 ≤ size) → (0 < first_field k) × (first_field k ≤ size) × (fields_end k size ≤ size)
+span-within Fields size s room = (omega arith, omega arith, omega arith)
+span-within Raw size s room = (omega arith, omega arith, omega arith)
+span-within (Mixed count) size s room = let r = room count refl in (omega arith, omega (arith, r), r)
 
-module _ (r : SeenRecord) (k : Kind) (size : ℕ) (some : 0 < size) (fields : r.fields_end ≡ r.at + fields_end k size) (whole : r.next ≡ r.at + size) where
+module _ (r : SeenRecord) (k : Kind) (size : ℕ) (fields : r.fields_end ≡ r.at + fields_end k size) (whole : r.next ≡ r.at + size) where
   -- a scan goes on not before y, and not behind the record
   pub next_within : (y : ℕ) → y ≤ r.next → (y ≤ next_scanned r y) × (next_scanned r y ≤ r.next)
   next_within y l = ⊎_elim
@@ -35,10 +40,9 @@ module _ (r : SeenRecord) (k : Kind) (size : ℕ) (some : 0 < size) (fields : r.
       (cases_lt y r.fields_end)
 
   -- it enters a record behind the header and what is before its fields
-  pub enters_within : (y : ℕ) → y ≤ r.next → (y ≤ entry_of r k y) × (r.at + first_field k ≤ entry_of r k y) × (entry_of r k y ≤ r.next)
-  enters_within y l =
-      let w = span-within k size some in
-      let q = next_within (max y (r.at + first_field k)) (omega (arith, w)) in
+  pub enters_within : first_field k ≤ size → (y : ℕ) → y ≤ r.next → (y ≤ entry_of r k y) × (r.at + first_field k ≤ entry_of r k y) × (entry_of r k y ≤ r.next)
+  enters_within first y l =
+      let q = next_within (max y (r.at + first_field k)) (omega arith) in
       (omega (arith, q), omega (arith, q), q.1)
 
   -- and what it passes over then is no field

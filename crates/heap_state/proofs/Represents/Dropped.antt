@@ -52,6 +52,7 @@ module _ (c : Configuration) (g : Ghost) (inv : Invariant (era c) (memory c) (te
       stands = omega (arith, z, s);
       written = a.written;
       inside = a.inside;
+      first = a.first;
       word = (let i = a.word in (i.0, omega (arith, i, z)));
       role = a.role;
     }
@@ -87,6 +88,7 @@ module _ (c : Configuration) (g : Ghost) (inv : Invariant (era c) (memory c) (te
     kept = drop.keepers c g inv traced;
     room = drop.room c g inv traced;
     raw_words = drop.raw_words c g inv traced;
+    counts = drop.counts c g inv traced;
     shut = drop.shut c g inv traced;
     filling = inv.filling;
     tracing = inv.tracing;

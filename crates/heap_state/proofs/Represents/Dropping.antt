@@ -11,13 +11,14 @@ use Rattle.heap_state.specs.Invariant.Parts.Crossing.{Crossing}
 use Rattle.heap_state.specs.Invariant.Parts.Leading.{Opened, Landing, Older}
 use Rattle.heap_state.specs.Invariant.Parts.OldSpace.{OldSpace}
 use Rattle.heap_state.specs.Invariant.Parts.Pages.{Shut}
-use Rattle.heap_state.specs.Invariant.Parts.Records.{Laid, Headed, NewArea, NewWritten, RawWords}
+use Rattle.heap_state.specs.Invariant.Parts.Records.{Laid, Headed, NewArea, NewWritten, RawWords, Counts}
 use Rattle.heap_state.specs.Invariant.Parts.Stocks.{Stocks, Stocked, Numbered}
 use Rattle.heap_state.specs.Worker.{Stock}
 use Rattle.heap_state.proofs.Holds.Still.{nobody_writes}
 use Rattle.heap_state.proofs.Records.Holding.{uncopied_here}
 use Rattle.heap_state.proofs.Represents.Denoting.{none_leads}
 use Rattle.heap_state.proofs.Walks.InHeap.{lay}
+use Rattle.heap_state.proofs.Walks.WalkPlaces.{comes_to_fewer}
 
 -- the sizes of the records of the epoch's space alone
 abbrev pub only_now : Era → (ℕ → ℕ) → ℕ → ℕ
@@ -130,6 +131,9 @@ module _ (c : Configuration) (g : Ghost) (inv : Invariant (era c) (memory c) (te
   pub raw_words : RawWords h.size h.writer h.kind m.heap
   raw_words = record { raw = λ a i st w l n f. let u = was a st in inv.raw_words.raw a i u.0 w l (omega (arith, n, u.3)) f }
 
+  pub counts : Counts h.size h.writer h.kind m.heap
+  counts = record { counts = λ a count st w e. let u = was a st in let n = inv.counts.counts a count u.0 w e in (n.0, omega (arith, n.1, u.3)) }
+
   -- ---- pages and spaces
 
   pub shut : Shut E m.front m.low h.size h.writer m.page
@@ -156,7 +160,7 @@ module _ (c : Configuration) (g : Ghost) (inv : Invariant (era c) (memory c) (te
   new = record {
     opened = λ a x st l n b p. let u = was a st in inv.new.opened a x u.0 l n b (omega (arith, p, u.3));
     prior = λ b st l n d. let u = was b st in let p = inv.new.prior b u.0 l n d in let e = ends_here p.0 b p.1 p.2 l (omega (arith, n)) d in (p.0, e.0, e.1);
-    blank = λ x l n q free. inv.new.blank x l n q (free_before x l n free);
+    blank = λ x l n w q free. inv.new.blank x l n (comes_to_fewer (λ a st. let u = was a st in (u.0, u.3)) x w) q (free_before x l n free);
   }
 
   pub new_written : NewWritten E m.low h.size h.writer
@@ -206,6 +210,9 @@ module _ (c : Configuration) (g : Ghost) (inv : Invariant (era c) (memory c) (te
     aligned = s.aligned;
     empty = λ a st. let u = was a st in rw u.3 (s.empty a u.0);
     zeros = s.zeros;
+    ahead = s.ahead;
+    fits = s.fits;
+    on_page = s.on_page;
     shut = s.shut;
     opens = s.opens;
     order = s.order;

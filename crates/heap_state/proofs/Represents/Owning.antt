@@ -14,7 +14,7 @@ use Rattle.heap_state.specs.Meaning.Represents.{IsOwn}
 use Rattle.heap_state.specs.Memory.Walk.{Walked}
 use Rattle.heap_state.proofs.Represents.Denoting.{header_of, Headers, Own, Forwarded, headers}
 use Rattle.heap_state.proofs.Walks.InHeap.{StandsWritten, in_heap_sound, now_sound}
-use Rattle.heap_state.proofs.Records.Headers.{said_kind-header_kind}
+use Rattle.heap_state.proofs.Records.Headers.{said_there}
 
 abbrev pub identity_at : ℕ → ℕ → Identity
 identity_at mutator serial = record { mutator = mutator; serial = serial }
@@ -47,7 +47,7 @@ module _ (c : Configuration) (g : Ghost) (inv : Invariant (era c) (memory c) (te
       by_headers known (Own e h) =
           let q : header_of c g inv w.at ≡ HeaderWord is.head len serial mutator = sym e ∙ is.header in
           let d : is.head ≡ header_kind (g.kind w.at) = cc in
-          let k : kind ≡ g.kind w.at = is.said ∙ ap (λ y. said_kind y (m.heap (w.at + 1))) d ∙ said_kind-header_kind (g.kind w.at) (m.heap (w.at + 1)) in
+          let k : kind ≡ g.kind w.at = is.said ∙ ap (λ y. said_kind y (m.heap (w.at + 1))) d ∙ said_there g.size g.writer g.kind m.heap inv.raw_words inv.counts w.at (omega (arith, known.sized)) known.written in
           let l : g.size w.at - 1 ≡ len = cc in
           let s : serial ≡ (g.identity w.at).serial = cc in
           let o : mutator ≡ (g.identity w.at).mutator = cc in

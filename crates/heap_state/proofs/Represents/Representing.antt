@@ -1,12 +1,12 @@
 -- A configuration that keeps the invariant and shows a plain state represents it.
-use Rattle.std.proofs.Common.{◌≡◌, ℕ, ◌+◌, ◌-◌, ◌<◌, true, Some, None, refl, sym, ap, ◌∙◌, arith, ⊎_elim, ◌⊎◌, inl}
+use Rattle.std.proofs.Common.{◌≡◌, ℕ, ◌+◌, ◌-◌, ◌<◌, true, Some, None, refl, sym, ap, ◌∙◌, subst, arith, ⊎_elim, ◌⊎◌, inl}
 use Rattle.std.specs.List.{Contains}
 use Rattle.std.specs.Prelude.{slice_get}
 use Rattle.std.proofs.lemmas.Bool.{lt-ltb}
 use Rattle.std.proofs.lemmas.Option.{slice_get_within}
 use Rattle.plain_state.specs.declared.kind.Kind.{Kind}
 use Rattle.plain_state.specs.State as plain
-use Rattle.plain_state.specs.Layout.{is_raw, word_of_value}
+use Rattle.plain_state.specs.Layout.{word_of_value}
 use Rattle.heap_state.specs.Configuration.{Configuration, table, era, memory, team}
 use Rattle.heap_state.specs.Meaning.Denotes.{denoted}
 use Rattle.heap_state.specs.Memory.Era.{Era, Memory}
@@ -21,7 +21,8 @@ use Rattle.heap_state.proofs.Represents.Denoting.{denotes, reaches, field_lands,
 use Rattle.heap_state.proofs.Records.Holding.{uncopied_here}
 use Rattle.heap_state.proofs.Walks.InHeap.{in_heap_complete, lay, now_sound, now_read, old_readable}
 use Rattle.heap_state.proofs.Represents.Owning.{Owns, owns, field_of}
-use Rattle.heap_state.proofs.Records.Headers.{said_kind-header_kind}
+use Rattle.heap_state.proofs.Records.Headers.{said_there}
+use Rattle.heap_state.proofs.Records.Layouts.{value_within}
 
 module _ (c : Configuration) (g : Ghost) (inv : Invariant (era c) (memory c) (team c) g) (p : plain.Plain) (shown : Shown (era c) (memory c) (team c) g p) where
   abbrev E : Era
@@ -58,15 +59,18 @@ module _ (c : Configuration) (g : Ghost) (inv : Invariant (era c) (memory c) (te
       (sym o.long, (s.0, ap (plain.record_of p.heap) o.named ∙ s.1, shows o s.0 s.2))
     where
       shows : Owns c g inv w kind len serial mutator → (r : plain.Record) → Shows (value_of g.identity) m.heap w.at (g.kind w.at) (g.size w.at) r → Shows (denoted c) m.heap w.at kind w.size r
-      shows o r s = record {
-        kind = rw o.of_kind s.kind;
-        size = s.size ∙ o.known.sized.1;
-        fields = λ x l f.
-            let z = s.size in
-            let q = field_of c g inv w kind len serial mutator (word_of_value kind x) o (omega arith) (omega (arith, l, z, o.known.sized)) f in
-            denotes c g inv (m.heap (w.at + word_of_value kind x)) (field_lands c g inv w.at (word_of_value kind x) q o.known.inside).0 ∙ s.fields x l q.field;
-        numbers = λ x l f. s.numbers x l (ap (λ k. is_raw k (word_of_value k x)) (sym o.of_kind) ∙ f);
-      }
+      shows o r shown =
+          let s : Shows (value_of g.identity) m.heap w.at kind (g.size w.at) r = subst (λ k. Shows (value_of g.identity) m.heap w.at k (g.size w.at) r) (sym o.of_kind) shown in
+          record {
+            kind = s.kind;
+            size = s.size ∙ o.known.sized.1;
+            fields = λ x l f.
+                let v = value_within r s x l in
+                let q = field_of c g inv w kind len serial mutator (word_of_value kind x) o v.0 (omega (arith, v.1, o.known.sized)) f in
+                denotes c g inv (m.heap (w.at + word_of_value kind x)) (field_lands c g inv w.at (word_of_value kind x) q o.known.inside).0 ∙ s.fields x l f;
+            numbers = s.numbers;
+            count = s.count;
+          }
 
   -- in the epoch's space each record has its own header
   each_owns : (w : Walked) → Contains (walk_of c) w → HasOwn (dump_of c) w
@@ -74,7 +78,7 @@ module _ (c : Configuration) (g : Ghost) (inv : Invariant (era c) (memory c) (te
       let i = now_sound c g inv w h in
       let st : 0 < g.size w.at = omega (arith, i.sized) in
       let u = uncopied_here E m (team c) g inv (lay c g inv) w.at st i.inside.0 i.inside.1 in
-      record { kind = g.kind w.at; len = g.size w.at - 1; serial = (g.identity w.at).serial; mutator = (g.identity w.at).mutator; own = record { walked = inl h; head = header_kind (g.kind w.at); header = rw (inv.headed.own w.at st i.written u.0 u.1) refl; said = sym (said_kind-header_kind (g.kind w.at) (m.heap (w.at + 1))) } }
+      record { kind = g.kind w.at; len = g.size w.at - 1; serial = (g.identity w.at).serial; mutator = (g.identity w.at).mutator; own = record { walked = inl h; head = header_kind (g.kind w.at); header = rw (inv.headed.own w.at st i.written u.0 u.1) refl; said = sym (said_there g.size g.writer g.kind m.heap inv.raw_words inv.counts w.at st i.written) } }
 
   -- ---- where words lead
 

@@ -14,7 +14,8 @@ use Rattle.heap_state.specs.Invariant.Inductive.{Invariant}
 use Rattle.heap_state.specs.Meaning.Represents.{IsOwn, Represents}
 use Rattle.heap_state.specs.Meaning.Values.{value_of, Shows, BoardShows, RegistersShow, Shown}
 use Rattle.heap_state.specs.Worker.{is_mutator}
-use Rattle.heap_state.proofs.Records.Headers.{said_kind-header_kind}
+use Rattle.heap_state.proofs.Records.Headers.{said_there}
+use Rattle.heap_state.proofs.Records.Layouts.{value_within}
 use Rattle.heap_state.proofs.Represents.Denoting.{Headers, Own, Forwarded, headers, denotes, field_lands, board_lands}
 use Rattle.heap_state.proofs.Walks.InHeap.{IsInReach, in_heap_complete}
 use Rattle.heap_state.proofs.Walks.Walking.{item}
@@ -40,10 +41,11 @@ module _ (c : Configuration) (g : Ghost) (inv : Invariant (era c) (memory c) (te
         kind = s.kind;
         size = s.size;
         fields = λ x l f.
-            let z = s.size in
-            let i : IsField g.size g.writer g.kind a (word_of_value (g.kind a) x) = record { stands = st; written = w; field = f; first = omega arith; last = omega (arith, l, z) } in
+            let v = value_within r s x l in
+            let i : IsField g.size g.writer g.kind a (word_of_value (g.kind a) x) = record { stands = st; written = w; field = f; first = v.0; last = v.1 } in
             sym (denotes c g inv (m.heap (a + word_of_value (g.kind a) x)) (field_lands c g inv a (word_of_value (g.kind a) x) i (in_reach a st)).0) ∙ s.fields x l f;
         numbers = s.numbers;
+        count = s.count;
       }
 
       by_headers : Headers c g inv a → ShowsIt a
@@ -51,7 +53,7 @@ module _ (c : Configuration) (g : Ghost) (inv : Invariant (era c) (memory c) (te
       by_headers (Own e n) =
           let i = in_heap_complete c g inv a st w (in_reach a st) in
           let is : IsOwn (dump_of c) (item a (g.size a)) (g.kind a) (g.size a - 1) (g.identity a).serial (g.identity a).mutator =
-          record { walked = i; head = header_kind (g.kind a); header = e; said = sym (said_kind-header_kind (g.kind a) (m.heap (a + 1))) } in
+          record { walked = i; head = header_kind (g.kind a); header = e; said = sym (said_there g.size g.writer g.kind m.heap inv.raw_words inv.counts a st w) } in
           let s = ((represents.dump.records (item a (g.size a)) i).shows (g.kind a) (g.size a - 1) (g.identity a).serial (g.identity a).mutator is).1 in
           (s.0, s.1, shows s.0 s.2)
 

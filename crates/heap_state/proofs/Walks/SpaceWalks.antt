@@ -4,7 +4,7 @@ use Rattle.std.proofs.lemmas.Bool.{cases_eq, cases_lt, cases_Bool, lt-ltb, eq-eq
 use Rattle.heap_words.specs.Decoded.{NumberWord, decode}
 use Rattle.space_map.specs.declared.page_word.PageWord.{PageWord}
 use Rattle.space_map.specs.declared.page_word.PageWord.TheVariants.{Unset, Open, Scanning}
-use Rattle.heap_state.specs.Invariant.Parts.Records.{SpaceOf}
+use Rattle.heap_state.specs.Invariant.Parts.Records.{SpaceOf, WalkComesTo}
 use Rattle.heap_state.specs.Memory.Walk.{Nothing, Reserved, Record, Broken, met_word, meets, next_place, is_protected}
 use Rattle.heap_state.proofs.Walks.Walking.{MetAt, Part}
 use Rattle.heap_words.specs.Word.{tag_of}
@@ -49,6 +49,10 @@ TellsReserved start front size writer reserved = (a : ℕ) → start ≤ a → a
 -- no record reaches past the place
 abbrev pub IsClear : (ℕ → ℕ) → ℕ → Type 0
 IsClear size at = (a : ℕ) → 0 < size a → a < at → a + size a ≤ at
+
+-- a walk from LOW up is at a place that it comes to, and clear
+abbrev pub OnWalk : (ℕ → ℕ) → ℕ → Type 0
+OnWalk size at = IsClear size at × WalkComesTo size at
 
 -- a walk below FRONT is at its end or at a record
 abbrev pub OnRecord : (front : ℕ) (size : ℕ → ℕ) → ℕ → Type 0
@@ -153,35 +157,38 @@ module _ (start front low end epoch : ℕ) (size writer heap : ℕ → ℕ) (pag
       (cases_eq a at))
       (cases_lt a at)
 
-  meets_new : (at : ℕ) → low ≤ at → at < end → IsClear size at
-      → MetAt end size writer at (meets closed unreserved heap end at) × IsClear size (next_place end at (meets closed unreserved heap end at))
-  meets_new at f l clear = ⊎_elim
+  meets_new : (at : ℕ) → low ≤ at → at < end → IsClear size at → WalkComesTo size at
+      → MetAt end size writer at (meets closed unreserved heap end at) × OnWalk size (next_place end at (meets closed unreserved heap end at))
+  meets_new at f l clear comes = ⊎_elim
       (λ (c : is_protected epoch (page (at / 64)) ≡ true).
       let empty = λ (b : ℕ) (a : at ≤ b) (p : b < 64 * (at / 64 + 1)). none_closed at b f l (closed_page (at / 64) c) a p in
-      rw (meets_closed closed unreserved heap end at l c) (empty, clear_after at clear empty))
+      rw (meets_closed closed unreserved heap end at l c) (empty, (clear_after at clear empty, page_next)))
       (λ (c : is_protected epoch (page (at / 64)) ≡ false). ⊎_elim
       (λ (st : 0 < size at).
       let w = told.new_written at st f l in
-      rw (meets_record closed unreserved heap end at l (size at) c refl (told.says at st (omega (arith, told.space.order)) l w)) ((st, refl, w), clear_past at clear st))
+      rw (meets_record closed unreserved heap end at l (size at) c refl (told.says at st (omega (arith, told.space.order)) l w)) ((st, refl, w), (clear_past at clear st, inr (at, st, refl))))
       (λ (st : size at ≤ 0).
       let z : size at ≡ 0 = omega arith in
       let free : (a : ℕ) → 0 < size a → (at < a) ⊎ (a + size a ≤ at) = λ a sa. beside a sa z in
-      let blank = told.space.new.blank at f l (open_page (at / 64) c) free in
+      let blank = told.space.new.blank at f l comes (open_page (at / 64) c) free in
       let empty = λ (b : ℕ) (a : at ≤ b) (p : b < 64 * (at / 64 + 1)). none_blank (b - at) at b f l clear z (omega arith) a p in
-      rw (meets_blank closed unreserved heap end at l c refl blank) (empty, clear_after at clear empty))
+      rw (meets_blank closed unreserved heap end at l c refl blank) (empty, (clear_after at clear empty, page_next)))
       (cases_lt 0 (size at)))
       (cases_Bool (is_protected epoch (page (at / 64))))
     where
+      page_next : WalkComesTo size (64 * (at / 64 + 1))
+      page_next = inl (omega arith)
+
       beside : (a : ℕ) → 0 < size a → size at ≡ 0 → (at < a) ⊎ (a + size a ≤ at)
       beside a sa z = ⊎_elim
           (λ (c : a < at). inr (clear a sa c))
           (λ (c : at ≤ a). ⊎_elim (λ (e : a ≡ at). absurd (let q : size a ≡ size at = ap size e in omega arith)) (λ (d : a ≢ at). inl (omega arith)) (cases_eq a at))
           (cases_lt a at)
 
-  pub new_part : Part closed unreserved heap low end size writer (IsClear size)
+  pub new_part : Part closed unreserved heap low end size writer (OnWalk size)
   new_part = record {
     apart = told.apart;
     within = λ a st f l. let q = told.space.lies a st (omega (arith, told.space.order)) l in omega (arith, q, told.space.order);
-    stands = λ at f l o. (meets_new at f l o).0;
-    on = λ at f l o. (meets_new at f l o).1;
+    stands = λ at f l o. (meets_new at f l o.0 o.1).0;
+    on = λ at f l o. (meets_new at f l o.0 o.1).1;
   }

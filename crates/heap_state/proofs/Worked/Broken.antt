@@ -109,6 +109,7 @@ one_value (v ∷ values) e = (v, refl)
 pub wrong : (p : plain.Plain) → ¬ (Represents forwarded_wrong p)
 wrong p represents =
     let r = ((represents.dump.records (record { at = 195; size = 2 }) own_second.walked).shows Fields 1 2 0 own_second).1 in
-    let v = one_value r.0.values r.2.size in
-    let shown : denoted forwarded_wrong ((table forwarded_wrong).heap 196) ≡ slice_get r.0.values 0 = (let z = r.2.size in r.2.fields 0 (omega (arith, z)) refl) in
+    let size : length r.0.values + 1 ≡ 2 = rw r.2.kind at r.2.size in
+    let v = one_value r.0.values size in
+    let shown : denoted forwarded_wrong ((table forwarded_wrong).heap 196) ≡ slice_get r.0.values 0 = r.2.fields 0 (omega (arith, size)) refl in
     none≢some (sym denotes_nothing ∙ (shown ∙ v.1))

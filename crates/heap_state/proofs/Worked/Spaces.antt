@@ -1,5 +1,5 @@
 -- The worked configuration keeps the parts about spaces, the gate and claimed words.
-use Rattle.std.proofs.Common.{◌≡◌, ◌≢◌, ℕ, ◌+◌, ◌*◌, ◌/◌, ◌%◌, ◌<◌, ◌≤◌, Some, zero, suc, refl, sym, ◌∙◌, arith, ⊎_elim, ◌⊎◌, inl, inr}
+use Rattle.std.proofs.Common.{◌≡◌, ◌≢◌, ℕ, ◌+◌, ◌*◌, ◌/◌, ◌%◌, ◌<◌, ◌≤◌, Some, [], zero, suc, refl, sym, ◌∙◌, arith, ⊎_elim, ◌⊎◌, inl, inr}
 use Rattle.std.proofs.lemmas.Bool.{cases_eq, ne_eqb}
 use Rattle.plain_state.specs.declared.kind.Kind.TheVariants.{Fields}
 use Rattle.heap_words.specs.Decoded.{PointerWord, NumberWord, decode}
@@ -54,7 +54,7 @@ pub new_area : NewArea 320 512 1 size heap page
 new_area = record {
   opened = λ a x st l e f m. absurd (omega (arith, sizes a st, l));
   prior = λ b st l e n. absurd (omega (arith, sizes b st, l));
-  blank = λ x l e o free. blank_word x (λ q. omega arith) (omega arith);
+  blank = λ x l e w o free. blank_word x (λ q. omega arith) (omega arith);
 }
 
 old_word : (x : ℕ) → 197 ≤ x → x < 256 → heap x ≡ 0
@@ -76,7 +76,7 @@ old_area : NewArea 192 256 0 size heap page
 old_area = record {
   opened = λ a x st l e f m. let q : x / 64 ≡ 3 = omega (arith, sizes a st) in rw q page_3;
   prior = λ b st l e n. prior b (sizes b st) e n;
-  blank = λ x l e o free. old_word x (omega (arith, free 192 (omega arith), free 195 (omega arith))) e;
+  blank = λ x l e w o free. old_word x (omega (arith, free 192 (omega arith), free 195 (omega arith))) e;
 }
   where
     prior : (b : ℕ) → Sizes b → b < 256 → b % 64 ≢ 0 → (a : ℕ) × (0 < size a) × (a + size a ≡ b)
@@ -131,7 +131,7 @@ run_opens x l m = ⊎_elim
     (cases_eq (x / 64) 5)
 
 abbrev pub worked_run : Stock
-worked_run = record { epoch = 1; at = 320; end = 512; zeroed = 512; opened = 512 }
+worked_run = record { epoch = 1; at = 320; end = 512; zeroed = 512; opened = 512; ahead = [] }
 
 run : Stocked worked_era 320 size heap page worked_run
 run = record {
@@ -139,12 +139,15 @@ run = record {
   so_far = (omega arith, omega arith, omega arith);
   aligned = (refl, refl);
   empty = λ a st. inl (omega (arith, sizes a st));
-  zeros = λ x l m. blank_word x (λ q. omega arith) (omega arith);
+  zeros = λ x l m n. blank_word x (λ q. omega arith) (omega arith);
+  ahead = λ i w e. none≢some e;
+  fits = λ l. absurd (omega arith);
   shut = λ p l m. absurd (omega arith);
   opens = run_opens;
   order = inr refl;
   whole = (omega arith, inl refl);
   after = inl refl;
+  on_page = inl refl;
 }
 
 pub stocks : Stocks worked_era 320 2 size heap page workers.worker

@@ -12,7 +12,7 @@ use Rattle.heap_state.specs.Memory.Entries.{EachFits}
 use Rattle.heap_state.specs.Memory.Era.{era_of, memory_of}
 use Rattle.heap_state.specs.Functions.{put}
 use Rattle.heap_state.specs.Invariant.Inductive.{Invariant}
-use Rattle.heap_state.specs.Invariant.Parts.Records.{RawWords}
+use Rattle.heap_state.specs.Invariant.Parts.Records.{RawWords, Counts}
 use Rattle.heap_state.specs.Meaning.Values.{value_of, Shows, ShowsAll, Accounts, RegistersShow, BoardShows, Shown}
 use Rattle.heap_state.specs.Examples.Worked.{worked, worked_entries, worked_plain, worked_mutator, made, zeros_after}
 use Rattle.heap_words.specs.Word.{pointer_word}
@@ -34,9 +34,12 @@ knows (suc (suc k)) l = absurd (omega arith)
 raw_words : RawWords size writer (λ a. Fields) heap
 raw_words = record { raw = λ a i st w b l f. absurd (cc) }
 
+counts : Counts size writer (λ a. Fields) heap
+counts = record { counts = λ a count st w e. absurd (cc) }
+
 pub keeps : Invariant (era_of worked_table) (memory_of worked_table) (team worked) worked_ghost
 unfolding put
-keeps = assumption (counted, staffed, laid, headed, copied, once, kept_by, room, raw_words, shut, filling, tracing, aged, scanned, opened, landing, older, new_area, new_written, old_space, old_area, old_pages, crossing, stocks, numbered, knows)
+keeps = assumption (counted, staffed, laid, headed, copied, once, kept_by, room, raw_words, counts, shut, filling, tracing, aged, scanned, opened, landing, older, new_area, new_written, old_space, old_area, old_pages, crossing, stocks, numbered, knows)
 
 -- ---- the plain state
 
@@ -66,6 +69,7 @@ objects = record {
           size = refl;
           fields = λ x l f. let q : x ≡ 0 = omega arith in rw q (pointer_value identity (heap 196) 192 word_196);
           numbers = λ x l f. absurd (cc);
+          count = tt;
         },
       ))
       (λ w o. (
@@ -79,6 +83,7 @@ objects = record {
               (λ (n : x ≢ 0). let q : x ≡ 1 = omega arith in rw q (pointer_value identity (heap 258) 195 word_258))
               (cases_eq x 0);
           numbers = λ x l f. absurd (cc);
+          count = tt;
         },
       ))
       (λ w o. absurd (omega (arith, w)));

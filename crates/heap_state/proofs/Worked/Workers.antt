@@ -1,5 +1,5 @@
 -- The workers of the worked configuration know what they should.
-use Rattle.std.proofs.Common.{◌≡◌, ◌≢◌, ℕ, ◌+◌, ◌/◌, ◌<◌, ◌≤◌, true, false, Some, None, refl, sym, arith, ⊎_elim, inl, inr}
+use Rattle.std.proofs.Common.{◌≡◌, ◌≢◌, ℕ, ◌+◌, ◌/◌, ◌<◌, ◌≤◌, true, false, Some, None, [], refl, sym, arith, ⊎_elim, inl, inr}
 use Rattle.std.proofs.lemmas.Bool.{cases_eq, ne_eqb}
 use Rattle.plain_state.specs.declared.kind.Kind.TheVariants.{Fields}
 use Rattle.heap_words.specs.Decoded.{PointerWord, NumberWord, decode}
@@ -51,7 +51,7 @@ mutator_knows = idle_knows worked_mutator refl
     (record { past = omega arith; live = λ l. inl refl; running = λ r. refl; flipping = λ f. true_false refl f; rest = λ r. refl; below = omega arith })
     (record { stays = λ e. true_false refl e; gone = λ e. true_false refl e })
     (λ e. absurd (cc))
-    (λ q e. let s : record { epoch = 1; at = 320; end = 512; zeroed = 512; opened = 512 } ≡ q = some_same e in rw (← s) refl)
+    (λ q e. let s : record { epoch = 1; at = 320; end = 512; zeroed = 512; opened = 512; ahead = [] } ≡ q = some_same e in rw (← s) refl)
     (λ m n. clean)
     (λ e. true_false refl e)
     refl
@@ -62,7 +62,7 @@ abbrev pub the_copy : Copy
 the_copy = record { header = header_word (header_kind Fields) 1 2 0; from = 195; to = 259; size = 2; done = 1; word = None; aimed = true; announced = true; reserved = true; crossed = 0 }
 
 abbrev pub the_scan : Scan
-the_scan = record { page = 4; cursor = 258; in_place = true; over = None; current = Some (record { at = 256; fields_end = 259; next = 259 }); inner = false; ended = false }
+the_scan = record { page = 4; cursor = 258; in_place = true; over = None; headed = None; current = Some (record { at = 256; fields_end = 259; next = 259 }); inner = false; ended = false }
 
 abbrev pub the_quest : Quest
 the_quest = record { old = 195; origin = Scanned 258; found = None }
@@ -111,6 +111,7 @@ scans = record {
 stepping : Stepping worked_era 261 size writer (λ a. Fields) the_scan
 stepping = record {
   over = λ a e. none≢some e;
+  headed = λ h e. none≢some e;
   current = λ r e. let s : record { at = 256; fields_end = 259; next = 259 } ≡ r = some_same e in
       rw (← s) (record { stands = omega arith; written = refl; fields = refl; whole = refl; inside = (omega arith, omega arith); entered = omega arith; cursor = omega arith });
   begun = omega arith;

@@ -60,7 +60,7 @@ worked_mutator = record (fresh Running) {
   epoch = 1;
   account = record { counter = 12; printed = 7 ∷ []; executed = 20; serial = 2; end = None };
   registers = λ r. if r == 0 then pointer_word 256 else 0;
-  stock = Some (record { epoch = 1; at = 320; end = 512; zeroed = 512; opened = 512 });
+  stock = Some (record { epoch = 1; at = 320; end = 512; zeroed = 512; opened = 512; ahead = [] });
 }
 
 -- scanner 1 copies the second record, for the field at 258
@@ -69,7 +69,7 @@ worked_scanner = record (fresh Scanner) {
   epoch = 1;
   quest = Some (record { old = 195; origin = Scanned 258; found = None });
   copy = Some (record { header = header_word heap_kind.Fields 1 2 0; from = 195; to = 259; size = 2; done = 1; word = None; aimed = true; announced = true; reserved = true; crossed = 0 });
-  scan = Some (record { page = 4; cursor = 258; in_place = true; over = None; current = Some (record { at = 256; fields_end = 259; next = 259 }); inner = false; ended = false });
+  scan = Some (record { page = 4; cursor = 258; in_place = true; over = None; headed = None; current = Some (record { at = 256; fields_end = 259; next = 259 }); inner = false; ended = false });
 }
 
 -- ---- the configurations

@@ -1,12 +1,12 @@
 -- What the proofs know of the heap beside its words: where records stand and what has become of them.
-use Rattle.std.specs.Prelude.{◌≡◌, ℕ, ◌+◌, ◌<◌, ◌≤◌, ◌⊎◌, true}
+use Rattle.std.specs.Prelude.{◌≡◌, ℕ, ◌+◌, ◌-◌, ◌<◌, ◌≤◌, ◌⊎◌, true}
 use Rattle.plain_state.specs.declared.kind.Kind.{Kind}
 use Rattle.heap_words.specs.declared.kind.Kind.{Kind as HeaderKind}
 use Rattle.heap_words.specs.declared.kind.Kind.TheVariants as header
-use Rattle.heap_words.specs.Decoded.{PointerWord, decode}
+use Rattle.heap_words.specs.Decoded.{Decoded, NumberWord, PointerWord, decode}
 use Rattle.plain_state.specs.declared.value.Identity.{Identity}
-use Rattle.plain_state.specs.declared.kind.Kind.TheVariants.{Fields, Raw}
-use Rattle.plain_state.specs.Layout.{is_field}
+use Rattle.plain_state.specs.declared.kind.Kind.TheVariants.{Fields, Raw, Mixed}
+use Rattle.plain_state.specs.Layout.{is_field, values_at}
 use Rattle.heap_state.specs.Memory.Era.{Era}
 
 -- By place: the size of the record or of the place reserved for one that begins there, or 0 where none does; the worker
@@ -28,11 +28,22 @@ pub record Ghost : Type 0 where
 abbrev pub header_kind : Kind → HeaderKind
 header_kind Fields = header.Fields
 header_kind Raw = header.Raw
+header_kind (Mixed count) = header.Mixed
+
+-- the count that word 1 of a mixed record says
+abbrev pub count_said : Decoded → ℕ
+count_said (NumberWord n) = n
+count_said _ = 0
+
+-- the length that the header of a record of this kind with so many values has: the words behind it
+abbrev pub header_len : Kind → (count : ℕ) → ℕ
+header_len kind count = count + (values_at kind - 1)
 
 -- the kind of a record whose header has this kind, and whose next word is this
 abbrev pub said_kind : HeaderKind → (next : ℕ) → Kind
 said_kind header.Fields next = Fields
 said_kind header.Raw next = Raw
+said_kind header.Mixed next = Mixed (count_said (decode next))
 
 -- the word is a pointer into the old space
 unfoldable pub Leads : Era → ℕ → Type 0

@@ -1,5 +1,5 @@
 -- The invariant of the collected heap, by its words and workers alone.
-use Rattle.std.specs.Prelude.{◌≡◌, ◌≢◌, ℕ, ◌+◌, ◌<◌, ◌≤◌, ◌⊎◌, true, false, Contains, Some, None}
+use Rattle.std.specs.Prelude.{◌≡◌, ◌≢◌, ℕ, ◌+◌, ◌<◌, ◌≤◌, ◌⊎◌, true, false, Contains, Some, None, slice_get}
 use Rattle.plain_state.specs.declared.kind.Kind.{Kind}
 use Rattle.heap_words.specs.Decoded.{HeaderWord, BusyWord, decode}
 use Rattle.heap_words.specs.declared.kind.Kind.{Kind as HeaderKind}
@@ -13,7 +13,7 @@ use Rattle.heap_state.specs.Kept.{kept_of}
 use Rattle.heap_state.specs.Meaning.Represents.{IsCopying, IsInHeap, IsOwn, IsFieldOf}
 use Rattle.heap_state.specs.Sums.{uncopied}
 use Rattle.heap_state.specs.Memory.Walk.{Walked, walk_of, old_walk_of, CrossingsHold}
-use Rattle.heap_state.specs.Worker.{Worker, Stopped, Stock, Copy, Scan, Claim, is_mutator, is_live, is_late}
+use Rattle.heap_state.specs.Worker.{Worker, Stopped, Stock, IsNotAhead, Copy, Scan, Claim, is_mutator, is_live, is_late}
 use Rattle.space_map.specs.Spaces.{page_of, first_word}
 use Rattle.space_map.specs.declared.spaces.TheConstants.{PAGE_WORDS}
 
@@ -119,14 +119,17 @@ pub record ClaimsHold (c : Configuration) : Type 0 where
 
 -- No walked record has a word between FRONT and LOW. The words that a mutator has claimed in this epoch for new records lie
 -- from LOW up, and no two mutators have one in common. From its place on these words are 0 as far as it has stored zeros, and
--- as far as it has opened their pages.
+-- as far as it has opened their pages, but for the words that it has stored ahead of a record's header, which are as it stored
+-- them.
 pub record FreeHolds (c : Configuration) : Type 0 where
   pub walked : (w : Walked) → Contains (walk_of c) w → (w.at + w.size ≤ (memory c).front) ⊎ ((memory c).low ≤ w.at)
   pub above : (k : ℕ) (q : Stock) → k < (team c).count → (worker_of c k).stock ≡ Some q → q.epoch ≡ (era c).epoch → (memory c).low ≤ q.at
   pub apart : (j k : ℕ) (p q : Stock) → j < (team c).count → k < (team c).count → j ≢ k → (worker_of c j).stock ≡ Some p → (worker_of c k).stock ≡ Some q
       → p.epoch ≡ (era c).epoch → q.epoch ≡ (era c).epoch → (p.end ≤ q.at) ⊎ (q.end ≤ p.at)
   pub zeros : (k : ℕ) (q : Stock) (x : ℕ) → k < (team c).count → (worker_of c k).stock ≡ Some q → q.epoch ≡ (era c).epoch → q.at ≤ x → (x < q.zeroed) ⊎ (x < q.opened)
-      → (memory c).heap x ≡ 0
+      → IsNotAhead q x → (memory c).heap x ≡ 0
+  pub ahead : (k : ℕ) (q : Stock) (i w : ℕ) → k < (team c).count → (worker_of c k).stock ≡ Some q → q.epoch ≡ (era c).epoch → slice_get q.ahead i ≡ Some w
+      → (memory c).heap (q.at + 1 + i) ≡ w
 
 -- the invariant
 pub record Holds (c : Configuration) : Type 0 where

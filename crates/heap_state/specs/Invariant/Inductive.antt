@@ -6,7 +6,7 @@ use Rattle.space_map.specs.declared.page_word.PageWord.TheVariants.{Open}
 use Rattle.heap_state.specs.Memory.Era.{Era, Memory}
 use Rattle.heap_state.specs.Invariant.Ghost.{Ghost}
 use Rattle.heap_state.specs.Worker.{Worker, Team, Outside, Stock, GateStep, Reset, Access, Quest, Copy, Scan, Round, Claim, Look, LastLook, is_mutator, is_running, is_flipper, is_late}
-use Rattle.heap_state.specs.Invariant.Parts.Records.{Laid, Headed, NewArea, NewWritten, RawWords}
+use Rattle.heap_state.specs.Invariant.Parts.Records.{Laid, Headed, NewArea, NewWritten, RawWords, Counts}
 use Rattle.heap_state.specs.Invariant.Parts.Copies.{Copied, Once, Keepers, Room}
 use Rattle.heap_state.specs.Invariant.Parts.Pages.{Shut, Filling, Tracing, Aged, OldPages, ScannedBy}
 use Rattle.heap_state.specs.Invariant.Parts.Leading.{Opened, Landing, Older}
@@ -61,6 +61,7 @@ pub record Invariant (E : Era) (m : Memory) (team : Team) (g : Ghost) : Type 0 w
   pub kept : Keepers g.size g.keeper team.count
   pub room : Room E m.traced m.front m.low m.owed g.size g.copy
   pub raw_words : RawWords g.size g.writer g.kind m.heap
+  pub counts : Counts g.size g.writer g.kind m.heap
   pub shut : Shut E m.front m.low g.size g.writer m.page
   pub filling : Filling E m.gate.behind m.front m.page
   pub tracing : Tracing E m.traced m.gate.behind m.front m.page

@@ -1,6 +1,9 @@
 -- What words stand for in the plain machine, by what the proofs know of the heap.
 use Rattle.std.specs.Prelude.{◌≡◌, ℕ, ◌+◌, ◌<◌, ◌⊎◌, true, length, Option, Some, None, slice_get}
+use Rattle.std.specs.Bool.{⊤}
 use Rattle.plain_state.specs.declared.kind.Kind.{Kind}
+use Rattle.plain_state.specs.declared.kind.Kind.TheVariants.{Mixed}
+use Rattle.heap_words.specs.Word.{number_word}
 use Rattle.heap_words.specs.Decoded.{Decoded, NumberWord, PointerWord, decode}
 use Rattle.plain_state.specs.declared.value.Identity.{Identity}
 use Rattle.plain_state.specs.declared.value.Value.{Value}
@@ -24,6 +27,11 @@ value_of identity w = value_said identity (decode w)
 
 -- ---- records
 
+-- a mixed record at a has the count of its fields in word 1
+abbrev pub CountShows : Kind → (heap : ℕ → ℕ) → (a : ℕ) → Type 0
+CountShows (Mixed count) heap a = heap (a + 1) ≡ number_word count
+CountShows _ heap a = ⊤
+
 -- The words at a show a record of this kind and size: each value that stands in a field is denoted there, and each other one
 -- is the number there.
 pub record Shows (denotes : ℕ → Option Value) (heap : ℕ → ℕ) (a : ℕ) (k : Kind) (z : ℕ) (r : plain.Record) : Type 0 where
@@ -31,6 +39,7 @@ pub record Shows (denotes : ℕ → Option Value) (heap : ℕ → ℕ) (a : ℕ)
   pub size : size_of r ≡ z
   pub fields : (x : ℕ) → x < length r.values → is_field k (word_of_value k x) ≡ true → denotes (heap (a + word_of_value k x)) ≡ slice_get r.values x
   pub numbers : (x : ℕ) → x < length r.values → is_raw k (word_of_value k x) ≡ true → Some (Number (heap (a + word_of_value k x))) ≡ slice_get r.values x
+  pub count : CountShows k heap a
 
 -- each record that nobody writes, and that has not been copied to the end, shows the plain record of its identity
 pub record ShowsAll (size writer copy keeper : ℕ → ℕ) (kind : ℕ → Kind) (identity : ℕ → Identity) (heap : ℕ → ℕ) (records : plain.Heap) : Type 0 where

@@ -1,18 +1,20 @@
 -- Where a mutator goes on that stopped or made a round: it has no more to pay than what it went back to was said to cost.
 use Rattle.std.proofs.Common.{ℕ, ◌+◌, ◌≤◌, Bool, true, false, cond, Option, Some, nat_le, sym, subst, arith}
+use Rattle.heap_words.specs.declared.kind.Kind.{Kind}
+use Rattle.heap_words.specs.declared.kind.Kind.TheVariants.{Fields, Raw, Mixed}
 use Rattle.record_layout.specs.declared.header.Header.{Header}
 use Rattle.space_map.specs.Spaces.{Layout}
-use Rattle.alloc_end.specs.declared.place_stage.PlaceStage.TheVariants.{LoadsTraced, StoresHeader}
+use Rattle.alloc_end.specs.declared.place_stage.PlaceStage.TheVariants.{LoadsTraced}
 use Rattle.alloc_end.specs.declared.place_stage.PlaceStage.{PlaceStage}
 use Rattle.alloc_end.specs.Place as place
 use Rattle.heap_state.specs.Memory.Table.{Table}
 use Rattle.gc_worker.specs.declared.access.access_stage.AccessStage.{AccessStage}
-use Rattle.gc_worker.specs.declared.access.access_stage.AccessStage.TheVariants.{SwapsBoard}
+use Rattle.gc_worker.specs.declared.access.access_stage.AccessStage.TheVariants.{ExchangesField, SwapsBoard}
 use Rattle.gc_worker.specs.declared.stage.back.Back.{Back}
 use Rattle.gc_worker.specs.declared.stage.back.Back.TheVariants.{ToAccess, ToPlace, ToScanner}
 use Rattle.gc_worker.specs.declared.stage.Stage.TheVariants.{Places}
 use Rattle.gc_worker.specs.Workers.Fits.{FitsTaskBack, IsMaking}
-use Rattle.gc_worker.specs.Workers.Held.{Held, at_stage, header_for, run_held}
+use Rattle.gc_worker.specs.Workers.Held.{Held, at_stage, fields_for, header_for, run_held}
 use Rattle.gc_worker.specs.Steps.Turned.{places, back_from}
 use Rattle.gc_worker.proofs.Plain.NewRecords.{header_made, header_is}
 use Rattle.lone_mutator.specs.Bound.{longest_placing}
@@ -29,14 +31,19 @@ module _ (n : ℕ) (t : Table) (x : Held) (began : x.begun ≤ x.epoch) (quiet :
 
   module _ (header : Header) where
     abbrev begun_at : PlaceStage → place.Placing
-    begun_at stage = record { layout = x.layout; run = run_held x; header = header; epoch = x.epoch; stage = stage }
+    begun_at stage = record { layout = x.layout; run = run_held x; header = header; fields = fields_for x; epoch = x.epoch; stage = stage }
 
-    begins_by : (b : Bool) → GoesAt n t (at_stage x (Places (begun_at (cond b StoresHeader LoadsTraced)))) (longest_placing + flip_left n x + due_in n t)
-    begins_by true = record { remembers = record { began = λ past. began; quiet = quiet; stands = tt }; within = omega arith }
-    begins_by false = record { remembers = record { began = λ past. began; quiet = quiet; stands = tt }; within = omega arith }
+    abbrev Begins : PlaceStage → Type 0
+    Begins stage = GoesAt n t (at_stage x (Places (begun_at stage))) (longest_placing + flip_left n x + due_in n t)
+
+    begins_by : (kind : Kind) (b : Bool) → Begins (cond b (place.stores_first kind) LoadsTraced)
+    begins_by Fields true = record { remembers = record { began = λ past. began; quiet = quiet; stands = tt }; within = omega arith }
+    begins_by Raw true = record { remembers = record { began = λ past. began; quiet = quiet; stands = tt }; within = omega arith }
+    begins_by Mixed true = record { remembers = record { began = λ past. began; quiet = quiet; stands = tt }; within = omega arith }
+    begins_by kind false = record { remembers = record { began = λ past. began; quiet = quiet; stands = tt }; within = omega arith }
 
     pub begins : GoesAt n t (at_stage x (places x (Some header))) (longest_placing + flip_left n x + due_in n t)
-    begins = begins_by (nat_le ((run_held x).at + place.size_of header) (run_held x).end)
+    begins = begins_by header.kind (nat_le ((run_held x).at + place.size_of header) (run_held x).end)
 
   pub goes_placing : IsMaking x.account x.registers x.task → GoesAt n t (at_stage x (places x (header_for x))) (longest_placing + flip_left n x + due_in n t)
   goes_placing making =
@@ -45,6 +52,7 @@ module _ (n : ℕ) (t : Table) (x : Held) (began : x.begun ≤ x.epoch) (quiet :
   -- ---- after a round
 
   looks_so : (l : Layout) (stage : AccessStage) → IsLook stage → AccessStands t l stage
+  looks_so l (ExchangesField f e old) look = absurd look
   looks_so l (SwapsBoard b old) look = absurd look
   looks_so l stage look = tt
 

@@ -6,7 +6,7 @@ use Rattle.std.specs.Str.Parse.{digits_value}
 use Rattle.std.specs.Prelude.{codes}
 use Rattle.std.proofs.lemmas.Bool.{and_parts, and_from, cond_both, lt-ltb, leb-true}
 use Rattle.mutator_asm.specs.declared.instr.Instr.{Instr}
-use Rattle.mutator_asm.specs.declared.instr.Instr.TheVariants.{Li, Mov, Add, Sub, Mul, Div, Rem, Lt, Eq, Jmp, Jz, Jal, Jr, New, Raw, Ld, St, Len, Isp, Get, Put, Swap, Out, Halt}
+use Rattle.mutator_asm.specs.declared.instr.Instr.TheVariants.{Li, Mov, Add, Sub, Mul, Div, Rem, Lt, Eq, Jmp, Jz, Jal, Jr, New, Raw, Mix, Ld, St, Cas, Len, Isp, Get, Put, Swap, Out, Halt}
 use Rattle.mutator_asm.specs.declared.listing.jump.Jump.{Jump}
 use Rattle.mutator_asm.specs.declared.listing.jump.Jump.TheVariants.{Always, IfZero, Link}
 use Rattle.mutator_asm.specs.declared.item.Item.{Item}
@@ -15,7 +15,7 @@ use Rattle.mutator_asm.specs.declared.errors.mistake.Mistake.TheVariants.{BadOpe
 use Rattle.mutator_asm.specs.declared.operand.Operand.{Operand}
 use Rattle.mutator_asm.specs.Program.{is_register, is_number, is_operand, is_valid, is_item}
 use Rattle.mutator_asm.specs.Token.{is_register_name, is_numeral, register_of, number_of, number_or, operand_of, is_name, label_of, tokens_of}
-use Rattle.mutator_asm.specs.Instr.{made, nothing, one_register, two_registers, three_registers, register_number, register_operand, operand_register, two_registers_operand, register_operand_register, instr_of}
+use Rattle.mutator_asm.specs.Instr.{made, nothing, one_register, two_registers, three_registers, register_number, register_operand, operand_register, two_registers_operand, both, register_two_operands, register_operand_register, registers_operand_registers, instr_of}
 use Rattle.mutator_asm.specs.Line.{Word, Nothing, Begins, Schedules, Does, Jumps, Bad, Line, unlabelled, jump_of, register_jump_of, jz_of, jal_of, does_or, named_of, labelled_of, begins_of, schedules_of, line_with, line_from, line_of, lines_of}
 use Rattle.mutator_asm.specs.Item.{is_star, within, worker_item, times_of, item_from, item_of}
 use Rattle.mutator_asm.proofs.Lists.Tests.{if_passes}
@@ -115,9 +115,23 @@ two_registers_operand_good : (operands : List (List ℕ)) → good (λ o. is_reg
 two_registers_operand_good (d ∷ a ∷ x ∷ []) = grind (arith, cases_read, register_good d, register_good a, operand_good x)
 two_registers_operand_good _ = refl
 
+both_good : (x y : Result Operand Mistake) → good is_operand x ≡ true → good is_operand y ≡ true → good (λ o. is_operand o.0 && is_operand o.1) (both x y) ≡ true
+both_good (Ok x) (Ok y) h k = and_from _ _ h k
+both_good (Ok x) (Err mistake) h k = refl
+both_good (Err NumberTooBig) (Err mistake) h k = refl
+both_good (Err mistake) y h k = grind arith
+
+register_two_operands_good : (operands : List (List ℕ)) → good (λ o. is_register o.0 && is_operand o.1 && is_operand o.2) (register_two_operands operands) ≡ true
+register_two_operands_good (d ∷ x ∷ y ∷ []) = grind (arith, cases_read, register_good d, both_good (operand_of x) (operand_of y) (operand_good x) (operand_good y))
+register_two_operands_good _ = refl
+
 register_operand_register_good : (operands : List (List ℕ)) → good (λ o. is_register o.0 && is_operand o.1 && is_register o.2) (register_operand_register operands) ≡ true
 register_operand_register_good (a ∷ x ∷ b ∷ []) = grind (arith, cases_read, register_good a, operand_good x, register_good b)
 register_operand_register_good _ = refl
+
+registers_operand_registers_good : (operands : List (List ℕ)) → good (λ o. is_register o.0 && is_register o.1 && is_operand o.2 && is_register o.3 && is_register o.4) (registers_operand_registers operands) ≡ true
+registers_operand_registers_good (d ∷ a ∷ x ∷ b ∷ c ∷ []) = grind (arith, cases_read, register_good d, register_good a, operand_good x, register_good b, register_good c)
+registers_operand_registers_good _ = refl
 
 -- ---- instructions
 
@@ -136,15 +150,17 @@ instr_good name operands =
     (if_passes (good is_plain_valid) (bytes_eq name (codes "jr")) _ _ (made_good is_plain_valid (λ (o : ℕ). Jr o) (one_register operands) (one_good operands))
     (if_passes (good is_plain_valid) (bytes_eq name (codes "new")) _ _ (made_good is_plain_valid (λ (o : ℕ × Operand). New o.0 o.1) (register_operand operands) (register_operand_good operands))
     (if_passes (good is_plain_valid) (bytes_eq name (codes "raw")) _ _ (made_good is_plain_valid (λ (o : ℕ × Operand). Raw o.0 o.1) (register_operand operands) (register_operand_good operands))
+    (if_passes (good is_plain_valid) (bytes_eq name (codes "mix")) _ _ (made_good is_plain_valid (λ (o : ℕ × Operand × Operand). Mix o.0 o.1 o.2) (register_two_operands operands) (register_two_operands_good operands))
     (if_passes (good is_plain_valid) (bytes_eq name (codes "ld")) _ _ (made_good is_plain_valid (λ (o : ℕ × ℕ × Operand). Ld o.0 o.1 o.2) (two_registers_operand operands) (two_registers_operand_good operands))
     (if_passes (good is_plain_valid) (bytes_eq name (codes "st")) _ _ (made_good is_plain_valid (λ (o : ℕ × Operand × ℕ). St o.0 o.1 o.2) (register_operand_register operands) (register_operand_register_good operands))
+    (if_passes (good is_plain_valid) (bytes_eq name (codes "cas")) _ _ (made_good is_plain_valid (λ (o : ℕ × ℕ × Operand × ℕ × ℕ). Cas o.0 o.1 o.2 o.3 o.4) (registers_operand_registers operands) (registers_operand_registers_good operands))
     (if_passes (good is_plain_valid) (bytes_eq name (codes "len")) _ _ (made_good is_plain_valid (λ (o : ℕ × ℕ). Len o.0 o.1) (two_registers operands) (two_good operands))
     (if_passes (good is_plain_valid) (bytes_eq name (codes "isp")) _ _ (made_good is_plain_valid (λ (o : ℕ × ℕ). Isp o.0 o.1) (two_registers operands) (two_good operands))
     (if_passes (good is_plain_valid) (bytes_eq name (codes "get")) _ _ (made_good is_plain_valid (λ (o : ℕ × Operand). Get o.0 o.1) (register_operand operands) (register_operand_good operands))
     (if_passes (good is_plain_valid) (bytes_eq name (codes "put")) _ _ (made_good is_plain_valid (λ (o : Operand × ℕ). Put o.0 o.1) (operand_register operands) (operand_register_good operands))
     (if_passes (good is_plain_valid) (bytes_eq name (codes "swap")) _ _ (made_good is_plain_valid (λ (o : ℕ × Operand). Swap o.0 o.1) (register_operand operands) (register_operand_good operands))
     (if_passes (good is_plain_valid) (bytes_eq name (codes "out")) _ _ (made_good is_plain_valid (λ (o : ℕ). Out o) (one_register operands) (one_good operands))
-    (if_passes (good is_plain_valid) (bytes_eq name (codes "halt")) _ _ (made_good is_plain_valid (λ (o : Unit {0}). Halt) (nothing operands) (nothing_good operands)) refl))))))))))))))))))))
+    (if_passes (good is_plain_valid) (bytes_eq name (codes "halt")) _ _ (made_good is_plain_valid (λ (o : Unit {0}). Halt) (nothing operands) (nothing_good operands)) refl))))))))))))))))))))))
 
 -- ---- jumps
 

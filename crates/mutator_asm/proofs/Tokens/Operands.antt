@@ -26,3 +26,14 @@ three [] least below = absurd (omega arith)
 three (a ∷ []) least below = absurd (omega arith)
 three (a ∷ b ∷ []) least below = absurd (omega arith)
 three (a ∷ b ∷ c ∷ d ∷ o) least below = absurd (omega arith)
+
+-- five tokens
+pub five : (o : List (Bor (List ℕ))) → 5 ≤ length o → length o < 6
+    → tokens_view o ≡ (slice_index_or o 0 nowhere).now ∷ (slice_index_or o 1 nowhere).now ∷ (slice_index_or o 2 nowhere).now ∷ (slice_index_or o 3 nowhere).now ∷ (slice_index_or o 4 nowhere).now ∷ []
+five (a ∷ b ∷ c ∷ d ∷ e ∷ []) least below = refl
+five [] least below = absurd (omega arith)
+five (a ∷ []) least below = absurd (omega arith)
+five (a ∷ b ∷ []) least below = absurd (omega arith)
+five (a ∷ b ∷ c ∷ []) least below = absurd (omega arith)
+five (a ∷ b ∷ c ∷ d ∷ []) least below = absurd (omega arith)
+five (a ∷ b ∷ c ∷ d ∷ e ∷ f ∷ o) least below = absurd (omega arith)

@@ -40,6 +40,21 @@ pub fn three<W: fmt::Write>(
     write!(f, "{name} {x} {y} {z}")
 }
 
+/// `name x y z v w`.
+pub fn five<W: fmt::Write>(
+    f: &mut fmt::Formatter<W>,
+    name: &str,
+    x: Operand,
+    y: Operand,
+    z: Operand,
+    v: Operand,
+    w: Operand,
+) -> fmt::Result
+    ensures { WritesOnOk W.write_str_gives f.old result (spaced (name.now ∷ operand_token x ∷ operand_token y ∷ operand_token z ∷ operand_token v ∷ operand_token w ∷ [])) f.new }
+{
+    write!(f, "{name} {x} {y} {z} {v} {w}")
+}
+
 /// `name L`.
 pub fn label<W: fmt::Write>(f: &mut fmt::Formatter<W>, name: &str, target: u32) -> fmt::Result
     ensures { WritesOnOk W.write_str_gives f.old result (spaced (name.now ∷ label_name target ∷ [])) f.new }

@@ -13,7 +13,8 @@ use crate::item::{Item, read_item};
 use crate::listing::jump::Jump;
 use crate::text::operands::{
     nothing, one_register, operand_register, register_number, register_operand,
-    register_operand_register, three_registers, two_registers, two_registers_operand,
+    register_operand_register, register_two_operands, registers_operand_registers, three_registers,
+    two_registers, two_registers_operand,
 };
 use crate::text::token::{is_name, label, register, tokens};
 use std::alloc::{AllocError, Global};
@@ -131,8 +132,10 @@ fn instr(name: &[u8], operands: &[&[u8]]) -> Result<Instr, Mistake>
         b"jr" => one_register(operands, Instr::Jr),
         b"new" => register_operand(operands, Instr::New),
         b"raw" => register_operand(operands, Instr::Raw),
+        b"mix" => register_two_operands(operands, Instr::Mix),
         b"ld" => two_registers_operand(operands, Instr::Ld),
         b"st" => register_operand_register(operands, Instr::St),
+        b"cas" => registers_operand_registers(operands, Instr::Cas),
         b"len" => two_registers(operands, Instr::Len),
         b"isp" => two_registers(operands, Instr::Isp),
         b"get" => register_operand(operands, Instr::Get),

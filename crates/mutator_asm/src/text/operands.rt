@@ -3,7 +3,7 @@
 //! big.
 
 ghost use Rattle.std.specs.Prelude.{◌≡◌, Err, IsOkAnd, MatchResult};
-ghost use Rattle.mutator_asm.specs.Instr.{made, nothing, one_register, two_registers, three_registers, register_number, register_operand, operand_register, two_registers_operand, register_operand_register};
+ghost use Rattle.mutator_asm.specs.Instr.{made, nothing, one_register, two_registers, three_registers, register_number, register_operand, operand_register, two_registers_operand, both, register_two_operands, register_operand_register, registers_operand_registers};
 ghost use Rattle.mutator_asm.specs.Read.{tokens_view};
 
 use crate::errors::mistake::Mistake;
@@ -136,6 +136,38 @@ pub fn two_registers_operand<F: FnOnce(u8, u8, Operand) -> Instr>(
     }
 }
 
+/// Two operands; one that is none counts before a number that is too big.
+fn both(
+    x: Result<Operand, Mistake>,
+    y: Result<Operand, Mistake>,
+) -> Result<(Operand, Operand), Mistake>
+    ensures { result ≡ both x y }
+{
+    match (x, y) {
+        (Ok(x), Ok(y)) => Ok((x, y)),
+        (Err(Mistake::NumberTooBig), Err(mistake)) => Err(mistake),
+        (Err(mistake), _) | (Ok(_), Err(mistake)) => Err(mistake),
+    }
+}
+
+/// `rd x y`.
+pub fn register_two_operands<F: FnOnce(u8, Operand, Operand) -> Instr>(
+    operands: &[&[u8]],
+    make: F,
+) -> Result<Instr, Mistake>
+    requires { F.IsAlwaysCallable make }
+    ensures { MatchResult (register_two_operands (tokens_view operands.now)) (λ o. IsOkAnd result (F.post make o.0 o.1 o.2)) (λ mistake. result ≡ Err mistake) }
+{
+    match operands {
+        [d, x, y] => {
+            let d = register(d)?;
+            let (x, y) = both(operand(x), operand(y))?;
+            Ok(make(d, x, y))
+        }
+        _ => Err(Mistake::BadOperand),
+    }
+}
+
 /// `ra x rb`.
 pub fn register_operand_register<F: FnOnce(u8, Operand, u8) -> Instr>(
     operands: &[&[u8]],
@@ -149,6 +181,26 @@ pub fn register_operand_register<F: FnOnce(u8, Operand, u8) -> Instr>(
             let a = register(a)?;
             let b = register(b)?;
             Ok(make(a, operand(x)?, b))
+        }
+        _ => Err(Mistake::BadOperand),
+    }
+}
+
+/// `rd ra x rb rc`.
+pub fn registers_operand_registers<F: FnOnce(u8, u8, Operand, u8, u8) -> Instr>(
+    operands: &[&[u8]],
+    make: F,
+) -> Result<Instr, Mistake>
+    requires { F.IsAlwaysCallable make }
+    ensures { MatchResult (registers_operand_registers (tokens_view operands.now)) (λ o. IsOkAnd result (F.post make o.0 o.1 o.2 o.3 o.4)) (λ mistake. result ≡ Err mistake) }
+{
+    match operands {
+        [d, a, x, b, c] => {
+            let d = register(d)?;
+            let a = register(a)?;
+            let b = register(b)?;
+            let c = register(c)?;
+            Ok(make(d, a, operand(x)?, b, c))
         }
         _ => Err(Mistake::BadOperand),
     }

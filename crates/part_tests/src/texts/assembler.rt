@@ -30,10 +30,10 @@ fn program_of(alloc: Global, text: &str) -> Result<Program, Fail> {
 
 /// A text with each instruction.
 const EACH_INSTRUCTION: &str =
-    ".mutator\nli r1 7\nmov r2 r1\nadd r0 r1 r2\nsub r0 r1 r2\nmul r0 r1 r2\ndiv r0 r1 r2\nrem r0 r1 r2\nlt r0 r1 r2\neq r0 r1 r2\njmp end\njz r1 end\njal r7 end\njr r3\nnew r0 2\nraw r0 r1\nld r2 r0 1\nst r0 1 r7\nlen r1 r0\nisp r1 r0\nget r1 15\nput r2 r1\nswap r1 0\nend: out r2\nhalt\n";
+    ".mutator\nli r1 7\nmov r2 r1\nadd r0 r1 r2\nsub r0 r1 r2\nmul r0 r1 r2\ndiv r0 r1 r2\nrem r0 r1 r2\nlt r0 r1 r2\neq r0 r1 r2\njmp end\njz r1 end\njal r7 end\njr r3\nnew r0 2\nraw r0 r1\nmix r0 2 r1\nld r2 r0 1\nst r0 1 r7\ncas r3 r0 r1 r2 r7\nlen r1 r0\nisp r1 r0\nget r1 15\nput r2 r1\nswap r1 0\nend: out r2\nhalt\n";
 
 /// Its instructions.
-const INSTRUCTIONS: [Instr; 24] = [
+const INSTRUCTIONS: [Instr; 26] = [
     Instr::Li(1, 7),
     Instr::Mov(2, 1),
     Instr::Add(0, 1, 2),
@@ -43,14 +43,16 @@ const INSTRUCTIONS: [Instr; 24] = [
     Instr::Rem(0, 1, 2),
     Instr::Lt(0, 1, 2),
     Instr::Eq(0, 1, 2),
-    Instr::Jmp(22),
-    Instr::Jz(1, 22),
-    Instr::Jal(7, 22),
+    Instr::Jmp(24),
+    Instr::Jz(1, 24),
+    Instr::Jal(7, 24),
     Instr::Jr(3),
     Instr::New(0, Operand::Number(2)),
     Instr::Raw(0, Operand::Reg(1)),
+    Instr::Mix(0, Operand::Number(2), Operand::Reg(1)),
     Instr::Ld(2, 0, Operand::Number(1)),
     Instr::St(0, Operand::Number(1), 7),
+    Instr::Cas(3, 0, Operand::Reg(1), 2, 7),
     Instr::Len(1, 0),
     Instr::Isp(1, 0),
     Instr::Get(1, Operand::Number(15)),
@@ -68,7 +70,7 @@ fn a_text_gives_its_instructions(rt: HostRuntime) -> Result<(), Fail> {
         &program.code.sections()[0].as_slice(),
         &INSTRUCTIONS.as_slice(),
     );
-    assert_same(&rt, &program.instr(0, 9), &Some(Instr::Jmp(22)));
+    assert_same(&rt, &program.instr(0, 9), &Some(Instr::Jmp(24)));
     Ok(())
 }
 
@@ -160,6 +162,12 @@ const FAULTS: &str = "\
 2 2|.mutator/li r0 r1
 2 2|.mutator/st 4611686018427387904 0 r1
 2 2|.mutator/st r0 4611686018427387904 5
+2 2|.mutator/mix r0 4611686018427387904 foo
+2 2|.mutator/mix r0 foo 4611686018427387904
+2 2|.mutator/mix r0 1
+2 2|.mutator/mix 4611686018427387904 1 1
+2 2|.mutator/cas r0 r1 0 r2
+2 2|.mutator/cas r0 r1 4611686018427387904 r2 5
 2 2|.mutator/jmp 5
 2 2|.mutator/jz r1 a b
 2 1|.mutator x
@@ -181,6 +189,9 @@ const FAULTS: &str = "\
 8 1|.schedule 0*1*1
 8 1|.schedule *1
 8 1|.schedule
+9 2|.mutator/mix r0 1 4611686018427387904
+9 2|.mutator/mix r0 4611686018427387904 r1
+9 2|.mutator/cas r0 r1 4611686018427387904 r2 r3
 9 2|.mutator/li r0 4611686018427387904";
 
 /// Texts with more than one error, each with the one that counts.

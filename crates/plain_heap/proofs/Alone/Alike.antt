@@ -1,6 +1,6 @@
 -- An instruction that leaves the board alone does the same on any two heaps in which its mutator has
 -- the same records, and leads it to no record of another.
-use Rattle.std.proofs.Common.{◌≡◌, ℕ, ◌+◌, ◌-◌, true, List, [], ◌∷◌, ◌++◌, length, Option, Some, None, Result, Ok, Err, slice_set, refl, ap, sym, subst}
+use Rattle.std.proofs.Common.{◌≡◌, ℕ, ◌+◌, ◌-◌, Bool, true, false, cond, List, [], ◌∷◌, ◌++◌, length, Option, Some, None, Result, Ok, Err, slice_set, refl, ap, sym, subst}
 use Rattle.std.specs.Bool.{⊤}
 use Rattle.std.specs.Result.{IfOk}
 use Rattle.std.proofs.lemmas.List.{set-get_or}
@@ -15,8 +15,8 @@ use Rattle.plain_state.specs.Writing.{with_value, with_records, stored}
 use Rattle.mutator_asm.specs.declared.instr.Instr.{Instr}
 use Rattle.mutator_asm.specs.declared.instr.Instr.TheVariants as instrs
 use Rattle.plain_heap.specs.declared.action.Action.{Action}
-use Rattle.plain_heap.specs.declared.action.Action.TheVariants.{Sets, Jumps, Links, Prints, Makes, Measures, Loads, Stores, Gets, Puts, Swaps}
-use Rattle.plain_heap.specs.Action.{◌>>=◌, next_of, action}
+use Rattle.plain_heap.specs.declared.action.Action.TheVariants.{Sets, Jumps, Links, Prints, Makes, Measures, Loads, Stores, Exchanges, Gets, Puts, Swaps}
+use Rattle.plain_heap.specs.Action.{◌>>=◌, are_same, next_of, action}
 use Rattle.plain_heap.specs.Call.{After, value_in, values_of, may_hold, store_in, zeros, jumped, went_on, set_register, loads, allocated, performed, call}
 use Rattle.plain_heap.specs.Alone.{leaves_board}
 use Rattle.plain_heap.proofs.Calls.Named.{Spells, Names, named}
@@ -84,37 +84,50 @@ module _ (m : ℕ) (heap other : Heap) (k : Mutator) (same : made_by other m ≡
       subst (λ o. IsAlike (value_in heap (own_record n) x >>= f) (o >>= g)) (sym (word-same n x))
       (same-bind (GoAlike m heap other) (value_in heap (own_record n) x) f g (λ v is. next v (word-own m heap n x v own.words is)))
 
-  stored-alike : (n : ℕ) (r : Record) (x : ℕ) (v : Value) → record_of heap (own_record n) ≡ Some r → LeadsToOwn m v
-      → GoAlike m heap other (record { heap = stored heap (own_record n) r x v; mutator = went_on k }) (record { heap = stored other (own_record n) r x v; mutator = went_on k })
-  stored-alike n r x v found is = rw same (record {
+  -- the records of the mutator after a store in one
+  abbrev StoredAlike : (f g : Heap → After) → Type 0
+  StoredAlike f g = (n : ℕ) (r : Record) (x : ℕ) (v : Value) → record_of heap (own_record n) ≡ Some r → LeadsToOwn m v → GoAlike m heap other (f (stored heap (own_record n) r x v)) (g (stored other (own_record n) r x v))
+
+  stored-alike : (l : Mutator) → OwnsRecords m (made_by heap m) l → StoredAlike (λ h. record { heap = h; mutator = l }) (λ h. record { heap = h; mutator = l })
+  stored-alike l own_l n r x v found is = rw same (record {
     records = slice_set (made_by heap m) (n - 1) (with_value r x v);
     heap_is = refl;
     other_is = refl;
     mutator_is = refl;
-    own = record { registers = own.registers; words = stores-own m (made_by heap m) n r x v own.words found is };
+    own = record { registers = own_l.registers; words = stores-own m (made_by heap m) n r x v own.words found is };
   })
-
-  held-alike : (n : ℕ) (r : Record) (x : ℕ) (u : Value) (o : Result Value End) → record_of heap (own_record n) ≡ Some r → LeadsToOwn m u → may_hold r.kind u ≡ o
-      → IsAlike ((o >>= (λ v. Ok (stored heap (own_record n) r x v))) >>= (λ h. Ok (record { heap = h; mutator = went_on k })))
-      ((o >>= (λ v. Ok (stored other (own_record n) r x v))) >>= (λ h. Ok (record { heap = h; mutator = went_on k })))
-  held-alike n r x u (Ok v) found is held = stored-alike n r x v found (held-own m r.kind u v is held)
-  held-alike n r x u (Err why) found is held = refl
-
-  store_as : (n : ℕ) (o : Option Record) (x : ℕ) (u : Value) → record_of heap (own_record n) ≡ o → LeadsToOwn m u
-      → IsAlike (store_in heap (own_record n) o x u >>= (λ h. Ok (record { heap = h; mutator = went_on k }))) (store_in other (own_record n) o x u >>= (λ h. Ok (record { heap = h; mutator = went_on k })))
-  store_as n None x u found is = refl
-  store_as n (Some r) x u found is = held-alike n r x u (may_hold r.kind u) found is refl
 
   record-same : (n : ℕ) → record_of other (own_record n) ≡ record_of heap (own_record n)
   record-same n = rw same refl
 
-  store-alike : (n x : ℕ) (v : Value) → LeadsToOwn m v
-      → IsAlike (store_in heap (own_record n) (record_of heap (own_record n)) x v >>= (λ h. Ok (record { heap = h; mutator = went_on k })))
-      (store_in other (own_record n) (record_of other (own_record n)) x v >>= (λ h. Ok (record { heap = h; mutator = went_on k })))
-  store-alike n x v is =
-      subst (λ o. IsAlike (store_in heap (own_record n) (record_of heap (own_record n)) x v >>= (λ h. Ok (record { heap = h; mutator = went_on k })))
-      (store_in other (own_record n) o x v >>= (λ h. Ok (record { heap = h; mutator = went_on k }))))
-      (sym (record-same n)) (store_as n (record_of heap (own_record n)) x v refl is)
+  -- what follows the store goes alike
+  module _ (f g : Heap → After) (goes : StoredAlike f g) where
+    held-alike : (n : ℕ) (r : Record) (x : ℕ) (u : Value) (o : Result Value End) → record_of heap (own_record n) ≡ Some r → LeadsToOwn m u → may_hold r.kind x u ≡ o
+        → IsAlike ((o >>= (λ v. Ok (stored heap (own_record n) r x v))) >>= (λ h. Ok (f h))) ((o >>= (λ v. Ok (stored other (own_record n) r x v))) >>= (λ h. Ok (g h)))
+    held-alike n r x u (Ok v) found is held = goes n r x v found (held-own m r.kind x u v is held)
+    held-alike n r x u (Err why) found is held = refl
+
+    store_as : (n : ℕ) (o : Option Record) (x : ℕ) (u : Value) → record_of heap (own_record n) ≡ o → LeadsToOwn m u
+        → IsAlike (store_in heap (own_record n) o x u >>= (λ h. Ok (f h))) (store_in other (own_record n) o x u >>= (λ h. Ok (g h)))
+    store_as n None x u found is = refl
+    store_as n (Some r) x u found is = held-alike n r x u (may_hold r.kind x u) found is refl
+
+    store-alike : (n x : ℕ) (v : Value) → LeadsToOwn m v
+        → IsAlike (store_in heap (own_record n) (record_of heap (own_record n)) x v >>= (λ h. Ok (f h))) (store_in other (own_record n) (record_of other (own_record n)) x v >>= (λ h. Ok (g h)))
+    store-alike n x v is =
+        subst (λ o. IsAlike (store_in heap (own_record n) (record_of heap (own_record n)) x v >>= (λ h. Ok (f h))) (store_in other (own_record n) o x v >>= (λ h. Ok (g h))))
+        (sym (record-same n)) (store_as n (record_of heap (own_record n)) x v refl is)
+
+  stores-alike : (n x : ℕ) (v : Value) (l : Mutator) → LeadsToOwn m v → OwnsRecords m (made_by heap m) l
+      → IsAlike (store_in heap (own_record n) (record_of heap (own_record n)) x v >>= (λ h. Ok (record { heap = h; mutator = l })))
+      (store_in other (own_record n) (record_of other (own_record n)) x v >>= (λ h. Ok (record { heap = h; mutator = l })))
+  stores-alike n x v l is own_l = store-alike _ _ (stored-alike l own_l) n x v is
+
+  exchange-alike : (d n x : ℕ) (new : Value) (same_word : Bool) → LeadsToOwn m new
+      → IsAlike (store_in heap (own_record n) (record_of heap (own_record n)) x new >>= (λ h. Ok (cond same_word (loads h k d (Number 1)) (loads heap k d (Number 0)))))
+      (store_in other (own_record n) (record_of other (own_record n)) x new >>= (λ h. Ok (cond same_word (loads h k d (Number 1)) (loads other k d (Number 0)))))
+  exchange-alike d n x new true is = stores-alike n x new (went_on (set_register k d (Number 1))) is (loads-own m (made_by heap m) k d (next_of k) (Number 1) own tt)
+  exchange-alike d n x new false is = store-alike _ _ (λ n r x v found is_v. loads-alike d (Number 0) tt) n x new is
 
   length-same : (n : ℕ) → length (values_of other (own_record n)) ≡ length (values_of heap (own_record n))
   length-same n = rw same refl
@@ -137,7 +150,8 @@ module _ (m : ℕ) (heap other : Heap) (k : Mutator) (same : made_by other m ≡
   performed-alike (Makes kind d n) is = allocated-alike kind d n
   performed-alike (Measures d i) is = owned (Measures d) i is (λ n. measures-alike d n)
   performed-alike (Loads d i x) is = owned (λ i. Loads d i x) i is (λ n. word-alike n x _ _ (λ v is_v. loads-alike d v is_v))
-  performed-alike (Stores i x v) is = owned (λ i. Stores i x v) i is.0 (λ n. word-alike n x _ _ (λ old is_old. store-alike n x v is.1))
+  performed-alike (Stores i x v) is = owned (λ i. Stores i x v) i is.0 (λ n. word-alike n x _ _ (λ old is_old. stores-alike n x v (went_on k) is.1 (jumps-own m (made_by heap m) k (next_of k) own)))
+  performed-alike (Exchanges d i x expected new) is = owned (λ i. Exchanges d i x expected new) i is.0 (λ n. word-alike n x _ _ (λ found is_found. exchange-alike d n x new (are_same found expected) is.2))
   performed-alike (Gets d x) is = absurd is.0
   performed-alike (Puts x v) is = absurd is.0
   performed-alike (Swaps d x v) is = absurd is.0

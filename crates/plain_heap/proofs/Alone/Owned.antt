@@ -9,7 +9,6 @@ use Rattle.std.proofs.lemmas.List.Elements.{All-get_or, All-nil, All-set, All-pu
 use Rattle.std.proofs.lemmas.Option.{slice_get_within, get_or_from_slice_get}
 use Rattle.plain_state.specs.declared.end.End.{End}
 use Rattle.plain_state.specs.declared.kind.Kind.{Kind}
-use Rattle.plain_state.specs.declared.kind.Kind.TheVariants.{Fields, Raw}
 use Rattle.plain_state.specs.declared.value.Value.{Value}
 use Rattle.plain_state.specs.declared.value.Value.TheVariants.{Number, Reference}
 use Rattle.plain_state.specs.State.{Record, Heap, Mutator, made_by, at_serial}
@@ -17,6 +16,7 @@ use Rattle.plain_state.specs.Writing.{with_value}
 use Rattle.plain_heap.specs.Action.{◌>>=◌, register, in_record}
 use Rattle.plain_heap.specs.Call.{values_of, value_in, may_hold, zeros, jumped, set_register}
 use Rattle.plain_heap.proofs.Calls.Outcomes.{ok_same}
+use Rattle.plain_heap.proofs.Calls.Records.{held_same}
 
 -- a number, or a reference to a record of mutator m
 abbrev pub LeadsToOwn : ℕ → Value → Type 0
@@ -68,16 +68,8 @@ word-own m heap n x v all is =
 
 -- ---- what is written
 
-pub held-own : (m : ℕ) (kind : Kind) (u v : Value) → LeadsToOwn m u → may_hold kind u ≡ Ok v → LeadsToOwn m v
-held-own m Fields u v own is = subst (LeadsToOwn m) (same_Ok u v is) own
-  where
-    same_Ok : (u v : Value) → may_hold Fields u ≡ Ok v → u ≡ v
-    same_Ok u v is = cc
-held-own m Raw (Number n) v own is = subst (LeadsToOwn m) (same_Ok (Number n) v is) own
-  where
-    same_Ok : (u v : Value) → may_hold Fields u ≡ Ok v → u ≡ v
-    same_Ok u v is = cc
-held-own m Raw (Reference i) v own is = cc
+pub held-own : (m : ℕ) (kind : Kind) (x : ℕ) (u v : Value) → LeadsToOwn m u → may_hold kind x u ≡ Ok v → LeadsToOwn m v
+held-own m kind x u v own is = subst (LeadsToOwn m) (held_same kind x u v is) own
 
 -- register d takes a value, and the mutator goes on
 pub loads-own : (m : ℕ) (records : List Record) (k : Mutator) (d target : ℕ) (v : Value) → OwnsRecords m records k → LeadsToOwn m v → OwnsRecords m records (jumped (set_register k d v) target)

@@ -1,5 +1,5 @@
 -- An instruction keeps what each state is like.
-use Rattle.std.proofs.Common.{◌≡◌, ℕ, ◌+◌, ◌/◌, ◌%◌, ◌==◌, ◌<◌, ◌≤◌, ◌⊎◌, inl, inr, Bool, true, false, nat_lt, List, [], ◌∷◌, ◌++◌, length, Option, Some, None, Result, Ok, Err, slice_get, slice_set, refl, sym, ◌∙◌, subst, arith, length-set, length-append}
+use Rattle.std.proofs.Common.{◌≡◌, ℕ, ◌+◌, ◌/◌, ◌%◌, ◌==◌, ◌<◌, ◌≤◌, ◌⊎◌, inl, inr, Bool, true, false, cond, nat_lt, nat_le, List, [], ◌∷◌, ◌++◌, length, Option, Some, None, Result, Ok, Err, slice_get, slice_set, refl, ap, sym, ◌∙◌, subst, arith, length-set, length-append}
 use Rattle.std.specs.Bool.{⊤}
 use Rattle.std.specs.List.{All}
 use Rattle.std.specs.Option.{option_map_or}
@@ -11,7 +11,7 @@ use Rattle.std.proofs.lemmas.List.Elements.{All-nil, All-set, All-push, All-repl
 use Rattle.std.proofs.lemmas.Option.{slice_get_within}
 use Rattle.plain_state.specs.declared.end.End.{End}
 use Rattle.plain_state.specs.declared.kind.Kind.{Kind}
-use Rattle.plain_state.specs.declared.kind.Kind.TheVariants.{Fields, Raw}
+use Rattle.plain_state.specs.declared.kind.Kind.TheVariants.{Fields, Raw, Mixed}
 use Rattle.plain_state.specs.declared.operation.Operation.{Operation}
 use Rattle.plain_state.specs.declared.operation.Operation.TheVariants as operations
 use Rattle.plain_state.specs.declared.sizes.TheConstants.{NUMBERS, MOST_PRINTED, LONGEST_RECORD}
@@ -30,11 +30,11 @@ use Rattle.mutator_asm.specs.declared.instr.Instr.{Instr}
 use Rattle.mutator_asm.specs.declared.instr.Instr.TheVariants as instrs
 use Rattle.mutator_asm.specs.Program.{is_valid, is_register, is_number, is_target}
 use Rattle.plain_heap.specs.declared.action.Action.{Action}
-use Rattle.plain_heap.specs.declared.action.Action.TheVariants.{Sets, Jumps, Links, Prints, Makes, Measures, Loads, Stores, Gets, Puts, Swaps}
+use Rattle.plain_heap.specs.declared.action.Action.TheVariants.{Sets, Jumps, Links, Prints, Makes, Measures, Loads, Stores, Exchanges, Gets, Puts, Swaps}
 use Rattle.plain_heap.specs.Action.{◌>>=◌, register, next_of, in_record, action}
-use Rattle.plain_heap.specs.Call.{After, values_of, value_in, board_word, may_hold, store_in, zeros, jumped, went_on, set_register, loads, allocated, performed, call}
-use Rattle.plain_heap.proofs.Calls.Named.{Spells, Names, named}
-use Rattle.plain_heap.proofs.Calls.Outcomes.{if_ok-bind, if_ok-then}
+use Rattle.plain_heap.specs.Call.{After, values_of, value_in, board_word, as_plain, may_hold, store_in, zeros, jumped, went_on, set_register, loads, allocated, performed, call}
+use Rattle.plain_heap.proofs.Calls.Named.{Spells, Names, named, fits-short}
+use Rattle.plain_heap.proofs.Calls.Outcomes.{if_ok-bind, if_ok-then, performed_exchange}
 use Rattle.plain_heap.proofs.Alone.Owned.{read_all, found_serial}
 
 -- ---- a heap with more records
@@ -93,10 +93,18 @@ applied-small operations.Lt a b small = one_if-small (nat_lt a b)
 
 -- ---- what is written
 
-held-value : (heap : Heap) (kind : Kind) (v : Value) → IsValue heap v → IfOk (may_hold kind v) (λ w. IsValue heap w × (is_raw kind 0 ≡ true → IsNumber w))
-held-value heap Fields v is = (is, λ raw. cc)
-held-value heap Raw (Number n) is = (is, λ raw. is)
-held-value heap Raw (Reference i) is = tt
+held-plain : (heap : Heap) (v : Value) (Q : Type 0) → IsValue heap v → IfOk (as_plain v) (λ w. IsValue heap w × (Q → IsNumber w))
+held-plain heap (Number n) Q is = (is, λ q. is)
+held-plain heap (Reference i) Q is = tt
+
+held-value : (heap : Heap) (kind : Kind) (x : ℕ) (v : Value) → IsValue heap v → IfOk (may_hold kind x v) (λ w. IsValue heap w × (is_raw kind (word_of_value kind x) ≡ true → IsNumber w))
+held-value heap Fields x v is = (is, λ raw. cc)
+held-value heap Raw x v is = held-plain heap v _ is
+held-value heap (Mixed count) x v is = by_place (nat_lt x count) refl
+  where
+    by_place : (b : Bool) → nat_lt x count ≡ b → IfOk (cond b (Ok v) (as_plain v)) (λ w. IsValue heap w × (nat_le (count + 2) (x + 2) ≡ true → IsNumber w))
+    by_place true field = (is, λ raw. absurd (let l = ltb-true x count field in let m = leb-true (count + 2) (x + 2) raw in omega arith))
+    by_place false plain = held-plain heap v _ is
 
 module _ (heap : Heap) (is_heap : IsHeap heap) where
   zero-value : IsValue heap (Number 0)
@@ -127,18 +135,14 @@ module _ (heap : Heap) (is_heap : IsHeap heap) where
   }
 
   -- a word of a record, which it may hold
-  module _ (i : Identity) (r : Record) (x : ℕ) (v : Value) (found : record_of heap i ≡ Some r) (is : IsValue heap v) (raw : is_raw r.kind 0 ≡ true → IsNumber v) where
+  module _ (i : Identity) (r : Record) (x : ℕ) (v : Value) (found : record_of heap i ≡ Some r) (is : IsValue heap v) (raw : is_raw r.kind (word_of_value r.kind x) ≡ true → IsNumber v) where
     next : Heap
     next = stored heap i r x v
 
     raw_as : (y : ℕ) (u : Value) → (y ≡ x) ⊎ (y ≡ x → ⊥) → slice_get (slice_set r.values x v) y ≡ Some u → is_raw r.kind (word_of_value r.kind y) ≡ true → IsNumber u
     raw_as y u (inl e) at is_raw_word =
         let within : y < length r.values = omega (arith, slice_get_within (slice_set r.values x v) y u at, length-set r.values x v) in
-        subst IsNumber (set-found r.values x y v u e (omega arith) at) (raw (any_word r.kind (word_of_value r.kind y) is_raw_word))
-      where
-        any_word : (kind : Kind) (word : ℕ) → is_raw kind word ≡ true → is_raw kind 0 ≡ true
-        any_word Fields word h = h
-        any_word Raw word h = h
+        subst IsNumber (set-found r.values x y v u e (omega arith) at) (raw (ap (λ z. is_raw r.kind (word_of_value r.kind z)) (sym e) ∙ is_raw_word))
     raw_as y u (inr other) at is_raw_word = (found-record i r found).raw y u (sym (slice_get-set_other r.values x y v other) ∙ at) is_raw_word
 
     written-record : IsRecord heap (with_value r x v)
@@ -231,19 +235,21 @@ module _ (m : ℕ) (heap : Heap) (k : Mutator) (is_heap : IsHeap heap) (is_mutat
     as_many = gained_makers heap m (zeros kind n) within;
   }
 
-  stored-kept_in : (i : Identity) (r : Record) (x : ℕ) (o : Result Value End) → record_of heap i ≡ Some r → IfOk o (λ v. IsValue heap v × (is_raw r.kind 0 ≡ true → IsNumber v))
-      → IfOk ((o >>= (λ v. Ok (stored heap i r x v))) >>= (λ h. Ok (record { heap = h; mutator = went_on k }))) (AfterIsConsistent heap)
-  stored-kept_in i r x (Ok v) found is = record {
-    heap = stored-kept heap is_heap i r x v found is.0 is.1;
-    mutator = mutator-grows heap (stored heap i r x v) (stored_made heap i r x v found) (went_on k) (jumps-kept (next_of k) next_of-small).mutator;
-    grows = stored_made heap i r x v found;
-    as_many = stored_makers heap i r x v found;
-  }
-  stored-kept_in i r x (Err why) found is = tt
+  -- a store, after which the mutator is this
+  module _ (l : Mutator) (is_l : IsMutator heap l) where
+    stored-kept_in : (i : Identity) (r : Record) (x : ℕ) (o : Result Value End) → record_of heap i ≡ Some r → IfOk o (λ v. IsValue heap v × (is_raw r.kind (word_of_value r.kind x) ≡ true → IsNumber v))
+        → IfOk ((o >>= (λ v. Ok (stored heap i r x v))) >>= (λ h. Ok (record { heap = h; mutator = l }))) (AfterIsConsistent heap)
+    stored-kept_in i r x (Ok v) found is = record {
+      heap = stored-kept heap is_heap i r x v found is.0 is.1;
+      mutator = mutator-grows heap (stored heap i r x v) (stored_made heap i r x v found) l is_l;
+      grows = stored_made heap i r x v found;
+      as_many = stored_makers heap i r x v found;
+    }
+    stored-kept_in i r x (Err why) found is = tt
 
-  stores-kept : (i : Identity) (o : Option Record) (x : ℕ) (v : Value) → record_of heap i ≡ o → IsValue heap v → IfOk (store_in heap i o x v >>= (λ h. Ok (record { heap = h; mutator = went_on k }))) (AfterIsConsistent heap)
-  stores-kept i None x v found is = tt
-  stores-kept i (Some r) x v found is = stored-kept_in i r x (may_hold r.kind v) found (held-value heap r.kind v is)
+    stores-kept : (i : Identity) (o : Option Record) (x : ℕ) (v : Value) → record_of heap i ≡ o → IsValue heap v → IfOk (store_in heap i o x v >>= (λ h. Ok (record { heap = h; mutator = l }))) (AfterIsConsistent heap)
+    stores-kept i None x v found is = tt
+    stores-kept i (Some r) x v found is = stored-kept_in i r x (may_hold r.kind x v) found (held-value heap r.kind x v is)
 
   boards-kept : (x : ℕ) (v : Value) (k' : Mutator) → IsValue heap v → IsMutator heap k' → AfterIsConsistent heap (record { heap = with_board heap x v; mutator = k' })
   boards-kept x v k' is is' = record {
@@ -272,10 +278,13 @@ module _ (m : ℕ) (heap : Heap) (k : Mutator) (is_heap : IsHeap heap) (is_mutat
   performed-kept (Jumps target) is = jumps-kept target is
   performed-kept (Links d target) is = links-kept d target (Number (next_of k)) next_of-small is
   performed-kept (Prints n) is = printed-kept n is.0 is.1
-  performed-kept (Makes kind d n) is = allocated-kept kind d n is
+  performed-kept (Makes kind d n) is = allocated-kept kind d n (fits-short kind n is)
   performed-kept (Measures d i) is = loads-kept d (Number (length (values_of heap i))) (omega (arith, (values-found heap is_heap i (record_of heap i) refl).1))
   performed-kept (Loads d i x) is = if_ok-then (IsValue heap) (AfterIsConsistent heap) (value_in heap i x) _ (value_in-value heap is_heap i x) (λ v is_v. loads-kept d v is_v)
-  performed-kept (Stores i x v) is = if_ok-bind (AfterIsConsistent heap) (value_in heap i x) _ (λ old. stores-kept i (record_of heap i) x v refl is.1)
+  performed-kept (Stores i x v) is = if_ok-bind (AfterIsConsistent heap) (value_in heap i x) _ (λ old. stores-kept (went_on k) (jumps-kept (next_of k) next_of-small).mutator i (record_of heap i) x v refl is.1)
+  performed-kept (Exchanges d i x expected new) is =
+      performed_exchange m heap k d i x expected new (AfterIsConsistent heap) (loads-kept d (Number 0) (omega arith))
+      (stores-kept (went_on (set_register k d (Number 1))) (loads-kept d (Number 1) (omega arith)).mutator i (record_of heap i) x new refl is.2)
   performed-kept (Gets d x) is = loads-kept d (board_word heap x) (board_word-value heap is_heap x)
   performed-kept (Puts x v) is = boards-kept x v (went_on k) is.2 (jumps-kept (next_of k) next_of-small).mutator
   performed-kept (Swaps d x v) is =

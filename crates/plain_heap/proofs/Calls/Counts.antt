@@ -4,10 +4,10 @@ use Rattle.std.specs.Result.{IfOk}
 use Rattle.plain_state.specs.State.{Heap, Mutator, record_of}
 use Rattle.mutator_asm.specs.declared.instr.Instr.{Instr}
 use Rattle.plain_heap.specs.declared.action.Action.{Action}
-use Rattle.plain_heap.specs.declared.action.Action.TheVariants.{Sets, Jumps, Links, Prints, Makes, Measures, Loads, Stores, Gets, Puts, Swaps}
+use Rattle.plain_heap.specs.declared.action.Action.TheVariants.{Sets, Jumps, Links, Prints, Makes, Measures, Loads, Stores, Exchanges, Gets, Puts, Swaps}
 use Rattle.plain_heap.specs.Action.{action}
 use Rattle.plain_heap.specs.Call.{After, value_in, store_in, performed, call}
-use Rattle.plain_heap.proofs.Calls.Outcomes.{if_ok-bind}
+use Rattle.plain_heap.proofs.Calls.Outcomes.{if_ok-bind, performed_exchange}
 
 -- the second list is the first with more behind it
 pub record Grown (xs ys : List ℕ) : Type 0 where
@@ -43,6 +43,8 @@ module _ (m : ℕ) (heap : Heap) (k : Mutator) where
   performed-went (Measures d i) = quiet _ refl refl refl
   performed-went (Loads d i x) = if_ok-bind WentOn (value_in heap i x) _ (λ v. quiet _ refl refl refl)
   performed-went (Stores i x v) = if_ok-bind WentOn (value_in heap i x) _ (λ old. if_ok-bind WentOn (store_in heap i (record_of heap i) x v) _ (λ h. quiet _ refl refl refl))
+  performed-went (Exchanges d i x expected new) =
+      performed_exchange m heap k d i x expected new WentOn (quiet _ refl refl refl) (if_ok-bind WentOn (store_in heap i (record_of heap i) x new) _ (λ h. quiet _ refl refl refl))
   performed-went (Gets d x) = quiet _ refl refl refl
   performed-went (Puts x v) = quiet _ refl refl refl
   performed-went (Swaps d x v) = quiet _ refl refl refl

@@ -1,11 +1,11 @@
 -- What holds of each value in a mutator's registers holds of each that an action names.
-use Rattle.std.proofs.Common.{◌≡◌, ℕ, ◌<◌, ◌≤◌, Bool, true, false, cond, nat_lt, nat_le, length, Result, refl}
+use Rattle.std.proofs.Common.{◌≡◌, ℕ, ◌+◌, ◌<◌, ◌≤◌, Bool, true, false, cond, nat_lt, nat_le, length, Result, refl, arith}
 use Rattle.std.specs.Bool.{⊤}
 use Rattle.std.specs.Result.{IfOk}
 use Rattle.std.proofs.lemmas.Bool.{ltb-true, leb-true}
 use Rattle.plain_state.specs.declared.end.End.{End}
 use Rattle.plain_state.specs.declared.kind.Kind.{Kind}
-use Rattle.plain_state.specs.declared.kind.Kind.TheVariants.{Fields, Raw}
+use Rattle.plain_state.specs.declared.kind.Kind.TheVariants.{Fields, Raw, Mixed}
 use Rattle.plain_state.specs.declared.operation.Operation.{Operation}
 use Rattle.plain_state.specs.declared.operation.Operation.TheVariants as operations
 use Rattle.plain_state.specs.declared.sizes.TheConstants.{MOST_PRINTED, LONGEST_RECORD, BOARD_WORDS}
@@ -18,8 +18,8 @@ use Rattle.mutator_asm.specs.declared.instr.Instr.{Instr}
 use Rattle.mutator_asm.specs.declared.instr.Instr.TheVariants as instrs
 use Rattle.mutator_asm.specs.declared.operand.Operand.{Operand}
 use Rattle.plain_heap.specs.declared.action.Action.{Action}
-use Rattle.plain_heap.specs.declared.action.Action.TheVariants.{Sets, Jumps, Links, Prints, Makes, Measures, Loads, Stores, Gets, Puts, Swaps}
-use Rattle.plain_heap.specs.Action.{◌>>=◌, register, as_number, reference_in, is_zero, is_reference, are_same, operand, next_of, length_of, in_record, on_board, board_place, computes, allocates, prints, action}
+use Rattle.plain_heap.specs.declared.action.Action.TheVariants.{Sets, Jumps, Links, Prints, Makes, Measures, Loads, Stores, Exchanges, Gets, Puts, Swaps}
+use Rattle.plain_heap.specs.Action.{◌>>=◌, register, as_number, reference_in, is_zero, is_reference, are_same, operand, next_of, length_of, in_record, on_board, board_place, computes, allocates, mixed_length, mixes, prints, action}
 use Rattle.plain_heap.proofs.Calls.Outcomes.{if_ok-bind, if_ok-then}
 
 -- P holds of the numbers that an instruction spells, and B where it names the board
@@ -33,6 +33,16 @@ Spells P B (instrs.Put x a) = B
 Spells P B (instrs.Swap d x) = B
 Spells P B _ = ⊤
 
+-- a new record of this kind may have so many values: a mixed one has its fields among them, and a word more for their count
+abbrev pub FitsKind : Kind → (values : ℕ) → Type 0
+FitsKind (Mixed fields) values = (values < LONGEST_RECORD) × (fields ≤ values)
+FitsKind _ values = values ≤ LONGEST_RECORD
+
+pub fits-short : (kind : Kind) (values : ℕ) → FitsKind kind values → values ≤ LONGEST_RECORD
+fits-short Fields values fits = fits
+fits-short Raw values fits = fits
+fits-short (Mixed fields) values fits = omega (arith, fits)
+
 -- P holds of the values, targets and records that an action names, and B where it names the board;
 -- lengths, words of the board and what is printed are in range
 abbrev pub Names : (Value → Type 0) → Type 0 → Mutator → Action → Type 0
@@ -40,10 +50,11 @@ Names P B k (Sets d v) = P v
 Names P B k (Jumps target) = P (Number target)
 Names P B k (Links d target) = P (Number target)
 Names P B k (Prints n) = P (Number n) × (length k.printed < MOST_PRINTED)
-Names P B k (Makes kind d n) = n ≤ LONGEST_RECORD
+Names P B k (Makes kind d n) = FitsKind kind n
 Names P B k (Measures d i) = P (Reference i)
 Names P B k (Loads d i x) = P (Reference i)
 Names P B k (Stores i x v) = P (Reference i) × P v
+Names P B k (Exchanges d i x expected new) = P (Reference i) × P expected × P new
 Names P B k (Gets d x) = B × (x < BOARD_WORDS)
 Names P B k (Puts x v) = B × (x < BOARD_WORDS) × P v
 Names P B k (Swaps d x v) = B × (x < BOARD_WORDS) × P v
@@ -51,6 +62,10 @@ Names P B k (Swaps d x v) = B × (x < BOARD_WORDS) × P v
 length_of-short : (n : ℕ) (short : Bool) → nat_le n LONGEST_RECORD ≡ short → IfOk (length_of n) (λ n. n ≤ LONGEST_RECORD)
 length_of-short n true is = rw is (leb-true n LONGEST_RECORD is)
 length_of-short n false is = rw is tt
+
+mixed_length-fits : (fields raw : ℕ) (short : Bool) → nat_lt (fields + raw) LONGEST_RECORD ≡ short → IfOk (mixed_length fields raw) (FitsKind (Mixed fields))
+mixed_length-fits fields raw true is = rw is (ltb-true (fields + raw) LONGEST_RECORD is, omega arith)
+mixed_length-fits fields raw false is = rw is tt
 
 in_record-within : (len x : ℕ) (within : Bool) → nat_lt x len ≡ within → IfOk (in_record len x) (λ y. y < len)
 in_record-within len x true is = rw is (ltb-true x len is)
@@ -76,9 +91,14 @@ module _ (P : Value → Type 0) (B : Type 0) (k : Mutator) (held : (r : ℕ) →
   computes-named operation d a b =
       with_number a _ (λ x is_x. with_number b _ (λ y is_y. if_ok-then (λ n. P (Number n)) Named (applied operation x y) _ (computed operation x y is_x is_y) (λ n is. is)))
 
-  allocates-named : (kind : Kind) (d : ℕ) (x : Operand) → IfOk (allocates k kind d x) Named
-  allocates-named kind d x =
-      if_ok-bind Named (operand k x) _ (λ y. if_ok-then (λ n. n ≤ LONGEST_RECORD) Named (length_of y) _ (length_of-short y (nat_le y LONGEST_RECORD) refl) (λ n short. short))
+  allocates-named : (kind : Kind) (d : ℕ) (x : Operand) → ((n : ℕ) → n ≤ LONGEST_RECORD → FitsKind kind n) → IfOk (allocates k kind d x) Named
+  allocates-named kind d x fits =
+      if_ok-bind Named (operand k x) _ (λ y. if_ok-then (λ n. n ≤ LONGEST_RECORD) Named (length_of y) _ (length_of-short y (nat_le y LONGEST_RECORD) refl) fits)
+
+  mixes-named : (d : ℕ) (fields raw : Operand) → IfOk (mixes k d fields raw) Named
+  mixes-named d fields raw =
+      if_ok-bind Named (operand k fields) _ (λ f. if_ok-bind Named (operand k raw) _ (λ r.
+      if_ok-then (FitsKind (Mixed f)) Named (mixed_length f r) _ (mixed_length-fits f r (nat_lt (f + r) LONGEST_RECORD) refl) (λ n fits. fits)))
 
   with_reference : (a : ℕ) (f : Identity → Result Action End) → ((i : Identity) → P (Reference i) → IfOk (f i) Named) → IfOk (reference_in (register k a) >>= f) Named
   with_reference a f next = if_ok-then (λ i. P (Reference i)) Named (reference_in (register k a)) f (reference_as (register k a) (held a)) next
@@ -112,10 +132,12 @@ module _ (P : Value → Type 0) (B : Type 0) (k : Mutator) (held : (r : ℕ) →
   named (instrs.Jz a target) is = target_as target (is_zero (register k a)) is
   named (instrs.Jal d target) is = is
   named (instrs.Jr a) is = with_number a _ (λ n is_n. is_n)
-  named (instrs.New d x) is = allocates-named Fields d x
-  named (instrs.Raw d x) is = allocates-named Raw d x
+  named (instrs.New d x) is = allocates-named Fields d x (λ n short. short)
+  named (instrs.Raw d x) is = allocates-named Raw d x (λ n short. short)
+  named (instrs.Mix d fields raw) is = mixes-named d fields raw
   named (instrs.Ld d a x) is = with_reference a _ (λ i is_i. if_ok-bind Named (operand k x) _ (λ y. is_i))
   named (instrs.St a x b) is = with_reference a _ (λ i is_i. if_ok-bind Named (operand k x) _ (λ y. (is_i, held b)))
+  named (instrs.Cas d a x b c) is = with_reference a _ (λ i is_i. if_ok-bind Named (operand k x) _ (λ y. (is_i, held b, held c)))
   named (instrs.Len d a) is = with_reference a _ (λ i is_i. is_i)
   named (instrs.Isp d a) is = truth (is_reference (register k a))
   named (instrs.Get d x) is = with_board_place x _ (λ y within. (is, within))

@@ -1,13 +1,13 @@
 -- What an instruction does to the words of records, and to their kinds and lengths.
-use Rattle.std.proofs.Common.{◌≡◌, ◌≢◌, ℕ, zero, suc, ◌<◌, ◌≤◌, Bool, true, false, cond, nat_lt, List, [], ◌∷◌, ◌++◌, length, replicate, Option, Some, None, Result, Ok, Err, slice_index_or, slice_set, get_or, refl, ap, sym, ◌∙◌, ⊎_elim, eq-eqb, ne_eqb, length-set, get_or-set_same, get_or-set_other}
+use Rattle.std.proofs.Common.{◌≡◌, ◌≢◌, ℕ, zero, suc, ◌<◌, ◌≤◌, Bool, true, false, cond, nat_lt, ◌==◌, ◌&&◌, List, [], ◌∷◌, ◌++◌, length, replicate, Option, Some, None, Result, Ok, Err, slice_index_or, slice_set, get_or, refl, ap, sym, ◌∙◌, ⊎_elim, eq-eqb, ne_eqb, length-set, get_or-set_same, get_or-set_other}
 use Rattle.std.specs.Option.{option_map, option_map_or}
 use Rattle.std.specs.Result.{IfOk}
-use Rattle.std.proofs.lemmas.Bool.{cases_eq, cases_lt, ltb-true}
+use Rattle.std.proofs.lemmas.Bool.{and_parts, cases_eq, cases_lt, eqb-true, ltb-true}
 use Rattle.std.proofs.lemmas.List.{set_past}
 use Rattle.plain_state.specs.declared.end.End.{End}
 use Rattle.plain_state.specs.declared.end.End.TheVariants.{OutOfRange}
 use Rattle.plain_state.specs.declared.kind.Kind.{Kind}
-use Rattle.plain_state.specs.declared.kind.Kind.TheVariants.{Fields, Raw}
+use Rattle.plain_state.specs.declared.kind.Kind.TheVariants.{Fields, Raw, Mixed}
 use Rattle.plain_state.specs.declared.value.Identity.{Identity}
 use Rattle.plain_state.specs.declared.value.Value.{Value}
 use Rattle.plain_state.specs.declared.value.Value.TheVariants.{Number, Reference}
@@ -16,11 +16,23 @@ use Rattle.plain_state.specs.Writing.{stored, gained, with_value}
 use Rattle.plain_state.proofs.Gained.{gained_elsewhere}
 use Rattle.plain_state.proofs.Stored.{stored_elsewhere, stored_there}
 use Rattle.plain_heap.specs.declared.action.Action.{Action}
-use Rattle.plain_heap.specs.declared.action.Action.TheVariants.{Makes, Loads, Stores}
-use Rattle.plain_heap.specs.Action.{◌>>=◌, action}
-use Rattle.plain_heap.specs.Call.{After, value_in, values_of, may_hold, store_in, zeros, loads, performed, call, went_on}
-use Rattle.plain_heap.specs.Records.{LoadsTakeTheWord, OnlyStoresChangeWords, RecordShape, ShapesStay, record_word, shape, shape_of, word_after}
+use Rattle.plain_heap.specs.declared.action.Action.TheVariants.{Makes, Loads, Stores, Exchanges}
+use Rattle.plain_heap.specs.Action.{◌>>=◌, are_same, action}
+use Rattle.plain_heap.specs.Call.{After, value_in, values_of, as_plain, may_hold, store_in, zeros, loads, performed, call, went_on}
+use Rattle.plain_heap.specs.Records.{ExchangesFindTheWord, IsExchanged, LoadsTakeTheWord, OnlyStoresChangeWords, RecordShape, ShapesStay, is_word, record_word, shape, shape_of, word_after}
 use Rattle.plain_heap.proofs.Calls.Outcomes.{if_ok-bind, if_ok-is}
+
+-- ---- words
+
+-- a word of a record is the same, however it is named
+same_word : (heap : Heap) (j : Identity) (y : ℕ) (i : Identity) (x : ℕ) → is_word j y i x ≡ true → record_word heap j y ≡ record_word heap i x
+same_word heap j y i x is =
+    let at = and_parts (are_same (Reference j) (Reference i)) (y == x) is in
+    let of = and_parts (j.mutator == i.mutator) (j.serial == i.serial) at.0 in
+    let e : j.mutator ≡ i.mutator = eqb-true j.mutator i.mutator of.0 in
+    let f : j.serial ≡ i.serial = eqb-true j.serial i.serial of.1 in
+    let g : y ≡ x = eqb-true y x at.1 in
+    λ t. get_or (option_map_or (λ (r : Record). r.values) (at_serial (made_by heap (e t)) (f t)) []) (g t) (Number 0)
 
 -- ---- a new record
 
@@ -66,10 +78,18 @@ module _ (heap : Heap) (m : ℕ) (kind : Kind) (n : ℕ) (i : Identity) where
 
 -- ---- a store
 
-held_same : (kind : Kind) (v w : Value) → may_hold kind v ≡ Ok w → v ≡ w
-held_same Fields v w is = cc
-held_same Raw (Number n) w is = cc
-held_same Raw (Reference i) w is = cc
+plain_same : (v w : Value) → as_plain v ≡ Ok w → v ≡ w
+plain_same (Number n) w is = cc
+plain_same (Reference i) w is = cc
+
+pub held_same : (kind : Kind) (x : ℕ) (v w : Value) → may_hold kind x v ≡ Ok w → v ≡ w
+held_same Fields x v w is = cc
+held_same Raw x v w is = plain_same v w is
+held_same (Mixed count) x v w is = mixed_same (nat_lt x count) is
+  where
+    mixed_same : (b : Bool) → cond b (Ok v) (as_plain v) ≡ Ok w → v ≡ w
+    mixed_same true h = cc
+    mixed_same false h = plain_same v w h
 
 -- in word y of record j, which is r
 module _ (heap : Heap) (j : Identity) (r : Record) (y : ℕ) (v : Value) (found : record_of heap j ≡ Some r) (i : Identity) where
@@ -125,25 +145,33 @@ module _ (heap : Heap) (j : Identity) (r : Record) (y : ℕ) (v : Value) (found 
 
 module _ (m : ℕ) (heap : Heap) (k : Mutator) (i : Identity) where
   -- whatever is so of the heap after a store, where it has its effect
-  module _ (P : After → Type 0) (j : Identity) (y : ℕ) (v : Value)
-      (so : (r : Record) → record_of heap j ≡ Some r → y < length r.values → P (record { heap = stored heap j r y v; mutator = went_on k })) where
-    by_held : (r : Record) → record_of heap j ≡ Some r → y < length r.values → (o : Result Value End) → may_hold r.kind v ≡ o
-        → IfOk ((o >>= (λ w. Ok (stored heap j r y w))) >>= (λ h. Ok (record { heap = h; mutator = went_on k }))) P
-    by_held r found inside (Ok w) is = rw (← held_same r.kind v w is) (so r found inside)
+  module _ (P : After → Type 0) (j : Identity) (y : ℕ) (v : Value) (leave : (found : Value) → Heap → After)
+      (so : (r : Record) → record_of heap j ≡ Some r → y < length r.values → P (leave (record_word heap j y) (stored heap j r y v))) where
+    by_held : (r : Record) → record_of heap j ≡ Some r → y < length r.values → (o : Result Value End) → may_hold r.kind y v ≡ o
+        → IfOk ((o >>= (λ w. Ok (stored heap j r y w))) >>= (λ h. Ok (leave (record_word heap j y) h))) P
+    by_held r found inside (Ok w) is = rw (← held_same r.kind y v w is) (so r found inside)
     by_held r found inside (Err why) is = tt
 
     by_record : (o : Option Record) → record_of heap j ≡ o → y < length (option_map_or (λ r. r.values) o [])
-        → IfOk (store_in heap j o y v >>= (λ h. Ok (record { heap = h; mutator = went_on k }))) P
+        → IfOk (store_in heap j o y v >>= (λ h. Ok (leave (record_word heap j y) h))) P
     by_record None found inside = tt
-    by_record (Some r) found inside = by_held r found inside (may_hold r.kind v) refl
+    by_record (Some r) found inside = by_held r found inside (may_hold r.kind y v) refl
 
     by_place : (b : Bool) → nat_lt y (length (values_of heap j)) ≡ b
-        → IfOk ((cond b (Ok y) (Err OutOfRange) >>= (λ z. Ok (slice_index_or (values_of heap j) z (Number 0)))) >>= (λ old. store_in heap j (record_of heap j) y v >>= (λ h. Ok (record { heap = h; mutator = went_on k })))) P
+        → IfOk ((cond b (Ok y) (Err OutOfRange) >>= (λ z. Ok (slice_index_or (values_of heap j) z (Number 0)))) >>= (λ old. store_in heap j (record_of heap j) y v >>= (λ h. Ok (leave old h)))) P
     by_place true is = by_record (record_of heap j) refl (ltb-true y (length (values_of heap j)) is)
     by_place false is = tt
 
-    performed_store : IfOk (performed m heap k (Stores j y v)) P
-    performed_store = by_place (nat_lt y (length (values_of heap j))) refl
+    -- the word is there, and the record may hold the value
+    performed_as : IfOk (value_in heap j y >>= (λ old. store_in heap j (record_of heap j) y v >>= (λ h. Ok (leave old h)))) P
+    performed_as = by_place (nat_lt y (length (values_of heap j))) refl
+
+  abbrev goes_on : Value → Heap → After
+  goes_on found h = record { heap = h; mutator = went_on k }
+
+  -- what an exchange leaves that finds this, if its store leaves this heap
+  abbrev exchanged : (d : ℕ) (expected found : Value) → Heap → After
+  exchanged d expected found h = cond (are_same found expected) (loads h k d (Number 1)) (loads heap k d (Number 0))
 
   -- ---- words
 
@@ -151,10 +179,30 @@ module _ (m : ℕ) (heap : Heap) (k : Mutator) (i : Identity) where
     abbrev IsWritten : Result Action End → After → Type 0
     IsWritten act after = record_word after.heap i x ≡ word_after act i x (record_word heap i x)
 
+    -- an exchange stores where the word is what it expects
+    stores_if : (j : Identity) (y d : ℕ) (expected v : Value) (b : Bool) → are_same (record_word heap j y) expected ≡ b
+        → word_after (Ok (Exchanges d j y expected v)) i x (record_word heap i x) ≡ cond b (word_after (Ok (Stores j y v)) i x (record_word heap i x)) (record_word heap i x)
+    stores_if j y d expected v b is = by_word (is_word j y i x) refl b is
+      where
+        by_word : (here : Bool) → is_word j y i x ≡ here → (b : Bool) → are_same (record_word heap j y) expected ≡ b
+            → cond (here && are_same (record_word heap i x) expected) v (record_word heap i x) ≡ cond b (cond here v (record_word heap i x)) (record_word heap i x)
+        by_word true here true is = rw (← same_word heap j y i x here, is) refl
+        by_word true here false is = rw (← same_word heap j y i x here, is) refl
+        by_word false here true is = refl
+        by_word false here false is = refl
+
+    exchange_words : (j : Identity) (y d : ℕ) (expected v : Value) (r : Record) → record_of heap j ≡ Some r → y < length r.values → (b : Bool) → are_same (record_word heap j y) expected ≡ b
+        → IsWritten (Ok (Exchanges d j y expected v)) (cond b (loads (stored heap j r y v) k d (Number 1)) (loads heap k d (Number 0)))
+    exchange_words j y d expected v r found inside true is = stored_word heap j r y v found i x inside ∙ sym (stores_if j y d expected v true is)
+    exchange_words j y d expected v r found inside false is = sym (stores_if j y d expected v false is)
+
     performed_words : (act : Action) → IfOk (performed m heap k act) (IsWritten (Ok act))
     performed_words (Makes kind d n) = gained_words heap m kind n i x
     performed_words (Loads d j y) = if_ok-bind (IsWritten (Ok (Loads d j y))) (value_in heap j y) _ (λ v. refl)
-    performed_words (Stores j y v) = performed_store (IsWritten (Ok (Stores j y v))) j y v (λ r found inside. stored_word heap j r y v found i x inside)
+    performed_words (Stores j y v) = performed_as (IsWritten (Ok (Stores j y v))) j y v goes_on (λ r found inside. stored_word heap j r y v found i x inside)
+    performed_words (Exchanges d j y expected v) =
+        performed_as (IsWritten (Ok (Exchanges d j y expected v))) j y v (exchanged d expected)
+        (λ r found inside. exchange_words j y d expected v r found inside (are_same (record_word heap j y) expected) refl)
     performed_words _ = refl
 
     words_by : (o : Result Action End) → IfOk (o >>= performed m heap k) (IsWritten o)
@@ -167,10 +215,15 @@ module _ (m : ℕ) (heap : Heap) (k : Mutator) (i : Identity) where
     abbrev HasShape : After → Type 0
     HasShape after = shape_of after.heap i ≡ Some s
 
+    exchange_shape : (j : Identity) (y d : ℕ) (expected v : Value) (r : Record) → record_of heap j ≡ Some r → (b : Bool) → HasShape (cond b (loads (stored heap j r y v) k d (Number 1)) (loads heap k d (Number 0)))
+    exchange_shape j y d expected v r found true = stored_shape heap j r y v found i ∙ has
+    exchange_shape j y d expected v r found false = has
+
     performed_shape : (act : Action) → IfOk (performed m heap k act) HasShape
     performed_shape (Makes kind d n) = gained_shape heap m kind n i s has
     performed_shape (Loads d j y) = if_ok-bind HasShape (value_in heap j y) _ (λ v. has)
-    performed_shape (Stores j y v) = performed_store HasShape j y v (λ r found inside. stored_shape heap j r y v found i ∙ has)
+    performed_shape (Stores j y v) = performed_as HasShape j y v goes_on (λ r found inside. stored_shape heap j r y v found i ∙ has)
+    performed_shape (Exchanges d j y expected v) = performed_as HasShape j y v (exchanged d expected) (λ r found inside. exchange_shape j y d expected v r found (are_same (record_word heap j y) expected))
     performed_shape _ = has
 
     shape_by : (o : Result Action End) → IfOk (o >>= performed m heap k) HasShape
@@ -199,3 +252,21 @@ pub loads_take_the_word : LoadsTakeTheWord
 unfolding call
 loads_take_the_word m heap k instr after d i x load is =
     if_ok-is (IsLoaded heap k d i x) (call m heap k instr) after (rw load (loaded heap k d i x (nat_lt x (length (values_of heap i))))) is
+
+-- ---- an exchange
+
+module _ (m : ℕ) (heap : Heap) (k : Mutator) (d : ℕ) (i : Identity) (x : ℕ) (expected new : Value) where
+  abbrev IsExchangedThere : After → Type 0
+  IsExchangedThere = IsExchanged heap k d (record_word heap i x) expected
+
+  exchange_by : (r : Record) (b : Bool) → are_same (record_word heap i x) expected ≡ b → IsExchangedThere (cond b (loads (stored heap i r x new) k d (Number 1)) (loads heap k d (Number 0)))
+  exchange_by r true is = record { mutator_is = rw is refl; fails = λ other. cc }
+  exchange_by r false is = record { mutator_is = rw is refl; fails = λ other. refl }
+
+  exchanged_there : IfOk (performed m heap k (Exchanges d i x expected new)) IsExchangedThere
+  exchanged_there = performed_as m heap k i IsExchangedThere i x new (exchanged m heap k i d expected) (λ r found inside. exchange_by r (are_same (record_word heap i x) expected) refl)
+
+pub exchanges_find_the_word : ExchangesFindTheWord
+unfolding call
+exchanges_find_the_word m heap k instr after d i x expected new act is =
+    if_ok-is (IsExchanged heap k d (record_word heap i x) expected) (call m heap k instr) after (rw act (exchanged_there m heap k d i x expected new)) is

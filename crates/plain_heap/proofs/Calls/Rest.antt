@@ -5,17 +5,18 @@ use Rattle.std.proofs.lemmas.Option.{same_Some}
 use Rattle.plain_state.specs.declared.end.End.{End}
 use Rattle.plain_state.specs.declared.value.Identity.{Identity}
 use Rattle.plain_state.specs.declared.value.Value.{Value}
+use Rattle.plain_state.specs.declared.value.Value.TheVariants.{Number}
 use Rattle.plain_state.specs.State.{Record, Heap, Mutator, Plain, record_of, serial_of}
 use Rattle.plain_state.specs.Writing.{stored}
 use Rattle.plain_state.proofs.Lists.{slice_get-set_other}
 use Rattle.plain_state.proofs.Stored.{stored_serial}
 use Rattle.plain_heap.specs.declared.action.Action.{Action}
-use Rattle.plain_heap.specs.declared.action.Action.TheVariants.{Makes, Loads, Stores}
+use Rattle.plain_heap.specs.declared.action.Action.TheVariants.{Makes, Loads, Stores, Exchanges}
 use Rattle.plain_heap.specs.Action.{◌>>=◌, action}
-use Rattle.plain_heap.specs.Call.{After, value_in, may_hold, store_in, zeros, performed, call, went_on}
+use Rattle.plain_heap.specs.Call.{After, value_in, may_hold, store_in, zeros, set_register, performed, call, went_on}
 use Rattle.plain_heap.specs.Calls.{CallLeavesOthers, CallKeepsCount, CallMakesNewRecord, IsMadeBy, NewRecordIsMade, ElseNoneIsMade, AsksForNewRecord}
 use Rattle.plain_heap.specs.Step.{settled, record_made}
-use Rattle.plain_heap.proofs.Calls.Outcomes.{if_ok-bind, if_ok-is}
+use Rattle.plain_heap.proofs.Calls.Outcomes.{if_ok-bind, if_ok-is, performed_exchange}
 
 -- ---- the other mutators
 
@@ -50,18 +51,20 @@ module _ (m j : ℕ) (heap : Heap) (k : Mutator) where
   abbrev MakesNone : After → Type 0
   MakesNone after = serial_of after.heap j ≡ serial_of heap j
 
-  stores-none : (i : Identity) (o : Option Record) (x : ℕ) (v : Value) → record_of heap i ≡ o → IfOk (store_in heap i o x v >>= (λ h. Ok (record { heap = h; mutator = went_on k }))) MakesNone
-  stores-none i None x v found = tt
-  stores-none i (Some r) x v found = held-none (may_hold r.kind v)
+  stores-none : (l : Mutator) (i : Identity) (o : Option Record) (x : ℕ) (v : Value) → record_of heap i ≡ o → IfOk (store_in heap i o x v >>= (λ h. Ok (record { heap = h; mutator = l }))) MakesNone
+  stores-none l i None x v found = tt
+  stores-none l i (Some r) x v found = held-none (may_hold r.kind x v)
     where
-      held-none : (o : Result Value End) → IfOk ((o >>= (λ v. Ok (stored heap i r x v))) >>= (λ h. Ok (record { heap = h; mutator = went_on k }))) MakesNone
+      held-none : (o : Result Value End) → IfOk ((o >>= (λ v. Ok (stored heap i r x v))) >>= (λ h. Ok (record { heap = h; mutator = l }))) MakesNone
       held-none (Ok v) = stored_serial heap i r x v found j
       held-none (Err why) = tt
 
   performed-none : (act : Action) → record_made (Ok act) ≡ None → IfOk (performed m heap k act) MakesNone
   performed-none (Makes kind d n) none = cc
   performed-none (Loads d i x) none = if_ok-bind MakesNone (value_in heap i x) _ (λ v. refl)
-  performed-none (Stores i x v) none = if_ok-bind MakesNone (value_in heap i x) _ (λ old. stores-none i (record_of heap i) x v refl)
+  performed-none (Stores i x v) none = if_ok-bind MakesNone (value_in heap i x) _ (λ old. stores-none (went_on k) i (record_of heap i) x v refl)
+  performed-none (Exchanges d i x expected new) none =
+      performed_exchange m heap k d i x expected new MakesNone refl (stores-none (went_on (set_register k d (Number 1))) i (record_of heap i) x new refl)
   performed-none _ none = refl
 
   none_as : (o : Result Action End) → record_made o ≡ None → IfOk (o >>= performed m heap k) MakesNone

@@ -47,12 +47,13 @@ impl PlainRecord {
         self.values.get(x as usize).copied()
     }
 
-    /// The value, where a record of this kind may hold it.
-    pub fn admit(&self, value: Value) -> Result<Value, End>
-        ensures { result ≡ may_hold self.now.kind value }
+    /// The value, where a record of this kind may hold it in word `x`.
+    pub fn admit(&self, x: u64, value: Value) -> Result<Value, End>
+        ensures { result ≡ may_hold self.now.kind x value }
     {
         match (self.kind, value) {
             (Kind::Raw, Value::Reference(_)) => Err(End::IntoRaw),
+            (Kind::Mixed(count), Value::Reference(_)) if x >= u64::from(count) => Err(End::IntoRaw),
             _ => Ok(value),
         }
     }

@@ -1,8 +1,8 @@
 //! Numbers that have to be lengths, or places in a list.
 
 ghost use Rattle.std.specs.Prelude.{◌≡◌};
-ghost use Rattle.mutator_asm.specs.declared.instr.Instr.TheVariants.{Get, Ld, Len, Put, St, Swap};
-ghost use Rattle.plain_heap.specs.Action.{action, length_of, allocates, in_record, board_place};
+ghost use Rattle.mutator_asm.specs.declared.instr.Instr.TheVariants.{Cas, Get, Ld, Len, Put, St, Swap};
+ghost use Rattle.plain_heap.specs.Action.{action, length_of, mixed_length, allocates, mixes, in_record, board_place};
 
 use crate::action::Action;
 use crate::mutator::PlainMutator;
@@ -17,6 +17,17 @@ fn length_of(number: u64) -> Result<u16, End>
         Ok(number as u16)
     } else {
         Err(End::OutOfRange)
+    }
+}
+
+/// How many values a mixed record has, else the end for one that is too long: the count of its fields
+/// takes a word.
+fn mixed_length(fields: u64, raw: u64) -> Result<u16, End>
+    ensures { result ≡ mixed_length fields raw }
+{
+    match fields.checked_add(raw) {
+        Some(len) if len < LONGEST_RECORD => Ok(len as u16),
+        _ => Err(End::OutOfRange),
     }
 }
 
@@ -48,6 +59,21 @@ pub fn allocate(mutator: &PlainMutator, kind: Kind, d: u8, x: Operand) -> Result
     Ok(Action::Makes(kind, d, len))
 }
 
+/// `mix rd xf xr`
+pub fn allocate_mixed(
+    mutator: &PlainMutator,
+    d: u8,
+    fields: Operand,
+    raw: Operand,
+) -> Result<Action, End>
+    ensures { result ≡ mixes mutator.now d fields raw }
+{
+    let fields = mutator.operand(fields)?;
+    let raw = mutator.operand(raw)?;
+    let len = mixed_length(fields, raw)?;
+    Ok(Action::Makes(Kind::Mixed(fields as u16), d, len))
+}
+
 /// `ld rd ra x`
 #[tactic(auto, unfolding(crate::specs::Action::action))]
 pub fn load(mutator: &PlainMutator, d: u8, a: u8, x: Operand) -> Result<Action, End>
@@ -66,6 +92,24 @@ pub fn store(mutator: &PlainMutator, a: u8, x: Operand, b: u8) -> Result<Action,
     let identity = mutator.reference(a)?;
     let x = mutator.operand(x)?;
     Ok(Action::Stores(identity, x, mutator.register(b)))
+}
+
+/// `cas rd ra x rb rc`
+#[tactic(auto, unfolding(crate::specs::Action::action))]
+pub fn exchange(
+    mutator: &PlainMutator,
+    d: u8,
+    a: u8,
+    x: Operand,
+    b: u8,
+    c: u8,
+) -> Result<Action, End>
+    ensures { result ≡ action mutator.now (Cas d a x b c) }
+{
+    let identity = mutator.reference(a)?;
+    let x = mutator.operand(x)?;
+    let expected = mutator.register(b);
+    Ok(Action::Exchanges(d, identity, x, expected, mutator.register(c)))
 }
 
 /// `len rd ra`

@@ -1,5 +1,5 @@
 use Rattle.std.proofs.Common.{refl}
-use Rattle.heap_words.specs.Word.{header_word}
+use Rattle.heap_words.specs.Word.{header_word, number_word}
 use Rattle.space_map.specs.AreaWord.{decode_area, area_in, encode_area}
 use Rattle.space_map.specs.PageWord.{encode_page}
 use Rattle.space_map.specs.Table.{place_of}
@@ -12,6 +12,14 @@ returns-clause-first_pair_is_placed c = record { steps = refl; ends = refl }
 pub returns-clause-next_record_is_placed : goal.returns-clause-next_record_is_placed
 unfolding header_word decode_area area_in encode_area encode_page place_of
 returns-clause-next_record_is_placed c = record { steps = refl; ends = refl }
+
+pub returns-clause-count_is_stored_first : goal.returns-clause-count_is_stored_first
+unfolding header_word number_word decode_area area_in encode_area encode_page place_of
+returns-clause-count_is_stored_first c = record { steps = refl; ends = refl }
+
+pub returns-clause-mixed_record_is_placed : goal.returns-clause-mixed_record_is_placed
+unfolding header_word number_word decode_area area_in encode_area encode_page place_of
+returns-clause-mixed_record_is_placed c = record { steps = refl; ends = refl }
 
 pub returns-clause-reserve_is_kept : goal.returns-clause-reserve_is_kept
 unfolding header_word decode_area area_in encode_area encode_page place_of

@@ -7,7 +7,7 @@ use Rattle.plain_state.specs.declared.value.Value.TheVariants.{Number}
 use Rattle.plain_state.specs.State.{Mutator, Plain}
 use Rattle.plain_state.specs.Writing.{with_board}
 use Rattle.plain_heap.specs.declared.action.Action.{Action}
-use Rattle.plain_heap.specs.declared.action.Action.TheVariants.{Sets, Jumps, Links, Prints, Makes, Measures, Loads, Stores, Gets, Puts, Swaps}
+use Rattle.plain_heap.specs.declared.action.Action.TheVariants.{Sets, Jumps, Links, Prints, Makes, Measures, Loads, Stores, Exchanges, Gets, Puts, Swaps}
 use Rattle.plain_heap.specs.Call as plain
 use Rattle.plain_heap.specs.Call.{board_word}
 use Rattle.atom_store.specs.declared.step.Step.TheVariants.{Load, Store, Exchange}
@@ -73,6 +73,7 @@ gets (Makes kind d n) y into is = absurd (cc)
 gets (Measures d i) y into is = absurd (cc)
 gets (Loads d i x) y into is = absurd (cc)
 gets (Stores i x v) y into is = absurd (cc)
+gets (Exchanges d i x u v) y into is = absurd (cc)
 gets (Puts x v) y into is = absurd (let e = same_use (record { word = x; usage = board_uses.Stores (word_for v) }) (record { word = y; usage = board_uses.Loads into }) is in cc)
 gets (Swaps d x v) y into is = absurd (let e = same_use (record { word = x; usage = board_uses.Swaps d (word_for v) }) (record { word = y; usage = board_uses.Loads into }) is in cc)
 
@@ -90,6 +91,7 @@ puts (Makes kind d n) y new is = absurd (cc)
 puts (Measures d i) y new is = absurd (cc)
 puts (Loads d i x) y new is = absurd (cc)
 puts (Stores i x v) y new is = absurd (cc)
+puts (Exchanges d i x u v) y new is = absurd (cc)
 puts (Gets d x) y new is = absurd (let e = same_use (record { word = x; usage = board_uses.Loads d }) (record { word = y; usage = board_uses.Stores new }) is in cc)
 puts (Swaps d x v) y new is = absurd (let e = same_use (record { word = x; usage = board_uses.Swaps d (word_for v) }) (record { word = y; usage = board_uses.Stores new }) is in cc)
 
@@ -108,6 +110,7 @@ swaps (Makes kind d n) s is = absurd (cc)
 swaps (Measures d i) s is = absurd (cc)
 swaps (Loads d i x) s is = absurd (cc)
 swaps (Stores i x v) s is = absurd (cc)
+swaps (Exchanges d i x u v) s is = absurd (cc)
 swaps (Gets d x) s is = absurd (let e = same_use (record { word = x; usage = board_uses.Loads d }) (record { word = s.word; usage = board_uses.Swaps s.into s.new }) is in cc)
 swaps (Puts x v) s is = absurd (let e = same_use (record { word = x; usage = board_uses.Stores (word_for v) }) (record { word = s.word; usage = board_uses.Swaps s.into s.new }) is in cc)
 

@@ -1,8 +1,8 @@
 -- The load and the store of a value of a record, whose page was found open: the instruction's effect.
-use Rattle.std.proofs.Common.{◌≡◌, ℕ, ◌+◌, ◌*◌, ◌<◌, ◌≤◌, true, [], length, Option, None, Some, Ok, slice_get, refl, ap, sym, subst, ◌∙◌, arith}
-use Rattle.std.specs.Prelude.{Result, nat_lt}
+use Rattle.std.proofs.Common.{◌≡◌, ℕ, ◌+◌, ◌*◌, ◌<◌, ◌≤◌, true, [], length, Option, None, Some, Ok, slice_get, refl, ap, sym, subst, ◌∙◌, ◌≢◌, arith, le-ltb}
+use Rattle.std.specs.Prelude.{Result, nat_le, nat_lt, slice_set}
 use Rattle.std.specs.Option.{option_map_or}
-use Rattle.std.proofs.lemmas.Bool.{lt-ltb}
+use Rattle.std.proofs.lemmas.Bool.{and_parts, leb-true, lt-ltb, ltb-true}
 use Rattle.std.proofs.lemmas.Option.{slice_get_within, get_or_from_slice_get}
 use Rattle.plain_state.specs.declared.end.End.{End}
 use Rattle.plain_state.specs.declared.kind.Kind as kinds
@@ -11,10 +11,11 @@ use Rattle.plain_state.specs.declared.sizes.TheConstants.{NUMBERS}
 use Rattle.plain_state.specs.declared.value.Identity.{Identity}
 use Rattle.plain_state.specs.declared.value.Value.{Value}
 use Rattle.plain_state.specs.declared.value.Value.TheVariants.{Number, Reference}
-use Rattle.plain_state.specs.State.{Heap, Plain, Record, record_of}
+use Rattle.plain_state.specs.Layout.{is_raw, word_of_value}
+use Rattle.plain_state.specs.State.{Heap, Mutator, Plain, Record, record_of}
 use Rattle.plain_state.specs.Writing.{stored}
 use Rattle.plain_heap.specs.declared.action.Action.{Action}
-use Rattle.plain_heap.specs.declared.action.Action.TheVariants.{Sets, Jumps, Links, Prints, Makes, Measures, Loads, Stores, Gets, Puts, Swaps}
+use Rattle.plain_heap.specs.declared.action.Action.TheVariants.{Sets, Jumps, Links, Prints, Makes, Measures, Loads, Stores, Exchanges, Gets, Puts, Swaps}
 use Rattle.plain_heap.specs.Action.{◌>>=◌}
 use Rattle.plain_heap.specs.Call as plain
 use Rattle.plain_heap.specs.Call.{After, performed, values_of, value_in, store_in, may_hold, went_on}
@@ -24,12 +25,15 @@ use Rattle.heap_words.specs.Decoded.{number_in}
 use Rattle.space_map.specs.Spaces.{page_of}
 use Rattle.space_map.specs.Table.{HeapWord, place_of}
 use Rattle.heap_state.specs.Configuration.{Configuration, Stands, era, memory, team}
-use Rattle.heap_state.specs.Memory.Entries.{Entry, WordIs}
+use Rattle.heap_state.specs.Memory.Entries.{WordIs}
 use Rattle.heap_state.specs.Invariant.Parts.Knowledge as parts
 use Rattle.heap_state.specs.Memory.Table.{word_in}
 use Rattle.heap_state.specs.Worker.{Worker}
+use Rattle.heap_state.specs.Worker as workers
+use Rattle.heap_state.proofs.Records.Layouts.{raw_is_no_field}
 use Rattle.heap_laws.specs.Fields.Effects.{IsValueOf, FitsRole, word_held, word_stored}
-use Rattle.heap_laws.specs.Fields.Held.{HoldsValue}
+use Rattle.heap_laws.specs.Fields.Held.{HoldsValue, MutatorGoesOn}
+use Rattle.heap_laws.specs.Fields.Stores.{IsAs}
 use Rattle.heap_laws.specs.Fields.Words.{MayStore, StandsFor}
 use Rattle.heap_laws.proofs.Fields.Effects.{accesses_are_values}
 use Rattle.heap_laws.proofs.Fields.Laws.{mutators_store}
@@ -47,37 +51,49 @@ use Rattle.gc_worker.specs.Workers.Held.{Held}
 use Rattle.gc_worker.specs.Workers.Knows.{known_access, access_at, opened_at}
 use Rattle.gc_worker.specs.Plain.Seen.{word_for}
 use Rattle.gc_worker.proofs.Plain.Actions.{plain_value}
+use Rattle.gc_worker.proofs.Plain.AnswerSteps.{LawTo}
 use Rattle.gc_worker.proofs.Plain.Effects.{moved, moved_goes, moved_as}
 use Rattle.gc_worker.proofs.Stages.Gate.Words.{wants}
 use Rattle.gc_worker.proofs.Stages.Scan.Headers.{heap_word}
 use Rattle.gc_worker.proofs.Words.RowSteps.{loads, stores}
 use Rattle.gc_worker.proofs.Stages.Access.Acting.{q, its, names, is_small, value_word, Held_value, IsSmall, decode_number}
-use Rattle.gc_worker.proofs.Stages.Access.Going.{at, ready, running, no_end}
+use Rattle.gc_worker.proofs.Stages.Access.Going.{at, ready, running, no_end, knew_access}
 use Rattle.gc_worker.proofs.Stages.Access.Outcomes.{goes_loading, goes_storing}
 
 -- ---- words and roles
 
-kind_by : (o : Role) (of : kinds.Kind) (word : ℕ) → parts.HasRole of word (role_of o) → of ≡ kind_of o
-kind_by roles.Field kind.Fields word has = refl
-kind_by roles.Field kind.Raw word has = absurd (cc)
-kind_by roles.Number kind.Fields word has = absurd (cc)
-kind_by roles.Number kind.Raw word has = refl
+-- the role of a value says what may be stored there, whatever kind of record it is of
+pub held_by_role : (of : kinds.Kind) (o : Role) (x : ℕ) (v : Value) → parts.HasRole of (word_of_value of x) (role_of o) → may_hold of x v ≡ may_hold (kind_of o) x v
+held_by_role kind.Fields roles.Field x v has = refl
+held_by_role kind.Fields roles.Number x v has = absurd (cc)
+held_by_role kind.Raw roles.Field x v has = absurd (cc)
+held_by_role kind.Raw roles.Number x v has = refl
+held_by_role (kind.Mixed count) roles.Field x v has =
+    let within = ltb-true (x + 2) (count + 2) (and_parts (nat_le 2 (x + 2)) (nat_lt (x + 2) (count + 2)) has).1 in
+    rw (lt-ltb x count (omega (arith, within))) refl
+held_by_role (kind.Mixed count) roles.Number x v has =
+    let behind = leb-true (count + 2) (x + 2) has in
+    rw (le-ltb x count (omega (arith, behind))) refl
+
+known_role : (o : Role) → role_of o ≢ workers.UnknownRole
+known_role roles.Field same = absurd (cc)
+known_role roles.Number same = absurd (cc)
 
 -- what is stored for a value that may be held
-stored_as : (o : Role) (v : Value) → IsSmall v → may_hold (kind_of o) v ≡ Ok v → word_stored (role_of o) (word_for v) ≡ Some (word_as o v)
-stored_as roles.Field v small may = refl
-stored_as roles.Number (Number n) small may = ap number_in (decode_number n small)
-stored_as roles.Number (Reference i) small may = absurd (cc)
+stored_as : (o : Role) (x : ℕ) (v : Value) → IsSmall v → may_hold (kind_of o) x v ≡ Ok v → word_stored (role_of o) (word_for v) ≡ Some (word_as o v)
+stored_as roles.Field x v small may = refl
+stored_as roles.Number x (Number n) small may = ap number_in (decode_number n small)
+stored_as roles.Number x (Reference i) small may = absurd (cc)
 
-may_plain : (identity : ℕ → Identity) (o : Role) (v : Value) → may_hold (kind_of o) v ≡ Ok v → may_hold (kind_of o) (plain_value identity v) ≡ Ok (plain_value identity v)
-may_plain identity roles.Field v may = refl
-may_plain identity roles.Number (Number n) may = refl
-may_plain identity roles.Number (Reference i) may = absurd (cc)
+may_plain : (identity : ℕ → Identity) (o : Role) (x : ℕ) (v : Value) → may_hold (kind_of o) x v ≡ Ok v → may_hold (kind_of o) x (plain_value identity v) ≡ Ok (plain_value identity v)
+may_plain identity roles.Field x v may = refl
+may_plain identity roles.Number x (Number n) may = refl
+may_plain identity roles.Number x (Reference i) may = absurd (cc)
 
-fits_as : (o : Role) (v : Value) → IsSmall v → may_hold (kind_of o) v ≡ Ok v → FitsRole (role_of o) (word_as o v)
-fits_as roles.Field v small may = tt
-fits_as roles.Number (Number n) small may = small
-fits_as roles.Number (Reference i) small may = absurd (cc)
+fits_as : (o : Role) (x : ℕ) (v : Value) → IsSmall v → may_hold (kind_of o) x v ≡ Ok v → FitsRole (role_of o) (word_as o v)
+fits_as roles.Field x v small may = tt
+fits_as roles.Number x (Number n) small may = small
+fits_as roles.Number x (Reference i) small may = absurd (cc)
 
 -- ---- the plain heap
 
@@ -90,38 +106,77 @@ module _ (heap : Heap) (i : Identity) (r : Record) (x : ℕ) (v : Value) (there 
 
 module _ (c : Configuration) (p : Plain) (s : Stands c p) (k : ℕ) (y : Held) where
   -- a field of the record that an action names
-  module _ (j : Identity) (role : Role) (x : ℕ) where
+  module _ (j : Identity) (first : ℕ) (role : Role) (x : ℕ) where
     abbrev f : FieldAccess
-    f = field_of j.serial role x
+    f = field_of j.serial first role x
 
     abbrev word : ℕ
     word = word_in c.pages c.words (HeapWord (field_at f))
 
     module _ (stage : AccessStage) (is : Is c k (at c p s k y stage)) (knows_it : access_at stage ≡ Some (known_access f)) (found : opened_at y.layout stage ≡ Some (page_of (field_at f))) where
-      value_is : IsValueOf (era c) (memory c) s.ghost p (known_access f) x
+      pub value_is : IsValueOf (era c) (memory c) s.ghost p (known_access f) x
       value_is =
-          accesses_are_values (era c) (memory c) (team c) s.ghost p k (known_access f) x (ready c p s k y stage is) s.shown (ap (λ (w : Worker). w.access) is.as_known ∙ knows_it)
-          (ap (λ (w : Worker). w.opened) is.as_known ∙ found) refl
+          accesses_are_values (era c) (memory c) (team c) s.ghost p k (known_access f) x (ready c p s k y stage is) s.shown (ap (λ (w : Worker). w.access) is.as_known ∙ knows_it) (known_role role)
+          (ap (λ (w : Worker). w.opened) is.as_known ∙ found) (ap (λ (n : ℕ). x + n) (knew_access c p s k y stage is (known_access f) knows_it).first)
 
-      kind_is : value_is.record_there.kind ≡ kind_of role
-      kind_is = kind_by role value_is.record_there.kind (x + 1) value_is.role
+      held_is : (v : Value) → may_hold value_is.record_there.kind x v ≡ may_hold (kind_of role) x v
+      held_is v = held_by_role value_is.record_there.kind role x v value_is.role
 
-      there_in_plain : value_in p.heap (s.ghost.identity j.serial) x ≡ Ok value_is.value
+      pub there_in_plain : value_in p.heap (s.ghost.identity j.serial) x ≡ Ok value_is.value
       there_in_plain = value_there p.heap (s.ghost.identity j.serial) value_is.record_there x value_is.value value_is.is value_is.there
 
       -- ---- the load
 
-      holds : HoldsValue (era c) s.ghost (word_held (role_of role) word) value_is.value
+      pub holds : HoldsValue (era c) s.ghost (word_held (role_of role) word) value_is.value
       holds = subst (λ (w : ℕ). HoldsValue (era c) s.ghost (word_held (role_of role) w) value_is.value) (heap_word c (field_at f)) value_is.loaded
 
-      may : MayStore (era c) s.ghost.size s.ghost.writer (s.ghost.kind j.serial) x ((memory c).heap (field_at f))
-      may = words_are_loaded (era c) (memory c) (team c) s.ghost k j.serial x (ready c p s k y stage is) value_is.word value_is.opens
+      -- it stands at the value's word
+      there_is : j.serial + word_of_value (s.ghost.kind j.serial) x ≡ field_at f
+      there_is = let b = (knew_access c p s k y stage is (known_access f) knows_it).first in omega (arith, b)
 
-      fits_role : (o : Role) → role ≡ o → FitsRole (role_of o) word
+      may : MayStore (era c) s.ghost.size s.ghost.writer (s.ghost.kind j.serial) x ((memory c).heap (field_at f))
+      may = rw there_is at (words_are_loaded (era c) (memory c) (team c) s.ghost k j.serial x (ready c p s k y stage is) value_is.word (rw there_is value_is.opens))
+
+      pub fits_role : (o : Role) → role ≡ o → FitsRole (role_of o) word
       fits_role roles.Field same = tt
       fits_role roles.Number same =
-          let raw : s.ghost.kind j.serial ≡ kind.Raw = sym value_is.kind ∙ (kind_is ∙ ap kind_of same) in
-          subst (λ (w : ℕ). w < NUMBERS) (heap_word c (field_at f)) (may.number (rw raw refl))
+          let raw : is_raw (s.ghost.kind j.serial) (word_of_value (s.ghost.kind j.serial) x) ≡ true =
+          subst (λ (k : kinds.Kind). is_raw k (word_of_value k x) ≡ true) value_is.kind
+          (subst (λ (o : Role). parts.HasRole value_is.record_there.kind (word_of_value value_is.record_there.kind x) (role_of o)) same value_is.role) in
+          subst (λ (w : ℕ). w < NUMBERS) (heap_word c (field_at f)) (may.number (raw_is_no_field (s.ghost.kind j.serial) (word_of_value (s.ghost.kind j.serial) x) raw))
+
+      -- ---- a value that is stored there
+
+      module _ (v : Value) (holds_new : Held_value c p s k y stage is v) (holding : may_hold (kind_of role) x v ≡ Ok v) where
+        abbrev new : Value
+        new = plain_value s.ghost.identity v
+
+        small : IsSmall v
+        small = is_small c p s k y stage is v holds_new
+
+        may_store : MayStore (era c) s.ghost.size s.ghost.writer (s.ghost.kind j.serial) x (word_as role v) × StandsFor s.ghost (s.ghost.kind j.serial) x (word_as role v) new
+        may_store = value_is.stored (word_for v) (word_as role v) new holds_new (stored_as role x v small holding) (fits_as role x v small holding)
+
+        abbrev pub heap_after : Heap
+        heap_after = stored p.heap (s.ghost.identity j.serial) value_is.record_there x new
+
+        store_there : store_in p.heap (s.ghost.identity j.serial) (record_of p.heap (s.ghost.identity j.serial)) x new ≡ Ok heap_after
+        store_there = rw (value_is.is, held_is new, may_plain s.ghost.identity role x v holding) refl
+
+        -- the plain machine finds the value there, and may store this one
+        pub stores_in_plain : (leave : (found : Value) → Heap → After)
+            → (value_in p.heap (s.ghost.identity j.serial) x >>= (λ (found : Value). store_in p.heap (s.ghost.identity j.serial) (record_of p.heap (s.ghost.identity j.serial)) x new >>= (λ (heap : Heap). Ok (leave found heap)))) ≡ Ok (leave value_is.value heap_after)
+        stores_in_plain leave =
+            ap (λ (o : Result Value End). o >>= (λ (found : Value). store_in p.heap (s.ghost.identity j.serial) (record_of p.heap (s.ghost.identity j.serial)) x new >>= (λ (heap : Heap). Ok (leave found heap)))) there_in_plain
+            ∙ ap (λ (o : Result Heap End). o >>= (λ (heap : Heap). Ok (leave value_is.value heap))) store_there
+
+        -- the store, after which the mutator goes on so
+        pub stored_law : (next : Worker) (now : Mutator) → MutatorGoesOn (era c) (memory c) s.ghost ((team c).worker k) next → IsAs s.ghost p.heap k next now
+            → LawTo c p s k (at c p s k y stage) (Some (WordIs (field_at f) (word_as role v))) next s.ghost (record { heap = heap_after; mutators = slice_set p.mutators k now })
+        stored_law next now goes as_it =
+            let here = there_is in
+            rw here at (mutators_store (era c) (memory c) (team c) s.ghost p k next now j.serial x (word_as role v) value_is.record_there new
+            (ready c p s k y stage is) (running c p s k y stage is) s.shown value_is.word (rw here value_is.opens) may_store.0 value_is.is may_store.1 goes as_it)
 
     module _ (d : ℕ) (is : Is c k (at c p s k y (LoadsField f d))) (executes : ExecutesAction y.account y.registers y.task (Loads d j x)) where
       loads_it : Goes c p s k None (at c p s k y (LoadsField f d)) (replies.Value word)
@@ -134,53 +189,35 @@ module _ (c : Configuration) (p : Plain) (s : Stands c p) (k : ℕ) (y : Held) w
 
     -- ---- the store
 
-    module _ (v : Value) (is : Is c k (at c p s k y (StoresField f (word_as role v)))) (executes : ExecutesAction y.account y.registers y.task (Stores j x v)) (holding : may_hold (kind_of role) v ≡ Ok v) where
+    module _ (v : Value) (is : Is c k (at c p s k y (StoresField f (word_as role v)))) (executes : ExecutesAction y.account y.registers y.task (Stores j x v)) (holding : may_hold (kind_of role) x v ≡ Ok v) where
       abbrev stage : AccessStage
       stage = StoresField f (word_as role v)
 
       abbrev own_x : Held
       own_x = at c p s k y stage
 
-      abbrev there : IsValueOf (era c) (memory c) s.ghost p (known_access f) x
-      there = value_is stage is refl refl
+      abbrev now : Mutator
+      now = went_on (q c p s k y stage is)
 
-      abbrev i : Identity
-      i = s.ghost.identity j.serial
+      holds_new : Held_value c p s k y stage is v
+      holds_new = (names c p s k y stage is (Stores j x v) executes).1
 
-      abbrev new : Value
-      new = plain_value s.ghost.identity v
+      abbrev later : Heap
+      later = heap_after stage is refl refl v holds_new holding
 
-      holds_both : Held_value c p s k y stage is (Reference j) × Held_value c p s k y stage is v
-      holds_both = names c p s k y stage is (Stores j x v) executes
+      acts : performed k p.heap (q c p s k y stage is) (Stores (s.ghost.identity j.serial) x (plain_value s.ghost.identity v)) ≡ Ok (record { heap = later; mutator = now })
+      acts = stores_in_plain stage is refl refl v holds_new holding (λ old heap. record { heap = heap; mutator = now })
 
-      small : IsSmall v
-      small = is_small c p s k y stage is v holds_both.1
-
-      may_store : MayStore (era c) s.ghost.size s.ghost.writer (s.ghost.kind j.serial) x (word_as role v) × StandsFor s.ghost (s.ghost.kind j.serial) x (word_as role v) new
-      may_store = there.stored (word_for v) (word_as role v) new holds_both.1 (stored_as role v small holding) (fits_as role v small holding)
-
-      abbrev entry : Entry
-      entry = WordIs (field_at f) (word_as role v)
-
-      abbrev after : After
-      after = record { heap = stored p.heap i there.record_there x new; mutator = went_on (q c p s k y stage is) }
-
-      acts : performed k p.heap (q c p s k y stage is) (Stores i x new) ≡ Ok after
-      acts =
-          ap (λ (o : Result Value End). o >>= (λ (old : Value). store_in p.heap i (record_of p.heap i) x new >>= (λ (heap : Heap). Ok (record { heap = heap; mutator = went_on (q c p s k y stage is) })))) (there_in_plain stage is refl refl)
-          ∙ rw (there.is, kind_is stage is refl refl, may_plain s.ghost.identity role v holding) refl
-
-      stores_it : Goes c p s k (Some entry) own_x replies.Done
+      stores_it : Goes c p s k (Some (WordIs (field_at f) (word_as role v))) own_x replies.Done
       stores_it =
-          goes_storing c p s k y stage is (Stores j x v) executes (Some entry) replies.Done after refl acts
-          (mutators_store (era c) (memory c) (team c) s.ghost p k (moved c p s k own_x is refl (no_end c p s k y stage is) y.registers) (went_on (q c p s k y stage is)) j.serial x (word_as role v) there.record_there new
-          (ready c p s k y stage is) (running c p s k y stage is) s.shown there.word there.opens may_store.0 there.is may_store.1
+          goes_storing c p s k y stage is (Stores j x v) executes (Some (WordIs (field_at f) (word_as role v))) replies.Done (record { heap = later; mutator = now }) refl acts
+          (stored_law stage is refl refl v holds_new holding (moved c p s k own_x is refl (no_end c p s k y stage is) y.registers) now
           (moved_goes c p s k own_x is refl (no_end c p s k y stage is) (q c p s k y stage is) (its c p s k y stage is)) (moved_as c p s k own_x is refl (no_end c p s k y stage is) (q c p s k y stage is) (its c p s k y stage is))) tt
 
   -- ---- the stages
 
   module _ (f : FieldAccess) where
-    in_table : IsHeapAddress y.layout.pages (field_at f) → y.layout.pages ≡ c.pages → field_at f ≤ 128 * c.pages + 63
+    pub in_table : IsHeapAddress y.layout.pages (field_at f) → y.layout.pages ≡ c.pages → field_at f ≤ 128 * c.pages + 63
     in_table inside n = omega (arith, inside, n)
 
     loads_by : (into : ℕ) (act : Action) → ExecutesAction y.account y.registers y.task act → IsFieldOfAction act f (field_uses.Loads into) → Is c k (at c p s k y (LoadsField f into))
@@ -188,9 +225,10 @@ module _ (c : Configuration) (p : Plain) (s : Stands c p) (k : ℕ) (y : Held) w
     loads_by into (Loads d j x) executes of is =
         let same : into ≡ d = let e = of.1 in cc in
         subst (λ (g : FieldAccess). Is c k (at c p s k y (LoadsField g into)) → Goes c p s k None (at c p s k y (LoadsField g into)) (replies.Value (word_in c.pages c.words (HeapWord (field_at g))))) (sym of.0)
-        (subst (λ (n : ℕ). Is c k (at c p s k y (LoadsField (field_of j.serial f.role x) n)) → Goes c p s k None (at c p s k y (LoadsField (field_of j.serial f.role x) n)) (replies.Value (word_in c.pages c.words (HeapWord (field_at (field_of j.serial f.role x)))))) (sym same)
-        (λ its. loads_it j f.role x d its executes)) is
+        (subst (λ (n : ℕ). Is c k (at c p s k y (LoadsField (field_of j.serial f.first f.role x) n)) → Goes c p s k None (at c p s k y (LoadsField (field_of j.serial f.first f.role x) n)) (replies.Value (word_in c.pages c.words (HeapWord (field_at (field_of j.serial f.first f.role x)))))) (sym same)
+        (λ its. loads_it j f.first f.role x d its executes)) is
     loads_by into (Stores j x v) executes of is = absurd (let e = of.2 in cc)
+    loads_by into (Exchanges d j x u v) executes of is = absurd (let e = of.2 in cc)
     loads_by into (Sets d v) executes of is = absurd of
     loads_by into (Jumps target) executes of is = absurd of
     loads_by into (Links d target) executes of is = absurd of
@@ -211,9 +249,10 @@ module _ (c : Configuration) (p : Plain) (s : Stands c p) (k : ℕ) (y : Held) w
     stores_by new (Stores j x v) executes of is =
         let same : new ≡ word_as f.role v = let e = of.2 in cc in
         subst (λ (g : FieldAccess). Is c k (at c p s k y (StoresField g new)) → Goes c p s k (Some (WordIs (field_at g) new)) (at c p s k y (StoresField g new)) replies.Done) (sym of.0)
-        (subst (λ (n : ℕ). Is c k (at c p s k y (StoresField (field_of j.serial f.role x) n)) → Goes c p s k (Some (WordIs (field_at (field_of j.serial f.role x)) n)) (at c p s k y (StoresField (field_of j.serial f.role x) n)) replies.Done) (sym same)
-        (λ its. stores_it j f.role x v its executes of.1)) is
+        (subst (λ (n : ℕ). Is c k (at c p s k y (StoresField (field_of j.serial f.first f.role x) n)) → Goes c p s k (Some (WordIs (field_at (field_of j.serial f.first f.role x)) n)) (at c p s k y (StoresField (field_of j.serial f.first f.role x) n)) replies.Done) (sym same)
+        (λ its. stores_it j f.first f.role x v its executes of.1)) is
     stores_by new (Loads d j x) executes of is = absurd (let e = of.1 in cc)
+    stores_by new (Exchanges d j x u v) executes of is = absurd (let e = of.2 in cc)
     stores_by new (Sets d v) executes of is = absurd of
     stores_by new (Jumps target) executes of is = absurd of
     stores_by new (Links d target) executes of is = absurd of

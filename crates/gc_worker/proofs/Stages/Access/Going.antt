@@ -1,9 +1,12 @@
 -- A mutator that makes an access: what is so of it, and how it goes on to the next stage, or to a round for a page that isn't open.
-use Rattle.std.proofs.Common.{◌≡◌, ℕ, ◌<◌, ◌≤◌, true, false, slice_index, Option, Some, None, is_some, refl, sym, ap, subst, ◌∙◌}
+use Rattle.std.proofs.Common.{◌≡◌, ℕ, ◌<◌, ◌≤◌, ◌==◌, Bool, true, false, cond, slice_index, Option, Some, None, is_some, refl, sym, ap, subst, ◌∙◌}
+use Rattle.std.proofs.lemmas.Bool.{eqb-true}
+use Rattle.std.proofs.lemmas.Option.{same_Some}
 use Rattle.plain_state.specs.State.{Plain}
+use Rattle.plain_heap.specs.declared.action.Action.{Action}
 use Rattle.atom_store.specs.declared.reply.Reply.{Reply}
 use Rattle.space_map.specs.declared.page_word.PageWord.TheVariants.{Open}
-use Rattle.space_map.specs.Spaces.{board_page}
+use Rattle.space_map.specs.Spaces.{board_page, page_of}
 use Rattle.fault_duty.specs.declared.caller.Caller.TheVariants as callers
 use Rattle.fault_duty.specs.Duty as duty
 use Rattle.plain_state.specs.declared.end.End.{End}
@@ -19,15 +22,19 @@ use Rattle.heap_laws.proofs.Fields.Laws.{goes_on_so, mutators_learn}
 use Rattle.heap_laws.proofs.Fields.Shown.{registers_are_held}
 use Rattle.gc_worker.specs.declared.access.Access.{Access}
 use Rattle.gc_worker.specs.declared.access.access_stage.AccessStage.{AccessStage}
+use Rattle.gc_worker.specs.declared.access.access_stage.AccessStage.TheVariants.{LooksAtField, LoadsField, StoresField, LoadsForCas}
 use Rattle.gc_worker.specs.declared.access.accessed.Accessed.TheVariants.{Faults}
+use Rattle.gc_worker.specs.declared.access.field_access.FieldAccess.{FieldAccess}
+use Rattle.gc_worker.specs.declared.access.field_access.FieldUse.{FieldUse}
+use Rattle.gc_worker.specs.declared.access.field_access.FieldUse.TheVariants as field_uses
 use Rattle.gc_worker.specs.declared.stage.back.Back.TheVariants.{ToAccess}
 use Rattle.gc_worker.specs.declared.stage.Stage.TheVariants.{Accesses, Serves}
-use Rattle.gc_worker.specs.Steps.Access.{Answered, GoesTo, Comes, answered, turn_by, goes_by, FitsStage}
+use Rattle.gc_worker.specs.Steps.Access.{Answered, GoesTo, Comes, FitsFieldUse, FitsStage, IsFieldOfAction, IsHeapAddress, answered, field_at, goes_by, read_before, to_field, turn_by, uses_field}
 use Rattle.gc_worker.specs.Steps.Access as access
-use Rattle.gc_worker.specs.Workers.Fits.{Fits, IsAccessing, IsFaulting}
+use Rattle.gc_worker.specs.Workers.Fits.{ExecutesAction, Fits, IsAccessing, IsFaulting}
 use Rattle.gc_worker.specs.Steps.Goes.{Is, Goes}
 use Rattle.gc_worker.specs.Workers.Held.{Held, at_stage}
-use Rattle.gc_worker.specs.Workers.Knows.{knows, access_at, opened_at}
+use Rattle.gc_worker.specs.Workers.Knows.{knows, access_at, known_access, opened_at}
 use Rattle.gc_worker.specs.Steps.Turned.{turned_access, told_access}
 use Rattle.gc_worker.proofs.Workers.Parts.{refit, page_count}
 use Rattle.gc_worker.proofs.Words.RowSteps.{Law, becomes, nothing, prepared}
@@ -99,6 +106,36 @@ module _ (c : Configuration) (p : Plain) (s : Stands c p) (k : ℕ) (y : Held) w
     goes_to next reply e law task fits takes =
         becomes c p s k x None reply (at next) s.ghost (ap (λ (r : Answered). turned_access x (goes_by (own stage) r) (turn_by r)) e) is.below law
         (ap (λ (r : Answered). told_access y.task (turn_by r)) e) refl takes (next_fits next task fits)
+
+    -- what it then accesses is this alone
+    pub it_only : (f g : workers.Access) → parts.Accesses (era c) s.ghost.size s.ghost.writer s.ghost.kind f → Some f ≡ Some g → parts.Accesses (era c) s.ghost.size s.ghost.writer s.ghost.kind g
+    it_only f g allowed e = subst (parts.Accesses (era c) s.ghost.size s.ghost.writer s.ghost.kind) (same_Some f g e) allowed
+
+    -- a word on a page that was found open already
+    pub same_page : (last at : ℕ) → opened_at y.layout stage ≡ Some (page_of last) → (page_of last == page_of at) ≡ true → (page : ℕ) → Some (page_of at) ≡ Some page → (table c).page page ≡ Open (era c).epoch
+    same_page last at found same page e = knew_opened page (found ∙ ap Some (eqb-true (page_of last) (page_of at) same) ∙ e)
+
+    -- ---- a field, behind the word that was read last
+
+    module _ (act : Action) (executes : ExecutesAction y.account y.registers y.task act) (f : FieldAccess) (reply : Reply) (allowed : parts.Accesses (era c) s.ghost.size s.ghost.writer s.ghost.kind (known_access f))
+        (in_heap : IsHeapAddress y.layout.pages (field_at f)) (found : opened_at y.layout stage ≡ Some (page_of (read_before f))) (takes : access.AccessTakes stage reply) where
+      field_by : (usage : FieldUse) (b : Bool) → (page_of (read_before f) == page_of (field_at f)) ≡ b → IsFieldOfAction act f usage → FitsFieldUse usage
+          → answered (own stage) reply ≡ GoesTo (cond b (uses_field f usage) (LooksAtField f usage)) → Goes c p s k None x reply
+      field_by (field_uses.Loads into) true same of fits comes =
+          goes_to (LoadsField f into) reply comes (learns (LoadsField f into) (λ g e. it_only (known_access f) g allowed e) (same_page (read_before f) (field_at f) found same))
+          (record { act = act; executes = executes; is = of }) (in_heap, fits) takes
+      field_by (field_uses.Stores new) true same of fits comes =
+          goes_to (StoresField f new) reply comes (learns (StoresField f new) (λ g e. it_only (known_access f) g allowed e) (same_page (read_before f) (field_at f) found same))
+          (record { act = act; executes = executes; is = of }) in_heap takes
+      field_by (field_uses.Exchanges e) true same of fits comes =
+          goes_to (LoadsForCas f e) reply comes (learns (LoadsForCas f e) (λ g e. it_only (known_access f) g allowed e) (same_page (read_before f) (field_at f) found same))
+          (record { act = act; executes = executes; is = of }) (in_heap, fits) takes
+      field_by usage false other of fits comes =
+          goes_to (LooksAtField f usage) reply comes (learns (LooksAtField f usage) (λ g e. it_only (known_access f) g allowed e) (λ page e. knew_opened page (found ∙ e)))
+          (record { act = act; executes = executes; is = of }) (in_heap, fits) takes
+
+      pub goes_on_to_field : (usage : FieldUse) → IsFieldOfAction act f usage → FitsFieldUse usage → answered (own stage) reply ≡ to_field usage f → Goes c p s k None x reply
+      goes_on_to_field usage of fits comes = field_by usage (page_of (read_before f) == page_of (field_at f)) refl of fits comes
 
     -- ---- a fault
 

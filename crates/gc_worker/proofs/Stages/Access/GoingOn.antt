@@ -1,14 +1,15 @@
 -- An access goes on: where a reply neither ends it nor takes it on, a word that can't be there holds it up, or a lost exchange.
-use Rattle.std.proofs.Common.{◌≡◌, ℕ, Bool, true, false, cond, List, refl}
+use Rattle.std.proofs.Common.{◌≡◌, ℕ, Bool, true, false, cond, List, refl, eq-eqb, ne_eqb}
 use Rattle.atom_store.specs.declared.reply.Reply.{Reply}
 use Rattle.atom_store.specs.declared.reply.Reply.TheVariants.{Won, Lost}
 use Rattle.atom_store.specs.declared.turn.Turn.TheVariants.{More}
 use Rattle.atom_store.specs.Step.{reply_of}
 use Rattle.gc_worker.specs.declared.access.Access.{Access}
 use Rattle.gc_worker.specs.declared.access.access_stage.AccessStage.{AccessStage}
-use Rattle.gc_worker.specs.declared.access.access_stage.AccessStage.TheVariants.{LooksAtRecord, LoadsHeader, LooksAtField, LoadsField, StoresField, LooksAtBoard, LoadsBoard, StoresBoard, LoadsForSwap, SwapsBoard}
-use Rattle.gc_worker.specs.Steps.Access.{advances_at, at_stage, told, wanted}
-use Rattle.gc_worker.specs.Steps.HeldUp.{AccessesGoOn, IsHeldUp, LostSwapsLoadAgain}
+use Rattle.gc_worker.specs.declared.access.access_stage.AccessStage.TheVariants.{LooksAtRecord, LoadsHeader, LooksAtCount, LoadsCount, LooksAtField, LoadsField, StoresField, LoadsForCas, ExchangesField, LooksAtBoard, LoadsBoard, StoresBoard, LoadsForSwap, SwapsBoard}
+use Rattle.heap_laws.specs.Fields.Effects.{word_held}
+use Rattle.gc_worker.specs.Steps.Access.{advances_at, at_stage, role_of, told, wanted}
+use Rattle.gc_worker.specs.Steps.HeldUp.{AccessesGoOn, IsHeldUp, LostExchangesCompareAgain, LostSwapsLoadAgain}
 
 module _ (a : Access) where
   abbrev Holds : AccessStage → Reply → Type 0
@@ -22,9 +23,13 @@ module _ (a : Access) where
   held : (stage : AccessStage) (met : List ℕ) → Holds stage (reply_of (wanted (at_stage a stage)) met)
   held (LooksAtRecord r) met more stays = absurd (cc)
   held (LoadsHeader r) met more stays = stays
+  held (LooksAtCount m) met more stays = absurd (cc)
+  held (LoadsCount m) met more stays = stays
   held (LooksAtField f usage) met more stays = absurd (cc)
   held (LoadsField f into) met more stays = absurd (cc)
   held (StoresField f new) met more stays = absurd (cc)
+  held (LoadsForCas f e) met more stays = absurd (cc)
+  held (ExchangesField f e old) met more stays = exchanged _ _ (ExchangesField f e old) (λ e f. absurd (cc)) (λ e f. tt) more stays
   held (LooksAtBoard b) met more stays = absurd (cc)
   held (LoadsBoard x into) met more stays = absurd (cc)
   held (StoresBoard x new) met more stays = absurd (cc)
@@ -36,3 +41,12 @@ accesses_go_on a met = held a a.stage met
 
 pub lost_swaps_load_again : LostSwapsLoadAgain
 lost_swaps_load_again a s old found = record { more = refl; goes_back = refl; loads = refl; then_from = λ word. refl }
+
+pub lost_exchanges_compare_again : LostExchangesCompareAgain
+lost_exchanges_compare_again a f e old found = record {
+  more = refl;
+  goes_back = refl;
+  loads = refl;
+  then_from = λ word same. rw (eq-eqb (word_held (role_of f.role) word) e.expected same) refl;
+  else_fails = λ word other. rw (ne_eqb (word_held (role_of f.role) word) e.expected other) refl;
+}

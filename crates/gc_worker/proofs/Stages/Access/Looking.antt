@@ -1,7 +1,6 @@
 -- The looks at a page: it is open, or a round of the duty begins for it.
-use Rattle.std.proofs.Common.{◌≡◌, ℕ, ◌*◌, ◌≤◌, ◌⊎◌, inl, inr, ◌==◌, Bool, true, false, Some, None, refl, sym, ap, subst, ◌∙◌, arith}
+use Rattle.std.proofs.Common.{◌≡◌, ℕ, ◌*◌, ◌≤◌, ◌⊎◌, inl, inr, ◌==◌, Bool, true, false, Some, None, refl, sym, ap, ◌∙◌, arith}
 use Rattle.std.proofs.lemmas.Bool.{eqb-true}
-use Rattle.std.proofs.lemmas.Option.{same_Some}
 use Rattle.plain_state.specs.State.{Plain}
 use Rattle.atom_store.specs.declared.step.Step.TheVariants.{Load}
 use Rattle.atom_store.specs.declared.reply.Reply.TheVariants.{Value}
@@ -14,25 +13,26 @@ use Rattle.heap_state.specs.Configuration.{Configuration, Stands, table, era}
 use Rattle.heap_state.specs.Invariant.Parts.Knowledge as parts
 use Rattle.heap_state.specs.Worker as workers
 use Rattle.gc_worker.specs.declared.access.access_stage.AccessStage.{AccessStage}
-use Rattle.gc_worker.specs.declared.access.access_stage.AccessStage.TheVariants.{LooksAtRecord, LoadsHeader, LooksAtField, LoadsField, StoresField, LooksAtBoard, LoadsBoard, StoresBoard, LoadsForSwap}
+use Rattle.gc_worker.specs.declared.access.access_stage.AccessStage.TheVariants.{LooksAtRecord, LoadsHeader, LooksAtCount, LoadsCount, LooksAtField, LoadsField, StoresField, LoadsForCas, LooksAtBoard, LoadsBoard, StoresBoard, LoadsForSwap}
 use Rattle.gc_worker.specs.declared.access.accessed.Accessed.TheVariants.{Faults}
 use Rattle.gc_worker.specs.declared.access.board_access.BoardUse.{BoardUse}
 use Rattle.gc_worker.specs.declared.access.board_access.BoardUse.TheVariants as board_uses
 use Rattle.gc_worker.specs.declared.access.field_access.FieldAccess.{FieldAccess}
 use Rattle.gc_worker.specs.declared.access.field_access.FieldUse.{FieldUse}
 use Rattle.gc_worker.specs.declared.access.field_access.FieldUse.TheVariants as field_uses
+use Rattle.gc_worker.specs.declared.access.mixed_access.MixedAccess.{MixedAccess}
 use Rattle.gc_worker.specs.declared.access.record_access.RecordAccess.{RecordAccess}
-use Rattle.gc_worker.specs.Steps.Access.{GoesTo, Comes, IsHeapAddress, FitsStage, answered, let_through, looked, page_step, field_at}
+use Rattle.gc_worker.specs.Steps.Access.{GoesTo, Comes, IsHeapAddress, FitsStage, answered, let_through, looked, page_step, count_at, field_at}
 use Rattle.gc_worker.specs.Steps.Access as access
 use Rattle.gc_worker.specs.Workers.Fits.{IsAccessing, IsFaulting}
 use Rattle.gc_worker.specs.Steps.Goes.{Is, Goes, StepsSo}
 use Rattle.gc_worker.specs.Workers.Held.{Held}
-use Rattle.gc_worker.specs.Workers.Knows.{access_at, opened_at, known_access}
+use Rattle.gc_worker.specs.Workers.Knows.{access_at, opened_at, known_access, uncounted_access}
 use Rattle.gc_worker.proofs.Words.Eras.{start_is}
 use Rattle.gc_worker.proofs.Stages.Gate.Words.{wants}
 use Rattle.gc_worker.proofs.Stages.Rounds.Words.{page_now, page_says}
 use Rattle.gc_worker.proofs.Words.RowSteps.{loads}
-use Rattle.gc_worker.proofs.Stages.Access.Going.{own, at, present, knew_access, learns, goes_to, goes_faulting}
+use Rattle.gc_worker.proofs.Stages.Access.Going.{own, at, present, knew_access, it_only, learns, goes_to, goes_faulting}
 
 -- ---- the protection
 
@@ -96,13 +96,28 @@ module _ (c : Configuration) (p : Plain) (s : Stands c p) (k : ℕ) (y : Held) w
           wants c p s k (at c p s k y stage) (Load (place_of c.pages (Page page))) (ap Some asks ∙ ap (λ n. Some (Load (place_of n (Page page)))) is.fits.pages)
           (loads c p s k (at c p s k y stage) (Page page) in_table (goes (through page y.epoch next says)))
 
-  -- ---- the three looks
+  -- ---- a record
 
   pub looks_at_record : (r : RecordAccess) → Is c k (at c p s k y (LooksAtRecord r)) → (era c).start ≤ r.at → StepsSo c p s k (at c p s k y (LooksAtRecord r))
   looks_at_record r is low =
       let fits = is.fits.stage.sound.stage in
       looks (LooksAtRecord r) is (LoadsHeader r) (page_of r.at) refl (λ word. refl) (λ word. tt) (page_within y.layout.pages r.at fits.0) (in_space (LooksAtRecord r) is r.at low) refl
       (λ f e. absurd (cc)) (record { act = is.fits.task.act; executes = is.fits.task.executes; is = is.fits.task.is }) fits
+
+  -- ---- a count
+
+  module _ (m : MixedAccess) (is : Is c k (at c p s k y (LooksAtCount m))) where
+    of_mixed : parts.Accesses (era c) s.ghost.size s.ghost.writer s.ghost.kind (uncounted_access m)
+    of_mixed = knew_access c p s k y (LooksAtCount m) is (uncounted_access m) refl
+
+    pub looks_at_count : StepsSo c p s k (at c p s k y (LooksAtCount m))
+    looks_at_count =
+        let fits = is.fits.stage.sound.stage in
+        let inside = fits.0 in
+        let start = of_mixed.inside.0 in
+        looks (LooksAtCount m) is (LoadsCount m) (page_of (count_at m)) refl (λ word. refl) (λ word. tt) (page_within y.layout.pages (count_at m) (omega (arith, inside)))
+        (in_space (LooksAtCount m) is (count_at m) (omega (arith, start))) refl (λ g e. it_only c p s k y (LooksAtCount m) is (uncounted_access m) g of_mixed e)
+        (record { act = is.fits.task.act; executes = is.fits.task.executes; is = is.fits.task.is }) fits
 
   -- ---- a field
 
@@ -113,20 +128,22 @@ module _ (c : Configuration) (p : Plain) (s : Stands c p) (k : ℕ) (y : Held) w
     low : (usage : FieldUse) (is : Is c k (at c p s k y (LooksAtField f usage))) → (era c).start ≤ field_at f
     low usage is = let i = (in_field usage is).inside.0 in omega (arith, i)
 
-    it_only : parts.Accesses (era c) s.ghost.size s.ghost.writer s.ghost.kind (known_access f) → (g : workers.Access) → Some (known_access f) ≡ Some g → parts.Accesses (era c) s.ghost.size s.ghost.writer s.ghost.kind g
-    it_only knew g e = subst (parts.Accesses (era c) s.ghost.size s.ghost.writer s.ghost.kind) (same_Some (known_access f) g e) knew
-
     pub looks_at_field : (usage : FieldUse) → Is c k (at c p s k y (LooksAtField f usage)) → StepsSo c p s k (at c p s k y (LooksAtField f usage))
     looks_at_field (field_uses.Loads into) is =
         let fits = is.fits.stage.sound.stage in
         looks (LooksAtField f (field_uses.Loads into)) is (LoadsField f into) (page_of (field_at f)) refl (λ word. refl) (λ word. tt) (page_within y.layout.pages (field_at f) fits.0)
-        (in_space (LooksAtField f (field_uses.Loads into)) is (field_at f) (low (field_uses.Loads into) is)) refl (it_only (in_field (field_uses.Loads into) is))
+        (in_space (LooksAtField f (field_uses.Loads into)) is (field_at f) (low (field_uses.Loads into) is)) refl (λ g e. it_only c p s k y (LooksAtField f (field_uses.Loads into)) is (known_access f) g (in_field (field_uses.Loads into) is) e)
         (record { act = is.fits.task.act; executes = is.fits.task.executes; is = is.fits.task.is }) fits
     looks_at_field (field_uses.Stores new) is =
         let fits = is.fits.stage.sound.stage in
         looks (LooksAtField f (field_uses.Stores new)) is (StoresField f new) (page_of (field_at f)) refl (λ word. refl) (λ word. tt) (page_within y.layout.pages (field_at f) fits.0)
-        (in_space (LooksAtField f (field_uses.Stores new)) is (field_at f) (low (field_uses.Stores new) is)) refl (it_only (in_field (field_uses.Stores new) is))
+        (in_space (LooksAtField f (field_uses.Stores new)) is (field_at f) (low (field_uses.Stores new) is)) refl (λ g e. it_only c p s k y (LooksAtField f (field_uses.Stores new)) is (known_access f) g (in_field (field_uses.Stores new) is) e)
         (record { act = is.fits.task.act; executes = is.fits.task.executes; is = is.fits.task.is }) fits.0
+    looks_at_field (field_uses.Exchanges e) is =
+        let fits = is.fits.stage.sound.stage in
+        looks (LooksAtField f (field_uses.Exchanges e)) is (LoadsForCas f e) (page_of (field_at f)) refl (λ word. refl) (λ word. tt) (page_within y.layout.pages (field_at f) fits.0)
+        (in_space (LooksAtField f (field_uses.Exchanges e)) is (field_at f) (low (field_uses.Exchanges e) is)) refl (λ g e'. it_only c p s k y (LooksAtField f (field_uses.Exchanges e)) is (known_access f) g (in_field (field_uses.Exchanges e) is) e')
+        (record { act = is.fits.task.act; executes = is.fits.task.executes; is = is.fits.task.is }) fits
 
   -- ---- the board
 

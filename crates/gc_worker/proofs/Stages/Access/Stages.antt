@@ -1,26 +1,29 @@
 -- All stages of an access.
-use Rattle.std.proofs.Common.{◌≡◌, ℕ, ◌≤◌, true, Some, sym, ap, subst}
+use Rattle.std.proofs.Common.{◌≡◌, ℕ, ◌≤◌, true, Some, is_some, sym, ap, subst}
 use Rattle.plain_state.specs.State.{Plain}
 use Rattle.plain_state.specs.declared.value.Value.TheVariants.{Reference}
 use Rattle.plain_heap.specs.declared.action.Action.{Action}
-use Rattle.plain_heap.specs.declared.action.Action.TheVariants.{Sets, Jumps, Links, Prints, Makes, Measures, Loads, Stores, Gets, Puts, Swaps}
-use Rattle.heap_words.specs.Decoded.{decode}
+use Rattle.plain_heap.specs.declared.action.Action.TheVariants.{Sets, Jumps, Links, Prints, Makes, Measures, Loads, Stores, Exchanges, Gets, Puts, Swaps}
+use Rattle.heap_words.specs.Decoded.{Decoded, decode, number_in}
 use Rattle.heap_state.specs.Configuration.{Configuration, Stands, era, memory}
 use Rattle.gc_worker.specs.declared.access.Access.{Access}
 use Rattle.gc_worker.specs.declared.access.access_stage.AccessStage.{AccessStage}
-use Rattle.gc_worker.specs.declared.access.access_stage.AccessStage.TheVariants.{LooksAtRecord, LoadsHeader, LooksAtField, LoadsField, StoresField, LooksAtBoard, LoadsBoard, StoresBoard, LoadsForSwap, SwapsBoard}
+use Rattle.gc_worker.specs.declared.access.access_stage.AccessStage.TheVariants.{LooksAtRecord, LoadsHeader, LooksAtCount, LoadsCount, LooksAtField, LoadsField, StoresField, LoadsForCas, ExchangesField, LooksAtBoard, LoadsBoard, StoresBoard, LoadsForSwap, SwapsBoard}
+use Rattle.gc_worker.specs.declared.access.mixed_access.MixedAccess.{MixedAccess}
 use Rattle.gc_worker.specs.declared.access.record_access.RecordAccess.{RecordAccess}
 use Rattle.gc_worker.specs.declared.stage.Stage.TheVariants.{Accesses}
-use Rattle.gc_worker.specs.Steps.Access.{begun, is_header}
+use Rattle.gc_worker.specs.Steps.Access.{begun, count_at, is_header}
 use Rattle.gc_worker.specs.Workers.Fits.{ExecutesAction}
 use Rattle.gc_worker.specs.Steps.Goes.{Is, StepsSo}
 use Rattle.gc_worker.specs.Workers.Held.{Held, at_stage}
 use Rattle.gc_worker.proofs.Stages.Access.Acting.{led, names, Held_value}
 use Rattle.gc_worker.proofs.Stages.Access.Board.{loads_board, stores_board, loads_for_swap, swaps_board}
+use Rattle.gc_worker.proofs.Stages.Access.Counts.{loads_count, says}
+use Rattle.gc_worker.proofs.Stages.Access.Exchanges.{loads_for_cas, exchanges_field}
 use Rattle.gc_worker.proofs.Stages.Access.Fields.{loads_field, stores_field}
 use Rattle.gc_worker.proofs.Stages.Access.Going.{own, at}
 use Rattle.gc_worker.proofs.Stages.Access.Headers.{loads_header}
-use Rattle.gc_worker.proofs.Stages.Access.Looking.{looks_at_record, looks_at_field, looks_at_board}
+use Rattle.gc_worker.proofs.Stages.Access.Looking.{looks_at_record, looks_at_count, looks_at_field, looks_at_board}
 
 module _ (c : Configuration) (p : Plain) (s : Stands c p) (k : ℕ) (x : Held) where
   -- ---- the record that the action names
@@ -36,6 +39,7 @@ module _ (c : Configuration) (p : Plain) (s : Stands c p) (k : ℕ) (x : Held) w
     named_by (Measures d j) executes e = at_address _ e (names c p s k x stage is (Measures d j) executes)
     named_by (Loads d j y) executes e = at_address _ e (names c p s k x stage is (Loads d j y) executes)
     named_by (Stores j y v) executes e = at_address _ e (names c p s k x stage is (Stores j y v) executes).0
+    named_by (Exchanges d j y u v) executes e = at_address _ e (names c p s k x stage is (Exchanges d j y u v) executes).0
     named_by (Sets d v) executes e = absurd (cc)
     named_by (Jumps target) executes e = absurd (cc)
     named_by (Links d target) executes e = absurd (cc)
@@ -53,14 +57,22 @@ module _ (c : Configuration) (p : Plain) (s : Stands c p) (k : ℕ) (x : Held) w
   header_there r is =
       ap is_header (led c p s k x (LoadsHeader r) is r.at is.fits.stage.sound.stage.0 (named_by (LoadsHeader r) r is is.fits.task.act is.fits.task.executes is.fits.task.is)).header
 
+  -- and where it loads a count, a number
+  pub number_there : (m : MixedAccess) (is : Is c k (at c p s k x (LoadsCount m))) → is_some (number_in (decode ((memory c).heap (count_at m)))) ≡ true
+  number_there m is = ap (λ (d : Decoded). is_some (number_in d)) (says c p s k x m is).says
+
   -- ---- the stages
 
   by_stage : (stage : AccessStage) → Is c k (at c p s k x stage) → StepsSo c p s k (at c p s k x stage)
   by_stage (LooksAtRecord r) is = looks_at_record c p s k x r is (low r is)
   by_stage (LoadsHeader r) is = loads_header c p s k x r is
+  by_stage (LooksAtCount m) is = looks_at_count c p s k x m is
+  by_stage (LoadsCount m) is = loads_count c p s k x m is
   by_stage (LooksAtField f usage) is = looks_at_field c p s k x f usage is
   by_stage (LoadsField f into) is = loads_field c p s k x f into is
   by_stage (StoresField f new) is = stores_field c p s k x f new is
+  by_stage (LoadsForCas f e) is = loads_for_cas c p s k x f e is
+  by_stage (ExchangesField f e old) is = exchanges_field c p s k x f e old is
   by_stage (LooksAtBoard b) is = looks_at_board c p s k x b.word b.usage is
   by_stage (LoadsBoard word into) is = loads_board c p s k x word into is
   by_stage (StoresBoard word new) is = stores_board c p s k x word new is

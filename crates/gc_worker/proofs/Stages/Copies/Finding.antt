@@ -14,7 +14,7 @@ use Rattle.forwarding.specs.Soundness.{IsSound}
 use Rattle.forwarding.specs.Taken.{by_first_word, stage_after}
 use Rattle.forwarding.specs.Taken as evac_taken
 use Rattle.page_scan.specs.declared.scan_stage.ScanStage.{ScanStage}
-use Rattle.page_scan.specs.declared.scan_stage.ScanStage.TheVariants.{LoadsCross, LoadsFirst, LoadsWord, Asks, StoresCopy, LoadsFront, LoadsNext}
+use Rattle.page_scan.specs.declared.scan_stage.ScanStage.TheVariants.{LoadsCross, LoadsFirst, LoadsCount, LoadsWord, Asks, StoresCopy, LoadsFront, LoadsNext}
 use Rattle.page_scan.specs.declared.scan_stage.ScanStage.TheVariants as scan_stage
 use Rattle.page_scan.specs.Scanning.{Scanning}
 use Rattle.page_scan.specs.Taken.{answered}
@@ -57,6 +57,7 @@ module _ (y : Held) (v : Evacuation) (scan : Scanning) (back : Back) where
   answer_known z (Asks asked) to has = λ i. record (knows (going_on (Asks asked) to)) { quest = Some (record { old = sym has i; origin = Rattle.heap_state.specs.Worker.Scanned (cursor_asked (Asks asked)); found = Some to }) }
   answer_known z LoadsCross to has = absurd has
   answer_known z (LoadsFirst a) to has = absurd has
+  answer_known z (LoadsCount h) to has = absurd has
   answer_known z (LoadsWord spot) to has = absurd has
   answer_known z (StoresCopy asked b) to has = absurd has
   answer_known z (LoadsFront r) to has = absurd has
@@ -75,6 +76,7 @@ module _ (y : Held) (v : Evacuation) (scan : Scanning) (back : Back) where
       (record { layout = g.layout; epoch = g.epoch; sound = record { pages = g.sound.pages; page = g.sound.page; fits = g.sound.fits } }, tt, back_fits (Asks asked) z to back f.stage.3)
   answer_fits n mutators k z LoadsCross to f has = absurd has
   answer_fits n mutators k z (LoadsFirst a) to f has = absurd has
+  answer_fits n mutators k z (LoadsCount h) to f has = absurd has
   answer_fits n mutators k z (LoadsWord spot) to f has = absurd has
   answer_fits n mutators k z (StoresCopy asked b) to f has = absurd has
   answer_fits n mutators k z (LoadsFront r) to f has = absurd has

@@ -1,5 +1,5 @@
 -- An instruction that ends its mutator: the registers alone never show that the heap is full.
-use Rattle.std.proofs.Common.{◌≡◌, ℕ, Bool, true, false, cond, nat_lt, nat_le, length, Result, Ok, Err, subst}
+use Rattle.std.proofs.Common.{◌≡◌, ℕ, ◌+◌, Bool, true, false, cond, nat_lt, nat_le, length, Result, Ok, Err, subst}
 use Rattle.std.specs.Prelude.{⊤, ◌==◌}
 use Rattle.plain_state.specs.declared.end.End.{End}
 use Rattle.plain_state.specs.declared.end.End.TheVariants.{OutOfRange, OutputFull, ZeroDivisor}
@@ -18,7 +18,7 @@ use Rattle.mutator_asm.specs.declared.operand.Operand.{Operand}
 use Rattle.mutator_asm.specs.declared.operand.Operand.TheVariants as operands
 use Rattle.plain_heap.specs.declared.action.Action.{Action}
 use Rattle.plain_heap.specs.declared.action.Action.TheVariants.{Prints}
-use Rattle.plain_heap.specs.Action.{◌>>=◌, register, as_number, reference_in, operand, length_of, on_board, board_place, computes, allocates, action}
+use Rattle.plain_heap.specs.Action.{◌>>=◌, register, as_number, reference_in, operand, length_of, mixed_length, on_board, board_place, computes, allocates, mixes, action}
 use Rattle.gc_worker.specs.Workers.Fits.{MayStop}
 
 -- where it has an end, it is not that the heap is full
@@ -67,6 +67,11 @@ module _ (m : Mutator) where
   allocates_stops kind d x =
       bind (operand m x) _ (operand_stops x) (λ n. bind (length_of n) _ (if_else n OutOfRange (nat_le n LONGEST_RECORD) tt) (λ len. tt))
 
+  mixes_stops : (d : ℕ) (fields raw : Operand) → Stops (mixes m d fields raw)
+  mixes_stops d fields raw =
+      bind (operand m fields) _ (operand_stops fields) (λ f. bind (operand m raw) _ (operand_stops raw) (λ r.
+      bind (mixed_length f r) _ (if_else (f + r) OutOfRange (nat_lt (f + r) LONGEST_RECORD) tt) (λ n. tt)))
+
   board_stops : (x : Operand) → Stops (board_place m x)
   board_stops x = bind (operand m x) on_board (operand_stops x) (λ n. if_else n OutOfRange (nat_lt n BOARD_WORDS) tt)
 
@@ -87,8 +92,10 @@ module _ (m : Mutator) where
   action_stops (instrs.Jr a) = bind (as_number (register m a)) _ (number_stops (register m a)) (λ n. tt)
   action_stops (instrs.New d x) = allocates_stops Fields d x
   action_stops (instrs.Raw d x) = allocates_stops Raw d x
+  action_stops (instrs.Mix d fields raw) = mixes_stops d fields raw
   action_stops (instrs.Ld d a x) = bind (reference_in (register m a)) _ (reference_stops (register m a)) (λ i. bind (operand m x) _ (operand_stops x) (λ n. tt))
   action_stops (instrs.St a x b) = bind (reference_in (register m a)) _ (reference_stops (register m a)) (λ i. bind (operand m x) _ (operand_stops x) (λ n. tt))
+  action_stops (instrs.Cas d a x b c) = bind (reference_in (register m a)) _ (reference_stops (register m a)) (λ i. bind (operand m x) _ (operand_stops x) (λ n. tt))
   action_stops (instrs.Len d a) = bind (reference_in (register m a)) _ (reference_stops (register m a)) (λ i. tt)
   action_stops (instrs.Isp d a) = tt
   action_stops (instrs.Get d x) = bind (board_place m x) _ (board_stops x) (λ n. tt)

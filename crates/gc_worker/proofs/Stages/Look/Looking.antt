@@ -7,7 +7,7 @@ use Rattle.plain_state.specs.State.{Heap, Mutator, Plain}
 use Rattle.mutator_asm.specs.declared.instr.Instr.{Instr}
 use Rattle.mutator_asm.specs.Program.{is_valid}
 use Rattle.plain_heap.specs.declared.action.Action.{Action}
-use Rattle.plain_heap.specs.declared.action.Action.TheVariants.{Sets, Jumps, Links, Prints, Makes, Measures, Loads, Stores, Gets, Puts, Swaps}
+use Rattle.plain_heap.specs.declared.action.Action.TheVariants.{Sets, Jumps, Links, Prints, Makes, Measures, Loads, Stores, Exchanges, Gets, Puts, Swaps}
 use Rattle.plain_heap.specs.Action.{◌>>=◌, action}
 use Rattle.plain_heap.specs.Call.{performed, call}
 use Rattle.plain_heap.specs.Step.{ended as plain_ended}
@@ -126,6 +126,7 @@ module _ (c : Configuration) (p : Plain) (s : Stands c p) (k : ℕ) (y : Held) w
       acts_so (Measures d i) e so = beginning.measures c p s k y is unended q mutator.1 instr task reply so.tells d i e so.turns
       acts_so (Loads d i n) e so = beginning.loads c p s k y is unended q mutator.1 instr task reply so.tells d i n e so.turns
       acts_so (Stores i n v) e so = beginning.stores c p s k y is unended q mutator.1 instr task reply so.tells i n v e so.turns
+      acts_so (Exchanges d i n u v) e so = beginning.exchanges c p s k y is unended q mutator.1 instr task reply so.tells d i n u v e so.turns
       acts_so (Gets d n) e so = beginning.gets c p s k y is unended q mutator.1 instr task reply so.tells d n e so.turns
       acts_so (Puts n v) e so = beginning.puts c p s k y is unended q mutator.1 instr task reply so.tells n v e so.turns
       acts_so (Swaps d n v) e so = beginning.swaps c p s k y is unended q mutator.1 instr task reply so.tells d n v e so.turns

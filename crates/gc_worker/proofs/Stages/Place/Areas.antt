@@ -75,7 +75,7 @@ module _ (c : Configuration) (p : Plain) (s : Stands c p) (k : ℕ) (y : Held) (
   stage_fits false test = tt
 
   worker_fits : (b : Bool) → fits false (words_for header) area ≡ b → Fits c.pages c.mutators k (then b)
-  worker_fits true test = replace c p s k y run header (LoadsArea false) (ExchangesArea (record { traced = false; area = area })) is tt (stage_fits true test)
+  worker_fits true test = replace c p s k y run header (LoadsArea false) (ExchangesArea (record { traced = false; area = area })) is tt tt (stage_fits true test)
   worker_fits false test =
       refit c.pages c.mutators k x is.fits (Serves (duty.begun x.layout callers.Allocates x.epoch x.number) ToPlace) is.fits.end is.fits.side is.fits.task.0
       (record { layout = refl; worker = refl; caller = tt; epoch = refl; going = tt; sound = record { pages = page_count c.pages c.mutators k x is.fits; caller = tt; epoch = is.fits.epoch; worker = rw is.fits.number is.fits.few; stage = tt } }, tt)
@@ -87,7 +87,7 @@ module _ (c : Configuration) (p : Plain) (s : Stands c p) (k : ℕ) (y : Held) (
   goes b test =
       becomes c p s k x None (Value (area_now c space)) (then b) s.ghost (ap by (reads b test) ∙ comes b) is.below
       (nothing c p s k x is (knows (then b)) (known b)) (ap (λ (t : PlaceStage). told_place x (told (placing c p s k y run header t))) (reads b test) ∙ silent b) refl
-      (record { pages = is.fits.stage.sound.pages; run = is.fits.stage.sound.run; epoch = is.fits.stage.sound.epoch; stage = subst (FitsPlaceStage y.layout.pages (pages_for (size_of header)) run header) (sym (reads b test)) (stage_fits b test) })
+      (record { pages = is.fits.stage.sound.pages; run = is.fits.stage.sound.run; fields = is.fits.stage.sound.fields; epoch = is.fits.stage.sound.epoch; stage = subst (FitsPlaceStage y.layout.pages (pages_for (size_of header)) run header) (sym (reads b test)) (stage_fits b test) })
       (worker_fits b test)
 
   pub loads_area : StepsSo c p s k x

@@ -1,5 +1,5 @@
 -- A mutator claims pages for a record: TRACED is read, and the area is exchanged.
-use Rattle.std.proofs.Common.{◌≡◌, ℕ, ◌+◌, ◌-◌, ◌*◌, ◌<◌, ◌≤◌, ◌==◌, Bool, true, false, Some, None, refl, ap, sym, subst, ◌∙◌, arith}
+use Rattle.std.proofs.Common.{◌≡◌, ℕ, ◌+◌, ◌-◌, ◌*◌, ◌<◌, ◌≤◌, ◌==◌, Bool, true, false, Some, None, [], refl, ap, sym, subst, ◌∙◌, arith}
 use Rattle.std.proofs.lemmas.Bool.{eqb-true}
 use Rattle.plain_state.specs.State.{Plain}
 use Rattle.atom_store.specs.declared.step.Step.TheVariants.{Load, Exchange}
@@ -29,9 +29,9 @@ use Rattle.heap_laws.proofs.Steps.Answers.{areas_are_read}
 use Rattle.heap_laws.proofs.Steps.Composing.{steps_forget}
 use Rattle.heap_laws.proofs.Steps.Forgotten.{traced_is_forgotten}
 use Rattle.gc_worker.specs.declared.stage.Stage.TheVariants.{Places}
-use Rattle.gc_worker.specs.Workers.Fits.{Fits}
+use Rattle.gc_worker.specs.Workers.Fits.{Fits, LeavesShortRun}
 use Rattle.gc_worker.specs.Steps.Goes.{Is, Goes, StepsSo}
-use Rattle.gc_worker.specs.Workers.Held.{Held, at_stage}
+use Rattle.gc_worker.specs.Workers.Held.{Held, at_stage, fields_for}
 use Rattle.gc_worker.specs.Workers.Knows.{knows, zeroed_to}
 use Rattle.gc_worker.proofs.Words.Areas.{area_now, area_is, is_space}
 use Rattle.gc_worker.proofs.Words.Eras.{start_is, board_is, span_is}
@@ -42,16 +42,16 @@ use Rattle.gc_worker.proofs.Words.RowSteps.{Law, becomes, loads, exchanges, noth
 
 module _ (c : Configuration) (p : Plain) (s : Stands c p) (k : ℕ) (y : Held) (run : Run) (header : Header) where
   abbrev pub placing : PlaceStage → Placing
-  placing stage = record { layout = y.layout; run = run; header = header; epoch = y.epoch; stage = stage }
+  placing stage = record { layout = y.layout; run = run; header = header; fields = fields_for y; epoch = y.epoch; stage = stage }
 
   abbrev pub at : PlaceStage → Held
   at stage = at_stage y (Places (placing stage))
 
   -- a mutator that allocates at another stage
-  pub replace : (before stage : PlaceStage) → Is c k (at before) → IsPlacingGoing stage → FitsPlaceStage y.layout.pages (pages_for (size_of header)) run header stage → Fits c.pages c.mutators k (at stage)
-  replace before stage is going fits =
+  pub replace : (before stage : PlaceStage) → Is c k (at before) → IsPlacingGoing stage → LeavesShortRun run header stage → FitsPlaceStage y.layout.pages (pages_for (size_of header)) run header stage → Fits c.pages c.mutators k (at stage)
+  replace before stage is going rest fits =
       refit c.pages c.mutators k (at before) is.fits (Places (placing stage)) is.fits.end is.fits.side is.fits.task
-      (record { layout = refl; epoch = refl; going = going; sound = record { pages = is.fits.stage.sound.pages; run = is.fits.stage.sound.run; epoch = is.fits.stage.sound.epoch; stage = fits } })
+      (record { layout = refl; epoch = refl; fields = refl; going = going; rest = rest; sound = record { pages = is.fits.stage.sound.pages; run = is.fits.stage.sound.run; fields = is.fits.stage.sound.fields; epoch = is.fits.stage.sound.epoch; stage = fits } })
 
   -- its epoch is the current one
   pub now : (before : PlaceStage) → Is c k (at before) → y.epoch ≡ (era c).epoch
@@ -65,8 +65,8 @@ module _ (c : Configuration) (p : Plain) (s : Stands c p) (k : ℕ) (y : Held) (
     goes : (b : Bool) → (traced_now c == y.epoch + 1) ≡ b → Goes c p s k None (at LoadsTraced) (Value (traced_now c))
     goes b test =
         becomes c p s k (at LoadsTraced) None (Value (traced_now c)) (at (LoadsArea b)) s.ghost (ap (λ (t : Bool). at (LoadsArea t)) test) is.below (learnt b test) refl refl
-        (record { pages = is.fits.stage.sound.pages; run = is.fits.stage.sound.run; epoch = is.fits.stage.sound.epoch; stage = tt })
-        (replace LoadsTraced (LoadsArea b) is tt tt)
+        (record { pages = is.fits.stage.sound.pages; run = is.fits.stage.sound.run; fields = is.fits.stage.sound.fields; epoch = is.fits.stage.sound.epoch; stage = tt })
+        (replace LoadsTraced (LoadsArea b) is tt tt tt)
       where
         learnt : (b : Bool) → (traced_now c == y.epoch + 1) ≡ b → Law c p s k (at LoadsTraced) None (knows (at (LoadsArea b))) s.ghost
         learnt false test = nothing c p s k (at LoadsTraced) is (knows (at (LoadsArea false))) refl
@@ -124,7 +124,7 @@ module _ (c : Configuration) (p : Plain) (s : Stands c p) (k : ℕ) (y : Held) (
           start_is c ∙ (ap (λ (n : ℕ). space_start n (to_space (era c).epoch)) (sym is.fits.pages) ∙ ap (space_start y.layout.pages) same_space) in
           let first : (era c).start + (f.area.low - 64 * asked) ≡ first_claimed (placing (ExchangesArea f)) f = ap (λ (n : ℕ). n + (f.area.low - 64 * asked)) start in
           let end : (era c).start + f.area.low ≡ first_claimed (placing (ExchangesArea f)) f + words_for header = omega (arith, start, room.kept) in
-          λ i. record { epoch = y.epoch; at = first i; end = end i; zeroed = first i; opened = first i }
+          λ i. record { epoch = y.epoch; at = first i; end = end i; zeroed = first i; opened = first i; ahead = [] }
 
       area_is_so : lowered f.area asked (owed_beside f.traced f.area) ≡ area_after (words_for header) f
       area_is_so = let b = beside f.traced in λ i. record { front = f.area.front; low = f.area.low - words_for header; owed = b i }
@@ -166,15 +166,15 @@ module _ (c : Configuration) (p : Plain) (s : Stands c p) (k : ℕ) (y : Held) (
           let some : 0 < words_for header = omega arith in
           let fits : FitsPlaceStage y.layout.pages asked run header (StoresZero new_pages) = (lies, omega arith, omega (arith, some)) in
           becomes c p s k x (Some (AreaIs space (area_after (words_for header) f))) Won (at (StoresZero new_pages)) s.ghost refl is.below stocks refl refl
-          (record { pages = is.fits.stage.sound.pages; run = is.fits.stage.sound.run; epoch = is.fits.stage.sound.epoch; stage = fits })
-          (replace (ExchangesArea f) (StoresZero new_pages) is tt fits)
+          (record { pages = is.fits.stage.sound.pages; run = is.fits.stage.sound.run; fields = is.fits.stage.sound.fields; epoch = is.fits.stage.sound.epoch; stage = fits })
+          (replace (ExchangesArea f) (StoresZero new_pages) is tt tt fits)
 
     loses : Goes c p s k None x (Lost (area_now c space))
     loses =
         becomes c p s k x None (Lost (area_now c space)) (at LoadsTraced) s.ghost refl is.below
         (less c p s k x is (knows (at LoadsTraced)) (traced_is_forgotten (knows x) refl refl)) refl refl
-        (record { pages = is.fits.stage.sound.pages; run = is.fits.stage.sound.run; epoch = is.fits.stage.sound.epoch; stage = tt })
-        (replace (ExchangesArea f) LoadsTraced is tt tt)
+        (record { pages = is.fits.stage.sound.pages; run = is.fits.stage.sound.run; fields = is.fits.stage.sound.fields; epoch = is.fits.stage.sound.epoch; stage = tt })
+        (replace (ExchangesArea f) LoadsTraced is tt tt tt)
 
     pub exchanges_area : StepsSo c p s k x
     exchanges_area =

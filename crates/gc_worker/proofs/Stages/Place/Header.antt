@@ -6,6 +6,7 @@ use Rattle.heap_words.specs.Decoded.{PointerWord, HeaderWord, decode, encode}
 use Rattle.heap_words.specs.Word.{pointer_word}
 use Rattle.heap_words.proofs.Decoding.{decode-pointer_word, decode-header_word}
 use Rattle.plain_state.specs.declared.end.End.{End}
+use Rattle.plain_state.specs.Layout.{values_at}
 use Rattle.plain_state.specs.State.{Mutator, Plain}
 use Rattle.plain_state.specs.Writing.{zeros}
 use Rattle.mutator_asm.specs.declared.instr.Instr.{Instr}
@@ -28,7 +29,7 @@ use Rattle.heap_state.specs.Memory.Entries.{Entry, WordIs}
 use Rattle.heap_state.specs.Invariant.Ghost.{Ghost, header_kind}
 use Rattle.heap_state.specs.Meaning.Values.{Shows, value_of}
 use Rattle.heap_state.specs.Worker.{Account, Stock, Worker}
-use Rattle.heap_laws.specs.Allocation.Records.{PlacesNext, allocated, next_identity}
+use Rattle.heap_laws.specs.Allocation.Records.{PlacesNext, allocated, next_identity, stored_ahead}
 use Rattle.heap_laws.specs.Fields.Stores.{with_record}
 use Rattle.heap_laws.proofs.Allocation.Placed.{mutators_place}
 use Rattle.heap_laws.proofs.Allocation.Shown.{zeros_show}
@@ -37,7 +38,7 @@ use Rattle.gc_worker.specs.Plain.Answer.{after_outcome}
 use Rattle.gc_worker.specs.Workers.Fits.{Fits, IsMaking}
 use Rattle.gc_worker.specs.Steps.Goes.{Is, Goes, StepsSo}
 use Rattle.gc_worker.specs.Workers.Held.{Held}
-use Rattle.gc_worker.specs.Workers.Knows.{knows, stock_of}
+use Rattle.gc_worker.specs.Workers.Knows.{knows, counted_in, kind_with}
 use Rattle.gc_worker.specs.Plain.Seen.{Making, IsValueAs, seen}
 use Rattle.gc_worker.specs.declared.calls.did.Did.TheVariants.{Done}
 use Rattle.gc_worker.specs.Steps.Turned.{Answers, turned, told, told_effect}
@@ -46,7 +47,7 @@ use Rattle.gc_worker.proofs.Plain.AnswerSteps.{LawTo, IsIts, answers, its_mutato
 use Rattle.gc_worker.proofs.Plain.Effects.{moved, moved_goes, moved_as}
 use Rattle.gc_worker.proofs.Stages.Gate.Resuming.{end_none}
 use Rattle.gc_worker.proofs.Stages.Gate.Words.{wants}
-use Rattle.gc_worker.proofs.Plain.NewRecords.{made, made_is, header_made}
+use Rattle.gc_worker.proofs.Plain.NewRecords.{made, made_is, fields_held, fields_is, fits_kind, header_made, kind_said, sized}
 use Rattle.gc_worker.proofs.Stages.Place.Acts.{makes_alike}
 use Rattle.gc_worker.proofs.Stages.Place.Claiming.{placing, at}
 use Rattle.gc_worker.proofs.Workers.Answered.{registers_put, values_set, settled_as, settled_fits}
@@ -64,6 +65,10 @@ module _ (c : Configuration) (p : Plain) (s : Stands c p) (k : ℕ) (y : Held) (
 
   abbrev header : Header
   header = header_made y making
+
+  -- the record's words, with its header
+  abbrev size : ℕ
+  size = size_of header
 
   abbrev instr : Instr
   instr = making.executes.instr
@@ -110,15 +115,15 @@ module _ (c : Configuration) (p : Plain) (s : Stands c p) (k : ℕ) (y : Held) (
         settled_fits c.pages c.mutators k x is.fits is.fits.side (record account { serial = y.account.serial + 1 }) (slice_set y.registers m.into (pointer_word run.at)) (Some next_run) is.fits.end
         (length-set y.registers m.into (pointer_word run.at) ∙ eight)
         (values_set y.registers m.into (pointer_word run.at) eight (subst IsValueAs (sym points) tt) is.fits.registers)
-        is.fits.few_printed (room, omega (arith, l, n))
+        is.fits.few_printed ((room, omega (arith, l, n)), is.fits.stage.rest)
 
     takes : IsSoundPlacing (placed (placing c p s k y run header StoresHeader))
-    takes = record { pages = is.fits.stage.sound.pages; run = (room, is.fits.stage.sound.run.1); epoch = is.fits.stage.sound.epoch; stage = tt }
+    takes = record { pages = is.fits.stage.sound.pages; run = (room, is.fits.stage.sound.run.1); fields = is.fits.stage.sound.fields; epoch = is.fits.stage.sound.epoch; stage = tt }
 
     -- ---- the law
 
     abbrev stock : Stock
-    stock = stock_of y.epoch run
+    stock = counted_in (placing c p s k y run header StoresHeader)
 
     abbrev word : ℕ
     word = encode (header_says header)
@@ -127,29 +132,32 @@ module _ (c : Configuration) (p : Plain) (s : Stands c p) (k : ℕ) (y : Held) (
     entry = WordIs run.at word
 
     abbrev ghost_after : Ghost
-    ghost_after = allocated s.ghost run.at (m.len + 1) m.kind (next_identity (team c) k)
+    ghost_after = allocated s.ghost run.at size m.kind (next_identity (team c) k)
 
-    says : decode word ≡ HeaderWord (header_kind m.kind) (m.len + 1 - 1) (((team c).worker k).account.serial + 1) k
+    says : decode word ≡ HeaderWord (header_kind m.kind) (size - 1) (((team c).worker k).account.serial + 1) k
     says =
-        let len : m.len ≡ m.len + 1 - 1 = omega arith in
+        let len : header.len ≡ size - 1 = omega arith in
         let serial : y.account.serial ≡ ((team c).worker k).account.serial = sym (ap (λ (w : Worker). w.account.serial) is.as_known) in
         decode-header_word header.kind header.len header.serial header.mutator header.short header.counted
         ∙ (λ i. HeaderWord (header_kind m.kind) (len i) (serial i + 1) (is.fits.number i))
 
-    places : PlacesNext (team c) k stock m.kind (m.len + 1) word
+    places : PlacesNext (team c) k stock m.kind size word
     places = record {
       own = record { runs = rw is.as_known refl; has = rw is.as_known refl };
       run = (refl, refl);
-      some = omega arith;
+      some = let e = sized m.kind m.len in omega (arith, e);
+      fields = fields_held m.kind m.len (fits_kind y making);
       fits = room;
+      rest = is.fits.stage.rest;
+      ahead = ap stored_ahead (ap (kind_with header.kind) (fields_is y making) ∙ kind_said m.kind);
       header = says;
     }
 
-    shows : Shows (value_of s.ghost.identity) (memory c).heap run.at m.kind (m.len + 1) (zeros m.kind m.len)
+    shows : Shows (value_of s.ghost.identity) (memory c).heap run.at m.kind size (zeros m.kind m.len)
     shows =
-        let len : m.len + 1 - 1 ≡ m.len = omega arith in
-        subst (λ (n : ℕ). Shows (value_of s.ghost.identity) (memory c).heap run.at m.kind (m.len + 1) (zeros m.kind n)) len
-        (zeros_show (era c) (memory c) (team c) s.ghost k stock m.kind (m.len + 1) word (prepared c p s k x is) places)
+        let len : size - values_at m.kind ≡ m.len = (let e = sized m.kind m.len in omega (arith, e)) in
+        subst (λ (n : ℕ). Shows (value_of s.ghost.identity) (memory c).heap run.at m.kind size (zeros m.kind n)) len
+        (zeros_show (era c) (memory c) (team c) s.ghost k stock m.kind size word (prepared c p s k x is) places)
 
     unended : y.account.end ≡ None
     unended = end_none y.account.end is.fits.end
@@ -158,7 +166,7 @@ module _ (c : Configuration) (p : Plain) (s : Stands c p) (k : ℕ) (y : Held) (
     abbrev next : Worker
     next = moved c p s k x is refl unended y.registers
 
-    known : with_record next stock (m.len + 1) m.into (pointer_word run.at) ≡ knows after
+    known : with_record next stock size m.into (pointer_word run.at) ≡ knows after
     known = let set = registers_put y.registers m.into (pointer_word run.at) inside in λ i. record (knows after) { registers = sym set i }
 
     module _ (q : Mutator) (its : IsIts c p s k x q) (acts : action q instr ≡ Ok (Makes m.kind m.into m.len)) where
@@ -167,7 +175,7 @@ module _ (c : Configuration) (p : Plain) (s : Stands c p) (k : ℕ) (y : Held) (
 
       law : LawTo c p s k x (Some entry) (knows after) ghost_after (after_outcome p k q (Calls instr) Done)
       law =
-          let placed = mutators_place (era c) (memory c) (team c) s.ghost p k next (went_on q) stock m.kind (m.len + 1) word m.into (pointer_word run.at) (zeros m.kind m.len)
+          let placed = mutators_place (era c) (memory c) (team c) s.ghost p k next (went_on q) stock m.kind size word m.into (pointer_word run.at) (zeros m.kind m.len)
           (prepared c p s k x is) s.shown places shows small points (moved_goes c p s k x is refl unended q its) (moved_as c p s k x is refl unended q its) in
           subst (λ (o : Result After End). LawTo c p s k x (Some entry) (knows after) ghost_after (settled p k q o)) (sym calls)
           (subst (λ (w : Worker). LawTo c p s k x (Some entry) w ghost_after (settled p k q (Ok (plain_allocated k p.heap q m.kind m.into m.len)))) known placed)

@@ -1,6 +1,8 @@
 -- The pages that were claimed and cleared are opened.
-use Rattle.std.proofs.Common.{◌≡◌, ℕ, ◌+◌, ◌%◌, Bool, true, false, cond, Some, refl, ap, sym, subst, ◌∙◌, arith}
+use Rattle.std.proofs.Common.{◌≡◌, ℕ, ◌+◌, ◌%◌, Bool, true, false, cond, Some, List, [], refl, ap, sym, subst, ◌∙◌, arith}
 use Rattle.std.specs.Prelude.{nat_lt}
+use Rattle.heap_words.specs.declared.kind.Kind.{Kind}
+use Rattle.heap_words.specs.declared.kind.Kind.TheVariants.{Fields, Raw, Mixed}
 use Rattle.std.proofs.lemmas.Bool.{ltb-true, ltb-false}
 use Rattle.plain_state.specs.State.{Plain}
 use Rattle.atom_store.specs.declared.step.Step.TheVariants.{Store}
@@ -12,21 +14,23 @@ use Rattle.space_map.specs.Spaces.{page_of, first_word}
 use Rattle.space_map.specs.Table.{Page, place_of}
 use Rattle.alloc_end.specs.declared.new_pages.NewPages.{NewPages}
 use Rattle.alloc_end.specs.declared.place_stage.PlaceStage.{PlaceStage}
-use Rattle.alloc_end.specs.declared.place_stage.PlaceStage.TheVariants.{OpensPage, StoresHeader}
+use Rattle.alloc_end.specs.declared.place_stage.PlaceStage.TheVariants.{OpensPage}
 use Rattle.alloc_end.specs.declared.run.Run.{Run}
-use Rattle.alloc_end.specs.Place.{Placing, size_of, pages_for, words_for, told}
+use Rattle.alloc_end.specs.Place.{Placing, size_of, pages_for, words_for, stores_first, told}
 use Rattle.alloc_end.specs.Soundness.{IsSoundPlacing}
 use Rattle.heap_state.specs.Configuration.{Configuration, Stands, era, memory, team}
 use Rattle.heap_state.specs.Memory.Entries.{Entry, PageIs}
 use Rattle.heap_state.specs.Worker.{Worker, Stock}
+use Rattle.heap_laws.specs.Allocation.Records.{stored_ahead}
 use Rattle.heap_laws.specs.Allocation.Stocks.{stocked, opened_further}
 use Rattle.heap_laws.proofs.Allocation.Laws.{opens_pages}
 use Rattle.gc_worker.specs.declared.stage.Stage.TheVariants.{Places}
 use Rattle.gc_worker.specs.Workers.Fits.{Fits}
 use Rattle.gc_worker.specs.Steps.Goes.{Is, Goes, StepsSo}
-use Rattle.gc_worker.specs.Workers.Held.{Held, at_stage}
-use Rattle.gc_worker.specs.Workers.Knows.{knows, opened_to}
+use Rattle.gc_worker.specs.Workers.Held.{Held, at_stage, fields_for}
+use Rattle.gc_worker.specs.Workers.Knows.{knows, kind_with, opened_to}
 use Rattle.gc_worker.specs.Steps.Turned.{Silent, turned_place, told_place}
+use Rattle.gc_worker.proofs.Workers.GoingOn.{first_fits, first_going, first_rest}
 use Rattle.gc_worker.proofs.Workers.Parts.{refit}
 use Rattle.gc_worker.proofs.Stages.Gate.Words.{wants}
 use Rattle.gc_worker.proofs.Stages.Place.Claiming.{placing, at, now}
@@ -71,22 +75,32 @@ module _ (c : Configuration) (p : Plain) (s : Stands c p) (k : ℕ) (y : Held) (
     abbrev all : Run
     all = record { at = new.first; end = new.first + words }
 
+    abbrev pick_for : Kind → Bool → Placing
+    pick_for kind b = cond b (placing c p s k y run header (OpensPage (record { first = new.first; next = new.next + 1 }))) (placing c p s k y all header (stores_first kind))
+
     abbrev pick : Bool → Placing
-    pick b = cond b (placing c p s k y run header (OpensPage (record { first = new.first; next = new.next + 1 }))) (placing c p s k y all header StoresHeader)
+    pick b = pick_for header.kind b
+
+    abbrev then_for : Kind → Bool → Held
+    then_for kind b = at_stage y (Places (pick_for kind b))
 
     abbrev then : Bool → Held
-    then b = at_stage y (Places (pick b))
+    then b = then_for header.kind b
 
     abbrev by : Placing → Held
     by z = turned_place x z (told z)
 
-    comes : (b : Bool) → by (pick b) ≡ then b
-    comes true = refl
-    comes false = refl
+    comes : (kind : Kind) (b : Bool) → by (pick_for kind b) ≡ then_for kind b
+    comes kind true = refl
+    comes Fields false = refl
+    comes Raw false = refl
+    comes Mixed false = refl
 
-    silent : (b : Bool) → told_place x (told (pick b)) ≡ Silent
-    silent true = refl
-    silent false = refl
+    silent : (kind : Kind) (b : Bool) → told_place x (told (pick_for kind b)) ≡ Silent
+    silent kind true = refl
+    silent Fields false = refl
+    silent Raw false = refl
+    silent Mixed false = refl
 
     abbrev test_of : Bool
     test_of = nat_lt (new.next + 1) (page_of new.first + asked)
@@ -94,28 +108,45 @@ module _ (c : Configuration) (p : Plain) (s : Stands c p) (k : ℕ) (y : Held) (
     sound : (b : Bool) → test_of ≡ b → IsSoundPlacing (pick b)
     sound true test =
         let l = ltb-true (new.next + 1) (page_of new.first + asked) test in let f = is.fits.stage.sound.stage in
-        record { pages = is.fits.stage.sound.pages; run = is.fits.stage.sound.run; epoch = is.fits.stage.sound.epoch; stage = (f.0, omega (arith, f), l) }
+        record { pages = is.fits.stage.sound.pages; run = is.fits.stage.sound.run; fields = is.fits.stage.sound.fields; epoch = is.fits.stage.sound.epoch; stage = (f.0, omega (arith, f), l) }
     sound false test =
         let f = is.fits.stage.sound.stage in
-        record { pages = is.fits.stage.sound.pages; run = (omega arith, f.0); epoch = is.fits.stage.sound.epoch; stage = omega arith }
+        record {
+          pages = is.fits.stage.sound.pages;
+          run = (omega arith, f.0);
+          fields = is.fits.stage.sound.fields;
+          epoch = is.fits.stage.sound.epoch;
+          stage = first_fits y.layout.pages asked (fields_for y) all header header.kind refl is.fits.stage.sound.fields (omega arith);
+        }
 
     fits : (b : Bool) → test_of ≡ b → Fits c.pages c.mutators k (then b)
-    fits true test = refit c.pages c.mutators k x is.fits (Places (pick true)) is.fits.end is.fits.side is.fits.task (record { layout = refl; epoch = refl; going = tt; sound = sound true test })
-    fits false test = refit c.pages c.mutators k x is.fits (Places (pick false)) is.fits.end is.fits.side is.fits.task (record { layout = refl; epoch = refl; going = tt; sound = sound false test })
+    fits true test = refit c.pages c.mutators k x is.fits (Places (pick true)) is.fits.end is.fits.side is.fits.task (record { layout = refl; epoch = refl; fields = refl; going = tt; rest = tt; sound = sound true test })
+    fits false test = refit c.pages c.mutators k x is.fits (Places (pick false)) is.fits.end is.fits.side is.fits.task (record { layout = refl; epoch = refl; fields = refl; going = first_going header.kind; rest = first_rest all header header.kind (omega arith); sound = sound false test })
+
+    -- at the record's first store all pages are open
+    abbrev stock_with : (opened : ℕ) (ahead : List ℕ) → Stock
+    stock_with opened ahead = record { epoch = y.epoch; at = new.first; end = new.first + words; zeroed = new.first + words; opened = opened; ahead = ahead }
+
+    abbrev ahead_for : Kind → List ℕ
+    ahead_for kind = stored_ahead (kind_with kind (fields_for y))
+
+    stock_first : (kind : Kind) → header.kind ≡ kind → first_word new.next + 64 ≡ new.first + words → stocked (knows x) (opened_further stock) ≡ knows (then_for kind false)
+    stock_first Fields is e = λ i. record (knows (then_for Fields false)) { stock = Some (stock_with (e i) (ahead_for (sym is i))) }
+    stock_first Raw is e = λ i. record (knows (then_for Raw false)) { stock = Some (stock_with (e i) (ahead_for (sym is i))) }
+    stock_first Mixed is e = λ i. record (knows (then_for Mixed false)) { stock = Some (stock_with (e i) []) }
 
     stock_then : (b : Bool) → test_of ≡ b → stocked (knows x) (opened_further stock) ≡ knows (then b)
     stock_then true test =
         let e : first_word new.next + 64 ≡ first_word (new.next + 1) = omega arith in
-        λ i. record (knows (then true)) { stock = Some (record { epoch = y.epoch; at = new.first; end = new.first + words; zeroed = new.first + words; opened = e i }) }
+        λ i. record (knows (then true)) { stock = Some (record { epoch = y.epoch; at = new.first; end = new.first + words; zeroed = new.first + words; opened = e i; ahead = [] }) }
     stock_then false test =
         let l = ltb-false (new.next + 1) (page_of new.first + asked) test in let f = is.fits.stage.sound.stage in
-        let e : first_word new.next + 64 ≡ new.first + words = omega (arith, l, f, aligned) in
-        λ i. record (knows (then false)) { stock = Some (record { epoch = y.epoch; at = new.first; end = new.first + words; zeroed = new.first + words; opened = e i }) }
+        stock_first header.kind refl (omega (arith, l, f, aligned))
 
     goes : (b : Bool) → test_of ≡ b → Goes c p s k (Some entry) x Done
     goes b test =
-        becomes c p s k x (Some entry) Done (then b) s.ghost (ap (λ (t : Bool). by (pick t)) test ∙ comes b) is.below
-        (subst (λ (v : Worker). Law c p s k x (Some entry) v s.ghost) (stock_then b test) law) (ap (λ (t : Bool). told_place x (told (pick t))) test ∙ silent b) refl
+        becomes c p s k x (Some entry) Done (then b) s.ghost (ap (λ (t : Bool). by (pick t)) test ∙ comes header.kind b) is.below
+        (subst (λ (v : Worker). Law c p s k x (Some entry) v s.ghost) (stock_then b test) law) (ap (λ (t : Bool). told_place x (told (pick t))) test ∙ silent header.kind b) refl
         (subst (λ (t : Bool). IsSoundPlacing (pick t)) (sym test) (sound b test)) (fits b test)
 
     pub opens_page : StepsSo c p s k x

@@ -1,5 +1,5 @@
 -- The words of the pages that were claimed are cleared.
-use Rattle.std.proofs.Common.{◌≡◌, ℕ, ◌+◌, ◌%◌, Bool, true, false, cond, Some, refl, ap, sym, subst, ◌∙◌, arith}
+use Rattle.std.proofs.Common.{◌≡◌, ℕ, ◌+◌, ◌%◌, Bool, true, false, cond, Some, [], refl, ap, sym, subst, ◌∙◌, arith}
 use Rattle.std.specs.Prelude.{nat_lt}
 use Rattle.std.proofs.lemmas.Bool.{ltb-true, ltb-false}
 use Rattle.plain_state.specs.State.{Plain}
@@ -20,6 +20,7 @@ use Rattle.heap_state.specs.Worker.{Worker, Stock}
 use Rattle.heap_laws.specs.Allocation.Stocks.{stocked, zeroed_further}
 use Rattle.heap_laws.proofs.Allocation.Laws.{zeroes_words}
 use Rattle.gc_worker.specs.Steps.Goes.{Is, Goes, StepsSo}
+use Rattle.gc_worker.specs.Workers.Fits.{LeavesShortRun}
 use Rattle.gc_worker.specs.Workers.Held.{Held}
 use Rattle.gc_worker.specs.Workers.Knows.{knows, zeroed_to}
 use Rattle.gc_worker.specs.Steps.Turned.{Told, Silent, turned_place, told_place}
@@ -70,7 +71,7 @@ module _ (c : Configuration) (p : Plain) (s : Stands c p) (k : ℕ) (y : Held) (
         let l = ltb-false (new.next + 1) (new.first + words) test in let f = is.fits.stage.sound.stage in
         let all : new.next + 1 ≡ new.first + words = omega (arith, l, f) in
         let whole : new.first ≡ first_word (page_of new.first) = omega (arith, aligned) in
-        λ i. record (knows (here (next false))) { stock = Some (record { epoch = y.epoch; at = new.first; end = new.first + words; zeroed = all i; opened = whole i }) }
+        λ i. record (knows (here (next false))) { stock = Some (record { epoch = y.epoch; at = new.first; end = new.first + words; zeroed = all i; opened = whole i; ahead = [] }) }
 
     abbrev by : PlaceStage → Held
     by stage = turned_place x (placing c p s k y run header stage) (told (placing c p s k y run header stage))
@@ -86,6 +87,10 @@ module _ (c : Configuration) (p : Plain) (s : Stands c p) (k : ℕ) (y : Held) (
     going true = tt
     going false = tt
 
+    rest : (b : Bool) → LeavesShortRun run header (next b)
+    rest true = tt
+    rest false = tt
+
     silent : (b : Bool) → tells (next b) ≡ Silent
     silent true = refl
     silent false = refl
@@ -94,8 +99,8 @@ module _ (c : Configuration) (p : Plain) (s : Stands c p) (k : ℕ) (y : Held) (
     goes b test =
         becomes c p s k x (Some (WordIs new.next 0)) Done (here (next b)) s.ghost (ap (λ (t : Bool). by (next t)) test ∙ comes b) is.below
         (subst (λ (v : Worker). Law c p s k x (Some (WordIs new.next 0)) v s.ghost) (stock_then b test) law) (ap (λ (t : Bool). tells (next t)) test ∙ silent b) refl
-        (record { pages = is.fits.stage.sound.pages; run = is.fits.stage.sound.run; epoch = is.fits.stage.sound.epoch; stage = subst (FitsPlaceStage y.layout.pages asked run header) (ap next (sym test)) (fits b test) })
-        (replace c p s k y run header (StoresZero new) (next b) is (going b) (fits b test))
+        (record { pages = is.fits.stage.sound.pages; run = is.fits.stage.sound.run; fields = is.fits.stage.sound.fields; epoch = is.fits.stage.sound.epoch; stage = subst (FitsPlaceStage y.layout.pages asked run header) (ap next (sym test)) (fits b test) })
+        (replace c p s k y run header (StoresZero new) (next b) is (going b) (rest b) (fits b test))
 
     pub stores_zero : StepsSo c p s k x
     stores_zero =

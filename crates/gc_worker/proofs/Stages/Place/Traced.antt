@@ -87,7 +87,7 @@ module _ (c : Configuration) (p : Plain) (s : Stands c p) (k : ℕ) (y : Held) (
     stage_fits false test = tt
 
     worker_fits : (b : Bool) → fits true (words_for header) area ≡ b → Helps b → Fits c.pages c.mutators k (then b)
-    worker_fits true test helps = replace c p s k y run header (LoadsArea true) (ExchangesArea (record { traced = true; area = area })) is tt (stage_fits true test)
+    worker_fits true test helps = replace c p s k y run header (LoadsArea true) (ExchangesArea (record { traced = true; area = area })) is tt tt (stage_fits true test)
     worker_fits false test helps =
         let last = or_parts (nat_lt y.begun y.epoch) (y.epoch == 2 ^ 32 - 1) (helps refl) in
         let other = eqb-false y.epoch (2 ^ 32 - 1) last.1 in
@@ -100,7 +100,7 @@ module _ (c : Configuration) (p : Plain) (s : Stands c p) (k : ℕ) (y : Held) (
     goes_on b test helps =
         becomes c p s k x None (Value (area_now c space)) (then b) s.ghost (ap by (reads b test) ∙ comes b helps) is.below
         (nothing c p s k x is (knows (then b)) (known b)) (ap (λ (t : PlaceStage). told_place x (told (placing c p s k y run header t))) (reads b test) ∙ silent b helps) refl
-        (record { pages = is.fits.stage.sound.pages; run = is.fits.stage.sound.run; epoch = is.fits.stage.sound.epoch; stage = subst (FitsPlaceStage y.layout.pages (pages_for (size_of header)) run header) (sym (reads b test)) (stage_fits b test) })
+        (record { pages = is.fits.stage.sound.pages; run = is.fits.stage.sound.run; fields = is.fits.stage.sound.fields; epoch = is.fits.stage.sound.epoch; stage = subst (FitsPlaceStage y.layout.pages (pages_for (size_of header)) run header) (sym (reads b test)) (stage_fits b test) })
         (worker_fits b test helps)
 
     goes : (b : Bool) → fits true (words_for header) area ≡ b → (full : Bool) → finds_full y ≡ full → Goes c p s k None x (Value (area_now c space))

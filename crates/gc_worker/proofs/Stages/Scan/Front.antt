@@ -82,10 +82,10 @@ module _ (c : Configuration) (p : Plain) (s : Stands c p) (k : ℕ) (y : Held) (
         forgets : (b : Bool) → Law c p s k x None (scanning (knows x) (scan_by b)) s.ghost → Law c p s k x None (knows (scans_to x at_end back (stage_by b))) s.ghost
         forgets true l = steps_forget (era c) (memory c) (team c) s.ghost k None (scanning (knows x) (scan_by true)) (knows (scans_to x at_end back (stage_by true))) s.ghost l
             (of_scan (scanning (knows x) (scan_by true)) (scan_of at_end (scan_stage.Ended (record { cursor = r.next; at_front = true }))) (scan_by true) refl
-            (record { page = refl; cursor = refl; in_place = refl; over = λ _ e. e; current = λ _ e. absurd (cc); inner = λ e. e; ended = refl }))
+            (record { page = refl; cursor = refl; in_place = refl; over = λ _ e. e; headed = λ _ e. e; current = λ _ e. absurd (cc); inner = λ e. e; ended = refl }))
         forgets false l = steps_forget (era c) (memory c) (team c) s.ghost k None (scanning (knows x) (scan_by false)) (knows (scans_to x at_end back (stage_by false))) s.ghost l
             (of_scan (scanning (knows x) (scan_by false)) (scan_of at_end (scan_stage.LoadsNext r)) (scan_by false) refl
-            (record { page = refl; cursor = refl; in_place = refl; over = λ _ e. e; current = λ _ e. e; inner = λ _. refl; ended = refl }))
+            (record { page = refl; cursor = refl; in_place = refl; over = λ _ e. e; headed = λ _ e. e; current = λ _ e. e; inner = λ _. refl; ended = refl }))
 
     sound_by : (b : Bool) → scan_sound.FitsStage v.layout.pages v.page (stage_by b)
     sound_by true = let f = is.fits.stage.0.sound.fits in let short = f.0.short in let inside = f.0.inside in omega (arith, short, inside)

@@ -39,7 +39,7 @@ module _ (y : Held) (v : Scanning) (back : Back) (r : ScannedRecord) (z : ℕ) w
   module _ (E : Era) (apart : v.page ≢ E.board / 64) where
     -- the scan that has gone on to a place
     abbrev pub gone_to : ℕ → Scan
-    gone_to a = record { page = v.page; cursor = a; in_place = v.in_place; over = None; current = Some (seen_record r); inner = false; ended = is_past E v.page a }
+    gone_to a = record { page = v.page; cursor = a; in_place = v.in_place; over = None; headed = None; current = Some (seen_record r); inner = false; ended = is_past E v.page a }
 
     -- it is past the page, or not
     past_by : (a : ℕ) (b : Bool) → nat_lt a (first_word (v.page + 1)) ≡ b → is_past E v.page a ≡ (if b then false else true)
@@ -54,15 +54,15 @@ module _ (y : Held) (v : Scanning) (back : Back) (r : ScannedRecord) (z : ℕ) w
     less_by : (b1 b2 b3 in_place : Bool) → nat_lt z (first_word (v.page + 1)) ≡ b2 → nat_lt r.next (first_word (v.page + 1)) ≡ b3 → v.in_place ≡ in_place
         → IsAtMost (knows (scans_to x v back (stage_by b1 b2 b3 in_place))) (scanning (knows x) (gone_to (if b1 then z else r.next)))
     less_by true true b3 ip e f g = of_scan (scanning (knows x) (gone_to z)) (scan_of v (scan_stage.LoadsWord (InRecord r z))) (gone_to z) refl
-        (record { page = refl; cursor = refl; in_place = refl; over = λ _ u. u; current = λ _ u. u; inner = λ u. u; ended = sym (past_by z true e) })
+        (record { page = refl; cursor = refl; in_place = refl; over = λ _ u. u; headed = λ _ u. u; current = λ _ u. u; inner = λ u. u; ended = sym (past_by z true e) })
     less_by true false b3 ip e f g = of_scan (scanning (knows x) (gone_to z)) (scan_of v (scan_stage.Ended (record { cursor = z; at_front = false }))) (gone_to z) refl
-        (record { page = refl; cursor = refl; in_place = refl; over = λ _ u. u; current = λ _ u. absurd (cc); inner = λ u. u; ended = sym (past_by z false e) })
+        (record { page = refl; cursor = refl; in_place = refl; over = λ _ u. u; headed = λ _ u. u; current = λ _ u. absurd (cc); inner = λ u. u; ended = sym (past_by z false e) })
     less_by false b2 true true e f g = of_scan (scanning (knows x) (gone_to r.next)) (scan_of v (scan_stage.LoadsFront r)) (gone_to r.next) refl
-        (record { page = refl; cursor = refl; in_place = refl; over = λ _ u. u; current = λ _ u. u; inner = λ u. u; ended = sym (past_by r.next true f) })
+        (record { page = refl; cursor = refl; in_place = refl; over = λ _ u. u; headed = λ _ u. u; current = λ _ u. u; inner = λ u. u; ended = sym (past_by r.next true f) })
     less_by false b2 true false e f g = of_scan (scanning (knows x) (gone_to r.next)) (scan_of v (scan_stage.LoadsNext r)) (gone_to r.next) refl
-        (record { page = refl; cursor = refl; in_place = refl; over = λ _ u. u; current = λ _ u. u; inner = λ u. sym g ∙ u; ended = sym (past_by r.next true f) })
+        (record { page = refl; cursor = refl; in_place = refl; over = λ _ u. u; headed = λ _ u. u; current = λ _ u. u; inner = λ u. sym g ∙ u; ended = sym (past_by r.next true f) })
     less_by false b2 false ip e f g = of_scan (scanning (knows x) (gone_to r.next)) (scan_of v (scan_stage.Ended (record { cursor = r.next; at_front = false }))) (gone_to r.next) refl
-        (record { page = refl; cursor = refl; in_place = refl; over = λ _ u. u; current = λ _ u. absurd (cc); inner = λ u. u; ended = sym (past_by r.next false f) })
+        (record { page = refl; cursor = refl; in_place = refl; over = λ _ u. u; headed = λ _ u. u; current = λ _ u. absurd (cc); inner = λ u. u; ended = sym (past_by r.next false f) })
 
     pub goes_on_less : IsAtMost (knows (scans_to x v back (goes_on_at v.page v.in_place r z))) (scanning (knows x) (gone_to (next_scanned (seen_record r) z)))
     goes_on_less = less_by (nat_lt z r.fields_end) (nat_lt z (first_word (v.page + 1))) (nat_lt r.next (first_word (v.page + 1))) v.in_place refl refl refl

@@ -49,9 +49,9 @@ module _ (y : Held) (v : Scanning) (back : Back) where
     board_less : (a : ℕ) (b : Bool) → v.page ≡ board_page n → nat_lt (a + 1) (first_word v.page + board_words) ≡ b
         → IsAtMost (knows (scans_to x v back (board_by a b))) (scanning (knows x) (past_word E (scan_at v (OnBoard a))))
     board_less a true at e = of_scan (scanning (knows x) (past_word E (scan_at v (OnBoard a)))) (scan_of v (scan_stage.LoadsWord (OnBoard (a + 1)))) (past_word E (scan_at v (OnBoard a))) refl
-        (record { page = refl; cursor = refl; in_place = refl; over = λ _ u. u; current = λ _ u. u; inner = λ u. u; ended = sym (past_board a true at e) })
+        (record { page = refl; cursor = refl; in_place = refl; over = λ _ u. u; headed = λ _ u. u; current = λ _ u. u; inner = λ u. u; ended = sym (past_board a true at e) })
     board_less a false at e = of_scan (scanning (knows x) (past_word E (scan_at v (OnBoard a)))) (scan_of v (scan_stage.Ended (record { cursor = a + 1; at_front = false }))) (past_word E (scan_at v (OnBoard a))) refl
-        (record { page = refl; cursor = refl; in_place = refl; over = λ _ u. u; current = λ _ u. u; inner = λ u. u; ended = sym (past_board a false at e) })
+        (record { page = refl; cursor = refl; in_place = refl; over = λ _ u. u; headed = λ _ u. u; current = λ _ u. u; inner = λ u. u; ended = sym (past_board a false at e) })
 
     pub passes_less : (spot : Spot) → scan_sound.IsOnPage n v.page spot → IsAtMost (knows (scans_to x v back (passes_word v.page v.in_place spot))) (scanning (knows x) (past_word E (scan_at v spot)))
     passes_less (OnBoard a) on = board_less a (nat_lt (a + 1) (first_word v.page + board_words)) on.0 refl

@@ -9,6 +9,7 @@ use Rattle.gc_worker.specs.declared.stage.back.Back.{Back}
 use Rattle.gc_worker.specs.declared.stage.Stage.TheVariants.{Scans}
 use Rattle.gc_worker.specs.Steps.Goes.{Is, StepsSo}
 use Rattle.gc_worker.specs.Workers.Held.{Held, at_stage}
+use Rattle.gc_worker.proofs.Stages.Scan.Counts.{reads_count}
 use Rattle.gc_worker.proofs.Stages.Scan.Crossing.{crosses}
 use Rattle.gc_worker.proofs.Stages.Scan.Front.{reads}
 use Rattle.gc_worker.proofs.Stages.Scan.Headers.{reads_first, reads_next}
@@ -19,6 +20,7 @@ module _ (c : Configuration) (p : Plain) (s : Stands c p) (k : ℕ) (x : Held) (
   at : (stage : ScanStage) → Is c k (at_stage x (Scans (record z { stage = stage }) back)) → StepsSo c p s k (at_stage x (Scans (record z { stage = stage }) back))
   at scan_stage.LoadsCross is = crosses c p s k x z back is
   at (scan_stage.LoadsFirst a) is = reads_first c p s k x z back a is
+  at (scan_stage.LoadsCount h) is = reads_count c p s k x z back h is
   at (scan_stage.LoadsWord spot) is = reads_word c p s k x z spot back is
   at (scan_stage.Asks asked) is = absurd is.fits.stage.1
   at (scan_stage.StoresCopy asked to) is = stores_copy c p s k x z asked to back is

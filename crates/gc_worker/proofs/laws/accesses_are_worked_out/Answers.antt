@@ -9,9 +9,25 @@ pub returns-clause-lost_swap_is_tried_again : goal.returns-clause-lost_swap_is_t
 unfolding decode tag_of number_word pointer_word decode_page place_of
 returns-clause-lost_swap_is_tried_again c = record { steps = refl; ends = refl }
 
+pub returns-clause-lost_exchange_is_compared_again : goal.returns-clause-lost_exchange_is_compared_again
+unfolding decode tag_of number_word pointer_word decode_page place_of
+returns-clause-lost_exchange_is_compared_again c = record { steps = refl; ends = refl }
+
 pub returns-clause-next_page_is_looked_at : goal.returns-clause-next_page_is_looked_at
 unfolding decode tag_of number_word pointer_word decode_page place_of
 returns-clause-next_page_is_looked_at c = record { steps = refl; ends = refl }
+
+pub returns-clause-counts_page_is_looked_at : goal.returns-clause-counts_page_is_looked_at
+unfolding decode tag_of number_word pointer_word decode_page place_of
+returns-clause-counts_page_is_looked_at c = record { steps = refl; ends = refl }
+
+pub returns-clause-count_is_no_value : goal.returns-clause-count_is_no_value
+unfolding decode tag_of number_word pointer_word decode_page place_of
+returns-clause-count_is_no_value c = record { steps = refl; ends = refl }
+
+pub returns-clause-no_pointer_is_stored_behind_fields : goal.returns-clause-no_pointer_is_stored_behind_fields
+unfolding decode tag_of number_word pointer_word decode_page place_of
+returns-clause-no_pointer_is_stored_behind_fields c = record { steps = refl; ends = refl }
 
 pub returns-clause-same_page_is_not_looked_at : goal.returns-clause-same_page_is_not_looked_at
 unfolding decode tag_of number_word pointer_word decode_page place_of

@@ -1,12 +1,13 @@
 -- What each worker knows, component by component.
 use Rattle.std.specs.Prelude.{◌≡◌, ℕ, ◌+◌, ◌<◌, ◌≤◌, ◌⊎◌, Bool, true, false, Some}
 use Rattle.heap_words.specs.Decoded.{PointerWord, decode}
-use Rattle.plain_state.specs.Layout.{is_field, is_raw}
+use Rattle.plain_state.specs.Layout.{is_field, is_raw, values_at}
 use Rattle.plain_state.specs.declared.kind.Kind.{Kind}
+use Rattle.plain_state.specs.declared.kind.Kind.TheVariants.{Mixed}
 use Rattle.space_map.specs.declared.gate_word.GateWord.{GateWord}
 use Rattle.heap_state.specs.Memory.Era.{Era}
 use Rattle.heap_state.specs.Invariant.Ghost.{Leads, Lands}
-use Rattle.heap_state.specs.Worker.{Post, Outside, Stopped, Passage, Enter, Park, Request, Forwarded, Resume, Leave, Reset, Role, FieldRole, NumberRole, Access, is_live, is_running, is_flipper, is_gone, is_behind}
+use Rattle.heap_state.specs.Worker.{Post, Outside, Stopped, Passage, Enter, Park, Request, Forwarded, Resume, Leave, Reset, Role, FieldRole, NumberRole, UnknownRole, Access, is_live, is_running, is_flipper, is_gone, is_behind}
 
 -- ---- epochs and the gate
 
@@ -50,15 +51,17 @@ pub record Clean (E : Era) (size writer : ℕ → ℕ) (late : Bool) (done : ℕ
   pub lands : (j : ℕ) → j < 8 → Lands size writer (registers j)
   pub old : late ≡ true → (j b : ℕ) → done ≤ j → j < 8 → decode (registers j) ≡ PointerWord b → (E.old_start ≤ b) × (b < E.old_start + E.old_span)
 
--- a word of a record of this kind has this role
+-- a word of a record of this kind has this role; of a mixed record alone it may not be known
 abbrev pub HasRole : Kind → (word : ℕ) → Role → Type 0
 HasRole kind word FieldRole = is_field kind word ≡ true
 HasRole kind word NumberRole = is_raw kind word ≡ true
+HasRole kind word UnknownRole = (count : ℕ) × (kind ≡ Mixed count)
 
--- the access is to a word of a record of the epoch's space that nobody writes, and the word has this role
+-- the access is to a value of a record of the epoch's space that nobody writes, and its word has this role
 pub record Accesses (E : Era) (size writer : ℕ → ℕ) (kind : ℕ → Kind) (f : Access) : Type 0 where
   pub stands : 0 < size f.at
   pub written : writer f.at ≡ 0
   pub inside : (E.start ≤ f.at) × (f.at < E.start + E.span)
-  pub word : (0 < f.word) × (f.word < size f.at)
+  pub first : f.first ≡ values_at (kind f.at)
+  pub word : (f.first ≤ f.word) × (f.word < size f.at)
   pub role : HasRole (kind f.at) f.word f.role

@@ -1,6 +1,8 @@
 -- Where records stand.
 use Rattle.std.specs.Prelude.{◌≡◌, ◌≢◌, ℕ, ◌+◌, ◌-◌, ◌%◌, ◌<◌, ◌≤◌, ◌⊎◌, false}
 use Rattle.plain_state.specs.declared.kind.Kind.{Kind}
+use Rattle.plain_state.specs.declared.kind.Kind.TheVariants.{Mixed}
+use Rattle.heap_words.specs.Word.{number_word}
 use Rattle.heap_words.specs.Decoded.{HeaderWord, BusyWord, ForwardWord, decode}
 use Rattle.plain_state.specs.declared.value.Identity.{Identity}
 use Rattle.plain_state.specs.Layout.{is_field}
@@ -32,12 +34,16 @@ pub record Headed (size writer copy keeper : ℕ → ℕ) (kind : ℕ → Kind) 
   pub kept : (a k : ℕ) → 0 < size a → keeper a ≡ k + 1 → decode (heap a) ≡ BusyWord (size a - 1) k
   pub gone : (a b : ℕ) → 0 < size a → copy a ≡ b + 1 → keeper a ≡ 0 → decode (heap a) ≡ ForwardWord (size a - 1) b
 
--- Records from LOW up: their pages are open; one that begins within a page begins where another ends; and a word of an
--- open page that belongs to no record is 0.
+-- a place that a walk from LOW up comes to: the first word of a page, or the end of a record
+abbrev pub WalkComesTo : (size : ℕ → ℕ) → ℕ → Type 0
+WalkComesTo size x = (x % PAGE_WORDS ≡ 0) ⊎ ((a : ℕ) × (0 < size a) × (a + size a ≡ x))
+
+-- Records from LOW up: their pages are open; one that begins within a page begins where another ends; and on an open page a
+-- word that a walk comes to and that belongs to no record is 0.
 pub record NewArea (low end epoch : ℕ) (size heap : ℕ → ℕ) (page : ℕ → PageWord) : Type 0 where
   pub opened : (a x : ℕ) → 0 < size a → low ≤ a → a < end → a ≤ x → x < a + size a → page (page_of x) ≡ Open epoch
   pub prior : (b : ℕ) → 0 < size b → low ≤ b → b < end → b % PAGE_WORDS ≢ 0 → (a : ℕ) × (0 < size a) × (a + size a ≡ b)
-  pub blank : (x : ℕ) → low ≤ x → x < end → page (page_of x) ≡ Open epoch → ((a : ℕ) → 0 < size a → (x < a) ⊎ (a + size a ≤ x)) → heap x ≡ 0
+  pub blank : (x : ℕ) → low ≤ x → x < end → WalkComesTo size x → page (page_of x) ≡ Open epoch → ((a : ℕ) → 0 < size a → (x < a) ⊎ (a + size a ≤ x)) → heap x ≡ 0
 
 -- nobody writes a record from LOW up
 pub record NewWritten (E : Era) (low : ℕ) (size writer : ℕ → ℕ) : Type 0 where
@@ -55,3 +61,7 @@ pub record SpaceOf (start front low end epoch : ℕ) (size heap : ℕ → ℕ) (
 -- a word of a record that is no field is a number below 2^62
 pub record RawWords (size writer : ℕ → ℕ) (kind : ℕ → Kind) (heap : ℕ → ℕ) : Type 0 where
   pub raw : (a i : ℕ) → 0 < size a → writer a ≡ 0 → 0 < i → i < size a → is_field (kind a) i ≡ false → heap (a + i) < NUMBERS
+
+-- word 1 of a mixed record has the count of its fields, which it has room for
+pub record Counts (size writer : ℕ → ℕ) (kind : ℕ → Kind) (heap : ℕ → ℕ) : Type 0 where
+  pub counts : (a count : ℕ) → 0 < size a → writer a ≡ 0 → kind a ≡ Mixed count → (heap (a + 1) ≡ number_word count) × (count + 2 ≤ size a)

@@ -1,12 +1,13 @@
 -- What a worker knows that claims and scans pages.
 use Rattle.std.specs.Prelude.{◌≡◌, ◌≢◌, ℕ, ◌+◌, ◌<◌, ◌≤◌, ◌⊎◌, true, false, Some}
 use Rattle.plain_state.specs.declared.kind.Kind.{Kind}
+use Rattle.plain_state.specs.declared.kind.Kind.TheVariants.{Mixed}
 use Rattle.space_map.specs.declared.page_word.PageWord.{PageWord}
 use Rattle.space_map.specs.declared.page_word.PageWord.TheVariants.{Open, Scanning}
 use Rattle.space_map.specs.PageWord.{age_of}
 use Rattle.heap_state.specs.Memory.Era.{Era}
 use Rattle.heap_state.specs.Invariant.Ghost.{Leads, Here}
-use Rattle.heap_state.specs.Worker.{SeenRecord, Scan, Round, Claim, Look, LastLook}
+use Rattle.heap_state.specs.Worker.{SeenHeader, SeenRecord, Scan, Round, Claim, Look, LastLook}
 use Rattle.heap_state.specs.Invariant.Parts.Pages.{Quiet, IsLastOpen}
 use Rattle.heap_state.specs.Memory.FieldSpan.{first_field, fields_end}
 use Rattle.space_map.specs.Spaces.{page_of, first_word}
@@ -34,11 +35,22 @@ pub record IsIn (E : Era) (front : ℕ) (size writer : ℕ → ℕ) (kind : ℕ 
   pub entered : r.at + first_field (kind r.at) ≤ x
   pub cursor : x ≤ r.next
 
--- Which record the cursor is in: the one over the page's first word once its place is read; the one whose header is read.
--- One begins at the cursor that FRONT was seen past. The cursor is never before the page. At the end it is past the page or at
+-- The mixed record whose header a scan at x has read stands below FRONT, and nobody writes it. It begins at x or before, and ends
+-- behind it.
+pub record IsHeaded (E : Era) (front : ℕ) (size writer : ℕ → ℕ) (kind : ℕ → Kind) (x : ℕ) (h : SeenHeader) : Type 0 where
+  pub stands : 0 < size h.at
+  pub written : writer h.at ≡ 0
+  pub mixed : (count : ℕ) × (kind h.at ≡ Mixed count)
+  pub whole : h.size ≡ size h.at
+  pub inside : (E.start ≤ h.at) × (h.at + h.size ≤ front)
+  pub cursor : (h.at ≤ x) × (x < h.at + h.size)
+
+-- Which record the cursor is in: the one over the page's first word once its place is read; the mixed one whose header is read;
+-- the one that is entered. One begins at the cursor that FRONT was seen past. The cursor is never before the page. At the end it is past the page or at
 -- FRONT. A page that wasn't claimed as the filling one is full or the board.
 pub record Stepping (E : Era) (front : ℕ) (size writer : ℕ → ℕ) (kind : ℕ → Kind) (s : Scan) : Type 0 where
   pub over : (a : ℕ) → s.over ≡ Some a → (0 < size a) × (writer a ≡ 0) × (a ≤ first_word s.page) × (first_word s.page < a + size a)
+  pub headed : (h : SeenHeader) → s.headed ≡ Some h → IsHeaded E front size writer kind s.cursor h
   pub current : (r : SeenRecord) → s.current ≡ Some r → IsIn E front size writer kind s.cursor r
   pub inner : s.inner ≡ true → s.cursor < front
   pub begun : first_word s.page ≤ s.cursor

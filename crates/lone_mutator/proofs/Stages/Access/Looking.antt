@@ -4,7 +4,7 @@ use Rattle.std.proofs.lemmas.Bool.{eqb-true, eq-eqb}
 use Rattle.plain_state.specs.State.{Plain}
 use Rattle.plain_state.specs.declared.value.Value.TheVariants.{Reference}
 use Rattle.plain_heap.specs.declared.action.Action.{Action}
-use Rattle.plain_heap.specs.declared.action.Action.TheVariants.{Sets, Jumps, Links, Prints, Makes, Measures, Loads, Stores, Gets, Puts, Swaps}
+use Rattle.plain_heap.specs.declared.action.Action.TheVariants.{Sets, Jumps, Links, Prints, Makes, Measures, Loads, Stores, Exchanges, Gets, Puts, Swaps}
 use Rattle.atom_store.specs.declared.step.Step.TheVariants.{Load}
 use Rattle.atom_store.specs.declared.reply.Reply.TheVariants.{Value}
 use Rattle.space_map.specs.declared.page_word.PageWord.{PageWord}
@@ -19,19 +19,20 @@ use Rattle.heap_state.specs.Invariant.Parts.Knowledge as parts
 use Rattle.heap_state.proofs.Table.LaidOut.{laid_out}
 use Rattle.heap_laws.specs.Fields.Words.{IsLedTo}
 use Rattle.gc_worker.specs.declared.access.access_stage.AccessStage.{AccessStage}
-use Rattle.gc_worker.specs.declared.access.access_stage.AccessStage.TheVariants.{LooksAtRecord, LoadsHeader, LooksAtField, LoadsField, StoresField, LooksAtBoard, LoadsBoard, StoresBoard, LoadsForSwap}
+use Rattle.gc_worker.specs.declared.access.access_stage.AccessStage.TheVariants.{LooksAtRecord, LoadsHeader, LooksAtCount, LoadsCount, LooksAtField, LoadsField, StoresField, LoadsForCas, LooksAtBoard, LoadsBoard, StoresBoard, LoadsForSwap}
 use Rattle.gc_worker.specs.declared.access.accessed.Accessed.TheVariants.{Faults}
 use Rattle.gc_worker.specs.declared.access.board_access.BoardUse.{BoardUse}
 use Rattle.gc_worker.specs.declared.access.board_access.BoardUse.TheVariants as board_uses
 use Rattle.gc_worker.specs.declared.access.field_access.FieldAccess.{FieldAccess}
 use Rattle.gc_worker.specs.declared.access.field_access.FieldUse.{FieldUse}
 use Rattle.gc_worker.specs.declared.access.field_access.FieldUse.TheVariants as field_uses
+use Rattle.gc_worker.specs.declared.access.mixed_access.MixedAccess.{MixedAccess}
 use Rattle.gc_worker.specs.declared.access.record_access.RecordAccess.{RecordAccess}
-use Rattle.gc_worker.specs.Steps.Access.{GoesTo, Comes, IsHeapAddress, answered, begun, field_at, left_at, let_through, looked, page_step}
+use Rattle.gc_worker.specs.Steps.Access.{GoesTo, Comes, IsHeapAddress, answered, begun, count_at, field_at, left_at, let_through, looked, page_step}
 use Rattle.gc_worker.specs.Steps.Access as access
 use Rattle.gc_worker.specs.Workers.Fits.{ExecutesAction}
 use Rattle.gc_worker.specs.Workers.Held.{Held}
-use Rattle.gc_worker.specs.Workers.Knows.{known_access}
+use Rattle.gc_worker.specs.Workers.Knows.{known_access, uncounted_access}
 use Rattle.gc_worker.proofs.Words.Eras.{board_is}
 use Rattle.gc_worker.proofs.Stages.Rounds.Words.{page_now, page_says}
 use Rattle.gc_worker.proofs.Stages.Access.Acting.{Held_value, led, names}
@@ -121,6 +122,7 @@ module _ (c : Configuration) (p : Plain) (s : Stands c p) (y : Held) where
     named_by (Measures d j) executes e = at_address _ e (names c p s 0 y stage a.is (Measures d j) executes)
     named_by (Loads d j v) executes e = at_address _ e (names c p s 0 y stage a.is (Loads d j v) executes)
     named_by (Stores j v w) executes e = at_address _ e (names c p s 0 y stage a.is (Stores j v w) executes).0
+    named_by (Exchanges d j v u w) executes e = at_address _ e (names c p s 0 y stage a.is (Exchanges d j v u w) executes).0
     named_by (Sets d v) executes e = absurd (cc)
     named_by (Jumps target) executes e = absurd (cc)
     named_by (Links d target) executes e = absurd (cc)
@@ -139,7 +141,7 @@ module _ (c : Configuration) (p : Plain) (s : Stands c p) (y : Held) where
       records_are_open (era c) (memory c).traced (memory c).gate.behind (memory c).front (memory c).low s.ghost.size (memory c).heap (memory c).page (laid_out c.pages c.words)
       s.invariant.tracing s.invariant.laid s.invariant.new traced at x stands from below low high
 
-  -- ---- the three looks
+  -- ---- the looks
 
   within_heap : (n at : ℕ) → IsHeapAddress n at → n ≡ c.pages → page_of at ≤ 2 * c.pages
   within_heap n at inside same = omega (arith, inside, same)
@@ -150,6 +152,15 @@ module _ (c : Configuration) (p : Plain) (s : Stands c p) (y : Held) where
       let there = leads r (LooksAtRecord r) a inside a.is.fits.task.act a.is.fits.task.executes a.is.fits.task.is in
       looks (LooksAtRecord r) a tt (LoadsHeader r) (page_of r.at) refl (λ word. refl) (within_heap y.layout.pages r.at inside a.is.fits.pages)
       (open_at r.at r.at there.stands.0 there.inside.0 there.inside.1 (omega arith) (let some = there.stands.0 in omega (arith, some))) tt (omega arith)
+
+  pub looks_at_count : (m : MixedAccess) → IsAlone c (at c p s 0 y (LooksAtCount m)) → StepsLower c (at c p s 0 y (LooksAtCount m))
+  looks_at_count m a =
+      let inside = a.is.fits.stage.sound.stage.0 in
+      let n = a.is.fits.pages in
+      let i = knew_access c p s 0 y (LooksAtCount m) a.is (uncounted_access m) refl in
+      let word = i.word in
+      looks (LooksAtCount m) a tt (LoadsCount m) (page_of (count_at m)) refl (λ word. refl) (omega (arith, inside, n))
+      (open_at m.at (count_at m) i.stands i.inside.0 i.inside.1 (omega arith) (omega (arith, word))) tt (omega arith)
 
   module _ (f : FieldAccess) where
     module _ (usage : FieldUse) (a : IsAlone c (at c p s 0 y (LooksAtField f usage))) where
@@ -166,6 +177,9 @@ module _ (c : Configuration) (p : Plain) (s : Stands c p) (y : Held) where
     looks_at_field (field_uses.Stores new) a =
         looks (LooksAtField f (field_uses.Stores new)) a tt (StoresField f new) (page_of (field_at f)) refl (λ word. refl) (within_heap y.layout.pages (field_at f) a.is.fits.stage.sound.stage.0 a.is.fits.pages)
         (field_open (field_uses.Stores new) a) tt (omega arith)
+    looks_at_field (field_uses.Exchanges e) a =
+        looks (LooksAtField f (field_uses.Exchanges e)) a tt (LoadsForCas f e) (page_of (field_at f)) refl (λ word. refl) (within_heap y.layout.pages (field_at f) a.is.fits.stage.sound.stage.0 a.is.fits.pages)
+        (field_open (field_uses.Exchanges e) a) tt (omega arith)
 
   module _ (word : ℕ) where
     abbrev on_board : BoardUse → AccessStage

@@ -1,13 +1,19 @@
 -- What an access of a lone mutator comes to, or where it goes on.
-use Rattle.std.proofs.Common.{ℕ, ◌<◌, false, Option, sym, subst, arith}
+use Rattle.std.proofs.Common.{ℕ, ◌<◌, ◌==◌, Bool, true, false, cond, Option, Result, Ok, Err, sym, subst, arith}
 use Rattle.plain_state.specs.declared.end.End.{End}
 use Rattle.plain_state.specs.State.{Plain}
+use Rattle.plain_state.specs.declared.value.Value.{Value}
+use Rattle.space_map.specs.Spaces.{page_of}
 use Rattle.heap_state.specs.Configuration.{Configuration, Stands, table}
 use Rattle.heap_state.specs.Memory.Table.{Table}
 use Rattle.gc_worker.specs.declared.access.access_stage.AccessStage.{AccessStage}
+use Rattle.gc_worker.specs.declared.access.access_stage.AccessStage.TheVariants.{LooksAtField, LoadsField, StoresField, LoadsForCas}
 use Rattle.gc_worker.specs.declared.access.accessed.Accessed.TheVariants.{Brings, Stored, Fails}
+use Rattle.gc_worker.specs.declared.access.field_access.FieldAccess.{FieldAccess}
+use Rattle.gc_worker.specs.declared.access.field_access.FieldUse.{FieldUse}
+use Rattle.gc_worker.specs.declared.access.field_access.FieldUse.TheVariants as field_uses
 use Rattle.gc_worker.specs.declared.task.Task.{Task}
-use Rattle.gc_worker.specs.Steps.Access.{Answered, GoesTo, Comes, goes_by, left_at, turn_by}
+use Rattle.gc_worker.specs.Steps.Access.{Answered, GoesTo, Comes, field_at, goes_by, left_at, loading, read_before, storing, to_field, turn_by, uses_field, with_new, word_as}
 use Rattle.gc_worker.specs.Workers.Held.{Held}
 use Rattle.gc_worker.specs.Steps.Turned.{ended, loads, told_access, told_effect, told_end, turned_access, went_on}
 use Rattle.gc_worker.proofs.Stages.Access.Going.{own, at}
@@ -33,3 +39,23 @@ module _ (c : Configuration) (p : Plain) (s : Stands c p) (y : Held) (stage : Ac
 
   pub goes : (next : AccessStage) → AccessStands (table c) y.layout next → left_at next < left_at stage → Owed (table c) (GoesTo next)
   goes next stands fewer = record { remembers = record { began = a.remembers.began; quiet = a.remembers.quiet; stands = stands }; falls = omega (arith, fewer) }
+
+  -- ---- a field, behind the word that was read last
+
+  module _ (f : FieldAccess) (behind : 3 < left_at stage) where
+    field_by : (usage : FieldUse) (b : Bool) → Owed (table c) (GoesTo (cond b (uses_field f usage) (LooksAtField f usage)))
+    field_by (field_uses.Loads into) true = goes (LoadsField f into) tt (omega (arith, behind))
+    field_by (field_uses.Stores new) true = goes (StoresField f new) tt (omega (arith, behind))
+    field_by (field_uses.Exchanges e) true = goes (LoadsForCas f e) tt (omega (arith, behind))
+    field_by usage false = goes (LooksAtField f usage) tt (omega (arith, behind))
+
+    pub goes_to_it : (usage : FieldUse) → Owed (table c) (to_field usage f)
+    goes_to_it usage = field_by usage (page_of (read_before f) == page_of (field_at f))
+
+    pub loads_it : (into : ℕ) (o : Result ℕ End) → Owed (table c) (loading f into o)
+    loads_it into (Ok v) = goes_to_it (field_uses.Loads into)
+    loads_it into (Err why) = fails (table c) why
+
+    pub stores_it : (usage : FieldUse) (o : Result Value End) → Owed (table c) (storing f usage o)
+    stores_it usage (Ok v) = goes_to_it (with_new usage (word_as f.role v))
+    stores_it usage (Err why) = fails (table c) why

@@ -1,5 +1,5 @@
 -- Words of records and of the board are loaded, stored and exchanged by a lone mutator: no exchange is lost.
-use Rattle.std.proofs.Common.{◌≡◌, ℕ, ◌+◌, ◌*◌, ◌<◌, ◌≤◌, Some, sym, ap, ◌∙◌, arith}
+use Rattle.std.proofs.Common.{◌≡◌, ℕ, ◌+◌, ◌*◌, ◌<◌, ◌≤◌, ◌==◌, Bool, true, false, cond, Some, sym, ap, ◌∙◌, arith}
 use Rattle.plain_state.specs.State.{Plain}
 use Rattle.atom_store.specs.declared.step.Step.TheVariants.{Load, Store, Exchange}
 use Rattle.space_map.specs.Table.{HeapWord, place_of}
@@ -7,17 +7,20 @@ use Rattle.heap_state.specs.Configuration.{Configuration, Stands, table}
 use Rattle.heap_state.specs.Memory.Entries.{WordIs}
 use Rattle.heap_state.specs.Functions.{put}
 use Rattle.heap_state.specs.Memory.Table.{word_in}
+use Rattle.heap_words.specs.Word.{number_word}
 use Rattle.heap_laws.specs.Fields.Effects.{word_held}
-use Rattle.gc_worker.specs.declared.access.access_stage.AccessStage.TheVariants.{LoadsField, StoresField, LoadsBoard, StoresBoard, LoadsForSwap, SwapsBoard}
+use Rattle.gc_worker.specs.declared.access.access_stage.AccessStage.TheVariants.{LoadsField, StoresField, LoadsForCas, ExchangesField, LoadsBoard, StoresBoard, LoadsForSwap, SwapsBoard}
 use Rattle.gc_worker.specs.declared.access.board_access.BoardSwap.{BoardSwap}
+use Rattle.gc_worker.specs.declared.access.accessed.Accessed.TheVariants.{Brings}
 use Rattle.gc_worker.specs.declared.access.field_access.FieldAccess.{FieldAccess}
-use Rattle.gc_worker.specs.Steps.Access.{board_at, field_at, role_of}
+use Rattle.gc_worker.specs.declared.access.field_access.FieldExchange.{FieldExchange}
+use Rattle.gc_worker.specs.Steps.Access.{Comes, GoesTo, board_at, field_at, role_of}
 use Rattle.gc_worker.specs.Workers.Held.{Held}
 use Rattle.gc_worker.proofs.Stages.Access.Going.{at}
 use Rattle.gc_worker.proofs.Stages.Scan.Headers.{heap_word}
 use Rattle.lone_mutator.specs.Law.{IsAlone, StepsLower}
 use Rattle.lone_mutator.proofs.Steps.Owed.{exchanges, loads, stores, wants}
-use Rattle.lone_mutator.proofs.Stages.Access.Outcomes.{brings, goes, stored}
+use Rattle.lone_mutator.proofs.Stages.Access.Outcomes.{Owed, brings, goes, stored}
 
 module _ (c : Configuration) (p : Plain) (s : Stands c p) (y : Held) where
   -- ---- fields
@@ -37,6 +40,31 @@ module _ (c : Configuration) (p : Plain) (s : Stands c p) (y : Held) where
       wants c p s (at c p s 0 y (StoresField f new)) (Store (place_of c.pages (HeapWord (field_at f))) new) (ap (λ n. Some (Store (place_of n (HeapWord (field_at f))) new)) a.is.fits.pages)
       (stores c p s (at c p s 0 y (StoresField f new)) (WordIs (field_at f) new) (omega (arith, inside, n))
       (stored c p s y (StoresField f new) a (record (table c) { heap = put (table c).heap (field_at f) new }) a.remembers.quiet))
+
+  module _ (f : FieldAccess) (e : FieldExchange) where
+    module _ (a : IsAlone c (at c p s 0 y (LoadsForCas f e))) where
+      abbrev word : ℕ
+      word = word_in c.pages c.words (HeapWord (field_at f))
+
+      -- it is what is expected, or not
+      by_test : (b : Bool) → Owed c p s y (LoadsForCas f e) a (table c) (cond b (GoesTo (ExchangesField f e word)) (Comes (Brings e.into (number_word 0))))
+      by_test true = goes c p s y (LoadsForCas f e) a (ExchangesField f e word) (heap_word c (field_at f)) (omega arith)
+      by_test false = brings c p s y (LoadsForCas f e) a (table c) e.into (number_word 0) a.remembers.quiet
+
+      pub loads_for_cas : StepsLower c (at c p s 0 y (LoadsForCas f e))
+      loads_for_cas =
+          let inside = a.is.fits.stage.sound.stage.0 in
+          let n = a.is.fits.pages in
+          wants c p s (at c p s 0 y (LoadsForCas f e)) (Load (place_of c.pages (HeapWord (field_at f)))) (ap (λ n. Some (Load (place_of n (HeapWord (field_at f))))) a.is.fits.pages)
+          (loads c p s (at c p s 0 y (LoadsForCas f e)) (HeapWord (field_at f)) (omega (arith, inside, n)) (by_test (word_held (role_of f.role) word == e.expected)))
+
+    pub exchanges_field : (old : ℕ) → IsAlone c (at c p s 0 y (ExchangesField f e old)) → StepsLower c (at c p s 0 y (ExchangesField f e old))
+    exchanges_field old a =
+        let inside = a.is.fits.stage.sound.stage.0 in
+        let n = a.is.fits.pages in
+        wants c p s (at c p s 0 y (ExchangesField f e old)) (Exchange (place_of c.pages (HeapWord (field_at f))) old e.new) (ap (λ n. Some (Exchange (place_of n (HeapWord (field_at f))) old e.new)) a.is.fits.pages)
+        (exchanges c p s (at c p s 0 y (ExchangesField f e old)) (WordIs (field_at f) e.new) old (omega (arith, inside, n)) (sym (heap_word c (field_at f)) ∙ a.remembers.stands)
+        (brings c p s y (ExchangesField f e old) a (record (table c) { heap = put (table c).heap (field_at f) e.new }) e.into (number_word 1) a.remembers.quiet))
 
   -- ---- the board
 

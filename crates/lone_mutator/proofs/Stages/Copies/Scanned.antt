@@ -34,6 +34,7 @@ answered-left : (z : Scanning) (stage : ScanStage) (v : Evacuation) (to : â„•) â
 answered-left z (scan_stage.Asks asked) v to has = refl
 answered-left z scan_stage.LoadsCross v to has = absurd has
 answered-left z (scan_stage.LoadsFirst first) v to has = absurd has
+answered-left z (scan_stage.LoadsCount h) v to has = absurd has
 answered-left z (scan_stage.LoadsWord spot) v to has = absurd has
 answered-left z (scan_stage.StoresCopy asked copy) v to has = absurd has
 answered-left z (scan_stage.LoadsFront r) v to has = absurd has

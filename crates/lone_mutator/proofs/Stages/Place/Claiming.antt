@@ -26,7 +26,7 @@ use Rattle.heap_state.proofs.Table.Spelled.{spelled}
 use Rattle.gc_worker.specs.declared.stage.after.After.TheVariants as afters
 use Rattle.gc_worker.specs.declared.stage.Stage.TheVariants.{Places}
 use Rattle.gc_worker.specs.declared.task.Task.{Task}
-use Rattle.gc_worker.specs.Workers.Held.{Held, at_stage}
+use Rattle.gc_worker.specs.Workers.Held.{Held, at_stage, fields_for}
 use Rattle.gc_worker.specs.Steps.Turned.{Silent, end_by_shortage, ended, full_by, finds_full, passes, told_end, told_full, told_place, turned_place}
 use Rattle.gc_worker.proofs.Words.Areas.{area_says, is_space}
 use Rattle.gc_worker.proofs.Stages.Rounds.Words.{traced_now, traced_word}
@@ -62,7 +62,7 @@ neither false b e = refl
 
 module _ (c : Configuration) (p : Plain) (s : Stands c p) (y : Held) (run : Run) (header : Header) where
   abbrev pub placing : PlaceStage → Placing
-  placing stage = record { layout = y.layout; run = run; header = header; epoch = y.epoch; stage = stage }
+  placing stage = record { layout = y.layout; run = run; header = header; fields = fields_for y; epoch = y.epoch; stage = stage }
 
   abbrev pub at : PlaceStage → Held
   at stage = at_stage y (Places (placing stage))

@@ -1,9 +1,12 @@
--- Pages claimed by a lone mutator are cleared and opened, and its record's header is stored.
+-- Pages claimed by a lone mutator are cleared and opened, and the count of its record's fields and its header are stored.
 use Rattle.std.proofs.Common.{◌≡◌, ℕ, ◌+◌, ◌≤◌, Bool, true, false, cond, Option, Some, nat_lt, refl, sym, ap, subst, arith}
 use Rattle.plain_state.specs.State.{Plain}
 use Rattle.record_layout.specs.declared.header.Header.{Header}
 use Rattle.record_layout.specs.Layout.{header_says}
+use Rattle.heap_words.specs.declared.kind.Kind.{Kind}
+use Rattle.heap_words.specs.declared.kind.Kind.TheVariants.{Fields, Raw, Mixed}
 use Rattle.heap_words.specs.Decoded.{encode}
+use Rattle.heap_words.specs.Word.{number_word}
 use Rattle.atom_store.specs.declared.step.Step.TheVariants.{Store}
 use Rattle.space_map.specs.declared.page_word.PageWord.TheVariants.{Open}
 use Rattle.space_map.specs.PageWord.{encode_page}
@@ -11,15 +14,15 @@ use Rattle.space_map.specs.Spaces.{page_of, to_space}
 use Rattle.space_map.specs.Table.{Page, HeapWord, place_of}
 use Rattle.alloc_end.specs.declared.new_pages.NewPages.{NewPages}
 use Rattle.alloc_end.specs.declared.place_stage.PlaceStage.{PlaceStage}
-use Rattle.alloc_end.specs.declared.place_stage.PlaceStage.TheVariants.{StoresZero, OpensPage, StoresHeader}
+use Rattle.alloc_end.specs.declared.place_stage.PlaceStage.TheVariants.{StoresZero, OpensPage, StoresCount, StoresHeader}
 use Rattle.alloc_end.specs.declared.run.Run.{Run}
-use Rattle.alloc_end.specs.Place.{Placing, pages_for, size_of, told_at, words_for}
+use Rattle.alloc_end.specs.Place.{Placing, pages_for, size_of, stores_first, told_at, words_for}
 use Rattle.heap_state.specs.Configuration.{Configuration, Stands, table}
 use Rattle.heap_state.specs.Memory.Entries.{PageIs, WordIs}
 use Rattle.heap_state.specs.Functions.{put}
 use Rattle.heap_state.specs.Memory.Table.{Table}
 use Rattle.gc_worker.specs.declared.task.Task.{Task}
-use Rattle.gc_worker.specs.Workers.Held.{Held, making_for}
+use Rattle.gc_worker.specs.Workers.Held.{Held, fields_for, making_for}
 use Rattle.gc_worker.specs.Steps.Turned.{told_effect, told_place, turned_place, with_record}
 use Rattle.lone_mutator.specs.Law.{IsAlone, Lowers, LowersWhereTold, StepsLower}
 use Rattle.lone_mutator.specs.Potential.{due_in}
@@ -81,16 +84,28 @@ module _ (c : Configuration) (p : Plain) (s : Stands c p) (y : Held) (run : Run)
         let now = present c p s (on (OpensPage new)) a refl in
         due_opened c.pages (table c).gate.epoch (table c).traced ((table c).area (to_space (table c).gate.epoch)).owed (table c).page new.next (Open y.epoch) (ap (λ (e : ℕ). e + 1) now)
 
-    abbrev then_at : Bool → Placing
-    then_at b = cond b (placing c p s y run header (OpensPage (record { first = new.first; next = new.next + 1 })))
-        (record { layout = y.layout; run = record { at = new.first; end = new.first + words_for header }; header = header; epoch = y.epoch; stage = StoresHeader })
+    abbrev then_at : Kind → Bool → Placing
+    then_at kind b = cond b (placing c p s y run header (OpensPage (record { first = new.first; next = new.next + 1 })))
+        (placing c p s y (record { at = new.first; end = new.first + words_for header }) header (stores_first kind))
 
-    opened_by : (b : Bool) → LowersWhereTold c.pages (table c) opened_at (on (OpensPage new)) (turned_place (on (OpensPage new)) (then_at b) (told_at (then_at b).stage)) (told_place (on (OpensPage new)) (told_at (then_at b).stage))
-    opened_by true =
+    abbrev Opens : Kind → Bool → Type 0
+    Opens kind b = LowersWhereTold c.pages (table c) opened_at (on (OpensPage new)) (turned_place (on (OpensPage new)) (then_at kind b) (told_at (then_at kind b).stage)) (told_place (on (OpensPage new)) (told_at (then_at kind b).stage))
+
+    -- the last of them, where the record isn't mixed
+    opened_last : Opens Fields false
+    opened_last =
         let fits = a.is.fits.stage.sound.stage in
         let from = fits.1 in let below = fits.2 in let due = due_after in
         record { remembers = record { began = a.remembers.began; quiet = a.remembers.quiet; stands = tt }; falls = omega (arith, from, below, due) }
-    opened_by false =
+
+    opened_by : (kind : Kind) (b : Bool) → Opens kind b
+    opened_by kind true =
+        let fits = a.is.fits.stage.sound.stage in
+        let from = fits.1 in let below = fits.2 in let due = due_after in
+        record { remembers = record { began = a.remembers.began; quiet = a.remembers.quiet; stands = tt }; falls = omega (arith, from, below, due) }
+    opened_by Fields false = opened_last
+    opened_by Raw false = opened_last
+    opened_by Mixed false =
         let fits = a.is.fits.stage.sound.stage in
         let from = fits.1 in let below = fits.2 in let due = due_after in
         record { remembers = record { began = a.remembers.began; quiet = a.remembers.quiet; stands = tt }; falls = omega (arith, from, below, due) }
@@ -100,7 +115,25 @@ module _ (c : Configuration) (p : Plain) (s : Stands c p) (y : Held) (run : Run)
         let fits = a.is.fits.stage.sound.stage in
         let inside = fits.0 in let below = fits.2 in let n = a.is.fits.pages in
         wants c p s (on (OpensPage new)) (Store (place_of c.pages (Page new.next)) (encode_page (Open y.epoch))) (ap (λ n. Some (Store (place_of n (Page new.next)) (encode_page (Open y.epoch)))) a.is.fits.pages)
-        (stores c p s (on (OpensPage new)) (PageIs new.next (Open y.epoch)) (omega (arith, inside, below, n), a.is.fits.epoch) (opened_by (nat_lt (new.next + 1) (page_of new.first + asked))))
+        (stores c p s (on (OpensPage new)) (PageIs new.next (Open y.epoch)) (omega (arith, inside, below, n), a.is.fits.epoch) (opened_by header.kind (nat_lt (new.next + 1) (page_of new.first + asked))))
+
+  -- ---- the count of a mixed record's fields
+
+  module _ (a : IsAlone c (on StoresCount)) where
+    abbrev counted : Table
+    counted = record (table c) { heap = put (table c).heap (run.at + 1) (number_word (fields_for y)) }
+
+    lowers : Lowers c.pages (table c) counted (on StoresCount) (on StoresHeader)
+    lowers = record { remembers = record { began = a.remembers.began; quiet = a.remembers.quiet; stands = tt }; falls = omega arith }
+
+    pub stores_count : StepsLower c (on StoresCount)
+    stores_count =
+        let fits = a.is.fits.stage.sound.stage in
+        let long = fits.1 in let room = fits.2 in
+        let inside = a.is.fits.stage.sound.run.1 in let n = a.is.fits.pages in
+        wants c p s (on StoresCount) (Store (place_of c.pages (HeapWord (run.at + 1))) (number_word (fields_for y)))
+        (ap (λ n. Some (Store (place_of n (HeapWord (run.at + 1))) (number_word (fields_for y)))) a.is.fits.pages)
+        (stores c p s (on StoresCount) (WordIs (run.at + 1) (number_word (fields_for y))) (omega (arith, inside, long, room, n)) lowers)
 
   -- ---- the header
 

@@ -39,7 +39,7 @@ use Rattle.lone_mutator.proofs.Steps.Owed.{wants, exchanges}
 use Rattle.lone_mutator.proofs.Epochs.Cost.{IsToBeTraced, left_claimed}
 
 -- a scan that begins has at most so many steps left
-begun-le : (b : Bool) (l : Layout) (page epoch : ℕ) (in_place : Bool) → nat_eq page (board_page l.pages) ≡ b → scan_left.left (scan.begun l page epoch in_place) ≤ 450
+begun-le : (b : Bool) (l : Layout) (page epoch : ℕ) (in_place : Bool) → nat_eq page (board_page l.pages) ≡ b → scan_left.left (scan.begun l page epoch in_place) ≤ 451
 begun-le true l page epoch in_place test = rw test (omega arith)
 begun-le false l page epoch in_place test = rw test (omega arith)
 

@@ -1,29 +1,31 @@
 -- What a scan has left goes down with each step, by six where it asks for a copy.
-use Rattle.std.proofs.Common.{◌≡◌, ℕ, ◌+◌, ◌-◌, ◌*◌, ◌<◌, ◌≤◌, Bool, true, false, cond, nat_eq, nat_lt, max, Option, Some, None, refl, arith}
+use Rattle.std.proofs.Common.{◌≡◌, ℕ, ◌+◌, ◌-◌, ◌*◌, ◌<◌, ◌≤◌, Bool, true, false, cond, nat_eq, nat_lt, max, Option, Some, None, refl, arith, ⊎_elim}
 use Rattle.std.specs.Prelude.{is_some}
-use Rattle.std.proofs.lemmas.Bool.{ne_eqb, cond_both}
+use Rattle.std.proofs.lemmas.Bool.{cases_lt, ne_eqb, cond_both}
 use Rattle.std.proofs.lemmas.Bool.Decides.{nat_tests}
 use Rattle.atom_store.specs.declared.reply.Reply.{Reply}
 use Rattle.atom_store.specs.declared.reply.Reply.TheVariants.{Value, Done}
-use Rattle.heap_words.specs.declared.kind.Kind.{Kind}
-use Rattle.heap_words.specs.declared.kind.Kind.TheVariants.{Fields, Raw}
+use Rattle.plain_state.specs.declared.kind.Kind.{Kind}
+use Rattle.plain_state.specs.declared.kind.Kind.TheVariants.{Fields, Raw, Mixed}
+use Rattle.heap_words.specs.declared.kind.Kind.{Kind as HeaderKind}
+use Rattle.heap_words.specs.declared.kind.Kind.TheVariants as header_kinds
 use Rattle.heap_state.specs.Memory.FieldSpan.{first_field}
-use Rattle.heap_state.specs.Invariant.Ghost.{said_kind}
 use Rattle.heap_words.specs.FirstWords.{is_header}
 use Rattle.heap_words.specs.Decoded.{Decoded, NumberWord, PointerWord, HeaderWord, ForwardWord, BusyWord, Malformed, decode}
 use Rattle.space_map.specs.declared.area_word.AreaWord.{AreaWord}
 use Rattle.space_map.specs.AreaWord.{decode_area}
 use Rattle.space_map.specs.Spaces.{Layout, board_page, first_word}
+use Rattle.page_scan.specs.declared.headed_record.HeadedRecord.{HeadedRecord}
 use Rattle.page_scan.specs.declared.scan_stage.ScanStage.{ScanStage}
-use Rattle.page_scan.specs.declared.scan_stage.ScanStage.TheVariants.{LoadsCross, LoadsFirst, LoadsWord, Asks, StoresCopy, LoadsFront, LoadsNext}
+use Rattle.page_scan.specs.declared.scan_stage.ScanStage.TheVariants.{LoadsCross, LoadsFirst, LoadsCount, LoadsWord, Asks, StoresCopy, LoadsFront, LoadsNext}
 use Rattle.page_scan.specs.declared.scanned_record.ScannedRecord.{ScannedRecord}
 use Rattle.page_scan.specs.declared.spot.Spot.{Spot}
 use Rattle.page_scan.specs.declared.spot.Spot.TheVariants.{OnBoard, InRecord}
 use Rattle.page_scan.specs.Left.{left_at, advances}
 use Rattle.page_scan.specs.Scanning.{address_of}
-use Rattle.page_scan.specs.Soundness.{IsOnPage, FitsStage}
-use Rattle.page_scan.specs.Taken.{board_words, by_area, by_header, by_word, enters, goes_on_at, is_old, passes_word, record_at, scan_end, stage_after}
-use Rattle.page_scan.proofs.Lowering.{passes-lt}
+use Rattle.page_scan.specs.Soundness.{IsHeadedOn, IsOnPage, FitsStage}
+use Rattle.page_scan.specs.Taken.{board_words, by_area, by_count, by_header, by_kind, by_word, enters, goes_on_at, is_count, is_old, passes_word, record_at, scan_end, stage_after}
+use Rattle.page_scan.proofs.Lowering.{counts-before, counts-lt, counts-on, passes-lt}
 
 -- what a copy costs that is asked for, before its room is reserved
 abbrev pub asks_cost : ScanStage → ℕ
@@ -89,14 +91,9 @@ entered-cost n page end in_place r x is =
     (λ _. cond_both in_place (LoadsFront r) (LoadsNext r) P (λ _ fits. let low = fits.2 in omega (arith, low, is)) (λ _ fits. let low = fits.2 in omega (arith, low, is)))
     (λ _ fits. omega arith))
 
-first_field-pos : (kind : Kind) → 1 ≤ first_field (said_kind kind 0)
-first_field-pos Fields = omega arith
-first_field-pos Raw = omega arith
-
-next-cost : (end page : ℕ) (in_place : Bool) (at : ℕ) (kind : Kind) (len : ℕ) → at < end → cost end (enters page in_place at kind len) < 7 * (end - at) - 1
-next-cost end page in_place at kind len inside =
-    let first = first_field-pos kind in
-    let fewer = goes_on-cost end page in_place (record_at at kind len) (max (at + first_field (said_kind kind 0)) (first_word page)) (at + 1) (omega (arith, first)) (omega arith) in
+next-cost : (end page : ℕ) (in_place : Bool) (at : ℕ) (kind : Kind) (len : ℕ) → 0 < first_field kind → at < end → cost end (enters page in_place at kind (len + 1)) < 7 * (end - at) - 1
+next-cost end page in_place at kind len first inside =
+    let fewer = goes_on-cost end page in_place (record_at at kind (len + 1)) (max (at + first_field kind) (first_word page)) (at + 1) (omega (arith, first)) (omega arith) in
     omega (arith, fewer, inside)
 
 -- ---- all
@@ -106,25 +103,68 @@ area-cost l e end r (Some area) some inside =
     cond_both (nat_eq _ r.next) _ (LoadsNext r) (λ (stage : ScanStage). cost end stage < 7 * (end - r.next)) (λ _. omega (arith, inside)) (λ _. omega (arith, inside))
 area-cost l e end r None some inside = absurd (cc)
 
-first-cost : (l : Layout) (p : ℕ) (in_place : Bool) (at : ℕ) (d : Decoded) → p < board_page l.pages → is_header d ≡ true
-    → FitsStage l.pages p (by_header p in_place at (LoadsFirst at) d) → cost (scan_end l p) (by_header p in_place at (LoadsFirst at) d) < 449
-first-cost l p in_place at (HeaderWord kind len serial mutator) low head fits =
-    let few = entered-cost l.pages p (scan_end l p) in_place (record_at at kind len) (max (at + first_field (said_kind kind 0)) (first_word p)) (scan_end-page l p low) fits in
+first_kind-cost : (l : Layout) (p : ℕ) (in_place : Bool) (at size : ℕ) (kind : HeaderKind) → p < board_page l.pages
+    → FitsStage l.pages p (by_kind p in_place at kind size) → cost (scan_end l p) (by_kind p in_place at kind size) < 450
+first_kind-cost l p in_place at size header_kinds.Fields low fits =
+    let few = entered-cost l.pages p (scan_end l p) in_place (record_at at Fields size) (max (at + 1) (first_word p)) (scan_end-page l p low) fits in
     omega (arith, few)
+first_kind-cost l p in_place at size header_kinds.Raw low fits =
+    let few = entered-cost l.pages p (scan_end l p) in_place (record_at at Raw size) (max (at + 1) (first_word p)) (scan_end-page l p low) fits in
+    omega (arith, few)
+first_kind-cost l p in_place at size header_kinds.Mixed low fits = let few = counts-lt (scan_end l p) (record { at = at; size = size }) in omega (arith, few)
+
+first-cost : (l : Layout) (p : ℕ) (in_place : Bool) (at : ℕ) (d : Decoded) → p < board_page l.pages → is_header d ≡ true
+    → FitsStage l.pages p (by_header p in_place at (LoadsFirst at) d) → cost (scan_end l p) (by_header p in_place at (LoadsFirst at) d) < 450
+first-cost l p in_place at (HeaderWord kind len serial mutator) low head fits = first_kind-cost l p in_place at (len + 1) kind low fits
 first-cost l p in_place at (NumberWord n) low head fits = absurd (cc)
 first-cost l p in_place at (PointerWord address) low head fits = absurd (cc)
 first-cost l p in_place at (ForwardWord len address) low head fits = absurd (cc)
 first-cost l p in_place at (BusyWord len worker) low head fits = absurd (cc)
 first-cost l p in_place at Malformed low head fits = absurd (cc)
 
-header-cost : (end page : ℕ) (in_place : Bool) (r : ScannedRecord) (d : Decoded) → r.next < end → is_header d ≡ true
+next_kind-cost : (end page : ℕ) (in_place : Bool) (at len : ℕ) (kind : HeaderKind) → end - 64 ≤ at → at < end → cost end (by_kind page in_place at kind (len + 1)) < 7 * (end - at) - 1
+next_kind-cost end page in_place at len header_kinds.Fields on inside = next-cost end page in_place at Fields len (omega arith) inside
+next_kind-cost end page in_place at len header_kinds.Raw on inside = next-cost end page in_place at Raw len (omega arith) inside
+next_kind-cost end page in_place at len header_kinds.Mixed on inside = let few = counts-on end (record { at = at; size = len + 1 }) on in omega (arith, few, inside)
+
+header-cost : (end page : ℕ) (in_place : Bool) (r : ScannedRecord) (d : Decoded) → end - 64 ≤ r.next → r.next < end → is_header d ≡ true
     → cost end (by_header page in_place r.next (LoadsNext r) d) < 7 * (end - r.next) - 1
-header-cost end page in_place r (HeaderWord kind len serial mutator) inside head = next-cost end page in_place r.next kind len inside
-header-cost end page in_place r (NumberWord n) inside head = absurd (cc)
-header-cost end page in_place r (PointerWord address) inside head = absurd (cc)
-header-cost end page in_place r (ForwardWord len address) inside head = absurd (cc)
-header-cost end page in_place r (BusyWord len worker) inside head = absurd (cc)
-header-cost end page in_place r Malformed inside head = absurd (cc)
+header-cost end page in_place r (HeaderWord kind len serial mutator) on inside head = next_kind-cost end page in_place r.next len kind on inside
+header-cost end page in_place r (NumberWord n) on inside head = absurd (cc)
+header-cost end page in_place r (PointerWord address) on inside head = absurd (cc)
+header-cost end page in_place r (ForwardWord len address) on inside head = absurd (cc)
+header-cost end page in_place r (BusyWord len worker) on inside head = absurd (cc)
+header-cost end page in_place r Malformed on inside head = absurd (cc)
+
+-- the count of a mixed record
+counted-cost : (l : Layout) (p : ℕ) (in_place : Bool) (h : HeadedRecord) (count : ℕ) → IsHeadedOn l.pages p h
+    → cost (scan_end l p) (enters p in_place h.at (Mixed count) h.size) < left_at (scan_end l p) (LoadsCount h)
+counted-cost l p in_place h count fits =
+    let end = scan_end-page l p fits.low in
+    let begins = fits.begins in
+    let reaches = fits.reaches in
+    let counted = fits.counted in
+    let r : ScannedRecord = record_at h.at (Mixed count) h.size in
+    let x : ℕ = max (h.at + 2) (first_word p) in
+    ⊎_elim
+    (λ (before : h.at < scan_end l p - 64).
+    let few = goes_on-cost (scan_end l p) p in_place r x (first_word p) (omega arith) (omega (arith, reaches)) in
+    let left = counts-before (scan_end l p) h before in
+    omega (arith, few, left, end))
+    (λ (on : scan_end l p - 64 ≤ h.at).
+    let few = goes_on-cost (scan_end l p) p in_place r x (h.at + 2) (omega arith) (omega (arith, counted)) in
+    let left = counts-on (scan_end l p) h on in
+    omega (arith, few, left, end, begins))
+    (cases_lt h.at (scan_end l p - 64))
+
+count-cost : (l : Layout) (p : ℕ) (in_place : Bool) (h : HeadedRecord) (d : Decoded) → IsHeadedOn l.pages p h → is_count h.size d ≡ true
+    → cost (scan_end l p) (by_count p in_place h d) < left_at (scan_end l p) (LoadsCount h)
+count-cost l p in_place h (NumberWord count) fits is = rw is (counted-cost l p in_place h count fits)
+count-cost l p in_place h (PointerWord address) fits is = absurd (cc)
+count-cost l p in_place h (HeaderWord kind len serial mutator) fits is = absurd (cc)
+count-cost l p in_place h (ForwardWord len address) fits is = absurd (cc)
+count-cost l p in_place h (BusyWord len worker) fits is = absurd (cc)
+count-cost l p in_place h Malformed fits is = absurd (cc)
 
 stored-cost : (l : Layout) (p : ℕ) (in_place : Bool) (spot : Spot) → IsOnPage l.pages p spot
     → cost (scan_end l p) (passes_word p in_place spot) < 7 * (scan_end l p - address_of spot - 1) + 1
@@ -143,10 +183,14 @@ pub lowers : (l : Layout) (p e : ℕ) (in_place : Bool) (stage : ScanStage) (rep
     → cost (scan_end l p) (stage_after l p e in_place stage reply) < left_at (scan_end l p) stage
 lowers l p e in_place LoadsCross (Value w) fits after on = omega arith
 lowers l p e in_place (LoadsFirst at) (Value w) fits after on = first-cost l p in_place at (decode w) fits.0 on after
+lowers l p e in_place (LoadsCount h) (Value w) fits after on = count-cost l p in_place h (decode w) fits on
 lowers l p e in_place (LoadsWord spot) (Value w) fits after on = by_word-cost l p e in_place spot (decode w) fits
 lowers l p e in_place (StoresCopy asked to) Done fits after on = stored-cost l p in_place asked.spot fits
 lowers l p e in_place (LoadsFront r) (Value w) fits after on =
     area-cost l e (scan_end l p) r (decode_area w) on (let end = scan_end-page l p fits.1 in let inside = fits.3 in omega (arith, end, inside))
 lowers l p e in_place (LoadsNext r) (Value w) fits after on =
-    header-cost (scan_end l p) p in_place r (decode w) (let end = scan_end-page l p fits.1 in let inside = fits.3 in omega (arith, end, inside)) on
+    let end = scan_end-page l p fits.1 in
+    let low = fits.2 in
+    let inside = fits.3 in
+    header-cost (scan_end l p) p in_place r (decode w) (omega (arith, end, low)) (omega (arith, end, inside)) on
 lowers l p e in_place stage reply fits after on = absurd (cc)

@@ -1,6 +1,7 @@
 -- The scan of a page by a lone mutator: it meets the words that can be there, and so each of its steps lowers what is still to be paid.
 use Rattle.std.proofs.Common.{◌≡◌, ◌≢◌, ℕ, ◌+◌, ◌*◌, ◌/◌, ◌<◌, ◌≤◌, ◌⊎◌, inl, inr, Bool, true, false, None, Some, refl, sym, ap, subst, ◌∙◌, arith}
 use Rattle.std.specs.Prelude.{is_some}
+use Rattle.std.proofs.lemmas.Bool.{le-leb}
 use Rattle.std.proofs.lemmas.Option.{same_Some}
 use Rattle.plain_state.specs.State.{Plain}
 use Rattle.atom_store.specs.declared.reply.Reply.TheVariants.{Value, Done}
@@ -11,14 +12,16 @@ use Rattle.heap_words.specs.Word.{pointer_word}
 use Rattle.space_map.specs.Spaces.{Layout, to_space}
 use Rattle.space_map.specs.Table.{Row, IsRow, Area, Cross, HeapWord, place_of}
 use Rattle.page_scan.specs.declared.asked.Asked.{Asked}
+use Rattle.page_scan.specs.declared.headed_record.HeadedRecord.{HeadedRecord}
 use Rattle.page_scan.specs.declared.scan_stage.ScanStage.{ScanStage}
-use Rattle.page_scan.specs.declared.scan_stage.ScanStage.TheVariants.{LoadsCross, LoadsFirst, LoadsWord, Asks, StoresCopy, LoadsFront, LoadsNext, Ended}
+use Rattle.page_scan.specs.declared.scan_stage.ScanStage.TheVariants.{LoadsCross, LoadsFirst, LoadsCount, LoadsWord, Asks, StoresCopy, LoadsFront, LoadsNext, Ended}
 use Rattle.page_scan.specs.declared.scanned_record.ScannedRecord.{ScannedRecord}
 use Rattle.page_scan.specs.declared.spot.Spot.{Spot}
 use Rattle.page_scan.specs.declared.spot.Spot.TheVariants.{OnBoard, InRecord}
 use Rattle.page_scan.specs.Left.{advances}
 use Rattle.page_scan.specs.Scanning.{Scanning, address_of}
 use Rattle.page_scan.specs.Soundness.{IsOnPage}
+use Rattle.page_scan.specs.Taken.{is_count}
 use Rattle.heap_state.specs.Configuration.{Configuration, Stands, table, era, memory, team}
 use Rattle.heap_state.specs.Memory.Entries.{WordIs, with_entry}
 use Rattle.heap_state.specs.Memory.Table.{word_in}
@@ -30,7 +33,7 @@ use Rattle.heap_laws.proofs.Steps.Answers.{scans_are_answered}
 use Rattle.gc_worker.specs.declared.stage.back.Back.{Back}
 use Rattle.gc_worker.specs.declared.stage.Stage.TheVariants.{Scans}
 use Rattle.gc_worker.specs.Workers.Held.{Held, at_stage}
-use Rattle.gc_worker.specs.Workers.Knows.{quest_at, scan_of, seen_record}
+use Rattle.gc_worker.specs.Workers.Knows.{quest_at, scan_of, seen_header, seen_record}
 use Rattle.gc_worker.specs.Steps.Wanted.{wanted}
 use Rattle.gc_worker.proofs.Words.Areas.{area_says, is_space}
 use Rattle.gc_worker.proofs.Stages.Scan.Headers.{heap_word}
@@ -95,6 +98,17 @@ module _ (c : Configuration) (p : Plain) (s : Stands c p) (y : Held) (z : Scanni
       let header = (answers stage a refl).first first (apart stage a f.0) refl in
       loads_it stage a (HeapWord first) (let i = f.1 in omega (arith, i, n)) refl (meets first header.1.0)
 
+  loads_count : (h : HeadedRecord) → Owes (LoadsCount h)
+  loads_count h a =
+      let stage = LoadsCount h in
+      let f = a.is.fits.stage.0.sound.fits in
+      let n = pages stage a in
+      let inside = f.inside in
+      let counted = f.counted in
+      let t = (answers stage a refl).count (seen_header h) refl in
+      loads_it stage a (HeapWord (h.at + 1)) (omega (arith, inside, counted, n)) refl
+      (ap (λ w. is_count h.size (decode w)) (sym (heap_word c (h.at + 1))) ∙ ap (is_count h.size) t.1 ∙ le-leb (t.0 + 2) h.size t.2)
+
   loads_word : (spot : Spot) → Owes (LoadsWord spot)
   loads_word spot a = loads_it (LoadsWord spot) a (HeapWord (address_of spot)) (on_table spot a.is.fits.stage.0.sound.fits (pages (LoadsWord spot) a)) refl refl
 
@@ -132,6 +146,7 @@ module _ (c : Configuration) (p : Plain) (s : Stands c p) (y : Held) (z : Scanni
   by_stage : (stage : ScanStage) → Owes stage
   by_stage LoadsCross a = loads_cross a
   by_stage (LoadsFirst first) a = loads_first first a
+  by_stage (LoadsCount h) a = loads_count h a
   by_stage (LoadsWord spot) a = loads_word spot a
   by_stage (Asks asked) a = absurd a.is.fits.stage.1
   by_stage (StoresCopy asked to) a = stores_copy asked to a

@@ -51,6 +51,10 @@ pub returns-in-raw : goal.returns-in-raw
 unfolding instr_of
 returns-in-raw c = rw (three_letters c.args.name.now 114 97 119 (search arith)) (made_of _ _ c.register_operand.ensures (λ o x p. search rules))
 
+pub returns-in-mix : goal.returns-in-mix
+unfolding instr_of
+returns-in-mix c = rw (three_letters c.args.name.now 109 105 120 (search arith)) (made_of _ _ c.register_two_operands.ensures (λ o x p. search rules))
+
 pub returns-in-ld : goal.returns-in-ld
 unfolding instr_of
 returns-in-ld c = rw (two_letters c.args.name.now 108 100 (search arith)) (made_of _ _ c.two_registers_operand.ensures (λ o x p. search rules))
@@ -58,6 +62,10 @@ returns-in-ld c = rw (two_letters c.args.name.now 108 100 (search arith)) (made_
 pub returns-in-st : goal.returns-in-st
 unfolding instr_of
 returns-in-st c = rw (two_letters c.args.name.now 115 116 (search arith)) (made_of _ _ c.register_operand_register.ensures (λ o x p. search rules))
+
+pub returns-in-cas : goal.returns-in-cas
+unfolding instr_of
+returns-in-cas c = rw (three_letters c.args.name.now 99 97 115 (search arith)) (made_of _ _ c.registers_operand_registers.ensures (λ o x p. search rules))
 
 pub returns-in-len : goal.returns-in-len
 unfolding instr_of

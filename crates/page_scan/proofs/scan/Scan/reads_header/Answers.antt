@@ -2,8 +2,8 @@ use Rattle.std.proofs.Common.{sym, ◌∙◌}
 use Rattle.page_scan.proofs.Headers.{by_header-header, by_header-none, told-HasStep}
 use Rattle.page_scan.proofs.scan.Scan.reads_header.Goals as goal
 
-pub enters-requires-clause-sound : goal.enters-requires-clause-sound
-enters-requires-clause-sound c =
+pub goes_by_kind-requires-clause-sound : goal.goes_by_kind-requires-clause-sound
+goes_by_kind-requires-clause-sound c =
     let s = c.args.self.now in
     (rw (by_header-header s.page s.in_place c.args.at c.args.stage c.args.word c.in-Some.header c.in-Some.ensures.one_spelling) at c.requires.sound)
 
@@ -15,12 +15,12 @@ goes_to-requires-clause-sound c =
 pub returns-in-Some-clause-state : goal.returns-in-Some-clause-state
 returns-in-Some-clause-state c =
     let s = c.args.self.now in
-    rw (by_header-header s.page s.in_place c.args.at c.args.stage c.args.word c.in-Some.header c.in-Some.ensures.one_spelling) c.enters.ensures.state
+    rw (by_header-header s.page s.in_place c.args.at c.args.stage c.args.word c.in-Some.header c.in-Some.ensures.one_spelling) c.goes_by_kind.ensures.state
 
 pub returns-in-Some-clause-told : goal.returns-in-Some-clause-told
 returns-in-Some-clause-told c =
     let s = c.args.self.now in
-    rw (by_header-header s.page s.in_place c.args.at c.args.stage c.args.word c.in-Some.header c.in-Some.ensures.one_spelling) c.enters.ensures.told
+    rw (by_header-header s.page s.in_place c.args.at c.args.stage c.args.word c.in-Some.header c.in-Some.ensures.one_spelling) c.goes_by_kind.ensures.told
 
 pub returns-in-None-clause-state : goal.returns-in-None-clause-state
 returns-in-None-clause-state c =
