@@ -69,10 +69,10 @@ module _ (law : WhatStandsIsTold) (options : RunOptions) (program : List (List I
   threaded : IsThreaded options program ran
   threaded = record { outputs = outputs; runs = r; order_is = refl; last_is = refl }
 
-  tells : told_by options.pages outputs ≡ told_of ran.last
+  tells : told_by options.limit outputs ≡ told_of ran.last
   tells = rw (r.tells.mutators, r.tells.cycles, r.tells.live, r.tells.registers, r.tells.kept) refl
 
-  pub has_closed : HasClosed options program items (told_by options.pages outputs)
+  pub has_closed : HasClosed options program items (told_by options.limit outputs)
   has_closed = record {
     ran = ran;
     is = record { made = threaded; acts = r.acts; dump = so.dump; live = so.live };
@@ -99,7 +99,7 @@ module _ (law : WhatStandsIsTold) (options : RunOptions) (program : List (List I
       sym (length-map outputs.kept.items as_kept) ∙ ap length r.tells.kept
       ∙ length-map (map knows r.workers) (λ (w : Worker). kept_by w.copy) ∙ length-map r.workers knows
 
-  pub is_whole : IsWellFormed program items → options.scanners ≤ 8 → IsWholeHeap options.pages outputs
+  pub is_whole : IsWellFormed program items → options.scanners ≤ 8 → IsWholeHeap options.limit outputs
   is_whole formed few =
       let sections = formed.few_sections in
       let count : length r.workers ≡ length program + options.scanners = r.count in

@@ -9,9 +9,9 @@ pub enum Class {
     Free,
     /// A header.
     Header,
-    /// A plain number in a record or a register.
+    /// A number with its tag: in a field, a register or the board, or the count of a mixed record.
     Number,
-    /// A word of a raw record.
+    /// A number without a tag: a word of a raw record, or one behind the fields of a mixed one.
     Raw,
     /// A pointer into the space that records are copied from.
     Old,

@@ -91,7 +91,7 @@ fn push_gate(text: &mut String, gate: GateWord) -> Result<(), AllocError> {
     )
 }
 
-/// The same, where there is a gate.
+/// The same, if there is a gate.
 fn push_any_gate(text: &mut String, gate: Option<GateWord>) -> Result<(), AllocError> {
     match gate {
         Some(gate) => push_gate(text, gate),
@@ -139,7 +139,7 @@ fn page_class(heap: &Heap, page: u32) -> (Class, Option<u8>) {
     }
 }
 
-/// The class of a word, where the heap has it.
+/// The class of a word, if the heap has it.
 fn class_at(classes: &[Class], addr: u32) -> Class {
     match classes.get(addr as usize) {
         Some(class) => *class,
@@ -170,7 +170,7 @@ fn name_text(alloc: Global, header: Header) -> Result<String, AllocError> {
     format!(in alloc; "{kind} {len} {}.{}", header.mutator, header.serial)
 }
 
-/// The text on a record, where it has room for one.
+/// The text on a record, if it has room for one.
 fn draw_name(
     alloc: Global,
     heap: &Heap,
@@ -311,14 +311,13 @@ fn draw_mark(
     offset: u32,
     class: Class,
 ) -> Result<(), NoMemory> {
-    let pages = heap.spaces.pages();
-    // The end of a space is the right end of its last page.
-    let (page, column) = if offset == pages * PAGE_WORDS {
-        (pages - 1, PAGE_WORDS)
+    // The end of a space is the right end of the last page that is in use.
+    let (page, column) = if offset == heap.in_use(space).saturating_mul(PAGE_WORDS) {
+        (heap.in_use(space).saturating_sub(1), PAGE_WORDS)
     } else {
         (offset / PAGE_WORDS, offset % PAGE_WORDS)
     };
-    let page = page.saturating_add(pages.saturating_mul(u32::from(space)));
+    let page = page.saturating_add(heap.spaces.pages().saturating_mul(u32::from(space)));
     let Some(top) = tops.get(page as usize) else {
         return Ok(());
     };
@@ -332,7 +331,7 @@ fn draw_mark(
     )
 }
 
-/// The top of the page in which an address lies, where it was drawn.
+/// The top of the page in which an address lies, if it was drawn.
 fn top_at(tops: &[u32], addr: u32) -> Option<u32> {
     tops.get((addr / PAGE_WORDS) as usize).copied()
 }
@@ -381,7 +380,37 @@ fn draw_forwards(
     Ok(())
 }
 
-/// A space or the board: its pages one below the other.
+/// Which pages are not in use yet.
+fn unused_text(alloc: Global, first: u32, last: u32) -> Result<String, AllocError> {
+    if first == last {
+        return format!(in alloc; "page {first} is not in use yet");
+    }
+    format!(in alloc; "pages {first} to {last} are not in use yet")
+}
+
+/// The pages from one to before another, which are not in use yet: one box for all of them.
+fn draw_unused(
+    alloc: Global,
+    drawing: &mut Drawing,
+    tops: &mut Vec<u32>,
+    first: u32,
+    end: u32,
+) -> Result<(), NoMemory> {
+    if first >= end {
+        return Ok(());
+    }
+    for _ in first..end {
+        tops.push(drawing.bottom)?;
+    }
+    let (x, y) = (LEFT, drawing.bottom);
+    drawing.block(x, y, CELL * PAGE_WORDS, WIDE, Class::Unset)?;
+    let text = unused_text(alloc, first, end - 1)?;
+    drawing.label(x + 4, y.saturating_add(12), Class::Plain, text)?;
+    drawing.down(WIDE + 1);
+    Ok(())
+}
+
+/// A space or the board: its pages one below the other, those in use first.
 fn draw_pages(
     alloc: Global,
     heap: &Heap,
@@ -393,10 +422,12 @@ fn draw_pages(
     let pages = heap.spaces.pages();
     let first = pages.saturating_mul(u32::from(space));
     let count = if space < 2 { pages } else { 1 };
-    for page in first..first.saturating_add(count) {
+    let unused = first.saturating_add(heap.in_use(space));
+    for page in first..unused {
         tops.push(drawing.bottom)?;
         draw_page(alloc, heap, classes, drawing, page)?;
     }
+    draw_unused(alloc, drawing, tops, unused, first.saturating_add(count))?;
     drawing.down(10);
     Ok(())
 }

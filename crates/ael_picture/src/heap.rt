@@ -27,7 +27,7 @@ pub struct Found {
 }
 
 impl<'a> Heap<'a> {
-    /// The word at a place of the table; 0 where there is none.
+    /// The word at a place of the table; 0 if there is none.
     pub fn shared(&self, place: usize) -> u64 {
         match self.dump.words.get(place) {
             Some(word) => *word,
@@ -51,6 +51,16 @@ impl<'a> Heap<'a> {
             AreaWord::read(self.shared(self.spaces.area_place(space)))
         } else {
             None
+        }
+    }
+
+    /// The pages of a space that are in use, or the one of the board.
+    pub fn in_use(&self, space: u8) -> u32 {
+        if space < 2 {
+            let size = self.shared(self.spaces.size_place(space));
+            size.min(u64::from(self.spaces.pages())) as u32
+        } else {
+            1
         }
     }
 
@@ -92,8 +102,8 @@ impl<'a> Heap<'a> {
         }
     }
 
-    /// How many of the words behind a record's header are tagged, if it has so many: those of a mixed one are the count of its fields,
-    /// and these.
+    /// At most how many of the words behind a record's header are tagged: all of a record of fields, and of a mixed one the count
+    /// and the fields.
     fn tagged_words(&self, addr: u32, kind: Kind) -> u64 {
         match kind {
             Kind::Fields => u64::MAX,
@@ -145,7 +155,7 @@ impl<'a> Heap<'a> {
             return;
         };
         let start = self.spaces.space_start(space);
-        let end = start + PAGE_WORDS * self.spaces.pages();
+        let end = start.saturating_add(self.in_use(space).saturating_mul(PAGE_WORDS));
         self.walk(classes, start, start.saturating_add(area.front));
         self.walk(classes, start.saturating_add(area.low), end);
     }
@@ -164,7 +174,7 @@ impl<'a> Heap<'a> {
     }
 }
 
-/// Writes a class, where the heap has such a word.
+/// Writes a class, if the heap has such a word.
 fn set(classes: &mut Vec<Class>, at: u32, class: Class) {
     if let Some(slot) = classes.get_mut(at as usize) {
         *slot = class;

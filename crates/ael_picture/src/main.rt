@@ -18,7 +18,7 @@ use std::env;
 use std::io::{ErrorKind, Read, Write};
 use std::process::ExitCode;
 
-/// What standard error gets where there was no memory.
+/// What standard error gets if there was no memory.
 const NO_MEMORY: &str = "ael_picture: out of memory";
 
 /// The picture of a dump whose spaces lie so.

@@ -49,6 +49,7 @@ use Rattle.ael_threads.proofs.Lists.Elements.{prefix_self, prefix_trans}
 use Rattle.ael_threads.proofs.TableRule.Epochs.{flipped_since, runs_now}
 use Rattle.ael_threads.proofs.TableRule.Flips.{answers_as_begun}
 use Rattle.ael_threads.proofs.TableRule.FullCalls.{ended_after, told_or_before}
+use Rattle.ael_threads.proofs.TableRule.PagesInUse.{flipped_or_last}
 use Rattle.ael_threads.proofs.Lists.Reads.{at_inside, get_of}
 
 -- ---- a look
@@ -89,7 +90,7 @@ same_calls m log (Marks asked) none = calls_append m log (Exchanged m asked ∷ 
 -- ---- the step of worker m, which holds y
 
 module _ (plan : Plan) (m : ℕ) (y : Held) (q : Step) (words : List ℕ) (workers : List Held) (log : List Entry) (at : get_elem? workers m ≡ some y) (want : wanted y ≡ Some q)
-    (legal : IsLegal (first_plain plan) log) (st : WorkersStand (heap_of plan words workers) (after_all (first_plain plan) log) (last_flip (first_plain plan) log)) (tallied : IsTallied (heap_of plan words workers) (opening_tally plan) log)
+    (legal : IsLegal (first_plain plan) log) (st : WorkersStand (heap_of plan words workers) (after_all (first_plain plan) log) (last_flip (first_plain plan) log)) (tallied : IsTallied plan.least (heap_of plan words workers) (opening_tally plan) log)
     (was : IsInCall y.stage → HasLooked plan m y log) (fits_z : Fits plan.spaces.pages plan.mutators m (turned y (reply_of q words)))
     (full : FullWhereTold plan.spaces.pages words y (told y (reply_of q words))) where
   abbrev n : ℕ
@@ -166,7 +167,7 @@ module _ (plan : Plan) (m : ℕ) (y : Held) (q : Step) (words : List ℕ) (worke
       let finds : FindsNoRoom n words y asked room live = subst (FullWhereTold n words y) e full in
       let gate : epoch_of n words ≡ y.epoch = ap (λ (o : Option GateWord). epoch_in_gate 0 o) finds.gate_is ∙ finds.epoch in
       let begun : y.begun ≡ z.begun = sym (answers_as_begun y r task (Trap (HeapFull asked room live)) e past) in
-      subst (λ (v : Task × ℕ). FlippedSinceBegun plan m v.0 v.1 log) (λ i. (same i, begun i)) (flipped_full plan m w.task y (calls_of m log) log w.within refl (sym gate_flips ∙ gate) finds.no_flip)
+      subst (λ (v : Task × ℕ). FlippedSinceBegun plan m v.0 v.1 log) (λ i. (same i, begun i)) (flipped_full plan m w.task y (calls_of m log) log w.within refl (sym gate_flips ∙ gate) (flipped_or_last n words y asked room live finds))
 
   -- who has found the heap full before has an end
   still_begun : (front rest : List Entry) (task : Task) (asked room live : ℕ) → front ++ Made (worker_call m task (Trap (HeapFull asked room live))) ∷ rest ≡ log → z.begun ≡ y.begun

@@ -2,6 +2,7 @@ pub mod WonPages
 pub mod Views
 pub mod Epochs
 pub mod Flips
+pub mod PagesInUse
 pub mod FullCalls
 pub mod StepKeeps
 pub mod AllowedSteps

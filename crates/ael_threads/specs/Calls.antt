@@ -102,8 +102,8 @@ WasExecuted (Trap end) = ⊥
 -- answers the task in the epoch that the caller then has. Where the task was executed, each pointer in the registers leads to a record's
 -- header in the space of that epoch, by the words after that act, and two registers hold one word exactly where the plain ones hold one
 -- value; where the heap is told to be full it was, by the words that the act found, and what is told as live was live at the last flip,
--- which came since the look that began the task in this call if the epoch is not the last one; what it and the room leave of the space is
--- no more than the pages of records made since then, or made next by the others.
+-- which came since the look that began the task in this call if the epoch is not the last one, and all pages of the space were in use
+-- then; what it and the room leave of the pages in use is no more than the pages of records made since then, or made next by the others.
 pub record Called (a : Seated) (task : Task) (did : Did) (b : Seated) : Type 0 where
   pub rests : b.worker.task ≡ None
   pub ends : b.worker.account.end ≡ end_by_did did
@@ -124,7 +124,7 @@ pub record Called (a : Seated) (task : Task) (did : Did) (b : Seated) : Type 0 w
   pub comes : ComesTo (after_all (first_plain a.knows.plan) (a.knows.seen ++ history.between)) (first_number a.knows.hands) task did
   pub full : FullByOutcome a.knows.plan.spaces.pages acts.knows.before last.worker did
   pub live : LiveWhereTold (last_flip (first_plain a.knows.plan) b.knows.seen) (Answers task did)
-  pub filled : IsFilledBy a.knows.plan.spaces.pages (tasks_held acts.knows.stands.workers) (tally (opening_tally a.knows.plan) (a.knows.seen ++ history.between)) (first_number a.knows.hands) task did []
+  pub filled : IsFilledBy acts.knows.stands.tallied.sizes (tasks_held acts.knows.stands.workers) (tally (opening_tally a.knows.plan) (a.knows.seen ++ history.between)) (first_number a.knows.hands) task did []
   pub lands : WasExecuted did → RegistersLand a.knows.plan.spaces.pages acts.knows.after b.worker
   pub alike : WasExecuted did → (q : Mutator) → slice_get (plain_after_seen b.knows).mutators (first_number a.knows.hands) ≡ Some q → AreAlike b.worker.registers q
 

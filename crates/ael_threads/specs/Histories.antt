@@ -9,7 +9,7 @@ use Rattle.gc_worker.specs.declared.calls.entry.Entry.TheVariants.{Exchanged, Ma
 use Rattle.gc_worker.specs.Laws.Between.{fresh_worker}
 use Rattle.gc_worker.specs.Workers.Held.{Held}
 use Rattle.gc_worker.specs.History.Legal.{calls_of}
-use Rattle.gc_worker.specs.History.Tally.{Tally, first_tally}
+use Rattle.gc_worker.specs.History.Tally.{Sizes, Tally, first_tally}
 use Rattle.ael_threads.specs.declared.view.Hand.{Hand}
 use Rattle.ael_threads.specs.declared.view.Plan.{Plan}
 
@@ -34,6 +34,12 @@ first_plain plan = opening_plain plan.mutators
 -- what is counted before it
 abbrev pub opening_tally : Plan → Tally
 opening_tally plan = first_tally (first_plain plan)
+
+-- the pages in use of a heap of this plan: at first as many as are the fewest, and never more than a space has
+pub record AreSizesOf (plan : Plan) (z : Sizes) : Type 0 where
+  pub least : z.least ≡ plan.least
+  pub limit : z.limit ≡ plan.spaces.pages
+  pub first : z.in_use 0 ≡ plan.least
 
 -- ---- whose calls they are
 

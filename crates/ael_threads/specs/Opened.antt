@@ -7,7 +7,7 @@ use Rattle.ael_threads.specs.Readers.{SeatedScanner}
 use Rattle.ael_threads.specs.Seats.{new_seated}
 
 abbrev pub plan_of : (mutators : ℕ) → Config → Plan
-plan_of mutators config = record { spaces = record { pages = config.pages }; mutators = mutators; scanners = config.scanners }
+plan_of mutators config = record { spaces = record { pages = config.limit }; least = config.pages; mutators = mutators; scanners = config.scanners }
 
 abbrev pub new_scanner : TableId → Plan → ℕ → SeatedScanner
 new_scanner t plan k = record { seated = new_seated t plan k; steps = 0 }

@@ -29,8 +29,9 @@ use Rattle.ael_threads.specs.declared.programs.outputs.RunError.{RunError}
 use Rattle.ael_threads.specs.declared.programs.outputs.RunError.TheVariants as runs
 use Rattle.gc_worker.specs.History.Needs.{EachFullIs, EachMayCome, HasNoFull, IsEnoughForOne, IsLargeEnough, flips_in}
 use Rattle.gc_worker.specs.History.Needs as needs
-use Rattle.gc_worker.specs.History.Tally.{EachEntry, EntryIs, tasks_held, tally}
-use Rattle.ael_threads.specs.Histories.{opening_tally, Each}
+use Rattle.gc_worker.specs.History.Tally.{EachEntry, EntryIs, Sizes, size_now, tasks_held, tally}
+use Rattle.gc_worker.specs.Laws.Cycles.{size_of}
+use Rattle.ael_threads.specs.Histories.{AreSizesOf, opening_tally, Each}
 use Rattle.gc_worker.specs.History.Legal.{IsLegal, after_all, last_flip}
 use Rattle.ael_threads.specs.Opened.{plan_of}
 use Rattle.gc_worker.specs.History.Order.{order_of}
@@ -90,10 +91,12 @@ pub record TellsRegisters (told : Outputs) (m : ℕ) (q : Mutator) : Type 0 wher
 -- program, each mutator its section from the start, none of its instructions skipped and none executed twice, to its end. The words that
 -- are told, with what all workers hold, which have left, stand for the plain state after it, and registers show the plain ones; what was
 -- copied in an epoch that is traced is what was live at its last flip; what else is told is what these say. Each flip was for a record, an
--- instruction asking for one at most; where a mutator's end is that the heap is full, it was, by words with which all workers stood at that
--- call, and what was live at the flip before and the room left no more of the space than the pages of records made since then, or made
--- next by others; there is a look by which the mutator began that instruction, and that flip came since, if it is not the last that there
--- can be. So it is by the order alone; and a heap that is as large as the order needs is never full.
+-- instruction asking for one at most of a space all of whose pages are in use, and left the pages in use or doubled them; where a mutator's
+-- end is that the heap is full, it was, by words with which all workers stood at that call, and what was live at the flip before and the
+-- room left no more of the pages in use than the pages of records made since then, or made next by others; there is a look by which the
+-- mutator began that instruction, and that flip came since and all pages of the space were in use, if it is not the last that there can be.
+-- So it is by the order alone; and a heap whose limit is as large as the order needs is never full, but after the last flip that there can
+-- be its pages at first have to be enough.
 pub record Runs (code : List (List Instr)) (config : Config) (told : Outputs) : Type 0 where
   pub log : List Entry
   pub workers : List Held
@@ -109,15 +112,18 @@ pub record Runs (code : List (List Instr)) (config : Config) (told : Outputs) : 
   pub epoch : told.cycles ≡ (tally (opening_tally (plan_of (length code) config)) log).flips
   pub left : Each (λ (x : Held). x.stage ≡ Gone) workers
   pub shows : (m : ℕ) (q : Mutator) → slice_get (after_all (opening code) log).mutators m ≡ Some q → TellsRegisters told m q
-  pub entries : EachEntry (EntryIs config.pages (tasks_held workers)) (opening_tally (plan_of (length code) config)) log
-  pub all_words : length told.words ≡ table_length config.pages
+  pub sizes : Sizes
+  pub sized : AreSizesOf (plan_of (length code) config) sizes
+  pub size : size_of config.limit told.words ≡ size_now sizes (tally (opening_tally (plan_of (length code) config)) log)
+  pub entries : EachEntry (EntryIs sizes (tasks_held workers)) (opening_tally (plan_of (length code) config)) log
+  pub all_words : length told.words ≡ table_length config.limit
   pub tells : Tells (heap_of (plan_of (length code) config) told.words workers) told
   pub flipped : (m : ℕ) → FlippedIfFull (plan_of (length code) config) m (begun_held workers m) log
   pub full : (m : ℕ) (q : Mutator) (end : End) → slice_get (after_all (opening code) log).mutators m ≡ Some q → q.end ≡ Some end → FullIn (plan_of (length code) config) m log end
-  pub filled : EachFullIs config.pages code config.turns (needs.first_story code) 0 (order_of log)
+  pub filled : EachFullIs config.limit config.pages code config.turns (needs.first_story code) 0 0 (order_of log)
   pub follows : EachMayCome (λ m. false) 0 (order_of log)
-  pub large : IsLargeEnough config.pages code config.turns (order_of log) → HasNoFull (order_of log)
-  pub lone : length code ≡ 1 → flips_in 0 (order_of log) < 2 ^ 32 - 1 → IsEnoughForOne config.pages code config.turns (order_of log) → HasNoFull (order_of log)
+  pub large : IsLargeEnough config.limit config.pages code config.turns (order_of log) → HasNoFull (order_of log)
+  pub lone : length code ≡ 1 → flips_in 0 (order_of log) < 2 ^ 32 - 1 → IsEnoughForOne config.limit code config.turns (order_of log) → HasNoFull (order_of log)
 
 -- ---- errors
 

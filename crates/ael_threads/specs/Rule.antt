@@ -31,7 +31,7 @@ first_view plan = view plan (new_hands plan 0 (crew plan)) [] [] []
 
 -- a seat whose workers went to another seat
 abbrev pub no_plan : Plan
-no_plan = record { spaces = record { pages = 0 }; mutators = 0; scanners = 0 }
+no_plan = record { spaces = record { pages = 0 }; least = 0; mutators = 0; scanners = 0 }
 
 abbrev pub spent_view : View
 spent_view = view no_plan [] [] [] []
@@ -75,7 +75,7 @@ pub record RuleHolds (plan : Plan) (s : table.State ℕ View) : Type 0 where
   pub legal : IsLegal (first_plain plan) log
   pub stands : WorkersStand (heap_of plan s.words workers) (after_all (first_plain plan) log) (last_flip (first_plain plan) log)
   pub last : ScannersAreLast (heap_of plan s.words workers)
-  pub tallied : IsTallied (heap_of plan s.words workers) (opening_tally plan) log
+  pub tallied : IsTallied plan.least (heap_of plan s.words workers) (opening_tally plan) log
   pub begun : (m : ℕ) (x : Held) → get_elem? workers m ≡ some x → IsInCall x.stage → HasLooked plan m x log
   pub flipped : (m : ℕ) → FlippedIfFull plan m (begun_held workers m) log
   pub seats : (id : ℕ) (v : View) → get_elem? s.views id ≡ some v → FitsView plan s.words workers log owner winner id v

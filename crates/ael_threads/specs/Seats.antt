@@ -42,8 +42,9 @@ use Rattle.ael_threads.specs.declared.view.Hand.{Hand}
 use Rattle.ael_threads.specs.declared.view.Plan.{Plan}
 use Rattle.ael_threads.specs.declared.view.View.{View}
 use Rattle.gc_worker.specs.History.Large.{HasNoFullCall, IsLargeFor}
-use Rattle.gc_worker.specs.History.Tally.{EachEntry, EntryIs, IsTallied, Tasks, tasks_held, tally}
-use Rattle.ael_threads.specs.Histories.{AreBy, opening_tally, Each, IsOnce, HasOwnCalls, first_held, first_plain, hand, hand_number}
+use Rattle.gc_worker.specs.History.Tally.{EachEntry, EntryIs, IsTallied, Sizes, Tasks, size_now, tasks_held, tally}
+use Rattle.gc_worker.specs.Laws.Cycles.{size_of}
+use Rattle.ael_threads.specs.Histories.{AreBy, AreSizesOf, opening_tally, Each, IsOnce, HasOwnCalls, first_held, first_plain, hand, hand_number}
 use Rattle.gc_worker.specs.History.Legal.{IsLegal, after_all, worker_call, calls_of, extra, last_flip, own_after}
 use Rattle.ael_threads.specs.Began.{FlippedIfFull, begun_held}
 use Rattle.ael_threads.specs.Rule.{StandsAs, crew, heap_of, view}
@@ -139,7 +140,7 @@ pub record StandWith (plan : Plan) (m : ℕ) (x : Held) (seen : List Entry) (wor
   pub count : length workers ≡ crew plan
   pub here : StandsAs workers m (uncounted x)
   pub stands : WorkersStand (heap_of plan words workers) (after_all (first_plain plan) log) (last_flip (first_plain plan) log)
-  pub tallied : IsTallied (heap_of plan words workers) (opening_tally plan) log
+  pub tallied : IsTallied plan.least (heap_of plan words workers) (opening_tally plan) log
 
 -- A step of worker m, whose code holds x and takes r. It is the step that x wants, on the words before it, and r is what that step replies;
 -- with the words before and after it the workers stand for histories of which the latter has what the step tells besides, and no other
@@ -262,7 +263,9 @@ pub record Learned (v w : View) : Type 0 where
   pub once : IsOnce w.claims
   pub legal : IsLegal (first_plain w.plan) w.seen
   pub tasks : Tasks
-  pub entries : EachEntry (EntryIs w.plan.spaces.pages tasks) (opening_tally w.plan) w.seen
+  pub sizes : Sizes
+  pub sized : AreSizesOf w.plan sizes
+  pub entries : EachEntry (EntryIs sizes tasks) (opening_tally w.plan) w.seen
   pub flipped : Each (HasFlippedIfFull w.plan w.seen) w.hands
   pub all_flipped : (m : ℕ) → (begun : ℕ) × FlippedIfFull w.plan m begun w.seen
 
@@ -271,8 +274,9 @@ Learns st me found later = (later.1 ≡ me.1) × Learned me.0 later.0
 
 -- THE CLAUSE OF ABSORB: one history for both callers, with just the calls that both made; no worker of both, and no page won by both in
 -- one epoch. There are tasks, one a worker at most, by which, where the history has no later call of a worker, each full heap of it was
--- filled and each of its flips was asked for; and where one of these workers found the heap full, a flip came since the look by which it
--- began that task, in the epoch that its code keeps, or none can; where another did, since such a look in some epoch.
+-- filled and each of its flips was asked for, with so many pages in use in each epoch; and if one of these workers found the heap
+-- full, a flip came since the look by which it began that task, in the epoch that its code keeps, or none can; if another did, since
+-- such a look in some epoch.
 pub record Absorbs (v u w : View) : Type 0 where
   pub plan : w.plan ≡ v.plan
   pub hands : w.hands ≡ v.hands ++ u.hands
@@ -285,7 +289,9 @@ pub record Absorbs (v u w : View) : Type 0 where
   pub once : IsOnce w.claims
   pub legal : IsLegal (first_plain w.plan) w.seen
   pub tasks : Tasks
-  pub entries : EachEntry (EntryIs w.plan.spaces.pages tasks) (opening_tally w.plan) w.seen
+  pub sizes : Sizes
+  pub sized : AreSizesOf w.plan sizes
+  pub entries : EachEntry (EntryIs sizes tasks) (opening_tally w.plan) w.seen
   pub flipped : Each (HasFlippedIfFull w.plan w.seen) w.hands
   pub all_flipped : (m : ℕ) → (begun : ℕ) × FlippedIfFull w.plan m begun w.seen
 
@@ -315,12 +321,14 @@ pub record Stays (workers : List Held) (log : List Entry) (h : Hand) : Type 0 wh
 -- THE CLAUSE OF CLOSE: the calls of all these callers stand in one legal history, each once, of which what each has seen is a beginning;
 -- with what their codes hold the words stand for the plain state after it; if a scanner is gone, all mutators are; what was copied in an
 -- epoch that is traced is what was live at the last flip of the history; the gate's epoch is the number of its flips; each flip was for a
--- record, and where a call told the heap to be full, what was live at the flip before it and the room left no more of the space than the
--- pages of records made since then, or made next, by the history or else by the tasks that mutators have begun, so a heap that is as large
--- as the history needs is never full;
--- that flip came since the look by which the worker began that task, in the epoch that it keeps, if it is not the last that there can be;
--- no mutator asked for two flips between two of its calls; if all workers are there the history has no other calls; no worker stands
--- twice, and no page was won twice in one epoch.
+-- record, and if a call told the heap to be full, what was live at the flip before it and the room left no more of the pages in use
+-- than the pages of records made since then, or made next, by the history or else by the tasks that mutators have begun; that flip came
+-- since the look by which the worker began that task, in the epoch that it keeps, and all pages of the space were in use, if that flip was
+-- not the last that there can be. So a heap whose limit is as large as the history needs is never full; after the last flip that there
+-- can be, its pages at first have to be enough. As many pages are in use as the history's flips have brought into use, each of which
+-- leaves them or doubles them, as far as the limit goes; between two of its calls no mutator asked for two flips of a space all of whose
+-- pages were in use; if all workers are there the history has no other calls; no worker stands twice, and no page was won twice in one
+-- epoch.
 pub record Closes (plan : Plan) (all : List Seated) (words : List ℕ) : Type 0 where
   pub log : List Entry
   pub workers : List Held
@@ -330,8 +338,11 @@ pub record Closes (plan : Plan) (all : List Seated) (words : List ℕ) : Type 0 
   pub last : ScannersAreLast (heap_of plan words workers)
   pub copied : IsTraced (heap_of plan words workers) → CopiedIsLive (read (heap_of plan words workers)) (last_flip (first_plain plan) log)
   pub epoch : epoch_of plan.spaces.pages words ≡ (tally (opening_tally plan) log).flips
-  pub entries : EachEntry (EntryIs plan.spaces.pages (tasks_held workers)) (opening_tally plan) log
-  pub large : IsLargeFor plan.spaces.pages (tasks_held workers) (opening_tally plan) log → HasNoFullCall log
+  pub sizes : Sizes
+  pub sized : AreSizesOf plan sizes
+  pub size : size_of plan.spaces.pages words ≡ size_now sizes (tally (opening_tally plan) log)
+  pub entries : EachEntry (EntryIs sizes (tasks_held workers)) (opening_tally plan) log
+  pub large : IsLargeFor plan.spaces.pages plan.least (tasks_held workers) (opening_tally plan) log → HasNoFullCall log
   pub flipped : Each (HasFlippedIfFull plan log) (all_hands all)
   pub all_flipped : (m : ℕ) → FlippedIfFull plan m (begun_held workers m) log
   pub seen : Each (λ (s : Seated). IsPrefix s.knows.seen log) all

@@ -4,8 +4,8 @@ ghost use Rattle.std.specs.Prelude.{◌≡◌, ◌+◌, ◌-◌, ◌≤◌, ◌<
 ghost use Rattle.heap_laws.specs.Opening.{opening_entries};
 ghost use Rattle.heap_state.specs.Memory.Entries.{written};
 ghost use Rattle.space_map.specs.declared.spaces.TheConstants.{MOST_MUTATORS, MOST_SCANNERS};
-ghost use Rattle.space_map.specs.Spaces.{is_size};
 ghost use Rattle.space_map.specs.Table.{table_length};
+ghost use Rattle.gc_worker.specs.Config.{has_sizes};
 ghost use Rattle.ael_threads.specs.Histories.{first_held, new_hands};
 ghost use Rattle.ael_threads.specs.Opened.{new_scanners, plan_of};
 ghost use Rattle.ael_threads.specs.Rule.{crew, first_view, view};
@@ -30,11 +30,11 @@ pub struct Seats {
     pub scanners: Vec<Scanner>,
 }
 
-/// The words before the first step: both spaces are empty, the epoch is traced, and the board is open.
-fn first_words(alloc: Global, spaces: Spaces) -> Result<Vec<u64>, AllocError>
-    ensures { IfOk result (λ words. words.items ≡ written spaces.pages (opening_entries spaces.pages)) }
+/// The words before the first step: both spaces are empty with so many pages in use, the epoch is traced, and the board is open.
+fn first_words(alloc: Global, spaces: Spaces, pages: u32) -> Result<Vec<u64>, AllocError>
+    requires { pages ≤ spaces.pages }
+    ensures { IfOk result (λ words. words.items ≡ written spaces.pages (opening_entries spaces.pages pages)) }
 {
-    let pages = spaces.pages();
     let area = AreaWord {
         front: 0,
         low: PAGE_WORDS * pages,
@@ -42,6 +42,8 @@ fn first_words(alloc: Global, spaces: Spaces) -> Result<Vec<u64>, AllocError>
     };
     let mut words = Vec::from_elem(alloc, 0u64, spaces.table_len())?;
     words[spaces.page_place(spaces.board_page())] = unprotect(0);
+    words[spaces.size_place(1)] = u64::from(pages);
+    words[spaces.size_place(0)] = u64::from(pages);
     words[spaces.area_place(1)] = area.pack();
     words[spaces.area_place(0)] = area.pack();
     words[spaces.traced_place()] = 1;
@@ -50,24 +52,26 @@ fn first_words(alloc: Global, spaces: Spaces) -> Result<Vec<u64>, AllocError>
 
 impl Shared {
     /// A heap in which nobody has made a step, and a seat for each of its workers: 1 to 16 mutators, and at most 8 scanners. `BadPages`
-    /// comes exactly for fewer than 4 pages or more than 2048, else `NoMemory` where memory is wanting. The words and the room for the most numbers of each mutator are taken here; no later call takes memory.
+    /// comes exactly for fewer than 4 pages at first, for fewer in all than at first, or for more than 2048, else `NoMemory` if memory is
+    /// wanting. The words and the room for the most numbers of each mutator are taken here; no later call takes memory.
     pub fn open(alloc: Global, mutators: u8, config: &Config) -> Result<(Shared, Seats), OpenError>
         requires mutators { (1 ≤ mutators) × (mutators ≤ MOST_MUTATORS) }
         requires scanners { config.now.scanners ≤ MOST_SCANNERS }
         ensures key { IfOk result (λ o. o.0.table.shared.key ≡ plan_of mutators config.now) }
-        ensures words { IfOk result (λ o. o.0.table.shared.table_id.words ≡ table_length config.now.pages) }
+        ensures words { IfOk result (λ o. o.0.table.shared.table_id.words ≡ table_length config.now.limit) }
         ensures mutators { IfOk result (λ o. o.1.mutators.items ≡ new_callers o.0.table.shared.table_id (plan_of mutators config.now) 0 mutators) }
         ensures scanners { IfOk result (λ o. o.1.scanners.items ≡ new_scanners o.0.table.shared.table_id (plan_of mutators config.now) mutators config.now.scanners) }
-        ensures bad_pages { IsErrOf result OpenError.BadPages ↔ IsTrue (not (is_size config.now.pages)) }
+        ensures bad_pages { IsErrOf result OpenError.BadPages ↔ IsTrue (not (has_sizes config.now)) }
     {
-        let spaces = Spaces::new(config.pages)?;
+        let spaces = config.spaces()?;
         spaces.known();
         let plan = Plan {
             spaces,
+            least: config.pages,
             mutators,
             scanners: config.scanners,
         };
-        let words = first_words(alloc, spaces)?;
+        let words = first_words(alloc, spaces, config.pages)?;
         let (table, seat) = Table::of_words(alloc, words.as_slice(), &plan)?;
         let shared = Shared { table };
         let seats = shared.deal(alloc, seat, &plan)?;

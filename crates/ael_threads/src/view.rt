@@ -8,6 +8,8 @@ use std::collections::LinkedList;
 #[derive(Clone, Copy, Debug)]
 pub struct Plan {
     pub spaces: Spaces,
+    /// Pages of a space that are in use at first.
+    pub least: u32,
     pub mutators: u8,
     pub scanners: u8,
 }

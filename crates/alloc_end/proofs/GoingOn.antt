@@ -7,7 +7,7 @@ use Rattle.atom_store.specs.declared.reply.Reply.{Reply}
 use Rattle.atom_store.specs.declared.reply.Reply.TheVariants.{Won, Lost}
 use Rattle.atom_store.specs.declared.step.Step.{Step}
 use Rattle.alloc_end.specs.declared.place_stage.PlaceStage.{PlaceStage}
-use Rattle.alloc_end.specs.declared.place_stage.PlaceStage.TheVariants.{LoadsTraced, LoadsArea, ExchangesArea, StoresZero, OpensPage, StoresCount, StoresHeader, Ended}
+use Rattle.alloc_end.specs.declared.place_stage.PlaceStage.TheVariants.{LoadsTraced, LoadsSize, LoadsArea, ExchangesArea, StoresZero, OpensPage, StoresCount, StoresHeader, Ended}
 use Rattle.alloc_end.specs.Place.{Placing, wanted_at, advances_at}
 use Rattle.alloc_end.specs.HeldUp.{IsHeldUp, GoesOn}
 
@@ -26,7 +26,8 @@ module _ (step : Step) (met : List ℕ) where
 
   held : (p : Placing) (x : PlaceStage) → wanted_at p x ≡ Some step → Holds x (reply_of step met)
   held p LoadsTraced wants = subst (λ (s : Step). Holds LoadsTraced (reply_of s met)) (same_Some _ _ wants) (λ stays. absurd (cc))
-  held p (LoadsArea traced) wants = subst (λ (s : Step). Holds (LoadsArea traced) (reply_of s met)) (same_Some _ _ wants) (λ stays. none _ stays)
+  held p (LoadsSize traced) wants = subst (λ (s : Step). Holds (LoadsSize traced) (reply_of s met)) (same_Some _ _ wants) (λ stays. absurd (cc))
+  held p (LoadsArea traced size) wants = subst (λ (s : Step). Holds (LoadsArea traced size) (reply_of s met)) (same_Some _ _ wants) (λ stays. none _ stays)
   held p (ExchangesArea f) wants =
       subst (λ (s : Step). Holds (ExchangesArea f) (reply_of s met)) (same_Some _ _ wants)
       (of_exchange (Holds (ExchangesArea f)) _ _ (λ stays. absurd (cc)) (λ stays. tt))

@@ -30,7 +30,7 @@ use Rattle.alloc_end.specs.declared.new_pages.NewPages.{NewPages}
 use Rattle.alloc_end.specs.declared.allocated.Allocated.{Allocated}
 use Rattle.alloc_end.specs.declared.allocated.Allocated.TheVariants.{Placed, Full}
 use Rattle.alloc_end.specs.declared.place_stage.PlaceStage.{PlaceStage}
-use Rattle.alloc_end.specs.declared.place_stage.PlaceStage.TheVariants.{LoadsTraced, LoadsArea, ExchangesArea, StoresZero, OpensPage, StoresCount, StoresHeader, Ended}
+use Rattle.alloc_end.specs.declared.place_stage.PlaceStage.TheVariants.{LoadsTraced, LoadsSize, LoadsArea, ExchangesArea, StoresZero, OpensPage, StoresCount, StoresHeader, Ended}
 use Rattle.alloc_end.specs.Place.{Placing, at_stage, size_of, pages_for, words_for, fits, shortage, place_machine, stores_first, told, told_at, taken_at, looked_at_area, cleared, after_opening}
 use Rattle.alloc_end.specs.Soundness.{IsSoundPlacing}
 use Rattle.alloc_end.specs.Theorems.{area_word, AreZero, AreOpen, IsRunReady, AwaitsHeader, IsReady, PlacesRecord, zeros_from}
@@ -125,13 +125,13 @@ open_stays n epoch from upto a value before after below is_word opened makes pag
 abbrev IsReadyAt : Placing → PlaceStage → List ℕ → Type 0
 IsReadyAt p stage words = IsReady (at_stage p stage) stage words
 
-ready_by_area : (p : Placing) (traced : Bool) (o : Option AreaWord) (words : List ℕ) → IsReadyAt p (looked_at_area p traced o) words
-ready_by_area p traced (Some area) words = by_test (fits traced (words_for p.header) area)
+ready_by_area : (p : Placing) (traced : Bool) (size : ℕ) (o : Option AreaWord) (words : List ℕ) → IsReadyAt p (looked_at_area p traced size o) words
+ready_by_area p traced size (Some area) words = by_test (fits traced (words_for p.header) area)
   where
-    by_test : (b : Bool) → IsReadyAt p (cond b (ExchangesArea (record { traced = traced; area = area })) (Ended (Full (shortage traced p.header area)))) words
+    by_test : (b : Bool) → IsReadyAt p (cond b (ExchangesArea (record { traced = traced; area = area })) (Ended (Full (shortage traced size p.header area)))) words
     by_test true = tt
     by_test false = tt
-ready_by_area p traced None words = tt
+ready_by_area p traced size None words = tt
 
 ready_by_exchange : (p : Placing) (f : Fitting) (b : Bool) (found : ℕ) (words : List ℕ)
     → let next = taken_at (at_stage p (ExchangesArea f)) (ExchangesArea f) (cond b reply.Won (reply.Lost found)) in IsReady next next.stage words
@@ -201,7 +201,8 @@ pub ready : (p : Placing) (stage : PlaceStage) (before after : List ℕ) (turn :
     → IsReady (at_stage p stage) stage before → MakesStep place_machine (at_stage p stage) before after turn
     → let next = after_next_step place_machine (at_stage p stage) before in IsReady next next.stage after
 ready p LoadsTraced before after turn sound whole is acts = tt
-ready p (LoadsArea traced) before after turn sound whole is acts = ready_by_area p traced (decode_area (area_word p before)) after
+ready p (LoadsSize traced) before after turn sound whole is acts = tt
+ready p (LoadsArea traced size) before after turn sound whole is acts = ready_by_area p traced size (decode_area (area_word p before)) after
 ready p (ExchangesArea f) before after turn sound whole is acts = ready_by_exchange p f _ (area_word p before) after
 ready p (StoresZero new) before after turn sound whole is acts =
     let stage = sound.stage in
@@ -224,13 +225,13 @@ ready p (Ended result) before after turn sound whole is acts = tt
 
 -- ---- the record
 
-never_placed_at_area : (p : Placing) (traced : Bool) (at : ℕ) (o : Option AreaWord) → told (at_stage p (looked_at_area p traced o)) ≡ Finished (Placed at) → ⊥
-never_placed_at_area p traced at (Some area) tells = by_test (fits traced (words_for p.header) area) tells
+never_placed_at_area : (p : Placing) (traced : Bool) (size at : ℕ) (o : Option AreaWord) → told (at_stage p (looked_at_area p traced size o)) ≡ Finished (Placed at) → ⊥
+never_placed_at_area p traced size at (Some area) tells = by_test (fits traced (words_for p.header) area) tells
   where
-    by_test : (b : Bool) → told (at_stage p (cond b (ExchangesArea (record { traced = traced; area = area })) (Ended (Full (shortage traced p.header area))))) ≡ Finished (Placed at) → ⊥
+    by_test : (b : Bool) → told (at_stage p (cond b (ExchangesArea (record { traced = traced; area = area })) (Ended (Full (shortage traced size p.header area))))) ≡ Finished (Placed at) → ⊥
     by_test true e = cc
     by_test false e = cc
-never_placed_at_area p traced at None tells = cc
+never_placed_at_area p traced size at None tells = cc
 
 pub never_ends_at_exchange : (p : Placing) (f : Fitting) (r : Reply) (result : Allocated) → told (taken_at (at_stage p (ExchangesArea f)) (ExchangesArea f) r) ≡ Finished result → ⊥
 never_ends_at_exchange p f reply.Won result tells = cc
@@ -265,7 +266,8 @@ pub places : (p : Placing) (stage : PlaceStage) (before after : List ℕ) (at : 
     → IsReady (at_stage p stage) stage before → MakesStep place_machine (at_stage p stage) before after (Finished (Placed at))
     → PlacesRecord (at_stage p stage) before after at
 places p LoadsTraced before after at sound whole is acts = absurd (more_never_ends (Placed at) acts.tells)
-places p (LoadsArea traced) before after at sound whole is acts = absurd (never_placed_at_area p traced at (decode_area (area_word p before)) acts.tells)
+places p (LoadsSize traced) before after at sound whole is acts = absurd (more_never_ends (Placed at) acts.tells)
+places p (LoadsArea traced size) before after at sound whole is acts = absurd (never_placed_at_area p traced size at (decode_area (area_word p before)) acts.tells)
 places p (ExchangesArea f) before after at sound whole is acts = absurd (never_ends_at_exchange p f _ (Placed at) acts.tells)
 places p (StoresZero new) before after at sound whole is acts = absurd (never_ends_at_zero p new (Placed at) acts.tells)
 places p (OpensPage new) before after at sound whole is acts = absurd (never_ends_at_page p new (Placed at) acts.tells)

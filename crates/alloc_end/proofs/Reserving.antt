@@ -20,10 +20,10 @@ use Rattle.alloc_end.specs.declared.shortage.Shortage.{Shortage}
 use Rattle.alloc_end.specs.declared.allocated.Allocated.{Allocated}
 use Rattle.alloc_end.specs.declared.allocated.Allocated.TheVariants.{Placed, Full}
 use Rattle.alloc_end.specs.declared.place_stage.PlaceStage.{PlaceStage}
-use Rattle.alloc_end.specs.declared.place_stage.PlaceStage.TheVariants.{LoadsTraced, LoadsArea, ExchangesArea, StoresZero, OpensPage, StoresCount, StoresHeader, Ended}
+use Rattle.alloc_end.specs.declared.place_stage.PlaceStage.TheVariants.{LoadsTraced, LoadsSize, LoadsArea, ExchangesArea, StoresZero, OpensPage, StoresCount, StoresHeader, Ended}
 use Rattle.alloc_end.specs.Place.{Placing, at_stage, words_for, kept_room, room_in, fits, area_after, first_claimed, shortage, place_machine, told, taken_at, looked_at_area}
 use Rattle.alloc_end.specs.Soundness.{IsSoundPlacing}
-use Rattle.alloc_end.specs.Theorems.{area_word, LooksAtTraced, ShowsShortage, ClaimsPages, LosesPages}
+use Rattle.alloc_end.specs.Theorems.{area_word, LooksAtTraced, LooksAtSize, ShowsShortage, ClaimsPages, LosesPages}
 use Rattle.alloc_end.proofs.Placing.{never_ends_at_exchange, never_ends_at_zero, never_ends_at_page, more_never_ends}
 
 -- ---- TRACED
@@ -39,6 +39,10 @@ pub looks_at_traced : (p : Placing) (before after : List ℕ) (turn : Turn Alloc
 looks_at_traced p before after turn acts =
     let loaded : ℕ = row_word p.layout.pages Traced before in
     record { traced = nat_eq loaded (p.epoch + 1); exactly = (test_same loaded (p.epoch + 1), same_test loaded (p.epoch + 1)); goes = refl; stays = acts.makes }
+
+pub looks_at_size : (p : Placing) (traced : Bool) (before after : List ℕ) (turn : Turn Allocated) → MakesStep place_machine (at_stage p (LoadsSize traced)) before after turn
+    → LooksAtSize p traced before after
+looks_at_size p traced before after turn acts = record { goes = refl; stays = acts.makes }
 
 -- ---- the exchange
 
@@ -97,22 +101,22 @@ loses p f before after turn acts other =
 -- ---- heap full
 
 -- the area's word says an area into which the claim doesn't fit
-record Short (p : Placing) (s : Shortage) (o : Option AreaWord) : Type 0 where
-  traced : Bool
+record Short (p : Placing) (traced : Bool) (size : ℕ) (s : Shortage) (o : Option AreaWord) : Type 0 where
   area : AreaWord
   is : o ≡ Some area
   test : fits traced (words_for p.header) area ≡ false
-  numbers : s ≡ shortage traced p.header area
+  numbers : s ≡ shortage traced size p.header area
 
-short : (p : Placing) (traced : Bool) (s : Shortage) (o : Option AreaWord) → told (at_stage p (looked_at_area p traced o)) ≡ Finished (Full s) → Short p s o
-short p traced s (Some area) tells = by_test (fits traced (words_for p.header) area) refl tells
+short : (p : Placing) (traced : Bool) (size : ℕ) (s : Shortage) (o : Option AreaWord) → told (at_stage p (looked_at_area p traced size o)) ≡ Finished (Full s)
+    → Short p traced size s o
+short p traced size s (Some area) tells = by_test (fits traced (words_for p.header) area) refl tells
   where
     by_test : (b : Bool) → fits traced (words_for p.header) area ≡ b
-        → told (at_stage p (cond b (ExchangesArea (record { traced = traced; area = area })) (Ended (Full (shortage traced p.header area))))) ≡ Finished (Full s)
-        → Short p s (Some area)
+        → told (at_stage p (cond b (ExchangesArea (record { traced = traced; area = area })) (Ended (Full (shortage traced size p.header area))))) ≡ Finished (Full s)
+        → Short p traced size s (Some area)
     by_test true test e = cc
-    by_test false test e = record { traced = traced; area = area; is = refl; test = test; numbers = cc }
-short p traced s None tells = cc
+    by_test false test e = record { area = area; is = refl; test = test; numbers = cc }
+short p traced size s None tells = cc
 
 too_much : (words kept room : ℕ) → nat_le (words + kept) room ≡ false → room < words + kept
 too_much words kept room test = grind (arith, nat_tests)
@@ -120,9 +124,10 @@ too_much words kept room test = grind (arith, nat_tests)
 header_never_full : (at : ℕ) (s : Shortage) → Finished (Placed at) ≡ Finished (Full s) → ⊥
 header_never_full at s e = cc
 
-shows : (p : Placing) (traced : Bool) (area : AreaWord) (before after : List ℕ) → decode_area (area_word p before) ≡ Some area
-    → fits traced (words_for p.header) area ≡ false → after ≡ before → ShowsShortage p before after (shortage traced p.header area)
-shows p traced area before after says test stays = record {
+shows : (p : Placing) (traced : Bool) (size : ℕ) (area : AreaWord) (before after : List ℕ) → decode_area (area_word p before) ≡ Some area
+    → fits traced (words_for p.header) area ≡ false → after ≡ before → ShowsShortage (at_stage p (LoadsArea traced size)) before after (shortage traced size p.header area)
+shows p traced size area before after says test stays = record {
+  found = refl;
   area = area;
   read = says;
   asked = refl;
@@ -134,11 +139,12 @@ shows p traced area before after says test stays = record {
 }
 
 pub fulls : (p : Placing) (stage : PlaceStage) (before after : List ℕ) (s : Shortage)
-    → MakesStep place_machine (at_stage p stage) before after (Finished (Full s)) → ShowsShortage p before after s
+    → MakesStep place_machine (at_stage p stage) before after (Finished (Full s)) → ShowsShortage (at_stage p stage) before after s
 fulls p LoadsTraced before after s acts = absurd (more_never_ends (Full s) acts.tells)
-fulls p (LoadsArea traced) before after s acts =
-    let found = short p traced s (decode_area (area_word p before)) acts.tells in
-    subst (ShowsShortage p before after) (sym found.numbers) (shows p found.traced found.area before after found.is found.test acts.makes)
+fulls p (LoadsSize traced) before after s acts = absurd (more_never_ends (Full s) acts.tells)
+fulls p (LoadsArea traced size) before after s acts =
+    let found = short p traced size s (decode_area (area_word p before)) acts.tells in
+    subst (ShowsShortage (at_stage p (LoadsArea traced size)) before after) (sym found.numbers) (shows p traced size found.area before after found.is found.test acts.makes)
 fulls p (ExchangesArea f) before after s acts = absurd (never_ends_at_exchange p f _ (Full s) acts.tells)
 fulls p (StoresZero new) before after s acts = absurd (never_ends_at_zero p new (Full s) acts.tells)
 fulls p (OpensPage new) before after s acts = absurd (never_ends_at_page p new (Full s) acts.tells)
@@ -149,10 +155,10 @@ fulls p (Ended result) before after s acts = absurd (no_step acts.has_step)
 refuses : (words kept room : ℕ) → room < words + kept → nat_le (words + kept) room ≡ false
 refuses words kept room less = grind (arith, nat_tests)
 
-pub is_full : (p : Placing) (traced : Bool) (area : AreaWord) (words : List ℕ) → decode_area (area_word p words) ≡ Some area
+pub is_full : (p : Placing) (traced : Bool) (size : ℕ) (area : AreaWord) (words : List ℕ) → decode_area (area_word p words) ≡ Some area
     → room_in area < words_for p.header + kept_room traced area
-    → MakesStep place_machine (at_stage p (LoadsArea traced)) words words (Finished (Full (shortage traced p.header area)))
-is_full p traced area words says less = record {
+    → MakesStep place_machine (at_stage p (LoadsArea traced size)) words words (Finished (Full (shortage traced size p.header area)))
+is_full p traced size area words says less = record {
   has_step = refl;
   makes = refl;
   tells = rw says (rw (refuses (words_for p.header) (kept_room traced area) (room_in area) less) refl);

@@ -10,7 +10,7 @@ use Rattle.alloc_end.specs.declared.place_stage.PlaceStage.TheVariants.{LoadsAre
 use Rattle.alloc_end.specs.Place.{Placing, wanted, advances}
 
 abbrev pub IsHeldUp : PlaceStage → Reply → Type 0
-IsHeldUp (LoadsArea traced) (Value word) = decode_area word ≡ None
+IsHeldUp (LoadsArea traced size) (Value word) = decode_area word ≡ None
 IsHeldUp (ExchangesArea f) (Lost word) = ⊤
 IsHeldUp stage reply = ⊥
 

@@ -18,7 +18,7 @@ use Rattle.space_map.specs.declared.page_word.PageWord.TheVariants.{Open}
 use Rattle.space_map.specs.AreaWord.{encode_area, decode_area}
 use Rattle.space_map.specs.PageWord.{encode_page}
 use Rattle.space_map.specs.Spaces.{Layout, to_space, space_start, page_of}
-use Rattle.space_map.specs.Table.{Row, Traced, Area, Page, HeapWord, place_of}
+use Rattle.space_map.specs.Table.{Row, Traced, Area, Size, Page, HeapWord, place_of}
 use Rattle.alloc_end.specs.declared.run.Run.{Run}
 use Rattle.alloc_end.specs.declared.fitting.Fitting.{Fitting}
 use Rattle.alloc_end.specs.declared.new_pages.NewPages.{NewPages}
@@ -26,7 +26,7 @@ use Rattle.alloc_end.specs.declared.shortage.Shortage.{Shortage}
 use Rattle.alloc_end.specs.declared.allocated.Allocated.{Allocated}
 use Rattle.alloc_end.specs.declared.allocated.Allocated.TheVariants.{Placed, Full}
 use Rattle.alloc_end.specs.declared.place_stage.PlaceStage.{PlaceStage}
-use Rattle.alloc_end.specs.declared.place_stage.PlaceStage.TheVariants.{LoadsTraced, LoadsArea, ExchangesArea, StoresZero, OpensPage, StoresCount, StoresHeader, Ended}
+use Rattle.alloc_end.specs.declared.place_stage.PlaceStage.TheVariants.{LoadsTraced, LoadsSize, LoadsArea, ExchangesArea, StoresZero, OpensPage, StoresCount, StoresHeader, Ended}
 
 -- the allocation of a record with this header, and if it is mixed with so many fields, by a mutator of an epoch that has this run
 pub record Placing : Type 0 where
@@ -84,14 +84,15 @@ fits traced words area = nat_le (words + kept_room traced area) (room_in area)
 abbrev pub area_after : (words : ℕ) → Fitting → AreaWord
 area_after words f = record { front = f.area.front; low = f.area.low - words; owed = kept_room f.traced f.area }
 
--- what forbids the claim
-abbrev pub shortage : (traced : Bool) → Header → AreaWord → Shortage
-shortage traced header area = record {
+-- what forbids the claim, in a space of so many pages in use
+abbrev pub shortage : (traced : Bool) → (size : ℕ) → Header → AreaWord → Shortage
+shortage traced size header area = record {
   asked = pages_for (size_of header);
   room = room_in area;
   owed = kept_room traced area;
   traced = traced;
   live = area.front;
+  size = size;
 }
 
 -- the first word of the pages claimed
@@ -103,7 +104,8 @@ first_claimed p f = space_start p.layout.pages (to_space p.epoch) + (f.area.low 
 -- by the row that it is on
 abbrev pub wants_at : Placing → PlaceStage → Option (StepOn Row)
 wants_at p LoadsTraced = Some (Load Traced)
-wants_at p (LoadsArea traced) = Some (Load (Area (to_space p.epoch)))
+wants_at p (LoadsSize traced) = Some (Load (Size (to_space p.epoch)))
+wants_at p (LoadsArea traced size) = Some (Load (Area (to_space p.epoch)))
 wants_at p (ExchangesArea f) = Some (Exchange (Area (to_space p.epoch)) (encode_area f.area) (encode_area (area_after (words_for p.header) f)))
 wants_at p (StoresZero new) = Some (Store (HeapWord new.next) 0)
 wants_at p (OpensPage new) = Some (Store (Page new.next) (encode_page (Open p.epoch)))
@@ -123,10 +125,10 @@ abbrev pub at_stage : Placing → PlaceStage → Placing
 at_stage p stage = record p { stage = stage }
 
 -- by what the area's word says
-abbrev pub looked_at_area : Placing → (traced : Bool) → Option AreaWord → PlaceStage
-looked_at_area p traced (Some area) =
-    if fits traced (words_for p.header) area then ExchangesArea (record { traced = traced; area = area }) else Ended (Full (shortage traced p.header area))
-looked_at_area p traced None = LoadsArea traced
+abbrev pub looked_at_area : Placing → (traced : Bool) → (size : ℕ) → Option AreaWord → PlaceStage
+looked_at_area p traced size (Some area) =
+    if fits traced (words_for p.header) area then ExchangesArea (record { traced = traced; area = area }) else Ended (Full (shortage traced size p.header area))
+looked_at_area p traced size None = LoadsArea traced size
 
 -- after a word that was cleared, the next; after the last, the first page
 abbrev pub cleared : (words : ℕ) → NewPages → PlaceStage
@@ -146,8 +148,9 @@ abbrev pub placed : Placing → Placing
 placed p = record p { run = record { at = p.run.at + size_of p.header; end = p.run.end }; stage = Ended (Placed p.run.at) }
 
 abbrev pub taken_at : Placing → PlaceStage → Reply → Placing
-taken_at p LoadsTraced (Value word) = at_stage p (LoadsArea (word == p.epoch + 1))
-taken_at p (LoadsArea traced) (Value word) = at_stage p (looked_at_area p traced (decode_area word))
+taken_at p LoadsTraced (Value word) = at_stage p (LoadsSize (word == p.epoch + 1))
+taken_at p (LoadsSize traced) (Value word) = at_stage p (LoadsArea traced word)
+taken_at p (LoadsArea traced size) (Value word) = at_stage p (looked_at_area p traced size (decode_area word))
 taken_at p (ExchangesArea f) Won = at_stage p (StoresZero (record { first = first_claimed p f; next = first_claimed p f }))
 taken_at p (ExchangesArea f) (Lost word) = at_stage p LoadsTraced
 taken_at p (StoresZero new) Done = at_stage p (cleared (words_for p.header) new)
@@ -176,8 +179,9 @@ place_machine = record { wanted = wanted; taken = taken; told = told }
 
 -- where the record needs so many pages
 abbrev pub left_at : (asked : ℕ) → PlaceStage → ℕ
-left_at asked LoadsTraced = 65 * asked + 5
-left_at asked (LoadsArea traced) = 65 * asked + 4
+left_at asked LoadsTraced = 65 * asked + 6
+left_at asked (LoadsSize traced) = 65 * asked + 5
+left_at asked (LoadsArea traced size) = 65 * asked + 4
 left_at asked (ExchangesArea f) = 65 * asked + 3
 left_at asked (StoresZero new) = 65 * asked + 2 - (new.next - new.first)
 left_at asked (OpensPage new) = asked + 2 - (new.next - page_of new.first)
@@ -191,7 +195,8 @@ left p = left_at (pages_for (size_of p.header)) p.stage
 -- the reply is one to the step that it wants, and takes it on: the exchange isn't lost
 abbrev pub advances_at : PlaceStage → Reply → Bool
 advances_at LoadsTraced (Value word) = true
-advances_at (LoadsArea traced) (Value word) = is_some (decode_area word)
+advances_at (LoadsSize traced) (Value word) = true
+advances_at (LoadsArea traced size) (Value word) = is_some (decode_area word)
 advances_at (ExchangesArea f) Won = true
 advances_at (StoresZero new) Done = true
 advances_at (OpensPage new) Done = true

@@ -42,7 +42,7 @@ zeros_stored place (suc count) = (Store place 0, Done) ∷ zeros_stored (place +
 abbrev pub FirstPairIsPlaced : Type 0
 FirstPairIsPlaced =
     RunsTo place_machine (begun four_pages no_run pair 0 0)
-    (((Load 2, Value 1) ∷ (Load 4, Value 0x0000_0000_0400_0000) ∷ (Exchange 4 0x0000_0000_0400_0000 0x0000_0000_0300_0000, Won) ∷ []) ++ zeros_stored 225 64 ++ ((Store 19 1, Done) ∷ (Store 225 65570, Done) ∷ [])) (Placed 192)
+    (((Load 2, Value 1) ∷ (Load 12, Value 4) ∷ (Load 4, Value 0x0000_0000_0400_0000) ∷ (Exchange 4 0x0000_0000_0400_0000 0x0000_0000_0300_0000, Won) ∷ []) ++ zeros_stored 225 64 ++ ((Store 19 1, Done) ∷ (Store 225 65570, Done) ∷ [])) (Placed 192)
 
 -- the next record goes into the run behind it, by one store
 abbrev pub NextRecordIsPlaced : Type 0
@@ -59,21 +59,21 @@ CountIsStoredFirst =
 abbrev pub MixedRecordIsPlaced : Type 0
 MixedRecordIsPlaced =
     RunsTo place_machine (begun four_pages no_run field_and_number 0 1)
-    (((Load 2, Value 1) ∷ (Load 4, Value 0x0000_0000_0400_0000) ∷ (Exchange 4 0x0000_0000_0400_0000 0x0000_0000_0300_0000, Won) ∷ [])
+    (((Load 2, Value 1) ∷ (Load 12, Value 4) ∷ (Load 4, Value 0x0000_0000_0400_0000) ∷ (Exchange 4 0x0000_0000_0400_0000 0x0000_0000_0300_0000, Won) ∷ [])
     ++ zeros_stored 225 64 ++ ((Store 19 1, Done) ∷ (Store 226 0x0000_0000_0000_0004, Done) ∷ (Store 225 0x0000_0000_0001_003a, Done) ∷ []))
     (Placed 192)
 
 -- with 64 words owed in an epoch that isn't traced, the page is claimed only where they are left
 abbrev pub ReserveIsKept : Type 0
 ReserveIsKept =
-    RunsTo place_machine (begun four_pages no_run pair 1 0) ((Load 2, Value 1) ∷ (Load 5, Value 0x0000_0400_0200_0001) ∷ [])
-    (Full (record { asked = 1; room = 127; owed = 64; traced = false; live = 1 }))
+    RunsTo place_machine (begun four_pages no_run pair 1 0) ((Load 2, Value 1) ∷ (Load 13, Value 4) ∷ (Load 5, Value 0x0000_0400_0200_0001) ∷ [])
+    (Full (record { asked = 1; room = 127; owed = 64; traced = false; live = 1; size = 4 }))
 
 -- once it is traced, nothing is owed any more
 abbrev pub ReserveIsFreeOnceTraced : Type 0
 ReserveIsFreeOnceTraced =
     RunsTo place_machine (begun four_pages no_run pair 1 0)
-    (((Load 2, Value 2) ∷ (Load 5, Value 0x0000_0400_0200_0001) ∷ (Exchange 5 0x0000_0400_0200_0001 0x0000_0000_0100_0001, Won) ∷ [])
+    (((Load 2, Value 2) ∷ (Load 13, Value 4) ∷ (Load 5, Value 0x0000_0400_0200_0001) ∷ (Exchange 5 0x0000_0400_0200_0001 0x0000_0000_0100_0001, Won) ∷ [])
     ++ zeros_stored 353 64 ++ ((Store 21 65537, Done) ∷ (Store 353 65570, Done) ∷ []))
     (Placed 320)
 
@@ -81,19 +81,19 @@ ReserveIsFreeOnceTraced =
 abbrev pub FullTellsItsNumbers : Type 0
 FullTellsItsNumbers =
     RunsTo place_machine (begun four_pages no_run pair 1 0)
-    ((Load 2, Value 2) ∷ (Load 5, Value 0x0000_0000_0400_00fc) ∷ [])
-    (Full (record { asked = 1; room = 4; owed = 0; traced = true; live = 252 }))
+    ((Load 2, Value 2) ∷ (Load 13, Value 4) ∷ (Load 5, Value 0x0000_0000_0400_00fc) ∷ [])
+    (Full (record { asked = 1; room = 4; owed = 0; traced = true; live = 252; size = 4 }))
 
 -- the longest record asks for 64 pages
 abbrev pub LongestIsFull : Type 0
 LongestIsFull =
     RunsTo place_machine (begun four_pages no_run longest 1 0)
-    ((Load 2, Value 2) ∷ (Load 5, Value 0x0000_0000_0400_0000) ∷ [])
-    (Full (record { asked = 64; room = 256; owed = 0; traced = true; live = 0 }))
+    ((Load 2, Value 2) ∷ (Load 13, Value 4) ∷ (Load 5, Value 0x0000_0000_0400_0000) ∷ [])
+    (Full (record { asked = 64; room = 256; owed = 0; traced = true; live = 0; size = 4 }))
 
 -- a claim that is lost to another mutator's looks at TRACED again
 abbrev pub LostClaimIsTriedAgain : Type 0
 LostClaimIsTriedAgain =
     RunsTo place_machine (begun four_pages no_run pair 1 0)
-    ((Load 2, Value 1) ∷ (Load 5, Value 0x0000_0400_0200_0000) ∷ (Exchange 5 0x0000_0400_0200_0000 0x0000_0400_0100_0000, Lost 0x0000_0400_0100_0000) ∷ (Load 2, Value 1) ∷ (Load 5, Value 0x0000_0400_0100_0000) ∷ [])
-    (Full (record { asked = 1; room = 64; owed = 64; traced = false; live = 0 }))
+    ((Load 2, Value 1) ∷ (Load 13, Value 4) ∷ (Load 5, Value 0x0000_0400_0200_0000) ∷ (Exchange 5 0x0000_0400_0200_0000 0x0000_0400_0100_0000, Lost 0x0000_0400_0100_0000) ∷ (Load 2, Value 1) ∷ (Load 13, Value 4) ∷ (Load 5, Value 0x0000_0400_0100_0000) ∷ [])
+    (Full (record { asked = 1; room = 64; owed = 64; traced = false; live = 0; size = 4 }))

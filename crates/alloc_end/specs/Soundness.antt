@@ -1,5 +1,5 @@
--- What an allocation keeps of itself: its places are in the table, its run and the pages that it claimed are in the spaces, and
--- the areas that it writes fit their words.
+-- What an allocation keeps of itself: its places are in the table, its run and the pages that it claimed are in the spaces, no more
+-- pages are in use than a space has, and the areas that it writes fit their words.
 use Rattle.std.specs.Prelude.{◌≡◌, ℕ, ◌+◌, ◌*◌, ◌^◌, ◌<◌, ◌≤◌, ⊤}
 use Rattle.space_map.specs.Spaces.{IsPageCount, page_of}
 use Rattle.heap_words.specs.declared.kind.Kind.TheVariants.{Mixed}
@@ -7,7 +7,7 @@ use Rattle.record_layout.specs.declared.header.Header.{Header}
 use Rattle.alloc_end.specs.declared.run.Run.{Run}
 use Rattle.alloc_end.specs.declared.fitting.Fitting.{Fitting}
 use Rattle.alloc_end.specs.declared.place_stage.PlaceStage.{PlaceStage}
-use Rattle.alloc_end.specs.declared.place_stage.PlaceStage.TheVariants.{LoadsTraced, LoadsArea, ExchangesArea, StoresZero, OpensPage, StoresCount, StoresHeader, Ended}
+use Rattle.alloc_end.specs.declared.place_stage.PlaceStage.TheVariants.{LoadsTraced, LoadsSize, LoadsArea, ExchangesArea, StoresZero, OpensPage, StoresCount, StoresHeader, Ended}
 use Rattle.alloc_end.specs.Place.{Placing, size_of, pages_for, kept_room}
 
 -- the run lies in the spaces
@@ -31,7 +31,8 @@ IsClaimed n words first = first + words ≤ 128 * n
 -- where the record needs so many pages
 abbrev pub FitsPlaceStage : (pages asked : ℕ) → Run → Header → PlaceStage → Type 0
 FitsPlaceStage n asked run header LoadsTraced = ⊤
-FitsPlaceStage n asked run header (LoadsArea traced) = ⊤
+FitsPlaceStage n asked run header (LoadsSize traced) = ⊤
+FitsPlaceStage n asked run header (LoadsArea traced size) = size ≤ n
 FitsPlaceStage n asked run header (ExchangesArea f) = AreaHoldsClaim n (64 * asked) f
 FitsPlaceStage n asked run header (StoresZero new) = IsClaimed n (64 * asked) new.first × (new.first ≤ new.next) × (new.next < new.first + 64 * asked)
 FitsPlaceStage n asked run header (OpensPage new) =

@@ -13,14 +13,14 @@ use Rattle.space_map.specs.declared.page_word.PageWord.TheVariants.{Open}
 use Rattle.space_map.specs.AreaWord.{decode_area, encode_area}
 use Rattle.space_map.specs.PageWord.{decode_page}
 use Rattle.space_map.specs.Spaces.{to_space, page_of}
-use Rattle.space_map.specs.Table.{Traced, Area, Page, HeapWord}
+use Rattle.space_map.specs.Table.{Traced, Area, Size, Page, HeapWord}
 use Rattle.space_map.specs.TableWords.{row_word, HoldsTable, ChangesOnly}
 use Rattle.alloc_end.specs.declared.fitting.Fitting.{Fitting}
 use Rattle.alloc_end.specs.declared.shortage.Shortage.{Shortage}
 use Rattle.alloc_end.specs.declared.allocated.Allocated.{Allocated}
 use Rattle.alloc_end.specs.declared.allocated.Allocated.TheVariants.{Placed, Full}
 use Rattle.alloc_end.specs.declared.place_stage.PlaceStage.{PlaceStage}
-use Rattle.alloc_end.specs.declared.place_stage.PlaceStage.TheVariants.{LoadsTraced, LoadsArea, ExchangesArea, StoresZero, OpensPage, StoresCount, StoresHeader, Ended}
+use Rattle.alloc_end.specs.declared.place_stage.PlaceStage.TheVariants.{LoadsTraced, LoadsSize, LoadsArea, ExchangesArea, StoresZero, OpensPage, StoresCount, StoresHeader, Ended}
 use Rattle.alloc_end.specs.Place.{Placing, at_stage, size_of, pages_for, words_for, kept_room, room_in, area_after, first_claimed, shortage, place_machine}
 use Rattle.alloc_end.specs.Soundness.{IsSoundPlacing}
 
@@ -34,12 +34,24 @@ area_word p words = row_word p.layout.pages (Area (to_space p.epoch)) words
 pub record LooksAtTraced (p : Placing) (before after : List ℕ) : Type 0 where
   pub traced : Bool
   pub exactly : IsTrue traced ↔ (row_word p.layout.pages Traced before ≡ p.epoch + 1)
-  pub goes : (after_next_step place_machine (at_stage p LoadsTraced) before).stage ≡ LoadsArea traced
+  pub goes : (after_next_step place_machine (at_stage p LoadsTraced) before).stage ≡ LoadsSize traced
   pub stays : after ≡ before
 
 abbrev pub TracedIsRead : Type 0
 TracedIsRead = (p : Placing) (before after : List ℕ) (turn : Turn Allocated)
     → MakesStep place_machine (at_stage p LoadsTraced) before after turn → LooksAtTraced p before after
+
+-- ---- SIZE
+
+-- the number of the space's pages in use is that of its row; no word changes
+pub record LooksAtSize (p : Placing) (traced : Bool) (before after : List ℕ) : Type 0 where
+  pub goes : (after_next_step place_machine (at_stage p (LoadsSize traced)) before).stage
+      ≡ LoadsArea traced (row_word p.layout.pages (Size (to_space p.epoch)) before)
+  pub stays : after ≡ before
+
+abbrev pub SizeIsRead : Type 0
+SizeIsRead = (p : Placing) (traced : Bool) (before after : List ℕ) (turn : Turn Allocated)
+    → MakesStep place_machine (at_stage p (LoadsSize traced)) before after turn → LooksAtSize p traced before after
 
 -- ---- the claim of pages
 
@@ -99,7 +111,8 @@ pub record AwaitsHeader (p : Placing) (words : List ℕ) : Type 0 where
 -- What an allocation has made ready: words that are 0 or a count, pages that are open. A run that it is given is to be so.
 abbrev pub IsReady : Placing → PlaceStage → List ℕ → Type 0
 IsReady p LoadsTraced words = ⊤
-IsReady p (LoadsArea traced) words = ⊤
+IsReady p (LoadsSize traced) words = ⊤
+IsReady p (LoadsArea traced size) words = ⊤
 IsReady p (ExchangesArea f) words = ⊤
 IsReady p (StoresZero new) words = AreZero p.layout.pages new.first new.next words
 IsReady p (OpensPage new) words =
@@ -132,8 +145,10 @@ RecordsArePlaced = (p : Placing) (before after : List ℕ) (at : ℕ) → IsSoun
 
 -- ---- heap full
 
--- The area as it was read has less room than the pages asked for and what has to be kept: these are the numbers. No word changes.
+-- The area as it was read has less room than the pages asked for and what has to be kept: these are the numbers, beside what was read
+-- before it. No word changes.
 pub record ShowsShortage (p : Placing) (before after : List ℕ) (s : Shortage) : Type 0 where
+  pub found : p.stage ≡ LoadsArea s.traced s.size
   pub area : AreaWord
   pub read : decode_area (area_word p before) ≡ Some area
   pub asked : s.asked ≡ pages_for (size_of p.header)
@@ -149,6 +164,6 @@ FullHeapsAreShort = (p : Placing) (before after : List ℕ) (s : Shortage)
 
 -- and where the claim doesn't fit, that is what is told
 abbrev pub ShortHeapsAreFull : Type 0
-ShortHeapsAreFull = (p : Placing) (traced : Bool) (area : AreaWord) (words : List ℕ) → decode_area (area_word p words) ≡ Some area
+ShortHeapsAreFull = (p : Placing) (traced : Bool) (size : ℕ) (area : AreaWord) (words : List ℕ) → decode_area (area_word p words) ≡ Some area
     → room_in area < words_for p.header + kept_room traced area
-    → MakesStep place_machine (at_stage p (LoadsArea traced)) words words (Finished (Full (shortage traced p.header area)))
+    → MakesStep place_machine (at_stage p (LoadsArea traced size)) words words (Finished (Full (shortage traced size p.header area)))

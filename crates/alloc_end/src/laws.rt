@@ -2,11 +2,12 @@
 
 ghost use Rattle.alloc_end.specs.Rows.{FirstPairIsPlaced, NextRecordIsPlaced, CountIsStoredFirst, MixedRecordIsPlaced, ReserveIsKept, ReserveIsFreeOnceTraced, FullTellsItsNumbers, LongestIsFull, LostClaimIsTriedAgain};
 ghost use Rattle.alloc_end.specs.HeldUp.{GoesOn};
-ghost use Rattle.alloc_end.specs.Theorems.{TracedIsRead, PagesAreClaimed, PagesAreLost, PagesAreMadeReady, RecordsArePlaced, FullHeapsAreShort, ShortHeapsAreFull};
+ghost use Rattle.alloc_end.specs.Theorems.{TracedIsRead, SizeIsRead, PagesAreClaimed, PagesAreLost, PagesAreMadeReady, RecordsArePlaced, FullHeapsAreShort, ShortHeapsAreFull};
 
 /// Pages are claimed only where the room that has to be kept is left, by an exchange of the area that was read.
 pub fn claims_keep_the_reserve()
     ensures traced { TracedIsRead }
+    ensures size { SizeIsRead }
     ensures claimed { PagesAreClaimed }
     ensures lost { PagesAreLost }
 {}

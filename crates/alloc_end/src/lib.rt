@@ -4,7 +4,8 @@
 //! the high end down to LOW and are open from the start: they lead to records of the to-space alone, so nobody scans them in
 //! the epoch in which they are made. A mutator has a run of such pages and places its records in it one behind the other.
 //! Where one doesn't fit there, it claims pages for it. While the epoch is not traced, the words between FRONT and LOW have
-//! to suffice for all records that may still be copied, so a claim is made only where that many are left.
+//! to suffice for all records that may still be copied, so a claim is made only where that many are left. Where it can't be
+//! made, the allocation tells the numbers that it read, with them how many pages of the space are in use.
 //! The store of its header makes a record; if it is mixed, the count of its fields is stored before that.
 //!
 //! [`Place`] is a machine: it names its next atomic step, and takes the reply. [`PlaceStage`] lists what it does in turn. After

@@ -3,7 +3,7 @@ ghost use Rattle.atom_store.specs.Step.{place_in};
 ghost use Rattle.record_layout.specs.declared.header.Header.{Header};
 ghost use Rattle.space_map.specs.AreaWord.{AreaFits, decode_area};
 ghost use Rattle.space_map.specs.Spaces.{to_space};
-ghost use Rattle.space_map.specs.Table.{Area, place_of, table_length};
+ghost use Rattle.space_map.specs.Table.{Area, Size, place_of, table_length};
 ghost use Rattle.alloc_end.specs.Place.{begun, wanted, taken, told, left, advances, size_of, pages_for, words_for, kept_room, looked_at_area, area_after, shortage, cleared, after_opening, placed, at_stage, first_claimed, stores_first};
 ghost use Rattle.alloc_end.specs.Soundness.{RunLiesInSpaces, HoldsFields, IsSoundPlacing, IsPlacingGoing, FitsPlaceStage, AreaHoldsClaim};
 
@@ -84,7 +84,8 @@ impl Place {
         let spaces = self.spaces;
         match self.stage {
             PlaceStage::LoadsTraced => Step::Load(spaces.traced_place()),
-            PlaceStage::LoadsArea(_) => Step::Load(self.area_place()),
+            PlaceStage::LoadsSize(_) => Step::Load(self.size_place()),
+            PlaceStage::LoadsArea(_, _) => Step::Load(self.area_place()),
             PlaceStage::ExchangesArea(fitting) => Step::Exchange(
                 self.area_place(),
                 fitting.area.pack(),
@@ -119,10 +120,17 @@ impl Place {
     {
         match (self.stage, reply) {
             (PlaceStage::LoadsTraced, Reply::Value(word)) => {
-                self.stage = PlaceStage::LoadsArea(word == u64::from(self.epoch) + 1);
+                self.stage = PlaceStage::LoadsSize(word == u64::from(self.epoch) + 1);
                 Turn::More
             }
-            (PlaceStage::LoadsArea(traced), Reply::Value(word)) => self.look_at_area(traced, word),
+            (PlaceStage::LoadsSize(traced), Reply::Value(word)) => {
+                self.spaces.known();
+                self.stage = PlaceStage::LoadsArea(traced, word as u32);
+                Turn::More
+            }
+            (PlaceStage::LoadsArea(traced, size), Reply::Value(word)) => {
+                self.look_at_area(traced, size, word)
+            }
             (PlaceStage::ExchangesArea(fitting), Reply::Won) => self.claim(fitting),
             (PlaceStage::ExchangesArea(_), Reply::Lost(_)) => {
                 self.stage = PlaceStage::LoadsTraced;
@@ -140,13 +148,13 @@ impl Place {
     }
 
     #[inline(always)]
-    fn look_at_area(&mut self, traced: bool, word: u64) -> Turn<Allocated>
-        requires { IsSoundPlacing (at_stage self.old (looked_at_area self.old traced (decode_area word))) }
-        ensures state { self.new ≡ at_stage self.old (looked_at_area self.old traced (decode_area word)) }
+    fn look_at_area(&mut self, traced: bool, size: u32, word: u64) -> Turn<Allocated>
+        requires { IsSoundPlacing (at_stage self.old (looked_at_area self.old traced size (decode_area word))) }
+        ensures state { self.new ≡ at_stage self.old (looked_at_area self.old traced size (decode_area word)) }
         ensures tells { result ≡ told self.new }
     {
         let Some(area) = AreaWord::read(word) else {
-            self.stage = PlaceStage::LoadsArea(traced);
+            self.stage = PlaceStage::LoadsArea(traced, size);
             return Turn::More;
         };
         let owed = if traced { 0 } else { area.owed };
@@ -163,6 +171,7 @@ impl Place {
             owed,
             traced,
             live,
+            size,
         }))
     }
 
@@ -241,6 +250,13 @@ impl Place {
     {
         self.stage = PlaceStage::Ended(outcome);
         Turn::Finished(outcome)
+    }
+
+    fn size_place(&self) -> usize
+        ensures place { result ≡ place_of self.now.layout.pages (Size (to_space self.now.epoch)) }
+        ensures in_table { result < table_length self.now.layout.pages }
+    {
+        self.spaces.size_place(self.spaces.to_space(self.epoch))
     }
 
     fn area_place(&self) -> usize

@@ -7,8 +7,10 @@ use crate::new_pages::NewPages;
 pub enum PlaceStage {
     /// Load TRACED, whether room has to be kept for copies.
     LoadsTraced,
-    /// Load the area, whether pages for the record fit: the epoch was found traced or not.
-    LoadsArea(bool),
+    /// Load the number of the space's pages in use: the epoch was found traced or not.
+    LoadsSize(bool),
+    /// Load the area, whether pages for the record fit: the epoch was found traced or not, in a space of so many pages in use.
+    LoadsArea(bool, u32),
     /// Move LOW below these pages, by exchange of the area that was read.
     ExchangesArea(Fitting),
     /// Store 0 in the next word of the pages claimed.

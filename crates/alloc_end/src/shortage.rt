@@ -11,4 +11,6 @@ pub struct Shortage {
     pub traced: bool,
     /// The words copied in this epoch.
     pub live: u32,
+    /// The pages of the space that were in use.
+    pub size: u32,
 }

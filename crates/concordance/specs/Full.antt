@@ -18,7 +18,7 @@ use Rattle.concordance_text.specs.Rows.{AreRowsOf, WordRow, need}
 use Rattle.concordance_text.specs.Words.{Mention}
 use Rattle.concordance.specs.Desk.{desk_size_made}
 use Rattle.concordance.specs.Lone.{FindsFull, IsLone, KeepsSeat, alone_by, desk_of}
-use Rattle.concordance.specs.OneMutator.{WasDone}
+use Rattle.concordance.specs.OneMutator.{IsWhole, WasDone}
 
 -- the words that all records take which mutator m has made
 abbrev pub words_made : Heap → (m : ℕ) → ℕ
@@ -32,10 +32,10 @@ LiveIsMade = (p : Plain) (words : ℕ) → length p.heap.records ≡ 1 → IsLiv
 abbrev pub LoneCallsAreDone : Type 0
 LoneCallsAreDone = (s : Seated) → IsLone s → ShowsSeen s.worker s.knows → Each WasDone (first_own s.knows.hands)
 
--- The heap has one mutator, the clerk's, whose calls so far were executed, and which has made fewer records than there can be flips. If its
--- next call finds the heap full, its records and the room that is left are at least the words of a space.
+-- The heap has one mutator, the clerk's, whose calls so far were executed, and which has made fewer records than there can be flips; all pages
+-- of its spaces are in use from the beginning. If its next call finds the heap full, its records and the room that is left are at least the words of a space.
 abbrev pub LoneFullsAreFilled : Type 0
-LoneFullsAreFilled = (a b : Seated) (i : Instr) (asked room live : ℕ) → IsLone a → a.knows.plan.mutators ≡ 1 → first_number a.knows.hands ≡ 0
+LoneFullsAreFilled = (a b : Seated) (i : Instr) (asked room live : ℕ) → IsLone a → a.knows.plan.mutators ≡ 1 → IsWhole a.knows.plan → first_number a.knows.hands ≡ 0
     → Each WasDone (first_own a.knows.hands) → serial_of (alone_by a).heap 0 + 1 < 2 ^ 32 - 1 → Called a (Calls i) (Trap (HeapFull asked room live)) b
     → PAGE_WORDS * a.knows.plan.spaces.pages ≤ room + words_made (alone_by a).heap 0
 

@@ -5,10 +5,10 @@ use Rattle.gc_worker.specs.declared.calls.call.Call.{Call}
 use Rattle.gc_worker.specs.declared.calls.did.Did.TheVariants.{Done}
 use Rattle.gc_worker.specs.declared.calls.entry.Entry.{Entry}
 use Rattle.gc_worker.specs.History.Legal.{IsLegal, after_all, calls_of}
-use Rattle.gc_worker.specs.History.Tally.{EachEntry, EntryIs, Tasks, tally}
+use Rattle.gc_worker.specs.History.Tally.{EachEntry, EntryIs, Sizes, Tasks, tally}
 use Rattle.ael_threads.specs.declared.view.Plan.{Plan}
 use Rattle.ael_threads.specs.Alone.{alone_history}
-use Rattle.ael_threads.specs.Histories.{first_plain, opening_tally}
+use Rattle.ael_threads.specs.Histories.{AreSizesOf, first_plain, opening_tally}
 use Rattle.ael_threads.specs.Unread.{EachCall}
 
 -- the call was executed
@@ -24,7 +24,11 @@ abbrev pub LoneFlipsAreNow : Type 0
 LoneFlipsAreNow = (plan : Plan) (log : List Entry) → plan.mutators ≡ 1 → IsLegal (first_plain plan) log → (tally (opening_tally plan) log).since 0 ≡ true
     → (tally (opening_tally plan) log).flip ≡ (tally (opening_tally plan) log).now
 
--- if each call was executed, no more flips came than it has made records, and one more
+-- all pages of its spaces are in use from the beginning
+abbrev pub IsWhole : Plan → Type 0
+IsWhole plan = plan.least ≡ plan.spaces.pages
+
+-- if each call was executed, and all pages are in use from the beginning, no more flips came than it has made records, and one more
 abbrev pub LoneFlipsAreFew : Type 0
-LoneFlipsAreFew = (plan : Plan) (pages : ℕ) (tasks : Tasks) (log : List Entry) → plan.mutators ≡ 1 → IsLegal (first_plain plan) log → EachCall WasDone log
-    → EachEntry (EntryIs pages tasks) (opening_tally plan) log → (tally (opening_tally plan) log).flips ≤ serial_of (tally (opening_tally plan) log).now.heap 0 + 1
+LoneFlipsAreFew = (plan : Plan) (z : Sizes) (tasks : Tasks) (log : List Entry) → plan.mutators ≡ 1 → IsWhole plan → AreSizesOf plan z → IsLegal (first_plain plan) log → EachCall WasDone log
+    → EachEntry (EntryIs z tasks) (opening_tally plan) log → (tally (opening_tally plan) log).flips ≤ serial_of (tally (opening_tally plan) log).now.heap 0 + 1

@@ -30,14 +30,15 @@ use std::sync::Wait;
 use std::sync::atomic::AtomicU64;
 use std::thread::{Threads, join_mut};
 
-/// The concordance of a text: each word once, in the order of bytes, with the numbers of its lines. So many clerks make it on a heap of their
-/// own, as many of them at once as threads can be had.
+/// The concordance of a text: each word once, in the order of bytes, with the numbers of its lines. So many clerks make it on a heap of
+/// their own, as many of them at once as threads can be had.
 ///
-/// The text has at most 1,048,576 bytes. `WordTooLong` comes exactly for a text that has a word of more than 64 letters, with the first line
-/// that has one; `NoMemory` may come to any other text. `HeapFull` comes only if a space has fewer than four pages for each word of the text
-/// plus two, and no more heap words than the room that is told plus what the text's rows need. It tells at most two pages that were asked for,
-/// and the room, which is less. If the heap is full for one of several clerks, one makes the whole on a new heap of the same size, and only what this one
-/// finds is told. That the call returns is not promised, since clerks wait for one another.
+/// The text has at most 1,048,576 bytes, and all pages of a space are in use from the beginning. `WordTooLong` comes exactly for a text that
+/// has a word of more than 64 letters, with the first line that has one; `NoMemory` may come to any other text. `HeapFull` comes only if a
+/// space has fewer than four pages for each word of the text plus two, and no more heap words than the room that is told plus what the text's
+/// rows need. It tells at most two pages that were asked for, and the room, which is less. If the heap is full for one of several clerks, one
+/// makes the whole on a new heap of the same size, and only what this one finds is told. That the call returns is not promised, since clerks
+/// wait for one another.
 pub fn concord<R: Threads + Wait + Sync>(
     rt: &R,
     alloc: Global,
@@ -49,6 +50,7 @@ pub fn concord<R: Threads + Wait + Sync>(
     requires some { 1 ≤ clerks }
     requires few { clerks ≤ MOST_MUTATORS }
     requires pages { IsTrue (is_size config.now.pages) }
+    requires limit { config.now.limit ≡ config.now.pages }
     requires scanners { config.now.scanners ≤ MOST_SCANNERS }
     ensures too_long { (line : ℕ) → IsErrOf result (ConcordError.WordTooLong line) ↔ IsFirstTooLong text.now line }
     ensures told { IfOk result (λ told. IsConcordanceOf text.now told.items) }
@@ -84,6 +86,7 @@ fn make<R: Threads + Wait + Sync>(
     requires some { 1 ≤ clerks }
     requires few { clerks ≤ MOST_MUTATORS }
     requires pages { IsTrue (is_size config.now.pages) }
+    requires limit { config.now.limit ≡ config.now.pages }
     requires scanners { config.now.scanners ≤ MOST_SCANNERS }
     ensures told { IfOk result (λ told. IsConcordanceOf text.now told.items) }
     ensures short { (line : ℕ) → IsErrOf result (ConcordError.WordTooLong line) → ⊥ }
@@ -118,6 +121,7 @@ fn open(alloc: Global, clerks: u8, config: &Config) -> Result<(Shared, Seats), C
     requires some { 1 ≤ clerks }
     requires few { clerks ≤ MOST_MUTATORS }
     requires pages { IsTrue (is_size config.now.pages) }
+    requires limit { config.now.limit ≡ config.now.pages }
     requires scanners { config.now.scanners ≤ MOST_SCANNERS }
     ensures plan { IfOk result (λ o. o.0.table.shared.key ≡ plan_of clerks config.now) }
     ensures mutators { IfOk result (λ o. o.1.mutators.items ≡ new_callers o.0.table.shared.table_id (plan_of clerks config.now) 0 clerks) }

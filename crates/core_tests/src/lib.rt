@@ -13,6 +13,8 @@ mod exchanges;
 #[cfg(test)]
 mod faults;
 #[cfg(test)]
+mod growing;
+#[cfg(test)]
 mod pace;
 #[cfg(test)]
 mod requests;

@@ -14,7 +14,7 @@ const MOST: u32 = 2_000_000;
 /// A list of records of one field, which grows until the heap is full.
 const LIST: &str = "/.mutator/li r0 0/more: new r1 1/st r1 0 r0/mov r0 r1/jmp more/";
 
-/// The most steps that an instruction may take, in spaces of so many pages.
+/// A bound that each instruction of the runs here keeps, in spaces of so many pages, which don't grow.
 fn most_steps(pages: u8) -> u32 {
     let pages = u32::from(pages);
     10_000 * pages + 20 * pages * pages
@@ -50,7 +50,7 @@ fn longest(rt: &impl Abort, alloc: Global, lines: &str, pages: u8) -> Result<u32
 /// Counted by a plain implementation of the same steps too.
 #[test]
 fn the_longest_instruction_is_short_enough(rt: HostRuntime) -> Result<(), Fail> {
-    for (lines, pages, counted) in [(GARBAGE.lines, 4, 491), (LIST, 4, 1920), (LIST, 16, 7716)] {
+    for (lines, pages, counted) in [(GARBAGE.lines, 4, 498), (LIST, 4, 1930), (LIST, 16, 7738)] {
         assert_same(&rt, &longest(&rt, rt.alloc(), lines, pages)?, &counted);
         assert_same(
             &rt,

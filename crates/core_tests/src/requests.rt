@@ -20,6 +20,13 @@ const AREA_0: usize = 4;
 
 const AREA_1: usize = 5;
 
+/// The pages in use of both spaces.
+const SIZE_0: usize = 12;
+
+const SIZE_1: usize = 13;
+
+const ALL_PAGES: u64 = 4;
+
 /// The gate's word before the flip: both run, one of them has asked for it and stopped, and the other has parked.
 const BOTH_RUN: u64 = 0x0000_0202_0000_0000;
 
@@ -45,13 +52,15 @@ const ALL_OWED: u64 = 0x0000_1000_0400_0000;
 type Event = (u8, Step, Stepped, u64);
 
 /// Both ask for a flip, and mutator 0 is first.
-const EVENTS: [Event; 32] = [
+const EVENTS: [Event; 36] = [
     // The looks that begin the records. No words are free, and nothing is left to copy.
     (0, Load(GATE), Moved, BOTH_RUN),
     (0, Load(TRACED), Moved, BOTH_RUN),
+    (0, Load(SIZE_0), Moved, BOTH_RUN),
     (0, Load(AREA_0), Moved, BOTH_RUN),
     (1, Load(GATE), Moved, BOTH_RUN),
     (1, Load(TRACED), Moved, BOTH_RUN),
+    (1, Load(SIZE_0), Moved, BOTH_RUN),
     (1, Load(AREA_0), Moved, BOTH_RUN),
     // Both find that nobody has asked. The exchange of mutator 1 is lost.
     (0, Load(GATE), Moved, BOTH_RUN),
@@ -67,7 +76,9 @@ const EVENTS: [Event; 32] = [
     (1, Load(GATE), Moved, BOTH_STAND),
     // Mutator 0 flips.
     (0, Load(GATE), Moved, BOTH_STAND),
+    (0, Load(SIZE_0), Moved, BOTH_STAND),
     (0, Load(AREA_0), Moved, BOTH_STAND),
+    (0, Store(SIZE_1, ALL_PAGES), Moved, BOTH_STAND),
     (0, Store(AREA_1, ALL_OWED), Moved, BOTH_STAND),
     (
         0,

@@ -28,11 +28,23 @@ pub fn open<'p>(
     pages: u32,
     scanners: u8,
 ) -> Result<Core<'p>, Fail> {
+    open_to(alloc, program, pages, pages, scanners)
+}
+
+/// The same over spaces with so many pages in use at first, and as many as the limit at most.
+pub fn open_to<'p>(
+    alloc: Global,
+    program: &'p Program,
+    pages: u32,
+    limit: u32,
+    scanners: u8,
+) -> Result<Core<'p>, Fail> {
     if scanners > 8 {
         return Err("there are too many scanners".into());
     }
     let config = Config {
         pages,
+        limit,
         scanners,
         turns: 1_000_000,
     };

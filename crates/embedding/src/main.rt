@@ -200,6 +200,7 @@ fn run<R: Threads + Wait + Sync + Print>(
 fn main(rt: HostRuntime) -> Result<(), anyhow::Error> {
     let config = Config {
         pages: 4,
+        limit: 4,
         scanners: 0,
         turns: 1,
     };

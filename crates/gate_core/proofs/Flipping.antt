@@ -1,5 +1,5 @@
 -- What a flip's step does to the words, by what it then tells, and that what it has read stands.
-use Rattle.std.proofs.Common.{◌≡◌, ◌≢◌, ℕ, ◌+◌, ◌*◌, ◌%◌, ◌^◌, ◌<◌, ◌≤◌, Bool, true, false, cond, ◌&&◌, nat_eq, ◌⊎◌, inl, inr, List, slice_index, Option, Some, None, arith, refl, sym, ap, subst, ◌∙◌}
+use Rattle.std.proofs.Common.{◌≡◌, ◌≢◌, ℕ, ◌+◌, ◌*◌, ◌%◌, ◌^◌, ◌<◌, ◌≤◌, Bool, true, false, cond, ◌&&◌, ◌||◌, nat_eq, nat_lt, min, ◌⊎◌, inl, inr, List, slice_index, Option, Some, None, arith, refl, sym, ap, subst, ◌∙◌}
 use Rattle.std.proofs.lemmas.Bool.Decides.{nat_tests}
 use Rattle.atom_store.specs.declared.reply.Reply.{Reply}
 use Rattle.atom_store.specs.declared.reply.Reply.TheVariants as reply
@@ -26,10 +26,10 @@ use Rattle.gate_core.specs.declared.reset.Reset.{Reset}
 use Rattle.gate_core.specs.declared.flipped.Flipped.{Flipped}
 use Rattle.gate_core.specs.declared.flipped.Flipped.TheVariants.{Went, NotYet}
 use Rattle.gate_core.specs.declared.flip_stage.FlipStage.{FlipStage}
-use Rattle.gate_core.specs.declared.flip_stage.FlipStage.TheVariants.{LoadsGate, LoadsArea, StoresArea, Exchanges, Ended}
-use Rattle.gate_core.specs.Flip.{Flipping, flip_machine, wanted, told_at, next_stage, looked, read_area, is_still, gate_flipped, area_reset}
-use Rattle.gate_core.specs.Soundness.{IsSoundFlipping, MayFlip}
-use Rattle.gate_core.specs.Theorems.{CountsUsed, IsReset, StandsAt, FlipsHeap, ForbidsFlip}
+use Rattle.gate_core.specs.declared.flip_stage.FlipStage.TheVariants.{LoadsGate, LoadsSize, LoadsArea, StoresSize, StoresArea, Exchanges, Ended}
+use Rattle.gate_core.specs.Flip.{Flipping, flip_machine, wanted, told_at, next_stage, looked, read_area, is_still, gate_flipped, next_size, area_reset}
+use Rattle.gate_core.specs.Soundness.{IsSoundFlipping, FitsReset, MayFlip}
+use Rattle.gate_core.specs.Theorems.{CountsUsed, IsSized, IsReset, StandsAt, FlipsHeap, ForbidsFlip, size_in}
 
 abbrev at : Flipping → FlipStage → Flipping
 at f stage = record f { stage = stage }
@@ -53,6 +53,17 @@ gate_apart n space below = place_of-apart n row.Gate (row.Area space) tt below (
 areas_apart : (n epoch : ℕ) → place_of n (row.Area (to_space epoch)) ≢ place_of n (row.Area (to_space (epoch + 1)))
 areas_apart n epoch =
     place_of-apart n (row.Area (to_space epoch)) (row.Area (to_space (epoch + 1))) (space_below epoch) (space_below (epoch + 1)) (λ same. let e : epoch % 2 ≡ (epoch + 1) % 2 = cc in omega arith)
+
+-- so have their sizes
+sizes_apart : (n epoch : ℕ) → place_of n (row.Size (to_space epoch)) ≢ place_of n (row.Size (to_space (epoch + 1)))
+sizes_apart n epoch =
+    place_of-apart n (row.Size (to_space epoch)) (row.Size (to_space (epoch + 1))) (space_below epoch) (space_below (epoch + 1)) (λ same. let e : epoch % 2 ≡ (epoch + 1) % 2 = cc in omega arith)
+
+size_and_area_apart : (n one other : ℕ) → one < 2 → other < 2 → place_of n (row.Size one) ≢ place_of n (row.Area other)
+size_and_area_apart n one other one_below other_below = place_of-apart n (row.Size one) (row.Area other) one_below other_below (λ same. cc)
+
+gate_and_size_apart : (n space : ℕ) → space < 2 → place_of n row.Gate ≢ place_of n (row.Size space)
+gate_and_size_apart n space below = place_of-apart n row.Gate (row.Size space) tt below (λ same. cc)
 
 -- ---- gates
 
@@ -80,37 +91,80 @@ flipped_fits g may = record {
 gate_stands : (f : Flipping) (words : List ℕ) (loaded : ℕ) (o : Option GateWord) → decode_gate (gate_of f words) ≡ o → StandsAt f (looked loaded o) words
 gate_stands f words loaded (Some g) is = by_test (is_still g)
   where
-    by_test : (b : Bool) → StandsAt f (cond b (LoadsArea g) (Ended (NotYet loaded))) words
+    by_test : (b : Bool) → StandsAt f (cond b (LoadsSize g) (Ended (NotYet loaded))) words
     by_test true = is
     by_test false = tt
 gate_stands f words loaded None is = tt
 
-area_stands : (f : Flipping) (words : List ℕ) (g : GateWord) (o : Option AreaWord) → decode_gate (gate_of f words) ≡ Some g
-    → decode_area (area_of f f.epoch words) ≡ o → StandsAt f (read_area f.layout.pages g o) words
-area_stands f words g (Some area) gate is = record { gate = gate; area = area; read = is; used = refl }
-area_stands f words g None gate is = gate
+area_stands : (f : Flipping) (words : List ℕ) (g : GateWord) (size : ℕ) (o : Option AreaWord) → StandsAt f (LoadsArea g size) words
+    → decode_area (area_of f f.epoch words) ≡ o → StandsAt f (read_area f.layout.pages f.seen g size o) words
+area_stands f words g size (Some area) stands is = record { gate = stands.0; size = stands.1; area = area; read = is; used = refl; next = refl }
+area_stands f words g size None stands is = stands
 
 -- ---- what is stored
 
-reset_stands : (f : Flipping) (reset : Reset) (before after : List ℕ) → IsPageCount f.layout.pages → reset.used ≤ 64 * f.layout.pages
-    → HoldsTable f.layout.pages before → CountsUsed f reset before
-    → after ≡ words_after (Store (place_of f.layout.pages (row.Area (to_space (f.epoch + 1)))) (encode_area (area_reset f.layout.pages reset.used))) before
-    → CountsUsed f reset after × IsReset f reset after
-reset_stands f reset before after few small whole counts makes =
+-- the words that the flip has read are those after a store elsewhere
+still_counts : (f : Flipping) (reset : Reset) (place stored : ℕ) (before after : List ℕ) → place_of f.layout.pages row.Gate ≢ place
+    → place_of f.layout.pages (row.Size (to_space f.epoch)) ≢ place → place_of f.layout.pages (row.Area (to_space f.epoch)) ≢ place
+    → CountsUsed f reset before → after ≡ words_after (Store place stored) before → CountsUsed f reset after
+still_counts f reset place stored before after gate_elsewhere size_elsewhere area_elsewhere counts makes =
     let n : ℕ = f.layout.pages in
-    let there : ℕ = place_of n (row.Area (to_space (f.epoch + 1))) in
-    let stored : ℕ = encode_area (area_reset n reset.used) in
-    let inside = place_of-lt n (row.Area (to_space (f.epoch + 1))) (space_below (f.epoch + 1)) in
-    let gate_same = slice_index-words_after (Store there stored) before (place_of n row.Gate) (gate_apart n (to_space (f.epoch + 1)) (space_below (f.epoch + 1))) in
-    let area_same = slice_index-words_after (Store there stored) before (place_of n (row.Area (to_space f.epoch))) (areas_apart n f.epoch) in (
-      record {
-        gate = ap (λ ws. decode_gate (gate_of f ws)) makes ∙ ap decode_gate gate_same ∙ counts.gate;
-        area = counts.area;
-        read = ap (λ ws. decode_area (area_of f f.epoch ws)) makes ∙ ap decode_area area_same ∙ counts.read;
-        used = counts.used;
-      },
+    let same : (other : ℕ) → other ≢ place → slice_index after other ≡ slice_index before other
+    = λ other apart. ap (λ ws. slice_index ws other) makes ∙ slice_index-words_after (Store place stored) before other apart in
+    record {
+      gate = ap decode_gate (same (place_of n row.Gate) gate_elsewhere) ∙ counts.gate;
+      size = same (place_of n (row.Size (to_space f.epoch))) size_elsewhere ∙ counts.size;
+      area = counts.area;
+      read = ap decode_area (same (place_of n (row.Area (to_space f.epoch))) area_elsewhere) ∙ counts.read;
+      used = counts.used;
+      next = counts.next;
+    }
+
+size_stands : (f : Flipping) (reset : Reset) (before after : List ℕ) → HoldsTable f.layout.pages before → CountsUsed f reset before
+    → after ≡ words_after (Store (place_of f.layout.pages (row.Size (to_space (f.epoch + 1)))) reset.next) before
+    → CountsUsed f reset after × IsSized f reset after
+size_stands f reset before after whole counts makes =
+    let n : ℕ = f.layout.pages in
+    let other : ℕ = to_space (f.epoch + 1) in
+    let below : other < 2 = space_below (f.epoch + 1) in
+    let there : ℕ = place_of n (row.Size other) in
+    let inside = place_of-lt n (row.Size other) below in (
+      still_counts f reset there reset.next before after (gate_and_size_apart n other below) (sizes_apart n f.epoch)
+          (λ same. size_and_area_apart n other (to_space f.epoch) below (space_below f.epoch) (sym same)) counts makes,
+      ap (size_in f (f.epoch + 1)) makes ∙ slice_index-stored there reset.next before (omega (arith, inside, whole)),
+    )
+
+-- the next size is no more than the pages that there are
+next_fits : (n : ℕ) (seen : Bool) (size copied : ℕ) → size ≤ n → next_size n seen size copied ≤ n
+next_fits n seen size copied fits = by_test (seen || nat_lt (64 * size) (2 * copied))
+  where
+    by_test : (b : Bool) → cond b (min n (2 * size)) size ≤ n
+    by_test true = omega arith
+    by_test false = fits
+
+reset_stands : (f : Flipping) (reset : Reset) (before after : List ℕ) → IsPageCount f.layout.pages → FitsReset f.layout.pages f.seen reset
+    → HoldsTable f.layout.pages before → CountsUsed f reset before → IsSized f reset before
+    → after ≡ words_after (Store (place_of f.layout.pages (row.Area (to_space (f.epoch + 1)))) (encode_area (area_reset reset.next reset.used))) before
+    → CountsUsed f reset after × IsSized f reset after × IsReset f reset after
+reset_stands f reset before after few fits whole counts sized makes =
+    let n : ℕ = f.layout.pages in
+    let other : ℕ = to_space (f.epoch + 1) in
+    let below : other < 2 = space_below (f.epoch + 1) in
+    let there : ℕ = place_of n (row.Area other) in
+    let stored : ℕ = encode_area (area_reset reset.next reset.used) in
+    let inside = place_of-lt n (row.Area other) below in
+    let size_same = slice_index-words_after (Store there stored) before (place_of n (row.Size other)) (size_and_area_apart n other other below below) in
+    let next_small : reset.next ≤ n = subst (λ (m : ℕ). m ≤ n) (sym fits.next) (next_fits n f.seen reset.size fits.copied fits.size.1) in
+    let used_small = fits.used in
+    let size_small = fits.size.1 in (
+      still_counts f reset there stored before after (gate_apart n other below) (size_and_area_apart n (to_space f.epoch) other (space_below f.epoch) below) (areas_apart n f.epoch) counts makes,
+      ap (size_in f (f.epoch + 1)) makes ∙ size_same ∙ sized,
       ap (λ ws. decode_area (area_of f (f.epoch + 1) ws)) makes ∙ ap decode_area (slice_index-stored there stored before (omega (arith, inside, whole)))
-          ∙ decode_area-encode_area (area_reset n reset.used) (record { front_fits = lit; low_fits = omega arith; owed_fits = omega arith }),
+          ∙ decode_area-encode_area (area_reset reset.next reset.used) (record {
+            front_fits = lit;
+            low_fits = omega (arith, next_small, few);
+            owed_fits = omega (arith, used_small, size_small, few);
+          }),
     )
   where
     lit : 0 < 2 ^ 18
@@ -125,10 +179,13 @@ pub keeps : (f : Flipping) (stage : FlipStage) (before after : List ℕ) (turn :
     → StandsAt f (after_step flip_machine (at f stage) (wanted (at f stage)) before).stage after
 keeps f LoadsGate before after turn sound whole stands acts =
     subst (λ ws. StandsAt f (looked (gate_of f before) (decode_gate (gate_of f before))) ws) (sym acts.makes) (gate_stands f before (gate_of f before) (decode_gate (gate_of f before)) refl)
-keeps f (LoadsArea g) before after turn sound whole stands acts =
-    subst (λ ws. StandsAt f (read_area f.layout.pages g (decode_area (area_of f f.epoch before))) ws) (sym acts.makes)
-    (area_stands f before g (decode_area (area_of f f.epoch before)) stands refl)
-keeps f (StoresArea reset) before after turn sound whole stands acts = reset_stands f reset before after sound.pages sound.stage.1 whole stands acts.makes
+keeps f (LoadsSize g) before after turn sound whole stands acts =
+    subst (λ ws. StandsAt f (LoadsArea g (size_in f f.epoch before)) ws) (sym acts.makes) (stands, refl)
+keeps f (LoadsArea g size) before after turn sound whole stands acts =
+    subst (λ ws. StandsAt f (read_area f.layout.pages f.seen g size (decode_area (area_of f f.epoch before))) ws) (sym acts.makes)
+    (area_stands f before g size (decode_area (area_of f f.epoch before)) stands refl)
+keeps f (StoresSize reset) before after turn sound whole stands acts = size_stands f reset before after whole stands acts.makes
+keeps f (StoresArea reset) before after turn sound whole stands acts = reset_stands f reset before after sound.pages sound.stage whole stands.0 stands.1 acts.makes
 keeps f (Exchanges reset) before after turn sound whole stands acts = ended_stands f reset after _ _
 keeps f (Ended result) before after turn sound whole stands acts = absurd (no_step acts.has_step)
 
@@ -137,14 +194,15 @@ keeps f (Ended result) before after turn sound whole stands acts = absurd (no_st
 never_went_at_gate : (word asked : ℕ) (o : Option GateWord) → told_at (looked word o) ≡ Finished (Went asked) → ⊥
 never_went_at_gate word asked (Some g) tells = by_test (is_still g) tells
   where
-    by_test : (b : Bool) → told_at (cond b (LoadsArea g) (Ended (NotYet word))) ≡ Finished (Went asked) → ⊥
+    by_test : (b : Bool) → told_at (cond b (LoadsSize g) (Ended (NotYet word))) ≡ Finished (Went asked) → ⊥
     by_test true e = cc
     by_test false e = cc
 never_went_at_gate word asked None tells = cc
 
-never_ends_at_area : (n : ℕ) (g : GateWord) (o : Option AreaWord) (result : Flipped) → told_at (read_area n g o) ≡ Finished result → ⊥
-never_ends_at_area n g (Some area) result tells = cc
-never_ends_at_area n g None result tells = cc
+never_ends_at_area : (n : ℕ) (seen : Bool) (g : GateWord) (size : ℕ) (o : Option AreaWord) (result : Flipped)
+    → told_at (read_area n seen g size o) ≡ Finished result → ⊥
+never_ends_at_area n seen g size (Some area) result tells = cc
+never_ends_at_area n seen g size None result tells = cc
 
 exchange_goes : (f : Flipping) (reset : Reset) (r : Reply) (asked : ℕ) → told_at (next_stage f (Exchanges reset) r) ≡ Finished (Went asked)
     → (r ≡ reply.Won) × (asked ≡ f.asked)
@@ -162,7 +220,16 @@ exchange_never_hindered f reset reply.Done word tells = cc
 pub flips : (f : Flipping) (stage : FlipStage) (before after : List ℕ) (asked : ℕ) → IsSoundFlipping (at f stage) → HoldsTable f.layout.pages before
     → StandsAt f stage before → MakesStep flip_machine (at f stage) before after (Finished (Went asked)) → FlipsHeap f before after × (asked ≡ f.asked)
 flips f LoadsGate before after asked sound whole stands acts = absurd (never_went_at_gate (gate_of f before) asked (decode_gate (gate_of f before)) acts.tells)
-flips f (LoadsArea g) before after asked sound whole stands acts = absurd (never_ends_at_area f.layout.pages g (decode_area (area_of f f.epoch before)) (Went asked) acts.tells)
+flips f (LoadsSize g) before after asked sound whole stands acts = absurd (never acts.tells)
+  where
+    never : told_at (LoadsArea g (size_in f f.epoch before)) ≡ Finished (Went asked) → ⊥
+    never e = cc
+flips f (LoadsArea g size) before after asked sound whole stands acts =
+    absurd (never_ends_at_area f.layout.pages f.seen g size (decode_area (area_of f f.epoch before)) (Went asked) acts.tells)
+flips f (StoresSize reset) before after asked sound whole stands acts = absurd (never acts.tells)
+  where
+    never : told_at (StoresArea reset) ≡ Finished (Went asked) → ⊥
+    never e = cc
 flips f (StoresArea reset) before after asked sound whole stands acts = absurd (never acts.tells)
   where
     never : told_at (Exchanges reset) ≡ Finished (Went asked) → ⊥
@@ -171,21 +238,26 @@ flips f (Exchanges reset) before after asked sound whole stands acts =
     let n : ℕ = f.layout.pages in
     let place : ℕ = place_of n row.Gate in
     let new : ℕ = encode_gate (gate_flipped reset.gate) in
-    let may = sound.stage.0 in
+    let may = sound.stage.gate in
     let goes = exchange_goes f reset (reply_of (Exchange place (encode_gate reset.gate) new) before) asked acts.tells in
     let inside = place_of-lt n row.Gate tt in
     let now = slice_index-won place (encode_gate reset.gate) new before (omega (arith, inside, whole)) goes.0 in
     let others : (other : ℕ) → other ≢ place → slice_index after other ≡ slice_index before other
-    = λ other apart. ap (λ ws. slice_index ws other) acts.makes ∙ slice_index-words_after (Exchange place (encode_gate reset.gate) new) before other apart in (
+    = λ other apart. ap (λ ws. slice_index ws other) acts.makes ∙ slice_index-words_after (Exchange place (encode_gate reset.gate) new) before other apart in
+    let size_same : (epoch : ℕ) → size_in f epoch after ≡ size_in f epoch before
+    = λ epoch. others (place_of n (row.Size (to_space epoch))) (λ same. gate_and_size_apart n (to_space epoch) (space_below epoch) (sym same)) in
+    let size_is : size_in f f.epoch after ≡ reset.size = size_same f.epoch ∙ stands.0.size in
+    let next_is : size_in f (f.epoch + 1) after ≡ reset.next = size_same (f.epoch + 1) ∙ stands.1 in (
       record {
         gate = reset.gate;
         was = stands.0.gate;
         still = still_says reset.gate may.still;
         is = ap (λ ws. decode_gate (slice_index ws place)) acts.makes ∙ ap decode_gate now ∙ decode_gate-encode_gate (gate_flipped reset.gate) (flipped_fits reset.gate may);
         area = stands.0.area;
+        size = next_is ∙ stands.0.next ∙ sym (ap (λ size. next_size n f.seen size stands.0.area.front) size_is);
         in_use = ap decode_area (others (place_of n (row.Area (to_space f.epoch))) (λ same. gate_apart n (to_space f.epoch) (space_below f.epoch) (sym same))) ∙ stands.0.read;
         empty = ap decode_area (others (place_of n (row.Area (to_space (f.epoch + 1)))) (λ same. gate_apart n (to_space (f.epoch + 1)) (space_below (f.epoch + 1)) (sym same)))
-            ∙ stands.1 ∙ ap (λ used. Some (area_reset n used)) stands.0.used;
+            ∙ stands.2 ∙ ap (λ used. Some (area_reset reset.next used)) stands.0.used ∙ sym (rw (next_is, size_is) refl);
         others = others;
       },
       goes.1,
@@ -202,7 +274,7 @@ record Forbids (loaded word : ℕ) (o : Option GateWord) : Type 0 where
 hinders : (loaded word : ℕ) (o : Option GateWord) → told_at (looked loaded o) ≡ Finished (NotYet word) → Forbids loaded word o
 hinders loaded word (Some g) tells = by_test (is_still g) refl tells
   where
-    by_test : (b : Bool) → is_still g ≡ b → told_at (cond b (LoadsArea g) (Ended (NotYet loaded))) ≡ Finished (NotYet word) → Forbids loaded word (Some g)
+    by_test : (b : Bool) → is_still g ≡ b → told_at (cond b (LoadsSize g) (Ended (NotYet loaded))) ≡ Finished (NotYet word) → Forbids loaded word (Some g)
     by_test true test e = cc
     by_test false test e = record { gate = g; is = refl; test = test; same = cc }
 hinders loaded word None tells = cc
@@ -218,7 +290,16 @@ hindered f LoadsGate before after word acts =
       tells = found.same;
       stays = acts.makes;
     }
-hindered f (LoadsArea g) before after word acts = absurd (never_ends_at_area f.layout.pages g (decode_area (area_of f f.epoch before)) (NotYet word) acts.tells)
+hindered f (LoadsSize g) before after word acts = absurd (never acts.tells)
+  where
+    never : told_at (LoadsArea g (size_in f f.epoch before)) ≡ Finished (NotYet word) → ⊥
+    never e = cc
+hindered f (LoadsArea g size) before after word acts =
+    absurd (never_ends_at_area f.layout.pages f.seen g size (decode_area (area_of f f.epoch before)) (NotYet word) acts.tells)
+hindered f (StoresSize reset) before after word acts = absurd (never acts.tells)
+  where
+    never : told_at (StoresArea reset) ≡ Finished (NotYet word) → ⊥
+    never e = cc
 hindered f (StoresArea reset) before after word acts = absurd (never acts.tells)
   where
     never : told_at (Exchanges reset) ≡ Finished (NotYet word) → ⊥

@@ -43,8 +43,12 @@ module _ (step : Step) (met : List ℕ) where
   flip_held : (f : Flipping) (x : FlipStage) → flip.wanted_at f x ≡ Some step → FlipHolds x (reply_of step met)
   flip_held f flip_stage.LoadsGate wants =
       subst (λ (s : Step). FlipHolds flip_stage.LoadsGate (reply_of s met)) (same_Some _ _ wants) (λ stays. none _ stays)
-  flip_held f (flip_stage.LoadsArea read) wants =
-      subst (λ (s : Step). FlipHolds (flip_stage.LoadsArea read) (reply_of s met)) (same_Some _ _ wants) (λ stays. none _ stays)
+  flip_held f (flip_stage.LoadsSize read) wants =
+      subst (λ (s : Step). FlipHolds (flip_stage.LoadsSize read) (reply_of s met)) (same_Some _ _ wants) (λ stays. absurd (cc))
+  flip_held f (flip_stage.LoadsArea read size) wants =
+      subst (λ (s : Step). FlipHolds (flip_stage.LoadsArea read size) (reply_of s met)) (same_Some _ _ wants) (λ stays. none _ stays)
+  flip_held f (flip_stage.StoresSize reset) wants =
+      subst (λ (s : Step). FlipHolds (flip_stage.StoresSize reset) (reply_of s met)) (same_Some _ _ wants) (λ stays. absurd (cc))
   flip_held f (flip_stage.StoresArea reset) wants =
       subst (λ (s : Step). FlipHolds (flip_stage.StoresArea reset) (reply_of s met)) (same_Some _ _ wants) (λ stays. absurd (cc))
   flip_held f (flip_stage.Exchanges reset) wants =

@@ -22,7 +22,9 @@ passage_writes Q gate p stage = tt
 
 pub flip_rows_fit : (f : Flipping) (stage : FlipStage) → IsFlippingGoing stage → IsOn (IsRow f.layout.pages) (flip.wants_at f stage)
 flip_rows_fit f flip_stage.LoadsGate going = tt
-flip_rows_fit f (flip_stage.LoadsArea read) going = omega arith
+flip_rows_fit f (flip_stage.LoadsSize read) going = omega arith
+flip_rows_fit f (flip_stage.LoadsArea read size) going = omega arith
+flip_rows_fit f (flip_stage.StoresSize reset) going = omega arith
 flip_rows_fit f (flip_stage.StoresArea reset) going = omega arith
 flip_rows_fit f (flip_stage.Exchanges reset) going = tt
 flip_rows_fit f (flip_stage.Ended result) going = going

@@ -22,7 +22,7 @@ IsPassageHeldUp stage reply = ⊥
 
 abbrev pub IsFlipHeldUp : FlipStage → Reply → Type 0
 IsFlipHeldUp flip_stage.LoadsGate (Value word) = decode_gate word ≡ None
-IsFlipHeldUp (flip_stage.LoadsArea read) (Value word) = decode_area word ≡ None
+IsFlipHeldUp (flip_stage.LoadsArea read size) (Value word) = decode_area word ≡ None
 IsFlipHeldUp (flip_stage.Exchanges reset) (Lost word) = ⊤
 IsFlipHeldUp stage reply = ⊥
 

@@ -1,7 +1,8 @@
 -- What the machines keep of themselves: the rows that they want are in the table, and the gates and areas that they write fit
 -- their words.
-use Rattle.std.specs.Prelude.{◌≡◌, ℕ, ◌+◌, ◌*◌, ◌^◌, ◌<◌, ◌≤◌, true, ⊤}
+use Rattle.std.specs.Prelude.{◌≡◌, ℕ, ◌+◌, ◌*◌, ◌^◌, ◌<◌, ◌≤◌, Bool, true, ⊤}
 use Rattle.space_map.specs.declared.gate_word.GateWord.{GateWord}
+use Rattle.space_map.specs.declared.spaces.TheConstants.{FEWEST_PAGES}
 use Rattle.space_map.specs.GateWord.{GateFits}
 use Rattle.space_map.specs.Spaces.{IsPageCount}
 use Rattle.gate_core.specs.declared.passage.Passage.{Passage}
@@ -10,8 +11,9 @@ use Rattle.gate_core.specs.declared.gate_stage.GateStage.{GateStage}
 use Rattle.gate_core.specs.declared.gate_stage.GateStage.TheVariants as gate_stage
 use Rattle.gate_core.specs.declared.flip_stage.FlipStage.{FlipStage}
 use Rattle.gate_core.specs.declared.flip_stage.FlipStage.TheVariants as flip_stage
+use Rattle.gate_core.specs.declared.reset.Reset.{Reset}
 use Rattle.gate_core.specs.Gate.{Passing, allows}
-use Rattle.gate_core.specs.Flip.{Flipping, is_still}
+use Rattle.gate_core.specs.Flip.{Flipping, is_still, next_size}
 
 -- the gate counts those whom the passage takes away, and has room for those whom it brings
 abbrev pub CountsAllow : Passage → GateWord → Type 0
@@ -49,17 +51,32 @@ pub record MayFlip (gate : GateWord) : Type 0 where
   pub still : is_still gate ≡ true
   pub next_fits : gate.epoch + 1 < 2 ^ 32
 
-abbrev pub FitsFlipStage : (pages : ℕ) → FlipStage → Type 0
-FitsFlipStage n flip_stage.LoadsGate = ⊤
-FitsFlipStage n (flip_stage.LoadsArea gate) = MayFlip gate
-FitsFlipStage n (flip_stage.StoresArea reset) = MayFlip reset.gate × (reset.used ≤ 64 * n)
-FitsFlipStage n (flip_stage.Exchanges reset) = MayFlip reset.gate × (reset.used ≤ 64 * n)
-FitsFlipStage n (flip_stage.Ended result) = ⊤
+-- so many pages of a space may be in use
+abbrev pub IsSizeWithin : (pages size : ℕ) → Type 0
+IsSizeWithin n size = (FEWEST_PAGES ≤ size) × (size ≤ n)
+
+-- a reset after which the heap may be flipped: no more words are in use than the pages in use have, and the next size is the one
+-- that follows from this one, whatever was copied
+pub record FitsReset (n : ℕ) (seen : Bool) (reset : Reset) : Type 0 where
+  pub gate : MayFlip reset.gate
+  pub size : IsSizeWithin n reset.size
+  pub used : reset.used ≤ 64 * reset.size
+  pub copied : ℕ
+  pub next : reset.next ≡ next_size n seen reset.size copied
+
+abbrev pub FitsFlipStage : (pages : ℕ) → (seen : Bool) → FlipStage → Type 0
+FitsFlipStage n seen flip_stage.LoadsGate = ⊤
+FitsFlipStage n seen (flip_stage.LoadsSize gate) = MayFlip gate
+FitsFlipStage n seen (flip_stage.LoadsArea gate size) = MayFlip gate × IsSizeWithin n size
+FitsFlipStage n seen (flip_stage.StoresSize reset) = FitsReset n seen reset
+FitsFlipStage n seen (flip_stage.StoresArea reset) = FitsReset n seen reset
+FitsFlipStage n seen (flip_stage.Exchanges reset) = FitsReset n seen reset
+FitsFlipStage n seen (flip_stage.Ended result) = ⊤
 
 pub record IsSoundFlipping (f : Flipping) : Type 0 where
   pub pages : IsPageCount f.layout.pages
   pub epoch : f.epoch + 1 < 2 ^ 32
-  pub stage : FitsFlipStage f.layout.pages f.stage
+  pub stage : FitsFlipStage f.layout.pages f.seen f.stage
 
 -- the flip has a next step
 abbrev pub IsFlippingGoing : FlipStage → Type 0

@@ -17,9 +17,9 @@ use Rattle.gate_core.specs.declared.reset.Reset.{Reset}
 use Rattle.gate_core.specs.declared.flipped.Flipped.{Flipped}
 use Rattle.gate_core.specs.declared.flipped.Flipped.TheVariants as flipped
 use Rattle.gate_core.specs.declared.flip_stage.FlipStage.{FlipStage}
-use Rattle.gate_core.specs.declared.flip_stage.FlipStage.TheVariants.{LoadsGate, LoadsArea, StoresArea, Exchanges, Ended}
+use Rattle.gate_core.specs.declared.flip_stage.FlipStage.TheVariants.{LoadsGate, LoadsSize, LoadsArea, StoresSize, StoresArea, Exchanges, Ended}
 use Rattle.gate_core.specs.Gate.{Passing, gate_after, gate_machine}
-use Rattle.gate_core.specs.Flip.{Flipping, gate_flipped, used_in, area_reset, flip_machine}
+use Rattle.gate_core.specs.Flip.{Flipping, gate_flipped, next_size, used_in, area_reset, flip_machine}
 use Rattle.gate_core.specs.Soundness.{IsSoundPassing, IsSoundFlipping}
 
 -- ---- the gate
@@ -71,23 +71,36 @@ HinderedPassagesShowIt = (p : Passing) (before after : List ℕ) (word : ℕ)
 
 -- ---- the flip
 
--- the gate that the flip has read stands, and the words in use that it counted are those in use
+-- the pages in use of an epoch's space
+abbrev pub size_in : Flipping → (epoch : ℕ) → List ℕ → ℕ
+size_in f epoch words = row_word f.layout.pages (row.Size (to_space epoch)) words
+
+-- The gate and the size that the flip has read stand, the words in use that it counted are those in use, and the next size is
+-- the one that follows.
 pub record CountsUsed (f : Flipping) (reset : Reset) (words : List ℕ) : Type 0 where
   pub gate : decode_gate (row_word f.layout.pages row.Gate words) ≡ Some reset.gate
+  pub size : size_in f f.epoch words ≡ reset.size
   pub area : AreaWord
   pub read : decode_area (row_word f.layout.pages (row.Area (to_space f.epoch)) words) ≡ Some area
-  pub used : reset.used ≡ used_in f.layout.pages area
+  pub used : reset.used ≡ used_in reset.size area
+  pub next : reset.next ≡ next_size f.layout.pages f.seen reset.size area.front
 
--- the area of the other space is that of an empty one
+-- the size of the other space is the next one
+abbrev pub IsSized : Flipping → Reset → List ℕ → Type 0
+IsSized f reset words = size_in f (f.epoch + 1) words ≡ reset.next
+
+-- its area is that of an empty one
 abbrev pub IsReset : Flipping → Reset → List ℕ → Type 0
-IsReset f reset words = decode_area (row_word f.layout.pages (row.Area (to_space (f.epoch + 1))) words) ≡ Some (area_reset f.layout.pages reset.used)
+IsReset f reset words = decode_area (row_word f.layout.pages (row.Area (to_space (f.epoch + 1))) words) ≡ Some (area_reset reset.next reset.used)
 
 -- what the flip has read stands, and so does what it has stored
 abbrev pub StandsAt : Flipping → FlipStage → List ℕ → Type 0
 StandsAt f LoadsGate words = ⊤
-StandsAt f (LoadsArea gate) words = decode_gate (row_word f.layout.pages row.Gate words) ≡ Some gate
-StandsAt f (StoresArea reset) words = CountsUsed f reset words
-StandsAt f (Exchanges reset) words = CountsUsed f reset words × IsReset f reset words
+StandsAt f (LoadsSize gate) words = decode_gate (row_word f.layout.pages row.Gate words) ≡ Some gate
+StandsAt f (LoadsArea gate size) words = (decode_gate (row_word f.layout.pages row.Gate words) ≡ Some gate) × (size_in f f.epoch words ≡ size)
+StandsAt f (StoresSize reset) words = CountsUsed f reset words
+StandsAt f (StoresArea reset) words = CountsUsed f reset words × IsSized f reset words
+StandsAt f (Exchanges reset) words = CountsUsed f reset words × IsSized f reset words × IsReset f reset words
 StandsAt f (Ended result) words = ⊤
 
 -- while mutators are stopped and none is behind, nobody else changes these words; and the flip's own steps keep it
@@ -97,7 +110,8 @@ FlipsKeepWhatTheyRead = (f : Flipping) (before after : List ℕ) (turn : Turn Fl
     → StandsAt f (after_next_step flip_machine f before).stage after
 
 -- Nobody ran and nobody was behind; then the epoch is the next one, all that are live are behind, and no flip is requested any
--- more. The other space is empty, and owes as many words as are in use in the one that was copied into until now.
+-- more. The other space has the size that follows from that of the one that was copied into until now, is empty, and owes as
+-- many words as are in use in that one.
 pub record FlipsHeap (f : Flipping) (before after : List ℕ) : Type 0 where
   pub gate : GateWord
   pub was : decode_gate (row_word f.layout.pages row.Gate before) ≡ Some gate
@@ -105,8 +119,9 @@ pub record FlipsHeap (f : Flipping) (before after : List ℕ) : Type 0 where
   pub is : decode_gate (row_word f.layout.pages row.Gate after) ≡ Some (gate_flipped gate)
   pub area : AreaWord
   pub in_use : decode_area (row_word f.layout.pages (row.Area (to_space f.epoch)) after) ≡ Some area
+  pub size : size_in f (f.epoch + 1) after ≡ next_size f.layout.pages f.seen (size_in f f.epoch after) area.front
   pub empty : decode_area (row_word f.layout.pages (row.Area (to_space (f.epoch + 1))) after)
-      ≡ Some (area_reset f.layout.pages (used_in f.layout.pages area))
+      ≡ Some (area_reset (size_in f (f.epoch + 1) after) (used_in (size_in f f.epoch after) area))
   pub others : ChangesOnly f.layout.pages row.Gate before after
 
 abbrev pub FlipsAreMade : Type 0

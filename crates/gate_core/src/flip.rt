@@ -2,8 +2,8 @@ ghost use Rattle.std.specs.Prelude.{◌≡◌, ◌+◌, ◌*◌, ◌^◌, ◌<�
 ghost use Rattle.atom_store.specs.Step.{place_in};
 ghost use Rattle.space_map.specs.AreaWord.{AreaFits, decode_area};
 ghost use Rattle.space_map.specs.GateWord.{decode_gate};
-ghost use Rattle.gate_core.specs.Flip.{begun, wanted, taken, told, left, advances, is_still, gate_flipped, used_in, area_reset, looked, read_area};
-ghost use Rattle.gate_core.specs.Soundness.{IsFlippingGoing, IsSoundFlipping, FitsFlipStage, MayFlip};
+ghost use Rattle.gate_core.specs.Flip.{begun, wanted, taken, told, left, advances, is_still, gate_flipped, next_size, used_in, area_reset, looked, read_area};
+ghost use Rattle.gate_core.specs.Soundness.{IsFlippingGoing, IsSoundFlipping, FitsFlipStage, IsSizeWithin, MayFlip};
 ghost use Rattle.space_map.specs.Table.{table_length};
 
 use crate::flip_stage::FlipStage;
@@ -19,6 +19,7 @@ pub struct Flip {
     spaces: Spaces,
     epoch: u32,
     asked: u32,
+    seen: bool,
     stage: FlipStage,
 }
 
@@ -28,24 +29,26 @@ impl Model for Flip {
 
     ghost Value = { Flipping };
 
-    ghost view = { λ f. record { layout = f.spaces; epoch = f.epoch; asked = f.asked; stage = f.stage } };
+    ghost view = { λ f. record { layout = f.spaces; epoch = f.epoch; asked = f.asked; seen = f.seen; stage = f.stage } };
 
-    ghost invariant = { λ f. IsSoundFlipping (record { layout = f.spaces; epoch = f.epoch; asked = f.asked; stage = f.stage }) };
+    ghost invariant = { λ f. IsSoundFlipping (record { layout = f.spaces; epoch = f.epoch; asked = f.asked; seen = f.seen; stage = f.stage }) };
 
-    ghost inverse = { λ f. record { spaces = f.layout; epoch = f.epoch; asked = f.asked; stage = f.stage } };
+    ghost inverse = { λ f. record { spaces = f.layout; epoch = f.epoch; asked = f.asked; seen = f.seen; stage = f.stage } };
 }
 
 impl Flip {
-    /// The flip of a mutator of this epoch, which asks for so many pages.
-    pub fn new(spaces: Spaces, epoch: u32, asked: u32) -> Flip
+    /// The flip of a mutator of this epoch, which asks for so many pages, and has seen another flip since its instruction began
+    /// or not.
+    pub fn new(spaces: Spaces, epoch: u32, asked: u32, seen: bool) -> Flip
         requires { epoch + 1 < 2 ^ 32 }
-        ensures { result ≡ begun spaces epoch asked }
+        ensures { result ≡ begun spaces epoch asked seen }
     {
         spaces.known();
         Flip {
             spaces,
             epoch,
             asked,
+            seen,
             stage: FlipStage::LoadsGate,
         }
     }
@@ -67,10 +70,17 @@ impl Flip {
         let spaces = self.spaces;
         match self.stage {
             FlipStage::LoadsGate => Step::Load(spaces.gate_place()),
-            FlipStage::LoadsArea(_) => Step::Load(spaces.area_place(spaces.to_space(self.epoch))),
+            FlipStage::LoadsSize(_) => Step::Load(spaces.size_place(spaces.to_space(self.epoch))),
+            FlipStage::LoadsArea(_, _) => {
+                Step::Load(spaces.area_place(spaces.to_space(self.epoch)))
+            }
+            FlipStage::StoresSize(reset) => Step::Store(
+                spaces.size_place(spaces.to_space(self.epoch + 1)),
+                u64::from(reset.next),
+            ),
             FlipStage::StoresArea(reset) => Step::Store(
                 spaces.area_place(spaces.to_space(self.epoch + 1)),
-                empty_area(spaces, reset.used).pack(),
+                empty_area(reset.next, reset.used).pack(),
             ),
             FlipStage::Exchanges(reset) => Step::Exchange(
                 spaces.gate_place(),
@@ -92,7 +102,17 @@ impl Flip {
     {
         match (self.stage, reply) {
             (FlipStage::LoadsGate, Reply::Value(word)) => self.read_gate(word),
-            (FlipStage::LoadsArea(gate), Reply::Value(word)) => self.read_area(gate, word),
+            (FlipStage::LoadsSize(gate), Reply::Value(word)) => {
+                self.stage = FlipStage::LoadsArea(gate, word as u32);
+                Turn::More
+            }
+            (FlipStage::LoadsArea(gate, size), Reply::Value(word)) => {
+                self.read_area(gate, size, word)
+            }
+            (FlipStage::StoresSize(reset), Reply::Done) => {
+                self.stage = FlipStage::StoresArea(reset);
+                Turn::More
+            }
             (FlipStage::StoresArea(reset), Reply::Done) => {
                 self.stage = FlipStage::Exchanges(reset);
                 Turn::More
@@ -108,13 +128,13 @@ impl Flip {
 
     #[inline(always)]
     fn read_gate(&mut self, word: u64) -> Turn<Flipped>
-        requires { FitsFlipStage self.old.layout.pages (looked word (decode_gate word)) }
+        requires { FitsFlipStage self.old.layout.pages self.old.seen (looked word (decode_gate word)) }
         ensures state { self.new ≡ record self.old { stage = looked word (decode_gate word) } }
         ensures tells { result ≡ told self.new }
     {
         match GateWord::read(word) {
             Some(gate) if gate.running == 0 && gate.behind == 0 => {
-                self.stage = FlipStage::LoadsArea(gate);
+                self.stage = FlipStage::LoadsSize(gate);
                 Turn::More
             }
             Some(_) => self.end(Flipped::NotYet(word)),
@@ -126,17 +146,20 @@ impl Flip {
     }
 
     #[inline(always)]
-    fn read_area(&mut self, gate: GateWord, word: u64) -> Turn<Flipped>
-        requires { FitsFlipStage self.old.layout.pages (read_area self.old.layout.pages gate (decode_area word)) }
-        ensures state { self.new ≡ record self.old { stage = read_area self.old.layout.pages gate (decode_area word) } }
+    fn read_area(&mut self, gate: GateWord, size: u32, word: u64) -> Turn<Flipped>
+        requires size { IsSizeWithin self.old.layout.pages size }
+        requires fits { FitsFlipStage self.old.layout.pages self.old.seen (read_area self.old.layout.pages self.old.seen gate size (decode_area word)) }
+        ensures state { self.new ≡ record self.old { stage = read_area self.old.layout.pages self.old.seen gate size (decode_area word) } }
         ensures tells { result ≡ told self.new }
     {
         self.stage = match AreaWord::read(word) {
-            Some(area) => FlipStage::StoresArea(Reset {
+            Some(area) => FlipStage::StoresSize(Reset {
                 gate,
-                used: used(self.spaces, area),
+                size,
+                next: next_size(self.spaces, self.seen, size, area.front),
+                used: used(size, area),
             }),
-            None => FlipStage::LoadsArea(gate),
+            None => FlipStage::LoadsArea(gate, size),
         };
         Turn::More
     }
@@ -150,23 +173,40 @@ impl Flip {
     }
 }
 
+/// The pages of the other space that are in use from now on. A space grows if it has copied more than half of its words, and if
+/// a flip wasn't enough.
+fn next_size(spaces: Spaces, seen: bool, size: u32, copied: u32) -> u32
+    requires size { IsSizeWithin spaces.pages size }
+    requires copied { copied < 2 ^ 18 }
+    ensures { result ≡ next_size spaces.pages seen size copied }
+{
+    let pages = spaces.pages();
+    if seen || PAGE_WORDS * size < 2 * copied {
+        pages.min(2 * size)
+    } else {
+        size
+    }
+}
+
 /// The words in use: those that are not between FRONT and LOW.
-fn used(spaces: Spaces, area: AreaWord) -> u32
-    ensures { result ≡ used_in spaces.pages area }
+fn used(size: u32, area: AreaWord) -> u32
+    requires { size ≤ 2048 }
+    ensures { result ≡ used_in size area }
 {
     let room = area.low.saturating_sub(area.front);
-    (PAGE_WORDS * spaces.pages()).saturating_sub(room)
+    (PAGE_WORDS * size).saturating_sub(room)
 }
 
 /// The area of the space that is going to be copied into.
-fn empty_area(spaces: Spaces, used: u32) -> AreaWord
-    requires { used ≤ 64 * spaces.pages }
-    ensures area { result ≡ area_reset spaces.pages used }
+fn empty_area(next: u32, used: u32) -> AreaWord
+    requires next { next ≤ 2048 }
+    requires used { used ≤ 64 * 2048 }
+    ensures area { result ≡ area_reset next used }
     ensures fits { AreaFits result }
 {
     AreaWord {
         front: 0,
-        low: PAGE_WORDS * spaces.pages(),
+        low: PAGE_WORDS * next,
         owed: used,
     }
 }

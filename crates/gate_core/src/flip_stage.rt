@@ -7,8 +7,12 @@ use space_map::GateWord;
 pub enum FlipStage {
     /// Load the gate, whether all mutators have stopped and none is behind.
     LoadsGate,
-    /// Load the area of the space that is in use: this was the gate.
-    LoadsArea(GateWord),
+    /// Load the size of the space that is in use: this was the gate.
+    LoadsSize(GateWord),
+    /// Load its area: these were the gate and the size.
+    LoadsArea(GateWord, u32),
+    /// Store the size of the other space.
+    StoresSize(Reset),
     /// Store the area of the other space, which is empty yet.
     StoresArea(Reset),
     /// Exchange the gate that was read for that of the next epoch.

@@ -1,6 +1,6 @@
 //! What holds of the machines. Each function here does nothing: its contract is what is proved.
 
-ghost use Rattle.gate_core.specs.Rows.{Attaches, Requests, FlipsSpaces, TellsForwarded, Resumes, Leaves, Looks, Parks, ExchangeIsTriedAgain, RequestHinders, BehindHinders, NoRequestHinders, LaterEpochHinders, RunningHindersFlip, LostFlipBeginsAgain};
+ghost use Rattle.gate_core.specs.Rows.{Attaches, Requests, FlipsSpaces, TellsForwarded, Resumes, Leaves, Looks, Parks, ExchangeIsTriedAgain, RequestHinders, BehindHinders, NoRequestHinders, LaterEpochHinders, RunningHindersFlip, LostFlipBeginsAgain, GrowsOnceSeen, StaysAtFirst, GrowsPastHalf, StaysAtHalf, GrowsNoFurther};
 ghost use Rattle.gate_core.specs.HeldUp.{PassagesGoOn, FlipsGoOn};
 ghost use Rattle.gate_core.specs.Theorems.{PassagesAreMade, HinderedPassagesShowIt, FlipsKeepWhatTheyRead, FlipsAreMade, HinderedFlipsShowIt};
 
@@ -41,4 +41,9 @@ pub fn rows_are_worked_out()
     ensures later_epoch_hinders { LaterEpochHinders }
     ensures running_hinders_flip { RunningHindersFlip }
     ensures lost_flip_begins_again { LostFlipBeginsAgain }
+    ensures grows_once_seen { GrowsOnceSeen }
+    ensures stays_at_first { StaysAtFirst }
+    ensures grows_past_half { GrowsPastHalf }
+    ensures stays_at_half { StaysAtHalf }
+    ensures grows_no_further { GrowsNoFurther }
 {}

@@ -1,4 +1,6 @@
 pub mod Kept
 pub mod Filling
 pub mod Flips
+pub mod Sizes
+pub mod Aside
 pub mod Whole

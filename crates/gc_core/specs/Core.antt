@@ -1,8 +1,9 @@
 -- What the machine with a collected heap is between two events.
 use Rattle.std.specs.Prelude.{ℕ, List, length}
-pub use Rattle.space_map.specs.Spaces.{is_size}
 use Rattle.mutator_asm.specs.declared.instr.Instr.{Instr}
+pub use Rattle.gc_worker.specs.Config.{has_sizes}
 use Rattle.gc_worker.specs.Laws.Between.{opening_heap}
+use Rattle.gc_worker.specs.Laws.Cycles.{size_of}
 use Rattle.gc_worker.specs.Laws.Step.{Heap}
 use Rattle.gc_worker.specs.declared.config.Config.{Config}
 
@@ -14,8 +15,12 @@ pub record CoreState : Type 0 where
 
 -- the core in which a program begins: a mutator for each section, and the scanners
 abbrev pub opening_core : List (List Instr) → Config → CoreState
-opening_core code config = record { code = code; turns = config.turns; heap = opening_heap config.pages (length code) config.scanners }
+opening_core code config = record { code = code; turns = config.turns; heap = opening_heap config.limit config.pages (length code) config.scanners }
 
 -- the mutators, then the scanners
 abbrev pub workers_of : CoreState → ℕ
 workers_of s = length s.heap.workers
+
+-- the pages in use of the space of its epoch
+abbrev pub size_in : CoreState → ℕ
+size_in s = size_of s.heap.pages s.heap.words

@@ -1,5 +1,6 @@
--- What a cycle keeps, over whole runs: what was copied was live at the last flip, and a heap that is full has no word to waste.
-use Rattle.std.specs.Prelude.{◌≡◌, ℕ, ◌+◌, ◌*◌, ◌<◌, ◌≤◌, ◌==◌, List, Option, Some, None, if◌then◌else◌, zero, suc}
+-- What a cycle keeps, over whole runs: what was copied was live at the last flip, how many pages are in use, and a heap that is full has no
+-- word to waste.
+use Rattle.std.specs.Prelude.{◌≡◌, ℕ, ◌+◌, ◌*◌, ◌-◌, ◌^◌, ◌<◌, ◌≤◌, ◌==◌, ◌&&◌, ◌⊎◌, Bool, List, Option, Some, None, if◌then◌else◌, zero, suc}
 use Rattle.plain_state.specs.declared.end.End.TheVariants as ends
 use Rattle.plain_state.specs.declared.sizes.TheConstants.{PAGE_WORDS}
 use Rattle.plain_state.specs.State.{Plain}
@@ -10,14 +11,16 @@ use Rattle.atom_store.specs.Step.{reply_of}
 use Rattle.heap_state.specs.Cycles.Copies.{CopiedIsLive}
 use Rattle.heap_state.specs.Meaning.Reachable.{IsLive}
 use Rattle.gc_worker.specs.Laws.Copied.{IsTraced}
-use Rattle.gc_worker.specs.Laws.Cycles.{words_claimed}
+use Rattle.gc_worker.specs.Laws.Claims.{epoch_of_heap}
+use Rattle.gc_worker.specs.Laws.Cycles.{Grows, words_claimed}
 use Rattle.gc_worker.specs.Laws.Step.{read}
 use Rattle.gc_worker.specs.Steps.Wanted.{wanted}
 use Rattle.gc_worker.specs.declared.config.Config.{Config}
 use Rattle.gc_worker.specs.declared.steps.stepped.Stepped.{Stepped}
 use Rattle.gc_worker.specs.declared.steps.stepped.Stepped.TheVariants.{Idle, Moved, Effect, Flipped, Ended}
-use Rattle.gc_core.specs.Core.{CoreState, opening_core}
+use Rattle.gc_core.specs.Core.{CoreState, opening_core, size_in}
 use Rattle.gc_core.specs.Event.{core_after, event_of, ready}
+use Rattle.gc_core.specs.Law.{IsLawful}
 use Rattle.gc_core.specs.Readers.{live_of}
 use Rattle.gc_core.specs.Run.{InEveryRun, all_ended, run_of}
 
@@ -48,6 +51,27 @@ pub record KeepsWhatIsLive (s : CoreState) (flip : Plain) : Type 0 where
 abbrev pub CyclesKeepWhatIsLive : Type 0
 CyclesKeepWhatIsLive = InEveryRun (λ code config schedule n. KeepsWhatIsLive (run_of code config schedule n).last (story_of code config schedule n).flip)
 
+-- ---- the pages in use
+
+-- an event that is told as a flip leaves as many, or twice as many as far as the space has them; any other leaves as many
+abbrev pub SizeIsAfter : (limit size next : ℕ) → Stepped → Type 0
+SizeIsAfter limit size next Idle = next ≡ size
+SizeIsAfter limit size next Moved = next ≡ size
+SizeIsAfter limit size next (Effect m) = next ≡ size
+SizeIsAfter limit size next (Ended m why) = next ≡ size
+SizeIsAfter limit size next (Flipped asked) = Grows limit size next
+
+abbrev pub SizesGrowAtFlips : Type 0
+SizesGrowAtFlips = (s : CoreState) (w : ℕ) → IsLawful s → SizeIsAfter s.heap.pages (size_in s) (size_in (core_after s w)) (event_of s w).told
+
+-- so they never become fewer
+abbrev pub SizesNeverFall : Type 0
+SizesNeverFall = (s : CoreState) (w : ℕ) → IsLawful s → size_in s ≤ size_in (core_after s w)
+
+-- in a run there are those in use at first, and no more than the space may have
+abbrev pub SizesAreBetween : Type 0
+SizesAreBetween = InEveryRun (λ code config schedule n. (config.pages ≤ size_in (run_of code config schedule n).last) × (size_in (run_of code config schedule n).last ≤ config.limit))
+
 -- ---- the words claimed for records
 
 abbrev pub claimed_if : CoreState → ℕ → Option Step → ℕ
@@ -75,31 +99,37 @@ claims_of code config schedule n = count_of claims_next code config schedule n
 
 -- ---- a full heap
 
--- What is told as live was live at the last flip. With the room that is left and the words claimed since then it fills the space; so the
--- pages that were asked for don't fit beside it.
-pub record FillsTheSpace (pages : ℕ) (flip : Plain) (claims asked room live : ℕ) : Type 0 where
+-- all pages that a space may have are in use, or the epoch is the last
+abbrev pub HasGrown : (limit : ℕ) → CoreState → Type 0
+HasGrown limit s = (size_in s ≡ limit) ⊎ (epoch_of_heap s.heap ≡ 2 ^ 32 - 1)
+
+-- What is told as live was live at the last flip. With the room that is left and the words claimed since then it fills the pages in use;
+-- so the pages that were asked for don't fit beside it.
+pub record FillsTheSpace (size : ℕ) (flip : Plain) (claims asked room live : ℕ) : Type 0 where
   pub live_is : IsLive flip live
-  pub filled : room + live + claims ≡ PAGE_WORDS * pages
-  pub short : PAGE_WORDS * pages < live + claims + PAGE_WORDS * asked
+  pub filled : room + live + claims ≡ PAGE_WORDS * size
+  pub short : PAGE_WORDS * size < live + claims + PAGE_WORDS * asked
 
 abbrev pub FullHeapsAreFilled : Type 0
 FullHeapsAreFilled = InEveryRun (λ code config schedule n. (w m asked room live : ℕ)
     → (event_of (run_of code config schedule n).last w).told ≡ Ended m (ends.HeapFull asked room live)
-    → FillsTheSpace config.pages (story_of code config schedule n).flip (claims_of code config schedule n) asked room live)
+    → HasGrown config.limit (run_of code config schedule n).last
+    × FillsTheSpace (size_in (run_of code config schedule n).last) (story_of code config schedule n).flip (claims_of code config schedule n) asked room live)
 
 -- ---- flips
 
--- how often mutator m flipped since its last answer, once this is told of an event of worker w
-abbrev pub flips_after : (m flips w : ℕ) → Stepped → ℕ
-flips_after m flips w Idle = flips
-flips_after m flips w Moved = flips
-flips_after m flips w (Effect j) = if j == m then 0 else flips
-flips_after m flips w (Ended j why) = if j == m then 0 else flips
-flips_after m flips w (Flipped asked) = if w == m then flips + 1 else flips
+-- how often mutator m flipped since its last answer with all pages of the space in use, once this is told of an event of worker w, before
+-- which they were or weren't
+abbrev pub flips_after : (m flips : ℕ) → (all_in_use : Bool) → (w : ℕ) → Stepped → ℕ
+flips_after m flips all_in_use w Idle = flips
+flips_after m flips all_in_use w Moved = flips
+flips_after m flips all_in_use w (Effect j) = if j == m then 0 else flips
+flips_after m flips all_in_use w (Ended j why) = if j == m then 0 else flips
+flips_after m flips all_in_use w (Flipped asked) = if w == m && all_in_use then flips + 1 else flips
 
 abbrev pub flips_next : (m : ℕ) → CoreState → ℕ → (flips : ℕ) → ℕ
-flips_next m s w flips = flips_after m flips w (event_of s w).told
+flips_next m s w flips = flips_after m flips (size_in s == s.heap.pages) w (event_of s w).told
 
--- a mutator flips at most once for an instruction
+-- with all pages in use a mutator flips at most once for an instruction
 abbrev pub InstructionsFlipOnce : Type 0
 InstructionsFlipOnce = InEveryRun (λ code config schedule n. (m : ℕ) → count_of (flips_next m) code config schedule n ≤ 1)

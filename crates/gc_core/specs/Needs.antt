@@ -10,7 +10,8 @@ use Rattle.gc_worker.specs.declared.config.Config.{Config}
 use Rattle.gc_worker.specs.declared.steps.stepped.Stepped.TheVariants.{Ended}
 use Rattle.gc_worker.specs.History.Needs.{EachFullIs, EndsWithFlip, HasNoFull, IsEnoughForOne, IsLargeEnough, being_made, flips_in, made_since, first_story}
 use Rattle.gc_worker.specs.History.Tally.{aside_in}
-use Rattle.gc_core.specs.Cycles.{FillsTheSpace, story_of, claims_of}
+use Rattle.gc_core.specs.Core.{size_in}
+use Rattle.gc_core.specs.Cycles.{FillsTheSpace, HasGrown, story_of, claims_of}
 use Rattle.gc_core.specs.Event.{event_of}
 use Rattle.gc_core.specs.Run.{InEveryRun, run_of}
 
@@ -29,14 +30,16 @@ ClaimsAreMadeOrSetAside = InEveryRun (λ code config schedule n.
     claims_of code config schedule n ≤ PAGE_WORDS * made_since code config.turns (run_of code config schedule n).order + aside_in (run_of code config schedule n).last.heap)
 
 -- In a run of n steps, behind these marks of its order, mutator m tells the heap to be full: by the event that follows so many steps. The
--- words that the run has claimed by then, since the last flip, fill the space with what was live at that flip and the room that is left.
--- They are no more than those of the pages of records made since then and those set aside for records that workers make.
+-- words that the run has claimed by then, since the last flip, fill the pages in use with what was live at that flip and the room that is
+-- left. They are no more than those of the pages of records made since then and those set aside for records that workers make. All pages
+-- that a space may have are in use, or the epoch is the last.
 pub record IsFilledByClaims (code : List (List Instr)) (config : Config) (schedule : ℕ → ℕ) (n : ℕ) (front : List Mark) (m asked room live : ℕ) : Type 0 where
   pub steps : ℕ
   pub within : steps < n
   pub reached : (run_of code config schedule steps).order ≡ front
   pub told : (event_of (run_of code config schedule steps).last (schedule steps)).told ≡ Ended m (ends.HeapFull asked room live)
-  pub fills : FillsTheSpace config.pages (story code config.turns front).flip (claims_of code config schedule steps) asked room live
+  pub grown : HasGrown config.limit (run_of code config schedule steps).last
+  pub fills : FillsTheSpace (size_in (run_of code config schedule steps).last) (story code config.turns front).flip (claims_of code config schedule steps) asked room live
   pub for_records : claims_of code config schedule steps ≤ PAGE_WORDS * made_since code config.turns front + aside_in (run_of code config schedule steps).last.heap
 
 -- so is each full heap of the order
@@ -47,23 +50,23 @@ AreFilledByClaims code config schedule n order = (front rest : List Mark) (m ask
 abbrev pub OrdersAreFilledByClaims : Type 0
 OrdersAreFilledByClaims = InEveryRun (λ code config schedule n. AreFilledByClaims code config schedule n (run_of code config schedule n).order)
 
--- at a full heap of an order, what was live at the last flip and the room leave no more of the space than the pages of records made since
--- and of those that the others make next
+-- at a full heap of an order, which is of the largest space or comes in the last epoch, what was live at the last flip and the room leave
+-- no more of the pages in use than those of records made since and of those that the others make next
 abbrev pub OrdersFillTheSpace : Type 0
 OrdersFillTheSpace = InEveryRun (λ code config schedule n.
-    EachFullIs config.pages code config.turns (first_story code) 0 (run_of code config schedule n).order)
+    EachFullIs config.limit config.pages code config.turns (first_story code) 0 0 (run_of code config schedule n).order)
 
 -- a heap that is as large as the run's order needs is never full
 abbrev pub LargeHeapsAreNeverFull : Type 0
 LargeHeapsAreNeverFull = InEveryRun (λ code config schedule n.
-    IsLargeEnough config.pages code config.turns (run_of code config schedule n).order → HasNoFull (run_of code config schedule n).order)
+    IsLargeEnough config.limit config.pages code config.turns (run_of code config schedule n).order → HasNoFull (run_of code config schedule n).order)
 
 -- where there is one mutator its heap is full right after a flip, so that no record was made between the two; or the epoch is the last
 abbrev pub LoneFullsFollowTheirFlips : Type 0
 LoneFullsFollowTheirFlips = InEveryRun (λ code config schedule n. length code ≡ 1 → (front rest : List Mark) (m asked room live : ℕ)
     → (run_of code config schedule n).order ≡ front ++ Full m asked room live ∷ rest → flips_in 0 front < 2 ^ 32 - 1 → EndsWithFlip front)
 
--- the heap of a single mutator is never full where there is room beside what is live, in fewer epochs than there can be
+-- the heap of a single mutator is never full where there is room beside what is live in the largest space, in fewer epochs than there can be
 abbrev pub LoneHeapsAreNeverFull : Type 0
 LoneHeapsAreNeverFull = InEveryRun (λ code config schedule n. length code ≡ 1 → flips_in 0 (run_of code config schedule n).order < 2 ^ 32 - 1
-    → IsEnoughForOne config.pages code config.turns (run_of code config schedule n).order → HasNoFull (run_of code config schedule n).order)
+    → IsEnoughForOne config.limit code config.turns (run_of code config schedule n).order → HasNoFull (run_of code config schedule n).order)

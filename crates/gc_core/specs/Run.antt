@@ -10,7 +10,7 @@ use Rattle.plain_heap.specs.declared.mark.Mark.{Mark}
 use Rattle.gc_worker.specs.declared.config.Config.{Config}
 use Rattle.gc_worker.specs.declared.config.TheConstants.{MOST_TURNS}
 use Rattle.gc_worker.specs.Plain.Marks.{mark_of}
-use Rattle.gc_core.specs.Core.{CoreState, is_size, opening_core}
+use Rattle.gc_core.specs.Core.{CoreState, has_sizes, opening_core}
 use Rattle.gc_core.specs.Event.{event_of, core_after}
 use Rattle.gc_core.specs.Readers.{seen_of}
 
@@ -57,4 +57,4 @@ run_of code config schedule n = run_from schedule 0 n (opening_core code config)
 -- it is so of every run of every program, by any schedule and for any number of steps
 abbrev pub InEveryRun : (List (List Instr) → Config → (ℕ → ℕ) → ℕ → Type 0) → Type 0
 InEveryRun IsSo = (code : List (List Instr)) (items : List Item) (config : Config) (schedule : ℕ → ℕ) (n : ℕ)
-    → IsWellFormed code items → IsTrue (is_size config.pages) → config.turns ≤ MOST_TURNS → config.scanners ≤ MOST_SCANNERS → IsSo code config schedule n
+    → IsWellFormed code items → IsTrue (has_sizes config) → config.turns ≤ MOST_TURNS → config.scanners ≤ MOST_SCANNERS → IsSo code config schedule n

@@ -1,6 +1,6 @@
 //! What holds of all events and runs. Each function here does nothing: its contract is what is proved.
 
-ghost use Rattle.gc_core.specs.Cycles.{CyclesKeepWhatIsLive, FullHeapsAreFilled, InstructionsFlipOnce};
+ghost use Rattle.gc_core.specs.Cycles.{CyclesKeepWhatIsLive, FullHeapsAreFilled, InstructionsFlipOnce, SizesAreBetween, SizesGrowAtFlips, SizesNeverFall};
 ghost use Rattle.gc_core.specs.Law.{EventsMeet, IsLawful};
 ghost use Rattle.gc_core.specs.Needs.{ClaimsAreForRecords, ClaimsAreMadeOrSetAside, LargeHeapsAreNeverFull, LoneFullsFollowTheirFlips, LoneHeapsAreNeverFull, OrdersAreFilledByClaims, OrdersFillTheSpace};
 ghost use Rattle.gc_core.specs.Stores.{ExchangesOfRunsFindTheLastStore, LoadsOfRunsGetTheLastStore};
@@ -66,9 +66,17 @@ pub fn cycles_keep_what_is_live()
     ensures { CyclesKeepWhatIsLive }
 {}
 
-/// Where a run tells that the heap is full, what was live at the last flip, the words claimed since then and the room that is left are all
-/// words of the space; and what was claimed is no more than the pages of records made since then and of those that the other mutators
-/// make next. Each mark of the order that tells the heap to be full comes so, from a step of the run before which just these words were claimed.
+/// In a run a space has as many pages in use as at first, or more, and no more than the limit. A flip leaves as many in use, or twice as
+/// many, as far as the limit goes; no other event changes how many they are.
+pub fn sizes_grow_at_flips()
+    ensures at_flips { SizesGrowAtFlips }
+    ensures never_fall { SizesNeverFall }
+    ensures between { SizesAreBetween }
+{}
+
+/// Where a run tells that the heap is full, as many pages as the limit are in use, or the epoch is the last. What was live at the last flip,
+/// the words claimed since then and the room that is left are all words of these pages; and what was claimed is no more than the pages of
+/// records made since then and of those that the other mutators make next. Each mark of the order that tells the heap to be full comes so, from a step of the run before which just these words were claimed.
 pub fn full_heaps_are_filled()
     ensures filled { FullHeapsAreFilled }
     ensures for_records { ClaimsAreForRecords }
@@ -82,15 +90,17 @@ pub fn claims_are_made_or_set_aside()
     ensures { ClaimsAreMadeOrSetAside }
 {}
 
-/// In a run a mutator flips at most once for an instruction; and with one mutator the heap is full right after a flip, or in the last epoch.
+/// In a run a mutator flips at most once for an instruction if as many pages as the limit are in use; and with one mutator the heap is full
+/// right after a flip, or in the last epoch.
 pub fn instructions_flip_once()
     ensures once { InstructionsFlipOnce }
     ensures lone { LoneFullsFollowTheirFlips }
 {}
 
 /// A heap is never full in which, wherever a flip came since a mutator's last step or the epoch is the last, the mutator's next record fits
-/// beside what was live at the last flip, all records made since then, and those that the others make next. With one mutator, before the
-/// last epoch, it is enough that the record fits beside what is live.
+/// beside what was live at the last flip, all records made since then, and those that the others make next: in as many pages as the limit,
+/// but in the last epoch in those in use at first. With one mutator, before the last epoch, it is enough that the record fits beside what is
+/// live in as many pages as the limit.
 pub fn large_heaps_are_never_full()
     ensures large { LargeHeapsAreNeverFull }
     ensures lone { LoneHeapsAreNeverFull }

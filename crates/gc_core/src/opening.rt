@@ -6,7 +6,7 @@ ghost use Rattle.heap_laws.specs.Opening.{opening_entries};
 ghost use Rattle.gc_worker.specs.Laws.Between.{fresh_worker, fresh_workers};
 ghost use Rattle.space_map.specs.declared.spaces.TheConstants.{LAST_WORKER, MOST_MUTATORS, MOST_SCANNERS};
 ghost use Rattle.gc_worker.specs.declared.config.TheConstants.{MOST_TURNS};
-ghost use Rattle.gc_core.specs.Core.{opening_core, workers_of, is_size};
+ghost use Rattle.gc_core.specs.Core.{opening_core, workers_of, has_sizes};
 
 use crate::machine::Core;
 use crate::slot::Slot;
@@ -17,11 +17,11 @@ use mutator_asm::Program;
 use space_map::{AreaWord, PAGE_WORDS, Spaces};
 use std::alloc::{AllocError, Global};
 
-/// The words before the first step: both spaces are empty, the epoch is traced, and the board is open.
-fn words(alloc: Global, spaces: Spaces) -> Result<PlainAtoms, NoMemory>
-    ensures { IfOk result (λ atoms. atoms ≡ written spaces.pages (opening_entries spaces.pages)) }
+/// The words before the first step: both spaces are empty with so many pages in use, the epoch is traced, and the board is open.
+fn words(alloc: Global, spaces: Spaces, pages: u32) -> Result<PlainAtoms, NoMemory>
+    requires { pages ≤ spaces.pages }
+    ensures { IfOk result (λ atoms. atoms ≡ written spaces.pages (opening_entries spaces.pages pages)) }
 {
-    let pages = spaces.pages();
     let area = AreaWord {
         front: 0,
         low: PAGE_WORDS * pages,
@@ -29,6 +29,8 @@ fn words(alloc: Global, spaces: Spaces) -> Result<PlainAtoms, NoMemory>
     };
     let mut atoms = PlainAtoms::new(alloc, spaces.table_len())?;
     atoms.act(Step::Store(spaces.page_place(spaces.board_page()), unprotect(0)));
+    atoms.act(Step::Store(spaces.size_place(1), u64::from(pages)));
+    atoms.act(Step::Store(spaces.size_place(0), u64::from(pages)));
     atoms.act(Step::Store(spaces.area_place(1), area.pack()));
     atoms.act(Step::Store(spaces.area_place(0), area.pack()));
     atoms.act(Step::Store(spaces.traced_place(), 1));
@@ -63,17 +65,17 @@ fn slots(alloc: Global, spaces: Spaces, mutators: u8, count: u8) -> Result<Vec<S
 }
 
 impl<'p> Core<'p> {
-    /// A core in which nobody has made a step. `BadPages` comes exactly for fewer than 4 pages or more than 2048. The words
-    /// and the room for the most numbers of each mutator are taken here; no later call takes memory.
+    /// A core in which nobody has made a step. `BadPages` comes exactly for fewer than 4 pages at first, for fewer in all than at first, or
+    /// for more than 2048. The words and the room for the most numbers of each mutator are taken here; no later call takes memory.
     pub fn open(alloc: Global, program: &'p Program, config: &Config) -> Result<Core<'p>, OpenError>
         requires scanners { config.now.scanners ≤ MOST_SCANNERS }
         requires turns { (1 ≤ config.now.turns) × (config.now.turns ≤ MOST_TURNS) }
         ensures opened { IfOk result (λ c. c ≡ opening_core program.now.code config.now) }
         ensures workers { IfOk result (λ c. workers_of c ≡ length program.now.code + config.now.scanners) }
-        ensures bad_pages { IsErrOf result OpenError.BadPages ↔ IsTrue (not (is_size config.now.pages)) }
+        ensures bad_pages { IsErrOf result OpenError.BadPages ↔ IsTrue (not (has_sizes config.now)) }
     {
-        let spaces = Spaces::new(config.pages)?;
-        let atoms = words(alloc, spaces)?;
+        let spaces = config.spaces()?;
+        let atoms = words(alloc, spaces, config.pages)?;
         let mutators = program.code.len() as u8;
         let slots = slots(alloc, spaces, mutators, mutators + config.scanners)?;
         Ok(Core {

@@ -70,7 +70,7 @@ impl<'p> Core<'p> {
         self.program.code.len()
     }
 
-    /// The pages of a space.
+    /// The most pages of a space.
     pub fn pages(&self) -> u32
         ensures { result ≡ self.now.heap.pages }
     {

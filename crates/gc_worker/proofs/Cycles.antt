@@ -1,4 +1,5 @@
 pub mod Lows
+pub mod Sizes
 pub mod SetAside
 pub mod Flips
 pub mod Calls

@@ -24,7 +24,7 @@ use Rattle.gc_worker.specs.declared.stage.Stage.TheVariants.{Looks, Passes, Flip
 use Rattle.gc_worker.specs.Plain.Answer.{after_told}
 use Rattle.gc_worker.specs.Workers.Fits.{Fits}
 use Rattle.gc_worker.specs.Steps.Goes.{Is, LeavesToPlain, StepsInTable, StepsSo, Wins, FlipIsOwn}
-use Rattle.gc_worker.specs.Workers.Held.{Held, at_stage}
+use Rattle.gc_worker.specs.Workers.Held.{Held, at_stage, has_seen_flip}
 use Rattle.gc_worker.specs.Workers.Knows.{knows}
 use Rattle.gc_worker.specs.Laws.Step.{Heap, read, nobody, held_at, WorkersStand, moved, at_flip, epoch_of, age, WinsOne, FlipsOnce, FlipsWhereTold, StepKeeps, StepsKeep}
 use Rattle.gc_worker.specs.Steps.Turned.{Told, Silent, Answers, Marks, PageWon, epoch_in_gate, turned, told, won}
@@ -65,18 +65,20 @@ module _ (c : Configuration) (p : Plain) (s : Stands c p) (k : ℕ) (x : Held) w
   passes g after (gate_stage.Exchanges gate) e is = exchanges_gate c p s k x g.layout gate after g.passage is
   passes g after (gate_stage.Ended result) e is = rests c p s k (at_stage x (Passes (record g { stage = gate_stage.Ended result }) after)) refl
 
-  flips_own : (asked : ℕ) (stage : FlipStage) → Kind (Flips (record { layout = x.layout; epoch = x.epoch; asked = asked; stage = stage }))
+  flips_own : (asked : ℕ) (stage : FlipStage) → Kind (Flips (record { layout = x.layout; epoch = x.epoch; asked = asked; seen = has_seen_flip x; stage = stage }))
   flips_own asked flip_stage.LoadsGate is = resetting.loads_gate c p s k x asked is
-  flips_own asked (flip_stage.LoadsArea gate) is = resetting.loads_area c p s k x asked gate is
+  flips_own asked (flip_stage.LoadsSize gate) is = resetting.loads_size c p s k x asked gate is
+  flips_own asked (flip_stage.LoadsArea gate size) is = resetting.loads_area c p s k x asked gate size is
+  flips_own asked (flip_stage.StoresSize r) is = resetting.stores_size c p s k x asked r is
   flips_own asked (flip_stage.StoresArea r) is = resetting.stores_area c p s k x asked r is
   flips_own asked (flip_stage.Exchanges r) is = flips_gate c p s k x asked r is
   flips_own asked (flip_stage.Ended result) is =
-      rests c p s k (at_stage x (Flips (record { layout = x.layout; epoch = x.epoch; asked = asked; stage = flip_stage.Ended result }))) refl
+      rests c p s k (at_stage x (Flips (record { layout = x.layout; epoch = x.epoch; asked = asked; seen = has_seen_flip x; stage = flip_stage.Ended result }))) refl
 
   flips : (f : Flipping) → Kind (Flips f)
   flips f is =
-      let same : f ≡ record { layout = x.layout; epoch = x.epoch; asked = f.asked; stage = f.stage } =
-      (λ i. record { layout = is.fits.stage.layout i; epoch = is.fits.stage.epoch i; asked = f.asked; stage = f.stage }) in
+      let same : f ≡ record { layout = x.layout; epoch = x.epoch; asked = f.asked; seen = has_seen_flip x; stage = f.stage } =
+      (λ i. record { layout = is.fits.stage.layout i; epoch = is.fits.stage.epoch i; asked = f.asked; seen = is.fits.stage.seen i; stage = f.stage }) in
       subst (λ (g : Flipping). StepsSo c p s k (at_stage x (Flips g))) (sym same)
       (flips_own f.asked f.stage (subst (λ (g : Flipping). Is c k (at_stage x (Flips g))) same is))
 

@@ -5,3 +5,4 @@ pub mod Laws
 pub mod Progress
 pub mod Readers
 pub mod History
+pub mod Config

@@ -5,32 +5,24 @@ pub mod board_access;
 pub mod field_access;
 pub mod mixed_access;
 pub mod record_access;
+mod values;
 
-ghost use Rattle.std.specs.Prelude.{◌≡◌, ◌≢◌, ◌+◌, ◌-◌, ◌^◌, ◌<◌, ◌≤◌, ℕ, IsTrue, Ok};
+ghost use Rattle.std.specs.Prelude.{◌≡◌, ◌≢◌, ◌<◌, ℕ, IsTrue};
 ghost use Rattle.atom_store.specs.Step.{place_in};
-ghost use Rattle.heap_words.specs.Decoded.{decode, number_in};
-ghost use Rattle.mmu_model.specs.Access.{access_of};
-ghost use Rattle.space_map.specs.PageWord.{decode_page};
+ghost use Rattle.heap_words.specs.Decoded.{decode};
 ghost use Rattle.space_map.specs.Table.{table_length};
-ghost use Rattle.plain_heap.specs.Action.{in_record};
-ghost use Rattle.gc_worker.specs.Steps.Access.{FitsMixedUse, FitsRecordUse, IsHeapAddress, IsSoundAccess, AccessTakes, advances_at, at_stage, board_at, by_kind, compared, counted_by, counting, field_at, field_of, goes_by, goes_to_field, kind_of, left, let_through, loading, looked, may_store, read_count, read_header, role_of, storing, taken, told, turn_by, used_by, uses_board, uses_field, valued, wanted};
-ghost use Rattle.plain_heap.specs.Call.{may_hold};
+ghost use Rattle.gc_worker.specs.Steps.Access.{FitsRecordUse, IsHeapAddress, IsSoundAccess, AccessTakes, advances_at, at_stage, compared, goes_by, left, looked, read_header, role_of, taken, told, turn_by, wanted};
 ghost use Rattle.heap_laws.specs.Fields.Effects.{FitsRole};
-ghost use Rattle.gc_worker.specs.Plain.Seen.{IsValueWord, value_seen};
 
 use crate::access::access_stage::AccessStage;
-use crate::access::access_words::{
-    field, held, on_board, role_by_count, stored, using_board, using_field,
-};
+use crate::access::access_words::{held, on_board, using_board, using_field};
 use crate::access::accessed::Accessed;
-use crate::access::field_access::{FieldAccess, FieldExchange, FieldUse, Role};
-use crate::access::mixed_access::MixedAccess;
-use crate::access::record_access::{RecordAccess, RecordUse};
+use crate::access::field_access::{FieldAccess, FieldExchange};
+use crate::access::record_access::RecordAccess;
 use atom_store::{Reply, Step, Turn};
-use heap_words::{Kind, Word};
+use heap_words::Word;
 use mmu_model::{Access as Protection, check};
-use plain_state::End;
-use record_layout::{Header, read};
+use record_layout::read;
 use space_map::Spaces;
 
 /// The access that one instruction makes to a record or to the board.
@@ -206,197 +198,6 @@ impl Access {
         match read(word) {
             Some(header) => self.use_record(r, header),
             None => self.go_to(AccessStage::LoadsHeader(r)),
-        }
-    }
-
-    #[inline(always)]
-    fn use_record(&mut self, r: RecordAccess, header: Header) -> Turn<Accessed>
-        requires in_heap { IsHeapAddress self.old.spaces.pages r.at }
-        requires fits { FitsRecordUse r.usage }
-        ensures state { self.new ≡ goes_by self.old (by_kind r header.kind header.len) }
-        ensures tells { result ≡ turn_by (by_kind r header.kind header.len) }
-    {
-        match header.kind {
-            Kind::Fields => self.use_words(r, Role::Field, header.len),
-            Kind::Raw => self.use_words(r, Role::Number, header.len),
-            Kind::Mixed => self.use_mixed(r, header.len.saturating_sub(1)),
-        }
-    }
-
-    /// The values of the record begin behind its header, and all have this role.
-    #[inline(always)]
-    fn use_words(&mut self, r: RecordAccess, role: Role, len: u16) -> Turn<Accessed>
-        requires in_heap { IsHeapAddress self.old.spaces.pages r.at }
-        requires fits { FitsRecordUse r.usage }
-        requires short { len ≤ 4095 }
-        ensures state { self.new ≡ goes_by self.old (used_by r 1 role len r.usage) }
-        ensures tells { result ≡ turn_by (used_by r 1 role len r.usage) }
-    {
-        match r.usage {
-            RecordUse::TellsLength(into) => {
-                let length = Word::number(u64::from(len));
-                Turn::Finished(Accessed::Brings(into, length.0))
-            }
-            RecordUse::Loads(into) => self.load(r, 1, role, len, into),
-            RecordUse::Stores(new) => self.store(r, 1, role, len, FieldUse::Stores(new), new),
-            RecordUse::Exchanges(e) => {
-                self.store(r, 1, role, len, FieldUse::Exchanges(e), e.new)
-            }
-        }
-    }
-
-    #[inline(always)]
-    fn load(
-        &mut self,
-        r: RecordAccess,
-        first: u32,
-        role: Role,
-        len: u16,
-        into: u8,
-    ) -> Turn<Accessed>
-        requires in_heap { IsHeapAddress self.old.spaces.pages r.at }
-        requires behind { 0 < first }
-        requires short { len + first ≤ 4096 }
-        ensures state { self.new ≡ goes_by self.old (loading (field_of r.at first role r.value) into (in_record len r.value)) }
-        ensures tells { result ≡ turn_by (loading (field_of r.at first role r.value) into (in_record len r.value)) }
-    {
-        self.spaces.known();
-        if r.value >= u64::from(len) {
-            return Turn::Finished(Accessed::Fails(End::OutOfRange));
-        }
-        self.go_to_field(
-            field(r.at, first, role, r.value as u32),
-            FieldUse::Loads(into),
-        )
-    }
-
-    #[inline(always)]
-    fn store(
-        &mut self,
-        r: RecordAccess,
-        first: u32,
-        role: Role,
-        len: u16,
-        usage: FieldUse,
-        new: u64,
-    ) -> Turn<Accessed>
-        requires in_heap { IsHeapAddress self.old.spaces.pages r.at }
-        requires behind { 0 < first }
-        requires short { len + first ≤ 4096 }
-        requires is_value { IsValueWord new }
-        ensures state { self.new ≡ goes_by self.old (storing (field_of r.at first role r.value) usage (may_store role new (in_record len r.value))) }
-        ensures tells { result ≡ turn_by (storing (field_of r.at first role r.value) usage (may_store role new (in_record len r.value))) }
-    {
-        self.spaces.known();
-        if r.value >= u64::from(len) {
-            return Turn::Finished(Accessed::Fails(End::OutOfRange));
-        }
-        self.store_in(field(r.at, first, role, r.value as u32), usage, new)
-    }
-
-    /// A mixed record has the value or not by its header; what role it has the count says, which stands behind that.
-    #[inline(always)]
-    fn use_mixed(&mut self, r: RecordAccess, len: u16) -> Turn<Accessed>
-        requires in_heap { IsHeapAddress self.old.spaces.pages r.at }
-        requires short { len ≤ 4095 }
-        ensures state { self.new ≡ goes_by self.old (counted_by r len r.usage) }
-        ensures tells { result ≡ turn_by (counted_by r len r.usage) }
-    {
-        match r.usage {
-            RecordUse::TellsLength(into) => {
-                let length = Word::number(u64::from(len));
-                Turn::Finished(Accessed::Brings(into, length.0))
-            }
-            RecordUse::Loads(into) => self.go_to_count(r, len, FieldUse::Loads(into)),
-            RecordUse::Stores(new) => self.go_to_count(r, len, FieldUse::Stores(new)),
-            RecordUse::Exchanges(e) => self.go_to_count(r, len, FieldUse::Exchanges(e)),
-        }
-    }
-
-    /// A count on the header's own page needs no other look.
-    #[inline(always)]
-    fn go_to_count(&mut self, r: RecordAccess, len: u16, usage: FieldUse) -> Turn<Accessed>
-        requires in_heap { IsHeapAddress self.old.spaces.pages r.at }
-        requires short { len ≤ 4095 }
-        ensures state { self.new ≡ goes_by self.old (counting r.at usage (in_record len r.value)) }
-        ensures tells { result ≡ turn_by (counting r.at usage (in_record len r.value)) }
-    {
-        let spaces = self.spaces;
-        spaces.known();
-        if r.value >= u64::from(len) {
-            return Turn::Finished(Accessed::Fails(End::OutOfRange));
-        }
-        let m = MixedAccess {
-            at: r.at,
-            value: r.value as u32,
-            usage,
-        };
-        if spaces.page_of(m.at) == spaces.page_of(m.at + 1) {
-            self.go_to(AccessStage::LoadsCount(m))
-        } else {
-            self.go_to(AccessStage::LooksAtCount(m))
-        }
-    }
-
-    /// A count's word was read. What is no number can't be there.
-    #[inline(always)]
-    fn read_count(&mut self, m: MixedAccess, word: u64) -> Turn<Accessed>
-        requires in_heap { IsHeapAddress self.old.spaces.pages (m.at + (m.value + 2)) }
-        requires fits { FitsMixedUse m.usage }
-        ensures state { self.new ≡ goes_by self.old (read_count m (number_in (decode word))) }
-        ensures tells { result ≡ turn_by (read_count m (number_in (decode word))) }
-    {
-        match Word(word).as_number() {
-            Some(count) => self.use_value(m, role_by_count(count, m.value)),
-            None => self.go_to(AccessStage::LoadsCount(m)),
-        }
-    }
-
-    /// The values of a mixed record begin behind its count.
-    #[inline(always)]
-    fn use_value(&mut self, m: MixedAccess, role: Role) -> Turn<Accessed>
-        requires in_heap { IsHeapAddress self.old.spaces.pages (m.at + (m.value + 2)) }
-        requires fits { FitsMixedUse m.usage }
-        ensures state { self.new ≡ goes_by self.old (valued m role m.usage) }
-        ensures tells { result ≡ turn_by (valued m role m.usage) }
-    {
-        self.spaces.known();
-        let f = field(m.at, 2, role, m.value);
-        match m.usage {
-            FieldUse::Loads(_) => self.go_to_field(f, m.usage),
-            FieldUse::Stores(new) => self.store_in(f, m.usage, new),
-            FieldUse::Exchanges(e) => self.store_in(f, m.usage, e.new),
-        }
-    }
-
-    /// A register's word is stored there, if it may be.
-    #[inline(always)]
-    fn store_in(&mut self, f: FieldAccess, usage: FieldUse, new: u64) -> Turn<Accessed>
-        requires in_heap { field_at f < 2 ^ 32 }
-        requires behind { (0 < f.first) × (f.first ≤ f.word) }
-        requires is_value { IsValueWord new }
-        ensures state { (x : ℕ) → self.new ≡ goes_by self.old (storing f usage (may_hold (kind_of f.role) x (value_seen new))) }
-        ensures tells { (x : ℕ) → result ≡ turn_by (storing f usage (may_hold (kind_of f.role) x (value_seen new))) }
-    {
-        match stored(f.role, new) {
-            Ok(word) => self.go_to_field(f, usage.with_new(word)),
-            Err(why) => Turn::Finished(Accessed::Fails(why)),
-        }
-    }
-
-    /// A field on the page of the word that was read last needs no other look.
-    #[inline(always)]
-    fn go_to_field(&mut self, f: FieldAccess, usage: FieldUse) -> Turn<Accessed>
-        requires in_heap { field_at f < 2 ^ 32 }
-        requires behind { (0 < f.first) × (f.first ≤ f.word) }
-        ensures state { self.new ≡ at_stage self.old (goes_to_field f usage) }
-        ensures tells { result ≡ Turn.More }
-    {
-        let spaces = self.spaces;
-        if spaces.page_of(f.at + (f.first - 1)) == spaces.page_of(f.at + f.word) {
-            self.go_to(using_field(f, usage))
-        } else {
-            self.go_to(AccessStage::LooksAtField(f, usage))
         }
     }
 

@@ -1,13 +1,36 @@
+ghost use Rattle.std.specs.Prelude.{◌≡◌, ◌≤◌, ◌↔◌, IfOk, IsOk, IsTrue};
+ghost use Rattle.space_map.specs.declared.spaces.TheConstants.{FEWEST_PAGES};
+ghost use Rattle.gc_worker.specs.Config.{has_sizes};
+
+use space_map::{BadPages, FEWEST_PAGES, Spaces};
+
 /// The most instructions that a mutator may execute.
 pub const MOST_TURNS: u32 = 10_000_000;
 
 /// The size of a heap, and who works on it.
 #[derive(Clone, Copy, Debug, PartialEq, Eq)]
 pub struct Config {
-    /// Pages of a space, 4 to 2048.
+    /// Pages of a space that are in use at first, 4 to 2048.
     pub pages: u32,
+    /// Pages of a space that may come into use, as many as at first to 2048.
+    pub limit: u32,
     /// Scanners, at most 8.
     pub scanners: u8,
     /// How many instructions a mutator may execute, 1 to 10,000,000.
     pub turns: u32,
+}
+
+impl Config {
+    /// The layout of its spaces, for as many pages as may come into use. `BadPages` comes exactly if fewer than 4 pages are in use at
+    /// first, or more than may come into use, or more than 2048 may.
+    pub fn spaces(self) -> Result<Spaces, BadPages>
+        ensures pages { IfOk result (λ spaces. spaces.pages ≡ self.limit) }
+        ensures at_first { IfOk result (λ spaces. (FEWEST_PAGES ≤ self.pages) × (self.pages ≤ spaces.pages)) }
+        ensures refused_exactly_outside { IsOk result ↔ IsTrue (has_sizes self) }
+    {
+        if self.pages < FEWEST_PAGES || self.pages > self.limit {
+            return Err(BadPages);
+        }
+        Spaces::new(self.limit)
+    }
 }

@@ -9,8 +9,8 @@ ghost use Rattle.gc_worker.specs.Progress.{MachinesGoOn};
 ghost use Rattle.gc_worker.specs.Workers.Begun.{BeginningsAreKept, FullIsFoundLater};
 ghost use Rattle.gc_worker.specs.Laws.Claims.{TracedPagesAreOpen, FlipsAreOfTraced, PagesAreOpenedByClaims, LowRisesAtFlips, CopiedPagesAreBelowLow};
 ghost use Rattle.gc_worker.specs.Laws.Copied.{CopiedWasLive, FullTellsLive};
-ghost use Rattle.gc_worker.specs.Laws.Cycles.{LowFallsByClaims, ClaimsAreSetAside, SetAsideIsForRecords, FlipsAreFirst, FlipsStayFirst, CallsGoOn};
-ghost use Rattle.gc_worker.specs.Laws.FullTold.{FullIsTold};
+ghost use Rattle.gc_worker.specs.Laws.Cycles.{LowFallsByClaims, SizesStay, SizesAreWithin, SeenFlipsDouble, SizesHold, ClaimsAreSetAside, SetAsideIsForRecords, FlipsAreFirst, FlipsStayFirst, CallsGoOn};
+ghost use Rattle.gc_worker.specs.Laws.FullTold.{FullIsTold, SizesReadAreSo, FullIsToldInHeaps};
 ghost use Rattle.gc_worker.specs.Laws.PastEpochs.{PastClaimsAreLost, PastMarksAreLost, PagesAreWonNow};
 ghost use Rattle.gc_worker.specs.Workers.Counted.{CountedFit, CountsAreApart};
 ghost use Rattle.gc_worker.specs.Laws.Represented.{RepresentedWorkersStand};
@@ -46,7 +46,7 @@ pub fn heaps_open()
     ensures { HeapsOpen }
 {}
 
-/// A worker may become another without a step, where it is the same to the proofs of the heap and still sound.
+/// A worker may become another without a step, if it is the same to the proofs of the heap and still sound.
 pub fn readying_stands()
     ensures { ReadyingStands }
 {}
@@ -67,7 +67,7 @@ pub fn workers_want()
 {}
 
 /// Nothing but a lost exchange holds an access up, whatever words its steps meet, or a word that can't be there. A lost exchange loads
-/// the word again, and the next one is from what stands there then; where that is no longer what is expected, there is none.
+/// the word again, and the next one is from what stands there then; if that is no longer what is expected, there is none.
 pub fn accesses_go_on()
     ensures held_up { AccessesGoOn }
     ensures lost { LostSwapsLoadAgain }
@@ -124,10 +124,12 @@ pub fn what_was_copied_was_live()
     ensures full { FullTellsLive }
 {}
 
-/// A mutator that found its epoch traced tells that the heap is full where the words have no room for the pages that its task asks for,
-/// and no flip can help.
+/// A mutator that found its epoch traced tells that the heap is full if the words have no room for the pages that its task asks for,
+/// and no flip can help. In a heap that stands as many pages of its space are in use as it has read.
 pub fn full_is_told()
-    ensures { FullIsTold }
+    ensures told { FullIsTold }
+    ensures read { SizesReadAreSo }
+    ensures in_heaps { FullIsToldInHeaps }
 {}
 
 /// Once an epoch is traced, the board and all pages into which records were copied are open in it; and no step flips before that.
@@ -136,7 +138,7 @@ pub fn traced_pages_are_open()
     ensures flips { FlipsAreOfTraced }
 {}
 
-/// A page for copies gets a word of the epoch by a claim and no other way: where its word is of the gate's epoch after a step, it was
+/// A page for copies gets a word of the epoch by a claim and no other way: if its word is of the gate's epoch after a step, it was
 /// before, in the same epoch, or the step won the page. LOW, below which these pages lie, rises at a flip alone.
 pub fn pages_are_opened_by_claims()
     ensures opened { PagesAreOpenedByClaims }
@@ -164,9 +166,19 @@ pub fn beginnings_are_kept()
     ensures full { FullIsFoundLater }
 {}
 
-/// Within an epoch LOW falls by the words that allocations claim, and by these alone; a flip sets it to the end of the space.
+/// Within an epoch LOW falls by the words that allocations claim, and by these alone; a flip sets it to the end of the pages in use.
 pub fn low_falls_by_claims()
     ensures { LowFallsByClaims }
+{}
+
+/// Within an epoch as many pages of its space stay in use; the space that is flipped into has as many, or twice as many, as far as there
+/// are so many; twice as many if the mutator that flips has seen a flip since it began its instruction. A step that changes the other
+/// space's size makes it no smaller than that of the space in use.
+pub fn sizes_stay()
+    ensures stay { SizesStay }
+    ensures within { SizesAreWithin }
+    ensures double { SeenFlipsDouble }
+    ensures hold { SizesHold }
 {}
 
 /// What an allocation claims is set aside for the record that its mutator's instruction makes, until the record stands.
@@ -175,8 +187,8 @@ pub fn claims_are_for_records()
     ensures records { SetAsideIsForRecords }
 {}
 
-/// If a mutator that asks for a flip has seen none since it began its instruction, so it is after each step; and it goes on with that
-/// instruction until it answers.
+/// If each mutator that asks for a flip has seen none since it began its instruction, or the space may still grow, so it is after each step;
+/// and it goes on with that instruction until it answers.
 pub fn flips_are_first()
     ensures first { FlipsAreFirst }
     ensures stay { FlipsStayFirst }

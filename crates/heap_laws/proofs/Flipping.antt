@@ -4,3 +4,4 @@ pub mod Workers
 pub mod Flipped
 pub mod Registers
 pub mod Reset
+pub mod Sizes

@@ -60,8 +60,9 @@ pub record MeetsHeader (m : Memory) (a : ℕ) : Type 0 where
   pub counted : kind ≡ header_kinds.Mixed → 0 < len
 
 -- What a scan reads: of a page that isn't the board, the crossing, which lies in the space and not behind the page's first word; the
--- header of the record over that word, which reaches past it; the next header, which is never 0; the count of a mixed record, which has room for so many fields; and a field or a board word,
--- which leads to a record that nobody writes if it is a pointer. All are rows of the table.
+-- header of the record over that word, which reaches past it; the next header, which is never 0; the count of a mixed record, which
+-- has room for so many fields; and a field or a board word, which leads to a record that nobody writes if it is a pointer. All are
+-- rows of the table.
 pub record ScanAnswers (E : Era) (m : Memory) (g : Ghost) (s : Scan) : Type 0 where
   pub crossing : s.page ≢ page_of E.board → (s.page < page_of E.board) × (E.start ≤ m.cross s.page) × (m.cross s.page ≤ first_word s.page)
   pub first : (a : ℕ) → s.page ≢ page_of E.board → s.over ≡ Some a → (a ≤ first_word s.page) × ((h : MeetsHeader m a) × (first_word s.page < a + (h.len + 1)))

@@ -4,7 +4,7 @@ use Rattle.plain_state.specs.State.{Plain}
 use Rattle.heap_state.specs.Memory.Entries.{Entry}
 use Rattle.heap_state.specs.Memory.Era.{Era, Memory}
 use Rattle.heap_state.specs.Invariant.Ghost.{Ghost}
-use Rattle.heap_state.specs.Worker.{Worker, Team, Scan, Round, is_flipper}
+use Rattle.heap_state.specs.Worker.{Worker, Team, Scan, Round, is_flipper, is_sized}
 use Rattle.heap_laws.specs.Steps.{Ready, Steps, StepsTo, with_worker}
 
 -- ---- what may be forgotten
@@ -67,12 +67,15 @@ LessAtPages w v = record {
   last_look : IsLess w.last_look v.last_look;
 }
 
--- And so of the gate. Who flips, or is about to exchange the gate, still knows whether the epoch is traced.
+-- And so of the gate. Who flips still knows whether it has stored the size; who flips, or is about to exchange the gate, whether the
+-- epoch is traced.
 abbrev pub LessAtGate : (w v : Worker) → Type 0
 LessAtGate w v = record {
   gate_step : IsLess w.gate_step v.gate_step;
   reset : IsLess w.reset v.reset;
+  sized : is_sized w.reset ≡ is_sized v.reset;
   traced_seen : w.traced_seen ≡ true → v.traced_seen ≡ true;
+  size_seen : IsLess w.size_seen v.size_seen;
   asks : (is_flipper w.post ≡ true) ⊎ (is_some w.gate_step ≡ true) → w.traced_seen ≡ v.traced_seen;
 }
 
@@ -98,6 +101,13 @@ unaware w = record w { traced_seen = false }
 
 abbrev pub TracedIsForgotten : Type 0
 TracedIsForgotten = (w : Worker) → is_flipper w.post ≡ false → w.gate_step ≡ None → IsAtMost (unaware w) w
+
+-- a worker forgets the size that it has read
+abbrev pub without_size : Worker → Worker
+without_size w = record w { size_seen = None }
+
+abbrev pub SizesAreForgotten : Type 0
+SizesAreForgotten = (w : Worker) → IsAtMost (without_size w) w
 
 -- a scan of which it is not known which record the cursor is in
 abbrev pub of_no_record : Scan → Scan

@@ -1,3 +1,4 @@
 pub mod Flip
 pub mod Registers
 pub mod Reset
+pub mod Sizes

@@ -1,7 +1,8 @@
 -- The gate's other steps: a mutator attaches, parks, asks for a flip, has forwarded its registers, goes on, or leaves. Each is
 -- the exchange of the gate from the word that was read.
-use Rattle.std.specs.Prelude.{◌≡◌, ℕ, ◌+◌, ◌-◌, true, false, Some, None, is_some}
+use Rattle.std.specs.Prelude.{◌≡◌, ℕ, ◌+◌, ◌*◌, ◌-◌, true, false, Some, None, is_some}
 use Rattle.space_map.specs.declared.gate_word.GateWord.{GateWord}
+use Rattle.space_map.specs.declared.spaces.TheConstants.{PAGE_WORDS}
 use Rattle.space_map.specs.GateWord.{GateFits}
 use Rattle.heap_state.specs.Memory.Era.{Era, Memory}
 use Rattle.heap_state.specs.Invariant.Ghost.{Ghost}
@@ -24,9 +25,9 @@ gate_after Leave gate = record gate { live = gate.live - 1; running = gate.runni
 abbrev pub into_epoch : Worker → ℕ → Worker
 into_epoch w epoch = record w { epoch = epoch; done = 0; stock = None; round = None; claim = None; look = None; last_look = None; gate_step = None }
 
--- the worker that runs no more: it knows of no page any more that it is open
+-- the worker that runs no more: it knows of no page any more that it is open, and of no size
 abbrev pub out_of_run : Worker → Worker
-out_of_run w = record w { access = None; opened = None; gate_step = None }
+out_of_run w = record w { access = None; opened = None; size_seen = None; gate_step = None }
 
 -- the worker after a passage, in an epoch
 abbrev pub worker_after : ℕ → Passage → Worker → Worker
@@ -66,3 +67,14 @@ abbrev pub SeeingTracedKeeps : Type 0
 SeeingTracedKeeps = (E : Era) (m : Memory) (team : Team) (g : Ghost) (k : ℕ) → Ready E m team g k
     → is_running (team.worker k).post ≡ true → m.traced ≡ (team.worker k).epoch + 1
     → Steps E m team g k None (record (team.worker k) { traced_seen = true }) g
+
+-- a worker that runs reads the size of the epoch's space
+abbrev pub SeeingSizeKeeps : Type 0
+SeeingSizeKeeps = (E : Era) (m : Memory) (team : Team) (g : Ghost) (k p : ℕ) → Ready E m team g k
+    → is_running (team.worker k).post ≡ true → E.span ≡ PAGE_WORDS * p
+    → Steps E m team g k None (record (team.worker k) { size_seen = Some p }) g
+
+-- what a worker has read as the size of the epoch's space is its size
+abbrev pub SizesAreKnown : Type 0
+SizesAreKnown = (E : Era) (m : Memory) (team : Team) (g : Ghost) (k p : ℕ) → Ready E m team g k
+    → (team.worker k).size_seen ≡ Some p → E.span ≡ PAGE_WORDS * p

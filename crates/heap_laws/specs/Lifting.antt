@@ -1,5 +1,5 @@
 -- From the laws to configurations, once for all: a step writes a row of the table, or none, and one worker becomes another.
-use Rattle.std.specs.Prelude.{◌≡◌, ℕ, ◌+◌, ◌<◌, ⊤, List, length, Option, Some, None, slice_set, ◌≤◌}
+use Rattle.std.specs.Prelude.{◌≡◌, ℕ, ◌+◌, ◌<◌, ⊤, false, List, length, Option, Some, None, slice_set, ◌≤◌}
 use Rattle.plain_state.specs.State.{Plain}
 use Rattle.space_map.specs.Table.{place_of}
 use Rattle.space_map.specs.PageWord.{age_of}
@@ -7,12 +7,14 @@ use Rattle.space_map.specs.declared.gate_word.GateWord.{GateWord}
 use Rattle.space_map.specs.GateWord.{GateFits}
 use Rattle.heap_state.specs.Configuration.{Configuration, Stands, table, era, memory, team}
 use Rattle.heap_state.specs.Cycles.Cycle.{Cycle}
-use Rattle.heap_state.specs.Memory.Entries.{Entry, row_of, word_of, EntryFits, with_entry, GateIs}
+use Rattle.heap_state.specs.Memory.Entries.{Entry, row_of, word_of, EntryFits, with_entry, GateIs, SizeIs}
 use Rattle.heap_state.specs.Invariant.Ghost.{Ghost}
+use Rattle.heap_state.specs.Memory.Era.{from_space}
 use Rattle.heap_state.specs.Memory.Table.{Table}
 use Rattle.heap_state.specs.Worker.{Worker, Reset}
 use Rattle.heap_laws.specs.Steps.{Ready, Steps, StepsTo}
 use Rattle.heap_laws.specs.Flipping.Flip.{Flips, flipped_gate, after_flip, next_ghost}
+use Rattle.heap_laws.specs.Flipping.Sizes.{after_size}
 
 -- ---- one step
 
@@ -65,6 +67,12 @@ StepsAreLifted = (c : Configuration) (p : Plain) (s : Stands c p) (e : Option En
 abbrev pub PlainStepsAreLifted : Type 0
 PlainStepsAreLifted = (c : Configuration) (p q : Plain) (s : Stands c p) (e : Option Entry) (k : ℕ) (w : Worker) (h : Ghost) → k < length c.workers
     → StepsTo (era c) (memory c) (team c) s.ghost k e w h q → LeavesConfiguration c e k w q s.ghost h
+
+-- The store of the other space's size leaves a configuration that stands for the same plain state.
+abbrev pub SizesAreLifted : Type 0
+SizesAreLifted = (c : Configuration) (p : Plain) (s : Stands c p) (k : ℕ) (r : Reset) (q : ℕ) → k < length c.workers
+    → ((team c).worker k).reset ≡ Some r → r.sized ≡ false → r.grown ≡ Some q → q ≤ c.pages
+    → LeavesConfiguration c (Some (SizeIs (from_space (era c).epoch) q)) k (after_size ((team c).worker k) r) p s.ghost s.ghost
 
 -- The flip leaves a configuration that stands for the same plain state, of which a cycle begins. The gate's word fits and says
 -- the next epoch, and no page word changed.

@@ -6,16 +6,23 @@ use Rattle.space_map.specs.Spaces.{IsPageCount, board_page}
 use Rattle.space_map.specs.declared.page_word.PageWord.TheVariants.{Open}
 use Rattle.heap_state.specs.Configuration.{Configuration, Stands, era, memory, team}
 use Rattle.heap_state.specs.Cycles.Cycle.{Cycle}
-use Rattle.heap_state.specs.Memory.Entries.{Entry, TracedIs, AreaIs, PageIs, written}
+use Rattle.heap_state.specs.Memory.Entries.{Entry, TracedIs, AreaIs, SizeIs, PageIs, written}
 use Rattle.heap_state.specs.Worker.{Worker, Outside, Scanner, fresh}
 use Rattle.heap_laws.specs.Flipping.Reset.{whole_area}
 use Rattle.space_map.specs.declared.spaces.TheConstants.{PAGE_WORDS, MOST_MUTATORS, MOST_SCANNERS}
 
 -- ---- the table
 
--- both spaces are whole, the epoch is traced, the board is open, and every other word is 0
-abbrev pub opening_entries : ℕ → List Entry
-opening_entries n = TracedIs 1 ∷ AreaIs 0 (whole_area (PAGE_WORDS * n) 0) ∷ AreaIs 1 (whole_area (PAGE_WORDS * n) 0) ∷ PageIs (board_page n) (Open 0) ∷ []
+-- both spaces are empty with the least number of pages in use, the epoch is traced, the board is open, and every other word is 0
+abbrev pub opening_entries : (n least : ℕ) → List Entry
+opening_entries n least =
+    TracedIs 1
+    ∷ AreaIs 0 (whole_area (PAGE_WORDS * least) 0)
+    ∷ AreaIs 1 (whole_area (PAGE_WORDS * least) 0)
+    ∷ SizeIs 0 least
+    ∷ SizeIs 1 least
+    ∷ PageIs (board_page n) (Open 0)
+    ∷ []
 
 -- ---- the workers
 
@@ -23,10 +30,10 @@ opening_entries n = TracedIs 1 ∷ AreaIs 0 (whole_area (PAGE_WORDS * n) 0) ∷ 
 abbrev pub opening_workers : (mutators scanners : ℕ) → List Worker
 opening_workers mutators scanners = replicate mutators (fresh Outside) ++ replicate scanners (fresh Scanner)
 
-abbrev pub opening_configuration : (n mutators scanners : ℕ) → Configuration
-opening_configuration n mutators scanners = record {
+abbrev pub opening_configuration : (n least mutators scanners : ℕ) → Configuration
+opening_configuration n least mutators scanners = record {
   pages = n;
-  words = written n (opening_entries n);
+  words = written n (opening_entries n least);
   mutators = mutators;
   workers = opening_workers mutators scanners;
 }
@@ -51,5 +58,5 @@ pub record BeginsCycle (c : Configuration) (p : plain.Plain) : Type 0 where
   pub cycle : Cycle (era c) (memory c) (team c) stands.ghost p
 
 abbrev pub OpeningStands : Type 0
-OpeningStands = (n mutators scanners : ℕ) → IsPageCount n → mutators ≤ MOST_MUTATORS → mutators + scanners ≤ MOST_MUTATORS + MOST_SCANNERS
-    → BeginsCycle (opening_configuration n mutators scanners) (opening_plain mutators)
+OpeningStands = (n least mutators scanners : ℕ) → IsPageCount n → 4 ≤ least → least ≤ n → mutators ≤ MOST_MUTATORS → mutators + scanners ≤ MOST_MUTATORS + MOST_SCANNERS
+    → BeginsCycle (opening_configuration n least mutators scanners) (opening_plain mutators)

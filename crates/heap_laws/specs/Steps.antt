@@ -70,7 +70,7 @@ with_word m addr word = record m { heap = put m.heap addr word }
 abbrev pub with_announced : Memory → (worker place : ℕ) → Memory
 with_announced m worker place = record m { announced = put m.announced worker place }
 
--- A row of the table is written, or none, and then the epoch sees this memory. What is written fits its word.
+-- A row of the table is written that is no size, or none, and then the epoch sees this memory. What is written fits its word.
 pub data WritesRow (E : Era) (m : Memory) : Option Entry → Memory → Type 0 where
   NoRow : WritesRow E m None m
   InGate : (gate : GateWord) → GateFits gate → gate.epoch ≡ E.epoch → WritesRow E m (Some (GateIs gate)) (with_gate m gate)

@@ -1,14 +1,15 @@
 //! Steps one after another, and what a worker may forget: an atomic step may be several changes of what it knows.
 
-ghost use Rattle.heap_laws.specs.Composing.{RoundsAreForgotten, TracedIsForgotten, ScannedRecordsAreForgotten, RoundFrontsAreForgotten, StepsForget, StepsAreReady, StepsFollow, PlainStepsForget, PlainStepsAreReady, PlainStepsFollow};
+ghost use Rattle.heap_laws.specs.Composing.{RoundsAreForgotten, TracedIsForgotten, SizesAreForgotten, ScannedRecordsAreForgotten, RoundFrontsAreForgotten, StepsForget, StepsAreReady, StepsFollow, PlainStepsForget, PlainStepsAreReady, PlainStepsFollow};
 ghost use Rattle.heap_laws.specs.Composites.{RegistersArePassed, RegistersFindForwards, RegistersAreSettled, LookingAtLastPageKeeps, ClaimsBegin, RoundsEnd};
 
-/// What a worker may forget: the round of the duty that it is in or FRONT of it, that the epoch is traced, and in which record its scan
-/// is.
+/// What a worker may forget: the round of the duty that it is in or FRONT of it, that the epoch is traced, the size of its space, and in which
+/// record its scan is.
 pub fn knowledge_is_forgotten()
     ensures round { RoundsAreForgotten }
     ensures front { RoundFrontsAreForgotten }
     ensures traced { TracedIsForgotten }
+    ensures size { SizesAreForgotten }
     ensures scanned { ScannedRecordsAreForgotten }
 {}
 

@@ -1,11 +1,13 @@
 //! The gate's other steps: a mutator attaches, parks, asks for a flip, has forwarded its registers, goes on, or leaves.
 
-ghost use Rattle.heap_laws.specs.Gate.{ReadingGateKeeps, SeeingTracedKeeps, PassingGateKeeps, TakingEpochKeeps, GatesFit};
+ghost use Rattle.heap_laws.specs.Gate.{ReadingGateKeeps, SeeingTracedKeeps, SeeingSizeKeeps, SizesAreKnown, PassingGateKeeps, TakingEpochKeeps, GatesFit};
 
-/// What a worker reads of the gate and of TRACED.
+/// What a worker reads of the gate, of TRACED and of SIZE.
 pub fn passages_are_made_ready()
     ensures gate { ReadingGateKeeps }
     ensures traced { SeeingTracedKeeps }
+    ensures size { SeeingSizeKeeps }
+    ensures known { SizesAreKnown }
 {}
 
 /// The exchange of the gate, whichever passage it is for.

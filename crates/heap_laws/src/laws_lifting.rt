@@ -1,6 +1,6 @@
 //! From the laws to configurations. Each function here does nothing: its contract is what is proved.
 
-ghost use Rattle.heap_laws.specs.Lifting.{StandingIsReady, StepsAreLifted, PlainStepsAreLifted, FlipsAreLifted};
+ghost use Rattle.heap_laws.specs.Lifting.{StandingIsReady, StepsAreLifted, PlainStepsAreLifted, SizesAreLifted, FlipsAreLifted};
 
 /// Each worker of a configuration that stands is ready for a step.
 pub fn standing_is_ready()
@@ -12,5 +12,6 @@ pub fn standing_is_ready()
 pub fn steps_are_lifted()
     ensures kept { StepsAreLifted }
     ensures plain { PlainStepsAreLifted }
+    ensures sizes { SizesAreLifted }
     ensures flips { FlipsAreLifted }
 {}

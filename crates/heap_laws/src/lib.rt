@@ -37,7 +37,9 @@ pub use laws_fields::{
     mutators_are_shown, mutators_end, mutators_learn, mutators_step, mutators_store,
     mutators_store_on_board, words_are_loaded,
 };
-pub use laws_flipping::{epochs_are_flipped, flips_are_made_ready, registers_are_forwarded};
+pub use laws_flipping::{
+    epochs_are_flipped, flips_are_made_ready, registers_are_forwarded, sizes_are_stored,
+};
 pub use laws_gating::{epochs_are_taken, gates_are_passed, gates_fit, passages_are_made_ready};
 pub use laws_lifting::{standing_is_ready, steps_are_lifted};
 pub use laws_opening::opening_stands;

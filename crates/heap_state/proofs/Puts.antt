@@ -53,6 +53,12 @@ sum_below-same (suc n) f g h =
     let b : sum_below n f ≡ sum_below n g = sum_below-same n f g (λ x l. h x (omega arith)) in
     omega arith
 
+-- a sum of terms that are all 0
+pub sum_below-none : (n : ℕ) (f : ℕ → ℕ) → ((x : ℕ) → x < n → f x ≡ 0) → sum_below n f ≡ 0
+unfolding sum_below
+sum_below-none zero f h = refl
+sum_below-none (suc n) f h = let a : f n ≡ 0 = h n (omega arith) in let b : sum_below n f ≡ 0 = sum_below-none n f (λ x l. h x (omega arith)) in omega arith
+
 -- one term changes
 pub sum_below-change : (n : ℕ) (f g : ℕ → ℕ) (a : ℕ) → a < n → ((x : ℕ) → x < n → x ≢ a → f x ≡ g x) → sum_below n g + f a ≡ sum_below n f + g a
 unfolding sum_below

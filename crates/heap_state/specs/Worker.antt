@@ -1,5 +1,5 @@
 -- What a worker holds between two steps, by component. Each machine's state is read as these, whatever its phases are.
-use Rattle.std.specs.Prelude.{◌≡◌, ℕ, ◌+◌, ◌<◌, ◌==◌, ◌&&◌, ◌⊎◌, Bool, true, false, List, [], length, Option, None}
+use Rattle.std.specs.Prelude.{◌≡◌, ℕ, ◌+◌, ◌<◌, ◌==◌, ◌&&◌, ◌⊎◌, Bool, true, false, List, [], length, Option, Some, None}
 use Rattle.plain_state.specs.declared.end.End.{End}
 use Rattle.space_map.specs.declared.gate_word.GateWord.{GateWord}
 use Rattle.space_map.specs.declared.page_word.PageWord.{PageWord}
@@ -53,12 +53,20 @@ pub record GateStep : Type 0 where
   pub read : GateWord
   pub passage : Passage
 
--- a flip in progress: the gate read, with nobody running and nobody behind; the words in use, once AREA is read; and
--- whether the new space's AREA is stored
+-- A flip in progress: the gate read, with nobody running and nobody behind; the space's size, once it is read; the size that the
+-- other space gets, and the words in use, once AREA is read; whether that size is stored; and whether the other space's AREA is.
 pub record Reset : Type 0 where
   pub read : GateWord
+  pub size : Option ℕ
+  pub grown : Option ℕ
   pub used : Option ℕ
+  pub sized : Bool
   pub stored : Bool
+
+-- the other space's size is stored
+abbrev pub is_sized : Option Reset → Bool
+is_sized None = false
+is_sized (Some r) = r.sized
 
 -- ---- new records and accesses
 
@@ -184,7 +192,8 @@ pub record Account : Type 0 where
   pub end : Option End
 
 -- A worker: its post, its epoch, its account, its registers and how many of them it has forwarded since the flip; then
--- what it is about to do, and what it knows by what it has read in its epoch: `opened` is a page that it found open.
+-- what it is about to do, and what it knows by what it has read in its epoch: `opened` is a page that it found open, and
+-- `size_seen` the pages in use of the epoch's space.
 pub record Worker : Type 0 where
   pub post : Post
   pub epoch : ℕ
@@ -202,6 +211,7 @@ pub record Worker : Type 0 where
   pub look : Option Look
   pub last_look : Option LastLook
   pub traced_seen : Bool
+  pub size_seen : Option ℕ
   pub gate_step : Option GateStep
   pub reset : Option Reset
 
@@ -232,6 +242,7 @@ fresh post = record {
   look = None;
   last_look = None;
   traced_seen = false;
+  size_seen = None;
   gate_step = None;
   reset = None;
 }

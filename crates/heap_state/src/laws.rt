@@ -1,7 +1,7 @@
 //! What holds of all tables and configurations. Each function here does nothing: its contract is what is proved.
 
 ghost use Rattle.std.specs.Prelude.{ℕ};
-ghost use Rattle.heap_state.specs.Theorems.Rows.{ReadsRows, SpellsShared, StoresGate, StoresTraced, StoresArea, StoresPage, StoresCross, StoresHeapWord, StoresAnnounce, StoresEntry, WritesTables, MemoryFollows};
+ghost use Rattle.heap_state.specs.Theorems.Rows.{ReadsRows, SpellsShared, StoresGate, StoresTraced, StoresArea, StoresSize, StoresPage, StoresCross, StoresHeapWord, StoresAnnounce, StoresEntry, WritesTables, MemoryFollows};
 ghost use Rattle.heap_state.specs.Theorems.Workers.{ChangesAt, SumsByTerms, TeamsByWorkers, FramesOfWorkers};
 ghost use Rattle.heap_state.specs.Theorems.Standing.{StandingIsSound, RepresentedStands, RepresentedStandsInCycle, QuietStandsStill};
 ghost use Rattle.heap_state.specs.Theorems.Examples.{IsWorkedOut, IsWorkedOutFlipped, TellsBroken};
@@ -17,6 +17,7 @@ pub fn rows_change_alone()
     ensures gate { StoresGate }
     ensures traced { StoresTraced }
     ensures area { StoresArea }
+    ensures size { StoresSize }
     ensures page { StoresPage }
     ensures cross { StoresCross }
     ensures heap_word { StoresHeapWord }
@@ -25,8 +26,8 @@ pub fn rows_change_alone()
     ensures written { WritesTables }
 {}
 
-/// What the epoch sees of the table after the store of an area word and after a flip. Its spaces are of whole pages and lie
-/// apart.
+/// What the epoch sees of the table after the store of an area word, after that of the old space's size, and after a flip. Its
+/// spaces are of whole pages and lie apart.
 pub fn memory_follows_table()
     ensures { MemoryFollows }
 {}

@@ -1,3 +1,4 @@
 pub mod Cost
 pub mod Traced
 pub mod Pages
+pub mod Growths

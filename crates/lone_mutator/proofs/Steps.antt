@@ -3,3 +3,4 @@ pub mod Owed
 pub mod GoingOn
 pub mod GoingBack
 pub mod Law
+pub mod Sizes

@@ -1,24 +1,39 @@
 -- How many steps of a lone mutator one instruction may take, and what its parts cost at most.
-use Rattle.std.specs.Prelude.{ℕ, ◌+◌, ◌*◌}
+use Rattle.std.specs.Prelude.{ℕ, ◌+◌, ◌*◌, ◌^◌, nat_lt, if◌then◌else◌}
 use Rattle.space_map.specs.declared.spaces.TheConstants.{PAGE_WORDS}
+use Rattle.heap_state.specs.Functions.{sum_below}
 
 -- ---- the bound
 
 abbrev pub steps_per_page : ℕ
-steps_per_page = 10000
+steps_per_page = 120000
 
 abbrev pub steps_per_pair : ℕ
-steps_per_pair = 20
+steps_per_pair = 240
 
--- the most steps of an instruction, in a heap of so many pages a space
+-- the most steps of an instruction, in a heap whose spaces may have so many pages
 unfoldable pub most_steps : ℕ → ℕ
 most_steps n = steps_per_page * n + steps_per_pair * (n * n)
+
+-- ---- how often a space may still grow
+
+-- 1 if a space of so many pages has fewer than it may have
+abbrev pub grows : (n pages : ℕ) → ℕ
+grows n pages = if nat_lt pages n then 1 else 0
+
+-- how often a space of so many pages may still double: nine times at most, since it has four or more, and no more than 2048
+unfoldable pub growths : (n pages : ℕ) → ℕ
+growths n pages = sum_below 9 (λ i. grows n (pages * 2 ^ i))
+
+-- the most flips that an instruction may request: one for each growth, and one more
+abbrev pub most_flips : ℕ
+most_flips = 10
 
 -- ---- what the parts cost
 
 -- a round of the duty, and the steps before and after it
 abbrev pub round_cost : ℕ → ℕ
-round_cost n = 2 * n + 34
+round_cost n = 2 * n + 35
 
 -- a page: its scan, its opening, and the next round
 abbrev pub page_cost : ℕ → ℕ
@@ -30,7 +45,11 @@ longest_tracing n = page_cost n * (n + 1) + round_cost n + 4 * (PAGE_WORDS * n)
 
 -- a request, the flip, eight registers, and the tracing of the new epoch
 abbrev pub flip_cost : ℕ → ℕ
-flip_cost n = longest_tracing n + 53
+flip_cost n = longest_tracing n + 56
+
+-- so many of these
+unfoldable pub flips_cost : (n flips : ℕ) → ℕ
+flips_cost n flips = flip_cost n * flips
 
 -- the pages that a longest record needs
 abbrev pub most_pages : ℕ
@@ -38,8 +57,8 @@ most_pages = 64
 
 -- an allocation of so many
 abbrev pub longest_placing : ℕ
-longest_placing = 65 * most_pages + 5
+longest_placing = 65 * most_pages + 6
 
 -- a whole instruction, in a traced epoch
 abbrev pub whole_cost : ℕ → ℕ
-whole_cost n = 1 + longest_placing + flip_cost n
+whole_cost n = 1 + longest_placing + most_flips * flip_cost n

@@ -1,8 +1,9 @@
 -- What holds of the steps of a lone mutator: none is in vain.
-use Rattle.std.specs.Prelude.{◌≡◌, ℕ, ◌+◌, ◌<◌, ⊤, false, length, Some, None}
+use Rattle.std.specs.Prelude.{◌≡◌, ℕ, ◌+◌, ◌<◌, ◌≤◌, ⊤, false, length, Some, None}
 use Rattle.plain_state.specs.State.{Plain}
 use Rattle.atom_store.specs.declared.step.Step.{Step}
 use Rattle.atom_store.specs.Step.{words_after, reply_of}
+use Rattle.space_map.specs.declared.spaces.TheConstants.{FEWEST_PAGES}
 use Rattle.space_map.specs.Spaces.{IsPageCount}
 use Rattle.heap_state.specs.Configuration.{Configuration, table}
 use Rattle.heap_state.specs.Memory.Table.{Table, table_of}
@@ -68,4 +69,5 @@ LoneTasksBegin = (h : Heap) (task : Task) → IsLone h
 
 -- a heap of one mutator without scanners opens so
 abbrev pub LoneHeapsOpen : Type 0
-LoneHeapsOpen = (n : ℕ) → IsPageCount n → IsLone (opening_heap n 1 0) × (potential (opening_heap n 1 0) < most_steps n)
+LoneHeapsOpen = (n least : ℕ) → IsPageCount n → FEWEST_PAGES ≤ least → least ≤ n
+    → IsLone (opening_heap n least 1 0) × (potential (opening_heap n least 1 0) < most_steps n)

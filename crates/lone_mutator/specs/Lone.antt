@@ -74,7 +74,8 @@ BackStands ToScanner = ⊥
 
 -- where TRACED was read as of another epoch it is, and the area is as it was read
 abbrev pub PlaceStands : Table → Placing → PlaceStage → Type 0
-PlaceStands t p (place_stage.LoadsArea false) = t.traced ≢ p.epoch + 1
+PlaceStands t p (place_stage.LoadsSize false) = t.traced ≢ p.epoch + 1
+PlaceStands t p (place_stage.LoadsArea false size) = t.traced ≢ p.epoch + 1
 PlaceStands t p (place_stage.ExchangesArea f) = t.area (to_space p.epoch) ≡ f.area
 PlaceStands t p stage = ⊤
 

@@ -22,13 +22,13 @@ pub enum Instr {
     Div(u8, u8, u8),
     /// `rem rd ra rb`: rd becomes the remainder of ra by rb.
     Rem(u8, u8, u8),
-    /// `lt rd ra rb`: rd becomes 1 where ra is less than rb, else 0.
+    /// `lt rd ra rb`: rd becomes 1 if ra is less than rb, else 0.
     Lt(u8, u8, u8),
-    /// `eq rd ra rb`: rd becomes 1 where ra and rb are the same number or the same record, else 0.
+    /// `eq rd ra rb`: rd becomes 1 if ra and rb are the same number or the same record, else 0.
     Eq(u8, u8, u8),
     /// `jmp L`: goes on at the target.
     Jmp(u32),
-    /// `jz ra L`: goes on at the target where ra is the number 0.
+    /// `jz ra L`: goes on at the target if ra is the number 0.
     Jz(u8, u32),
     /// `jal rd L`: rd becomes the number of the next instruction; goes on at the target.
     Jal(u8, u32),
@@ -44,12 +44,12 @@ pub enum Instr {
     Ld(u8, u8, Operand),
     /// `st ra x rb`: word x of the record in ra becomes rb.
     St(u8, Operand, u8),
-    /// `cas rd ra x rb rc`: where word x of the record in ra is what rb is, it becomes rc and rd becomes 1;
+    /// `cas rd ra x rb rc`: if word x of the record in ra is what rb is, it becomes rc and rd becomes 1;
     /// else rd becomes 0.
     Cas(u8, u8, Operand, u8, u8),
     /// `len rd ra`: rd becomes the length of the record in ra.
     Len(u8, u8),
-    /// `isp rd ra`: rd becomes 1 where ra refers to a record, else 0.
+    /// `isp rd ra`: rd becomes 1 if ra refers to a record, else 0.
     Isp(u8, u8),
     /// `get rd x`: rd becomes word x of the board.
     Get(u8, Operand),

@@ -1,11 +1,12 @@
 //! The scan of one page of the to-space, or of the board: what makes a page safe for mutators to see.
 //!
 //! A copied record still has pointers into the old space. Its page is closed until a worker that has claimed it has looked
-//! at each word of its records' fields, and has put in place of each pointer into the old space one to the copy of the
-//! record that it leads to. Records lie packed and over the ends of pages, so a scan begins with the record that lies over
-//! the page's first word, whose address the page's crossing word says. A page that holds FRONT is scanned as the filling
-//! page: there is no record at FRONT yet, so the scan ends there. Where the fields of a mixed record end its header doesn't
-//! say: behind each such header the scan reads the count of fields.
+//! at each field on the page, and has put in place of each pointer into the old space one to the copy of the record that it
+//! leads to. Behind a record's header all words are fields, or none are, by its kind; but behind that of a mixed record stands
+//! the count of its fields, then come these, and then plain numbers. So the scan reads the count of each mixed record, and passes
+//! over the numbers. Records lie packed and over the ends of pages, so a scan begins with the record that lies over the
+//! page's first word, whose address the page's crossing word says. A page that holds FRONT is scanned as the filling page:
+//! there is no record at FRONT yet, so the scan ends there.
 //!
 //! [`Scan`] is a machine: it names its next atomic step, and takes the reply. It asks for the copy of a record by the result
 //! [`Scanned::Ask`], and goes on when it is answered. [`ScanStage`] lists what it does in turn.

@@ -1,16 +1,16 @@
 //! What actions do to the heap and to the mutator.
 
-ghost use Rattle.std.specs.Prelude.{◌≡◌, ◌<◌, ◌+◌, ◌^◌, Ok, Err, length, IsTrue};
+ghost use Rattle.std.specs.Prelude.{◌≡◌, ◌<◌, ◌+◌, ◌^◌, ℕ, Ok, Err, length, IsTrue};
 ghost use Rattle.plain_heap.specs.declared.stop.Stop.TheVariants.{OutOfMemory};
 ghost use Rattle.plain_heap.specs.Call.{performed};
 ghost use Rattle.plain_heap.specs.Memory.{takes_memory};
-ghost use Rattle.plain_heap.specs.Outcome.{IsTried};
+ghost use Rattle.plain_heap.specs.Outcome.{IsExecuted, IsTried};
 
 use crate::action::Action;
 use crate::heap::PlainHeap;
 use crate::mutator::PlainMutator;
 use crate::stop::Stop;
-use plain_state::Value;
+use plain_state::{End, Identity, Value};
 use std::alloc::Global;
 
 /// Mutator m does what an action says. Where it stops, nothing changes.
@@ -51,14 +51,7 @@ pub fn perform(
             mutator.go_on();
         }
         Action::Exchanges(d, i, x, expected, new) => {
-            let found = heap.word(i, x)?;
-            // A reference that the record may not hold is an end whatever stands there.
-            heap.admit(i, x, new)?;
-            let same = found == expected;
-            if same {
-                heap.store(i, x, new)?;
-            }
-            mutator.load(d, Value::Number(u64::from(same)));
+            exchange(heap, mutator, d, i, x, expected, new)?;
         }
         Action::Gets(d, x) => mutator.load(d, heap.board_word(x)),
         Action::Puts(x, value) => {
@@ -71,5 +64,30 @@ pub fn perform(
             mutator.load(d, old);
         }
     }
+    Ok(())
+}
+
+/// A value of a record is exchanged for another, if it is what is expected; the register tells whether it was.
+fn exchange(
+    heap: &mut PlainHeap,
+    mutator: &mut PlainMutator,
+    d: u8,
+    i: Identity,
+    x: u64,
+    expected: Value,
+    new: Value,
+) -> Result<(), End>
+    requires has_turns { mutator.old.executed + 1 < 2 ^ 32 }
+    ensures executed { (m : ℕ) → IsExecuted (performed m heap.old mutator.old (Action.Exchanges d i x expected new)) result heap.old mutator.old heap.new mutator.new }
+    ensures as_many { length heap.new.records ≡ length heap.old.records }
+{
+    let found = heap.word(i, x)?;
+    // A reference that the record may not hold is an end whatever stands there.
+    heap.admit(i, x, new)?;
+    let same = found == expected;
+    if same {
+        heap.store(i, x, new)?;
+    }
+    mutator.load(d, Value::Number(u64::from(same)));
     Ok(())
 }

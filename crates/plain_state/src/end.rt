@@ -10,13 +10,14 @@ use std::fmt;
 pub enum End {
     /// It executed `halt`.
     Halt,
-    /// A number stood where a reference is asked for.
+    /// A register that should hold a reference held a number.
     NotPointer,
-    /// A reference stood where a number is asked for.
+    /// A register that should hold a number held a reference.
     NotNumber,
-    /// A length over 4095, an index past a record's length, or a board word past 15.
+    /// A length over 4095, or over 4094 of a mixed record, an index past a record's length, or a board
+    /// word past 15.
     OutOfRange,
-    /// A reference was to be stored in a raw record.
+    /// A reference was to be stored in a raw record, or behind the fields of a mixed one.
     IntoRaw,
     /// A division by 0.
     ZeroDivisor,

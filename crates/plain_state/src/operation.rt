@@ -19,7 +19,7 @@ pub enum Operation {
     Div,
     /// The remainder.
     Rem,
-    /// 1 where the first is the less, else 0.
+    /// 1 if the first is the less, else 0.
     Lt,
 }
 

@@ -14,6 +14,7 @@ use crate::header::Header;
 use heap_words::{Kind, Tag, Word};
 
 /// The header that this word is, if it is one.
+#[inline(always)]
 pub fn read(w: u64) -> Option<Header>
     ensures decoded { result ≡ header_in (decode w) }
     ensures only_headers { IsSome result ↔ ((tag_of w ≡ Tag.Header) × ((bit_at w 2 ≡ 0) ⊎ (bit_at w 3 ≡ 0))) }

@@ -14,7 +14,7 @@ use clap::builder::ValueParser;
 use clap::{Arg, ArgAction, ArgMatches, Command};
 use std::alloc::{AllocError, Global};
 
-/// The numbers that an option or an operand may have, and the one that it has where it isn't given.
+/// The numbers that an option or an operand may have, and the one that it has if it isn't given.
 #[derive(Clone, Copy, Debug)]
 pub struct Numbers {
     pub least: u32,

@@ -1,7 +1,7 @@
 -- Rows that the table has stand at places of their own, and the table ends after them.
 use Rattle.std.proofs.Common.{◌≡◌, ◌≢◌, ℕ, ◌==◌, ◌<◌, Bool, true, false, Decides, refl, arith, ap}
 use Rattle.std.proofs.lemmas.Bool.Decides.{Decides-eqb, Decides-like, nat_tests}
-use Rattle.space_map.specs.Table.{Row, Gate, Traced, Area, Page, Cross, HeapWord, Announce, IsRow, is_row, place_of, table_length}
+use Rattle.space_map.specs.Table.{Row, Gate, Traced, Area, Size, Page, Cross, HeapWord, Announce, IsRow, is_row, place_of, table_length}
 
 -- the test tells whether the table has the row
 pub is_row-decides : (n : ℕ) (row : Row) → Decides (is_row n row) (IsRow n row)
@@ -16,6 +16,7 @@ abbrev pub row_eq : Row → Row → Bool
 row_eq Gate Gate = true
 row_eq Traced Traced = true
 row_eq (Area x) (Area y) = x == y
+row_eq (Size x) (Size y) = x == y
 row_eq (Page x) (Page y) = x == y
 row_eq (Cross x) (Cross y) = x == y
 row_eq (HeapWord x) (HeapWord y) = x == y
@@ -26,6 +27,7 @@ pub row_eq-decides : (a b : Row) → Decides (row_eq a b) (a ≡ b)
 row_eq-decides Gate Gate = (λ test. refl, λ same. refl)
 row_eq-decides Traced Traced = (λ test. refl, λ same. refl)
 row_eq-decides (Area x) (Area y) = Decides-like (x == y) (ap Area) (λ same. cc) (Decides-eqb x y)
+row_eq-decides (Size x) (Size y) = Decides-like (x == y) (ap Size) (λ same. cc) (Decides-eqb x y)
 row_eq-decides (Page x) (Page y) = Decides-like (x == y) (ap Page) (λ same. cc) (Decides-eqb x y)
 row_eq-decides (Cross x) (Cross y) = Decides-like (x == y) (ap Cross) (λ same. cc) (Decides-eqb x y)
 row_eq-decides (HeapWord x) (HeapWord y) = Decides-like (x == y) (ap HeapWord) (λ same. cc) (Decides-eqb x y)
@@ -40,6 +42,7 @@ unfolding place_of
 same_row n Gate Gate a b same = refl
 same_row n Traced Traced a b same = refl
 same_row n (Area x) (Area y) a b same = let e : x ≡ y = omega arith in ap Area e
+same_row n (Size x) (Size y) a b same = let e : x ≡ y = omega arith in ap Size e
 same_row n (Page x) (Page y) a b same = let e : x ≡ y = omega arith in ap Page e
 same_row n (Cross x) (Cross y) a b same = let e : x ≡ y = omega arith in ap Cross e
 same_row n (HeapWord x) (HeapWord y) a b same = let e : x ≡ y = omega arith in ap HeapWord e

@@ -7,6 +7,7 @@ pub data Row : Type 0 where
   Gate : Row
   Traced : Row
   Area : (space : ℕ) → Row
+  Size : (space : ℕ) → Row
   Page : (page : ℕ) → Row
   Cross : (page : ℕ) → Row
   HeapWord : (addr : ℕ) → Row
@@ -17,6 +18,7 @@ abbrev pub IsRow : ℕ → Row → Type 0
 IsRow n Gate = ⊤
 IsRow n Traced = ⊤
 IsRow n (Area space) = space < 2
+IsRow n (Size space) = space < 2
 IsRow n (Page page) = page ≤ 2 * n
 IsRow n (Cross page) = page < 2 * n
 IsRow n (HeapWord addr) = addr ≤ 128 * n + 63
@@ -27,6 +29,7 @@ abbrev pub is_row : ℕ → Row → Bool
 is_row n Gate = true
 is_row n Traced = true
 is_row n (Area space) = nat_lt space 2
+is_row n (Size space) = nat_lt space 2
 is_row n (Page page) = nat_le page (2 * n)
 is_row n (Cross page) = nat_lt page (2 * n)
 is_row n (HeapWord addr) = nat_le addr (128 * n + 63)
@@ -37,6 +40,7 @@ unfoldable pub place_of : ℕ → Row → ℕ
 place_of n Gate = 0
 place_of n Traced = 2
 place_of n (Area space) = 4 + space
+place_of n (Size space) = 12 + space
 place_of n (Page page) = 16 + page
 place_of n (Cross page) = 17 + 2 * n + page
 place_of n (HeapWord addr) = 17 + 4 * n + addr

@@ -1,6 +1,6 @@
 ghost use Rattle.std.specs.Prelude.{◌≡◌, ◌<◌, ◌≤◌, ◌+◌, ◌*◌, ◌↔◌, IsTrue, IsOk, IfOk};
 ghost use Rattle.space_map.specs.Spaces.{IsPageCount, IsInSpace, board_page, first_word, page_of, space_start, to_space};
-ghost use Rattle.space_map.specs.Table.{Gate, Traced, Area, Page, Cross, HeapWord, Announce, IsRow, place_of, table_length};
+ghost use Rattle.space_map.specs.Table.{Gate, Traced, Area, Size, Page, Cross, HeapWord, Announce, IsRow, place_of, table_length};
 
 use crate::bad_pages::BadPages;
 use std::marker::Model;
@@ -28,6 +28,8 @@ const GATE_PLACE: usize = 0;
 const TRACED_PLACE: usize = 2;
 
 const AREA_START: usize = 4;
+
+const SIZE_START: usize = 12;
 
 const PAGE_START: usize = 16;
 
@@ -160,6 +162,15 @@ impl Spaces {
         ensures in_table { result < table_length self.pages }
     {
         AREA_START + usize::from(space)
+    }
+
+    /// The place of the word that says how many pages of a space are in use.
+    pub fn size_place(self, space: u8) -> usize
+        requires { space < 2 }
+        ensures place { result ≡ place_of self.pages (Size space) }
+        ensures in_table { result < table_length self.pages }
+    {
+        SIZE_START + usize::from(space)
     }
 
     /// The place of a page's word. The board has one too.

@@ -51,6 +51,7 @@ pub fn open_two(alloc: Global, pages: u32) -> Result<(Shared, Seats, Mutator, Mu
 {
     let config = Config {
         pages,
+        limit: pages,
         scanners: 0,
         turns: 1,
     };

@@ -97,6 +97,7 @@ fn as_many_workers_as_there_may_be_run_at_once(rt: HostRuntime) -> Result<(), Fa
     let program = program(rt.alloc(), &sections)?;
     let config = Config {
         pages: 4,
+        limit: 4,
         scanners: SCANNERS,
         turns: 10,
     };

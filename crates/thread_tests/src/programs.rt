@@ -99,6 +99,7 @@ fn all_workers_run_at_once(rt: HostRuntime) -> Result<(), Fail> {
     for scanners in 0..2 {
         let config = Config {
             pages: 4,
+            limit: 4,
             scanners,
             turns: 10,
         };
@@ -110,17 +111,30 @@ fn all_workers_run_at_once(rt: HostRuntime) -> Result<(), Fail> {
     Ok(())
 }
 
+/// The pages at first and in all that no space may have.
+const SIZES: [(u32, u32); 8] = [
+    (0, 4),
+    (3, 4),
+    (4, 3),
+    (256, 255),
+    (4, 2049),
+    (2049, 2048),
+    (2049, 2049),
+    (u32::MAX, u32::MAX),
+];
+
 #[test]
 fn spaces_of_other_sizes_are_refused(rt: HostRuntime) -> Result<(), Fail> {
     let program = program(rt.alloc(), "/.mutator/halt/")?;
-    for pages in [0, 3, 2049, u32::MAX] {
+    for (pages, limit) in SIZES {
         let config = Config {
             pages,
+            limit,
             scanners: 0,
             turns: 10,
         };
         let told = run(&rt, rt.alloc(), &program, &config, &NoPace);
-        assert!(rt; matches!(told, Err(RunError::BadPages)), "{pages}");
+        assert!(rt; matches!(told, Err(RunError::BadPages)), "{pages} {limit}");
     }
     Ok(())
 }
@@ -169,6 +183,7 @@ fn one_mutator_with_scanners_does_as_alone(rt: HostRuntime) -> Result<(), Fail> 
         let program = program(rt.alloc(), alone.lines)?;
         let config = Config {
             pages: 4,
+            limit: 4,
             scanners: alone.scanners,
             turns: 1_000_000,
         };

@@ -1,20 +1,26 @@
 -- The options of runs and of concordances, and the operands of the benchmark, by the rows of what was given.
-use Rattle.std.specs.Prelude.{ℕ, ◌≤◌, IsTrue, List, [], ◌∷◌, codes, unwrap_or}
+use Rattle.std.specs.Prelude.{ℕ, ◌≤◌, IsTrue, List, [], ◌∷◌, Option, Some, None, codes, if◌then◌else◌, nat_le, option_map, unwrap_or}
 use Rattle.clap.specs.Walk.{Row, Text}
 use Rattle.space_map.specs.declared.spaces.TheConstants.{FEWEST_PAGES, MOST_MUTATORS, MOST_PAGES, MOST_SCANNERS}
 use Rattle.space_map.specs.Spaces.{is_size}
+use Rattle.gc_core.specs.Core.{has_sizes}
 use Rattle.gc_worker.specs.declared.config.TheConstants.{MOST_TURNS}
 use Rattle.simple_commands.specs.Options.{number_given}
-use Rattle.simple_commands.specs.Readers.{number_of, was_given}
+use Rattle.simple_commands.specs.Readers.{number_of, number_or, was_given}
 use Rattle.simple_commands.specs.declared.options.Numbers.{Numbers}
 use Rattle.ael_commands.specs.declared.arguments.operands.BenchOperands.{BenchOperands}
 use Rattle.ael_commands.specs.declared.arguments.options.ConcordOptions.{ConcordOptions}
 use Rattle.ael_commands.specs.declared.arguments.options.RunOptions.{RunOptions}
 use Rattle.ael_commands.specs.declared.arguments.options.SimOptions.{SimOptions}
+use Rattle.ael_commands.specs.Runs.Simulation.{config}
 
 -- `--pages`
 abbrev pub pages_option : Text × Numbers
 pages_option = (codes "pages", record { least = FEWEST_PAGES; most = MOST_PAGES; default = 256 })
+
+-- `--limit`. If it isn't given it is what `--pages` is, so the default here is never read.
+abbrev pub limit_option : Text × Numbers
+limit_option = (codes "limit", record { least = FEWEST_PAGES; most = MOST_PAGES; default = 256 })
 
 -- `--scanners`
 abbrev pub scanners_option : Text × Numbers
@@ -61,7 +67,7 @@ bench_wide = seed_option ∷ []
 
 -- the tables of `run`
 abbrev pub run_numbers : List (Text × Numbers)
-run_numbers = pages_option ∷ scanners_option ∷ turns_option ∷ []
+run_numbers = pages_option ∷ limit_option ∷ scanners_option ∷ turns_option ∷ []
 
 abbrev pub run_wide : List Text
 run_wide = []
@@ -81,7 +87,7 @@ concord_flags = []
 
 -- the tables of `sim`
 abbrev pub sim_numbers : List (Text × Numbers)
-sim_numbers = pages_option ∷ scanners_option ∷ turns_option ∷ steps_option ∷ []
+sim_numbers = pages_option ∷ limit_option ∷ scanners_option ∷ turns_option ∷ steps_option ∷ []
 
 abbrev pub sim_wide : List Text
 sim_wide = seed_option ∷ []
@@ -89,26 +95,42 @@ sim_wide = seed_option ∷ []
 abbrev pub sim_flags : List Text
 sim_flags = order_flag ∷ cycles_flag ∷ dump_flag ∷ []
 
-abbrev pub run_options_of : List Row → RunOptions
-run_options_of rows = record {
-  pages = number_given pages_option rows;
+abbrev pub pages_given : List Row → ℕ
+pages_given rows = number_given pages_option rows
+
+abbrev pub limit_given : List Row → ℕ
+limit_given rows = number_or (pages_given rows) limit_option.0 rows
+
+-- the options of a run, as they were given
+abbrev pub run_options_in : List Row → RunOptions
+run_options_in rows = record {
+  pages = pages_given rows;
+  limit = limit_given rows;
   scanners = number_given scanners_option rows;
   turns = number_given turns_option rows;
   cycles = was_given cycles_flag rows;
   dump = was_given dump_flag rows;
 }
 
-abbrev pub sim_options_of : List Row → SimOptions
-sim_options_of rows = record {
-  run = run_options_of rows;
+-- the options of a run, unless fewer pages may come into use than are in use at first
+abbrev pub run_options_of : List Row → Option RunOptions
+run_options_of rows = if nat_le (pages_given rows) (limit_given rows) then Some (run_options_in rows) else None
+
+-- those of a run by a schedule, which is this run
+abbrev pub sim_options_in : List Row → RunOptions → SimOptions
+sim_options_in rows run = record {
+  run = run;
   steps = number_given steps_option rows;
   seed = number_of seed_option rows;
   order = was_given order_flag rows;
 }
 
--- a space may have so many pages, there may be so many scanners, and a mutator may execute so many instructions
+abbrev pub sim_options_of : List Row → Option SimOptions
+sim_options_of rows = option_map (sim_options_in rows) (run_options_of rows)
+
+-- so many pages of a space may be in use at first and in all, there may be so many scanners, and a mutator may execute so many instructions
 pub record AreInRange (options : RunOptions) : Type 0 where
-  pub pages : IsTrue (is_size options.pages)
+  pub sizes : IsTrue (has_sizes (config options))
   pub scanners : options.scanners ≤ MOST_SCANNERS
   pub turns : (1 ≤ options.turns) × (options.turns ≤ MOST_TURNS)
 

@@ -1,5 +1,6 @@
 -- What the words of the command line ask for.
-use Rattle.std.specs.Prelude.{◌≡◌, ◌⊎◌, ⊤, List, Option, None, codes, option_map, if◌then◌else◌}
+use Rattle.std.specs.Prelude.{◌≡◌, ◌⊎◌, ⊤, List, Option, Some, None, codes, option_map, if◌then◌else◌}
+use Rattle.std.specs.Option.{option_and_then}
 use Rattle.std.specs.Str.{bytes_eq}
 use Rattle.clap.specs.Walk.{Row, Text}
 use Rattle.clap.specs.Simple.{subcommand_of}
@@ -10,18 +11,18 @@ use Rattle.ael_commands.specs.declared.arguments.job.Job.TheVariants.{Asm, Bench
 use Rattle.ael_commands.specs.Arguments.CommandLine.{ael_app}
 use Rattle.ael_commands.specs.Arguments.Options.{AreInRange, AreConcordOptions, IsDepth, bench_numbers, bench_wide, concord_numbers, concord_options_of, concord_wide, operands_of, run_numbers, run_options_of, run_wide, sim_numbers, sim_options_of, sim_wide}
 
--- the job of a subcommand, by its name and its rows; there are `asm`, `sim`, `run`, `concord` and `bench`
-abbrev pub job_from : Text × List Row → Job
+-- the job of a subcommand, by its name and its rows, if it can be; there are `asm`, `sim`, `run`, `concord` and `bench`
+abbrev pub job_from : Text × List Row → Option Job
 job_from p =
-    if bytes_eq p.0 (codes "asm") then Asm
-    else (if bytes_eq p.0 (codes "sim") then Sim (sim_options_of p.1)
-    else (if bytes_eq p.0 (codes "run") then Run (run_options_of p.1)
-    else (if bytes_eq p.0 (codes "concord") then Concord (concord_options_of p.1)
-    else Bench (operands_of p.1))))
+    if bytes_eq p.0 (codes "asm") then Some Asm
+    else (if bytes_eq p.0 (codes "sim") then option_map (λ options. Sim options) (sim_options_of p.1)
+    else (if bytes_eq p.0 (codes "run") then option_map (λ options. Run options) (run_options_of p.1)
+    else (if bytes_eq p.0 (codes "concord") then Some (Concord (concord_options_of p.1))
+    else Some (Bench (operands_of p.1)))))
 
--- the job that the words ask for: `clap` takes them as a command line of `ael`, and they name a subcommand
+-- the job that the words ask for: `clap` takes them as a command line of `ael`, and they name a subcommand that can be done
 abbrev pub job_of : List Text → Option Job
-job_of words = if takes ael_app words then option_map job_from (subcommand_of ael_app words) else None
+job_of words = if takes ael_app words then option_and_then job_from (subcommand_of ael_app words) else None
 
 -- a subcommand of the command line, with rows whose values can be read
 abbrev pub IsKnown : Text × List Row → Type 0

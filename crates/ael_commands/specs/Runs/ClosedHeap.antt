@@ -13,7 +13,7 @@ use Rattle.ael_commands.specs.declared.arguments.options.RunOptions.{RunOptions}
 use Rattle.ael_commands.specs.Runs.Run.{IsRunOf, Threaded}
 use Rattle.ael_commands.specs.Runs.Told.{RunReport, told_of}
 
--- what is told of it, by the pages of a space and what the run told
+-- what is told of it, by the pages that a space may have and what the run told
 abbrev pub told_by : ℕ → Outputs → RunReport
 told_by pages outputs = record {
   seen = map printed_by outputs.mutators.items;

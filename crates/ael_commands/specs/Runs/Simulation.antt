@@ -14,7 +14,7 @@ use Rattle.ael_commands.specs.Runs.Schedule.{scheduled_by}
 
 -- the heap and the workers of a run
 abbrev pub config : RunOptions → Config
-config options = record { pages = options.pages; scanners = options.scanners; turns = options.turns }
+config options = record { pages = options.pages; limit = options.limit; scanners = options.scanners; turns = options.turns }
 
 -- the core in which the run of a program begins
 abbrev pub core_of : SimOptions → List (List Instr) → CoreState
@@ -29,16 +29,16 @@ abbrev pub simulated_run : SimOptions → List (List Instr) → List Item → Ra
 simulated_run options program items = run_from (scheduled options program items) 0 options.steps (core_of options program)
 
 -- Each end for want of room comes where copying is done and too few words are free, and no flip could help: one came since the
--- instruction was begun, or there can be no more.
+-- instruction was begun and all pages that the space may have are in use, or there can be no more flips.
 abbrev pub IsFullWithoutRoom : SimOptions → List (List Instr) → List Item → Type 0
 IsFullWithoutRoom options program items = EachEvent IsFull (scheduled options program items) 0 options.steps (core_of options program)
 
 -- This is the run of the program by its schedule. Heap full comes only without room: what was live at the last exchange of the spaces, and
--- records made since, fill the space; so do, with the room that is left, the words of the pages that the run claimed since. And a heap that
--- is as large as the order needs is never full.
+-- records made since, fill the pages in use; so do, with the room that is left, the words of the pages that the run claimed since. And a
+-- heap that may become as large as the order needs is never full; after as many flips as there can be, its pages at first have to be enough.
 pub record IsSimulated (options : SimOptions) (program : List (List Instr)) (items : List Item) (ran : Ran) : Type 0 where
   pub is : ran ≡ simulated_run options program items
   pub full : IsFullWithoutRoom options program items
-  pub filled : EachFullIs options.run.pages program options.run.turns (first_story program) 0 ran.order
+  pub filled : EachFullIs options.run.limit options.run.pages program options.run.turns (first_story program) 0 0 ran.order
   pub claimed : AreFilledByClaims program (config options.run) (scheduled options program items) options.steps ran.order
-  pub large : IsLargeEnough options.run.pages program options.run.turns ran.order → HasNoFull ran.order
+  pub large : IsLargeEnough options.run.limit options.run.pages program options.run.turns ran.order → HasNoFull ran.order

@@ -9,11 +9,11 @@ use Rattle.ael_commands.specs.Tasks.ProgramTask.{IsMadeOf}
 use Rattle.ael_commands.specs.Runs.Run.{IsRun, Scheduled}
 use Rattle.ael_commands.specs.Tasks.Task.{Nothing, Task}
 
--- How it is run: with some pages and one more for each key, one scanner, as many turns and steps as there may be, and by the words of the
--- seed that the text doesn't take.
+-- How it is run: with some pages and one more for each key, all in use from the start, one scanner, as many turns and steps as there may
+-- be, and by the words of the seed that the text doesn't take.
 abbrev pub bench_options : BenchOperands → SimOptions
 bench_options operands = record {
-  run = record { pages = SPARE_PAGES + 2 ^ operands.depth; scanners = 1; turns = turns_option.1.most; cycles = true; dump = false };
+  run = record { pages = SPARE_PAGES + 2 ^ operands.depth; limit = SPARE_PAGES + 2 ^ operands.depth; scanners = 1; turns = turns_option.1.most; cycles = true; dump = false };
   steps = steps_option.1.most;
   seed = Some (seed_behind operands.seed);
   order = false;

@@ -10,9 +10,10 @@ use Rattle.ael_commands.specs.declared.status.Status.{Status}
 use Rattle.ael_commands.specs.declared.status.Status.TheVariants.{Done, HeapFull, LongWord, NoMemory}
 use Rattle.ael_commands.specs.Tasks.Task.{Everything, Task}
 
--- The heap, with one scanner. How many instructions a mutator may execute has no meaning for a concordance.
+-- The heap, with all its pages in use from the start and one scanner. How many instructions a mutator may execute has no meaning for a
+-- concordance.
 abbrev pub concord_config : ConcordOptions → Config
-concord_config options = record { pages = options.pages; scanners = 1; turns = MOST_TURNS }
+concord_config options = record { pages = options.pages; limit = options.pages; scanners = 1; turns = MOST_TURNS }
 
 -- a word of the text is too long, and the first line that has one is told
 pub record TellsLongWord (text : List ℕ) (status : Status) : Type 0 where

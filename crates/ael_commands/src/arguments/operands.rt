@@ -59,9 +59,11 @@ impl BenchOperands {
         ensures value { result ≡ bench_options self }
         ensures range { AreInRange result.run }
     {
+        let pages = SPARE_PAGES + key_count(self.depth);
         SimOptions {
             run: RunOptions {
-                pages: SPARE_PAGES + key_count(self.depth),
+                pages,
+                limit: pages,
                 scanners: 1,
                 turns: TURNS.1.most,
                 cycles: true,

@@ -6,9 +6,19 @@ use gc_worker::MOST_TURNS;
 use simple_commands::{Numbers, is_given, number_of, wide_number};
 use space_map::{FEWEST_PAGES, MOST_MUTATORS, MOST_PAGES, MOST_SCANNERS};
 
-/// The pages of a space.
+/// The pages of a space that are in use at first.
 pub const PAGES: (&str, Numbers) = (
     "pages",
+    Numbers {
+        least: FEWEST_PAGES,
+        most: MOST_PAGES,
+        default: 256,
+    },
+);
+
+/// The pages of a space that may come into use. If it isn't given, those are the ones in use at first, so the default here is never read.
+pub const LIMIT: (&str, Numbers) = (
+    "limit",
     Numbers {
         least: FEWEST_PAGES,
         most: MOST_PAGES,
@@ -69,7 +79,7 @@ pub const CYCLES: &str = "cycles";
 pub const DUMP: &str = "dump";
 
 /// The options of `run` with a number of 32 bits.
-pub const RUN_NUMBERS: [(&str, Numbers); 3] = [PAGES, SCANNERS, TURNS];
+pub const RUN_NUMBERS: [(&str, Numbers); 4] = [PAGES, LIMIT, SCANNERS, TURNS];
 
 /// The options of `run` with a number of 64 bits: there are none.
 pub const RUN_WIDE: [&str; 0] = [];
@@ -87,7 +97,7 @@ pub const CONCORD_WIDE: [&str; 0] = [];
 pub const CONCORD_FLAGS: [&str; 0] = [];
 
 /// The options of `sim` with a number of 32 bits.
-pub const SIM_NUMBERS: [(&str, Numbers); 4] = [PAGES, SCANNERS, TURNS, STEPS];
+pub const SIM_NUMBERS: [(&str, Numbers); 5] = [PAGES, LIMIT, SCANNERS, TURNS, STEPS];
 
 /// The options of `sim` with a number of 64 bits, and no default.
 pub const SIM_WIDE: [&str; 1] = [SEED];
@@ -100,6 +110,7 @@ pub const SIM_FLAGS: [&str; 3] = [ORDER, CYCLES, DUMP];
 #[derive(Clone, Copy, Debug, PartialEq, Eq)]
 pub struct RunOptions {
     pub pages: u32,
+    pub limit: u32,
     pub scanners: u32,
     pub turns: u32,
     pub cycles: bool,
@@ -107,26 +118,36 @@ pub struct RunOptions {
 }
 
 impl RunOptions {
-    ghost use Rattle.std.specs.Prelude.{◌≡◌};
+    ghost use Rattle.std.specs.Prelude.{◌≡◌, IfSome};
     ghost use Rattle.clap.specs.Matches.{found_of};
     ghost use Rattle.clap.specs.Walk.{rows_of};
     ghost use Rattle.simple_commands.specs.Options.{HoldOptions};
     ghost use Rattle.ael_commands.specs.Arguments.Options.{AreInRange, run_numbers, run_options_of, run_wide};
     ghost use Rattle.ael_commands.specs.Runs.Simulation.{config};
 
-    /// The options that were given, and the defaults of the others.
-    pub fn given(matches: &ArgMatches) -> RunOptions
+    /// The options that were given, and the defaults of the others; none if fewer pages may come into use than are at first.
+    pub fn given(matches: &ArgMatches) -> Option<RunOptions>
         requires { HoldOptions run_numbers run_wide (rows_of (found_of matches.now)) }
         ensures value { result ≡ run_options_of (rows_of (found_of matches.now)) }
-        ensures range { AreInRange result }
+        ensures range { IfSome result AreInRange }
     {
-        RunOptions {
-            pages: number_of(matches, PAGES),
+        let pages = number_of(matches, PAGES);
+        let numbers = Numbers {
+            default: pages,
+            ..LIMIT.1
+        };
+        let limit = number_of(matches, (LIMIT.0, numbers));
+        if limit < pages {
+            return None;
+        }
+        Some(RunOptions {
+            pages,
+            limit,
             scanners: number_of(matches, SCANNERS),
             turns: number_of(matches, TURNS),
             cycles: is_given(matches, CYCLES),
             dump: is_given(matches, DUMP),
-        }
+        })
     }
 
     /// The heap and its workers.
@@ -136,6 +157,7 @@ impl RunOptions {
     {
         Config {
             pages: self.pages,
+            limit: self.limit,
             scanners: self.scanners as u8,
             turns: self.turns,
         }
@@ -152,24 +174,24 @@ pub struct SimOptions {
 }
 
 impl SimOptions {
-    ghost use Rattle.std.specs.Prelude.{◌≡◌};
+    ghost use Rattle.std.specs.Prelude.{◌≡◌, IfSome};
     ghost use Rattle.clap.specs.Matches.{found_of};
     ghost use Rattle.clap.specs.Walk.{rows_of};
     ghost use Rattle.simple_commands.specs.Options.{HoldOptions};
     ghost use Rattle.ael_commands.specs.Arguments.Options.{AreInRange, sim_numbers, sim_options_of, sim_wide};
 
-    /// The options that were given, and the defaults of the others.
-    pub fn given(matches: &ArgMatches) -> SimOptions
+    /// The options that were given, and the defaults of the others, if there are such of a run.
+    pub fn given(matches: &ArgMatches) -> Option<SimOptions>
         requires { HoldOptions sim_numbers sim_wide (rows_of (found_of matches.now)) }
         ensures value { result ≡ sim_options_of (rows_of (found_of matches.now)) }
-        ensures range { AreInRange result.run }
+        ensures range { IfSome result (λ options. AreInRange options.run) }
     {
-        SimOptions {
-            run: RunOptions::given(matches),
+        Some(SimOptions {
+            run: RunOptions::given(matches)?,
             steps: number_of(matches, STEPS),
             seed: wide_number(matches, SEED),
             order: is_given(matches, ORDER),
-        }
+        })
     }
 }
 
@@ -206,6 +228,7 @@ impl ConcordOptions {
     {
         Config {
             pages: self.pages,
+            limit: self.pages,
             scanners: 1,
             turns: MOST_TURNS,
         }

@@ -1,6 +1,7 @@
 //! The words of the command line, read to a job.
 
-ghost use Rattle.std.specs.Prelude.{◌≡◌, Err, IfOk, IfSome, OnOk, Some, map, option_map, string_bytes, true, false};
+ghost use Rattle.std.specs.Prelude.{◌≡◌, Err, IfOk, IfSome, OnOk, Some, map, string_bytes, true, false};
+ghost use Rattle.std.specs.Option.{option_and_then};
 ghost use Rattle.clap.specs.Matches.{found_of};
 ghost use Rattle.clap.specs.Simple.{subcommand_of, subcommand_rows_of};
 ghost use Rattle.clap.specs.Takes.{takes};
@@ -18,26 +19,26 @@ use clap::ArgMatches;
 use simple_commands::{WordsError, parse};
 use std::alloc::Global;
 
-/// The job of a subcommand, by its name and what was given for it.
+/// The job of a subcommand, by its name and what was given for it, if that can be.
 fn job_named(name: &str, given: &ArgMatches) -> Option<Job>
     requires { IsKnown (name.now, rows_of (found_of given.now)) }
-    ensures value { result ≡ Some (job_from (name.now, rows_of (found_of given.now))) }
+    ensures value { result ≡ job_from (name.now, rows_of (found_of given.now)) }
     ensures range { IfSome result NumbersAreInRange }
 {
     match name {
         "asm" => Some(Job::Asm),
-        "sim" => Some(Job::Sim(SimOptions::given(given))),
-        "run" => Some(Job::Run(RunOptions::given(given))),
+        "sim" => Some(Job::Sim(SimOptions::given(given)?)),
+        "run" => Some(Job::Run(RunOptions::given(given)?)),
         "concord" => Some(Job::Concord(ConcordOptions::given(given))),
         "bench" => Some(Job::Bench(BenchOperands::given(given))),
         _ => None,
     }
 }
 
-/// The job of the subcommand that was used.
+/// The job of the subcommand that was used, if it can be.
 fn job_in(matches: &ArgMatches) -> Option<Job>
     requires { IfSome (subcommand_rows_of matches.now) IsKnown }
-    ensures value { result ≡ option_map job_from (subcommand_rows_of matches.now) }
+    ensures value { result ≡ option_and_then job_from (subcommand_rows_of matches.now) }
     ensures range { IfSome result NumbersAreInRange }
 {
     let (name, given) = matches.subcommand()?;
@@ -58,7 +59,7 @@ fn parsed<'a>(alloc: Global, words: &'a [String]) -> Result<ArgMatches<'a>, Word
 }
 
 /// Reads the words after the program's name. They are refused exactly where `clap` does not take
-/// them or they name no subcommand; want of memory can come at any words.
+/// them, they name no subcommand, or they ask for fewer pages in all than at first; want of memory can come at any words.
 pub fn read_words(alloc: Global, words: &[String]) -> Result<Job, WordsError>
     ensures asked { IsAsked (job_of (map string_bytes words.now)) result }
     ensures range { IfOk result NumbersAreInRange }

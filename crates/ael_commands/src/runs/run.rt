@@ -14,7 +14,6 @@ use ael_threads::{NoPace, RunError};
 use gc_core::what_stands_is_told;
 use mutator_asm::Program;
 use plain_heap::NoMemory;
-use space_map::Spaces;
 use std::alloc::Global;
 use std::marker::Sync;
 use std::sync::Wait;
@@ -33,10 +32,11 @@ fn closed<R: Threads + Wait + Sync>(
     // The theorem that the proof takes.
     what_stands_is_told();
 
-    let Ok(spaces) = Spaces::new(options.pages) else {
+    let config = options.config();
+    let Ok(spaces) = config.spaces() else {
         unreachable!("a space may have so many pages")
     };
-    match ael_threads::run(rt, alloc, program, &options.config(), &NoPace) {
+    match ael_threads::run(rt, alloc, program, &config, &NoPace) {
         Ok(outputs) => Ok(ClosedHeap::new(spaces, outputs)),
         Err(RunError::NoMemory) => Err(NoMemory),
         Err(RunError::BadPages) => unreachable!("a space may have so many pages"),

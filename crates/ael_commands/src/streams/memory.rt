@@ -56,7 +56,9 @@ impl Source for MemSource {
         ensures fails_only_if_the_count_rose { result ≡ got.Failed → Rose self.old.faults self.new.faults }
         ensures counts_failures_alone { result ≢ got.Failed → self.new.faults ≡ self.old.faults }
         ensures counts_the_call { self.new.calls ≡ next_call self.old.calls }
+        ensures counts_one { result ≡ got.Failed → self.new.faults ≡ next_call self.old.faults }
         ensures fails_exactly_where_listed { (result ≡ got.Failed) ↔ IsTrue (is_listed self.old.fails self.new.calls) }
+        ensures gives_all_that_fits { result ≢ got.Failed → 0 < length self.old.left → result ≡ got.Bytes (min (length buf.old) (length self.old.left)) }
         ensures keeps_its_list { self.new.fails ≡ self.old.fails }
     {
         self.calls = self.calls.saturating_add(1);
@@ -121,6 +123,7 @@ impl MemSink {
     /// Counts a fault.
     fn fail(&mut self) -> Put
         ensures answer { result ≡ put.Failed }
+        ensures counts_one { self.new.faults ≡ next_call self.old.faults }
         ensures counted { Rose self.old.faults self.new.faults × (self.old.faults ≤ self.new.faults) }
         ensures rest { self.new ≡ record self.old { faults = self.new.faults } }
     {
@@ -141,6 +144,7 @@ impl Sink for MemSink {
         ensures fails_only_if_the_count_rose { result ≡ put.Failed → Rose self.old.faults self.new.faults }
         ensures counts_failures_alone { result ≢ put.Failed → self.new.faults ≡ self.old.faults }
         ensures counts_the_call { self.new.calls ≡ next_call self.old.calls }
+        ensures counts_one { result ≡ put.Failed → self.new.faults ≡ next_call self.old.faults }
         ensures fails_exactly_where_listed_or_full { (result ≡ put.Failed) ↔ IsTrue (is_to_fail self.old self.new.calls) }
         ensures takes_all_that_fits { result ≢ put.Failed → result ≡ put.Took (min (length piece.now) (room_left self.old)) }
         ensures keeps_its_list_and_room { (self.new.fails ≡ self.old.fails) × (self.new.room ≡ self.old.room) }

@@ -4,6 +4,7 @@
 //! what a reader has left or what a writer holds, a clause says what became of it.
 
 ghost use Rattle.std.specs.Prelude.{◌≡◌, ◌≢◌, ◌<◌, ◌≤◌, None, length};
+ghost use Rattle.ael_commands.specs.Streams.Memory.{next_call};
 ghost use Rattle.ael_commands.specs.Streams.Stream.{Reads, ReadsKnown, Rose, Writes, WritesKnown};
 ghost use Rattle.ael_commands.specs.declared.streams.source.Got.TheVariants as got;
 ghost use Rattle.ael_commands.specs.declared.streams.sink.Put.TheVariants as put;
@@ -39,6 +40,7 @@ impl<R: Read> StdSource<R> {
     /// Counts a read that failed.
     fn failed_read(&mut self) -> Got
         ensures answer { result ≡ got.Failed }
+        ensures counts_one { self.new.faults ≡ next_call self.old.faults }
         ensures counted { self.old.faults ≤ self.new.faults × Rose self.old.faults self.new.faults }
         ensures reader { self.new.reader ≡ self.old.reader }
     {
@@ -57,6 +59,7 @@ impl<R: Read> Source for StdSource<R> {
         ensures bytes { Reads None result buf.new None }
         ensures never_falls { self.old.faults ≤ self.new.faults }
         ensures fails_only_if_the_count_rose { result ≡ got.Failed → Rose self.old.faults self.new.faults }
+        ensures counts_one { result ≡ got.Failed → self.new.faults ≡ next_call self.old.faults }
         ensures counts_failures_alone { result ≢ got.Failed → self.new.faults ≡ self.old.faults }
         ensures gives_what_the_reader_had_left { ReadsKnown (R.remaining self.old.reader) result buf.new (R.remaining self.new.reader) }
     {
@@ -99,6 +102,7 @@ impl<W: Write> StdSink<W> {
     /// Counts a write that failed.
     fn failed_write(&mut self) -> Put
         ensures answer { result ≡ put.Failed }
+        ensures counts_one { self.new.faults ≡ next_call self.old.faults }
         ensures counted { self.old.faults ≤ self.new.faults × Rose self.old.faults self.new.faults }
         ensures writer { self.new.writer ≡ self.old.writer }
     {
@@ -117,6 +121,7 @@ impl<W: Write> Sink for StdSink<W> {
         ensures bytes { Writes None result piece.now None }
         ensures never_falls { self.old.faults ≤ self.new.faults }
         ensures fails_only_if_the_count_rose { result ≡ put.Failed → Rose self.old.faults self.new.faults }
+        ensures counts_one { result ≡ put.Failed → self.new.faults ≡ next_call self.old.faults }
         ensures counts_failures_alone { result ≢ put.Failed → self.new.faults ≡ self.old.faults }
         ensures adds_to_what_the_writer_holds { WritesKnown (W.contents self.old.writer) result piece.now (W.contents self.new.writer) }
     {

@@ -1,10 +1,12 @@
 //! A source and a sink that never fail.
 
-ghost use Rattle.std.specs.Prelude.{◌≡◌, ◌<◌, ◌≤◌, ◌⊎◌, None, Some, length, map, string_bytes};
+ghost use Rattle.std.specs.Prelude.{◌≡◌, ◌≢◌, ◌<◌, ◌≤◌, ◌⊎◌, None, Some, length, map, min, string_bytes};
 ghost use Rattle.ael_commands.specs.declared.arguments.job.Job.{Job};
 ghost use Rattle.ael_commands.specs.declared.streams.reading.TheConstants.{LONGEST_INPUT};
 ghost use Rattle.ael_commands.specs.declared.streams.sink.Put.TheVariants as put;
+ghost use Rattle.ael_commands.specs.declared.streams.source.Got.TheVariants as got;
 ghost use Rattle.ael_commands.specs.Arguments.Jobs.{job_task};
+ghost use Rattle.ael_commands.specs.Streams.Stream.{Reads};
 ghost use Rattle.ael_commands.specs.Streams.Sure.{GoesAs};
 ghost use Rattle.ael_commands.specs.Arguments.Words.{job_of};
 
@@ -46,7 +48,12 @@ impl Source for SureSource {
 
     ghost faults = { λ _. 0 };
 
-    fn read(&mut self, buf: &mut [u8]) -> Got {
+    fn read(&mut self, buf: &mut [u8]) -> Got
+        requires { 0 < length buf.old }
+        ensures bytes { Reads (Some self.old) result buf.new (Some self.new) }
+        ensures never_fails { result ≢ got.Failed }
+        ensures gives_all_that_fits { 0 < length self.old → result ≡ got.Bytes (min (length buf.old) (length self.old)) }
+    {
         let count = buf.len().min(self.bytes.len() - self.at);
         if count == 0 {
             return Got::End;

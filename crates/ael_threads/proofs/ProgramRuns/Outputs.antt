@@ -51,7 +51,8 @@ use Rattle.ael_threads.proofs.Lists.Elements.{each_apart, each_both}
 use Rattle.gc_worker.specs.History.Needs.{EachFullIs, EachMayCome}
 use Rattle.gc_worker.specs.History.Needs as needs
 use Rattle.gc_worker.specs.History.Order.{order_of}
-use Rattle.gc_worker.specs.History.Tally.{tasks_held}
+use Rattle.gc_worker.specs.History.Tally.{size_now, tally, tasks_held}
+use Rattle.gc_worker.specs.Laws.Cycles.{size_of}
 use Rattle.ael_threads.specs.Histories.{opening_tally}
 use Rattle.gc_worker.proofs.History.Lone.{lone_is_never_full}
 use Rattle.gc_worker.proofs.History.Needs.{large_is_never_full, orders_fill}
@@ -297,17 +298,18 @@ module _ (code : List (List Instr)) (config : Config) (t : TableId) (ms : List S
         }
 
     -- each full heap of its order
-    fulls : EachFullIs config.pages code config.turns (needs.first_story code) 0 (order_of c.log) × EachMayCome (λ j. false) 0 (order_of c.log)
+    fulls : EachFullIs config.limit config.pages code config.turns (needs.first_story code) 0 0 (order_of c.log) × EachMayCome (λ j. false) 0 (order_of c.log)
     fulls =
         let sections : length p.mutators ≡ length code = length-replicate (length code) opening_mutator in
-        subst (λ (z : Plain). EachFullIs config.pages code config.turns (record { flip = z; now = z }) 0 (order_of c.log) × EachMayCome (λ j. false) 0 (order_of c.log)) (opens_so code)
-        (orders_fill code config.turns (tasks_held c.workers) config.pages (opening_tally plan_here) 0 (λ j. false) c.log c.legal sections
+        subst (λ (z : Plain × ℕ × ℕ). EachFullIs z.1 z.2 code config.turns (record { flip = z.0; now = z.0 }) 0 0 (order_of c.log) × EachMayCome (λ j. false) 0 (order_of c.log))
+        (λ i. (opens_so code i, c.sized.limit i, c.sized.least i))
+        (orders_fill code config.turns (tasks_held c.workers) c.sizes (opening_tally plan_here) 0 (λ j. false) c.log c.legal sections
         (fetched_each code config.turns p c.log c.legal (λ m below. (executes m (omega (arith, below, sections))).1.fetched))
         (λ j task q e its none. absurd (let ended = (ended_at j q its).3 in let never = sym none ∙ ended in cc))
         c.entries (omega arith) (λ m e. e))
 
     -- THE CLAUSE OF RUN
-    pub runs_so : (told : Outputs) → told.words ≡ words → length told.words ≡ table_length config.pages → told.regs.items ≡ map seat_registers ms → Tells h told → Runs code config told
+    pub runs_so : (told : Outputs) → told.words ≡ words → length told.words ≡ table_length config.limit → told.regs.items ≡ map seat_registers ms → Tells h told → Runs code config told
     runs_so told same all regs tells =
         let from : p ≡ opening code = opens_so code in
         record {
@@ -325,13 +327,16 @@ module _ (code : List (List Instr)) (config : Config) (t : TableId) (ms : List S
           epoch = tells.cycles ∙ c.epoch;
           left = workers_left;
           shows = λ m q is. shown_at m q told regs (ap (λ (z : Plain). slice_get (after_all z c.log).mutators m) from ∙ is);
+          sizes = c.sizes;
+          sized = c.sized;
+          size = subst (λ (z : List ℕ). size_of config.limit z ≡ size_now c.sizes (tally (opening_tally plan_here) c.log)) (sym same) c.size;
           entries = c.entries;
           flipped = c.all_flipped;
           tells = subst (λ (z : List ℕ). Tells (heap_of plan_here z c.workers) told) (sym same) tells;
           filled = fulls.0;
           follows = fulls.1;
-          large = large_is_never_full config.pages code config.turns (order_of c.log) fulls.0 fulls.1;
-          lone = λ one few enough. lone_is_never_full config.pages code config.turns one (order_of c.log) order.acts fulls.1 fulls.0 few enough;
+          large = large_is_never_full config.limit config.pages code config.turns (order_of c.log) fulls.0 fulls.1;
+          lone = λ one few enough. lone_is_never_full config.limit config.pages code config.turns one (order_of c.log) order.acts fulls.1 fulls.0 few enough;
           full = λ m q end is e. full_at m q end (ap (λ (z : Plain). slice_get (after_all z c.log).mutators m) from ∙ is) e;
         }
 
@@ -342,7 +347,7 @@ module _ (code : List (List Instr)) (config : Config) (t : TableId) (ms : List S
       let tells : Tells (heap_of plan_here told.words c.workers) told = record {
         mutators = is.printed ∙ (seen_told many few run scanned c ∙ ap (λ (z : List ℕ). seen_in (heap_of plan_here z c.workers)) (sym same));
         cycles = is.cycles;
-        live = is.live ∙ ap (λ (e : ℕ). live_said e (word_in config.pages told.words Traced) (word_in config.pages told.words (Area (to_space e)))) is.cycles;
+        live = is.live ∙ ap (λ (e : ℕ). live_said e (word_in config.limit told.words Traced) (word_in config.limit told.words (Area (to_space e)))) is.cycles;
         registers = is.registers ∙ registers_told many few run scanned c;
         kept = ap (map as_kept) is.kept ∙ kept_told many few run scanned c;
       } in

@@ -37,7 +37,7 @@ use Rattle.gc_worker.specs.Laws.Step.{FlipsWhereTold}
 use Rattle.gc_worker.specs.declared.steps.allocating.Making.{Making}
 use Rattle.gc_worker.specs.Plain.Seen.{seen}
 use Rattle.gc_worker.specs.declared.calls.did.Did.{Did}
-use Rattle.gc_worker.specs.Steps.Turned.{Told, Silent, Answers, Marks, acted, acts, begins, end_by_shortage, ended, full_by, finds_full, looked_by, passes, started, told, told_access, told_acted, told_action, told_at, told_effect, told_end, told_flip, told_full, told_gate, told_look, told_place, told_start, turned, turned_access, turned_at, turned_flip, turned_look, turned_place, with_record}
+use Rattle.gc_worker.specs.Steps.Turned.{Told, Silent, Answers, Marks, acted, acts, begins, end_by_shortage, ended, full_by, is_full, looked_by, passes, started, told, told_access, told_acted, told_action, told_at, told_effect, told_end, told_flip, told_full, told_gate, told_look, told_place, told_start, turned, turned_access, turned_at, turned_flip, turned_look, turned_place, with_record}
 use Rattle.gc_worker.proofs.Between.Pages.Claims.{flips_at}
 use Rattle.gc_worker.proofs.Workers.ApartFromCount.{counted_fit}
 
@@ -133,7 +133,7 @@ module _ (x : Held) where
 
   shortage_stays : (s : Shortage) (traced : Bool) → Stays ⊤ x (full_by x s traced) (told_full x s traced)
   shortage_stays s false = tt
-  shortage_stays s true = full_stays (finds_full x) (end_by_shortage s) _
+  shortage_stays s true = full_stays (is_full x s) (end_by_shortage s) _
 
   placed_stays : (run : Run) (at : ℕ) (made : Option Making) → Stays ⊤ x (with_record x run at made) (told_effect x.task)
   placed_stays run at (Some m) = effect_stays (with_record x run at (Some m)) refl refl x.task

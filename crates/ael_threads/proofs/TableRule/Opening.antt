@@ -5,6 +5,7 @@ use lib.ListN.{get_elem?}
 use Rattle.atomic_table.specs.Table as table
 use Rattle.heap_laws.specs.Opening.{opening_entries}
 use Rattle.heap_state.specs.Memory.Entries.{written}
+use Rattle.space_map.specs.declared.spaces.TheConstants.{FEWEST_PAGES}
 use Rattle.space_map.specs.Spaces.{IsPageCount}
 use Rattle.gc_worker.specs.Laws.Between.{fresh_mutator, fresh_scanner, fresh_worker, fresh_workers}
 use Rattle.gc_worker.specs.Laws.Cycles.{IsInCall}
@@ -22,7 +23,7 @@ use Rattle.ael_threads.proofs.Lists.Elements.{not_empty, prefix_self}
 use Rattle.gc_worker.proofs.History.Opening.{opening_tallied}
 
 abbrev pub first_words : Plan → List ℕ
-first_words plan = written plan.spaces.pages (opening_entries plan.spaces.pages)
+first_words plan = written plan.spaces.pages (opening_entries plan.spaces.pages plan.least)
 
 -- the workers as they stand in the list
 abbrev first_workers : Plan → List Held
@@ -78,17 +79,17 @@ fresh_looks n mutators from zero m x is call = absurd (some-ne-none x (sym is))
 fresh_looks n mutators from (suc count) zero x is call = new_looks n mutators from (subst (λ (y : Held). IsInCall y.stage) (sym (some-injective (fresh_worker n mutators from) x is)) call)
 fresh_looks n mutators from (suc count) (suc m) x is call = fresh_looks n mutators (from + 1) count m x is call
 
-pub opens_kept : (plan : Plan) → IsPageCount plan.spaces.pages → plan.mutators ≤ 16 → crew plan ≤ 24 → RuleHolds plan (table.opening {S = ℕ} (first_words plan) [] (first_view plan))
-opens_kept plan size few all = record {
+pub opens_kept : (plan : Plan) → IsPageCount plan.spaces.pages → FEWEST_PAGES ≤ plan.least → plan.least ≤ plan.spaces.pages → plan.mutators ≤ 16 → crew plan ≤ 24 → RuleHolds plan (table.opening {S = ℕ} (first_words plan) [] (first_view plan))
+opens_kept plan size fewest most few all = record {
   log = [];
   workers = first_workers plan;
   count = count_is plan.spaces.pages plan.mutators 0 (crew plan);
   owner = λ n. 0;
   winner = λ c. 0;
   legal = tt;
-  stands = heaps_open plan.spaces.pages plan.mutators plan.scanners size few all;
-  last = scanners_begin_last plan.spaces.pages plan.mutators plan.scanners;
-  tallied = opening_tallied plan.spaces.pages plan.mutators plan.scanners size few all (first_plain plan);
+  stands = heaps_open plan.spaces.pages plan.least plan.mutators plan.scanners size fewest most few all;
+  last = scanners_begin_last plan.spaces.pages plan.least plan.mutators plan.scanners;
+  tallied = opening_tallied plan.spaces.pages plan.least plan.mutators plan.scanners size fewest most few all (first_plain plan);
   begun = λ m x is call. absurd (fresh_looks plan.spaces.pages plan.mutators 0 (crew plan) m x is call);
   flipped = λ m front rest task asked room live is. absurd (not_empty front rest _ is);
   seats = λ id v at. one id v at;

@@ -172,8 +172,8 @@ module _ (plan : Plan) (id : ℕ) (was : Hand) (x : Held) (others : List Hand) (
   apart : CountsApart count x
   apart = counts_are_apart n plan.mutators m count x follows.fits
 
-  readied_tallied : IsTallied (heap_of plan s.words workers1) (opening_tally plan) b.log
-  readied_tallied = task_tallied (heap_of plan s.words b.workers) m y inside (subst (λ (w : Held). Begins w y) (sym old_is) (begins_counted count was.worker x follows.begins)) (opening_tally plan) b.log b.tallied
+  readied_tallied : IsTallied plan.least (heap_of plan s.words workers1) (opening_tally plan) b.log
+  readied_tallied = task_tallied (heap_of plan s.words b.workers) m y inside (subst (λ (w : Held). Begins w y) (sym old_is) (begins_counted count was.worker x follows.begins)) plan.least (opening_tally plan) b.log b.tallied
 
   law : StepKeeps (heap_of plan s.words workers1) p o m y q
   law = steps_keep (heap_of plan s.words workers1) p o m y q readied inside1 (get_or-set_same b.workers m y nobody inside) (apart.wants ∙ want)
@@ -214,9 +214,9 @@ module _ (plan : Plan) (id : ℕ) (was : Hand) (x : Held) (others : List Hand) (
   stands' = subst (λ (w : Plain × Plain). WorkersStand heap' w.0 w.1)
       (λ i. ((ap (after_told p m) tells ∙ sym (after_more (first_plain plan) b.log m t)) i, (ap (at_flip p o) tells ∙ sym (flip_more (first_plain plan) (first_plain plan) b.log m t)) i)) law.stands
 
-  tallied' : IsTallied heap' (opening_tally plan) log'
-  tallied' = subst (λ (u : Told). IsTallied heap' (opening_tally plan) (b.log ++ extra m u)) tells
-      (step_tallied (heap_of plan s.words workers1) m y q inside1 (get_or-set_same b.workers m y nobody inside) (apart.wants ∙ want) (opening_tally plan) b.log readied_tallied
+  tallied' : IsTallied plan.least heap' (opening_tally plan) log'
+  tallied' = subst (λ (u : Told). IsTallied plan.least heap' (opening_tally plan) (b.log ++ extra m u)) tells
+      (step_tallied (heap_of plan s.words workers1) m y q inside1 (get_or-set_same b.workers m y nobody inside) (apart.wants ∙ want) plan.least (opening_tally plan) b.log readied_tallied
       (subst (λ (w : Plain × Plain). WorkersStand (heap_of plan s.words workers1) w.0 w.1) (λ i. (sym (tally_now (opening_tally plan) b.log) i, sym (tally_flip (opening_tally plan) b.log) i)) readied))
 
   last' : ScannersAreLast heap'

@@ -106,8 +106,8 @@ fresh_shown : (plan : Plan) (k : ℕ) → IsPageCount plan.spaces.pages → plan
     → IsShown (first_plain plan).heap k (first_held plan k) q
 fresh_shown plan k size few all below q its =
     let n = plan.spaces.pages in
-    let h : Heap = opening_heap n plan.mutators plan.scanners in
-    let so = what_stands_is_so h (first_plain plan) (first_plain plan) (heaps_open n plan.mutators plan.scanners size few all) in
+    let h : Heap = opening_heap n n plan.mutators plan.scanners in
+    let so = what_stands_is_so h (first_plain plan) (first_plain plan) (heaps_open n n plan.mutators plan.scanners size size.0 (omega arith) few all) in
     let same : 0 + k ≡ k = omega arith in
     let held : held_at h k ≡ counted 0 (first_held plan k) = get_of h.workers k (first_held plan (0 + k)) nobody (worker_at n plan.mutators 0 (crew plan) k below) ∙ (ap (first_held plan) same ∙ sym (uncounted_first n plan.mutators k)) in
     subst (λ (x : Held). IsShown (first_plain plan).heap k x q) (uncounted_first n plan.mutators k)

@@ -38,7 +38,7 @@ use Rattle.ael_threads.specs.declared.view.Hand.{Hand}
 use Rattle.ael_threads.specs.declared.view.Plan.{Plan}
 use Rattle.ael_threads.specs.declared.view.View.{View}
 use Rattle.ael_threads.specs.Calls.{Called, Departs, end_by_did, FlippedByOutcome, WasExecuted, StaysSilent, IsUnderWay, KnowsWorker, Rests, Waits, WinsMore, call_by}
-use Rattle.gc_worker.specs.History.Tally.{EachEntry, EntryIs, IsFilledBy, Tasks, tally, tasks_held}
+use Rattle.gc_worker.specs.History.Tally.{EachEntry, EntryIs, IsFilledBy, Sizes, Tasks, tally, tasks_held}
 use Rattle.ael_threads.specs.Histories.{opening_tally, hand, first_plain}
 use Rattle.gc_worker.specs.History.Legal.{IsLegal, after_all, worker_call, extra, own_after, last_flip}
 use Rattle.ael_threads.specs.Seats.{Acts, ActsBy, Extends, IsRunning, Seated, Sees, ShowsSeen, first_number, first_own, plain_after_seen, seen_after, LiveWhereTold, claim_by_win, with_claim}
@@ -159,10 +159,10 @@ comes_last : (a : Seated) (task : Task) (did : Did) (hands : List Hand) (later :
 comes_last a task did hands later h = legal_last (first_plain a.knows.plan) (a.knows.seen ++ h.between) (call_by a task did) (subst (IsLegal (first_plain a.knows.plan)) h.is h.legal)
 
 -- and where it tells the heap to be full it is filled
-filled_last : (a : Seated) (task : Task) (did : Did) (tasks : Tasks) (before : List Entry)
-    → EachEntry (EntryIs a.knows.plan.spaces.pages tasks) (opening_tally a.knows.plan) (before ++ Made (call_by a task did) ∷ [])
-    → IsFilledBy a.knows.plan.spaces.pages tasks (tally (opening_tally a.knows.plan) before) (first_number a.knows.hands) task did []
-filled_last a task did tasks before h = entry_at (EntryIs a.knows.plan.spaces.pages tasks) (opening_tally a.knows.plan) before (Made (call_by a task did)) [] h
+filled_last : (a : Seated) (task : Task) (did : Did) (z : Sizes) (tasks : Tasks) (before : List Entry)
+    → EachEntry (EntryIs z tasks) (opening_tally a.knows.plan) (before ++ Made (call_by a task did) ∷ [])
+    → IsFilledBy z tasks (tally (opening_tally a.knows.plan) before) (first_number a.knows.hands) task did []
+filled_last a task did z tasks before h = entry_at (EntryIs z tasks) (opening_tally a.knows.plan) before (Made (call_by a task did)) [] h
 
 lands_uncounted : (n : ℕ) (words : List ℕ) (z : Held) → RegistersLand n words z → RegistersLand n words (uncounted z)
 lands_uncounted n words z l = record { in_space = l.in_space; header = l.header }
@@ -212,8 +212,8 @@ calls a b c task r s did u h other is =
       comes = comes_last a task did c.knows.hands c.knows.seen history;
       full = subst (λ (z : ℕ × Told). FullWhereTold z.0 k.before b.worker z.1) (λ i. (pages i, is i)) k.full;
       live = subst (λ (z : Plan × Told). LiveWhereTold (last_flip (first_plain z.0) c.knows.seen) z.1) (λ i. (w.rests.plan i, answers i)) k.live;
-      filled = filled_last a task did (tasks_held k.stands.workers) (a.knows.seen ++ history.between)
-          (subst (λ (z : Plan × List Entry). EachEntry (EntryIs z.0.spaces.pages (tasks_held k.stands.workers)) (opening_tally z.0) z.1) (λ i. (w.rests.plan i, ends i)) k.stands.tallied.entries);
+      filled = filled_last a task did k.stands.tallied.sizes (tasks_held k.stands.workers) (a.knows.seen ++ history.between)
+          (subst (λ (z : Plan × List Entry). EachEntry (EntryIs k.stands.tallied.sizes (tasks_held k.stands.workers)) (opening_tally z.0) z.1) (λ i. (w.rests.plan i, ends i)) k.stands.tallied.entries);
       lands = λ yes. subst (λ (z : ℕ × Held). RegistersLand z.0 k.after z.1) (λ i. (pages i, sym h.worker i))
           (lands_uncounted b.knows.plan.spaces.pages k.after (turned b.worker r) (k.lands (runs yes)));
       alike = λ yes q its. subst (λ (x : Held). AreAlike x.registers q) (sym h.worker)

@@ -36,6 +36,7 @@ use Rattle.ael_threads.proofs.WholeCalls.Began.{answers_in_call, was_in_call}
 use Rattle.ael_threads.proofs.Lists.Elements.{prefix_more, prefix_trans}
 use Rattle.ael_threads.proofs.TableRule.Epochs.{flips_rise, no_later}
 use Rattle.ael_threads.proofs.TableRule.Flips.{answers_in_epoch}
+use Rattle.ael_threads.proofs.TableRule.PagesInUse.{flipped_or_last}
 use Rattle.ael_threads.proofs.Lists.Reads.{at_inside, get_of}
 
 -- the seat hears of more
@@ -173,17 +174,18 @@ module _ (a b c : Seated) (task : Task) (r : Reply) (s : Stepped) (u : IsUnderWa
       let past = full_is_found_later n plan.mutators m x r other asked room live fits_x e in
       let was = u.begun (answers_in_call x r other (Trap (HeapFull asked room live)) x.stage e past) in
       let finds : FindsNoRoom n k.before x asked room live = subst (FullWhereTold n k.before x) e k.full in
+      let late = flipped_or_last n k.before x asked room live finds in
       let gate : epoch_of n k.before ≡ x.epoch = ap (λ (o : Option GateWord). epoch_in_gate 0 o) finds.gate_is ∙ finds.epoch in
       let now : flips_of a.knows.plan log ≡ x.epoch = sym log_flips ∙ (sym gate_flips ∙ gate) in
       let own : List Call = first_own a.knows.hands in
       let first = was.epoch in
       let stays : c.worker.epoch ≡ x.epoch = ap (λ (y : Held). y.epoch) h.worker ∙ answers_in_epoch x r other (Trap (HeapFull asked room live)) e in record {
         since = flipped_full a.knows.plan (first_number a.knows.hands) task x own log
-            (begun_later a.knows.plan (first_number a.knows.hands) task x.begun x.begun own own b.knows.heard log was.within refl refl k.heard) (sym its_calls) now finds.no_flip;
+            (begun_later a.knows.plan (first_number a.knows.hands) task x.begun x.begun own own b.knows.heard log was.within refl refl k.heard) (sym its_calls) now late;
         seen = was.seen;
         heard = was.heard;
         begun = first;
-        rises = ⊎_elim (λ (early : x.begun < x.epoch). inl (omega (arith, first, early, stays))) (λ last. inr (stays ∙ last)) finds.no_flip;
+        rises = ⊎_elim (λ (early : x.begun < x.epoch). inl (omega (arith, first, early, stays))) (λ last. inr (stays ∙ last)) late;
       }
 
   pub flipped_by : (other : Task) (did : Did) → told x r ≡ Answers other did → FlippedByOutcome a task log b c did

@@ -14,7 +14,9 @@ use Rattle.ael_threads.specs.declared.view.Hand.{Hand}
 use Rattle.ael_threads.specs.declared.view.Plan.{Plan}
 use Rattle.ael_threads.specs.Histories.{AreBy, opening_tally, Each, IsOnce, first_plain, hand_number}
 use Rattle.gc_worker.proofs.History.Large.{large_has_no_full}
-use Rattle.gc_worker.specs.History.Tally.{tally, tasks_held}
+use Rattle.gc_worker.specs.History.Large.{HasNoFullCall, IsLargeFor}
+use Rattle.gc_worker.specs.History.Tally.{size_now, tally, tasks_held}
+use Rattle.gc_worker.specs.Laws.Cycles.{size_of}
 use Rattle.gc_worker.specs.History.Legal.{IsLegal, after_all, last_flip}
 use Rattle.ael_threads.specs.Rule.{HasHand, RuleHolds, crew, heap_of}
 use Rattle.ael_threads.specs.Seats.{Absorbs, Closes, Gathers, HasFlippedIfFull, Seated, Stays, all_hands}
@@ -22,6 +24,7 @@ use Rattle.ael_threads.proofs.Callers.{are_by, each_is_there}
 use Rattle.ael_threads.proofs.Looks.{hand_flipped}
 use Rattle.ael_threads.proofs.Lists.Elements.{each_at, each_map, each_to_map, prefix_self, prefix_trans}
 use Rattle.ael_threads.proofs.Lists.Reads.{at_inside}
+use Rattle.ael_threads.proofs.TableRule.PagesInUse.{tallied_sizes}
 
 pub gathers_one : (t : TableId) (one : Seated) → one.table ≡ t → Gathers t (one ∷ []) one
 gathers_one t one same = record { table = same; hands = refl; claims = refl; seen = (prefix_self one.knows.seen, tt) }
@@ -55,6 +58,7 @@ closes plan id t all one words xs g end =
     let stands : WorkersStand (heap_of plan words b.workers) (after_all (first_plain plan) b.log) (last_flip (first_plain plan) b.log) =
     subst (λ (z : List ℕ). WorkersStand (heap_of plan z b.workers) (after_all (first_plain plan) b.log) (last_flip (first_plain plan) b.log)) end.2 b.stands in
     let f = b.seats id one.knows end.1.1 in
+    let sized = tallied_sizes plan s.words b.workers b.log b.tallied in
     let hands = subst (Each (Stays b.workers b.log)) g.hands (each_map (HasHand b.workers b.log b.owner id) (Stays b.workers b.log) (λ h k. record { state = k.state; calls = k.calls }) one.knows.hands f.hands) in
     let apart = subst (λ (hands : List Hand). IsOnce (map hand_number hands)) g.hands f.apart in record {
       log = b.log;
@@ -65,8 +69,12 @@ closes plan id t all one words xs g end =
       last = b.last;
       copied = copied_was_live (heap_of plan words b.workers) (after_all (first_plain plan) b.log) (last_flip (first_plain plan) b.log) stands;
       epoch = subst (λ (z : List ℕ). epoch_of plan.spaces.pages z ≡ (tally (opening_tally plan) b.log).flips) end.2 b.tallied.counts.epoch;
+      sizes = b.tallied.sizes;
+      sized = sized;
+      size = subst (λ (z : List ℕ). size_of plan.spaces.pages z ≡ size_now b.tallied.sizes (tally (opening_tally plan) b.log)) end.2 b.tallied.counts.size;
       entries = b.tallied.entries;
-      large = large_has_no_full plan.spaces.pages (tasks_held b.workers) (opening_tally plan) b.log b.tallied.entries;
+      large = subst (λ (pages : ℕ × ℕ). IsLargeFor pages.0 pages.1 (tasks_held b.workers) (opening_tally plan) b.log → HasNoFullCall b.log) (λ i. (sized.limit i, sized.least i))
+          (large_has_no_full b.tallied.sizes (tasks_held b.workers) (opening_tally plan) b.log b.tallied.entries);
       flipped = subst (Each (HasFlippedIfFull plan b.log)) g.hands
           (each_map (HasHand b.workers b.log b.owner id) (HasFlippedIfFull plan b.log) (λ h k. hand_flipped plan b.workers b.log h k.state b.flipped) one.knows.hands f.hands);
       all_flipped = b.flipped;

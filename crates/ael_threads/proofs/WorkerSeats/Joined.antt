@@ -14,11 +14,12 @@ use Rattle.ael_threads.specs.declared.view.Plan.{Plan}
 use Rattle.ael_threads.specs.declared.view.View.{View}
 use Rattle.gc_worker.specs.History.Tally.{EachEntry, EntryIs, IsTallied, tasks_held}
 use Rattle.ael_threads.specs.Began.{FlippedIfFull, begun_held}
-use Rattle.ael_threads.specs.Histories.{opening_tally, Each, IsOnce, first_plain, hand_number}
+use Rattle.ael_threads.specs.Histories.{AreSizesOf, opening_tally, Each, IsOnce, first_plain, hand_number}
 use Rattle.gc_worker.specs.History.Legal.{IsLegal, after_all, calls_of, last_flip}
 use Rattle.ael_threads.specs.Rule.{FitsView, HasHand, RuleHolds, Won, heap_of, spent_view, view}
 use Rattle.ael_threads.specs.Seats.{HasFlippedIfFull, Learns, Me, both_of}
 use Rattle.ael_threads.proofs.Looks.{hand_flipped}
+use Rattle.ael_threads.proofs.TableRule.PagesInUse.{tallied_sizes}
 use Rattle.ael_threads.proofs.Lists.Reads.{at_set, set_else}
 use Rattle.ael_threads.proofs.Lists.Elements.{each_append, each_map, each_to_map, prefix_self}
 
@@ -145,7 +146,7 @@ learns plan slots id me st live s b homes at small =
         legal = b.legal;
         stands = subst (λ (z : List ℕ). WorkersStand (heap_of plan z b.workers) (after_all (first_plain plan) b.log) (last_flip (first_plain plan) b.log)) (sym (set-get_or s.words 0 0)) b.stands;
         last = b.last;
-        tallied = subst (λ (z : List ℕ). IsTallied (heap_of plan z b.workers) (opening_tally plan) b.log) (sym (set-get_or s.words 0 0)) b.tallied;
+        tallied = subst (λ (z : List ℕ). IsTallied plan.least (heap_of plan z b.workers) (opening_tally plan) b.log) (sym (set-get_or s.words 0 0)) b.tallied;
         begun = b.begun;
         flipped = b.flipped;
         seats = λ j u at'. subst (λ (z : List ℕ). FitsView plan z b.workers b.log b.owner b.winner j u) (sym (set-get_or s.words 0 0))
@@ -167,7 +168,9 @@ learns plan slots id me st live s b homes at small =
           once = f.once;
           legal = subst (λ (z : Plan). IsLegal (first_plain z) b.log) (sym (f.same live)) b.legal;
           tasks = tasks_held b.workers;
-          entries = subst (λ (z : Plan). EachEntry (EntryIs z.spaces.pages (tasks_held b.workers)) (opening_tally z) b.log) (sym (f.same live)) b.tallied.entries;
+          sizes = b.tallied.sizes;
+          sized = subst (λ (z : Plan). AreSizesOf z b.tallied.sizes) (sym (f.same live)) (tallied_sizes plan s.words b.workers b.log b.tallied);
+          entries = subst (λ (z : Plan). EachEntry (EntryIs b.tallied.sizes (tasks_held b.workers)) (opening_tally z) b.log) (sym (f.same live)) b.tallied.entries;
           flipped = subst (λ (z : Plan). Each (HasFlippedIfFull z b.log) v.hands) (sym (f.same live))
               (each_map (HasHand b.workers b.log b.owner id) (HasFlippedIfFull plan b.log) (λ h t. hand_flipped plan b.workers b.log h t.state b.flipped) v.hands f.hands);
           all_flipped = subst (λ (z : Plan). (m : ℕ) → (begun : ℕ) × FlippedIfFull z m begun b.log) (sym (f.same live)) (λ m. (begun_held b.workers m, b.flipped m));

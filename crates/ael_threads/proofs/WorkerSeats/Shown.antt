@@ -124,6 +124,8 @@ full_end n words count x (HeapFull asked room live) h = record {
   room_is = h.room_is;
   live_is = h.live_is;
   short = h.short;
+  size = h.size;
+  size_is = h.size_is;
   no_flip = h.no_flip;
 }
 full_end n words count x Halt h = tt

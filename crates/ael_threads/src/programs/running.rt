@@ -3,8 +3,8 @@
 ghost use Rattle.std.specs.Prelude.{◌≡◌, ◌+◌, ◌<◌, ◌≤◌, ◌↔◌, ℕ, length, vec_len, IfOk, IsErrOf, IsTrue, not};
 ghost use Rattle.std.specs.Thread.{IsSync};
 ghost use Rattle.space_map.specs.declared.spaces.TheConstants.{MOST_MUTATORS, MOST_SCANNERS};
-ghost use Rattle.space_map.specs.Spaces.{is_size};
 ghost use Rattle.space_map.specs.Table.{table_length};
+ghost use Rattle.gc_worker.specs.Config.{has_sizes};
 ghost use Rattle.gc_worker.specs.declared.config.TheConstants.{MOST_TURNS};
 ghost use Rattle.ael_threads.specs.Histories.{Each};
 ghost use Rattle.ael_threads.specs.Outputs.{HasEnd, IsToldOnClose, Runs};
@@ -30,7 +30,8 @@ use std::thread::{Threads, for_each_mut, join_mut};
 /// Runs a program on a heap of its own: each mutator executes its section on a thread of its own, and so do the scanners. The mutators
 /// are started in order, and then the scanners; workers for which no thread is to be had are run after others, on a thread of theirs.
 ///
-/// `BadPages` comes exactly for fewer than 4 pages or more than 2048. `NoMemory` may come before the first step and after the last one.
+/// `BadPages` comes exactly for fewer than 4 pages at first, for fewer in all than at first, or for more than 2048. `NoMemory` may come
+/// before the first step and after the last one.
 /// A mutator executes at most `config.turns` instructions, which are at most 10,000,000; there are at most 8 scanners. It returns once
 /// all workers have left, each mutator with its end; that this ever comes is not promised.
 pub fn run<R: Threads + Wait + Sync, P: Pace>(
@@ -42,10 +43,10 @@ pub fn run<R: Threads + Wait + Sync, P: Pace>(
 ) -> Result<Outputs, RunError>
     requires turns { config.now.turns ≤ MOST_TURNS }
     requires scanners { config.now.scanners ≤ MOST_SCANNERS }
-    ensures bad_pages { IsErrOf result RunError.BadPages ↔ IsTrue (not (is_size config.now.pages)) }
+    ensures bad_pages { IsErrOf result RunError.BadPages ↔ IsTrue (not (has_sizes config.now)) }
     ensures runs { IfOk result (λ told. Runs program.now.code config.now told) }
 {
-    let Ok(spaces) = Spaces::new(config.pages) else {
+    let Ok(spaces) = config.spaces() else {
         return Err(RunError::BadPages);
     };
     let (heap, mut seats) = Shared::open(alloc, program.code.len() as u8, config)?;

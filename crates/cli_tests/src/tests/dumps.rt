@@ -1,7 +1,7 @@
 //! The dump of a run.
 
 use super::rows::Row;
-use super::{AMPLE, FIRST};
+use super::{AMPLE, FIRST, call, same};
 use std::alloc::Global;
 use std::test::Fail;
 
@@ -26,6 +26,8 @@ fn dump_line(number: usize, gate: &'static str) -> &'static str {
         // The areas of both spaces.
         8 => "0000000003000000",
         9 => "0000000004000000",
+        // All pages of both spaces are in use.
+        16 | 17 => "0000000000000004",
         // The page of the record, and that of the board, are open.
         23 | 28 => "0000000000000001",
         // The record: its header, and its second value.
@@ -75,6 +77,34 @@ fn a_dump_has_each_word(rt: HostRuntime) -> Result<(), Fail> {
             status: 0,
         };
         row.check(&rt, rt.alloc(), AMPLE)?;
+    }
+    Ok(())
+}
+
+/// Lines of the dump of a run in which space 0 has doubled, by their numbers from 1: how many pages a space may have, and how many are in
+/// use of each.
+const GROWN: [(usize, &str); 3] = [
+    (2, "dump 8 1 1"),
+    (17, "0000000000000008"),
+    (18, "0000000000000004"),
+];
+
+#[test]
+fn a_dump_tells_the_pages_in_use(rt: HostRuntime) -> Result<(), Fail> {
+    let words = "sim --pages 4 --limit 8 --scanners 0 --dump";
+    let told = call(
+        &rt,
+        rt.alloc(),
+        words,
+        ".mutator\nnew r0 300\nhalt\n",
+        AMPLE,
+    )?;
+    let lines: Vec<&str> = str::from_utf8(told.out.bytes())?
+        .lines()
+        .collect(rt.alloc())?;
+    for (number, wanted) in GROWN {
+        let line = lines.get(number - 1).ok_or("a line is missing")?;
+        same("a dump", "line", line.as_bytes(), wanted.as_bytes())?;
     }
     Ok(())
 }

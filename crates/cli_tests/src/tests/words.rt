@@ -6,9 +6,9 @@ use simple_commands::WordsError;
 use std::alloc::Global;
 use std::test::Fail;
 
-/// Words and their job: a simulation's pages, scanners, turns, steps, seed and order, and the flags
-/// besides that were given; a run's pages, scanners, turns and flags; a concordance's workers and pages;
-/// or a benchmark's depth and seed.
+/// Words and their job: a simulation's pages, with those that a space may come to have behind a `-` if they are more, its
+/// scanners, turns, steps, seed and order, and the flags besides that were given; a run's pages, scanners, turns and flags; a
+/// concordance's workers and pages; or a benchmark's depth and seed.
 const ROWS: &str = "\
 sim|256 1 1000000 10000000 None false
 sim --|256 1 1000000 10000000 None false
@@ -20,6 +20,10 @@ sim --pages 08|8 1 1000000 10000000 None false
 sim --pages +8|8 1 1000000 10000000 None false
 sim --pages 4 --order|4 1 1000000 10000000 None true
 sim --order --pages 2048|2048 1 1000000 10000000 None true
+sim --limit 256|256 1 1000000 10000000 None false
+sim --limit 2048|256-2048 1 1000000 10000000 None false
+sim --limit=+08 --pages 4|4-8 1 1000000 10000000 None false
+sim --pages 8 --limit 8|8 1 1000000 10000000 None false
 sim --scanners 0|256 0 1000000 10000000 None false
 sim --scanners 8|256 8 1000000 10000000 None false
 sim --scanners=-0|256 0 1000000 10000000 None false
@@ -41,6 +45,8 @@ run|run 256 1 1000000
 run --|run 256 1 1000000
 run --pages 8|run 8 1 1000000
 run --pages=+08 --|run 8 1 1000000
+run --limit 257|run 256-257 1 1000000
+run --limit 128 --pages 4|run 4-128 1 1000000
 run --scanners 0|run 256 0 1000000
 run --scanners=-0|run 256 0 1000000
 run --turns 10000000|run 256 1 10000000
@@ -70,6 +76,12 @@ sim --pages=|refused
 sim --pages 3|refused
 sim --pages 2049|refused
 sim --pages -8|refused
+sim --limit 255|refused
+sim --pages 8 --limit 7|refused
+sim --pages 4 --limit 3|refused
+sim --limit 2049|refused
+sim --limit|refused
+sim --limit 300 --limit 300|refused
 sim --scanners -0|refused
 sim --scanners 9|refused
 sim --scanners=-1|refused
@@ -91,6 +103,8 @@ sim --cycles --cycles|refused
 sim --dump=1|refused
 run --pages 3|refused
 run --pages 2049|refused
+run --limit 255|refused
+run --limit 2049 --pages 2048|refused
 run --scanners 9|refused
 run --turns 0|refused
 run --turns 10000001|refused
@@ -113,6 +127,7 @@ concord --workers|refused
 concord --workers 1 --workers 1|refused
 concord --pages 3|refused
 concord --pages 2049|refused
+concord --limit 300|refused
 concord --scanners 1|refused
 concord --turns 5|refused
 concord --cycles|refused
@@ -158,6 +173,7 @@ bench 3 -1|refused
 bench -- 3 -1|refused
 bench 3 18446744073709551616|refused
 bench 3 1 --cycles|refused
+bench 3 1 --limit 300|refused
 bench --seed 1 3|refused
 bench --depth 3 1|refused
 bench --help|refused
@@ -169,6 +185,7 @@ sim asm|refused
 asm --order|refused
 asm --dump|refused
 asm --pages 8|refused
+asm --limit 300|refused
 asm ''|refused
 asm -- x|refused
 asm --help|refused
@@ -188,6 +205,15 @@ fn flags_text(options: RunOptions) -> &'static str {
     }
 }
 
+/// The text of a run's pages.
+fn pages_text(alloc: Global, options: RunOptions) -> Result<String, Fail> {
+    let RunOptions { pages, limit, .. } = options;
+    if limit == pages {
+        return Ok(format!(in alloc; "{pages}")?);
+    }
+    Ok(format!(in alloc; "{pages}-{limit}")?)
+}
+
 /// The text of a simulation's options.
 fn sim_text(alloc: Global, options: SimOptions) -> Result<String, Fail> {
     let SimOptions {
@@ -197,8 +223,8 @@ fn sim_text(alloc: Global, options: SimOptions) -> Result<String, Fail> {
         order,
     } = options;
     let flags = flags_text(run);
+    let pages = pages_text(alloc, run)?;
     let RunOptions {
-        pages,
         scanners,
         turns,
         ..
@@ -209,8 +235,8 @@ fn sim_text(alloc: Global, options: SimOptions) -> Result<String, Fail> {
 /// The text of a run's options.
 fn run_text(alloc: Global, options: RunOptions) -> Result<String, Fail> {
     let flags = flags_text(options);
+    let pages = pages_text(alloc, options)?;
     let RunOptions {
-        pages,
         scanners,
         turns,
         ..

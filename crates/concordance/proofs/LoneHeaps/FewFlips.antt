@@ -1,5 +1,5 @@
 -- On a heap with one mutator each flip comes for a record that it makes next, so there are no more than its records, and one more.
-use Rattle.std.proofs.Common.{◌≡◌, ℕ, ◌+◌, ◌<◌, ◌≤◌, Bool, true, false, cond, ◌==◌, List, [], ◌∷◌, length, Option, Some, None, Result, Ok, Err, slice_get, refl, ap, sym, ◌∙◌, subst, arith, eq-eqb}
+use Rattle.std.proofs.Common.{◌≡◌, ℕ, ◌+◌, ◌*◌, ◌<◌, ◌≤◌, min, ⊎_elim, Bool, true, false, cond, ◌==◌, List, [], ◌∷◌, length, Option, Some, None, Result, Ok, Err, slice_get, refl, ap, sym, ◌∙◌, subst, arith, eq-eqb}
 use Rattle.std.specs.Prelude.{IsOk}
 use Rattle.std.specs.Option.{option_and_then, option_map}
 use Rattle.std.proofs.lemmas.List.{length-replicate}
@@ -21,7 +21,8 @@ use Rattle.gc_worker.specs.declared.calls.entry.Entry.TheVariants.{Made, Exchang
 use Rattle.gc_worker.specs.declared.task.Task.{Task}
 use Rattle.gc_worker.specs.declared.task.Task.TheVariants.{Calls, Stops}
 use Rattle.gc_worker.specs.History.Legal.{IsLegal, after_call, worker_call}
-use Rattle.gc_worker.specs.History.Tally.{EachEntry, EntryIs, IsAskedFor, Tally, Tasks, after_entry, asked_by_task, asked_for, asked_unless_ended, next_task, tally}
+use Rattle.gc_worker.specs.History.Tally.{EachEntry, EntryIs, IsAskedFor, Sizes, Tally, Tasks, after_entry, asked_by_task, asked_for, asked_unless_ended, next_task, size_now, tally}
+use Rattle.gc_worker.specs.Laws.Cycles.{Grows}
 use Rattle.gc_worker.specs.Plain.Answer.{ComesTo, MayCome, after_answer, after_outcome}
 use Rattle.ael_threads.specs.Histories.{opening_tally}
 use Rattle.ael_threads.specs.Unread.{EachCall}
@@ -103,7 +104,7 @@ record IsFew (tasks : Tasks) (t : Tally) (log : List Entry) : Type 0 where
   flips : t.flips ≤ serial_now t + bit (t.asked 0)
   maker : t.asked 0 ≡ true → IsMaker tasks t log
 
-module _ (tasks : Tasks) (t : Tally) (one : length t.now.mutators ≡ 1) where
+module _ (z : Sizes) (tasks : Tasks) (t : Tally) (one : length t.now.mutators ≡ 1) where
   -- after a call
   module _ (there : 0 < length t.now.heap.records) (c : Call) (es : List Entry) (comes : ComesTo t.now c.by c.task c.did) (done : WasDone c) (few : IsFew tasks t (Made c ∷ es)) where
     by_zero : 0 ≡ c.by
@@ -124,7 +125,7 @@ module _ (tasks : Tasks) (t : Tally) (one : length t.now.mutators ≡ 1) where
     }
 
   -- after a flip
-  module _ (by asked : ℕ) (es : List Entry) (asks : IsAskedFor tasks t by asked es) (few : IsFew tasks t (Exchanged by asked ∷ es)) where
+  module _ (by asked : ℕ) (es : List Entry) (whole : size_now z t ≡ z.limit) (asks : IsAskedFor z tasks t by asked es) (few : IsFew tasks t (Exchanged by asked ∷ es)) where
     asker_there : (o : Option Mutator) → slice_get t.now.mutators by ≡ o
         → option_and_then (λ (q : Mutator). asked_unless_ended q.end q (next_task by es (tasks by))) o ≡ Some asked → by < length t.now.mutators
     asker_there (Some q) is e = slice_get_within t.now.mutators by q is
@@ -133,29 +134,38 @@ module _ (tasks : Tasks) (t : Tally) (one : length t.now.mutators ≡ 1) where
     zero_is : 0 ≡ by
     zero_is = let below = asker_there (slice_get t.now.mutators by) refl asks.makes in omega (arith, below, one)
 
+    -- in a space with all its pages in use it has asked for no other
+    none_asked : t.asked by ≡ false
+    none_asked = ⊎_elim (λ (none : t.asked by ≡ false). none) (λ (small : size_now z t < z.limit). absurd (omega (arith, small, whole))) asks.first
+
     few_after_flip : IsFew tasks (after_entry t (Exchanged by asked)) es
     few_after_flip = record {
       flips =
-          let before : t.flips ≤ serial_now t + bit false = subst (λ (b : Bool). t.flips ≤ serial_now t + bit b) (ap t.asked zero_is ∙ asks.first) few.flips in
+          let before : t.flips ≤ serial_now t + bit false = subst (λ (b : Bool). t.flips ≤ serial_now t + bit b) (ap t.asked zero_is ∙ none_asked) few.flips in
           subst (λ (b : Bool). t.flips + 1 ≤ serial_now t + bit (cond b true (t.asked 0))) (sym (eq-eqb 0 by zero_is)) (omega (arith, before));
       maker = λ e. (asked, subst (λ (j : ℕ). asked_by_task t.now j (next_task j es (tasks j)) ≡ Some asked) (sym zero_is) asks.makes);
     }
 
-few_flips : (pages : ℕ) (tasks : Tasks) (t : Tally) (log : List Entry) → length t.now.mutators ≡ 1 → 0 < length t.now.heap.records → IsLegal t.now log → EachCall WasDone log
-    → EachEntry (EntryIs pages tasks) t log → IsFew tasks t log → (tally t log).flips ≤ serial_now (tally t log) + 1
-few_flips pages tasks t [] one there legal done each few = by_bit (t.asked 0) few.flips
+-- all pages stay in use
+still_whole : (limit size next : ℕ) → size ≡ limit → Grows limit size next → next ≡ limit
+still_whole limit size next whole grows = ⊎_elim (λ (same : next ≡ size). same ∙ whole) (λ (twice : next ≡ min limit (2 * size)). omega (arith, twice, whole)) grows
+
+few_flips : (z : Sizes) (tasks : Tasks) (t : Tally) (log : List Entry) → size_now z t ≡ z.limit → length t.now.mutators ≡ 1 → 0 < length t.now.heap.records → IsLegal t.now log → EachCall WasDone log
+    → EachEntry (EntryIs z tasks) t log → IsFew tasks t log → (tally t log).flips ≤ serial_now (tally t log) + 1
+few_flips z tasks t [] whole one there legal done each few = by_bit (t.asked 0) few.flips
   where
     by_bit : (b : Bool) → t.flips ≤ serial_now t + bit b → t.flips ≤ serial_now t + 1
     by_bit true less = less
     by_bit false less = omega (arith, less)
-few_flips pages tasks t (Made c ∷ es) one there legal done each few =
-    few_flips pages tasks (after_entry t (Made c)) es (one_still t.now c one) (subst (λ (n : ℕ). 0 < n) (sym (makers t.now (Made c ∷ []))) there) legal.1 done.1 each.1
-    (few_after_call tasks t one there c es legal.0 done.0 few)
-few_flips pages tasks t (Exchanged by asked ∷ es) one there legal done each few =
-    few_flips pages tasks (after_entry t (Exchanged by asked)) es one there legal done each.1 (few_after_flip tasks t one by asked es each.0 few)
+few_flips z tasks t (Made c ∷ es) whole one there legal done each few =
+    few_flips z tasks (after_entry t (Made c)) es whole (one_still t.now c one) (subst (λ (n : ℕ). 0 < n) (sym (makers t.now (Made c ∷ []))) there) legal.1 done.1 each.1
+    (few_after_call z tasks t one there c es legal.0 done.0 few)
+few_flips z tasks t (Exchanged by asked ∷ es) whole one there legal done each few =
+    few_flips z tasks (after_entry t (Exchanged by asked)) es (still_whole z.limit (size_now z t) (z.in_use (t.flips + 1)) whole each.0.grows) one there legal done each.1
+    (few_after_flip z tasks t one by asked es whole each.0 few)
 
 pub lone_flips_are_few : LoneFlipsAreFew
-lone_flips_are_few plan pages tasks log one legal done each =
-    few_flips pages tasks (opening_tally plan) log (length-replicate plan.mutators opening_mutator ∙ one)
+lone_flips_are_few plan z tasks log one whole sized legal done each =
+    few_flips z tasks (opening_tally plan) log (sized.first ∙ (whole ∙ sym sized.limit)) (length-replicate plan.mutators opening_mutator ∙ one)
     (let many = length-replicate {A = List Record} plan.mutators [] in omega (arith, many, one)) legal done each
     (record { flips = omega arith; maker = λ e. absurd (apart e) })

@@ -14,19 +14,20 @@ use Rattle.gc_worker.specs.declared.calls.entry.Entry.{Entry}
 use Rattle.gc_worker.specs.declared.calls.entry.Entry.TheVariants.{Made, Exchanged}
 use Rattle.gc_worker.specs.declared.task.Task.TheVariants.{Calls}
 use Rattle.gc_worker.specs.History.Legal.{IsLegal, after_all, after_call, calls_of, extra, worker_call}
-use Rattle.gc_worker.specs.History.Tally.{EachEntry, EntryIs, Tally, Tasks, made_next, next_task, pages_by_task, tally, tasks_held}
+use Rattle.gc_worker.specs.History.Tally.{EachEntry, EntryIs, Sizes, Tally, Tasks, made_next, next_task, pages_by_task, size_now, tally, tasks_held}
 use Rattle.gc_worker.specs.Steps.Turned.{Told}
 use Rattle.gc_worker.proofs.History.Extensions.{as_many, calls_append}
 use Rattle.gc_worker.proofs.History.Tallies.{tally_now}
 use Rattle.ael_threads.specs.declared.view.Plan.{Plan}
 use Rattle.ael_threads.specs.Alone.{alone_history}
 use Rattle.ael_threads.specs.Calls.{Called, call_by}
-use Rattle.ael_threads.specs.Histories.{Each, HasOwnCalls, first_plain, opening_tally}
+use Rattle.ael_threads.specs.Histories.{AreSizesOf, Each, HasOwnCalls, first_plain, opening_tally}
 use Rattle.ael_threads.specs.Seats.{Seated, first_number, first_own, seen_after}
+use Rattle.ael_threads.proofs.TableRule.PagesInUse.{tallied_sizes}
 use Rattle.ael_threads.proofs.WholeCalls.OneMore.{makers}
 use Rattle.concordance.specs.Full.{LoneFullsAreFilled, words_made}
 use Rattle.concordance.specs.Lone.{IsLone, alone_by}
-use Rattle.concordance.specs.OneMutator.{WasDone}
+use Rattle.concordance.specs.OneMutator.{IsWhole, WasDone}
 use Rattle.concordance.proofs.LoneHeaps.FewFlips.{lone_flips_are_few}
 use Rattle.concordance.proofs.LoneHeaps.LiveWords.{live_is_made}
 use Rattle.concordance.proofs.LoneHeaps.OneMutator.{each_call, lone_flips_are_now, lone_histories}
@@ -43,7 +44,7 @@ at_one f none = omega (arith, none)
 sum_one : (n : ℕ) (f : ℕ → ℕ) → n ≡ 1 → f 0 ≡ 0 → sum_below n f ≡ 0
 sum_one n f one none = ap (λ (k : ℕ). sum_below k f) one ∙ at_one f none
 
-module _ (a b : Seated) (i : Instr) (asked room live : ℕ) (lone : IsLone a) (single : a.knows.plan.mutators ≡ 1) (zero_is : first_number a.knows.hands ≡ 0)
+module _ (a b : Seated) (i : Instr) (asked room live : ℕ) (lone : IsLone a) (single : a.knows.plan.mutators ≡ 1) (whole : IsWhole a.knows.plan) (zero_is : first_number a.knows.hands ≡ 0)
     (done : Each WasDone (first_own a.knows.hands)) (h : Called a (Calls i) (Trap (HeapFull asked room live)) b) where
   abbrev c : Call
   c = call_by a (Calls i) (Trap (HeapFull asked room live))
@@ -98,18 +99,40 @@ module _ (a b : Seated) (i : Instr) (asked room live : ℕ) (lone : IsLone a) (s
   abbrev tasks : Tasks
   tasks = tasks_held h.acts.knows.found.workers
 
-  entries : EachEntry (EntryIs h.last.knows.plan.spaces.pages tasks) (opening_tally a.knows.plan) front
-  entries = subst (λ (z : Plan × List Entry). EachEntry (EntryIs h.last.knows.plan.spaces.pages tasks) (opening_tally z.0) z.1) (λ j. (h.waits.rests.plan j, found_is j)) h.acts.knows.found.tallied.entries
+  abbrev sizes : Sizes
+  sizes = h.acts.knows.found.tallied.sizes
+
+  sized : AreSizesOf a.knows.plan sizes
+  sized = subst (λ (q : Plan). AreSizesOf q sizes) h.waits.rests.plan
+      (tallied_sizes h.last.knows.plan h.acts.knows.before h.acts.knows.found.workers h.acts.knows.found.log h.acts.knows.found.tallied)
+
+  entries : EachEntry (EntryIs sizes tasks) (opening_tally a.knows.plan) front
+  entries = subst (λ (z : Plan × List Entry). EachEntry (EntryIs sizes tasks) (opening_tally z.0) z.1) (λ j. (h.waits.rests.plan j, found_is j)) h.acts.knows.found.tallied.entries
 
   few : t.flips ≤ serial_of (alone_by a).heap 0 + 1
   few = subst (λ (q : Plain). t.flips ≤ serial_of q.heap 0 + 1) now
-      (lone_flips_are_few a.knows.plan h.last.knows.plan.spaces.pages tasks front single legal (each_call WasDone p front many legal (subst (Each WasDone) (sym own_front) done)) entries)
+      (lone_flips_are_few a.knows.plan sizes tasks front single whole sized legal (each_call WasDone p front many legal (subst (Each WasDone) (sym own_front) done)) entries)
+
+  -- those in use after the call's last act
+  abbrev later : Sizes
+  later = h.acts.knows.stands.tallied.sizes
+
+  -- all pages are in use
+  all_in_use : size_now later t ≡ a.knows.plan.spaces.pages
+  all_in_use =
+      let s : AreSizesOf a.knows.plan later = subst (λ (q : Plan). AreSizesOf q later) h.waits.rests.plan
+      (tallied_sizes h.last.knows.plan h.acts.knows.after h.acts.knows.stands.workers h.acts.knows.stands.log h.acts.knows.stands.tallied) in
+      let least = s.least in
+      let limit = s.limit in
+      let some = h.filled.within.0 in
+      let most = h.filled.within.1 in
+      omega (arith, least, limit, some, most, whole)
 
   since : serial_of (alone_by a).heap 0 + 1 < 2 ^ 32 - 1 → t.since 0 ≡ true
   since small = by_flip h.filled.no_flip
     where
-      by_flip : (t.since (first_number a.knows.hands) ≡ true) ⊎ (t.flips ≡ 2 ^ 32 - 1) → t.since 0 ≡ true
-      by_flip (inl e) = ap t.since (sym zero_is) ∙ e
+      by_flip : ((t.since (first_number a.knows.hands) ≡ true) × (size_now later t ≡ later.limit)) ⊎ (t.flips ≡ 2 ^ 32 - 1) → t.since 0 ≡ true
+      by_flip (inl e) = ap t.since (sym zero_is) ∙ e.0
       by_flip (inr e) = let most = few in absurd (omega (arith, most, small, e))
 
   -- ---- what was claimed
@@ -142,8 +165,9 @@ module _ (a b : Seated) (i : Instr) (asked room live : ℕ) (lone : IsLone a) (s
       let none = none_made flipped in
       let alone_here = none_next in
       let claims = h.filled.for_records in
-      let whole = h.filled.filled in
-      omega (arith, less, none, alone_here, claims, whole)
+      let all = all_in_use in
+      let fills = h.filled.filled in
+      omega (arith, less, none, alone_here, claims, all, fills)
 
 pub lone_fulls_are_filled : LoneFullsAreFilled
-lone_fulls_are_filled a b i asked room live lone single zero_is done small h = filled a b i asked room live lone single zero_is done h small
+lone_fulls_are_filled a b i asked room live lone single whole zero_is done small h = filled a b i asked room live lone single whole zero_is done h small

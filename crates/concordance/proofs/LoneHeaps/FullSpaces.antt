@@ -20,6 +20,7 @@ use Rattle.concordance.specs.declared.error.ConcordError.TheVariants.{HeapFull}
 use Rattle.concordance.specs.Full.{WasFullFor, words_made}
 use Rattle.concordance.specs.Lone.{alone_by, desk_of}
 use Rattle.concordance.specs.MayBeFull.{MayBeFull}
+use Rattle.concordance.specs.OneMutator.{IsWhole}
 use Rattle.concordance.specs.Working.{WasFullForOne, SharedHeap}
 use Rattle.concordance.proofs.LoneHeaps.DoneCalls.{lone_calls_are_done}
 use Rattle.concordance.proofs.LoneHeaps.FullHeaps.{lone_fulls_are_filled}
@@ -77,7 +78,7 @@ two_pages size asked short is = omega arith
 pages_few : (pages room asked made words : ℕ) → PAGE_WORDS * pages ≤ room + made → made ≤ 74 * words → room < PAGE_WORDS * asked → asked ≤ 2 → pages < 4 * words + 2
 pages_few pages room asked made words filled few short two = omega arith
 
-module _ (plan : Plan) (text : List ℕ) (mentions : List Mention) (asked room : ℕ) (short : length text ≤ 2 ^ 20) (one : plan.mutators ≡ 1) (same : mentions ≡ mentions_of text) (f : WasFullFor plan 0 mentions asked room) where
+module _ (plan : Plan) (text : List ℕ) (mentions : List Mention) (asked room : ℕ) (short : length text ≤ 2 ^ 20) (one : plan.mutators ≡ 1) (whole : IsWhole plan) (same : mentions ≡ mentions_of text) (f : WasFullFor plan 0 mentions asked room) where
   made_is : words_made (alone_by f.here).heap 0 ≡ sum_by size_of (desk_of f.here).records
   unfolding desk_of
   made_is = ap (words_made (alone_by f.here).heap) (sym f.number_is)
@@ -97,7 +98,7 @@ module _ (plan : Plan) (text : List ℕ) (mentions : List Mention) (asked room :
   filled : PAGE_WORDS * plan.spaces.pages ≤ room + sum_by size_of (desk_of f.here).records
   filled =
       let single = ap (λ (q : Plan). q.mutators) f.plan_is ∙ one in
-      let full = lone_fulls_are_filled f.here f.then f.instr asked room f.full.live f.lone single f.number_is (lone_calls_are_done f.here f.lone f.shows) few_serials f.full.called in
+      let full = lone_fulls_are_filled f.here f.then f.instr asked room f.full.live f.lone single (subst IsWhole (sym f.plan_is) whole) f.number_is (lone_calls_are_done f.here f.lone f.shows) few_serials f.full.called in
       subst (λ (z : Plan × ℕ). PAGE_WORDS * z.0.spaces.pages ≤ room + z.1) (λ i. (f.plan_is i, made_is i)) full
 
   too_small : MayBeFull plan.spaces.pages text asked room
@@ -105,15 +106,15 @@ module _ (plan : Plan) (text : List ℕ) (mentions : List Mention) (asked room :
       let rows = rows_for (mentions_of text) in
       let are = are_rows (mentions_of text) in
       let two = two_pages _ asked f.short f.full.asked_is in
-      let whole = filled in
+      let fills = filled in
       let needed = f.needed rows (subst (λ (ms : List Mention). AreRowsOf ms rows) (sym same) are) in
       record {
         rows = rows;
         are = are;
         few_asked = two;
         no_room = f.full.called.full.short;
-        few_pages = pages_few plan.spaces.pages room asked (sum_by size_of (desk_of f.here).records) (length (mentions_of text)) whole (subst (λ (ms : List Mention). sum_by size_of (desk_of f.here).records ≤ 74 * length ms) same f.few_words) f.full.called.full.short two;
-        filled = omega (arith, whole, needed);
+        few_pages = pages_few plan.spaces.pages room asked (sum_by size_of (desk_of f.here).records) (length (mentions_of text)) fills (subst (λ (ms : List Mention). sum_by size_of (desk_of f.here).records ≤ 74 * length ms) same f.few_words) f.full.called.full.short two;
+        filled = omega (arith, fills, needed);
       }
 
 -- the whole text is its only part
@@ -124,12 +125,12 @@ one_part (p ∷ []) (suc n) part many is = absurd (let within = slice_get_within
 one_part (p ∷ q ∷ ps) place part many is = absurd (omega (arith, many))
 
 -- A heap with one clerk was full for it.
-pub may_be_full_alone : (w : SharedHeap) (text : List ℕ) (parts : List Part) (asked room : ℕ) → length text ≤ 2 ^ 20 → w.plan.mutators ≡ 1 → length parts ≡ 1 → flat_map mentions_of_part parts ≡ mentions_of text
+pub may_be_full_alone : (w : SharedHeap) (text : List ℕ) (parts : List Part) (asked room : ℕ) → length text ≤ 2 ^ 20 → w.plan.mutators ≡ 1 → IsWhole w.plan → length parts ≡ 1 → flat_map mentions_of_part parts ≡ mentions_of text
     → WasFullForOne w 0 parts asked room → MayBeFull w.plan.spaces.pages text asked room
-may_be_full_alone w text parts asked room short one many same f =
+may_be_full_alone w text parts asked room short one whole many same f =
     let only = one_part parts f.place f.part many f.is in
     let first : 0 + f.place ≡ 0 = (let zero_is = only.0 in omega (arith, zero_is)) in
-    too_small w.plan text (mentions_of_part f.part) asked room short one (only.1 ∙ same) (subst (λ (k : ℕ). WasFullFor w.plan k (mentions_of_part f.part) asked room) first f.full)
+    too_small w.plan text (mentions_of_part f.part) asked room short one whole (only.1 ∙ same) (subst (λ (k : ℕ). WasFullFor w.plan k (mentions_of_part f.part) asked room) first f.full)
 
 -- what comes of an error that is handed on
 pub handed_on : {S T : Type 0} (Q : ℕ → ℕ → Type 0) (noted : Result S ConcordError) (r : Result T ConcordError) (e : ConcordError) → noted ≡ Err e → IsErrAnd r (λ f. f ≡ e)

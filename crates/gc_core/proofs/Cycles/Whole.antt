@@ -1,8 +1,6 @@
 -- What cycles keep in every run, from its history.
-use Rattle.std.proofs.Common.{◌≡◌, ℕ, ◌+◌, ◌*◌, ◌≤◌, false, List, [], ◌∷◌, ◌++◌, length, Some, refl, ap, subst, ◌∙◌, arith}
+use Rattle.std.proofs.Common.{◌≡◌, ℕ, ◌+◌, ◌*◌, ◌≤◌, false, List, [], ◌++◌, length, Some, refl, sym, subst, arith}
 use Rattle.std.specs.Prelude.{IsTrue}
-use Rattle.std.specs.Option.{option_to_list}
-use Rattle.std.proofs.lemmas.List.{map-append}
 use Rattle.plain_state.specs.declared.end.End.TheVariants as ends
 use Rattle.plain_state.specs.declared.sizes.TheConstants.{PAGE_WORDS}
 use Rattle.mutator_asm.specs.declared.instr.Instr.{Instr}
@@ -15,34 +13,35 @@ use Rattle.gc_worker.specs.declared.config.Config.{Config}
 use Rattle.gc_worker.specs.declared.calls.entry.Entry.{Entry}
 use Rattle.gc_worker.specs.declared.steps.stepped.Stepped.{Stepped}
 use Rattle.gc_worker.specs.declared.steps.stepped.Stepped.TheVariants.{Idle, Moved, Effect, Flipped, Ended}
-use Rattle.gc_worker.specs.History.Needs.{EachFullIs, EachMayCome, IsFullAt, being_made, made_since, first_story}
-use Rattle.gc_worker.specs.History.Order.{entry_mark, order_of}
+use Rattle.gc_worker.specs.History.Needs.{EachFullIs, EachMayCome, being_made, made_since, first_story}
+use Rattle.gc_worker.specs.History.Order.{order_of}
 use Rattle.gc_worker.specs.History.Tally.{aside_in, tally}
 use Rattle.gc_worker.specs.Laws.Step.{WorkersStand}
 use Rattle.gc_worker.specs.Plain.Marks.{EachActs, mark_of}
 use Rattle.gc_worker.proofs.Between.Pages.Copied.{copied_was_live}
 use Rattle.gc_worker.proofs.Between.Opening.{heaps_open}
 use Rattle.gc_worker.proofs.History.Lone.{flip_before, lone_is_never_full}
-use Rattle.gc_worker.proofs.History.Needs.{at_full, large_is_never_full}
-use Rattle.gc_worker.proofs.History.Opening.{low, opening_tallied}
-use Rattle.gc_core.specs.Core.{CoreState, is_size, opening_core}
-use Rattle.gc_core.specs.Cycles.{CyclesKeepWhatIsLive, FullHeapsAreFilled, InstructionsFlipOnce, FillsTheSpace, claims_next, claims_of, flips_next, story_of}
+use Rattle.gc_worker.proofs.History.Needs.{large_is_never_full}
+use Rattle.gc_worker.proofs.History.Opening.{in_use, low, opening_tallied}
+use Rattle.gc_core.specs.Core.{CoreState, has_sizes, opening_core, size_in}
+use Rattle.gc_core.specs.Cycles.{CyclesKeepWhatIsLive, FullHeapsAreFilled, InstructionsFlipOnce, SizesAreBetween, FillsTheSpace, HasGrown, claims_next, claims_of, flips_next, story_of}
 use Rattle.gc_core.specs.Event.{core_after, event_of}
 use Rattle.gc_core.specs.Law.{IsSteady, IsTold}
 use Rattle.gc_core.specs.Needs.{ClaimsAreForRecords, ClaimsAreMadeOrSetAside, LargeHeapsAreNeverFull, LoneFullsFollowTheirFlips, LoneHeapsAreNeverFull, OrdersAreFilledByClaims, OrdersFillTheSpace}
 use Rattle.gc_core.specs.Run.{run_of, Ran}
 use Rattle.gc_core.specs.Whole.{FullsFollowFlips}
-use Rattle.gc_core.proofs.Events.Opening.{opening_stands, opening_steady, size_fits}
-use Rattle.gc_core.proofs.Cycles.Filling.{HasClaimed, event_fills, full_is_filled}
+use Rattle.gc_core.proofs.Events.Opening.{limit_fits, opening_stands, opening_steady, sizes_fit}
+use Rattle.gc_core.proofs.Cycles.Filling.{HasClaimed, event_fills, full_has_grown, full_is_filled}
 use Rattle.gc_core.proofs.Cycles.Flips.{FlippedOnce, event_once}
+use Rattle.gc_core.proofs.Cycles.Aside.{claims_for_records}
 use Rattle.gc_core.proofs.Cycles.Kept.{keeps_what_is_live}
-use Rattle.gc_core.proofs.Runs.History.{HasHistory, adds, event_history, first, history_fills, history_made, holds_after, log_from, log_order, order_adds}
+use Rattle.gc_core.proofs.Runs.History.{HasHistory, adds, event_history, first, history_fills, history_made, holds_after, log_from, log_order, size_at_least, size_at_most}
 use Rattle.gc_core.proofs.Runs.Stories.{IsRunOf, run_acts, run_law}
 use Rattle.gc_core.proofs.Runs.EventByEvent.{mark_is_reached}
 use Rattle.gc_core.proofs.Whole.{events_keep}
 
 module _ (code : List (List Instr)) (items : List Item) (config : Config) (schedule : ℕ → ℕ) (n : ℕ)
-    (program : IsWellFormed code items) (size : IsTrue (is_size config.pages)) (turns : config.turns ≤ 10000000) (few : config.scanners ≤ 8) where
+    (program : IsWellFormed code items) (size : IsTrue (has_sizes config)) (turns : config.turns ≤ 10000000) (few : config.scanners ≤ 8) where
   abbrev s : CoreState
   s = opening_core code config
 
@@ -72,36 +71,40 @@ module _ (code : List (List Instr)) (items : List Item) (config : Config) (sched
   fits : length code + config.scanners ≤ 24
   fits = let most = program.few_sections in omega (arith, most, few)
 
-  begins : HasHistory s []
+  begins : HasHistory config.pages s []
   begins = record {
     steady = steady;
     stands = stands;
-    tallied = opening_tallied config.pages (length code) config.scanners (size_fits config.pages size) program.few_sections fits (opening code);
+    tallied = (let at = sizes_fit config size in opening_tallied config.limit config.pages (length code) config.scanners (limit_fits config size) at.0 at.1 program.few_sections fits (opening code));
     legal = tt;
     fetched = λ m. tt;
   }
 
-  fills : HasClaimed config.pages s 0
-  fills = record { pages = refl; low = (let l = low config.pages (length code) config.scanners (size_fits config.pages size) program.few_sections fits in omega (arith, l)) }
+  fills : HasClaimed config.limit s 0
+  fills =
+      let at = sizes_fit config size in
+      let l = low config.limit config.pages (length code) config.scanners (limit_fits config size) at.0 at.1 program.few_sections fits in
+      let u = in_use config.limit config.pages (length code) config.scanners (limit_fits config size) at.0 at.1 program.few_sections fits in
+      record { limit_is = refl; low = omega (arith, l, u) }
 
   -- a core of this program, its history, and the words that were claimed since the last flip
   abbrev Has : CoreState → List Entry → (claims : ℕ) → Type 0
-  Has t log claims = (t.code ≡ code) × (t.turns ≡ config.turns) × HasHistory t log × HasClaimed config.pages t claims
+  Has t log claims = (t.code ≡ code) × (t.turns ≡ config.turns) × HasHistory config.pages t log × HasClaimed config.limit t claims
 
   has_then : (t : CoreState) (w : ℕ) (log : List Entry) (claims : ℕ) → Has t log claims → Has (core_after t w) (log ++ adds t w) (claims_next t w claims)
-  has_then t w log claims has = (has.0, has.1, event_history t w log has.2, event_fills config.pages t w log claims has.2 has.3)
+  has_then t w log claims has = (has.0, has.1, event_history config.pages t w log has.2, event_fills config.pages config.limit t w log claims has.2 has.3)
 
   has_last : Has r.last log (claims_of code config schedule n)
   has_last = holds_after claims_next Has has_then schedule 0 n s [] 0 (refl, refl, begins, fills)
 
   -- each full heap of it is so
   abbrev Fulls : List Mark → Type 0
-  Fulls order = EachFullIs config.pages code config.turns (first_story code) 0 order × EachMayCome (λ j. false) 0 order
+  Fulls order = EachFullIs config.limit config.pages code config.turns (first_story code) 0 0 order × EachMayCome (λ j. false) 0 order
 
   fulls : (t : CoreState) (log : List Entry) (claims : ℕ) → Has t log claims → Fulls (order_of log)
   fulls t log claims has =
-      let all = history_fills t log has.2 in
-      (subst (λ (z : ℕ × (List (List Instr) × ℕ)). EachFullIs z.0 z.1.0 z.1.1 (first_story z.1.0) 0 (order_of log)) (λ i. (has.3.pages i, (has.0 i, has.1 i))) all.0, all.1)
+      let all = history_fills config.pages t log has.2 in
+      (subst (λ (z : ℕ × (List (List Instr) × ℕ)). EachFullIs z.0 config.pages z.1.0 z.1.1 (first_story z.1.0) 0 0 (order_of log)) (λ i. (has.3.limit_is i, (has.0 i, has.1 i))) all.0, all.1)
 
   fulls_last : Fulls r.order
   fulls_last = subst Fulls (log_order schedule 0 n s) (fulls r.last log (claims_of code config schedule n) has_last)
@@ -110,7 +113,7 @@ module _ (code : List (List Instr)) (items : List Item) (config : Config) (sched
 
   made : (tally (first r.last) log).made ≤ made_since code config.turns r.order
   made = subst (λ (z : List (List Instr) × (ℕ × List Mark)). (tally (first r.last) log).made ≤ made_since z.0 z.1.0 z.1.1) (λ i. (has_last.0 i, (has_last.1 i, log_order schedule 0 n s i)))
-      (history_made r.last log has_last.2)
+      (history_made config.pages r.last log has_last.2)
 
   made_or_aside : claims_of code config schedule n ≤ PAGE_WORDS * made_since code config.turns r.order + aside_in r.last.heap
   made_or_aside =
@@ -118,9 +121,17 @@ module _ (code : List (List Instr)) (items : List Item) (config : Config) (sched
       let low = counts.low in
       let few = counts.for_records in
       let same = has_last.3.low in
-      let pages = has_last.3.pages in
+      let size = counts.size in
       let made = made in
-      omega (arith, low, few, same, pages, made)
+      omega (arith, low, few, same, size, made)
+
+  -- ---- the pages in use
+
+  between : (config.pages ≤ size_in r.last) × (size_in r.last ≤ config.limit)
+  between =
+      let most = size_at_most config.pages r.last log has_last.2 in
+      let limit = has_last.3.limit_is in
+      (size_at_least config.pages r.last log has_last.2, omega (arith, most, limit))
 
   -- ---- a full heap at its end
 
@@ -128,22 +139,18 @@ module _ (code : List (List Instr)) (items : List Item) (config : Config) (sched
     told_so : IsTold r.last w now.now (event_of r.last w).after (Ended m (ends.HeapFull asked room live))
     told_so = subst (IsTold r.last w now.now (event_of r.last w).after) told (events_keep r.last w now law.steady law.stands).told
 
-    filled : FillsTheSpace config.pages now.flip (claims_of code config schedule n) asked room live
-    filled = full_is_filled config.pages r.last m now.now now.flip (claims_of code config schedule n) asked room live law.stands has_last.3 told_so.3.1
+    grown : HasGrown config.limit r.last
+    grown = full_has_grown config.limit r.last m now.now now.flip (claims_of code config schedule n) asked room live law.stands has_last.3 told_so.3.1
 
-    order_then : order_of (log ++ adds r.last w) ≡ r.order ++ Full m asked room live ∷ []
-    order_then =
-        map-append entry_mark log (adds r.last w)
-        ∙ (λ i. log_order schedule 0 n s i ++ (order_adds r.last w ∙ ap (λ (t : Stepped). option_to_list (mark_of t)) told) i)
-
-    full : IsFullAt config.pages code config.turns now (made_since code config.turns r.order) m asked room live
-    full =
-        let later = has_then r.last w log (claims_of code config schedule n) has_last in
-        at_full config.pages code config.turns (first_story code) 0 r.order [] m asked room live
-        (subst Fulls order_then (fulls (core_after r.last w) (log ++ adds r.last w) (claims_next r.last w (claims_of code config schedule n)) later)).0
+    filled : FillsTheSpace (size_in r.last) now.flip (claims_of code config schedule n) asked room live
+    filled = full_is_filled config.limit r.last m now.now now.flip (claims_of code config schedule n) asked room live law.stands has_last.3 told_so.3.1
 
     for_records : claims_of code config schedule n ≤ PAGE_WORDS * (made_since code config.turns r.order + being_made code config.turns now.now m)
-    for_records = let all = filled.filled in let same = full.filled in let most = full.for_records in omega (arith, all, same, most)
+    for_records =
+        let few = claims_for_records config.pages config.limit r.last w log has_last.2 (claims_of code config schedule n) has_last.3 m (ends.HeapFull asked room live) told in
+        subst (λ (z : (List (List Instr) × ℕ) × (List Mark × ℕ)).
+        claims_of code config schedule n ≤ PAGE_WORDS * (made_since z.0.0 z.0.1 z.1.0 + being_made z.0.0 z.0.1 (story z.0.0 z.0.1 z.1.0).now z.1.1))
+        (λ i. ((has_last.0 i, has_last.1 i), (log_order schedule 0 n s i, sym told_so.0 i))) few
 
 -- a mark of a full heap is of an event that tells it
 told_full : (told : Stepped) (m asked room live : ℕ) → mark_of told ≡ Some (Full m asked room live) → told ≡ Ended m (ends.HeapFull asked room live)
@@ -168,8 +175,12 @@ cycles_keep_what_is_live code items config schedule n program size turns few =
     let now : Story = story_of code config schedule n in
     keeps_what_is_live copied_was_live (run_of code config schedule n).last now.now now.flip law.stands
 
+pub sizes_are_between : SizesAreBetween
+sizes_are_between code items config schedule n program size turns few = between code items config schedule n program size turns few
+
 pub full_heaps_are_filled : FullHeapsAreFilled
-full_heaps_are_filled code items config schedule n program size turns few w m asked room live told = filled code items config schedule n program size turns few w m asked room live told
+full_heaps_are_filled code items config schedule n program size turns few w m asked room live told =
+    (grown code items config schedule n program size turns few w m asked room live told, filled code items config schedule n program size turns few w m asked room live told)
 
 pub claims_are_for_records : ClaimsAreForRecords
 claims_are_for_records code items config schedule n program size turns few w m asked room live told = for_records code items config schedule n program size turns few w m asked room live told
@@ -188,7 +199,8 @@ orders_are_filled_by_claims code items config schedule n program size turns few 
       within = at.within;
       reached = at.front_is;
       told = told;
-      fills = subst (λ (marks : List Mark). FillsTheSpace config.pages (story code config.turns marks).flip (claims_of code config schedule at.steps) asked room live) at.front_is
+      grown = grown code items config schedule at.steps program size turns few (schedule at.steps) m asked room live told;
+      fills = subst (λ (marks : List Mark). FillsTheSpace (size_in (run_of code config schedule at.steps).last) (story code config.turns marks).flip (claims_of code config schedule at.steps) asked room live) at.front_is
           (filled code items config schedule at.steps program size turns few (schedule at.steps) m asked room live told);
       for_records = subst (λ (marks : List Mark). claims_of code config schedule at.steps ≤ PAGE_WORDS * made_since code config.turns marks + aside_in (run_of code config schedule at.steps).last.heap) at.front_is
           (made_or_aside code items config schedule at.steps program size turns few);
@@ -196,8 +208,8 @@ orders_are_filled_by_claims code items config schedule n program size turns few 
 
 pub instructions_flip_once : InstructionsFlipOnce
 instructions_flip_once code items config schedule n program size turns few m =
-    let flips = holds_after (flips_next m) (λ t log flips. HasHistory t log × FlippedOnce m (tally (first t) log) flips)
-    (λ t w log flips has. (event_history t w log has.0, event_once m t w log flips has.0 has.1))
+    let flips = holds_after (flips_next m) (λ t log flips. HasHistory config.pages t log × FlippedOnce m (tally (first t) log) flips)
+    (λ t w log flips has. (event_history config.pages t w log has.0, event_once m config.pages t w log flips has.0 has.1))
     schedule 0 n (opening_core code config) [] 0 (begins code items config schedule n program size turns few, (omega arith, λ some. absurd (omega (arith, some)))) in
     flips.1.0
 
@@ -210,13 +222,13 @@ orders_fill_the_space code items config schedule n program size turns few = (ful
 pub large_heaps_are_never_full : LargeHeapsAreNeverFull
 large_heaps_are_never_full code items config schedule n program size turns few =
     let all = fulls_last code items config schedule n program size turns few in
-    large_is_never_full config.pages code config.turns (run_of code config schedule n).order all.0 all.1
+    large_is_never_full config.limit config.pages code config.turns (run_of code config schedule n).order all.0 all.1
 
 pub lone_fulls_follow_their_flips : LoneFullsFollowTheirFlips
 lone_fulls_follow_their_flips code items config schedule n program size turns few one =
-    flip_before config.pages code config.turns one (run_of code config schedule n).order (acts code items config schedule n program size turns few) (fulls_last code items config schedule n program size turns few).1
+    flip_before config.limit config.pages code config.turns one (run_of code config schedule n).order (acts code items config schedule n program size turns few) (fulls_last code items config schedule n program size turns few).1
 
 pub lone_heaps_are_never_full : LoneHeapsAreNeverFull
 lone_heaps_are_never_full code items config schedule n program size turns few one flips enough =
     let all = fulls_last code items config schedule n program size turns few in
-    lone_is_never_full config.pages code config.turns one (run_of code config schedule n).order (acts code items config schedule n program size turns few) all.1 all.0 flips enough
+    lone_is_never_full config.limit config.pages code config.turns one (run_of code config schedule n).order (acts code items config schedule n program size turns few) all.1 all.0 flips enough

@@ -18,7 +18,7 @@ use Rattle.gc_worker.proofs.Between.Opening.{heaps_open}
 use Rattle.gc_worker.proofs.Between.Readying.{readying_stands}
 use Rattle.gc_worker.proofs.StepKeeps.{steps_keep}
 use Rattle.gc_worker.specs.declared.config.Config.{Config}
-use Rattle.gc_core.specs.Core.{CoreState, opening_core, workers_of, is_size}
+use Rattle.gc_core.specs.Core.{CoreState, opening_core, workers_of, has_sizes}
 use Rattle.gc_core.specs.Event.{Event, event_of, event_by, core_after, ready, fetched_task}
 use Rattle.gc_worker.specs.Steps.Stepped.{stepped_by}
 use Rattle.gc_core.specs.Law.{IsLawful, story_by}
@@ -34,7 +34,7 @@ lawful_after s w l =
     let k = events_keep s w story l.steady l.stands in
     record { steady = k.steady; plain = (story_by s story (event_of s w).told).now; flip = (story_by s story (event_of s w).told).flip; stands = k.stands }
 
-pub lawful_opening : (code : List (List Instr)) (items : List Item) (config : Config) → IsWellFormed code items → IsTrue (is_size config.pages) → config.turns ≤ 10000000 → config.scanners ≤ 8
+pub lawful_opening : (code : List (List Instr)) (items : List Item) (config : Config) → IsWellFormed code items → IsTrue (has_sizes config) → config.turns ≤ 10000000 → config.scanners ≤ 8
     → IsLawful (opening_core code config)
 lawful_opening = opening_lawful heaps_open
 

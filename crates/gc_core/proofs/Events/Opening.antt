@@ -1,7 +1,7 @@
 -- A core begins lawful, for the plain state in which its program begins.
 use Rattle.std.proofs.Common.{◌≡◌, ℕ, zero, suc, ◌+◌, ◌++◌, ◌<◌, ◌≤◌, ◌&&◌, Bool, true, false, nat_le, List, [], ◌∷◌, length, refl, ap, sym, subst, ◌∙◌, arith, lt-ltb}
 use Rattle.std.specs.Prelude.{IsTrue, if◌then◌else◌}
-use Rattle.std.proofs.lemmas.Bool.{leb-true, le-leb}
+use Rattle.std.proofs.lemmas.Bool.{leb-true}
 use Rattle.plain_state.specs.State.{Plain}
 use Rattle.mutator_asm.specs.declared.instr.Instr.{Instr}
 use Rattle.mutator_asm.specs.declared.item.Item.{Item}
@@ -11,9 +11,7 @@ use Rattle.heap_state.proofs.Puts.{none≢some}
 use Rattle.space_map.specs.Spaces.{IsPageCount}
 use Rattle.heap_state.specs.Configuration.{table}
 use Rattle.heap_state.specs.Memory.Table.{Table}
-use Rattle.heap_state.proofs.Table.Writing.{writes_tables}
-use Rattle.heap_laws.specs.Opening.{opening_entries}
-use Rattle.heap_laws.proofs.Opening.Heap.{entries_fit}
+use Rattle.heap_laws.proofs.Opening.Heap.{opening_written}
 use Rattle.gc_worker.specs.Laws.Between.{HeapsOpen, fresh_worker, fresh_workers, fresh_mutator, fresh_scanner}
 use Rattle.gc_worker.specs.Workers.Held.{Held}
 use Rattle.gc_worker.specs.Laws.Step.{WorkersStand, held_at, read}
@@ -23,20 +21,24 @@ use Rattle.gc_worker.proofs.Between.Last.{scanners_begin_last}
 use Rattle.gc_worker.proofs.Between.Opening.{is_there}
 use Rattle.gc_worker.specs.declared.config.Config.{Config}
 use Rattle.gc_worker.proofs.Plain.Outcomes.{opens_so}
-use Rattle.gc_core.specs.Core.{opening_core, is_size}
+use Rattle.gc_core.specs.Core.{has_sizes, opening_core}
 use Rattle.gc_worker.specs.Laws.Claims.{epoch_of_heap}
 use Rattle.gc_core.specs.Law.{IsLawful, IsSteady}
 
-pub size_fits : (pages : ℕ) → IsTrue (is_size pages) → IsPageCount pages
-size_fits pages e = by_tests (nat_le 4 pages) (nat_le pages 2048) refl refl e
+-- the pages that may be in use of a space whose heap can be opened
+pub sizes_fit : (config : Config) → IsTrue (has_sizes config) → (4 ≤ config.pages) × (config.pages ≤ config.limit) × (config.limit ≤ 2048)
+sizes_fit config e = by_tests (nat_le 4 config.pages) (nat_le config.pages 2048) (nat_le config.pages config.limit) (nat_le config.limit 2048) refl refl refl refl e
   where
-    by_tests : (a b : Bool) → nat_le 4 pages ≡ a → nat_le pages 2048 ≡ b → (a && b) ≡ true → IsPageCount pages
-    by_tests true true x y e = (leb-true 4 pages x, leb-true pages 2048 y)
-    by_tests true false x y e = absurd (cc)
-    by_tests false b x y e = absurd (cc)
+    by_tests : (a b c d : Bool) → nat_le 4 config.pages ≡ a → nat_le config.pages 2048 ≡ b → nat_le config.pages config.limit ≡ c → nat_le config.limit 2048 ≡ d
+        → ((a && b) && (c && d)) ≡ true → (4 ≤ config.pages) × (config.pages ≤ config.limit) × (config.limit ≤ 2048)
+    by_tests true true true true x y z w e = (leb-true 4 config.pages x, leb-true config.pages config.limit z, leb-true config.limit 2048 w)
+    by_tests true true true false x y z w e = absurd (cc)
+    by_tests true true false d x y z w e = absurd (cc)
+    by_tests true false c d x y z w e = absurd (cc)
+    by_tests false b c d x y z w e = absurd (cc)
 
-pub size_is : (pages : ℕ) → IsPageCount pages → IsTrue (is_size pages)
-size_is pages fit = rw (le-leb 4 pages fit.0, le-leb pages 2048 fit.1) refl
+pub limit_fits : (config : Config) → IsTrue (has_sizes config) → IsPageCount config.limit
+limit_fits config e = let fit = sizes_fit config e in let a = fit.0 in let b = fit.1 in (omega (arith, a, b), fit.2)
 
 -- one worker more is the next one
 pub fresh_push : (n mutators from count : ℕ) → fresh_workers n mutators from (count + 1) ≡ fresh_workers n mutators from count ++ fresh_worker n mutators (from + count) ∷ []
@@ -47,16 +49,16 @@ fresh_push n mutators from (suc count) =
     let f : suc count + 1 ≡ suc (count + 1) = omega arith in
     rw f (ap (λ (ks : List Held). fresh_worker n mutators from ∷ ks) (fresh_push n mutators (from + 1) count ∙ ap (λ (k : ℕ). fresh_workers n mutators (from + 1) count ++ fresh_worker n mutators k ∷ []) e))
 
-module _ (opens : HeapsOpen) (code : List (List Instr)) (items : List Item) (config : Config) (program : IsWellFormed code items) (size : IsTrue (is_size config.pages)) (turns : config.turns ≤ 10000000) (few : config.scanners ≤ 8) where
+module _ (opens : HeapsOpen) (code : List (List Instr)) (items : List Item) (config : Config) (program : IsWellFormed code items) (size : IsTrue (has_sizes config)) (turns : config.turns ≤ 10000000) (few : config.scanners ≤ 8) where
   pub opening_stands : WorkersStand (opening_core code config).heap (order.opening code) (order.opening code)
   opening_stands =
       subst (λ (p : Plain). WorkersStand (opening_core code config).heap p p) (opens_so code)
-      (opens config.pages (length code) config.scanners (size_fits config.pages size) program.few_sections (let l = program.few_sections in omega (arith, l, few)))
+      (let fit = sizes_fit config size in opens config.limit config.pages (length code) config.scanners (limit_fits config size) fit.0 fit.1 program.few_sections (let l = program.few_sections in omega (arith, l, few)))
 
-  mutator_there : (m : ℕ) → m < length code → held_at (opening_core code config).heap m ≡ fresh_mutator config.pages (length code) m
+  mutator_there : (m : ℕ) → m < length code → held_at (opening_core code config).heap m ≡ fresh_mutator config.limit (length code) m
   mutator_there m l =
-      is_there config.pages (length code) 0 (length code + config.scanners) m m (omega (arith, l)) (omega arith)
-      ∙ ap (λ (b : Bool). if b then fresh_mutator config.pages (length code) m else fresh_scanner config.pages (length code) m) (lt-ltb m (length code) l)
+      is_there config.limit (length code) 0 (length code + config.scanners) m m (omega (arith, l)) (omega arith)
+      ∙ ap (λ (b : Bool). if b then fresh_mutator config.limit (length code) m else fresh_scanner config.limit (length code) m) (lt-ltb m (length code) l)
 
   pub opening_steady : IsSteady (opening_core code config)
   opening_steady = record {
@@ -64,7 +66,7 @@ module _ (opens : HeapsOpen) (code : List (List Instr)) (items : List Item) (con
     sections = refl;
     turns_fit = turns;
     on_task = λ m l. let e = mutator_there m l in record { counted = rw e (omega arith); within = rw e (omega arith); task = λ task t. none≢some (sym (ap (λ (h : Held). h.task) e) ∙ t) };
-    last = scanners_begin_last config.pages (length code) config.scanners;
+    last = scanners_begin_last config.limit config.pages (length code) config.scanners;
   }
 
   pub opening_lawful : IsLawful (opening_core code config)
@@ -73,8 +75,8 @@ module _ (opens : HeapsOpen) (code : List (List Instr)) (items : List Item) (con
   -- it begins in the first epoch
   pub opening_epoch : epoch_of_heap (opening_core code config).heap ≡ 0
   opening_epoch =
-      let fit : IsPageCount config.pages = size_fits config.pages size in
+      let fit = sizes_fit config size in
       let c = read (opening_core code config).heap in
-      let says = (writes_tables config.pages (opening_entries config.pages) (entries_fit config.pages fit)).says in
+      let says = (opening_written config.limit config.pages (limit_fits config size) fit.0 fit.1).says in
       let e : (table c).gate.epoch ≡ 0 = ap (λ (t : Table). t.gate.epoch) says in
       ap (epoch_in_gate 0) (gate_says c (order.opening code) opening_stands.stands) ∙ e

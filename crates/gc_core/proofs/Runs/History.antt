@@ -31,6 +31,7 @@ use Rattle.gc_worker.proofs.Between.GoingOn.{workers_go_on}
 use Rattle.gc_worker.proofs.Between.Readying.{readying_stands}
 use Rattle.gc_worker.proofs.Between.Standing.{what_stands_is_so}
 use Rattle.gc_worker.proofs.Between.Wanting.{workers_want}
+use Rattle.gc_worker.proofs.Cycles.Sizes.{sizes_are_within}
 use Rattle.gc_worker.proofs.History.Extensions.{legal_more}
 use Rattle.gc_worker.proofs.History.Needs.{IsNext, order_makes, orders_fill}
 use Rattle.gc_worker.proofs.History.Orders.{fetched_append}
@@ -38,7 +39,7 @@ use Rattle.gc_worker.proofs.History.Steps.{step_tallied}
 use Rattle.gc_worker.proofs.History.Tallies.{tally_append, tally_more-flip, tally_more-now, tally_now}
 use Rattle.gc_worker.proofs.History.Tasks.{task_tallied}
 use Rattle.gc_worker.proofs.StepKeeps.{steps_keep}
-use Rattle.gc_core.specs.Core.{CoreState}
+use Rattle.gc_core.specs.Core.{CoreState, size_in}
 use Rattle.gc_core.specs.Cycles.{count_from}
 use Rattle.gc_core.specs.Event.{Event, core_after, event_of, readied, ready}
 use Rattle.gc_core.specs.Law.{IsSteady, KeepsStory}
@@ -96,16 +97,16 @@ log_order schedule at (suc n) s = order_by schedule at n s (all_ended s) refl (l
 abbrev pub first : CoreState → Tally
 first s = first_tally (opening s.code)
 
--- The core stands for what a history leads to, from the opening on; what is counted along it fits the core, and its calls are what mutators
--- fetch.
-pub record HasHistory (s : CoreState) (log : List Entry) : Type 0 where
+-- The core stands for what a history leads to, from the opening on, at which so many pages were in use; what is counted along it fits the
+-- core, and its calls are what mutators fetch.
+pub record HasHistory (least : ℕ) (s : CoreState) (log : List Entry) : Type 0 where
   pub steady : IsSteady s
   pub stands : WorkersStand s.heap (tally (first s) log).now (tally (first s) log).flip
-  pub tallied : IsTallied s.heap (first s) log
+  pub tallied : IsTallied least s.heap (first s) log
   pub legal : IsLegal (opening s.code) log
   pub fetched : (m : ℕ) → AreFetched s.code s.turns m (opening s.code) log
 
-module _ (s : CoreState) (w : ℕ) (log : List Entry) (h : HasHistory s log) where
+module _ (least : ℕ) (s : CoreState) (w : ℕ) (log : List Entry) (h : HasHistory least s log) where
   abbrev t : Tally
   t = tally (first s) log
 
@@ -115,7 +116,7 @@ module _ (s : CoreState) (w : ℕ) (log : List Entry) (h : HasHistory s log) whe
   kept : KeepsStory s w now
   kept = events_keep s w now h.steady h.stands
 
-  idle_history : wanted (ready s w) ≡ None → HasHistory (core_after s w) (log ++ adds s w)
+  idle_history : wanted (ready s w) ≡ None → HasHistory least (core_after s w) (log ++ adds s w)
   unfolding event_of
   idle_history none = rw (none, append-nil log) h
 
@@ -138,10 +139,10 @@ module _ (s : CoreState) (w : ℕ) (log : List Entry) (h : HasHistory s log) whe
     abbrev grown : List Entry
     grown = log ++ extra w u
 
-    given : IsTallied r.heap (first s) log
-    given = subst (λ (z : Heap). IsTallied z (first s) log) (sym r.is) (task_tallied s.heap w y below (ready_begins s w) (first s) log h.tallied)
+    pub given : IsTallied least r.heap (first s) log
+    given = subst (λ (z : Heap). IsTallied least z (first s) log) (sym r.is) (task_tallied s.heap w y below (ready_begins s w) least (first s) log h.tallied)
 
-    law : StepKeeps r.heap t.now t.flip w y q
+    pub law : StepKeeps r.heap t.now t.flip w y q
     law = steps_keep r.heap t.now t.flip w y q r.stands r.below r.holds asked
 
     same : tally (first s) grown ≡ tally t (extra w u)
@@ -165,25 +166,25 @@ module _ (s : CoreState) (w : ℕ) (log : List Entry) (h : HasHistory s log) whe
             (ap (λ (p : Plain). slice_get p.mutators w) (sym all_is) ∙ (ap (λ (j : ℕ). slice_get (after_all (opening s.code) log).mutators j) same ∙ is))
             ∙ ap (λ (j : ℕ). task_of (fetch s.code s.turns j k)) same
 
-    step_history : HasHistory (core_after s w) (log ++ adds s w)
+    step_history : HasHistory least (core_after s w) (log ++ adds s w)
     step_history =
         let event : event_of s w ≡ record { told = stepped_by w u; after = after } = event_is steps_keep workers_go_on workers_want what_stands_is_so s w now h.steady r q asked in
         let more : adds s w ≡ extra w u = ap (adds_by s w) asked ∙ ap (λ (words : List ℕ). extra w (told y (reply_of q words))) (sym r.words) in
-        subst (λ (z : CoreState × List Entry). HasHistory z.0 (log ++ z.1)) (λ i. (record s { heap = (sym event i).after }, sym more i))
+        subst (λ (z : CoreState × List Entry). HasHistory least z.0 (log ++ z.1)) (λ i. (record s { heap = (sym event i).after }, sym more i))
         (record {
           steady = subst (λ (e : Event). IsSteady (record s { heap = e.after })) event kept.steady;
           stands = stands;
-          tallied = step_tallied r.heap w y q r.below r.holds asked (first s) log given r.stands;
+          tallied = step_tallied r.heap w y q r.below r.holds asked least (first s) log given r.stands;
           legal = legal_more (opening s.code) log w u h.legal (subst (λ (p : Plain). IsAnswered p w u) (sym all_is) law.answered);
           fetched = λ m. fetched_append s.code s.turns m (opening s.code) log (extra w u) (h.fetched m) (fetches m u refl law.answered);
         })
 
-  by_want : w < length s.heap.workers → (o : Option Step) → wanted (ready s w) ≡ o → HasHistory (core_after s w) (log ++ adds s w)
+  by_want : w < length s.heap.workers → (o : Option Step) → wanted (ready s w) ≡ o → HasHistory least (core_after s w) (log ++ adds s w)
   by_want below None is = idle_history is
   by_want below (Some q) is = step_history below q is
 
   -- so does the core after any event
-  pub event_history : HasHistory (core_after s w) (log ++ adds s w)
+  pub event_history : HasHistory least (core_after s w) (log ++ adds s w)
   event_history = ⊎_elim
       (λ (below : w < length s.heap.workers). by_want below (wanted (ready s w)) refl)
       (λ (past : length s.heap.workers ≤ w). idle_history (ap (λ (x : Held). wanted (readied s.code s.turns w x)) (get_or_past s.heap.workers w nobody past)))
@@ -191,7 +192,7 @@ module _ (s : CoreState) (w : ℕ) (log : List Entry) (h : HasHistory s log) whe
 
 -- ---- its full heaps
 
-module _ (s : CoreState) (log : List Entry) (h : HasHistory s log) where
+module _ (least : ℕ) (s : CoreState) (log : List Entry) (h : HasHistory least s log) where
   abbrev last : Plain
   last = after_all (opening s.code) log
 
@@ -199,7 +200,7 @@ module _ (s : CoreState) (log : List Entry) (h : HasHistory s log) where
   so = what_stands_is_so s.heap last (tally (first s) log).flip (subst (λ (p : Plain). WorkersStand s.heap p (tally (first s) log).flip) (tally_now (first s) log) h.stands)
 
   -- the tasks that workers have begun are what their mutators fetch
-  are_next : (j : ℕ) → IsNext s.code s.turns last j (tasks_held s.heap.workers j)
+  pub are_next : (j : ℕ) → IsNext s.code s.turns last j (tasks_held s.heap.workers j)
   are_next j task q is its none =
       let inside = slice_get_within last.mutators j q its in
       let many = so.as_many in
@@ -208,14 +209,24 @@ module _ (s : CoreState) (log : List Entry) (h : HasHistory s log) where
       let same : fetch s.code s.turns j (seen x.account x.registers) ≡ fetch s.code s.turns j q = rw (account.counter, account.executed) refl in
       (h.steady.on_task j (omega (arith, inside, many))).task task is ∙ ap task_of same
 
-  pub history_fills : EachFullIs s.heap.pages s.code s.turns (first_story s.code) 0 (order_of log) × EachMayCome (λ j. false) 0 (order_of log)
+  pub history_fills : EachFullIs s.heap.pages least s.code s.turns (first_story s.code) 0 0 (order_of log) × EachMayCome (λ j. false) 0 (order_of log)
   history_fills =
-      orders_fill s.code s.turns (tasks_held s.heap.workers) s.heap.pages (first s) 0 (λ j. false) log h.legal (plain_count s.code s.turns []) h.fetched are_next h.tallied.entries
-      (omega arith) (λ m e. e)
+      let all = orders_fill s.code s.turns (tasks_held s.heap.workers) h.tallied.sizes (first s) 0 (λ j. false) log h.legal (plain_count s.code s.turns []) h.fetched are_next h.tallied.entries
+      (omega arith) (λ m e. e) in
+      (subst (λ (z : ℕ × ℕ). EachFullIs z.0 z.1 s.code s.turns (first_story s.code) 0 0 (order_of log)) (λ i. (h.tallied.counts.limit i, h.tallied.began.0 i)) all.0, all.1)
 
   -- no more pages were made than its order tells
   pub history_made : (tally (first s) log).made ≤ made_since s.code s.turns (order_of log)
   history_made = order_makes s.code s.turns (tasks_held s.heap.workers) (first s) 0 log h.legal (plain_count s.code s.turns []) h.fetched (omega arith)
+
+  -- ---- the pages in use
+
+  -- as many as at the opening, or more
+  pub size_at_least : least ≤ size_in s
+  size_at_least = let began = h.tallied.began.0 in let size = h.tallied.counts.size in let fewest = h.tallied.counts.least in omega (arith, began, size, fewest)
+
+  pub size_at_most : size_in s ≤ s.heap.pages
+  size_at_most = (sizes_are_within s.heap (tally (first s) log).now (tally (first s) log).flip h.stands).1
 
 -- ---- a run
 

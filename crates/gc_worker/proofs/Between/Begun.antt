@@ -55,7 +55,7 @@ use Rattle.gc_worker.specs.Workers.Fits.{FitsTask, FitsTaskBefore, MayBegin, May
 use Rattle.gc_worker.specs.Workers.Held.{Held, at_stage, making_for}
 use Rattle.gc_worker.specs.Plain.Seen.{Making, seen}
 use Rattle.gc_worker.specs.declared.calls.did.Did.TheVariants.{Done, Trap}
-use Rattle.gc_worker.specs.Steps.Turned.{Pointed, epoch_said, first_pointer, forwards_from, forwards_it, goes_back, goes_on, with_copy, Told, Silent, Answers, Marks, acted, acts, begins, end_by_shortage, ended, full_by, finds_full, looked_by, passed_by, passes, served_by, started, told_acted, told_action, told_at, told_gate, told_look, told_start, turned_access, turned_at, turned_copy, turned_flip, turned_gate, turned_look, turned_opening, turned_place, turned_register, turned_round, turned_scan, with_evac, with_record}
+use Rattle.gc_worker.specs.Steps.Turned.{Pointed, epoch_said, first_pointer, forwards_from, forwards_it, goes_back, goes_on, with_copy, Told, Silent, Answers, Marks, acted, acts, begins, end_by_shortage, ended, full_by, is_full, looked_by, passed_by, passes, served_by, started, told_acted, told_action, told_at, told_gate, told_look, told_start, turned_access, turned_at, turned_copy, turned_flip, turned_gate, turned_look, turned_opening, turned_place, turned_register, turned_round, turned_scan, with_evac, with_record}
 use Rattle.gc_worker.proofs.Stages.Look.Ends.{Stops as StopsRight, action_stops}
 
 -- ---- past the look
@@ -129,7 +129,7 @@ module _ (x : Held) where
 
   shortage_by : (s : Shortage) (traced : Bool) → (full_by x s traced).begun ≡ x.begun
   shortage_by s false = refl
-  shortage_by s true = full_if (finds_full x) (ended x (end_by_shortage s)) (at_stage x (passes x Request afters.Places)) refl refl
+  shortage_by s true = full_if (is_full x s) (ended x (end_by_shortage s)) (at_stage x (passes x Request afters.Places)) refl refl
 
   placed_by : (run : Run) (at : ℕ) (made : Option Making) → (with_record x run at made).begun ≡ x.begun
   placed_by run at (Some m) = refl

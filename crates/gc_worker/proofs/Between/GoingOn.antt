@@ -52,7 +52,7 @@ use Rattle.gc_worker.specs.Workers.Fits.{FitsEnd, FitsTask, IsEndBefore, IsMakin
 use Rattle.gc_worker.specs.Workers.Held.{Held, at_stage, making_for}
 use Rattle.gc_worker.specs.Plain.Seen.{Making, seen}
 use Rattle.gc_worker.specs.declared.calls.did.Did.TheVariants.{Done, Trap}
-use Rattle.gc_worker.specs.Steps.Turned.{Told, Silent, Answers, Marks, acted, acts, begins, end_by_shortage, ended, full_by, finds_full, looked_by, passed_by, passes, served_by, started, told, told_acted, told_action, told_at, told_access, told_effect, told_end, told_flip, told_full, told_gate, told_look, told_place, told_start, turned, turned_access, turned_at, turned_copy, turned_flip, turned_gate, turned_look, turned_opening, turned_place, turned_register, turned_round, turned_scan, with_evac, with_record}
+use Rattle.gc_worker.specs.Steps.Turned.{Told, Silent, Answers, Marks, acted, acts, begins, end_by_shortage, ended, full_by, is_full, looked_by, passed_by, passes, served_by, started, told, told_acted, told_action, told_at, told_access, told_effect, told_end, told_flip, told_full, told_gate, told_look, told_place, told_start, turned, turned_access, turned_at, turned_copy, turned_flip, turned_gate, turned_look, turned_opening, turned_place, turned_register, turned_round, turned_scan, with_evac, with_record}
 use Rattle.gc_worker.proofs.Plain.NewRecords.{made_is}
 
 -- ---- what becomes of the task
@@ -176,7 +176,7 @@ module _ (x : Held) where
 
   shortage_by : (s : Shortage) (traced : Bool) → Turns x (full_by x s traced) (told_full x s traced)
   shortage_by s false = turns (full_by x s false) Silent (refl, refl, refl) refl
-  shortage_by s true = full_if (finds_full x) (end_by_shortage s) (at_stage x (passes x Request afters.Places)) (refl, refl, refl) refl
+  shortage_by s true = full_if (is_full x s) (end_by_shortage s) (at_stage x (passes x Request afters.Places)) (refl, refl, refl) refl
 
   module _ (making : IsMaking x.account x.registers x.task) where
     placed_by : (run : Run) (at : ℕ) (made : Option Making) → making_for x x.task ≡ made → Turns x (with_record x run at made) (told_effect x.task)

@@ -71,7 +71,7 @@ use Rattle.gc_worker.specs.Workers.Fits.{FitsStage, IsCallerOf, IsOnSide, IsOnSi
 use Rattle.gc_worker.specs.Laws.Gone.{HasLeft, SawAllLeave, WhoIsGoneSawWhy}
 use Rattle.gc_worker.specs.Workers.Held.{Held, at_stage, header_for, making_for}
 use Rattle.gc_worker.specs.Plain.Seen.{Making, seen}
-use Rattle.gc_worker.specs.Steps.Turned.{Pointed, acted, acts, begins, end_by_shortage, ended, epoch_said, first_pointer, forwards_from, forwards_it, full_by, goes_back, goes_on, finds_full, looked_by, passed_by, passes, places, served_by, started, turned_access, turned_at, turned_copy, turned_flip, turned_gate, turned_look, turned_opening, turned_place, turned_register, turned_round, turned_scan, with_copy, with_evac, with_record}
+use Rattle.gc_worker.specs.Steps.Turned.{Pointed, acted, acts, begins, end_by_shortage, ended, epoch_said, first_pointer, forwards_from, forwards_it, full_by, goes_back, goes_on, is_full, looked_by, passed_by, passes, places, served_by, started, turned_access, turned_at, turned_copy, turned_flip, turned_gate, turned_look, turned_opening, turned_place, turned_register, turned_round, turned_scan, with_copy, with_evac, with_record}
 use Rattle.gc_worker.specs.Steps.Wanted.{wanted_at}
 
 -- any stage but the last
@@ -188,7 +188,7 @@ module _ (x : Held) (here : IsHere x.stage) where
 
   full_here : (s : Shortage) (traced : Bool) → IsHere (full_by x s traced).stage
   full_here s false = tt
-  full_here s true = requested_here (finds_full x) (ended x (end_by_shortage s)) (at_stage x (passes x Request afters.Places)) tt tt
+  full_here s true = requested_here (is_full x s) (ended x (end_by_shortage s)) (at_stage x (passes x Request afters.Places)) tt tt
 
   record_here : (run : Run) (at : ℕ) (made : Option Making) → IsHere (with_record x run at made).stage
   record_here run at (Some m) = tt

@@ -182,8 +182,8 @@ scanners_last_with h k now l same last j m below scanner gone l_m =
 -- ---- the opening
 
 pub scanners_begin_last : ScannersBeginLast
-scanners_begin_last n mutators scanners k m below scanner gone l_m =
+scanners_begin_last n least mutators scanners k m below scanner gone l_m =
     let there : k < mutators + scanners = (let e = many n mutators 0 (mutators + scanners) in omega (arith, below, e)) in
-    let is : held_at (opening_heap n mutators scanners) k ≡ fresh_scanner n mutators k =
+    let is : held_at (opening_heap n least mutators scanners) k ≡ fresh_scanner n mutators k =
     is_there n mutators 0 (mutators + scanners) k k there (omega arith) ∙ ap (λ (b : Bool). cond b (fresh_mutator n mutators k) (fresh_scanner n mutators k)) (le-ltb k mutators scanner) in
     absurd (let e = sym (ap (λ (z : Held). z.stage) is) ∙ gone in cc)

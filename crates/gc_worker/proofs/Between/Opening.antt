@@ -111,9 +111,9 @@ module _ (n mutators : ℕ) where
 
 -- ---- the heap
 
-module _ (n mutators scanners : ℕ) (size : IsPageCount n) (all : mutators + scanners ≤ 24) where
-  as_read : laws.opening_configuration n mutators scanners ≡ read (opening_heap n mutators scanners)
-  as_read = λ i. record (laws.opening_configuration n mutators scanners) { workers = sym (known n mutators 0 mutators scanners (mutators + scanners) (omega arith) refl) i }
+module _ (n least mutators scanners : ℕ) (size : IsPageCount n) (fewest : 4 ≤ least) (most : least ≤ n) (all : mutators + scanners ≤ 24) where
+  as_read : laws.opening_configuration n least mutators scanners ≡ read (opening_heap n least mutators scanners)
+  as_read = λ i. record (laws.opening_configuration n least mutators scanners) { workers = sym (known n mutators 0 mutators scanners (mutators + scanners) (omega arith) refl) i }
 
   fits : (k : ℕ) → k < length (fresh_workers n mutators 0 (mutators + scanners)) → Fits n mutators k (get_or (fresh_workers n mutators 0 (mutators + scanners)) k nobody)
   fits k l =
@@ -124,10 +124,10 @@ module _ (n mutators scanners : ℕ) (size : IsPageCount n) (all : mutators + sc
   abbrev Begins : Configuration → Type 0
   Begins c = (s : Stands c (opening_plain mutators)) × Cycle (era c) (memory c) (team c) s.ghost (opening_plain mutators)
 
-  begins : mutators ≤ 16 → Begins (read (opening_heap n mutators scanners))
-  begins few = let o = opening_stands n mutators scanners size few all in subst Begins as_read (o.stands, o.cycle)
+  begins : mutators ≤ 16 → Begins (read (opening_heap n least mutators scanners))
+  begins few = let o = opening_stands n least mutators scanners size fewest most few all in subst Begins as_read (o.stands, o.cycle)
 
 pub heaps_open : HeapsOpen
-heaps_open n mutators scanners size few all =
-    let b = begins n mutators scanners size all few in
-    record { stands = b.0; cycle = b.1; fit = fits n mutators scanners size all }
+heaps_open n least mutators scanners size fewest most few all =
+    let b = begins n least mutators scanners size fewest most all few in
+    record { stands = b.0; cycle = b.1; fit = fits n least mutators scanners size fewest most all }

@@ -37,7 +37,7 @@ use Rattle.gc_worker.specs.Workers.Knows.{knows, post_in, epoch_at, epoch_in}
 use Rattle.gc_worker.specs.Laws.Step.{Heap, read, held_at, WorkersStand, epoch_of}
 use Rattle.gc_worker.specs.Steps.Turned.{epoch_in_gate}
 use Rattle.gc_worker.proofs.Stages.Copies.Words.{heap_word}
-use Rattle.gc_worker.proofs.Words.Eras.{start_is, span_is}
+use Rattle.gc_worker.proofs.Words.Eras.{start_is, span_within}
 use Rattle.gc_worker.proofs.Stages.Gate.Words.{gate_says}
 use Rattle.gc_worker.proofs.Workers.Members.{member}
 
@@ -155,7 +155,7 @@ module _ (h : Heap) (p o : Plain) (st : WorkersStand h p o) (k : ℕ) (q : Mutat
 
       lands : RegistersLand h.pages h.words x
       lands = record {
-        in_space = λ j a small e. let l = (led j a small e).inside in let b = start in let n = span_is c in (omega arith, omega (arith, l, b), omega (arith, l, b, n));
+        in_space = λ j a small e. let l = (led j a small e).inside in let b = start in let n = span_within c p st.stands in (omega arith, omega (arith, l, b), omega (arith, l, b, n));
         header = λ j a small e.
             (header_kind (g.kind a), g.size a - 1, (g.identity a).serial, (g.identity a).mutator, ap decode (sym (heap_word c a)) ∙ (led j a small e).header);
       }
@@ -179,8 +179,8 @@ pub what_stands_is_so : WhatStandsIsSo
 what_stands_is_so h p o st = record {
   whole = st.stands.formed.whole;
   sound = record {
-    holds = holds (read h) st.stands.ghost st.stands.invariant;
-    represents = represents (read h) st.stands.ghost st.stands.invariant p st.stands.shown;
+    holds = holds (read h) st.stands.ghost st.stands.formed st.stands.invariant;
+    represents = represents (read h) st.stands.ghost st.stands.formed st.stands.invariant p st.stands.shown;
   };
   fit = st.fit;
   as_many = st.stands.shown.as_many;

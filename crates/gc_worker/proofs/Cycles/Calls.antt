@@ -47,7 +47,7 @@ use Rattle.gc_worker.specs.declared.task.Task.TheVariants.{Calls}
 use Rattle.gc_worker.specs.Steps.Access as access
 use Rattle.gc_worker.specs.Workers.Fits.{Fits, FitsEnd, FitsTask, FitsTaskAfter, FitsTaskBack, FitsTaskBefore, IsGoneBy, IsMaking, IsOnSide, IsOnSideBack}
 use Rattle.gc_worker.specs.Workers.Held.{Held, at_stage, header_for}
-use Rattle.gc_worker.specs.Steps.Turned.{Pointed, Silent, end_by_shortage, ended, epoch_said, first_pointer, forwards_from, forwards_it, full_by, goes_back, goes_on, finds_full, passed_by, passes, places, served_by, told_access, told_at, told_effect, told_end, told_full, told_place, turned_access, turned_at, turned_copy, turned_flip, turned_gate, turned_opening, turned_place, turned_register, turned_round, turned_scan, with_copy, with_evac}
+use Rattle.gc_worker.specs.Steps.Turned.{Pointed, Silent, end_by_shortage, ended, epoch_said, first_pointer, forwards_from, forwards_it, full_by, goes_back, goes_on, is_full, passed_by, passes, places, served_by, told_access, told_at, told_effect, told_end, told_full, told_place, turned_access, turned_at, turned_copy, turned_flip, turned_gate, turned_opening, turned_place, turned_register, turned_round, turned_scan, with_copy, with_evac}
 use Rattle.gc_worker.proofs.Plain.NewRecords.{header_is}
 
 -- ---- where it goes on
@@ -128,7 +128,7 @@ module _ (x : Held) where
 
     shortage_on : (s : Shortage) (traced : Bool) → IsNoAnswer (told_full x s traced) → IsInCall (full_by x s traced).stage
     shortage_on s false none = tt
-    shortage_on s true none = full_on s (finds_full x) none
+    shortage_on s true none = full_on s (is_full x s) none
 
     placing_on : (p : place.Placing) (turn : Turn Allocated) → IsNoAnswer (told_place x turn) → IsInCall (turned_place x p turn).stage
     placing_on p More none = tt

@@ -17,7 +17,7 @@ use Rattle.space_map.specs.declared.spaces.TheConstants.{PAGE_WORDS}
 use Rattle.space_map.specs.AreaWord.{AreaFits, decode_area, encode_area}
 use Rattle.space_map.specs.GateWord.{decode_gate}
 use Rattle.space_map.specs.Spaces.{to_space}
-use Rattle.space_map.specs.Table.{Row, Gate, Area, place_of, table_length}
+use Rattle.space_map.specs.Table.{Row, Gate, Area, Size, place_of, table_length}
 use Rattle.space_map.proofs.AreaWords.{decode_area-encode_area}
 use Rattle.alloc_end.specs.declared.fitting.Fitting.{Fitting}
 use Rattle.alloc_end.specs.declared.place_stage.PlaceStage.{PlaceStage}
@@ -47,9 +47,9 @@ use Rattle.page_slots.proofs.RowsFit.{opening_writes}
 use Rattle.heap_state.specs.Configuration.{Configuration, table, era}
 use Rattle.heap_state.specs.Memory.Era.{from_space}
 use Rattle.heap_state.specs.Memory.Table.{word_in}
-use Rattle.heap_state.specs.Worker.{Worker}
+use Rattle.heap_state.specs.Worker.{Reset, Worker}
 use Rattle.heap_state.proofs.Table.Places.{word_in-row, word_in-same, word_in-other}
-use Rattle.gc_worker.specs.Laws.Cycles.{words_claimed, claimed_at, claimed_by_placing, low_said, low_at, low_of, LowGoes, LowFallsByClaims}
+use Rattle.gc_worker.specs.Laws.Cycles.{words_claimed, claimed_at, claimed_by_placing, low_said, low_at, low_of, size_of as size_in_use, LowGoes, LowFallsByClaims}
 use Rattle.gc_worker.specs.Steps.Access as access
 use Rattle.gc_worker.specs.declared.stage.Stage.{Stage}
 use Rattle.gc_worker.specs.declared.stage.Stage.TheVariants.{Looks, Passes, Flips, Forwards, Accesses, Places, Serves, Scans, Evacuates, Opens, Gone}
@@ -61,8 +61,9 @@ use Rattle.gc_worker.specs.Steps.Wanted.{wanted, wanted_at}
 use Rattle.gc_worker.proofs.Stages.Access.RowsFit as access_rows
 use Rattle.gc_worker.proofs.Words.Areas.{area_says, is_space}
 use Rattle.gc_worker.proofs.Between.Pages.Claims.{NoMark, flips_at}
-use Rattle.gc_worker.proofs.Between.Pages.Written.{IsNoArea, area_stays}
+use Rattle.gc_worker.proofs.Between.Pages.Written.{IsNoArea, IsNoSize, area_stays, size_stays}
 use Rattle.gc_worker.proofs.Words.Eras.{old_span_is}
+use Rattle.gc_worker.proofs.Words.Sizes.{size_now}
 use Rattle.gc_worker.proofs.Stages.Gate.Words.{gate_says}
 use Rattle.gc_worker.proofs.Workers.Members.{member}
 use Rattle.gc_worker.proofs.StepKeeps.{steps_keep}
@@ -115,6 +116,14 @@ beside n words space m (Some on) q writes asked =
     subst (λ (z : Step). low_at n (words_after z words) space ≡ low_at n words space) (same_Some (step_at (place_of m) on) q asked)
     (ap (λ (w : ℕ). low_said (decode_area w)) (area_stays n m words on space writes))
 
+-- the size of a space stays at a step that writes no size
+pub size_beside : (n : ℕ) (words : List ℕ) (space : ℕ) → space < 2 → (m : ℕ) (o : Option (StepOn Row)) (q : Step) → WritesOnly IsNoSize o → option_map (step_at (place_of m)) o ≡ Some q
+    → word_in n (words_after q words) (Size space) ≡ word_in n words (Size space)
+size_beside n words space small m None q writes asked = absurd (cc)
+size_beside n words space small m (Some on) q writes asked =
+    subst (λ (z : Step). word_in n (words_after z words) (Size space) ≡ word_in n words (Size space)) (same_Some (step_at (place_of m) on) q asked)
+    (size_stays n m words on space small writes)
+
 -- ---- the step of a worker
 
 module _ (h : Heap) (p o : Plain) (k : ℕ) (x : Held) (st : WorkersStand h p o) where
@@ -136,7 +145,7 @@ module _ (h : Heap) (p o : Plain) (k : ℕ) (x : Held) (st : WorkersStand h p o)
   whole : table_length n ≤ length words
   whole = st.stands.formed.whole
 
-  of_now : (era c).epoch ≡ epoch_of n words
+  pub of_now : (era c).epoch ≡ epoch_of n words
   of_now = sym (ap (epoch_in_gate 0) (gate_says c p st.stands))
 
   -- within the epoch
@@ -226,11 +235,11 @@ module _ (h : Heap) (p o : Plain) (k : ℕ) (x : Held) (st : WorkersStand h p o)
     apart : here ≢ to_space (f.epoch + 1)
     apart same = let e = flips_now in omega (arith, e, same)
 
-    pub resets_other : low_at n (words_after (Store (place_of f.layout.pages (Area (to_space (f.epoch + 1)))) (encode_area (area_reset f.layout.pages r.used))) words) here ≡ low_at n words here
+    pub resets_other : low_at n (words_after (Store (place_of f.layout.pages (Area (to_space (f.epoch + 1)))) (encode_area (area_reset r.next r.used))) words) here ≡ low_at n words here
     resets_other =
         let pages : f.layout.pages ≡ n = ap (λ l. l.pages) is.fits.stage.layout ∙ is.fits.pages in
-        subst (λ (m : ℕ). low_at n (words_after (Store (place_of m (Area (to_space (f.epoch + 1)))) (encode_area (area_reset f.layout.pages r.used))) words) here ≡ low_at n words here) (sym pages)
-        (other_low n words whole (to_space (f.epoch + 1)) (is_space (f.epoch + 1)) here (encode_area (area_reset f.layout.pages r.used)) apart small_here)
+        subst (λ (m : ℕ). low_at n (words_after (Store (place_of m (Area (to_space (f.epoch + 1)))) (encode_area (area_reset r.next r.used))) words) here ≡ low_at n words here) (sym pages)
+        (other_low n words whole (to_space (f.epoch + 1)) (is_space (f.epoch + 1)) here (encode_area (area_reset r.next r.used)) apart small_here)
 
   flips : (f : Flipping) (stage : FlipStage) (q : Step) → Is c k (at_stage x (Flips (record f { stage = stage }))) → flip.wanted_at f stage ≡ Some q
       → low_at n (words_after q words) here ≡ low_at n words here
@@ -264,13 +273,14 @@ module _ (h : Heap) (p o : Plain) (k : ℕ) (x : Held) (st : WorkersStand h p o)
   -- ---- a flip
 
   module _ (f : Flipping) (r : resets.Reset) (is : Is c k (at_stage x (Flips (record f { stage = flip_stage.Exchanges r })))) where
-    -- the other space's area is whole
-    other_is_whole : low_at n words (from_space (era c).epoch) ≡ PAGE_WORDS * n
+    -- the other space's area has all the pages in use
+    other_is_whole : low_at n words (from_space (era c).epoch) ≡ PAGE_WORDS * size_now c (from_space (era c).epoch)
     other_is_whole =
         let space = from_space (era c).epoch in
         let small = is_space ((era c).epoch + 1) in
-        let reset = (st.stands.invariant.workers k is.below).reset (record { read = r.gate; used = Some r.used; stored = true }) (ap (λ (w : Worker). w.reset) is.as_known) in
-        let stored = (reset.stored refl).1 in
+        let found : Reset = record { read = r.gate; size = Some r.size; grown = Some r.next; used = Some r.used; sized = true; stored = true } in
+        let reset = (st.stands.invariant.workers k is.below).reset found (ap (λ (w : Worker). w.reset) is.as_known) in
+        let stored = (reset.stored refl).2 in
         let says : low_at n words space ≡ ((table c).area space).low = ap low_said (area_says c p st.stands space small) in
         let span = old_span_is c in
         omega (arith, stored, says, span)
@@ -280,7 +290,7 @@ looked_unmarked : (word : ℕ) (o : Option GateWord) → NoMark (told_flip (flip
 looked_unmarked word None = tt
 looked_unmarked word (Some gate) = by_test (flip.is_still gate)
   where
-    by_test : (b : Bool) → NoMark (told_flip (flip.told_at (cond b (flip_stage.LoadsArea gate) (flip_stage.Ended (flipped.NotYet word)))))
+    by_test : (b : Bool) → NoMark (told_flip (flip.told_at (cond b (flip_stage.LoadsSize gate) (flip_stage.Ended (flipped.NotYet word)))))
     by_test true = tt
     by_test false = tt
 
@@ -290,15 +300,27 @@ gate_unmarked f replies.Done = tt
 gate_unmarked f replies.Won = tt
 gate_unmarked f (replies.Lost word) = tt
 
-read_unmarked : (pages : ℕ) (gate : GateWord) (o : Option AreaWord) → NoMark (told_flip (flip.told_at (flip.read_area pages gate o)))
-read_unmarked pages gate (Some area) = tt
-read_unmarked pages gate None = tt
+size_unmarked : (f : Flipping) (gate : GateWord) (reply : Reply) → NoMark (told_flip (flip.told_at (flip.next_stage f (flip_stage.LoadsSize gate) reply)))
+size_unmarked f gate (replies.Value word) = tt
+size_unmarked f gate replies.Done = tt
+size_unmarked f gate replies.Won = tt
+size_unmarked f gate (replies.Lost word) = tt
 
-area_unmarked : (f : Flipping) (gate : GateWord) (reply : Reply) → NoMark (told_flip (flip.told_at (flip.next_stage f (flip_stage.LoadsArea gate) reply)))
-area_unmarked f gate (replies.Value word) = read_unmarked f.layout.pages gate (decode_area word)
-area_unmarked f gate replies.Done = tt
-area_unmarked f gate replies.Won = tt
-area_unmarked f gate (replies.Lost word) = tt
+read_unmarked : (pages : ℕ) (seen : Bool) (gate : GateWord) (size : ℕ) (o : Option AreaWord) → NoMark (told_flip (flip.told_at (flip.read_area pages seen gate size o)))
+read_unmarked pages seen gate size (Some area) = tt
+read_unmarked pages seen gate size None = tt
+
+area_unmarked : (f : Flipping) (gate : GateWord) (size : ℕ) (reply : Reply) → NoMark (told_flip (flip.told_at (flip.next_stage f (flip_stage.LoadsArea gate size) reply)))
+area_unmarked f gate size (replies.Value word) = read_unmarked f.layout.pages f.seen gate size (decode_area word)
+area_unmarked f gate size replies.Done = tt
+area_unmarked f gate size replies.Won = tt
+area_unmarked f gate size (replies.Lost word) = tt
+
+sizing_unmarked : (f : Flipping) (r : resets.Reset) (reply : Reply) → NoMark (told_flip (flip.told_at (flip.next_stage f (flip_stage.StoresSize r) reply)))
+sizing_unmarked f r (replies.Value word) = tt
+sizing_unmarked f r replies.Done = tt
+sizing_unmarked f r replies.Won = tt
+sizing_unmarked f r (replies.Lost word) = tt
 
 store_unmarked : (f : Flipping) (r : resets.Reset) (reply : Reply) → NoMark (told_flip (flip.told_at (flip.next_stage f (flip_stage.StoresArea r) reply)))
 store_unmarked f r (replies.Value word) = tt
@@ -306,12 +328,14 @@ store_unmarked f r replies.Done = tt
 store_unmarked f r replies.Won = tt
 store_unmarked f r (replies.Lost word) = tt
 
-exchanges_at : (f : Flipping) (stage : FlipStage) (q : Step) (reply : Reply) (pages : ℕ) → flip.wanted_at f stage ≡ Some q → told_flip (flip.told_at (flip.next_stage f stage reply)) ≡ Marks pages
+pub exchanges_at : (f : Flipping) (stage : FlipStage) (q : Step) (reply : Reply) (pages : ℕ) → flip.wanted_at f stage ≡ Some q → told_flip (flip.told_at (flip.next_stage f stage reply)) ≡ Marks pages
     → (r : resets.Reset) × (stage ≡ flip_stage.Exchanges r)
 exchanges_at f (flip_stage.Exchanges r) q reply pages wants tells = (r, refl)
 exchanges_at f (flip_stage.Ended result) q reply pages wants tells = absurd (let e = wants in cc)
 exchanges_at f flip_stage.LoadsGate q reply pages wants tells = absurd (subst NoMark tells (gate_unmarked f reply))
-exchanges_at f (flip_stage.LoadsArea gate) q reply pages wants tells = absurd (subst NoMark tells (area_unmarked f gate reply))
+exchanges_at f (flip_stage.LoadsSize gate) q reply pages wants tells = absurd (subst NoMark tells (size_unmarked f gate reply))
+exchanges_at f (flip_stage.LoadsArea gate size) q reply pages wants tells = absurd (subst NoMark tells (area_unmarked f gate size reply))
+exchanges_at f (flip_stage.StoresSize r) q reply pages wants tells = absurd (subst NoMark tells (sizing_unmarked f r reply))
 exchanges_at f (flip_stage.StoresArea r) q reply pages wants tells = absurd (subst NoMark tells (store_unmarked f r reply))
 
 -- ---- by what is told
@@ -334,13 +358,15 @@ module _ (h : Heap) (p o : Plain) (k : ℕ) (x : Held) (q : Step) (st : WorkersS
 
   -- the gate's word is written, and no area word
   at_exchange : (f : Flipping) (r : resets.Reset) → x.stage ≡ Flips f → f.stage ≡ flip_stage.Exchanges r → epoch_of h.pages h.words ≡ x.epoch → epoch_of h.pages later ≡ x.epoch + 1
-      → low_of h.pages later ≡ PAGE_WORDS * h.pages
+      → low_of h.pages later ≡ PAGE_WORDS * size_in_use h.pages later
   at_exchange f r staged flips was next =
       let own : x ≡ at_stage x (Flips (record f { stage = flip_stage.Exchanges r })) = ap (at_stage x) (staged ∙ ap (λ (s : FlipStage). Flips (record f { stage = s })) flips) in
       let whole = other_is_whole h p o k x st f r (subst (Is (read h) k) own there) in
       let space : to_space (epoch_of h.pages later) ≡ from_space (era (read h)).epoch = ap to_space (next ∙ ap (λ (e : ℕ). e + 1) (sym was ∙ sym (of_now h p o k x st))) in
       let stay = beside h.pages h.words (from_space (era (read h)).epoch) f.layout.pages (flip.wants_at f (flip_stage.Exchanges r)) q tt (sym (ap wanted own) ∙ asked) in
-      ap (low_at h.pages later) space ∙ (stay ∙ whole)
+      let other = from_space (era (read h)).epoch in
+      let sized = size_beside h.pages h.words other (is_space ((era (read h)).epoch + 1)) f.layout.pages (flip.wants_at f (flip_stage.Exchanges r)) q tt (sym (ap wanted own) ∙ asked) in
+      ap (low_at h.pages later) space ∙ (stay ∙ (whole ∙ ap (λ (size : ℕ). PAGE_WORDS * size) (sym sized ∙ ap (λ (s : ℕ). word_in h.pages later (Size s)) (sym space))))
 
   by_told : (t : Told) → told x reply ≡ t → FlipsWhereTold h.pages h.words later x t → LowGoes h.pages h.words later (words_claimed x reply) t
   by_told Silent e flips = same_epoch flips

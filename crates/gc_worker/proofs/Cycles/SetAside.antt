@@ -14,7 +14,7 @@ use Rattle.alloc_end.specs.declared.allocated.Allocated.{Allocated}
 use Rattle.alloc_end.specs.declared.run.Run.{Run}
 use Rattle.alloc_end.specs.declared.new_pages.NewPages.{NewPages}
 use Rattle.alloc_end.specs.declared.place_stage.PlaceStage.{PlaceStage}
-use Rattle.alloc_end.specs.declared.place_stage.PlaceStage.TheVariants.{LoadsTraced, LoadsArea, ExchangesArea, StoresZero, OpensPage, StoresCount, StoresHeader, Ended}
+use Rattle.alloc_end.specs.declared.place_stage.PlaceStage.TheVariants.{LoadsTraced, LoadsSize, LoadsArea, ExchangesArea, StoresZero, OpensPage, StoresCount, StoresHeader, Ended}
 use Rattle.alloc_end.specs.Place.{Placing, pages_for, size_of, stores_first, words_for}
 use Rattle.alloc_end.specs.Place as place
 use Rattle.alloc_end.specs.Soundness.{IsPlacingGoing}
@@ -77,7 +77,8 @@ module _ (x : Held) (z : Placing) (task : IsMaking x.account x.registers x.task)
 
   by_place : (stage : PlaceStage) (reply : Reply) → IsPlacingGoing stage → SetsAside (at stage) (words_claimed (at stage) reply) (turned (at stage) reply) (told (at stage) reply)
   by_place LoadsTraced reply going = nothing (at LoadsTraced) (turned (at LoadsTraced) reply) 0 refl refl (told (at LoadsTraced) reply)
-  by_place (LoadsArea traced) reply going = nothing (at (LoadsArea traced)) (turned (at (LoadsArea traced)) reply) 0 refl refl (told (at (LoadsArea traced)) reply)
+  by_place (LoadsSize traced) reply going = nothing (at (LoadsSize traced)) (turned (at (LoadsSize traced)) reply) 0 refl refl (told (at (LoadsSize traced)) reply)
+  by_place (LoadsArea traced size) reply going = nothing (at (LoadsArea traced size)) (turned (at (LoadsArea traced size)) reply) 0 refl refl (told (at (LoadsArea traced size)) reply)
   by_place (ExchangesArea f) (replies.Value word) going = omega arith
   by_place (ExchangesArea f) replies.Done going = omega arith
   by_place (ExchangesArea f) replies.Won going = omega arith

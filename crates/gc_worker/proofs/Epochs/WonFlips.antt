@@ -15,7 +15,7 @@ use Rattle.gate_core.specs.Flip.{Flipping, gate_flipped}
 use Rattle.heap_state.proofs.Table.Places.{word_in-row}
 use Rattle.gc_worker.specs.declared.stage.Stage.TheVariants.{Flips}
 use Rattle.gc_worker.specs.Steps.Goes.{Is}
-use Rattle.gc_worker.specs.Workers.Held.{Held, at_stage}
+use Rattle.gc_worker.specs.Workers.Held.{Held, at_stage, has_seen_flip}
 use Rattle.gc_worker.specs.Laws.Step.{Heap, read, WorkersStand, FlipsAreWon}
 use Rattle.gc_worker.specs.Steps.Wanted.{wanted}
 use Rattle.gc_worker.proofs.Stages.Flip.Flipping.{unmoved}
@@ -23,7 +23,7 @@ use Rattle.gc_worker.proofs.Workers.Members.{member}
 
 module _ (h : Heap) (p o : Plain) (k : ℕ) (st : WorkersStand h p o) (r : Reset) where
   -- the flipper in its own layout and epoch
-  module _ (x : Held) (asked : ℕ) (there : Is (read h) k (at_stage x (Flips (record { layout = x.layout; epoch = x.epoch; asked = asked; stage = Exchanges r })))) where
+  module _ (x : Held) (asked : ℕ) (there : Is (read h) k (at_stage x (Flips (record { layout = x.layout; epoch = x.epoch; asked = asked; seen = has_seen_flip x; stage = Exchanges r })))) where
     at_gate : slice_index h.words (place_of h.pages Gate) ≡ encode_gate r.gate
     at_gate = sym (word_in-row h.pages h.words Gate tt) ∙ unmoved (read h) p st.stands k x asked r there
 
@@ -33,8 +33,8 @@ module _ (h : Heap) (p o : Plain) (k : ℕ) (st : WorkersStand h p o) (r : Reset
   by_flip : (x : Held) (f : Flipping) → Is (read h) k (at_stage x (Flips (record f { stage = Exchanges r })))
       → reply_of (Exchange (place_of f.layout.pages Gate) (encode_gate r.gate) (encode_gate (gate_flipped r.gate))) h.words ≡ Won
   by_flip x f there =
-      let same : record f { stage = Exchanges r } ≡ record { layout = x.layout; epoch = x.epoch; asked = f.asked; stage = Exchanges r } =
-      (λ i. record { layout = there.fits.stage.layout i; epoch = there.fits.stage.epoch i; asked = f.asked; stage = Exchanges r }) in
+      let same : record f { stage = Exchanges r } ≡ record { layout = x.layout; epoch = x.epoch; asked = f.asked; seen = has_seen_flip x; stage = Exchanges r } =
+      (λ i. record { layout = there.fits.stage.layout i; epoch = there.fits.stage.epoch i; asked = f.asked; seen = there.fits.stage.seen i; stage = Exchanges r }) in
       subst (λ (g : Flipping). reply_of (Exchange (place_of g.layout.pages Gate) (encode_gate r.gate) (encode_gate (gate_flipped r.gate))) h.words ≡ Won) (sym same)
       (wins x f.asked (subst (λ (g : Flipping). Is (read h) k (at_stage x (Flips g))) same there))
 

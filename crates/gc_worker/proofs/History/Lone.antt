@@ -122,7 +122,7 @@ none_beside : (code : List (List Instr)) (turns : ℕ) (p : Plain) (m : ℕ) →
 unfolding sum_below
 none_beside code turns p m one small = let e : m ≡ 0 = omega (arith, small) in rw (one, e) refl
 
-module _ (pages : ℕ) (code : List (List Instr)) (turns : ℕ) (one : length code ≡ 1) where
+module _ (limit least : ℕ) (code : List (List Instr)) (turns : ℕ) (one : length code ≡ 1) where
   abbrev after : List Mark → Story
   after front = story_after code turns (first_story code) front
 
@@ -140,13 +140,13 @@ module _ (pages : ℕ) (code : List (List Instr)) (turns : ℕ) (one : length co
         full_follows_flip code turns m asked room live rest (opening code) front (λ marks. plain_count code turns marks ∙ one)
         (subst (EachActs code turns (opening code)) is acts) (subst (EachMayCome (λ j. false) 0) is may) few
 
-    pub lone_is_never_full : EachFullIs pages code turns (first_story code) 0 order → flips_in 0 order < 2 ^ 32 - 1 → IsEnoughForOne pages code turns order → HasNoFull order
+    pub lone_is_never_full : EachFullIs limit least code turns (first_story code) 0 0 order → flips_in 0 order < 2 ^ 32 - 1 → IsEnoughForOne limit code turns order → HasNoFull order
     lone_is_never_full each few enough front rest m asked room live is =
         let marks = Full m asked room live ∷ rest in
         let grow = flips_grow 0 front marks in
         let total = ap (flips_in 0) is in
         let ends = flip_before front rest m asked room live (sym is) (omega (arith, few, grow, total)) in
-        let full = at_full pages code turns (first_story code) 0 front rest m asked room live (subst (EachFullIs pages code turns (first_story code) 0) (sym is) each) in
+        let full = at_full limit least code turns (first_story code) 0 0 front rest m asked room live (subst (EachFullIs limit least code turns (first_story code) 0 0) (sym is) each) in
         let at = after_flip front ends in
         let now : (after front).now ≡ plain code turns front = story-now code turns front in
         let many : length (after front).now.mutators ≡ 1 = ap (λ (p : Plain). length p.mutators) now ∙ (plain_count code turns front ∙ one) in
@@ -157,4 +157,5 @@ module _ (pages : ℕ) (code : List (List Instr)) (turns : ℕ) (one : length co
         let claims = full.for_records in
         let short = full.short in
         let none = at.1 in
-        omega (arith, fits, filled, claims, short, beside, none)
+        let grown = full.grown in
+        omega (arith, fits, filled, claims, short, beside, none, grown, few, grow, total)

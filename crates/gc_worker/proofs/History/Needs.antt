@@ -20,9 +20,10 @@ use Rattle.gc_worker.specs.declared.calls.entry.Entry.TheVariants.{Made, Exchang
 use Rattle.gc_worker.specs.declared.task.Task.{Task}
 use Rattle.gc_worker.specs.declared.task.Task.TheVariants.{Calls, Stops}
 use Rattle.gc_worker.specs.History.Legal.{IsLegal, after_all, after_call}
+use Rattle.gc_worker.proofs.History.Large.{least_full}
 use Rattle.gc_worker.specs.History.Needs.{EachFullIs, EachMayCome, HasNoFull, IsFullAt, IsLargeEnough, FullMayCome, being_made, flips_by, flips_in, made_after, made_after_mark, first_story, pages_next, since_by, since_in}
 use Rattle.gc_worker.specs.History.Order.{AreFetched, mark_by, order_of}
-use Rattle.gc_worker.specs.History.Tally.{EachEntry, EntryIs, IsFilled, IsFilledBy, IsFilledByEnd, Tally, Tasks, after_entry, asked_by_task, asked_for, asked_unless_ended, made_next, made_if, next_task, pages_by_task, tally}
+use Rattle.gc_worker.specs.History.Tally.{EachEntry, EntryIs, IsFilled, IsFilledBy, IsFilledByEnd, Sizes, Tally, Tasks, after_entry, asked_by_task, asked_for, asked_unless_ended, made_next, made_if, next_task, pages_by_task, size_now, tally}
 use Rattle.gc_worker.specs.Plain.Marks.{end_mark, task_of}
 use Rattle.gc_worker.specs.Steps.Turned.{Answers}
 use Rattle.gc_worker.proofs.Between.Others.{answers_leave_the_others}
@@ -85,7 +86,7 @@ module _ (code : List (List Instr)) (turns : ℕ) (tasks : Tasks) where
         by_asked (Some asked) e = let same : pages_next code turns p j ≡ asked = ap (λ (a : Option ℕ). unwrap_or a 0) (asks_next j asked o own e) in omega (arith, same)
 
     -- by all but mutator m
-    making_most : (m : ℕ) (es : List Entry) → ((j : ℕ) → j ≢ m → IsNext code turns p j (next_task j es (tasks j))) → made_next p tasks m es ≤ being_made code turns p m
+    pub making_most : (m : ℕ) (es : List Entry) → ((j : ℕ) → j ≢ m → IsNext code turns p j (next_task j es (tasks j))) → made_next p tasks m es ≤ being_made code turns p m
     making_most m es own = sum_below-most (length p.mutators) _ _ (λ j below. either j (j == m) refl)
       where
         either : (j : ℕ) (b : Bool) → (j == m) ≡ b → cond b 0 (pages_by_task p j (next_task j es (tasks j))) ≤ cond b 0 (pages_next code turns p j)
@@ -106,7 +107,7 @@ module _ (code : List (List Instr)) (turns : ℕ) (tasks : Tasks) where
   made_most Done pages = omega arith
   made_most (Trap end) pages = omega arith
 
-  module _ (n : ℕ) (t : Tally) (made : ℕ) (since : ℕ → Bool) (c : Call) (es : List Entry) (sections : length t.now.mutators ≡ length code)
+  module _ (z : Sizes) (t : Tally) (made : ℕ) (since : ℕ → Bool) (c : Call) (es : List Entry) (sections : length t.now.mutators ≡ length code)
       (its : IsNext code turns t.now c.by (Some c.task)) (next : (j : ℕ) → j ≢ c.by → IsNext code turns t.now j (next_task j es (tasks j)))
       (covers : t.made ≤ made) (has : (m : ℕ) → t.since m ≡ true → since m ≡ true) where
     abbrev before : Story
@@ -117,7 +118,7 @@ module _ (code : List (List Instr)) (turns : ℕ) (tasks : Tasks) where
 
     -- these marks are so, and whether they may come
     abbrev Are : Story → (made : ℕ) → (ℕ → Bool) → List Mark → Type 0
-    Are s made since marks = EachFullIs n code turns s made marks × EachMayCome since t.flips marks
+    Are s made since marks = EachFullIs z.limit z.least code turns s t.flips made marks × EachMayCome since t.flips marks
 
     -- the later marks, if so many pages were made at least, and of whom a flip came at least
     abbrev Later : Did → Type 0
@@ -132,56 +133,59 @@ module _ (code : List (List Instr)) (turns : ℕ) (tasks : Tasks) where
         let rest = later (made + pages_next code turns t.now c.by) (since_by since (Step c.by)) (omega (arith, covers, most, few)) (λ m. drops (m == c.by) (t.since m) (since m) (has m)) in
         let to : story_marked code turns before (Step c.by) ≡ after = subst (λ (z : Mark). story_marked code turns before z ≡ after) is turn in
         subst (λ (z : Mark). Are before made since (z ∷ order_of es)) (sym is)
-        ((tt, subst (λ (s : Story). EachFullIs n code turns s (made + pages_next code turns t.now c.by) (order_of es)) (sym to) rest.0), (tt, rest.1))
+        ((tt, subst (λ (s : Story). EachFullIs z.limit z.least code turns s t.flips (made + pages_next code turns t.now c.by) (order_of es)) (sym to) rest.0), (tt, rest.1))
 
-    fills : (asked room live : ℕ) → IsFilled n tasks t c.by c.task asked room live es → Later (Trap (ends.HeapFull asked room live)) → story_marked code turns before (Full c.by asked room live) ≡ after
+    fills : (asked room live : ℕ) → IsFilled z tasks t c.by c.task asked room live es → Later (Trap (ends.HeapFull asked room live)) → story_marked code turns before (Full c.by asked room live) ≡ after
         → Are before made since (Full c.by asked room live ∷ order_of es)
     unfolding EachMayCome
     fills asked room live f later turn =
         let rest = later made since (omega (arith, covers)) (λ m e. has m (kept (m == c.by) (t.since m) e)) in
         let most = making_most t.now sections c.by es next in
         let few = f.for_records in
-        let full : IsFullAt n code turns before made c.by asked room live = record {
+        let full : IsFullAt z.limit z.least code turns before t.flips made c.by asked room live = record {
           asked_is = asks_next t.now sections c.by asked (Some c.task) its f.asked_is;
           short = f.short;
           live_is = f.live_is;
+          size = size_now z t;
+          within = f.within;
+          grown = ⊎_elim (λ (flipped : (t.since c.by ≡ true) × (size_now z t ≡ z.limit)). inl flipped.1) (λ (last : t.flips ≡ 2 ^ 32 - 1). inr last) f.no_flip;
           claims = f.claims;
           filled = f.filled;
           for_records = omega (arith, most, few, covers);
         } in
-        let may : FullMayCome since t.flips (Full c.by asked room live) = ⊎_elim (λ (e : t.since c.by ≡ true). inl (has c.by e)) (λ (last : t.flips ≡ 2 ^ 32 - 1). inr last) f.no_flip in
-        ((full, subst (λ (s : Story). EachFullIs n code turns s made (order_of es)) (sym turn) rest.0), (may, rest.1))
+        let may : FullMayCome since t.flips (Full c.by asked room live) = ⊎_elim (λ (flipped : (t.since c.by ≡ true) × (size_now z t ≡ z.limit)). inl (has c.by flipped.0)) (λ (last : t.flips ≡ 2 ^ 32 - 1). inr last) f.no_flip in
+        ((full, subst (λ (s : Story). EachFullIs z.limit z.least code turns s t.flips made (order_of es)) (sym turn) rest.0), (may, rest.1))
 
-    by_sort : (why : End) → IsFilledByEnd n tasks t c.by c.task why es → Later (Trap why) → story_marked code turns before (end_mark c.by why) ≡ after → Sort c.by why
+    by_sort : (why : End) → IsFilledByEnd z tasks t c.by c.task why es → Later (Trap why) → story_marked code turns before (end_mark c.by why) ≡ after → Sort c.by why
         → Are before made since (end_mark c.by why ∷ order_of es)
     by_sort why f later turn (IsStep is calls) = steps (Trap why) later (end_mark c.by why) is turn
     by_sort why f later turn (IsFull asked room live is) =
-        subst (λ (end : End). IsFilledByEnd n tasks t c.by c.task end es → Later (Trap end) → story_marked code turns before (end_mark c.by end) ≡ after → Are before made since (end_mark c.by end ∷ order_of es)) (sym is)
+        subst (λ (end : End). IsFilledByEnd z tasks t c.by c.task end es → Later (Trap end) → story_marked code turns before (end_mark c.by end) ≡ after → Are before made since (end_mark c.by end ∷ order_of es)) (sym is)
         (fills asked room live) f later turn
 
-    call_fills : (did : Did) → IsFilledBy n tasks t c.by c.task did es → Later did → story_marked code turns before (mark_by c.by did) ≡ after → Are before made since (mark_by c.by did ∷ order_of es)
+    call_fills : (did : Did) → IsFilledBy z tasks t c.by c.task did es → Later did → story_marked code turns before (mark_by c.by did) ≡ after → Are before made since (mark_by c.by did ∷ order_of es)
     call_fills Done f later turn = steps Done later (Step c.by) refl turn
     call_fills (Trap why) f later turn = by_sort why f later turn (sort c.by why)
 
   -- ---- a history
 
   -- in which all is fetched, as the tasks are that workers hold at its end
-  pub orders_fill : (n : ℕ) (t : Tally) (made : ℕ) (since : ℕ → Bool) (log : List Entry) → IsLegal t.now log → length t.now.mutators ≡ length code → ((m : ℕ) → AreFetched code turns m t.now log)
-      → ((j : ℕ) → IsNext code turns (after_all t.now log) j (tasks j)) → EachEntry (EntryIs n tasks) t log → t.made ≤ made → ((m : ℕ) → t.since m ≡ true → since m ≡ true)
-      → EachFullIs n code turns (record { flip = t.flip; now = t.now }) made (order_of log) × EachMayCome since t.flips (order_of log)
+  pub orders_fill : (z : Sizes) (t : Tally) (made : ℕ) (since : ℕ → Bool) (log : List Entry) → IsLegal t.now log → length t.now.mutators ≡ length code → ((m : ℕ) → AreFetched code turns m t.now log)
+      → ((j : ℕ) → IsNext code turns (after_all t.now log) j (tasks j)) → EachEntry (EntryIs z tasks) t log → t.made ≤ made → ((m : ℕ) → t.since m ≡ true → since m ≡ true)
+      → EachFullIs z.limit z.least code turns (record { flip = t.flip; now = t.now }) t.flips made (order_of log) × EachMayCome since t.flips (order_of log)
   unfolding EachMayCome
-  orders_fill n t made since [] legal sections own last each covers has = (tt, tt)
-  orders_fill n t made since (Made c ∷ es) legal sections own last each covers has =
+  orders_fill z t made since [] legal sections own last each covers has = (tt, tt)
+  orders_fill z t made since (Made c ∷ es) legal sections own last each covers has =
       let later = next_at (after_call t.now c) es (λ m. (own m).1) last in
       let leaves = answers_leave_the_others t.now c.by (Answers c.task c.did) in
-      call_fills n t made since c es sections
+      call_fills z t made since c es sections
       (λ task q is its none. sym (same_Some c.task task is) ∙ (own c.by).0 refl q its)
       (λ j other task q is its none. later j task q is (leaves.mutator j other ∙ its) none)
       covers has c.did each.0
-      (λ more then most on. orders_fill n (after_entry t (Made c)) more then es legal.1 (as_many t.now (Made c ∷ []) ∙ sections) (λ m. (own m).1) last each.1 most on)
+      (λ more then most on. orders_fill z (after_entry t (Made c)) more then es legal.1 (as_many t.now (Made c ∷ []) ∙ sections) (λ m. (own m).1) last each.1 most on)
       (call_turns code turns t.now t.flip c legal.0 sections ((own c.by).0 refl))
-  orders_fill n t made since (Exchanged by asked ∷ es) legal sections own last each covers has =
-      let rest = orders_fill n (after_entry t (Exchanged by asked)) 0 (λ m. true) es legal sections own last each.1 (omega arith) (λ m e. refl) in
+  orders_fill z t made since (Exchanged by asked ∷ es) legal sections own last each covers has =
+      let rest = orders_fill z (after_entry t (Exchanged by asked)) 0 (λ m. true) es legal sections own last each.1 (omega arith) (λ m e. refl) in
       ((tt, rest.0), (tt, rest.1))
 
   -- ---- what it makes
@@ -210,13 +214,24 @@ module _ (code : List (List Instr)) (turns : ℕ) (tasks : Tasks) where
       (order_makes (after_entry t (Made c)) more es legal.1 (as_many t.now (Made c ∷ []) ∙ sections) (λ m. (own m).1) most)
   order_makes t made (Exchanged by asked ∷ es) legal sections own covers = order_makes (after_entry t (Exchanged by asked)) 0 es legal sections own (omega arith)
 
+  -- its order leads to what is counted along it
+  pub order_turns : (t : Tally) (log : List Entry) → IsLegal t.now log → length t.now.mutators ≡ length code → ((m : ℕ) → AreFetched code turns m t.now log)
+      → story_after code turns (record { flip = t.flip; now = t.now }) (order_of log) ≡ record { flip = (tally t log).flip; now = (tally t log).now }
+  order_turns t [] legal sections own = refl
+  order_turns t (Made c ∷ es) legal sections own =
+      ap (λ (s : Story). story_after code turns s (order_of es)) (call_turns code turns t.now t.flip c legal.0 sections ((own c.by).0 refl))
+      ∙ order_turns (after_entry t (Made c)) es legal.1 (as_many t.now (Made c ∷ []) ∙ sections) (λ m. (own m).1)
+  order_turns t (Exchanged by asked ∷ es) legal sections own = order_turns (after_entry t (Exchanged by asked)) es legal sections own
+
 -- ---- a heap that is large enough
 
 -- the marks before one lead to its story
-pub at_full : (n : ℕ) (code : List (List Instr)) (turns : ℕ) (s : Story) (made : ℕ) (front rest : List Mark) (m asked room live : ℕ)
-    → EachFullIs n code turns s made (front ++ Full m asked room live ∷ rest) → IsFullAt n code turns (story_after code turns s front) (made_after code turns s made front) m asked room live
-at_full n code turns s made [] rest m asked room live each = each.0
-at_full n code turns s made (mark ∷ front) rest m asked room live each = at_full n code turns (story_marked code turns s mark) (made_after_mark code turns s.now made mark) front rest m asked room live each.1
+pub at_full : (limit least : ℕ) (code : List (List Instr)) (turns : ℕ) (s : Story) (flips made : ℕ) (front rest : List Mark) (m asked room live : ℕ)
+    → EachFullIs limit least code turns s flips made (front ++ Full m asked room live ∷ rest)
+    → IsFullAt limit least code turns (story_after code turns s front) (flips_in flips front) (made_after code turns s made front) m asked room live
+at_full limit least code turns s flips made [] rest m asked room live each = each.0
+at_full limit least code turns s flips made (mark ∷ front) rest m asked room live each =
+    at_full limit least code turns (story_marked code turns s mark) (flips_by flips mark) (made_after_mark code turns s.now made mark) front rest m asked room live each.1
 
 -- and to whether it may come
 pub may_come_at : (since : ℕ → Bool) (flips : ℕ) (front rest : List Mark) (mark : Mark) → EachMayCome since flips (front ++ mark ∷ rest) → FullMayCome (since_in since front) (flips_in flips front) mark
@@ -224,14 +239,15 @@ unfolding EachMayCome
 may_come_at since flips [] rest mark each = each.0
 may_come_at since flips (first ∷ front) rest mark each = may_come_at (since_by since first) (flips_by flips first) front rest mark each.1
 
-pub large_is_never_full : (n : ℕ) (code : List (List Instr)) (turns : ℕ) (order : List Mark) → EachFullIs n code turns (first_story code) 0 order → EachMayCome (λ j. false) 0 order
-    → IsLargeEnough n code turns order → HasNoFull order
-large_is_never_full n code turns order each may large front rest m asked room live is =
+pub large_is_never_full : (limit least : ℕ) (code : List (List Instr)) (turns : ℕ) (order : List Mark) → EachFullIs limit least code turns (first_story code) 0 0 order → EachMayCome (λ j. false) 0 order
+    → IsLargeEnough limit least code turns order → HasNoFull order
+large_is_never_full limit least code turns order each may large front rest m asked room live is =
     let mark = Full m asked room live in
     let comes = may_come_at (λ j. false) 0 front rest mark (subst (EachMayCome (λ j. false) 0) (sym is) may) in
-    let full = at_full n code turns (first_story code) 0 front rest m asked room live (subst (EachFullIs n code turns (first_story code) 0) (sym is) each) in
+    let full = at_full limit least code turns (first_story code) 0 0 front rest m asked room live (subst (EachFullIs limit least code turns (first_story code) 0 0) (sym is) each) in
+    let most = least_full limit least (flips_in 0 front) full.size full.within.0 full.grown in
     let fits = large front (mark ∷ rest) m is comes asked live full.asked_is full.live_is in
     let filled = full.filled in
     let few = full.for_records in
     let short = full.short in
-    omega (arith, fits, filled, few, short)
+    omega (arith, fits, filled, few, short, most)

@@ -11,6 +11,8 @@ use Rattle.atom_store.specs.declared.reply.Reply.{Reply}
 use Rattle.atom_store.specs.declared.step.Step.{Step}
 use Rattle.atom_store.specs.Step.{words_after, reply_of}
 use Rattle.space_map.specs.Spaces.{to_space}
+use Rattle.space_map.specs.Table.{Size}
+use Rattle.heap_state.specs.Memory.Table.{word_in}
 use Rattle.gate_core.specs.Flip.{Flipping}
 use Rattle.heap_state.specs.Worker.{Account, is_running}
 use Rattle.gc_worker.specs.declared.stage.Stage.{Stage}
@@ -19,7 +21,7 @@ use Rattle.gc_worker.specs.declared.task.Task.{Task}
 use Rattle.gc_worker.specs.Plain.Answer.{ComesTo, IsAnswered}
 use Rattle.gc_worker.specs.Workers.Begun.{IsPastLook}
 use Rattle.gc_worker.specs.Laws.Between.{KeepsToTask, IsAsPlain, IsNoAnswer, IsSo}
-use Rattle.gc_worker.specs.Laws.Cycles.{IsFirst, IsInCall, LowGoes, SetsAside, words_claimed, low_at, low_of, low_said, set_aside}
+use Rattle.gc_worker.specs.Laws.Cycles.{Grows, IsFirst, IsInCall, LowGoes, SetsAside, SizeGoes, words_claimed, low_at, low_of, low_said, set_aside, size_of}
 use Rattle.gc_worker.specs.Workers.Fits.{Fits, FitsEnd, FitsTask, IsMaking, IsOnSide}
 use Rattle.gc_worker.specs.Plain.Full.{FindsNoRoom, FullWhereTold}
 use Rattle.gc_worker.specs.Workers.Held.{Held}
@@ -36,22 +38,24 @@ use Rattle.gc_worker.proofs.Between.Standing.{what_stands_is_so}
 use Rattle.gc_worker.proofs.Cycles.Calls.{calls_go_on}
 use Rattle.gc_worker.proofs.Cycles.Flips.{flips_are_first, flips_stay_first}
 use Rattle.gc_worker.proofs.Cycles.Lows.{low_falls_by_claims}
+use Rattle.gc_worker.proofs.Cycles.Sizes.{sizes_are_within, sizes_stay}
+use Rattle.gc_worker.proofs.Words.Sizes.{grown_within}
 use Rattle.gc_worker.proofs.Cycles.SetAside.{claims_are_set_aside}
 use Rattle.gc_worker.proofs.Stages.Gate.Resuming.{end_none}
 use Rattle.gc_worker.proofs.Plain.NewRecords.{asked_is, plain_pages}
 use Rattle.gc_worker.proofs.StepKeeps.{steps_keep}
 use Rattle.gc_worker.specs.declared.calls.entry.Entry.{Entry}
-use Rattle.gc_worker.specs.History.Tally.{FitsTally, EachEntry, EntryIs, IsAskedFor, IsFilled, IsFilledByEnd, IsTallied, Tally, Tasks, aside_in, asked_by_task, made_next, next_task, pages_by_task, tally, tasks_held}
+use Rattle.gc_worker.specs.History.Tally.{FitsTally, EachEntry, EntryIs, IsAskedFor, IsFilled, IsFilledByEnd, IsTallied, Sizes, Tally, size_now, Tasks, aside_in, asked_by_task, made_next, next_task, pages_by_task, tally, tasks_held}
 use Rattle.gc_worker.specs.History.Legal.{extra}
 use Rattle.gc_worker.proofs.History.Aside.{aside_changes, aside_most, aside_of_others}
 use Rattle.gc_worker.proofs.History.FullHeaps.{full_asks, full_calls, past_look}
 use Rattle.gc_worker.proofs.History.Records.{makes_its_record}
-use Rattle.gc_worker.proofs.History.Tallies.{asks_as, entries_on, tally_append}
+use Rattle.gc_worker.proofs.History.Tallies.{asks_as, entries_on, flips_most, tally_append}
 
 -- ---- the step of worker k, which holds y
 
 module _ (h : Heap) (k : ℕ) (y : Held) (q : Step) (below : k < length h.workers) (holds : held_at h k ≡ y) (want : wanted y ≡ Some q)
-    (first : Tally) (log : List Entry) (b : IsTallied h first log) (st : WorkersStand h (tally first log).now (tally first log).flip) where
+    (least : ℕ) (first : Tally) (log : List Entry) (b : IsTallied least h first log) (st : WorkersStand h (tally first log).now (tally first log).flip) where
   abbrev n : ℕ
   n = h.pages
 
@@ -64,7 +68,7 @@ module _ (h : Heap) (k : ℕ) (y : Held) (q : Step) (below : k < length h.worker
   abbrev o : Plain
   o = t.flip
 
-  abbrev c : FitsTally h t
+  abbrev c : FitsTally h b.sizes t
   c = b.counts
 
   abbrev reply : Reply
@@ -105,7 +109,7 @@ module _ (h : Heap) (k : ℕ) (y : Held) (q : Step) (below : k < length h.worker
   it_holds = get_or-set_same h.workers k z nobody below
 
   -- the others hold what they held
-  other_holds : (m : ℕ) → m ≢ k → held_at after m ≡ held_at h m
+  pub other_holds : (m : ℕ) → m ≢ k → held_at after m ≡ held_at h m
   other_holds m other = get_or-set_other h.workers k m z nobody other
 
   -- ---- the words claimed
@@ -115,10 +119,40 @@ module _ (h : Heap) (k : ℕ) (y : Held) (q : Step) (below : k < length h.worker
   claims_after (Answers task outcome) = c.claims + words_claimed y reply
   claims_after (Marks asked) = 0
 
-  low_after : (u : Told) → LowGoes n h.words words' (words_claimed y reply) u → low_of n words' + claims_after u ≡ PAGE_WORDS * n
-  low_after Silent low = let was = c.low in omega (arith, low, was)
-  low_after (Answers task outcome) low = let was = c.low in omega (arith, low, was)
-  low_after (Marks asked) low = omega (arith, low)
+  -- the next epoch's size, if there is a flip, is that of the words
+  abbrev sizes_after : Sizes
+  sizes_after = record b.sizes { in_use = λ e. cond (e == t.flips + 1) (size_of n words') (b.sizes.in_use e) }
+
+  agree : (e : ℕ) → e ≤ t.flips → sizes_after.in_use e ≡ b.sizes.in_use e
+  agree e few = ap (λ (b' : Bool). cond b' (size_of n words') (b.sizes.in_use e)) (ne_eqb e (t.flips + 1) (λ same. omega (arith, few, same)))
+
+  next_size : sizes_after.in_use (t.flips + 1) ≡ size_of n words'
+  next_size = ap (λ (b' : Bool). cond b' (size_of n words') (b.sizes.in_use (t.flips + 1))) (eq-eqb (t.flips + 1) (t.flips + 1) refl)
+
+  goes_size : SizeGoes n h.words words' (told y reply)
+  goes_size = sizes_stay h p o k y q st below holds want
+
+  sizes_go : (u : Told) → told y reply ≡ u → SizeGoes n h.words words' u
+  sizes_go u e = subst (SizeGoes n h.words words') e goes_size
+
+  size_after : (u : Told) → SizeGoes n h.words words' u → size_of n words' ≡ size_now sizes_after (then_by u)
+  size_after Silent same = same ∙ (c.size ∙ sym (agree t.flips (omega arith)))
+  size_after (Answers task Done) same = same ∙ (c.size ∙ sym (agree t.flips (omega arith)))
+  size_after (Answers task (Trap end)) same = same ∙ (c.size ∙ sym (agree t.flips (omega arith)))
+  size_after (Marks asked) grows = sym next_size
+
+  least_after : (u : Told) → SizeGoes n h.words words' u → b.sizes.least ≤ size_of n words'
+  least_after Silent same = let was = c.least in let size = c.size in omega (arith, was, size, same)
+  least_after (Answers task outcome) same = let was = c.least in let size = c.size in omega (arith, was, size, same)
+  least_after (Marks asked) grows =
+      let was = c.least in let size = c.size in let within = (sizes_are_within h p o st).1 in
+      let more = grown_within n (size_of n h.words) (size_of n words') within grows in
+      omega (arith, was, size, more)
+
+  low_after : (u : Told) → SizeGoes n h.words words' u → LowGoes n h.words words' (words_claimed y reply) u → low_of n words' + claims_after u ≡ PAGE_WORDS * size_of n words'
+  low_after Silent same low = let was = c.low in let size = c.size in omega (arith, low, was, same, size)
+  low_after (Answers task outcome) same low = let was = c.low in let size = c.size in omega (arith, low, was, same, size)
+  low_after (Marks asked) grows low = omega (arith, low)
 
   its_most : (task : Task) → y.task ≡ Some task → set_aside y ≤ PAGE_WORDS * pages_by_task t.now k (Some task)
   its_most task is =
@@ -232,11 +266,8 @@ module _ (h : Heap) (k : ℕ) (y : Held) (q : Step) (below : k < length h.worker
 
   -- ---- who asks for a flip
 
-  first_after : (m : ℕ) → m < length after.workers → IsFirst (held_at after m)
-  first_after m inside = ⊎_elim
-      (λ (same : m ≡ k). subst (λ (j : ℕ). IsFirst (held_at after j)) (sym same) (subst IsFirst (sym it_holds) (flips_stay_first y reply (subst IsFirst holds (c.first k below)))))
-      (λ (other : m ≢ k). subst IsFirst (sym (other_holds m other)) (c.first m (let many = length-set h.workers k z in omega (arith, many, inside))))
-      (cases_eq m k)
+  first_after : (m : ℕ) → m < length after.workers → IsFirst n words' (held_at after m)
+  first_after m inside = flips_stay_first h p o k y q st below holds want c.first m (let many = length-set h.workers k z in omega (arith, many, inside))
 
   -- worker m, where it holds x, is in its call, and has seen a flip
   abbrev HasSeen : ℕ → Held → Type 0
@@ -304,15 +335,17 @@ module _ (h : Heap) (k : ℕ) (y : Held) (q : Step) (below : k < length h.worker
         let was = subst (IsBegun t.flips k) holds (c.begun k) is_mutator unended (past_look y.stage in_call) in
         own_call (t.flips + 1) (subst IsNoAnswer (sym e) tt) in_call (omega (arith, was))
 
-    -- it has asked for none
-    none_asked : t.asked k ≡ false
-    none_asked = by_asked (t.asked k) refl
+    -- it has asked for none, or the space may still grow
+    pub none_asked : (t.asked k ≡ false) ⊎ (size_of n h.words < n)
+    none_asked = ⊎_elim
+        (λ (own : y.epoch ≤ y.begun). inl (by_asked own (t.asked k) refl))
+        (λ (grows : size_of n h.words < n). inr grows)
+        (flips_are_first n h.words y reply asked (subst (IsFirst n h.words) holds (c.first k below)) e)
       where
-        by_asked : (has : Bool) → t.asked k ≡ has → t.asked k ≡ false
-        by_asked false is = is
-        by_asked true is = absurd
+        by_asked : y.epoch ≤ y.begun → (has : Bool) → t.asked k ≡ has → t.asked k ≡ false
+        by_asked own false is = is
+        by_asked own true is = absurd
             (let seen = (its_call is).1 in
-            let own = flips_are_first y reply asked (subst IsFirst holds (c.first k below)) e in
             let epoch = once.epoch in
             let flips = c.epoch in
             omega (arith, seen, own, epoch, flips))
@@ -323,10 +356,14 @@ module _ (h : Heap) (k : ℕ) (y : Held) (q : Step) (below : k < length h.worker
       (λ has. absurd (let not : cond (k == k) false (t.asked k) ≡ false = ap (λ (s : Bool). cond s false (t.asked k)) (eq-eqb k k refl) in let never = sym not ∙ has in cc))
   call_after (Marks asked) e = all_call (Marks asked) (then_by (Marks asked)).asked (λ m other. ap (λ (s : Bool). cond s true (t.asked m)) (ne_eqb m k other)) (λ has. flipper_seen asked e)
 
-  counts_by : (u : Told) → told y reply ≡ u → FitsTally after (then_by u)
+  counts_by : (u : Told) → told y reply ≡ u → FitsTally after sizes_after (then_by u)
   counts_by u e = record {
+    limit = c.limit;
+    size = size_after u (sizes_go u e);
+    least = (let least = least_after u (sizes_go u e) in let size = size_after u (sizes_go u e) in omega (arith, least, size));
     claims = claims_after u;
-    low = low_after u (subst (LowGoes n h.words words' (words_claimed y reply)) e (low_falls_by_claims h p o k y q st below holds want));
+    low = low_after u (sizes_go u e) (subst (LowGoes n h.words words' (words_claimed y reply)) e (low_falls_by_claims h p o k y q st below holds want))
+        ∙ ap (λ (size : ℕ). PAGE_WORDS * size) (size_after u (sizes_go u e));
     for_records = covers_after u e (subst (SetsAside y (words_claimed y reply) z) e (claims_are_set_aside n h.mutators k y reply fits));
     none_made = none_after u e;
     epoch = epoch_after u (subst (FlipsWhereTold n h.words words' y) e law.flips);
@@ -355,13 +392,18 @@ module _ (h : Heap) (k : ℕ) (y : Held) (q : Step) (below : k < length h.worker
     few : k < h.mutators
     few = let inside = slice_get_within p.mutators k comes.mutator comes.is in let many = so.as_many in omega (arith, inside, many)
 
-    no_flip : (t.since k ≡ true) ⊎ (t.flips ≡ 2 ^ 32 - 1)
+    -- it has read the size of the epoch's space
+    size_found : found.size ≡ size_now sizes_after t
+    size_found =
+        sym found.size_is ∙ (ap (λ (e : ℕ). word_in n h.words (Size (to_space e))) (sym of_now) ∙ (c.size ∙ sym (agree t.flips (omega arith))))
+
+    no_flip : ((t.since k ≡ true) × (size_now sizes_after t ≡ b.sizes.limit)) ⊎ (t.flips ≡ 2 ^ 32 - 1)
     no_flip =
         let same : t.flips ≡ y.epoch = sym c.epoch ∙ of_now in
         let none : y.account.end ≡ None = (as_plain comes.mutator comes.is).account.end ∙ comes.no_end in
         let past = full_is_found_later n h.mutators k y reply task asked room live fits e in
         ⊎_elim
-        (λ (early : y.begun < y.epoch). inl (subst (IsSince t.since k) holds (c.since k) few none past (omega (arith, early, same))))
+        (λ (early : (y.begun < y.epoch) × (found.size ≡ n)). inl (subst (IsSince t.since k) holds (c.since k) few none past (omega (arith, early.0, same)), sym size_found ∙ (early.1 ∙ sym c.limit)))
         (λ (last : y.epoch ≡ 2 ^ 32 - 1). inr (same ∙ last))
         found.no_flip
 
@@ -370,7 +412,7 @@ module _ (h : Heap) (k : ℕ) (y : Held) (q : Step) (below : k < length h.worker
         let sets : words_claimed y reply + set_aside y ≡ 0 = subst (SetsAside y (words_claimed y reply) z) e (claims_are_set_aside n h.mutators k y reply fits) in
         ap set_aside holds ∙ (omega (arith, sets))
 
-    for_others : c.claims ≤ PAGE_WORDS * (t.made + made_next t.now tasks k [])
+    pub for_others : c.claims ≤ PAGE_WORDS * (t.made + made_next t.now tasks k [])
     for_others =
         let was = c.for_records in
         let aside = aside_of_others h p o st k tasks below none_aside (λ j other. ap (λ (x : Held). x.task) (other_holds j other)) in
@@ -383,7 +425,7 @@ module _ (h : Heap) (k : ℕ) (y : Held) (q : Step) (below : k < length h.worker
         let here = few in
         c.none_made (λ m inside. subst (λ (j : ℕ). t.since j ≡ true) (let only : k ≡ m = omega (arith, one, many, here, inside) in only) has)
 
-    is_filled : IsFilled n tasks t k task asked room live []
+    is_filled : IsFilled sizes_after tasks t k task asked room live []
     is_filled =
         let calls = full_calls n h.mutators k y reply fits task asked room live e in
         let low : low_of n h.words ≡ found.area.low = ap (λ (epoch : ℕ). low_at n h.words (to_space epoch)) of_now ∙ ap low_said found.area_is in
@@ -394,14 +436,16 @@ module _ (h : Heap) (k : ℕ) (y : Held) (q : Step) (below : k < length h.worker
           asked_is = full_asks p k task calls.0 asked room live calls.1 comes;
           short = found.short;
           no_flip = no_flip;
+          within = (let least = c.least in let size = c.size in let same = agree t.flips (omega arith) in let most = (sizes_are_within h p o st).1 in let limit = c.limit in
+              (omega (arith, least, same), omega (arith, size, same, most, limit)));
           live_is = full_tells_live h p o y asked room live st found;
           claims = c.claims;
-          filled = omega (arith, low, whole, room_is, live_is);
+          filled = (let same = agree t.flips (omega arith) in omega (arith, low, whole, room_is, live_is, same));
           for_records = for_others;
           single = single;
         }
 
-  end_is : (task : Task) (end : End) → told y reply ≡ Answers task (Trap end) → IsFilledByEnd n tasks t k task end []
+  end_is : (task : Task) (end : End) → told y reply ≡ Answers task (Trap end) → IsFilledByEnd sizes_after tasks t k task end []
   end_is task (ends.HeapFull asked room live) e = is_filled task asked room live e
   end_is task ends.Halt e = tt
   end_is task ends.NotPointer e = tt
@@ -425,12 +469,24 @@ module _ (h : Heap) (k : ℕ) (y : Held) (q : Step) (below : k < length h.worker
         let pages = plain_pages y makes w.0 (makes_its_record y w.0 fits.eight fits.registers (plain.shows none) makes) in
         ap (asked_by_task p k) makes.executes.task_is ∙ asks_as p k w.0 makes.executes.instr asked w.1 none (pages ∙ ap (λ (a : ℕ). Some a) (sym ((once asked e).asked_is ∙ asked_is y makes)))
 
-    is_asked_for : IsAskedFor tasks t k asked []
+    is_asked_for : IsAskedFor sizes_after tasks t k asked []
     is_asked_for =
         let same : tasks k ≡ y.task = ap (λ (x : Held). x.task) it_holds ∙ goes.kept (subst IsNoAnswer (sym e) tt) in
-        record { first = none_asked asked e; makes = ap (asked_by_task p k) same ∙ its_pages }
+        record { first = first_asked; makes = ap (asked_by_task p k) same ∙ its_pages; grows = grows }
+      where
+        first_asked : (t.asked k ≡ false) ⊎ (size_now sizes_after t < b.sizes.limit)
+        first_asked = ⊎_elim
+            (λ (none : t.asked k ≡ false). inl none)
+            (λ (fewer : size_of n h.words < n). inr (let size = c.size in let same = agree t.flips (omega arith) in let limit = c.limit in omega (arith, fewer, size, same, limit)))
+            (none_asked asked e)
 
-  entry_is : (u : Told) → told y reply ≡ u → EachEntry (EntryIs n tasks) t (extra k u)
+        grows : Grows b.sizes.limit (size_now sizes_after t) (sizes_after.in_use (t.flips + 1))
+        grows =
+            let goes = subst (SizeGoes n h.words words') e goes_size in
+            let was : size_now sizes_after t ≡ size_of n h.words = agree t.flips (omega arith) ∙ sym c.size in
+            rw (was, next_size, c.limit) goes
+
+  entry_is : (u : Told) → told y reply ≡ u → EachEntry (EntryIs sizes_after tasks) t (extra k u)
   entry_is Silent e = tt
   entry_is (Answers task Done) e = (tt, tt)
   entry_is (Answers task (Trap end)) e = (end_is task end e, tt)
@@ -454,8 +510,10 @@ module _ (h : Heap) (k : ℕ) (y : Held) (q : Step) (below : k < length h.worker
       (λ (other : j ≢ k). ap (λ (b : Bool). cond b (Some done) (tasks j)) (ne_eqb k j (λ f. other (sym f))) ∙ (ap (λ (x : Held). x.task) (other_holds j other) ∙ is))
       (cases_eq j k)
 
-  pub step_tallied : IsTallied after first (log ++ extra k (told y reply))
+  pub step_tallied : IsTallied least after first (log ++ extra k (told y reply))
   step_tallied = record {
-    entries = entries_on (tasks_held h.workers) tasks (extra k (told y reply)) (tasks_go_on (told y reply) refl) n first log b.entries (entry_is (told y reply) refl);
-    counts = subst (FitsTally after) (sym (tally_append first log (extra k (told y reply)))) (counts_by (told y reply) refl);
+    sizes = sizes_after;
+    began = (b.began.0, agree first.flips (flips_most first log) ∙ b.began.1);
+    entries = entries_on (tasks_held h.workers) tasks (extra k (told y reply)) b.sizes sizes_after.in_use t.flips agree (tasks_go_on (told y reply) refl) first log (omega arith) b.entries (entry_is (told y reply) refl);
+    counts = subst (FitsTally after sizes_after) (sym (tally_append first log (extra k (told y reply)))) (counts_by (told y reply) refl);
   }

@@ -1,5 +1,5 @@
 -- What is counted along a history that goes on, and what each of its entries then is.
-use Rattle.std.proofs.Common.{◌≡◌, ℕ, ◌≤◌, ◌==◌, Bool, true, false, cond, List, [], ◌∷◌, ◌++◌, length, Option, Some, None, slice_get, refl, sym, ap, ◌∙◌, arith}
+use Rattle.std.proofs.Common.{◌≡◌, ℕ, ◌+◌, ◌-◌, ◌^◌, ◌<◌, ◌≤◌, ◌==◌, ◌⊎◌, Bool, true, false, cond, List, [], ◌∷◌, ◌++◌, length, Option, Some, None, slice_get, refl, sym, ap, subst, ◌∙◌, arith}
 use Rattle.std.specs.Option.{option_and_then, option_map}
 use Rattle.plain_state.specs.declared.end.End.{End}
 use Rattle.plain_state.specs.declared.end.End.TheVariants as ends
@@ -13,7 +13,8 @@ use Rattle.gc_worker.specs.declared.calls.did.Did.TheVariants.{Done, Trap}
 use Rattle.gc_worker.specs.declared.calls.entry.Entry.{Entry}
 use Rattle.gc_worker.specs.declared.calls.entry.Entry.TheVariants.{Made, Exchanged}
 use Rattle.gc_worker.proofs.History.Sums.{sum_below-most}
-use Rattle.gc_worker.specs.History.Tally.{EachEntry, EntryIs, IsFilled, IsFilledBy, IsFilledByEnd, Tally, Tasks, after_entry, asked_by_task, asked_unless_ended, made_next, next_task, pages_by_task, tally}
+use Rattle.gc_worker.specs.History.Tally.{EachEntry, EntryIs, IsFilled, IsFilledBy, IsFilledByEnd, Sizes, Tally, Tasks, after_entry, asked_by_task, asked_unless_ended, made_next, next_task, pages_by_task, tally}
+use Rattle.gc_worker.specs.Laws.Cycles.{Grows}
 use Rattle.gc_worker.specs.Plain.Answer.{after_told}
 use Rattle.gc_worker.specs.History.Legal.{after_all, extra, flip_from}
 use Rattle.gc_worker.specs.Laws.Step.{at_flip}
@@ -45,10 +46,18 @@ tally_more-flip t m Silent = refl
 tally_more-flip t m (Answers task did) = refl
 tally_more-flip t m (Marks asked) = refl
 
-module _ (P Q : Tally → Entry → List Entry → Type 0) (more : List Entry) (on : (t : Tally) (e : Entry) (es : List Entry) → P t e es → Q t e (es ++ more)) where
-  each_append : (t : Tally) (xs : List Entry) → EachEntry P t xs → EachEntry Q (tally t xs) more → EachEntry Q t (xs ++ more)
-  each_append t [] h k = k
-  each_append t (e ∷ es) h k = (on t e es h.0, each_append (after_entry t e) es h.1 k)
+-- flips only come
+pub flips_most : (t : Tally) (es : List Entry) → t.flips ≤ (tally t es).flips
+flips_most t [] = omega arith
+flips_most t (Made c ∷ es) = flips_most (after_entry t (Made c)) es
+flips_most t (Exchanged by asked ∷ es) = let most = flips_most (after_entry t (Exchanged by asked)) es in omega (arith, most)
+
+module _ (P Q : Tally → Entry → List Entry → Type 0) (more : List Entry) (last : ℕ)
+    (on : (t : Tally) (e : Entry) (es : List Entry) → (after_entry t e).flips ≤ last → P t e es → Q t e (es ++ more)) where
+  each_append : (t : Tally) (xs : List Entry) → (tally t xs).flips ≤ last → EachEntry P t xs → EachEntry Q (tally t xs) more → EachEntry Q t (xs ++ more)
+  each_append t [] few h k = k
+  each_append t (e ∷ es) few h k =
+      (on t e es (let most = flips_most (after_entry t e) es in omega (arith, most, few)) h.0, each_append (after_entry t e) es few h.1 k)
 
 pub entry_at : (P : Tally → Entry → List Entry → Type 0) (t : Tally) (xs : List Entry) (e : Entry) (ys : List Entry) → EachEntry P t (xs ++ e ∷ ys) → P (tally t xs) e ys
 entry_at P t [] e ys h = h.0
@@ -84,8 +93,8 @@ asks_as p j q instr pages is none e =
 
 -- ---- a history that grows, while workers go on
 
--- Each worker's task is still the one that it had, or the call that answers it is what comes.
-module _ (tasks later : Tasks) (more : List Entry) (goes_on : (j : ℕ) (task : Task) → tasks j ≡ Some task → next_task j more (later j) ≡ Some task) where
+-- The sizes up to so many flips stay. Each worker's task is still the one that it had, or the call that answers it is what comes.
+module _ (tasks later : Tasks) (more : List Entry) (z : Sizes) (in_use : ℕ → ℕ) (last : ℕ) (agree : (e : ℕ) → e ≤ last → in_use e ≡ z.in_use e) (goes_on : (j : ℕ) (task : Task) → tasks j ≡ Some task → next_task j more (later j) ≡ Some task) where
   next_if : (b : Bool) (call was now : Option Task) (task : Task) → (was ≡ Some task → now ≡ Some task) → cond b call was ≡ Some task → cond b call now ≡ Some task
   next_if true call was now task on e = e
   next_if false call was now task on e = on e
@@ -116,38 +125,52 @@ module _ (tasks later : Tasks) (more : List Entry) (goes_on : (j : ℕ) (task : 
       either true was now most = omega arith
       either false was now most = most
 
-  full_on : (n : ℕ) (t : Tally) (m : ℕ) (task : Task) (asked room live : ℕ) (es : List Entry) → IsFilled n tasks t m task asked room live es
-      → IsFilled n later t m task asked room live (es ++ more)
-  full_on n t m task asked room live es f = record {
-    asked_is = f.asked_is;
-    short = f.short;
-    no_flip = f.no_flip;
-    live_is = f.live_is;
-    claims = f.claims;
-    filled = f.filled;
-    for_records = (let most = making_on t.now m es in let few = f.for_records in omega (arith, most, few));
-    single = f.single;
-  }
+  abbrev sizes : Sizes
+  sizes = record z { in_use = in_use }
 
-  end_on : (n : ℕ) (t : Tally) (m : ℕ) (task : Task) (end : End) (es : List Entry) → IsFilledByEnd n tasks t m task end es → IsFilledByEnd n later t m task end (es ++ more)
-  end_on n t m task (ends.HeapFull asked room live) es f = full_on n t m task asked room live es f
-  end_on n t m task ends.Halt es f = tt
-  end_on n t m task ends.NotPointer es f = tt
-  end_on n t m task ends.NotNumber es f = tt
-  end_on n t m task ends.OutOfRange es f = tt
-  end_on n t m task ends.IntoRaw es f = tt
-  end_on n t m task ends.ZeroDivisor es f = tt
-  end_on n t m task ends.JumpOut es f = tt
-  end_on n t m task ends.TurnsOut es f = tt
-  end_on n t m task ends.OutputFull es f = tt
+  full_on : (t : Tally) (m : ℕ) (task : Task) (asked room live : ℕ) (es : List Entry) → t.flips ≤ last → IsFilled z tasks t m task asked room live es
+      → IsFilled sizes later t m task asked room live (es ++ more)
+  full_on t m task asked room live es few f =
+      let same = agree t.flips few in
+      record {
+        asked_is = f.asked_is;
+        short = f.short;
+        no_flip = subst (λ (size : ℕ). ((t.since m ≡ true) × (size ≡ z.limit)) ⊎ (t.flips ≡ 2 ^ 32 - 1)) (sym same) f.no_flip;
+        within = subst (λ (size : ℕ). (z.least ≤ size) × (size ≤ z.limit)) (sym same) f.within;
+        live_is = f.live_is;
+        claims = f.claims;
+        filled = (let filled = f.filled in omega (arith, filled, same));
+        for_records = (let most = making_on t.now m es in let few = f.for_records in omega (arith, most, few));
+        single = f.single;
+      }
 
-  did_on : (n : ℕ) (t : Tally) (m : ℕ) (task : Task) (did : Did) (es : List Entry) → IsFilledBy n tasks t m task did es → IsFilledBy n later t m task did (es ++ more)
-  did_on n t m task Done es f = tt
-  did_on n t m task (Trap end) es f = end_on n t m task end es f
+  end_on : (t : Tally) (m : ℕ) (task : Task) (end : End) (es : List Entry) → t.flips ≤ last → IsFilledByEnd z tasks t m task end es → IsFilledByEnd sizes later t m task end (es ++ more)
+  end_on t m task (ends.HeapFull asked room live) es few f = full_on t m task asked room live es few f
+  end_on t m task ends.Halt es few f = tt
+  end_on t m task ends.NotPointer es few f = tt
+  end_on t m task ends.NotNumber es few f = tt
+  end_on t m task ends.OutOfRange es few f = tt
+  end_on t m task ends.IntoRaw es few f = tt
+  end_on t m task ends.ZeroDivisor es few f = tt
+  end_on t m task ends.JumpOut es few f = tt
+  end_on t m task ends.TurnsOut es few f = tt
+  end_on t m task ends.OutputFull es few f = tt
 
-  entry_on : (n : ℕ) (t : Tally) (e : Entry) (es : List Entry) → EntryIs n tasks t e es → EntryIs n later t e (es ++ more)
-  entry_on n t (Made c) es f = did_on n t c.by c.task c.did es f
-  entry_on n t (Exchanged by asked) es f = record { first = f.first; makes = asks_on t.now by asked es f.makes }
+  did_on : (t : Tally) (m : ℕ) (task : Task) (did : Did) (es : List Entry) → t.flips ≤ last → IsFilledBy z tasks t m task did es → IsFilledBy sizes later t m task did (es ++ more)
+  did_on t m task Done es few f = tt
+  did_on t m task (Trap end) es few f = end_on t m task end es few f
 
-  pub entries_on : (n : ℕ) (t : Tally) (log : List Entry) → EachEntry (EntryIs n tasks) t log → EachEntry (EntryIs n later) (tally t log) more → EachEntry (EntryIs n later) t (log ++ more)
-  entries_on n = each_append (EntryIs n tasks) (EntryIs n later) more (entry_on n)
+  entry_on : (t : Tally) (e : Entry) (es : List Entry) → (after_entry t e).flips ≤ last → EntryIs z tasks t e es → EntryIs sizes later t e (es ++ more)
+  entry_on t (Made c) es few f = did_on t c.by c.task c.did es few f
+  entry_on t (Exchanged by asked) es few f =
+      let same = agree t.flips (omega (arith, few)) in
+      let next = agree (t.flips + 1) few in
+      record {
+        first = subst (λ (size : ℕ). (t.asked by ≡ false) ⊎ (size < z.limit)) (sym same) f.first;
+        makes = asks_on t.now by asked es f.makes;
+        grows = subst (λ (size : ℕ). Grows z.limit size (in_use (t.flips + 1))) (sym same) (subst (Grows z.limit (z.in_use t.flips)) (sym next) f.grows);
+      }
+
+  pub entries_on : (t : Tally) (log : List Entry) → (tally t log).flips ≤ last → EachEntry (EntryIs z tasks) t log → EachEntry (EntryIs sizes later) (tally t log) more
+      → EachEntry (EntryIs sizes later) t (log ++ more)
+  entries_on = each_append (EntryIs z tasks) (EntryIs sizes later) more last entry_on

@@ -10,7 +10,7 @@ use Rattle.gc_worker.specs.declared.stage.Stage.TheVariants.{Looks, Passes, Flip
 use Rattle.gc_worker.specs.declared.task.Task.{Task}
 use Rattle.gc_worker.specs.Workers.Begun.{IsPastLook}
 use Rattle.gc_worker.specs.Laws.Between.{Begins, with_task, with_worker}
-use Rattle.gc_worker.specs.Laws.Cycles.{IsFirst, IsFirstAt, IsFirstBy, IsInCall, set_aside, set_aside_at}
+use Rattle.gc_worker.specs.Laws.Cycles.{IsFirst, IsFirstAt, IsFirstBy, IsInCall, set_aside, set_aside_at, size_of}
 use Rattle.gc_worker.specs.Workers.Held.{Held}
 use Rattle.gc_worker.specs.Laws.Step.{Heap, held_at, nobody}
 use Rattle.heap_state.specs.Worker.{Account}
@@ -20,51 +20,51 @@ use Rattle.gc_worker.proofs.History.Tallies.{entries_on}
 
 -- all but the task is as it was, and a task stays
 record IsBut (was now : Held) : Type 0 where
-  first : IsFirst was → IsFirst now
+  first : (n : ℕ) (words : List ℕ) → IsFirst n words was → IsFirst n words now
   stage : now.stage ≡ was.stage
   account : now.account ≡ was.account
   begun : now.begun ≡ was.begun
   task : (task : Task) → was.task ≡ Some task → now.task ≡ Some task
 
-first_passage : (x : Held) (task : Task) (passage : Passage) → IsFirstBy x passage → IsFirstBy (with_task x task) passage
-first_passage x task Request f = f
-first_passage x task Look f = tt
-first_passage x task Attach f = tt
-first_passage x task Park f = tt
-first_passage x task (Resume epoch) f = tt
-first_passage x task Forwarded f = tt
-first_passage x task Leave f = tt
+first_passage : (n size : ℕ) (x : Held) (task : Task) (passage : Passage) → IsFirstBy n size x passage → IsFirstBy n size (with_task x task) passage
+first_passage n size x task Request f = f
+first_passage n size x task Look f = tt
+first_passage n size x task Attach f = tt
+first_passage n size x task Park f = tt
+first_passage n size x task (Resume epoch) f = tt
+first_passage n size x task Forwarded f = tt
+first_passage n size x task Leave f = tt
 
-first_given : (x : Held) (task : Task) (stage : Stage) → IsFirstAt x stage → IsFirstAt (with_task x task) stage
-first_given x task (Passes g after) f = first_passage x task g.passage f
-first_given x task (Flips g) f = f
-first_given x task Looks f = tt
-first_given x task (Forwards w) f = tt
-first_given x task (Accesses a) f = tt
-first_given x task (Places p) f = tt
-first_given x task (Serves d back) f = tt
-first_given x task (Scans s back) f = tt
-first_given x task (Evacuates v s back) f = tt
-first_given x task (Opens o s back) f = tt
-first_given x task Gone f = tt
+first_given : (n size : ℕ) (x : Held) (task : Task) (stage : Stage) → IsFirstAt n size x stage → IsFirstAt n size (with_task x task) stage
+first_given n size x task (Passes g after) f = first_passage n size x task g.passage f
+first_given n size x task (Flips g) f = f
+first_given n size x task Looks f = tt
+first_given n size x task (Forwards w) f = tt
+first_given n size x task (Accesses a) f = tt
+first_given n size x task (Places p) f = tt
+first_given n size x task (Serves d back) f = tt
+first_given n size x task (Scans s back) f = tt
+first_given n size x task (Evacuates v s back) f = tt
+first_given n size x task (Opens o s back) f = tt
+first_given n size x task Gone f = tt
 
 is_but : (was now : Held) → Begins was now → IsBut was now
 is_but was now (inl same) = record {
-  first = subst IsFirst (sym same);
+  first = λ n words. subst (IsFirst n words) (sym same);
   stage = ap (λ (x : Held). x.stage) same;
   account = ap (λ (x : Held). x.account) same;
   begun = ap (λ (x : Held). x.begun) same;
   task = λ task is. ap (λ (x : Held). x.task) same ∙ is;
 }
 is_but was now (inr given) = record {
-  first = λ f. subst IsFirst (sym given.2) (first_given was given.0 was.stage f);
+  first = λ n words f. subst (IsFirst n words) (sym given.2) (first_given n (size_of n words) was given.0 was.stage f);
   stage = ap (λ (x : Held). x.stage) given.2;
   account = ap (λ (x : Held). x.account) given.2;
   begun = ap (λ (x : Held). x.begun) given.2;
   task = λ task is. absurd (let none : None ≡ Some task = sym given.1 ∙ is in cc);
 }
 
-module _ (h : Heap) (k : ℕ) (now : Held) (below : k < length h.workers) (begins : Begins (held_at h k) now) (first : Tally) (log : List Entry) (b : IsTallied h first log) where
+module _ (h : Heap) (k : ℕ) (now : Held) (below : k < length h.workers) (begins : Begins (held_at h k) now) (least : ℕ) (first : Tally) (log : List Entry) (b : IsTallied least h first log) where
   abbrev after : Heap
   after = with_worker h k now
 
@@ -100,11 +100,16 @@ module _ (h : Heap) (k : ℕ) (now : Held) (below : k < length h.workers) (begin
       let was = b.counts.call m has in
       (subst IsInCall (sym same.stage) was.0, subst (λ (begun : ℕ). begun < t.flips) (sym same.begun) was.1)
 
-  pub task_tallied : IsTallied after first log
+  pub task_tallied : IsTallied least after first log
   task_tallied = record {
-    entries = subst (EachEntry (EntryIs h.pages (tasks_held after.workers)) first) (append-nil log)
-        (entries_on (tasks_held h.workers) (tasks_held after.workers) [] (λ j task is. (all_but j).task task is) h.pages first log b.entries tt);
+    sizes = b.sizes;
+    began = b.began;
+    entries = subst (EachEntry (EntryIs b.sizes (tasks_held after.workers)) first) (append-nil log)
+        (entries_on (tasks_held h.workers) (tasks_held after.workers) [] b.sizes b.sizes.in_use t.flips (λ e most. refl) (λ j task is. (all_but j).task task is) first log (omega arith) b.entries tt);
     counts = record {
+      limit = b.counts.limit;
+      size = b.counts.size;
+      least = b.counts.least;
       claims = b.counts.claims;
       low = b.counts.low;
       for_records = (let was = b.counts.for_records in let same = same_aside in omega (arith, was, same));
@@ -112,7 +117,7 @@ module _ (h : Heap) (k : ℕ) (now : Held) (below : k < length h.workers) (begin
       epoch = b.counts.epoch;
       begun = begun;
       since = since;
-      first = λ m inside. (all_but m).first (b.counts.first m (let same = length-set h.workers k now in omega (arith, inside, same)));
+      first = λ m inside. (all_but m).first h.pages h.words (b.counts.first m (let same = length-set h.workers k now in omega (arith, inside, same)));
       call = call;
     };
   }

@@ -12,7 +12,7 @@ use Rattle.gc_worker.specs.Steps.Goes.{Is}
 use Rattle.gc_worker.specs.Workers.Held.{Held, at_stage}
 use Rattle.gc_worker.specs.Workers.Knows.{quest_for}
 use Rattle.gc_worker.specs.Laws.Step.{Heap, read, WorkersStand, RegistersLeadBack}
-use Rattle.gc_worker.proofs.Words.Eras.{old_start_is, old_span_is}
+use Rattle.gc_worker.proofs.Words.Eras.{old_start_is, old_span_within}
 use Rattle.gc_worker.proofs.Workers.Members.{member}
 
 module _ (h : Heap) (p o : Plain) (k : ℕ) (x : Held) (w : ForwardingRegister) (st : WorkersStand h p o) (there : Is (read h) k (at_stage x (Forwards w))) where
@@ -27,7 +27,7 @@ module _ (h : Heap) (p o : Plain) (k : ℕ) (x : Held) (w : ForwardingRegister) 
       let old = ((st.stands.invariant.workers k there.below).quest (quest_for (Register w.register) w.evac) (ap (λ (v : Worker). v.quest) there.as_known)).old in
       let same : from_space (era (read h)).epoch ≡ to_space x.epoch = let b = before in omega (arith, b) in
       let start : (era (read h)).old_start ≡ space_start h.pages (to_space x.epoch) = old_start_is (read h) ∙ ap (space_start h.pages) same in
-      let span = old_span_is (read h) in
+      let span = old_span_within (read h) p st.stands in
       (omega arith, omega (arith, old, start), omega (arith, old, start, span))
 
 pub registers_lead_back : RegistersLeadBack

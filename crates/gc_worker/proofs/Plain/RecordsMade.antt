@@ -1,5 +1,5 @@
 -- The record that an instruction makes: `new`, `raw` and `mix` make one, of the length that their operands name, and no other does.
-use Rattle.std.proofs.Common.{◌≡◌, ℕ, Bool, true, false, Option, Some, None, Result, Ok, Err, nat_lt, if◌then◌else◌, length, refl, sym, ap, ◌∙◌}
+use Rattle.std.proofs.Common.{◌≡◌, ℕ, Bool, true, false, Option, None, Result, Ok, Err, nat_lt, if◌then◌else◌, length, refl, ap}
 use Rattle.mutator_asm.specs.declared.operand.Operand.{Operand}
 use Rattle.mutator_asm.specs.declared.instr.Instr.{Instr}
 use Rattle.mutator_asm.specs.declared.instr.Instr.TheVariants as instrs
@@ -14,15 +14,7 @@ use Rattle.plain_state.specs.State.{Mutator}
 use Rattle.plain_heap.specs.declared.action.Action.{Action}
 use Rattle.plain_heap.specs.declared.action.Action.TheVariants.{Makes, Prints}
 use Rattle.plain_heap.specs.Action.{◌>>=◌, action, allocates, board_place, computes, as_number, mixed_length, mixes, operand, reference_in, register}
-use Rattle.gc_worker.specs.declared.task.due.Due.{Due}
-use Rattle.gc_worker.specs.declared.task.due.Due.TheVariants as dues
-use Rattle.gc_worker.specs.declared.task.Task.{Task}
-use Rattle.gc_worker.specs.declared.task.Task.TheVariants.{Calls}
-use Rattle.gc_worker.specs.Workers.Fits.{IsMaking}
-use Rattle.gc_worker.specs.Plain.Seen.{Making, making_in, mixed_made, mixed_named, seen}
-use Rattle.gc_worker.specs.Steps.Stepped.{task_due}
-use Rattle.gc_worker.specs.Workers.Held.{Held, making_for}
-use Rattle.gc_worker.proofs.Plain.NewRecords.{made_is}
+use Rattle.gc_worker.specs.Plain.Seen.{Making, making_in, mixed_made, mixed_named}
 
 no_record_then : {A : Type 0} (o : Result A End) (f : A → Result Action End) → ((a : A) → making_in (f a) ≡ None) → making_in (o >>= f) ≡ None
 no_record_then (Ok a) f h = h a
@@ -92,20 +84,3 @@ made_of q (instrs.Put x a) = no_record_then (board_place q x) _ (λ n. refl)
 made_of q (instrs.Swap d x) = no_record_then (board_place q x) _ (λ n. refl)
 made_of q (instrs.Out a) = no_record_then (as_number (register q a)) _ (λ n. prints_no_record n (nat_lt (length q.printed) MOST_PRINTED))
 made_of q instrs.Halt = refl
-
--- ---- a worker that makes a record
-
-same_instr : (due : Due) (instr i : Instr) (stop : End) (t : Option Task) → t ≡ task_due due instr stop → t ≡ Some (Calls i) → instr ≡ i
-same_instr dues.Call instr i stop t due is = cc
-same_instr dues.Nothing instr i stop t due is = cc
-same_instr dues.Stop instr i stop t due is = cc
-
-module _ (x : Held) (due : Due) (instr : Instr) (stop : End) (task : x.task ≡ task_due due instr stop) (m : IsMaking x.account x.registers x.task) where
-  -- the record is the one that its instruction makes
-  pub makes_it : making_for x x.task ≡ making_in (action (seen x.account x.registers) instr)
-  makes_it =
-      ap (making_for x) m.executes.task_is
-      ∙ ap (λ (i : Instr). making_in (action (seen x.account x.registers) i)) (sym (same_instr due instr m.executes.instr stop x.task task m.executes.task_is))
-
-  pub makes_one : None ≡ making_in (action (seen x.account x.registers) instr) → ⊥
-  makes_one none = let e : None ≡ Some m.making = none ∙ (sym makes_it ∙ made_is x m) in cc

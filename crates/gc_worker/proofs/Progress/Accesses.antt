@@ -73,11 +73,11 @@ module _ (a : Access) where
   by_storing f usage (Ok v) more = by_field f (with_new usage (word_as f.role v))
   by_storing f usage (Err why) more = absurd (cc)
 
-  by_usage : (r : RecordAccess) (first : ℕ) (role : Role) (len : ℕ) (usage : RecordUse) → Lowers (used_by r first role len usage) 6
-  by_usage r first role len (record_uses.TellsLength into) more = absurd (cc)
-  by_usage r first role len (record_uses.Loads into) more = let l = by_loading (field_of r.at first role r.value) into (in_record len r.value) more in omega (arith, l)
-  by_usage r first role len (record_uses.Stores new) more = let l = by_storing (field_of r.at first role r.value) (field_uses.Stores new) (may_store role new (in_record len r.value)) more in omega (arith, l)
-  by_usage r first role len (record_uses.Exchanges e) more = let l = by_storing (field_of r.at first role r.value) (field_uses.Exchanges e) (may_store role e.new (in_record len r.value)) more in omega (arith, l)
+  by_usage : (r : RecordAccess) (role : Role) (len : ℕ) (usage : RecordUse) → Lowers (used_by r role len usage) 6
+  by_usage r role len (record_uses.TellsLength into) more = absurd (cc)
+  by_usage r role len (record_uses.Loads into) more = let l = by_loading (field_of r.at 1 role r.value) into (in_record len r.value) more in omega (arith, l)
+  by_usage r role len (record_uses.Stores new) more = let l = by_storing (field_of r.at 1 role r.value) (field_uses.Stores new) (may_store role new (in_record len r.value)) more in omega (arith, l)
+  by_usage r role len (record_uses.Exchanges e) more = let l = by_storing (field_of r.at 1 role r.value) (field_uses.Exchanges e) (may_store role e.new (in_record len r.value)) more in omega (arith, l)
 
   by_counting : (at : ℕ) (usage : FieldUse) (o : Result ℕ End) → Lowers (counting at usage o) 6
   by_counting at usage (Ok x) more = by_test (page_of at == page_of (at + 1))
@@ -94,8 +94,8 @@ module _ (a : Access) where
   by_mixed r len (record_uses.Exchanges e) more = by_counting r.at (field_uses.Exchanges e) (in_record len r.value) more
 
   by_head : (r : RecordAccess) (head : Kind) (len : ℕ) → Lowers (by_kind r head len) 6
-  by_head r headers.Fields len = by_usage r 1 roles.Field len r.usage
-  by_head r headers.Raw len = by_usage r 1 roles.Number len r.usage
+  by_head r headers.Fields len = by_usage r roles.Field len r.usage
+  by_head r headers.Raw len = by_usage r roles.Number len r.usage
   by_head r headers.Mixed len = by_mixed r (len - 1) r.usage
 
   by_header : (r : RecordAccess) (d : Decoded) → is_header d ≡ true → Lowers (read_header r d) 6

@@ -44,7 +44,7 @@ use Rattle.gc_worker.specs.Workers.Fits.{IsMaking}
 use Rattle.gc_worker.specs.Workers.Held.{Held, at_stage, header_for, making_for}
 use Rattle.gc_worker.specs.Progress.{IsSameMachine, MayWait}
 use Rattle.gc_worker.specs.Plain.Seen.{Making}
-use Rattle.gc_worker.specs.Steps.Turned.{Pointed, accessed_by, end_by_shortage, ended, first_pointer, flipped_by, forwarded_to, forwards_it, full_by, goes_back, goes_on, finds_full, passed_by, passes, places, scanned_by, served_by, with_copy, with_record, allocated_by}
+use Rattle.gc_worker.specs.Steps.Turned.{Pointed, accessed_by, end_by_shortage, ended, first_pointer, flipped_by, forwarded_to, forwards_it, full_by, goes_back, goes_on, is_full, passed_by, passes, places, scanned_by, served_by, with_copy, with_record, allocated_by}
 use Rattle.gc_worker.proofs.Plain.NewRecords.{made_is}
 use Rattle.gc_worker.proofs.Words.Pointers.{FirstPointer, There, Nowhere, found}
 
@@ -127,7 +127,7 @@ no_placing x was s false same = same
 
 short_end : (x : Held) (was : place.Placing) (s : Shortage) (traced : Bool) → IsSameMachine (Places was) (full_by x s traced).stage → ⊥
 short_end x was s false same = same
-short_end x was s true same = no_placing x was s (finds_full x) same
+short_end x was s true same = no_placing x was s (is_full x s) same
 
 record_end : (x : Held) (was : place.Placing) (run : Run) (at : ℕ) (o : Option Making) → IsMaking x.account x.registers x.task → making_for x x.task ≡ o → IsSameMachine (Places was) (with_record x run at o).stage → ⊥
 record_end x was run at (Some m) making is same = same

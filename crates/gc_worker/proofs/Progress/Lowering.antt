@@ -60,21 +60,23 @@ passages_lower passage stage r t = cc
 
 -- ---- flips
 
-by_still : (word : ℕ) (read : GateWord) (b : Bool) → flip.left_at (cond b (flip_stage.LoadsArea read) (flip_stage.Ended (flipped.NotYet word))) < 4
+by_still : (word : ℕ) (read : GateWord) (b : Bool) → flip.left_at (cond b (flip_stage.LoadsSize read) (flip_stage.Ended (flipped.NotYet word))) < 6
 by_still word read true = omega arith
 by_still word read false = omega arith
 
-by_flip_gate : (word : ℕ) (o : Option GateWord) → is_some o ≡ true → flip.left_at (flip.looked word o) < 4
+by_flip_gate : (word : ℕ) (o : Option GateWord) → is_some o ≡ true → flip.left_at (flip.looked word o) < 6
 by_flip_gate word (Some read) t = by_still word read (flip.is_still read)
 by_flip_gate word None t = absurd (cc)
 
-by_flip_area : (n : ℕ) (read : GateWord) (o : Option AreaWord) → is_some o ≡ true → flip.left_at (flip.read_area n read o) < 3
-by_flip_area n read (Some area) t = omega arith
-by_flip_area n read None t = absurd (cc)
+by_flip_area : (n : ℕ) (seen : Bool) (read : GateWord) (size : ℕ) (o : Option AreaWord) → is_some o ≡ true → flip.left_at (flip.read_area n seen read size o) < 4
+by_flip_area n seen read size (Some area) t = omega arith
+by_flip_area n seen read size None t = absurd (cc)
 
 pub flips_lower : (f : flip.Flipping) (stage : FlipStage) (r : Reply) → flip.advances_at stage r ≡ true → flip.left_at (flip.next_stage f stage r) < flip.left_at stage
 flips_lower f flip_stage.LoadsGate (Value word) t = by_flip_gate word (decode_gate word) t
-flips_lower f (flip_stage.LoadsArea read) (Value word) t = by_flip_area f.layout.pages read (decode_area word) t
+flips_lower f (flip_stage.LoadsSize read) (Value word) t = omega arith
+flips_lower f (flip_stage.LoadsArea read size) (Value word) t = by_flip_area f.layout.pages f.seen read size (decode_area word) t
+flips_lower f (flip_stage.StoresSize reset) Done t = omega arith
 flips_lower f (flip_stage.StoresArea reset) Done t = omega arith
 flips_lower f (flip_stage.Exchanges reset) Won t = omega arith
 flips_lower f stage r t = cc
@@ -91,13 +93,13 @@ module _ (p : place.Placing) where
   abbrev asked : ℕ
   asked = place.pages_for (place.size_of p.header)
 
-  by_fits : (traced : Bool) (area : AreaWord) (b : Bool) → place.left_at asked (cond b (place_stage.ExchangesArea (record { traced = traced; area = area })) (place_stage.Ended (Full (place.shortage traced p.header area)))) < 65 * asked + 4
-  by_fits traced area true = omega arith
-  by_fits traced area false = omega arith
+  by_fits : (traced : Bool) (size : ℕ) (area : AreaWord) (b : Bool) → place.left_at asked (cond b (place_stage.ExchangesArea (record { traced = traced; area = area })) (place_stage.Ended (Full (place.shortage traced size p.header area)))) < 65 * asked + 4
+  by_fits traced size area true = omega arith
+  by_fits traced size area false = omega arith
 
-  by_place_area : (traced : Bool) (o : Option AreaWord) → is_some o ≡ true → place.left_at asked (place.looked_at_area p traced o) < 65 * asked + 4
-  by_place_area traced (Some area) t = by_fits traced area (place.fits traced (place.words_for p.header) area)
-  by_place_area traced None t = absurd (cc)
+  by_place_area : (traced : Bool) (size : ℕ) (o : Option AreaWord) → is_some o ≡ true → place.left_at asked (place.looked_at_area p traced size o) < 65 * asked + 4
+  by_place_area traced size (Some area) t = by_fits traced size area (place.fits traced (place.words_for p.header) area)
+  by_place_area traced size None t = absurd (cc)
 
   by_cleared : (new : NewPages) → FitsPlaceStage p.layout.pages asked p.run p.header (place_stage.StoresZero new)
       → place.left_at asked (place.cleared (place.words_for p.header) new) < 65 * asked + 2 - (new.next - new.first)
@@ -114,7 +116,8 @@ module _ (p : place.Placing) where
   pub allocations_lower : (stage : PlaceStage) (r : Reply) → FitsPlaceStage p.layout.pages asked p.run p.header stage → place.advances_at stage r ≡ true
       → place.left (place.taken_at p stage r) < place.left_at asked stage
   allocations_lower place_stage.LoadsTraced (Value word) fits t = omega arith
-  allocations_lower (place_stage.LoadsArea traced) (Value word) fits t = by_place_area traced (decode_area word) t
+  allocations_lower (place_stage.LoadsSize traced) (Value word) fits t = omega arith
+  allocations_lower (place_stage.LoadsArea traced size) (Value word) fits t = by_place_area traced size (decode_area word) t
   allocations_lower (place_stage.ExchangesArea f) Won fits t = omega arith
   allocations_lower (place_stage.StoresZero new) Done fits t = by_cleared new fits
   allocations_lower (place_stage.OpensPage new) Done fits t = by_opened new fits

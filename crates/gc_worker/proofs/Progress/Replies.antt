@@ -121,7 +121,9 @@ module _ (c : Configuration) (p : Plain) (s : Stands c p) (k : ℕ) where
 
   pub flipping : (f : flip.Flipping) (stage : FlipStage) (q : Step) → f.layout.pages ≡ c.pages → flip.wanted_at f stage ≡ Some q → On (flip.advances_at stage) q
   flipping f flip_stage.LoadsGate q same asked = subst (On (flip.advances_at flip_stage.LoadsGate)) (same_Some _ q asked) (Advances (says_gate f.layout.pages same))
-  flipping f (flip_stage.LoadsArea read) q same asked = subst (On (flip.advances_at (flip_stage.LoadsArea read))) (same_Some _ q asked) (Advances (says_area f.layout.pages same f.epoch))
+  flipping f (flip_stage.LoadsSize read) q same asked = subst (On (flip.advances_at (flip_stage.LoadsSize read))) (same_Some _ q asked) (Advances refl)
+  flipping f (flip_stage.LoadsArea read size) q same asked = subst (On (flip.advances_at (flip_stage.LoadsArea read size))) (same_Some _ q asked) (Advances (says_area f.layout.pages same f.epoch))
+  flipping f (flip_stage.StoresSize reset) q same asked = subst (On (flip.advances_at (flip_stage.StoresSize reset))) (same_Some _ q asked) (Advances refl)
   flipping f (flip_stage.StoresArea reset) q same asked = subst (On (flip.advances_at (flip_stage.StoresArea reset))) (same_Some _ q asked) (Advances refl)
   flipping f (flip_stage.Exchanges reset) q same asked = subst (On (flip.advances_at (flip_stage.Exchanges reset))) (same_Some _ q asked) (won_or_lost _ _ _ _ refl)
   flipping f (flip_stage.Ended result) q same asked = absurd (cc)
@@ -134,7 +136,8 @@ module _ (c : Configuration) (p : Plain) (s : Stands c p) (k : ℕ) where
 
   pub placing : (a : place.Placing) (stage : PlaceStage) (q : Step) → a.layout.pages ≡ c.pages → place.wanted_at a stage ≡ Some q → On (place.advances_at stage) q
   placing a place_stage.LoadsTraced q same asked = subst (On (place.advances_at place_stage.LoadsTraced)) (same_Some _ q asked) (Advances refl)
-  placing a (place_stage.LoadsArea traced) q same asked = subst (On (place.advances_at (place_stage.LoadsArea traced))) (same_Some _ q asked) (Advances (says_area a.layout.pages same a.epoch))
+  placing a (place_stage.LoadsSize traced) q same asked = subst (On (place.advances_at (place_stage.LoadsSize traced))) (same_Some _ q asked) (Advances refl)
+  placing a (place_stage.LoadsArea traced size) q same asked = subst (On (place.advances_at (place_stage.LoadsArea traced size))) (same_Some _ q asked) (Advances (says_area a.layout.pages same a.epoch))
   placing a (place_stage.ExchangesArea f) q same asked = subst (On (place.advances_at (place_stage.ExchangesArea f))) (same_Some _ q asked) (won_or_lost _ _ _ _ refl)
   placing a (place_stage.StoresZero new) q same asked = subst (On (place.advances_at (place_stage.StoresZero new))) (same_Some _ q asked) (Advances refl)
   placing a (place_stage.OpensPage new) q same asked = subst (On (place.advances_at (place_stage.OpensPage new))) (same_Some _ q asked) (Advances refl)

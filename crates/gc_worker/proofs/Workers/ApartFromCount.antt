@@ -55,9 +55,9 @@ use Rattle.gc_worker.specs.declared.task.Task.TheVariants.{Calls, Stops}
 use Rattle.gc_worker.specs.Steps.Access as access
 use Rattle.gc_worker.specs.Workers.Counted.{counted, count_after, CountsAreApart, CountedFit}
 use Rattle.gc_worker.specs.Workers.Fits.{Fits, FitsCall, FitsCopy, FitsRound, FitsScan, FitsStage, FitsTask, FitsTaskAfter, FitsTaskBack, FitsTaskBefore, ExecutesAction, IsAccessing, IsMaking, MayBegin}
-use Rattle.gc_worker.specs.Workers.Held.{Held, pages_needed, at_stage, header_for, header_of, fields_made, fields_for, making_for, pages_asked, run_held}
+use Rattle.gc_worker.specs.Workers.Held.{Held, has_seen_flip, pages_needed, at_stage, header_for, header_of, fields_made, fields_for, making_for, pages_asked, run_held}
 use Rattle.gc_worker.specs.Plain.Seen.{Making, making_in, seen}
-use Rattle.gc_worker.specs.Steps.Turned.{Told, Silent, acted, begins, end_by_shortage, ended, full_by, goes_back, goes_on, finds_full, loads, looked_by, of_round, passed_by, passes, places, started, told_access, told_acted, told_at, told_effect, told_end, told_flip, told_full, told_gate, told_place, told_start, turned_access, turned_at, turned_copy, turned_flip, turned_gate, turned_opening, turned_place, turned_register, turned_round, turned_scan, went_on, with_evac, with_record}
+use Rattle.gc_worker.specs.Steps.Turned.{Told, Silent, acted, begins, end_by_shortage, ended, full_by, goes_back, goes_on, is_full, loads, looked_by, of_round, passed_by, passes, places, started, told_access, told_acted, told_at, told_effect, told_end, told_flip, told_full, told_gate, told_place, told_start, turned_access, turned_at, turned_copy, turned_flip, turned_gate, turned_opening, turned_place, turned_register, turned_round, turned_scan, went_on, with_evac, with_record}
 use Rattle.gc_worker.specs.Steps.Wanted.{wanted_at}
 use Rattle.gc_worker.proofs.Plain.NewRecords.{made, made_is}
 
@@ -151,7 +151,7 @@ module _ (count : ℕ) (x : Held) where
   passing after Attach (passed.NotYet word) = refl
   passing after Park (passed.Went word) = refl
   passing after Park (passed.NotYet word) = ap At (going_on after)
-  passing after Request (passed.Went word) = ap (λ (asked : ℕ). At (Flips (flip.begun x.layout x.epoch asked))) same_asked
+  passing after Request (passed.Went word) = ap (λ (asked : ℕ). At (Flips (flip.begun x.layout x.epoch asked (has_seen_flip x)))) same_asked
   passing after Request (passed.NotYet word) = refl
   passing after (Resume epoch) (passed.Went word) = ap At (going_on after)
   passing after (Resume epoch) (passed.NotYet word) = refl
@@ -211,7 +211,7 @@ module _ (count : ℕ) (x : Held) where
 
   filling : (s : Shortage) (traced : Bool) → full_by y s traced ≡ counted (count_after count (told_full x s traced)) (full_by x s traced)
   filling s false = refl
-  filling s true = short_of s (finds_full x)
+  filling s true = short_of s (is_full x s)
 
   placed : (p : place.Placing) (making : IsMaking x.account x.registers x.task) (t : Turn Allocated)
       → turned_place y p t ≡ counted (count_after count (told_place x t)) (turned_place x p t)
@@ -407,7 +407,7 @@ module _ (count : ℕ) (x : Held) where
   fits_stage : (stage : Stage) → FitsStage x stage → FitsStage z stage
   fits_stage Looks f = tt
   fits_stage (Passes g after) f = record { layout = f.layout; passage = f.passage; going = f.going; sound = f.sound }
-  fits_stage (Flips g) f = record { layout = f.layout; epoch = f.epoch; going = f.going; sound = f.sound }
+  fits_stage (Flips g) f = record { layout = f.layout; epoch = f.epoch; seen = f.seen; going = f.going; sound = f.sound }
   fits_stage (Forwards w) f = record { register = f.register; copy = fits_copy (x.epoch + 1) w.evac f.copy }
   fits_stage (Accesses a) f = f
   fits_stage (Places p) f = record { layout = f.layout; epoch = f.epoch; fields = f.fields ∙ sym (same_fields count x); going = f.going; rest = f.rest; sound = f.sound }

@@ -1,5 +1,5 @@
 -- What heap a history needs, by the history alone.
-use Rattle.std.specs.Prelude.{◌≡◌, ◌≢◌, ℕ, ◌+◌, ◌-◌, ◌*◌, ◌^◌, ◌≤◌, ◌⊎◌, true, List, ◌∷◌, ◌++◌, Some}
+use Rattle.std.specs.Prelude.{◌≡◌, ◌≢◌, ℕ, ◌+◌, ◌-◌, ◌*◌, ◌^◌, ◌≤◌, ◌==◌, ◌⊎◌, if◌then◌else◌, true, List, ◌∷◌, ◌++◌, Some}
 use Rattle.plain_state.specs.declared.end.End.TheVariants.{HeapFull}
 use Rattle.plain_state.specs.declared.sizes.TheConstants.{PAGE_WORDS}
 use Rattle.heap_state.specs.Meaning.Reachable.{IsLive}
@@ -9,6 +9,10 @@ use Rattle.gc_worker.specs.declared.calls.entry.Entry.TheVariants.{Made}
 use Rattle.gc_worker.specs.declared.task.Task.{Task}
 use Rattle.gc_worker.specs.History.Legal.{worker_call}
 use Rattle.gc_worker.specs.History.Tally.{Tally, Tasks, asked_by_task, made_next, next_task, tally}
+
+-- after so many flips a mutator finds the heap full with at least so many pages in use: with all of them, but in the last epoch
+abbrev pub pages_full : (limit least flips : ℕ) → ℕ
+pages_full limit least flips = if flips == 2 ^ 32 - 1 then least else limit
 
 -- the record that mutator m makes next, if it makes one, fits beside what was live at the last flip and all records made since then, or made
 -- next by the others
@@ -21,8 +25,9 @@ abbrev pub MayFindFull : Tally → (m : ℕ) → Type 0
 MayFindFull t m = (t.since m ≡ true) ⊎ (t.flips ≡ 2 ^ 32 - 1)
 
 -- it does so wherever in the history a mutator may find the heap full
-abbrev pub IsLargeFor : (pages : ℕ) → Tasks → Tally → List Entry → Type 0
-IsLargeFor pages tasks first log = (front rest : List Entry) (m : ℕ) → front ++ rest ≡ log → MayFindFull (tally first front) m → HasRoomNext pages tasks (tally first front) m rest
+abbrev pub IsLargeFor : (limit least : ℕ) → Tasks → Tally → List Entry → Type 0
+IsLargeFor limit least tasks first log = (front rest : List Entry) (m : ℕ) → front ++ rest ≡ log → MayFindFull (tally first front) m
+    → HasRoomNext (pages_full limit least (tally first front).flips) tasks (tally first front) m rest
 
 -- no call tells the heap to be full
 abbrev pub HasNoFullCall : List Entry → Type 0

@@ -1,4 +1,5 @@
--- What the calls of a history have to do with one record: a load gets what the last store wrote, an exchange compares with it, and no record's kind or length changes.
+-- What the calls of a history have to do with one record: a load gets what the last store wrote, an exchange compares with it, and
+-- no record's kind or length changes.
 use Rattle.std.specs.Prelude.{◌≡◌, ℕ, List, [], ◌∷◌, ◌++◌, Option, Some, Ok, slice_get}
 use Rattle.plain_state.specs.declared.value.Identity.{Identity}
 use Rattle.plain_state.specs.declared.value.Value.{Value}

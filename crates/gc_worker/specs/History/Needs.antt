@@ -10,6 +10,7 @@ use Rattle.plain_heap.specs.Order.{Story, opening, plain, story, story_marked}
 use Rattle.plain_heap.specs.Step.{asked_by}
 use Rattle.heap_state.specs.Functions.{sum_below}
 use Rattle.heap_state.specs.Meaning.Reachable.{IsLive}
+use Rattle.gc_worker.specs.History.Large.{pages_full}
 
 -- ---- flips
 
@@ -75,26 +76,31 @@ made_since code turns order = made_after code turns (first_story code) 0 order
 
 -- ---- an order
 
--- The heap is full for mutator m, after marks that led to this story, and to so many pages made since the last flip: what is told as
--- live was live then, and with the room that is left, and pages claimed for those records or for ones being made, it fills the space.
-pub record IsFullAt (pages : ℕ) (code : List (List Instr)) (turns : ℕ) (s : Story) (made m asked room live : ℕ) : Type 0 where
+-- The heap is full for mutator m, after marks that led to this story, to so many flips, and to so many pages made since the last one: what
+-- is told as live was live then, and with the room that is left, and pages claimed for those records or for ones being made, it fills the
+-- pages in use, which are all that the space may have, or it is the last epoch.
+pub record IsFullAt (limit least : ℕ) (code : List (List Instr)) (turns : ℕ) (s : Story) (flips made m asked room live : ℕ) : Type 0 where
   pub asked_is : asked_by code turns s.now m ≡ Some asked
   pub short : room < PAGE_WORDS * asked
   pub live_is : IsLive s.flip live
+  pub size : ℕ
+  pub within : (least ≤ size) × (size ≤ limit)
+  pub grown : (size ≡ limit) ⊎ (flips ≡ 2 ^ 32 - 1)
   pub claims : ℕ
-  pub filled : room + live + claims ≡ PAGE_WORDS * pages
+  pub filled : room + live + claims ≡ PAGE_WORDS * size
   pub for_records : claims ≤ PAGE_WORDS * (made + being_made code turns s.now m)
 
-abbrev pub IsFullMark : (pages : ℕ) → List (List Instr) → ℕ → Story → (made : ℕ) → Mark → Type 0
-IsFullMark pages code turns s made (Step m) = ⊤
-IsFullMark pages code turns s made (Flip asked) = ⊤
-IsFullMark pages code turns s made (Full m asked room live) = IsFullAt pages code turns s made m asked room live
+abbrev pub IsFullMark : (limit least : ℕ) → List (List Instr) → ℕ → Story → (flips made : ℕ) → Mark → Type 0
+IsFullMark limit least code turns s flips made (Step m) = ⊤
+IsFullMark limit least code turns s flips made (Flip asked) = ⊤
+IsFullMark limit least code turns s flips made (Full m asked room live) = IsFullAt limit least code turns s flips made m asked room live
 
 -- so is each mark of an order
-abbrev pub EachFullIs : (pages : ℕ) → List (List Instr) → ℕ → Story → (made : ℕ) → List Mark → Type 0
-EachFullIs pages code turns s made [] = ⊤
-EachFullIs pages code turns s made (mark ∷ marks) =
-    IsFullMark pages code turns s made mark × EachFullIs pages code turns (story_marked code turns s mark) (made_after_mark code turns s.now made mark) marks
+abbrev pub EachFullIs : (limit least : ℕ) → List (List Instr) → ℕ → Story → (flips made : ℕ) → List Mark → Type 0
+EachFullIs limit least code turns s flips made [] = ⊤
+EachFullIs limit least code turns s flips made (mark ∷ marks) =
+    IsFullMark limit least code turns s flips made mark
+    × EachFullIs limit least code turns (story_marked code turns s mark) (flips_by flips mark) (made_after_mark code turns s.now made mark) marks
 
 -- ---- a heap that is large enough
 
@@ -109,9 +115,9 @@ abbrev pub MayBeFull : List Mark → (m : ℕ) → Type 0
 MayBeFull front m = (since_in (λ j. false) front m ≡ true) ⊎ (flips_in 0 front ≡ 2 ^ 32 - 1)
 
 -- it does so wherever in the order a mutator may find the heap full
-abbrev pub IsLargeEnough : (pages : ℕ) → List (List Instr) → ℕ → List Mark → Type 0
-IsLargeEnough pages code turns order = (front rest : List Mark) (m : ℕ) → front ++ rest ≡ order → MayBeFull front m
-    → HasRoomFor pages code turns (story code turns front) (made_since code turns front) m
+abbrev pub IsLargeEnough : (limit least : ℕ) → List (List Instr) → ℕ → List Mark → Type 0
+IsLargeEnough limit least code turns order = (front rest : List Mark) (m : ℕ) → front ++ rest ≡ order → MayBeFull front m
+    → HasRoomFor (pages_full limit least (flips_in 0 front)) code turns (story code turns front) (made_since code turns front) m
 
 abbrev pub HasNoFull : List Mark → Type 0
 HasNoFull order = (front rest : List Mark) (m asked room live : ℕ) → front ++ Full m asked room live ∷ rest ≢ order

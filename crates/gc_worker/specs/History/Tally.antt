@@ -15,7 +15,7 @@ use Rattle.gc_worker.specs.declared.calls.entry.Entry.TheVariants.{Made, Exchang
 use Rattle.gc_worker.specs.declared.task.Task.{Task}
 use Rattle.gc_worker.specs.declared.task.Task.TheVariants.{Calls, Stops}
 use Rattle.gc_worker.specs.Workers.Begun.{IsPastLook}
-use Rattle.gc_worker.specs.Laws.Cycles.{IsFirst, IsInCall, low_of, set_aside}
+use Rattle.gc_worker.specs.Laws.Cycles.{Grows, IsFirst, IsInCall, low_of, set_aside, size_of}
 use Rattle.gc_worker.specs.Workers.Held.{Held}
 use Rattle.gc_worker.specs.History.Legal.{after_call}
 use Rattle.gc_worker.specs.Laws.Step.{Heap, epoch_of, held_at, nobody}
@@ -103,38 +103,54 @@ abbrev pub EachEntry : (Tally → Entry → List Entry → Type 0) → Tally →
 EachEntry P t [] = ⊤
 EachEntry P t (e ∷ es) = P t e es × EachEntry P (after_entry t e) es
 
+-- ---- the pages in use
+
+-- the fewest and the most pages of a space that may be in use, and those that are in use of the space of each epoch
+pub record Sizes : Type 0 where
+  pub least : ℕ
+  pub limit : ℕ
+  pub in_use : ℕ → ℕ
+
+-- those in use now
+abbrev pub size_now : Sizes → Tally → ℕ
+size_now z t = z.in_use t.flips
+
 -- ---- what each entry is
 
--- Mutator by has no end, and the record that it makes next takes so many pages; it has asked for no other flip since its last call.
-pub record IsAskedFor (tasks : Tasks) (t : Tally) (by asked : ℕ) (es : List Entry) : Type 0 where
-  pub first : t.asked by ≡ false
+-- Mutator by has no end, and the record that it makes next takes so many pages; it has asked for no other flip since its last call, or the
+-- space may still grow. The space of the next epoch has as many pages in use, or twice as many, as far as there are so many.
+pub record IsAskedFor (z : Sizes) (tasks : Tasks) (t : Tally) (by asked : ℕ) (es : List Entry) : Type 0 where
+  pub first : (t.asked by ≡ false) ⊎ (size_now z t < z.limit)
   pub makes : asked_by_task t.now by (next_task by es (tasks by)) ≡ Some asked
+  pub grows : Grows z.limit (size_now z t) (z.in_use (t.flips + 1))
 
--- Mutator m finds too few words for the record that its task makes, in an epoch whose flip came since its last call, or in the last one.
--- What is told as live was live at the last flip. What it and the room leave of the space is no more than have the pages of records made
--- since then or that the other mutators make next. A single mutator with a flip since its last call made none since then.
-pub record IsFilled (pages : ℕ) (tasks : Tasks) (t : Tally) (m : ℕ) (task : Task) (asked room live : ℕ) (es : List Entry) : Type 0 where
+-- Mutator m finds too few words for the record that its task makes, in an epoch whose flip came since its last call and in which all pages
+-- of the space are in use, or in the last one. What is told as live was live at the last flip. What it and the room leave of the pages in
+-- use is no more than have the pages of records made since then or that the other mutators make next. A single mutator with a flip since
+-- its last call made none since then.
+pub record IsFilled (z : Sizes) (tasks : Tasks) (t : Tally) (m : ℕ) (task : Task) (asked room live : ℕ) (es : List Entry) : Type 0 where
   pub asked_is : asked_by_task t.now m (Some task) ≡ Some asked
   pub short : room < PAGE_WORDS * asked
-  pub no_flip : (t.since m ≡ true) ⊎ (t.flips ≡ 2 ^ 32 - 1)
+  pub no_flip : ((t.since m ≡ true) × (size_now z t ≡ z.limit)) ⊎ (t.flips ≡ 2 ^ 32 - 1)
+  pub within : (z.least ≤ size_now z t) × (size_now z t ≤ z.limit)
   pub live_is : IsLive t.flip live
   pub claims : ℕ
-  pub filled : room + live + claims ≡ PAGE_WORDS * pages
+  pub filled : room + live + claims ≡ PAGE_WORDS * size_now z t
   pub for_records : claims ≤ PAGE_WORDS * (t.made + made_next t.now tasks m es)
   pub single : length t.now.mutators ≡ 1 → t.since m ≡ true → t.made ≡ 0
 
-abbrev pub IsFilledByEnd : (pages : ℕ) → Tasks → Tally → (m : ℕ) → Task → End → List Entry → Type 0
-IsFilledByEnd pages tasks t m task (HeapFull asked room live) es = IsFilled pages tasks t m task asked room live es
-IsFilledByEnd pages tasks t m task end es = ⊤
+abbrev pub IsFilledByEnd : Sizes → Tasks → Tally → (m : ℕ) → Task → End → List Entry → Type 0
+IsFilledByEnd z tasks t m task (HeapFull asked room live) es = IsFilled z tasks t m task asked room live es
+IsFilledByEnd z tasks t m task end es = ⊤
 
-abbrev pub IsFilledBy : (pages : ℕ) → Tasks → Tally → (m : ℕ) → Task → Did → List Entry → Type 0
-IsFilledBy pages tasks t m task Done es = ⊤
-IsFilledBy pages tasks t m task (Trap end) es = IsFilledByEnd pages tasks t m task end es
+abbrev pub IsFilledBy : Sizes → Tasks → Tally → (m : ℕ) → Task → Did → List Entry → Type 0
+IsFilledBy z tasks t m task Done es = ⊤
+IsFilledBy z tasks t m task (Trap end) es = IsFilledByEnd z tasks t m task end es
 
 -- where a call tells the heap to be full it is filled, and each flip came for the record of the mutator that made it
-abbrev pub EntryIs : (pages : ℕ) → Tasks → Tally → Entry → List Entry → Type 0
-EntryIs pages tasks t (Made c) es = IsFilledBy pages tasks t c.by c.task c.did es
-EntryIs pages tasks t (Exchanged by asked) es = IsAskedFor tasks t by asked es
+abbrev pub EntryIs : Sizes → Tasks → Tally → Entry → List Entry → Type 0
+EntryIs z tasks t (Made c) es = IsFilledBy z tasks t c.by c.task c.did es
+EntryIs z tasks t (Exchanged by asked) es = IsAskedFor z tasks t by asked es
 
 -- ---- between two steps
 
@@ -145,19 +161,24 @@ aside_in h = sum_below (length h.workers) (λ k. set_aside (held_at h k))
 -- What was claimed since the last flip is all that LOW has fallen, and no more than the pages of records made since then and those set
 -- aside. Where all mutators have a flip since their last call none was made. The gate's epoch is the number of flips; no instruction began in a
 -- later one, and a mutator whose instruction began in an earlier one has a flip since its last call. Who asks for a flip has seen none
--- since it began its instruction; who has asked for one is still in its call, and has seen one.
-pub record FitsTally (h : Heap) (t : Tally) : Type 0 where
+-- since it began its instruction, or the space may still grow; who has asked for one is still in its call, and has seen one.
+pub record FitsTally (h : Heap) (z : Sizes) (t : Tally) : Type 0 where
+  pub limit : z.limit ≡ h.pages
+  pub size : size_of h.pages h.words ≡ size_now z t
+  pub least : z.least ≤ size_now z t
   pub claims : ℕ
-  pub low : low_of h.pages h.words + claims ≡ PAGE_WORDS * h.pages
+  pub low : low_of h.pages h.words + claims ≡ PAGE_WORDS * size_now z t
   pub for_records : claims ≤ PAGE_WORDS * t.made + aside_in h
   pub none_made : ((m : ℕ) → m < h.mutators → t.since m ≡ true) → t.made ≡ 0
   pub epoch : epoch_of h.pages h.words ≡ t.flips
   pub begun : (m : ℕ) → m < h.mutators → (held_at h m).account.end ≡ None → IsPastLook (held_at h m).stage → (held_at h m).begun ≤ t.flips
   pub since : (m : ℕ) → m < h.mutators → (held_at h m).account.end ≡ None → IsPastLook (held_at h m).stage → (held_at h m).begun < t.flips → t.since m ≡ true
-  pub first : (m : ℕ) → m < length h.workers → IsFirst (held_at h m)
+  pub first : (m : ℕ) → m < length h.workers → IsFirst h.pages h.words (held_at h m)
   pub call : (m : ℕ) → t.asked m ≡ true → IsInCall (held_at h m).stage × ((held_at h m).begun < t.flips)
 
--- what a history tells of its cycles, from what is counted before it
-pub record IsTallied (h : Heap) (first : Tally) (log : List Entry) : Type 0 where
-  pub entries : EachEntry (EntryIs h.pages (tasks_held h.workers)) first log
-  pub counts : FitsTally h (tally first log)
+-- what a history tells of its cycles, from what is counted before it, when so many pages were in use
+pub record IsTallied (least : ℕ) (h : Heap) (first : Tally) (log : List Entry) : Type 0 where
+  pub sizes : Sizes
+  pub began : (sizes.least ≡ least) × (size_now sizes first ≡ least)
+  pub entries : EachEntry (EntryIs sizes (tasks_held h.workers)) first log
+  pub counts : FitsTally h sizes (tally first log)

@@ -7,7 +7,7 @@ use Rattle.plain_state.specs.declared.value.Identity.{Identity}
 use Rattle.plain_state.specs.declared.value.Value.TheVariants.{Number, Reference}
 use Rattle.plain_state.specs.declared.sizes.TheConstants.{REGISTERS}
 use Rattle.plain_state.specs.State.{Mutator, Plain, serial_of}
-use Rattle.space_map.specs.declared.spaces.TheConstants.{MOST_MUTATORS, MOST_SCANNERS}
+use Rattle.space_map.specs.declared.spaces.TheConstants.{FEWEST_PAGES, MOST_MUTATORS, MOST_SCANNERS}
 use Rattle.space_map.specs.Spaces.{IsInSpace, IsPageCount, to_space}
 use Rattle.space_map.specs.Table.{HeapWord, table_length}
 use Rattle.atom_store.specs.declared.reply.Reply.{Reply}
@@ -65,18 +65,19 @@ unfoldable pub fresh_workers : (n mutators from count : ℕ) → List Held
 fresh_workers n mutators from zero = []
 fresh_workers n mutators from (suc count) = fresh_worker n mutators from ∷ fresh_workers n mutators (from + 1) count
 
-abbrev pub opening_heap : (n mutators scanners : ℕ) → Heap
-opening_heap n mutators scanners = record {
+-- at first so many pages of each space are in use
+abbrev pub opening_heap : (n least mutators scanners : ℕ) → Heap
+opening_heap n least mutators scanners = record {
   pages = n;
-  words = written n (opening_entries n);
+  words = written n (opening_entries n least);
   mutators = mutators;
   workers = fresh_workers n mutators 0 (mutators + scanners);
 }
 
 -- it stands for the plain state in which nothing was made yet, and a cycle begins there
 abbrev pub HeapsOpen : Type 0
-HeapsOpen = (n mutators scanners : ℕ) → IsPageCount n → mutators ≤ MOST_MUTATORS → mutators + scanners ≤ MOST_MUTATORS + MOST_SCANNERS
-    → WorkersStand (opening_heap n mutators scanners) (opening_plain mutators) (opening_plain mutators)
+HeapsOpen = (n least mutators scanners : ℕ) → IsPageCount n → FEWEST_PAGES ≤ least → least ≤ n → mutators ≤ MOST_MUTATORS → mutators + scanners ≤ MOST_MUTATORS + MOST_SCANNERS
+    → WorkersStand (opening_heap n least mutators scanners) (opening_plain mutators) (opening_plain mutators)
 
 -- ---- what a worker may become without a step
 

@@ -1,5 +1,5 @@
 -- The words that allocations claim within an epoch, for which records they do, and which instruction asks for a flip.
-use Rattle.std.specs.Prelude.{◌≡◌, ℕ, ◌+◌, ◌*◌, ◌<◌, ◌≤◌, ⊤, List, length, Option, Some, None, slice_get}
+use Rattle.std.specs.Prelude.{◌≡◌, ℕ, ◌+◌, ◌*◌, ◌<◌, ◌≤◌, ◌⊎◌, ⊤, true, min, List, length, Option, Some, None, slice_get}
 use Rattle.std.specs.Option.{option_map}
 use Rattle.plain_state.specs.State.{Mutator, Plain}
 use Rattle.mutator_asm.specs.declared.instr.Instr.{Instr}
@@ -9,10 +9,10 @@ use Rattle.atom_store.specs.declared.reply.Reply.TheVariants as replies
 use Rattle.atom_store.specs.declared.step.Step.{Step}
 use Rattle.atom_store.specs.Step.{words_after, reply_of}
 use Rattle.space_map.specs.declared.area_word.AreaWord.{AreaWord}
-use Rattle.space_map.specs.declared.spaces.TheConstants.{PAGE_WORDS}
+use Rattle.space_map.specs.declared.spaces.TheConstants.{FEWEST_PAGES, PAGE_WORDS}
 use Rattle.space_map.specs.AreaWord.{decode_area}
 use Rattle.space_map.specs.Spaces.{to_space}
-use Rattle.space_map.specs.Table.{Area}
+use Rattle.space_map.specs.Table.{Area, Size}
 use Rattle.alloc_end.specs.declared.place_stage.PlaceStage.{PlaceStage}
 use Rattle.alloc_end.specs.declared.place_stage.PlaceStage.TheVariants.{ExchangesArea, StoresZero, OpensPage, StoresCount, StoresHeader}
 use Rattle.alloc_end.specs.Place.{Placing, words_for}
@@ -26,8 +26,8 @@ use Rattle.gc_worker.specs.declared.task.Task.TheVariants.{Calls}
 use Rattle.gc_worker.specs.Workers.Begun.{IsPastAfter, IsPastBack}
 use Rattle.gc_worker.specs.Laws.Between.{IsNoAnswer}
 use Rattle.gc_worker.specs.Workers.Fits.{Fits}
-use Rattle.gc_worker.specs.Workers.Held.{Held, pages_needed}
-use Rattle.gc_worker.specs.Laws.Step.{Heap, WorkersStand, held_at, epoch_of}
+use Rattle.gc_worker.specs.Workers.Held.{Held, has_seen_flip, pages_needed}
+use Rattle.gc_worker.specs.Laws.Step.{Heap, WorkersStand, held_at, epoch_of, moved}
 use Rattle.gc_worker.specs.declared.calls.did.Did.TheVariants.{Done, Trap}
 use Rattle.gc_worker.specs.Steps.Turned.{Told, Silent, Answers, Marks, turned, told}
 use Rattle.gc_worker.specs.Steps.Wanted.{wanted}
@@ -58,11 +58,15 @@ low_at n words space = low_said (decode_area (word_in n words (Area space)))
 abbrev pub low_of : (n : ℕ) → List ℕ → ℕ
 low_of n words = low_at n words (to_space (epoch_of n words))
 
+-- the pages in use of the space of the gate's epoch
+abbrev pub size_of : (n : ℕ) → List ℕ → ℕ
+size_of n words = word_in n words (Size (to_space (epoch_of n words)))
+
 -- within an epoch LOW falls by the words claimed, and after a flip it is the end of the space
 abbrev pub LowGoes : (n : ℕ) → (words later : List ℕ) → (claims : ℕ) → Told → Type 0
 LowGoes n words later claims Silent = low_of n later + claims ≡ low_of n words
 LowGoes n words later claims (Answers task outcome) = low_of n later + claims ≡ low_of n words
-LowGoes n words later claims (Marks asked) = low_of n later ≡ PAGE_WORDS * n
+LowGoes n words later claims (Marks asked) = low_of n later ≡ PAGE_WORDS * size_of n later
 
 abbrev pub LowFallsByClaims : Type 0
 LowFallsByClaims = (h : Heap) (p o : Plain) (k : ℕ) (x : Held) (q : Step) → WorkersStand h p o → k < length h.workers → held_at h k ≡ x → wanted x ≡ Some q
@@ -112,28 +116,72 @@ pub record IsForRecord (p : Plain) (k : ℕ) (x : Held) : Type 0 where
 abbrev pub SetAsideIsForRecords : Type 0
 SetAsideIsForRecords = (h : Heap) (p o : Plain) (k : ℕ) (x : Held) → WorkersStand h p o → k < length h.workers → held_at h k ≡ x → IsForRecord p k x
 
+-- ---- the pages in use
+
+-- a space that is flipped into has as many as the one before, or twice as many, as far as there are so many
+abbrev pub Grows : (n size next : ℕ) → Type 0
+Grows n size next = (next ≡ size) ⊎ (next ≡ min n (2 * size))
+
+-- within an epoch the pages in use stay
+abbrev pub SizeGoes : (n : ℕ) → (words later : List ℕ) → Told → Type 0
+SizeGoes n words later Silent = size_of n later ≡ size_of n words
+SizeGoes n words later (Answers task outcome) = size_of n later ≡ size_of n words
+SizeGoes n words later (Marks asked) = Grows n (size_of n words) (size_of n later)
+
+abbrev pub SizesStay : Type 0
+SizesStay = (h : Heap) (p o : Plain) (k : ℕ) (x : Held) (q : Step) → WorkersStand h p o → k < length h.workers → held_at h k ≡ x → wanted x ≡ Some q
+    → SizeGoes h.pages h.words (words_after q h.words) (told x (reply_of q h.words))
+
+-- they are 4 to all pages of the space
+abbrev pub SizesAreWithin : Type 0
+SizesAreWithin = (h : Heap) (p o : Plain) → WorkersStand h p o → (FEWEST_PAGES ≤ size_of h.pages h.words) × (size_of h.pages h.words ≤ h.pages)
+
+-- a flip by a mutator that has seen one since it began its instruction is into a space with twice as many, as far as there are so many
+abbrev pub SeenFlipsDouble : Type 0
+SeenFlipsDouble = (h : Heap) (p o : Plain) (k : ℕ) (x : Held) (q : Step) (asked : ℕ) → WorkersStand h p o → k < length h.workers → held_at h k ≡ x → wanted x ≡ Some q
+    → told x (reply_of q h.words) ≡ Marks asked → has_seen_flip x ≡ true → size_of h.pages (words_after q h.words) ≡ min h.pages (2 * size_of h.pages h.words)
+
+-- the pages in use of a space
+abbrev pub size_at : (n : ℕ) → List ℕ → (space : ℕ) → ℕ
+size_at n words space = word_in n words (Size space)
+
+-- The space of the gate's epoch keeps its size, and so does the other one, or it gets a size that is no smaller than that of the first.
+pub record SizesHoldAt (n : ℕ) (words later : List ℕ) (space other : ℕ) : Type 0 where
+  pub in_use : size_at n later space ≡ size_at n words space
+  pub beside : (size_at n later other ≡ size_at n words other) ⊎ (size_at n words space ≤ size_at n later other)
+
+abbrev pub SizesHold : Type 0
+SizesHold = (h : Heap) (p o : Plain) (k : ℕ) (x : Held) (q : Step) → WorkersStand h p o → k < length h.workers → held_at h k ≡ x → wanted x ≡ Some q
+    → SizesHoldAt h.pages h.words (words_after q h.words) (to_space (epoch_of h.pages h.words)) (to_space (epoch_of h.pages h.words + 1))
+
 -- ---- who asks for a flip
 
-abbrev pub IsFirstBy : Held → Passage → Type 0
-IsFirstBy x Request = x.epoch ≤ x.begun
-IsFirstBy x passage = ⊤
+-- it has seen none since it began its instruction, or the space may still grow
+abbrev pub MayAsk : (n size : ℕ) → Held → Type 0
+MayAsk n size x = (x.epoch ≤ x.begun) ⊎ (size < n)
 
-abbrev pub IsFirstAt : Held → Stage → Type 0
-IsFirstAt x (Passes g after) = IsFirstBy x g.passage
-IsFirstAt x (Flips f) = x.epoch ≤ x.begun
-IsFirstAt x stage = ⊤
+abbrev pub IsFirstBy : (n size : ℕ) → Held → Passage → Type 0
+IsFirstBy n size x Request = MayAsk n size x
+IsFirstBy n size x passage = ⊤
 
--- a mutator that asks for a flip has seen none since it began its instruction
-abbrev pub IsFirst : Held → Type 0
-IsFirst x = IsFirstAt x x.stage
+abbrev pub IsFirstAt : (n size : ℕ) → Held → Stage → Type 0
+IsFirstAt n size x (Passes g after) = IsFirstBy n size x g.passage
+IsFirstAt n size x (Flips f) = MayAsk n size x
+IsFirstAt n size x stage = ⊤
 
--- a step keeps that
+-- a mutator that asks for a flip of a space with all its pages in use has seen none since it began its instruction
+abbrev pub IsFirst : (n : ℕ) → List ℕ → Held → Type 0
+IsFirst n words x = IsFirstAt n (size_of n words) x x.stage
+
+-- a step keeps that, of the worker that makes it and of all others
 abbrev pub FlipsStayFirst : Type 0
-FlipsStayFirst = (x : Held) (reply : Reply) → IsFirst x → IsFirst (turned x reply)
+FlipsStayFirst = (h : Heap) (p o : Plain) (k : ℕ) (x : Held) (q : Step) → WorkersStand h p o → k < length h.workers → held_at h k ≡ x → wanted x ≡ Some q
+    → ((j : ℕ) → j < length h.workers → IsFirst h.pages h.words (held_at h j))
+    → (j : ℕ) → j < length h.workers → IsFirst h.pages (words_after q h.words) (held_at (moved h k x q) j)
 
 -- and so it is of one that makes the flip
 abbrev pub FlipsAreFirst : Type 0
-FlipsAreFirst = (x : Held) (reply : Reply) (asked : ℕ) → IsFirst x → told x reply ≡ Marks asked → x.epoch ≤ x.begun
+FlipsAreFirst = (n : ℕ) (words : List ℕ) (x : Held) (reply : Reply) (asked : ℕ) → IsFirst n words x → told x reply ≡ Marks asked → MayAsk n (size_of n words) x
 
 -- ---- an instruction that is not answered yet
 

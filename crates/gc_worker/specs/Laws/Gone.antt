@@ -47,7 +47,7 @@ ScannersAreLast h = (k m : ℕ) → k < length h.workers → h.mutators ≤ k �
 
 -- it is so at the opening, and each step of a worker keeps it
 abbrev pub ScannersBeginLast : Type 0
-ScannersBeginLast = (n mutators scanners : ℕ) → ScannersAreLast (opening_heap n mutators scanners)
+ScannersBeginLast = (n least mutators scanners : ℕ) → ScannersAreLast (opening_heap n least mutators scanners)
 
 abbrev pub ScannersStayLast : Type 0
 ScannersStayLast = (h : Heap) (p o : Plain) (k : ℕ) (x : Held) (q : Step) → WorkersStand h p o → k < length h.workers → held_at h k ≡ x → wanted x ≡ Some q

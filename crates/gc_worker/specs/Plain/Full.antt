@@ -8,7 +8,7 @@ use Rattle.space_map.specs.declared.spaces.TheConstants.{PAGE_WORDS}
 use Rattle.space_map.specs.AreaWord.{decode_area}
 use Rattle.space_map.specs.GateWord.{decode_gate}
 use Rattle.space_map.specs.Spaces.{to_space}
-use Rattle.space_map.specs.Table.{Gate, Traced, Area}
+use Rattle.space_map.specs.Table.{Gate, Traced, Area, Size}
 use Rattle.heap_state.specs.Memory.Table.{word_in}
 use Rattle.gc_worker.specs.Workers.Held.{Held}
 use Rattle.gc_worker.specs.declared.calls.did.Did.{Did}
@@ -16,7 +16,8 @@ use Rattle.gc_worker.specs.declared.calls.did.Did.TheVariants.{Done, Trap}
 use Rattle.gc_worker.specs.Steps.Turned.{Told, Silent, Answers, Marks}
 
 -- In its epoch, which is the gate's and is traced, the words between FRONT and LOW are too few for the pages that it asks for, and as many
--- as are told to be live are below FRONT; and no flip can help: one came since it began its instruction, or the epoch is the last.
+-- as are told to be live are below FRONT; and no flip can help: one came since it began its instruction, and all pages of the space are
+-- in use; or the epoch is the last.
 pub record FindsNoRoom (n : ℕ) (words : List ℕ) (x : Held) (asked room live : ℕ) : Type 0 where
   pub gate : GateWord
   pub gate_is : decode_gate (word_in n words Gate) ≡ Some gate
@@ -27,7 +28,9 @@ pub record FindsNoRoom (n : ℕ) (words : List ℕ) (x : Held) (asked room live 
   pub room_is : area.front + room ≡ area.low
   pub live_is : area.front ≡ live
   pub short : room < PAGE_WORDS * asked
-  pub no_flip : (x.begun < x.epoch) ⊎ (x.epoch ≡ 2 ^ 32 - 1)
+  pub size : ℕ
+  pub size_is : word_in n words (Size (to_space x.epoch)) ≡ size
+  pub no_flip : ((x.begun < x.epoch) × (size ≡ n)) ⊎ (x.epoch ≡ 2 ^ 32 - 1)
 
 abbrev pub FullByEnd : (n : ℕ) → List ℕ → Held → End → Type 0
 FullByEnd n words x (HeapFull asked room live) = FindsNoRoom n words x asked room live

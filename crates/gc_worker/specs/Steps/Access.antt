@@ -180,12 +180,12 @@ abbrev pub may_store : Role → (new : ℕ) → Result ℕ End → Result Value 
 may_store role new (Ok x) = may_hold (kind_of role) x (value_seen new)
 may_store role new (Err why) = Err why
 
--- a record whose values begin at this word, and all have this role
-abbrev pub used_by : RecordAccess → (first : ℕ) → Role → (len : ℕ) → RecordUse → Answered
-used_by r first role len (record_uses.TellsLength into) = Comes (Brings into (number_word len))
-used_by r first role len (record_uses.Loads into) = loading (field_of r.at first role r.value) into (in_record len r.value)
-used_by r first role len (record_uses.Stores new) = storing (field_of r.at first role r.value) (field_uses.Stores new) (may_store role new (in_record len r.value))
-used_by r first role len (record_uses.Exchanges e) = storing (field_of r.at first role r.value) (field_uses.Exchanges e) (may_store role e.new (in_record len r.value))
+-- a record whose values begin behind its header, and all have this role
+abbrev pub used_by : RecordAccess → Role → (len : ℕ) → RecordUse → Answered
+used_by r role len (record_uses.TellsLength into) = Comes (Brings into (number_word len))
+used_by r role len (record_uses.Loads into) = loading (field_of r.at 1 role r.value) into (in_record len r.value)
+used_by r role len (record_uses.Stores new) = storing (field_of r.at 1 role r.value) (field_uses.Stores new) (may_store role new (in_record len r.value))
+used_by r role len (record_uses.Exchanges e) = storing (field_of r.at 1 role r.value) (field_uses.Exchanges e) (may_store role e.new (in_record len r.value))
 
 -- a mixed record: which role the value has, the count says
 abbrev pub counting : (at : ℕ) → FieldUse → Result ℕ End → Answered
@@ -200,8 +200,8 @@ counted_by r len (record_uses.Exchanges e) = counting r.at (field_uses.Exchanges
 
 -- by the header: the count is no value
 abbrev pub by_kind : RecordAccess → Kind → (len : ℕ) → Answered
-by_kind r headers.Fields len = used_by r 1 roles.Field len r.usage
-by_kind r headers.Raw len = used_by r 1 roles.Number len r.usage
+by_kind r headers.Fields len = used_by r roles.Field len r.usage
+by_kind r headers.Raw len = used_by r roles.Number len r.usage
 by_kind r headers.Mixed len = counted_by r (len - 1) r.usage
 
 -- what is no header can't be there, and leaves it where it is

@@ -44,7 +44,8 @@ LostSwapIsTriedAgain =
     RunsTo access_machine (begins_at (LooksAtBoard (record { word = 0; usage = Swaps 3 20 })))
     ((Load 24, Value 1) ∷ (Load 545, Value 4) ∷ (Exchange 545 4 20, Lost 8) ∷ (Load 545, Value 8) ∷ (Exchange 545 8 20, Won) ∷ []) (Brings 3 8)
 
--- The number 3 in a field is exchanged for the number 7. The exchange is lost, as the number 5 stands there by then, which isn't what is expected.
+-- The number 3 in a field is exchanged for the number 7. The exchange is lost, as the number 5 stands there by then, which isn't what
+-- is expected.
 abbrev pub LostExchangeIsComparedAgain : Type 0
 LostExchangeIsComparedAgain =
     RunsTo access_machine (begins_at (LooksAtRecord (record { at = 192; value = 0; usage = Exchanges (record { into = 2; expected = 12; new = 28 }) })))

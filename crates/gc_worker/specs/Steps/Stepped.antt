@@ -6,6 +6,7 @@ use Rattle.plain_state.specs.declared.value.Value.{Value}
 use Rattle.plain_state.specs.declared.value.Value.TheVariants.{Number, Reference}
 use Rattle.plain_state.specs.State.{Mutator}
 use Rattle.mutator_asm.specs.declared.instr.Instr.{Instr}
+use Rattle.mutator_asm.specs.declared.instr.Instr.TheVariants.{Halt}
 use Rattle.gc_worker.specs.declared.stage.Stage.{Stage}
 use Rattle.gc_worker.specs.declared.stage.Stage.TheVariants.{Looks, Passes, Flips, Forwards, Accesses, Places, Serves, Scans, Evacuates, Opens, Gone}
 use Rattle.gc_worker.specs.declared.calls.did.Did.TheVariants.{Done, Trap}
@@ -32,6 +33,18 @@ abbrev pub task_due : Due → Instr → End → Option Task
 task_due due.Nothing instr end = None
 task_due due.Call instr end = Some (Calls instr)
 task_due due.Stop instr end = Some (Stops end)
+
+-- the task is an instruction
+abbrev pub IsCall : Option Task → Type 0
+IsCall (Some (Calls instr)) = ⊤
+IsCall (Some (Stops end)) = ⊥
+IsCall None = ⊥
+
+-- which one, or `halt` if it is none
+abbrev pub instr_due : Option Task → Instr
+instr_due (Some (Calls instr)) = instr
+instr_due (Some (Stops end)) = Halt
+instr_due None = Halt
 
 -- The instructions that a mutator has executed are not counted by its code: on threads no number bounds them, and nobody reads
 -- them there. So it holds this.

@@ -1,5 +1,5 @@
 -- What a reply makes of a worker: its machine takes the reply, and where that ends the machine, another stage follows.
-use Rattle.std.specs.Prelude.{ℕ, zero, suc, ◌+◌, ◌-◌, ◌^◌, ◌==◌, ◌||◌, Bool, true, false, List, [], ◌∷◌, ◌++◌, Option, Some, None, Result, Ok, Err, nat_lt, slice_index, slice_set, if◌then◌else◌}
+use Rattle.std.specs.Prelude.{ℕ, zero, suc, ◌+◌, ◌-◌, ◌^◌, ◌==◌, ◌&&◌, ◌||◌, Bool, true, false, List, [], ◌∷◌, ◌++◌, Option, Some, None, Result, Ok, Err, nat_lt, slice_index, slice_set, if◌then◌else◌}
 use Rattle.atom_store.specs.declared.reply.Reply.{Reply}
 use Rattle.atom_store.specs.declared.reply.Reply.TheVariants as replies
 use Rattle.atom_store.specs.declared.turn.Turn.{Turn}
@@ -57,7 +57,7 @@ use Rattle.gc_worker.specs.declared.calls.did.Did.{Did}
 use Rattle.gc_worker.specs.declared.calls.did.Did.TheVariants.{Done, Trap}
 use Rattle.gc_worker.specs.declared.task.Task.TheVariants.{Calls, Stops}
 use Rattle.gc_worker.specs.Steps.Access as access
-use Rattle.gc_worker.specs.Workers.Held.{Held, at_stage, making_for, header_for, fields_for, pages_needed, run_held}
+use Rattle.gc_worker.specs.Workers.Held.{Held, at_stage, has_seen_flip, making_for, header_for, fields_for, pages_needed, run_held}
 use Rattle.gc_worker.specs.Plain.Seen.{Making, seen, word_for}
 use Rattle.plain_heap.specs.declared.action.Action.{Action}
 use Rattle.plain_heap.specs.declared.action.Action.TheVariants.{Sets, Jumps, Links, Prints, Makes}
@@ -142,7 +142,7 @@ passed_by x after Attach (passed.Went word) = attached x word
 passed_by x after Attach (passed.NotYet word) = at_stage x (passes x Attach after)
 passed_by x after Park (passed.Went word) = at_stage x (passes x (Resume x.epoch) after)
 passed_by x after Park (passed.NotYet word) = at_stage x (goes_on x after)
-passed_by x after Request (passed.Went word) = at_stage x (Flips (flip.begun x.layout x.epoch (pages_needed x)))
+passed_by x after Request (passed.Went word) = at_stage x (Flips (flip.begun x.layout x.epoch (pages_needed x) (has_seen_flip x)))
 passed_by x after Request (passed.NotYet word) = at_stage x (passes x Park after)
 passed_by x after (Resume epoch) (passed.Went word) = at_stage x (goes_on x after)
 passed_by x after (Resume epoch) (passed.NotYet word) = stopped x after word
@@ -232,7 +232,7 @@ turned_look x (replies.Lost word) = x
 
 abbrev pub flipped_by : Held → flip.Flipping → Flipped → Held
 flipped_by x f (flipped.Went asked) = at_stage x (passes x (Resume x.epoch) afters.Places)
-flipped_by x f (flipped.NotYet word) = at_stage x (Flips (flip.begun x.layout x.epoch f.asked))
+flipped_by x f (flipped.NotYet word) = at_stage x (Flips (flip.begun x.layout x.epoch f.asked (has_seen_flip x)))
 
 abbrev pub turned_flip : Held → flip.Flipping → Turn Flipped → Held
 turned_flip x f More = at_stage x (Flips f)
@@ -254,17 +254,17 @@ turned_register x w (Finished to) = forwarded_to x w to
 
 -- ---- allocation
 
--- the heap is full where the epoch was found traced, and no flip can help: one was seen since the instruction began, or the
--- epoch is the last
-abbrev pub finds_full : Held → Bool
-finds_full x = nat_lt x.begun x.epoch || (x.epoch == 2 ^ 32 - 1)
+-- the heap is full if the epoch was found traced, and no flip can help: one was seen since the instruction began, and all pages
+-- of the space are in use; or the epoch is the last
+abbrev pub is_full : Held → Shortage → Bool
+is_full x s = (has_seen_flip x && (s.size == x.layout.pages)) || (x.epoch == 2 ^ 32 - 1)
 
 abbrev pub end_by_shortage : Shortage → End
 end_by_shortage s = HeapFull s.asked s.room s.live
 
 abbrev pub full_by : Held → Shortage → (traced : Bool) → Held
 full_by x s false = at_stage x (Serves (duty.begun x.layout callers.Allocates x.epoch x.number) ToPlace)
-full_by x s true = if finds_full x then ended x (end_by_shortage s) else at_stage x (passes x Request afters.Places)
+full_by x s true = if is_full x s then ended x (end_by_shortage s) else at_stage x (passes x Request afters.Places)
 
 -- the record stands, and the register that the task names leads to it
 abbrev pub with_record : Held → Run → (at : ℕ) → Option Making → Held
@@ -376,7 +376,7 @@ told_end None end = Silent
 
 abbrev pub told_full : Held → Shortage → (traced : Bool) → Told
 told_full x s false = Silent
-told_full x s true = if finds_full x then told_end x.task (end_by_shortage s) else Silent
+told_full x s true = if is_full x s then told_end x.task (end_by_shortage s) else Silent
 
 -- the task is done
 abbrev pub told_effect : Option Task → Told

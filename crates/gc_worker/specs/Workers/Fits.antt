@@ -43,7 +43,7 @@ use Rattle.gc_worker.specs.declared.task.Task.TheVariants.{Calls, Stops}
 use Rattle.gc_worker.specs.Steps.Access.{IsSoundAccess, IsAccessOf}
 use Rattle.gc_worker.specs.Steps.Access as access
 use Rattle.gc_worker.specs.Plain.Seen.{IsValueWord, Making, making_in, seen}
-use Rattle.gc_worker.specs.Workers.Held.{Held, pages_needed, header_for, fields_for}
+use Rattle.gc_worker.specs.Workers.Held.{Held, has_seen_flip, pages_needed, header_for, fields_for}
 use Rattle.plain_state.specs.declared.end.End.{End}
 use Rattle.plain_state.specs.declared.end.End.TheVariants.{HeapFull}
 use Rattle.plain_state.specs.declared.sizes.TheConstants.{REGISTERS, MOST_PRINTED}
@@ -74,6 +74,7 @@ pub record FitsGate (x : Held) (g : gate.Passing) : Type 0 where
 pub record FitsFlip (x : Held) (f : flip.Flipping) : Type 0 where
   pub layout : f.layout ≡ x.layout
   pub epoch : f.epoch ≡ x.epoch
+  pub seen : f.seen ≡ has_seen_flip x
   pub going : IsFlippingGoing f.stage
   pub sound : IsSoundFlipping f
 

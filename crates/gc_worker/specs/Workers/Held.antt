@@ -1,5 +1,5 @@
 -- What a worker holds between two steps, and what its task asks for.
-use Rattle.std.specs.Prelude.{ℕ, ◌+◌, List, Option, Some, None}
+use Rattle.std.specs.Prelude.{ℕ, ◌+◌, Bool, List, Option, Some, None, nat_lt}
 use Rattle.std.specs.Option.{option_and_then}
 use Rattle.heap_words.specs.Decoded.{HeaderWord}
 use Rattle.plain_state.specs.declared.kind.Kind.{Kind}
@@ -34,6 +34,10 @@ pub record Held : Type 0 where
 
 abbrev pub at_stage : Held → Stage → Held
 at_stage x stage = record x { stage = stage }
+
+-- it has seen a flip since its instruction began, whoever flipped
+abbrev pub has_seen_flip : Held → Bool
+has_seen_flip x = nat_lt x.begun x.epoch
 
 -- ---- the record that the task asks for
 

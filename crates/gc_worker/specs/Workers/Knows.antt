@@ -115,9 +115,11 @@ gate_step_in x stage = None
 -- the flip so far
 abbrev pub reset_at : FlipStage → Option Reset
 reset_at flip_stage.LoadsGate = None
-reset_at (flip_stage.LoadsArea read) = Some (record { read = read; used = None; stored = false })
-reset_at (flip_stage.StoresArea r) = Some (record { read = r.gate; used = Some r.used; stored = false })
-reset_at (flip_stage.Exchanges r) = Some (record { read = r.gate; used = Some r.used; stored = true })
+reset_at (flip_stage.LoadsSize read) = Some (record { read = read; size = None; grown = None; used = None; sized = false; stored = false })
+reset_at (flip_stage.LoadsArea read size) = Some (record { read = read; size = Some size; grown = None; used = None; sized = false; stored = false })
+reset_at (flip_stage.StoresSize r) = Some (record { read = r.gate; size = Some r.size; grown = Some r.next; used = Some r.used; sized = false; stored = false })
+reset_at (flip_stage.StoresArea r) = Some (record { read = r.gate; size = Some r.size; grown = Some r.next; used = Some r.used; sized = true; stored = false })
+reset_at (flip_stage.Exchanges r) = Some (record { read = r.gate; size = Some r.size; grown = Some r.next; used = Some r.used; sized = true; stored = true })
 reset_at (flip_stage.Ended result) = None
 
 abbrev pub reset_in : Stage → Option Reset
@@ -178,7 +180,8 @@ counted_in p = record (stock_of p.epoch p.run) { ahead = stored_ahead (kind_with
 
 abbrev pub stock_at : Held → Placing → PlaceStage → Option Stock
 stock_at x p place_stage.LoadsTraced = own_stock x.epoch x.run
-stock_at x p (place_stage.LoadsArea traced) = own_stock x.epoch x.run
+stock_at x p (place_stage.LoadsSize traced) = own_stock x.epoch x.run
+stock_at x p (place_stage.LoadsArea traced size) = own_stock x.epoch x.run
 stock_at x p (place_stage.ExchangesArea f) = own_stock x.epoch x.run
 stock_at x p (place_stage.StoresZero new) = Some (zeroed_to p new)
 stock_at x p (place_stage.OpensPage new) = Some (opened_to p new)
@@ -192,7 +195,8 @@ stock_in x stage = own_stock x.epoch x.run
 
 -- TRACED was read as that of this epoch
 abbrev pub traced_at : PlaceStage → Bool
-traced_at (place_stage.LoadsArea traced) = traced
+traced_at (place_stage.LoadsSize traced) = traced
+traced_at (place_stage.LoadsArea traced size) = traced
 traced_at (place_stage.ExchangesArea f) = f.traced
 traced_at stage = false
 
@@ -205,6 +209,15 @@ traced_seen_in (Passes g after) = traced_before g.passage
 traced_seen_in (Flips f) = true
 traced_seen_in (Places p) = traced_at p.stage
 traced_seen_in stage = false
+
+-- SIZE as an allocation has read it
+abbrev pub size_at : PlaceStage → Option ℕ
+size_at (place_stage.LoadsArea traced size) = Some size
+size_at stage = None
+
+abbrev pub size_seen_in : Stage → Option ℕ
+size_seen_in (Places p) = size_at p.stage
+size_seen_in stage = None
 
 -- ---- accesses
 
@@ -492,6 +505,7 @@ known_at x stage = record {
   look = look_in stage;
   last_look = last_look_in stage;
   traced_seen = traced_seen_in stage;
+  size_seen = size_seen_in stage;
   gate_step = gate_step_in x stage;
   reset = reset_in stage;
 }

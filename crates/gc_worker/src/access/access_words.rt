@@ -2,6 +2,7 @@
 
 ghost use Rattle.std.specs.Prelude.{◌≡◌, ◌+◌, ◌^◌, ◌<◌, ℕ};
 ghost use Rattle.std.specs.Result.{result_map_both};
+ghost use Rattle.heap_words.specs.Word.{number_word};
 ghost use Rattle.plain_state.specs.declared.sizes.TheConstants.{BOARD_WORDS};
 ghost use Rattle.plain_heap.specs.Call.{may_hold};
 ghost use Rattle.heap_laws.specs.Fields.Effects.{FitsRole, word_held};
@@ -9,8 +10,10 @@ ghost use Rattle.gc_worker.specs.Steps.Access as access;
 ghost use Rattle.gc_worker.specs.Plain.Seen.{IsValueWord, value_seen};
 
 use crate::access::access_stage::AccessStage;
+use crate::access::accessed::Accessed;
 use crate::access::board_access::{BoardSwap, BoardUse};
 use crate::access::field_access::{FieldAccess, FieldUse, Role};
+use atom_store::Turn;
 use heap_words::Word;
 use plain_state::End;
 use space_map::Spaces;
@@ -37,6 +40,15 @@ pub fn field(at: u32, first: u32, role: Role, value: u32) -> FieldAccess
         word: value + first,
         role,
     }
+}
+
+/// The length of a record is told: a register gets it.
+#[inline(always)]
+pub fn tells_length(into: u8, len: u16) -> Turn<Accessed>
+    ensures { result ≡ Turn.Finished (Accessed.Brings into (number_word len)) }
+{
+    let length = Word::number(u64::from(len));
+    Turn::Finished(Accessed::Brings(into, length.0))
 }
 
 /// The word that a register gets of one that was loaded.

@@ -44,7 +44,7 @@ impl FieldUse {
     ghost use Rattle.std.specs.Prelude.{◌≡◌};
     ghost use Rattle.gc_worker.specs.Steps.Access.{with_new};
 
-    /// The same, where this is to be stored.
+    /// The same use with this as the word that a store or an exchange writes.
     #[inline(always)]
     pub fn with_new(self, new: u64) -> FieldUse
         ensures { result ≡ with_new self new }

@@ -1,15 +1,14 @@
 //! The allocation of the record that an instruction makes.
 
-ghost use Rattle.std.specs.Prelude.{◌≡◌, ◌+◌, ◌^◌, ◌<◌};
+ghost use Rattle.std.specs.Prelude.{◌≡◌, ◌+◌, ◌^◌, ◌<◌, MatchOption};
 ghost use Rattle.heap_words.specs.Decoded.{HeaderWord};
 ghost use Rattle.record_layout.specs.Layout.{header_in};
 ghost use Rattle.heap_state.specs.Invariant.Ghost.{header_kind, header_len};
-ghost use Rattle.plain_heap.specs.Action.{action, allocates};
 ghost use Rattle.gc_worker.specs.Workers.Fits.{FitsStage, IsMaking, Takes};
 ghost use Rattle.gc_worker.specs.Workers.Held.{pages_needed, at_stage, header_for, fields_for, fields_of, making_for};
-ghost use Rattle.gc_worker.specs.Plain.Seen.{making_in, mixed_made};
+ghost use Rattle.gc_worker.specs.Plain.Seen.{mixed_made};
 ghost use Rattle.gc_worker.specs.Steps.Stepped.{IsPlacing, IsSound, seen_by, stepped_by, uncounted};
-ghost use Rattle.gc_worker.specs.Steps.Turned.{full_by, places, told, told_effect, told_full, turned, with_record};
+ghost use Rattle.gc_worker.specs.Steps.Turned.{full_by, is_full, places, told, told_effect, told_full, turned, with_record};
 
 use crate::stage::Stage;
 use crate::stage::after::After;
@@ -52,38 +51,24 @@ impl State {
         )
     }
 
-    /// The header of the record that the task makes, if it makes one.
-    fn header(&self) -> Option<Header>
-        ensures { result ≡ header_for self.now }
+    /// The header of the record that the task makes, if it makes one, and the fields that this has if it is mixed.
+    fn header_and_fields(&self) -> Option<(Header, u16)>
+        ensures { MatchOption result (header_for self.now ≡ None) (λ r. (header_for self.now ≡ Some r.0) × (fields_for self.now ≡ r.1)) }
     {
-        match self.due {
-            Due::Call => {
-                let making = self.making(self.instr)?;
-                self.next_header(making.kind, making.len)
-            }
-            Due::Stop | Due::Nothing => None,
-        }
+        let making = self.making()?;
+        let header = self.next_header(making.kind, making.len)?;
+        Some((header, fields_of(making.kind)))
     }
 
-    /// The fields that this record has, if it is mixed.
-    fn fields(&self) -> u16
-        ensures { result ≡ fields_for self.now }
-    {
-        match self.due {
-            Due::Call => match self.making(self.instr) {
-                Some(making) => fields_of(making.kind),
-                None => 0,
-            },
-            Due::Stop | Due::Nothing => 0,
-        }
-    }
-
-    /// The record that an instruction makes, if it makes one.
+    /// The record that the task makes, if it makes one.
     #[tactic(auto, using(crate::proofs::Plain::RecordsMade::made_of))]
-    fn making(&self, instr: Instr) -> Option<Making>
-        ensures { result ≡ making_in (action (seen_by self.now) instr) }
+    fn making(&self) -> Option<Making>
+        ensures { result ≡ making_for self.now self.now.task }
     {
-        let (kind, into, len) = match instr {
+        let Due::Call = self.due else {
+            return None;
+        };
+        let (kind, into, len) = match self.instr {
             Instr::New(into, len) => (Kind::Fields, into, len),
             Instr::Raw(into, len) => (Kind::Raw, into, len),
             Instr::Mix(into, fields, raw) => return self.mixed(into, fields, raw),
@@ -113,34 +98,29 @@ impl State {
     pub fn asked(&self) -> u32
         ensures { result ≡ pages_needed self.now }
     {
-        match self.header() {
-            Some(header) => (u32::from(header.len) + 1).div_ceil(PAGE_WORDS),
+        match self.header_and_fields() {
+            Some((header, _)) => (u32::from(header.len) + 1).div_ceil(PAGE_WORDS),
             None => 0,
         }
     }
 
     /// Its allocation begins.
-    pub fn begin_placing(&mut self) -> Stepped
+    pub fn begin_placing(&mut self)
         requires { FitsStage self.old (places self.old (header_for self.old)) }
-        ensures state { self.new ≡ uncounted (at_stage self.old (places self.old (header_for self.old))) }
-        ensures tells { result ≡ Stepped.Moved }
+        ensures { self.new ≡ at_stage self.old (places self.old (header_for self.old)) }
     {
-        self.stage = self.placing();
-        Stepped::Moved
-    }
-
-    /// The beginning of its allocation.
-    pub fn placing(&self) -> Stage
-        requires { FitsStage self.now (places self.now (header_for self.now)) }
-        ensures { result ≡ places self.now (header_for self.now) }
-    {
-        match self.header() {
-            Some(header) => {
+        match self.header_and_fields() {
+            Some((header, fields)) => {
                 let run = self.run.unwrap_or(Run { at: 0, end: 0 });
-                let fields = self.fields();
-                Stage::Places(Place::new(self.spaces, run, header, self.epoch, fields))
+                self.stage = Stage::Places(Place::new(
+                    self.spaces,
+                    run,
+                    header,
+                    self.epoch,
+                    fields,
+                ));
             }
-            None => Stage::Looks,
+            None => self.stage = Stage::Looks,
         }
     }
 
@@ -176,7 +156,7 @@ impl State {
         ensures state { self.new ≡ uncounted (with_record self.old run at (making_for self.old self.old.task)) }
         ensures tells { result ≡ stepped_by self.old.number (told_effect self.old.task) }
     {
-        match self.making(self.instr) {
+        match self.making() {
             Some(made) => {
                 self.run = Some(run);
                 self.stage = Stage::Looks;
@@ -185,6 +165,14 @@ impl State {
             }
             None => unreachable!(),
         }
+    }
+
+    /// Whether no flip can help: one was seen since the instruction began, and all pages of the space are in use; or the epoch is
+    /// the last.
+    fn is_full(&self, s: Shortage) -> bool
+        ensures { result ≡ is_full self.now s }
+    {
+        self.begun < self.epoch && s.size == self.spaces.pages() || self.epoch == u32::MAX
     }
 
     /// The heap is full where the epoch is traced, and no flip can help.
@@ -199,7 +187,7 @@ impl State {
             self.stage = Stage::Serves(duty, Back::ToPlace);
             return Stepped::Moved;
         }
-        if self.begun < self.epoch || self.epoch == u32::MAX {
+        if self.is_full(s) {
             let Shortage {
                 asked,
                 room,

@@ -12,7 +12,7 @@ ghost use Rattle.plain_state.specs.declared.sizes.TheConstants.{BOARD_WORDS};
 ghost use Rattle.plain_heap.specs.Action.{action, allocates, computes, mixes};
 ghost use Rattle.gc_worker.specs.declared.task.Task.{Task};
 ghost use Rattle.gc_worker.specs.Workers.Fits.{FitsStage};
-ghost use Rattle.gc_worker.specs.Steps.Stepped.{seen_by, stepped_by, uncounted};
+ghost use Rattle.gc_worker.specs.Steps.Stepped.{IsCall, instr_due, seen_by, stepped_by, uncounted};
 ghost use Rattle.gc_worker.specs.Steps.Turned.{acted, told_acted};
 
 use crate::access::access_stage::AccessStage;
@@ -23,23 +23,27 @@ use crate::registers::seen_value::word_of;
 use crate::stage::Stage;
 use crate::state::State;
 use crate::steps::stepped::Stepped;
+use crate::task::due::Due;
 use heap_words::Word;
 use mutator_asm::{Instr, Operand};
 use plain_state::{End, Identity, MOST_PRINTED, Operation};
 
 impl State {
-    /// Executes an instruction as far as the registers go.
+    /// Executes the instruction that is due as far as the registers go. It reads the instruction where it stands: so each arm takes
+    /// only the parts that it needs.
     #[tactic(auto, unfolding(plain_heap::specs::Action::action))]
     #[inline(always)]
-    pub fn execute(&mut self, instr: Instr) -> Stepped
+    pub fn execute(&mut self) -> Stepped
         requires at { self.old.stage ≡ Stage.Looks }
         requires is_mutator { nat_lt self.old.number self.old.mutators ≡ true }
-        requires valid { IsTrue (is_valid instr) }
-        requires after { FitsStage (acted self.old (action (seen_by self.old) instr)) (acted self.old (action (seen_by self.old) instr)).stage }
-        ensures state { self.new ≡ uncounted (acted self.old (action (seen_by self.old) instr)) }
-        ensures tells { (task : Task) → result ≡ stepped_by self.old.number (told_acted task (action (seen_by self.old) instr)) }
+        requires due { IsCall self.old.task }
+        requires valid { IsTrue (is_valid (instr_due self.old.task)) }
+        requires after { let act = action (seen_by self.old) (instr_due self.old.task) in FitsStage (acted self.old act) (acted self.old act).stage }
+        ensures state { self.new ≡ uncounted (acted self.old (action (seen_by self.old) (instr_due self.old.task))) }
+        ensures tells { (task : Task) → result ≡ stepped_by self.old.number (told_acted task (action (seen_by self.old) (instr_due self.old.task))) }
     {
-        match instr {
+        let Due::Call = self.due else { unreachable!() };
+        match self.instr {
             Instr::Li(d, number) => self.load(d, Word::number(number).0),
             Instr::Mov(d, a) => self.load(d, word_of(self.value(a))),
             Instr::Add(d, a, b) => self.compute(Operation::Add, d, a, b),
@@ -124,8 +128,12 @@ impl State {
         ensures state { (kind : Kind) (d : ℕ) → self.new ≡ uncounted (acted self.old (allocates (seen_by self.old) kind d x)) }
         ensures tells { (task : Task) (kind : Kind) (d : ℕ) → result ≡ stepped_by self.old.number (told_acted task (allocates (seen_by self.old) kind d x)) }
     {
+        self.known();
         match self.length(x) {
-            Ok(_) => self.begin_placing(),
+            Ok(_) => {
+                self.begin_placing();
+                Stepped::Moved
+            }
             Err(why) => self.end_with(why),
         }
     }
@@ -139,8 +147,12 @@ impl State {
         ensures state { (d : ℕ) → self.new ≡ uncounted (acted self.old (mixes (seen_by self.old) d fields raw)) }
         ensures tells { (task : Task) (d : ℕ) → result ≡ stepped_by self.old.number (told_acted task (mixes (seen_by self.old) d fields raw)) }
     {
+        self.known();
         match self.mixed_length(fields, raw) {
-            Ok(_) => self.begin_placing(),
+            Ok(_) => {
+                self.begin_placing();
+                Stepped::Moved
+            }
             Err(why) => self.end_with(why),
         }
     }

@@ -63,9 +63,8 @@ impl State {
         match self.due {
             Due::Nothing => Stepped::Moved,
             Due::Call => {
-                let instr = self.instr;
                 self.begun = self.epoch;
-                self.execute(instr)
+                self.execute()
             }
             Due::Stop => {
                 let stop = self.stop;

@@ -2,7 +2,9 @@
 
 ghost use Rattle.std.specs.Prelude.{◌≡◌, ◌+◌, ◌-◌, ◌^◌, ◌<◌, ◌≤◌};
 ghost use Rattle.std.specs.Option.{option_map};
-ghost use Rattle.gc_worker.specs.Workers.Held.{at_stage};
+ghost use Rattle.gc_worker.specs.Workers.Held.{at_stage, has_seen_flip};
+ghost use Rattle.gc_worker.specs.declared.stage.Stage.TheVariants.{Flips};
+ghost use Rattle.gate_core.specs.Flip.{begun};
 ghost use Rattle.gc_worker.specs.Workers.Fits.{FitsStage, Takes};
 ghost use Rattle.gc_worker.specs.Steps.Stepped.{IsAtGate, IsFlipping, IsForwarding, IsSound, pointed, stepped_by, uncounted};
 ghost use Rattle.gc_worker.specs.Steps.Turned.{epoch_said, first_pointer, forwards_from, goes_on, in_epoch, passed_by, passes, stopped, told, turned};
@@ -55,10 +57,10 @@ impl State {
             }
             (Passage::Park, Passed::Went(_)) => self.stage = self.resuming(after),
             (Passage::Park, Passed::NotYet(_)) | (Passage::Resume(_), Passed::Went(_)) => {
-                self.stage = self.going_on(after);
+                self.go_on_with(after);
             }
             (Passage::Request, Passed::Went(_)) => {
-                self.stage = Stage::Flips(Flip::new(self.spaces, self.epoch, self.asked()));
+                self.stage = self.flipping(self.asked());
             }
             (Passage::Request, Passed::NotYet(_)) => {
                 self.stage = Stage::Passes(Gate::park(self.spaces), after);
@@ -88,14 +90,14 @@ impl State {
         Stage::Passes(Gate::resume(self.spaces, self.epoch), after)
     }
 
-    /// Where a mutator that stopped goes on.
-    fn going_on(&self, after: After) -> Stage
-        requires { FitsStage self.now (goes_on self.now after) }
-        ensures { result ≡ goes_on self.now after }
+    /// A mutator that stopped goes on with what it was about to do.
+    fn go_on_with(&mut self, after: After)
+        requires { FitsStage self.old (goes_on self.old after) }
+        ensures { self.new ≡ at_stage self.old (goes_on self.old after) }
     {
         match after {
-            After::Looks => Stage::Looks,
-            After::Places => self.placing(),
+            After::Looks => self.stage = Stage::Looks,
+            After::Places => self.begin_placing(),
         }
     }
 
@@ -128,6 +130,15 @@ impl State {
         }
     }
 
+    /// The flip for so many pages.
+    fn flipping(&self, asked: u32) -> Stage
+        requires { self.now.epoch + 1 < 2 ^ 32 }
+        ensures { result ≡ Flips (begun self.now.layout self.now.epoch asked (has_seen_flip self.now)) }
+    {
+        let seen = self.begun < self.epoch;
+        Stage::Flips(Flip::new(self.spaces, self.epoch, asked, seen))
+    }
+
     /// A step of the flip.
     #[inline(always)]
     pub fn flip(&mut self, reply: Reply) -> Stepped
@@ -149,7 +160,7 @@ impl State {
             }
             Turn::Finished(Flipped::NotYet(_)) => {
                 let asked = flip.asked();
-                self.stage = Stage::Flips(Flip::new(self.spaces, self.epoch, asked));
+                self.stage = self.flipping(asked);
                 Stepped::Moved
             }
         }

@@ -134,7 +134,7 @@ impl State {
         };
         match back {
             Back::ToAccess(access) => self.stage = Stage::Accesses(access),
-            Back::ToPlace => self.stage = self.placing(),
+            Back::ToPlace => self.begin_placing(),
             Back::ToScanner => self.begin_next_round(),
         }
     }
@@ -161,7 +161,7 @@ impl State {
     {
         match back {
             Back::ToAccess(access) => self.stage = Stage::Accesses(access),
-            Back::ToPlace => self.stage = self.placing(),
+            Back::ToPlace => self.begin_placing(),
             Back::ToScanner => {
                 let duty = Duty::scanner(self.spaces, self.number, self.mutators);
                 self.stage = Stage::Serves(duty, Back::ToScanner);

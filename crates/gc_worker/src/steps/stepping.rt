@@ -82,8 +82,8 @@ impl State {
     pub fn begin(&mut self, instr: Instr)
         ensures { self.new ≡ with_task self.old (Calls instr) }
     {
-        self.due = Due::Call;
         self.instr = instr;
+        self.due = Due::Call;
     }
 
     /// The task is an end.

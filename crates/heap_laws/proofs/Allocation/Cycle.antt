@@ -78,7 +78,7 @@ module _ (E : Era) (m : Memory) (team : Team) (g : Ghost) (p : plain.Plain) (k :
         let d = old_other is_new_place a l u in
         let s = was is_new_place a d st in
         let t = y.old a s l u o in
-        rw (same_size is_new_place a d, put_other g.kind q.at c a d, put_other g.identity q.at j a d) (t.0, t.1, shows_on a t.0 s (inv.older.written a l u) t.2);
+        rw (same_size is_new_place a d, put_other g.kind q.at c a d, put_other g.identity q.at j a d) (t.0, t.1, shows_on a t.0 s (inv.older.written a s l u) t.2);
     sound = λ x i h s. ⊎_elim
         (λ t. y.sound x i t (still_was (heap x) i s))
         (λ t. absurd (zero_clean E (heap x) t (still_leads E g'.identity (heap x) i s)))

@@ -254,6 +254,7 @@ module _ (E : Era) (m : Memory) (team : Team) (g : Ghost) (k : ℕ) (q : Stock) 
     old_space = old_space_allocated new_place m.traced m.old_front m.old_low heap m.page (old_space_free free g.writer g.kind m.heap v m.traced m.old_front m.old_low m.page lay inside.0 inside.1 inv.old_space);
     old_area = inv.old_area;
     old_pages = inv.old_pages;
+    sizes = inv.sizes;
     crossing = crossing_allocated new_place g.writer m.cross inv.crossing;
     stocks = stocks;
     numbered = numbered;

@@ -204,7 +204,7 @@ module _ {E : Era} {front low : ℕ} {size copy keeper : ℕ → ℕ} {a z : ℕ
         pub older_allocated : Older E size writer kind heap → Older E (put size a z) writer' kind' heap
         older_allocated p = record {
           older = λ b j x f l u e. let q = p.older b j x (field_was b j (old_other b l u) f) l u e in (is x q.0, q.1, q.2);
-          written = λ b l u. rw (same_writer b (old_other b l u)) (p.written b l u);
+          written = λ b st l u. let d = old_other b l u in rw (same_writer b d) (p.written b (was b d st) l u);
         }
 
       -- the words behind its header are small

@@ -16,7 +16,7 @@ pub field_lands : (E : Era) (m : Memory) (team : Team) (g : Ghost) (b j : ℕ) �
 unfolding Here Lands
 field_lands E m team g b j inv st w t f l = ⊎_elim
     (λ (y : (E.old_start ≤ b) × (b < E.old_start + E.old_span)).
-    λ x e. let q = inv.older.older b j x (record { stands = st; written = w; field = t; first = f; last = l }) y.0 y.1 e in (q.0, inv.older.written x q.1 q.2))
+    λ x e. let q = inv.older.older b j x (record { stands = st; written = w; field = t; first = f; last = l }) y.0 y.1 e in (q.0, inv.older.written x q.0 q.1 q.2))
     (λ (y : (E.start ≤ b) × (b < E.start + E.span)).
     inv.landing.lands (b + j) (inl (record { a = b; i = j; field = record { stands = st; written = w; field = t; first = f; last = l }; inside = y; at = refl })))
     (⊎_elim

@@ -64,7 +64,7 @@ module _ {E : Era} {m : Memory} {team : Team} {g : Ghost} {k : ℕ} {c : Copy} {
   placed = mine.place res
 
   pub from_written : g.writer c.from ≡ 0
-  from_written = inv.older.written c.from (omega (arith, mine.old)) (omega (arith, mine.old))
+  from_written = inv.older.written c.from (omega (arith, mine.old)) (omega (arith, mine.old)) (omega (arith, mine.old))
 
   pub unread_word : UnreadWord E m.front m.low g.size g.writer k c.from 0
   unread_word = record { laid_out = ready.laid_out; laid = inv.laid; inside = omega (arith, mine.old); hidden = inl refl; own = inl from_written }
@@ -132,7 +132,7 @@ module _ {E : Era} {m : Memory} {team : Team} {g : Ghost} {k : ℕ} {c : Copy} {
 
   old_lands : (i : ℕ) → 0 < i → i < c.size → is_field (g.kind c.from) i ≡ true → Lands g'.size g'.writer (m.heap (c.from + i))
   unfolding Lands
-  old_lands i p l r b e = let y = old_target i b p l r e in (y.0, written_on b (inv.older.written b y.1 y.2))
+  old_lands i p l r b e = let y = old_target i b p l r e in (y.0, written_on b (inv.older.written b y.0 y.1 y.2))
 
   -- ---- the parts
 
@@ -211,7 +211,7 @@ module _ {E : Era} {m : Memory} {team : Team} {g : Ghost} {k : ℕ} {c : Copy} {
   older : Older E g'.size g'.writer g'.kind heap'
   older = let p = older_unread unread_word m.heap v g.kind inv.older in record {
     older = λ b i x f l n d. let y : b ≢ c.to = (λ e. omega (arith, ready.laid_out.apart, placed.4, placed.5, mine.old, l, n, e, inv.laid.order)) in p.older b i x (record { stands = f.stands; written = was_written b f.written y; field = f.field; first = f.first; last = f.last }) l n d;
-    written = λ b l n. written_on b (inv.older.written b l n);
+    written = λ b st l n. written_on b (inv.older.written b st l n);
   }
 
   shut : Shut E m.front m.low g'.size g'.writer m.page
@@ -354,6 +354,7 @@ module _ {E : Era} {m : Memory} {team : Team} {g : Ghost} {k : ℕ} {c : Copy} {
     old_space = record { walks = λ t d e. space_unread unread_word m.heap v E.old_start m.old_front m.old_low (E.old_start + E.old_span) d m.page (inv.old_space.walks t d e) };
     old_area = inv.old_area;
     old_pages = inv.old_pages;
+    sizes = inv.sizes;
     crossing = crossing;
     stocks = stocks_put team.worker k w' (λ _ e. e) (stocks_unread unread_word m.heap v team.count m.page team.worker inv.stocks);
     numbered = numbered_put team.worker k w' refl inv.numbered;

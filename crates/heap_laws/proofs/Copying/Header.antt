@@ -67,7 +67,7 @@ module _ (E : Era) (m : Memory) (team : Team) (g : Ghost) (k : ℕ) (q : Quest) 
   old = (me.quest q asks).old
 
   walked : g.writer a ≡ 0
-  walked = inv.older.written a old.1 old.2
+  walked = inv.older.written a old.0 old.1 old.2
 
   found : Untaken g a len
   found = untaken E m team g inv a kind len serial mutator old.0 walked header

@@ -150,7 +150,7 @@ module _ (E : Era) (m : Memory) (team : Team) (g : Ghost) (k : ℕ) (ready : Rea
       old = (me.quest q asks).old
 
       at_copy : (g.copy q.old ≡ b + 1) × (g.writer b ≡ 0)
-      at_copy = by_first (first E m team g inv q.old old.0 (inv.older.written q.old old.1 old.2))
+      at_copy = by_first (first E m team g inv q.old old.0 (inv.older.written q.old old.0 old.1 old.2))
         where
           by_first : First E m team g inv q.old → (g.copy q.old ≡ b + 1) × (g.writer b ≡ 0)
           by_first (OwnHeader n y h) = absurd (let z : ForwardWord len b ≡ HeaderWord (header_kind (g.kind q.old)) (g.size q.old - 1) (g.identity q.old).serial (g.identity q.old).mutator = sym word ∙ h in cc)

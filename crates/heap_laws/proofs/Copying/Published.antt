@@ -139,7 +139,7 @@ module _ {E : Era} {m : Memory} {team : Team} {g : Ghost} {k : ℕ} {c : Copy} {
 
     pub copying : Copying E m.front g'.size g'.writer g'.copy g'.keeper g'.kind g'.identity heap' p
     copying = record {
-      old = λ b st l n y. let z = cy.old b st l n (unkept b y) in (z.0, z.1, shows_unread (unread_word publishing) m.heap v g.identity b (g.kind b) (g.size b) z.0 (inv.older.written b l n) refl z.2);
+      old = λ b st l n y. let z = cy.old b st l n (unkept b y) in (z.0, z.1, shows_unread (unread_word publishing) m.heap v g.identity b (g.kind b) (g.size b) z.0 (inv.older.written b st l n) refl z.2);
       sound = sound;
       reached = λ b st l n y. cy.reached b st l n (⊎_elim (λ z. inl z) (λ z. inr (let d : b ≢ c.from = (λ e. let u = put_at g.keeper c.from 0 b e in omega arith) in rw (put_other g.keeper c.from 0 b d) at z)) y);
       sizes = cy.sizes;

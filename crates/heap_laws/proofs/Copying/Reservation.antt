@@ -189,7 +189,7 @@ module _ {E : Era} {front low : ℕ} {g : Ghost} {k a f z : ℕ} (reservation : 
   pub older_reserved : (heap : ℕ → ℕ) → Older E g.size g.writer g.kind heap → Older E g'.size g'.writer g'.kind heap
   older_reserved heap p = record {
     older = λ b i x y l n e. let q = p.older b i x (field_back b i y) l n e in (is x q.0, q.1, q.2);
-    written = λ b l n. rw (put_other g.writer f (k + 1) b (old_side b l n)) (p.written b l n);
+    written = λ b st l n. let d = old_side b l n in rw (put_other g.writer f (k + 1) b d) (p.written b (was b d st) l n);
   }
 
   pub raw_reserved : (heap : ℕ → ℕ) → RawWords g.size g.writer g.kind heap → RawWords g'.size g'.writer g'.kind heap

@@ -41,7 +41,7 @@ module _ {E : Era} {m : Memory} {team : Team} {g : Ghost} {k : ℕ} {c : Copy} (
   field_lands : (b i : ℕ) → IsField g.size g.writer g.kind b i → Lands g.size g.writer (m.heap (b + i))
   unfolding Here Lands
   field_lands b i f = ⊎_elim
-      (λ (y : (E.old_start ≤ b) × (b < E.old_start + E.old_span)). λ x e. let q = inv.older.older b i x f y.0 y.1 e in (q.0, inv.older.written x q.1 q.2))
+      (λ (y : (E.old_start ≤ b) × (b < E.old_start + E.old_span)). λ x e. let q = inv.older.older b i x f y.0 y.1 e in (q.0, inv.older.written x q.0 q.1 q.2))
       (λ (y : (E.start ≤ b) × (b < E.start + E.span)). inv.landing.lands (b + i) (inl (record { a = b; i = i; field = f; inside = y; at = refl })))
       (side b f.stands)
 
@@ -150,7 +150,7 @@ module _ {E : Era} {m : Memory} {team : Team} {g : Ghost} {k : ℕ} {c : Copy} (
     copying : Copying E (c.to + c.size) after.size after.writer after.copy after.keeper after.kind after.identity m.heap p
     copying = record {
       old = λ b st l n y. let d = old_side (reservation reserving) b l n in let st' = was (reservation reserving) b d st in
-          same_record p.heap b d st' (inv.older.written b l n) (cy.old b st' l n (uncopied b y));
+          same_record p.heap b d st' (inv.older.written b st' l n) (cy.old b st' l n (uncopied b y));
       sound = λ x i u t. cy.sound x i (here_back (reservation reserving) x u) (leads_back (m.heap x) i t);
       reached = λ b st l n y. let d = old_side (reservation reserving) b l n in rw (put_other g.identity c.to (g.identity c.from) b d) (⊎_elim
           (λ (e : b ≡ c.from). cy.reached b (was (reservation reserving) b d st) l n (inr (let z : g.keeper b ≡ g.keeper c.from = ap g.keeper e in let o = from_old.3 in omega (arith, z, o))))

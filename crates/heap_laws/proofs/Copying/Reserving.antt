@@ -372,6 +372,7 @@ module _ {E : Era} {m : Memory} {team : Team} {g : Ghost} {k : ℕ} {c : Copy} (
     old_space = record { walks = λ t d e. space_reserved reservation m.old_front m.old_low d m.heap m.page (inv.old_space.walks t d e) };
     old_area = inv.old_area;
     old_pages = inv.old_pages;
+    sizes = inv.sizes;
     crossing = crossing_reserved reservation m.cross inv.crossing;
     stocks = stocks_put team.worker k w' (λ _ e. e) (stocks_reserved reservation team.count m.heap m.page team.worker inv.stocks);
     numbered = numbered_put team.worker k w' refl (numbered_reserved reservation team.mutators team.worker inv.numbered);

@@ -106,7 +106,7 @@ module _ {E : Era} {front low : ℕ} {size writer : ℕ → ℕ} {k a0 i0 : ℕ}
   module _ (copy keeper kept announced cross : ℕ → ℕ) (kind : ℕ → Kind) (j : ℕ) (c : Copy) (other : j ≢ k) (older : Older E size writer kind heap)
       (p : Copies E front size writer copy keeper kept announced cross heap j c) where
     source_same : (i : ℕ) → 0 < i → i < c.size → stored (c.from + i) ≡ heap (c.from + i)
-    source_same i g l = inner_same c.from i (older.written c.from (omega (arith, p.old)) (omega (arith, p.old))) g (omega (arith, p.old))
+    source_same i g l = inner_same c.from i (older.written c.from (omega (arith, p.old)) (omega (arith, p.old)) (omega (arith, p.old))) g (omega (arith, p.old))
 
     copy_same : c.reserved ≡ true → (i : ℕ) → i < c.size → stored (c.to + i) ≡ heap (c.to + i)
     copy_same reserved i l = let r = p.place reserved in put_other heap (a0 + i0) v (c.to + i) (off_written j c.to i other r.2 (omega (arith, r.3)))

@@ -44,7 +44,7 @@ module _ (E : Era) (gate : GateWord) (traced front low old_front old_low old_owe
   pub copying_unread : (p : plain.Plain) → Older E g.size g.writer g.kind heap → Copying E front g.size g.writer g.copy g.keeper g.kind g.identity heap p
       → Copying E front g.size g.writer g.copy g.keeper g.kind g.identity (put heap (a0 + i0) v) p
   copying_unread p older cy = record {
-    old = λ a st l m y. let o = cy.old a st l m y in (o.0, o.1, shows_unread sp heap v g.identity a (g.kind a) (g.size a) o.0 (older.written a l m) refl o.2);
+    old = λ a st l m y. let o = cy.old a st l m y in (o.0, o.1, shows_unread sp heap v g.identity a (g.kind a) (g.size a) o.0 (older.written a st l m) refl o.2);
     sound = λ x i u t. cy.sound x i u (rw (here_same sp heap v g.kind x u) at t);
     reached = cy.reached;
     sizes = cy.sizes;

@@ -1,5 +1,5 @@
 -- A running mutator goes on.
-use Rattle.std.proofs.Common.{◌≡◌, ◌≢◌, ℕ, ◌+◌, ◌<◌, true, false, Some, None, is_some, refl, sym, ap, ◌∙◌, arith, ⊎_elim, ◌⊎◌, inl, inr}
+use Rattle.std.proofs.Common.{◌≡◌, ◌≢◌, ℕ, ◌+◌, ◌<◌, true, false, Some, None, is_some, refl, sym, ap, ◌∙◌, arith, ⊎_elim, ◌⊎◌, inl, inr, ◌*◌, Option}
 use Rattle.std.proofs.Common.{slice_get, slice_set}
 use Rattle.std.proofs.Math.ListN.{length-set}
 use Rattle.std.proofs.lemmas.Bool.{cases_eq}
@@ -16,7 +16,7 @@ use Rattle.heap_state.specs.Invariant.Parts.Copying.{IsOrigin}
 use Rattle.heap_state.specs.Invariant.Parts.Knowledge.{Clean, Ends, Passes}
 use Rattle.heap_state.specs.Meaning.Reachable.{Reachable}
 use Rattle.heap_state.specs.Meaning.Values.{Accounts, RegistersShow, value_of, Shown}
-use Rattle.heap_state.specs.Worker.{Worker, Team, Post, Running, Outside, Scanner, Stopped, Flipping, Gone, Origin, Register, Scanned, Quest, Access, GateStep, is_mutator, is_live, is_running, is_flipper, is_gone, is_late}
+use Rattle.heap_state.specs.Worker.{Worker, Team, Post, Running, Outside, Scanner, Stopped, Flipping, Gone, Origin, Register, Scanned, Quest, Access, GateStep, is_mutator, is_live, is_running, is_flipper, is_gone, is_late, Reset, is_sized}
 use Rattle.heap_state.proofs.Workers.Frames.{counted_put, staffed_put, scanned_put, stocks_put, numbered_put}
 use Rattle.heap_state.proofs.Puts.{put_at, put_other, each_put, team_put, none≢some, true_false}
 use Rattle.heap_laws.specs.Composing.{IsAtMost, SameScan}
@@ -27,6 +27,7 @@ use Rattle.heap_laws.proofs.Scanning.Scanners.{now_not_late}
 use Rattle.heap_laws.proofs.Frames.Values.{still_leads}
 use Rattle.heap_laws.proofs.Steps.Composing.{knows_less}
 use Rattle.heap_laws.proofs.Steps.Forgotten.{same_round}
+use Rattle.space_map.specs.declared.spaces.TheConstants.{PAGE_WORDS}
 
 -- ---- posts
 
@@ -49,6 +50,11 @@ runs Gone r = absurd (cc)
 -- who runs is not late
 pub timely : (E : Era) (w : Worker) → is_running w.post ≡ true → (is_running w.post ≡ true → w.epoch ≡ E.epoch) → is_late E.epoch w ≡ false
 timely E w r now = now_not_late E.epoch w.epoch w.post (now r)
+
+-- who has no flip in progress has stored no size
+none_sized : (o : Option Reset) → ((r : Reset) → o ≡ Some r → ⊥) → is_sized o ≡ false
+none_sized None none = refl
+none_sized (Some r) none = absurd (none r refl)
 
 -- ---- the invariant
 
@@ -78,7 +84,13 @@ module _ (E : Era) (m : Memory) (team : Team) (g : Ghost) (k : ℕ) (next : Work
 
   -- it forgets what it accesses and which page is open
   abbrev before : Worker
-  before = record next { account = w.account; registers = w.registers; access = None; opened = None; traced_seen = w.traced_seen }
+  before = record next { account = w.account; registers = w.registers; access = None; opened = None; traced_seen = w.traced_seen; size_seen = w.size_seen }
+
+  no_reset : (r : Reset) → w.reset ≡ Some r → ⊥
+  no_reset r e = true_false (runs w.post run).flips (me.resets r e)
+
+  sized : is_sized next.reset ≡ is_sized w.reset
+  sized = none_sized next.reset (λ r e. no_reset r (goes.reset r e)) ∙ sym (none_sized w.reset no_reset)
 
   forgets : IsAtMost before w
   forgets = record {
@@ -87,7 +99,7 @@ module _ (E : Era) (m : Memory) (team : Team) (g : Ghost) (k : ℕ) (next : Work
     hand = record { stock = goes.stock; access = λ f e. none≢some e; opened = λ p e. none≢some e };
     round = λ r e. same_round w r (goes.round r e);
     pages = goes.pages;
-    gate = record { gate_step = λ s e. none≢some (sym goes.gate_step ∙ e); reset = goes.reset; traced_seen = λ e. e; asks = λ _. refl };
+    gate = record { gate_step = λ s e. none≢some (sym goes.gate_step ∙ e); reset = goes.reset; sized = sized; size_seen = λ p e. e; traced_seen = λ e. e; asks = λ _. refl };
   }
 
   -- and what it then learns is so
@@ -101,6 +113,7 @@ module _ (E : Era) (m : Memory) (team : Team) (g : Ghost) (k : ℕ) (next : Work
       let active : (f : Access) → next.access ≡ Some f → is_running next.post ≡ true = λ f e. still_runs in
       let opened : (p : ℕ) → next.opened ≡ Some p → (is_running next.post ≡ true) × (m.page p ≡ Open E.epoch) = λ p e. (still_runs, goes.opened p e) in
       let seen_traced : next.traced_seen ≡ true → ((is_running next.post ≡ true) ⊎ (is_flipper next.post ≡ true)) × (m.traced ≡ E.epoch + 1) = λ e. (inl still_runs, goes.traced_seen e) in
+      let size_seen : (p : ℕ) → next.size_seen ≡ Some p → (is_running next.post ≡ true) × (E.span ≡ PAGE_WORDS * p) = λ p e. (still_runs, goes.size_seen p e) in
       let flips : is_flipper next.post ≡ true → next.traced_seen ≡ true = λ e. true_false (runs next.post still_runs).flips e in
       let passage : (s : GateStep) → next.gate_step ≡ Some s → Passes next.post next.epoch next.done (is_some next.account.end) next.traced_seen s.read s.passage = λ s e. none≢some (sym goes.gate_step ∙ e) in
       assumption (origin)

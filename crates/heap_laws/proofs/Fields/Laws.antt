@@ -21,6 +21,7 @@ use Rattle.heap_laws.proofs.Fields.Stored.{words_are_stored, board_is_stored}
 use Rattle.plain_state.proofs.Stored.{stored_serial}
 use Rattle.heap_laws.proofs.Fields.GoingOn.{mutators_go_on, going_on_shows, going_on_keeps_cycle}
 use Rattle.heap_laws.proofs.Steps.Learning.{shown_put}
+use Rattle.space_map.specs.declared.spaces.TheConstants.{PAGE_WORDS}
 
 -- a step that stores nothing, of a team of which a part was changed before
 pub goes_as : (E : Era) (m : Memory) (team : Team) (g : Ghost) (p : plain.Plain) (k : ℕ) (next : Worker) (q : plain.Mutator) → Invariant E m team g → k < team.count
@@ -39,6 +40,7 @@ mutators_step E m team g p k next q ready runs s goes same = record { later = m;
 pub goes_on_so : GoesOnSo
 goes_on_so E m team g k account registers access opened ready serial accesses opens holds =
     let seen : (team.worker k).traced_seen ≡ true → m.traced ≡ E.epoch + 1 = λ e. ((ready.invariant.workers k ready.member).seen_traced e).1 in
+    let size : (p : ℕ) → (team.worker k).size_seen ≡ Some p → E.span ≡ PAGE_WORDS * p = λ p e. ((ready.invariant.workers k ready.member).size_seen p e).1 in
     assumption
 
 pub mutators_learn : MutatorsLearn

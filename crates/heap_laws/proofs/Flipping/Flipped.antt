@@ -21,14 +21,13 @@ use Rattle.heap_state.specs.Meaning.Values.{Shown, value_of}
 use Rattle.heap_state.specs.Worker.{Worker, Team, Post, Stopped, Reset, is_mutator, is_live, is_running, is_flipper, is_gone, is_behind, is_late}
 use Rattle.heap_state.proofs.Table.Seen.{follows}
 use Rattle.heap_state.proofs.Records.Holding.{uncopied_here}
-use Rattle.heap_state.proofs.Puts.{each_put, proj_put, team_put, sum_below-same}
+use Rattle.heap_state.proofs.Puts.{each_put, proj_put, team_put, sum_below-same, sum_below-none}
 use Rattle.heap_state.specs.Memory.Entries.{GateIs, with_entry}
 use Rattle.heap_laws.specs.Steps as laws
 use Rattle.heap_laws.specs.Flipping.Flip.{next_era, next_memory, next_ghost, flipped_gate, after_flip, Flips, FlipKeeps}
 use Rattle.heap_laws.specs.Steps.{with_worker}
 use Rattle.heap_laws.proofs.Flipping.Parts.{ReadyToFlip, nothing, was, laid, headed, copied, once, kept, room, raw_words, counts, shut, filling, tracing, aged, scanned, old_area, old_pages, lands_on, here_board, board_here, opened, landing, older, new, new_written, crossing, old_space}
 use Rattle.heap_laws.proofs.Flipping.Reset.{one_flipper}
-use Rattle.heap_laws.proofs.Flipping.Sums.{sum_below-none}
 use Rattle.heap_laws.proofs.Flipping.Workers.{late_is, done_none, other, flipper, none_true, not_live}
 use Rattle.heap_laws.proofs.Frames.Values.{pointer_from_value, value_from_pointer, pointer_lands, zero_word}
 
@@ -63,9 +62,9 @@ module _ (E : Era) (m : Memory) (team : Team) (g : Ghost) (k : ℕ) (r : Reset) 
     traced = (me.seen_traced (me.flips is_flipping)).1;
     still = ap (λ (w : GateWord). w.running) won ∙ t.stopped.0;
     none = ap (λ (w : GateWord). w.behind) won ∙ t.stopped.1;
-    front = s.0;
-    low = s.1;
-    used = t.used m.old_owed s.2;
+    front = s.1;
+    low = s.2;
+    used = t.used m.old_owed s.3;
     large = flips.large;
   }
 
@@ -145,6 +144,7 @@ module _ (E : Era) (m : Memory) (team : Team) (g : Ghost) (k : ℕ) (r : Reset) 
     old_space = old_space ready;
     old_area = old_area ready;
     old_pages = old_pages ready;
+    sizes = record { below = λ e. flips.large };
     crossing = crossing ready;
     stocks = stocks;
     numbered = numbered;

@@ -166,7 +166,7 @@ module _ {E : Era} {m : Memory} {team : Team} {g : Ghost} (ready : ReadyToFlip E
   landing = record { lands = λ x u. let h = board_here x (here_board x u) in lands_on (m.heap x) (ready.inv.landing.lands x h) (nothing.clean x h) }
 
   pub older : Older E1 size' zeros g.kind m.heap
-  older = record { written = λ a l n. refl; older = λ a i b f l n d. leads_back (m.heap (a + i)) b d (let h = field_here a i f in lands_on (m.heap (a + i)) (ready.inv.landing.lands (a + i) h) (nothing.clean (a + i) h)) }
+  older = record { written = λ a st l n. refl; older = λ a i b f l n d. leads_back (m.heap (a + i)) b d (let h = field_here a i f in lands_on (m.heap (a + i)) (ready.inv.landing.lands (a + i) h) (nothing.clean (a + i) h)) }
     where
       leads_back : (w b : ℕ) → decode w ≡ PointerWord b → Lands size' zeros w → (0 < size' b) × (E.start ≤ b) × (b < E.start + E.span)
       leads_back w b d y = let s = pointer_lands size' zeros w b y d in let q = was b s in (s, q.1, q.2)

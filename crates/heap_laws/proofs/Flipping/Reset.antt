@@ -1,5 +1,5 @@
 -- The steps of a flipper before the flip.
-use Rattle.std.proofs.Common.{◌≡◌, ◌≢◌, ℕ, ◌+◌, ◌<◌, true, false, Some, None, refl, sym, ◌∙◌, arith, ⊎_elim}
+use Rattle.std.proofs.Common.{◌≡◌, ◌≢◌, ℕ, ◌+◌, ◌<◌, true, false, Some, refl, ◌∙◌, arith, ⊎_elim, ◌≤◌, ap}
 use Rattle.std.proofs.lemmas.Bool.{cases_eq}
 use Rattle.heap_state.specs.Memory.Era.{Era, Memory, IsLaidOut}
 use Rattle.heap_state.specs.Functions.{count_one}
@@ -8,10 +8,10 @@ use Rattle.heap_state.specs.Invariant.Inductive.{Invariant, Knows}
 use Rattle.heap_state.specs.Invariant.Parts.Knowledge.{Resets}
 use Rattle.heap_state.specs.Invariant.Parts.OldSpace.{OldSpace, OldArea}
 use Rattle.heap_state.specs.Invariant.Parts.Pages.{OldPages}
-use Rattle.heap_state.specs.Worker.{Worker, Team, Reset, is_flipper}
+use Rattle.heap_state.specs.Worker.{Worker, Team, Reset, is_flipper, is_sized}
 use Rattle.heap_state.proofs.Workers.Frames.{counted_put, staffed_put, scanned_put, stocks_put, numbered_put, rooted_put}
-use Rattle.heap_state.proofs.Puts.{team_put, some_same, none≢some}
-use Rattle.heap_laws.specs.Flipping.Reset.{resetting, FindingStillKeeps, ReadingUsedKeeps, StoringAreaKeeps, whole_area}
+use Rattle.heap_state.proofs.Puts.{team_put, some_same, none≢some, true_false}
+use Rattle.heap_laws.specs.Flipping.Reset.{resetting, found_still, FindingStillKeeps, ReadingSizeKeeps, ReadingUsedKeeps, StoringAreaKeeps, whole_area}
 use Rattle.heap_laws.specs.Steps.{with_worker, with_old_area, InOldArea, Preserves}
 use Rattle.heap_laws.proofs.Flipping.Sums.{sum_below-two, one_of, at_most_one}
 use Rattle.heap_laws.proofs.Steps.Learning.{shown_put, learns, learnt}
@@ -28,26 +28,52 @@ one_flipper E m team g inv j k lj lk a b = ⊎_elim (λ e. e)
 
 -- a flipper that knows more of its flip
 module _ (E : Era) (m : Memory) (team : Team) (g : Ghost) (k : ℕ) (r : Reset) (inv : Invariant E m team g) (below : k < team.count) (flips : is_flipper (team.worker k).post ≡ true)
-    (new : Resets E m.gate m.front m.low m.old_front m.old_low m.old_owed r) where
+    (new : Resets E m.gate m.front m.low m.old_front m.old_low m.old_owed r) (smaller : r.sized ≡ false → E.old_span ≤ E.span) where
   pub resets_more : Preserves E m m team (with_worker team k (resetting (team.worker k) r)) g g
   resets_more = learns E m team g k (resetting (team.worker k) r) inv (assumption) (λ s e. (s, e, refl))
       (let me = inv.workers k below in
       let a : (q : Reset) → Some r ≡ Some q → is_flipper (team.worker k).post ≡ true = λ q e. flips in
       let b : (q : Reset) → Some r ≡ Some q → Resets E m.gate m.front m.low m.old_front m.old_low m.old_owed q = λ q e. rw (← some_same e) new in
+      let c : is_flipper (team.worker k).post ≡ true → is_sized (Some r) ≡ false → E.old_span ≤ E.span = λ _ e. smaller e in
       assumption)
 
 pub finds_still : FindingStillKeeps
-finds_still E m team g k ready flips still none = learnt (resets_more E m team g k (record { read = m.gate; used = None; stored = false }) ready.invariant ready.member flips
-    (record { unmoved = refl; stopped = (still, none); used = λ u e. none≢some e; stored = λ e. absurd (cc) }))
+finds_still E m team g k ready flips none still behind = learnt (resets_more E m team g k (found_still m.gate) ready.invariant ready.member flips
+    (record {
+      unmoved = refl;
+      stopped = (still, behind);
+      size = λ p e. none≢some e;
+      grown = λ q e. none≢some e;
+      used = λ u e. none≢some e;
+      sized = λ e. absurd (cc);
+      stored = λ e. absurd (cc);
+    })
+    (λ _. (ready.invariant.workers k ready.member).unsized flips (ap is_sized none)))
+
+pub reads_size : ReadingSizeKeeps
+reads_size E m team g k r p ready e size =
+    let me = ready.invariant.workers k ready.member in let o = me.reset r e in
+    learnt (resets_more E m team g k (record r { size = Some p }) ready.invariant ready.member (me.resets r e)
+    (record { unmoved = o.unmoved; stopped = o.stopped; size = λ q f. let z : p ≡ q = some_same f in rw (← z) size; grown = o.grown; used = o.used; sized = o.sized; stored = o.stored })
+    (λ loose. me.unsized (me.resets r e) (ap is_sized e ∙ loose)))
 
 pub reads_used : ReadingUsedKeeps
-reads_used E m team g k r u ready e loose used =
+reads_used E m team g k r u q ready e loose used grown =
     let me = ready.invariant.workers k ready.member in let o = me.reset r e in
-    learnt (resets_more E m team g k (record r { used = Some u }) ready.invariant ready.member (me.resets r e)
-    (record { unmoved = o.unmoved; stopped = o.stopped; used = λ v f. let z : u ≡ v = some_same f in rw (← z) used; stored = λ f. absurd (let q = sym f ∙ loose in cc) }))
+    learnt (resets_more E m team g k (record r { grown = Some q; used = Some u }) ready.invariant ready.member (me.resets r e)
+    (record {
+      unmoved = o.unmoved;
+      stopped = o.stopped;
+      size = o.size;
+      grown = λ p f. let z : q ≡ p = some_same f in rw (← z) grown;
+      used = λ v f. let z : u ≡ v = some_same f in rw (← z) used;
+      sized = λ f. true_false loose f;
+      stored = λ f. true_false loose (o.stored f).0;
+    })
+    (λ _. me.unsized (me.resets r e) (ap is_sized e ∙ loose)))
 
 module _ (E : Era) (m : Memory) (team : Team) (g : Ghost) (k : ℕ) (r : Reset) (front low u : ℕ) (out : IsLaidOut E) (inv : Invariant E m team g) (below : k < team.count)
-    (has : (team.worker k).reset ≡ Some r) (used : r.used ≡ Some u) (at_start : front ≡ E.old_start) (at_end : low ≡ E.old_start + E.old_span) where
+    (has : (team.worker k).reset ≡ Some r) (sized : r.sized ≡ true) (used : r.used ≡ Some u) (at_start : front ≡ E.old_start) (at_end : low ≡ E.old_start + E.old_span) where
   abbrev w' : Worker
   w' = resetting (team.worker k) (record r { stored = true })
 
@@ -64,7 +90,7 @@ module _ (E : Era) (m : Memory) (team : Team) (g : Ghost) (k : ℕ) (r : Reset) 
   KnowsNow = Knows E m.gate m.traced m.front m.low front low u g m.page m.cross m.announced m.heap
 
   new : Resets E m.gate m.front m.low front low u (record r { stored = true })
-  new = let o = me.reset r has in record { unmoved = o.unmoved; stopped = o.stopped; used = o.used; stored = λ e. (at_start, at_end, used) }
+  new = let o = me.reset r has in record { unmoved = o.unmoved; stopped = o.stopped; size = o.size; grown = o.grown; used = o.used; sized = o.sized; stored = λ e. (sized, at_start, at_end, used) }
 
   others : (j : ℕ) → j < team.count → j ≢ k → KnowsNow j (team.worker j)
   others j l d =
@@ -77,6 +103,7 @@ module _ (E : Era) (m : Memory) (team : Team) (g : Ghost) (k : ℕ) (r : Reset) 
       let v = me in
       let a : (q : Reset) → w'.reset ≡ Some q → is_flipper (team.worker k).post ≡ true = λ q e. flips in
       let b : (q : Reset) → w'.reset ≡ Some q → Resets E m.gate m.front m.low front low u q = λ q e. rw (← some_same e) new in
+      let c : is_flipper (team.worker k).post ≡ true → is_sized w'.reset ≡ false → E.old_span ≤ E.span = λ _ e. true_false e sized in
       assumption
 
   invariant : Invariant E (with_old_area m front low u) (with_worker team k w') g
@@ -101,8 +128,8 @@ module _ (E : Era) (m : Memory) (team : Team) (g : Ghost) (k : ℕ) (r : Reset) 
   }
 
 pub stores_area_word : StoringAreaKeeps
-stores_area_word E m team g k r u ready has used fits = record {
+stores_area_word E m team g k r u ready has sized used fits = record {
   later = with_old_area m (E.old_start + 0) (E.old_start + E.old_span) u;
   writes = InOldArea (whole_area E.old_span u) fits;
-  keeps = stores_area E m team g k r (E.old_start + 0) (E.old_start + E.old_span) u ready.laid_out ready.invariant ready.member has used (omega arith) refl;
+  keeps = stores_area E m team g k r (E.old_start + 0) (E.old_start + E.old_span) u ready.laid_out ready.invariant ready.member has sized used (omega arith) refl;
 }

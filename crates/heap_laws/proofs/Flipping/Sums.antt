@@ -3,7 +3,7 @@ use Rattle.std.proofs.Common.{◌≡◌, ◌≢◌, ℕ, zero, suc, ◌+◌, ◌
 use Rattle.std.proofs.lemmas.Bool.{cases_eq, cases_lt, lt-ltb, le-ltb, lt-leb, le-leb}
 use Rattle.heap_state.specs.Functions.{put, sum_below, count_one}
 use Rattle.heap_state.specs.Invariant.Parts.Copies.{owing}
-use Rattle.heap_state.proofs.Puts.{put_at, put_other, sum_below-same, sum_below-change}
+use Rattle.heap_state.proofs.Puts.{put_at, put_other, sum_below-same, sum_below-none, sum_below-change}
 use Rattle.heap_state.proofs.Walks.Walking.{sum_below-from}
 use Rattle.heap_laws.specs.Flipping.Flip.{only_in}
 
@@ -21,11 +21,6 @@ sum_below-two n f x y l m d =
     let o : put f x 0 y ≡ f y = put_other f x 0 y (λ e. d (sym e)) in
     let t = sum_below-term n (put f x 0) y m in
     omega (arith, c, s, o, t)
-
-pub sum_below-none : (n : ℕ) (f : ℕ → ℕ) → ((x : ℕ) → x < n → f x ≡ 0) → sum_below n f ≡ 0
-unfolding sum_below
-sum_below-none zero f h = refl
-sum_below-none (suc n) f h = let a : f n ≡ 0 = h n (omega arith) in let b : sum_below n f ≡ 0 = sum_below-none n f (λ x l. h x (omega arith)) in omega arith
 
 pub one_of : (b : Bool) → b ≡ true → count_one b ≡ 1
 one_of b e = rw e refl

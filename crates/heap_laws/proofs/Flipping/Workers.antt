@@ -208,10 +208,12 @@ module _ {E : Era} {m : Memory} {team : Team} {g : Ghost} (ready : ReadyToFlip E
       stepping = λ s e. absurd ((nothing ready).none_scans j s l e);
       pages = at_pages;
       seen_traced = λ e. absurd (⊎_elim (λ y. true_false still y) (λ y. true_false none y) (k.seen_traced e).0);
+      size_seen = λ p e. absurd (idle j l (k.size_seen p e).0);
       flips = k.flips;
       passage = k.passage;
       resets = k.resets;
       reset = λ r e. true_false none (k.resets r e);
+      unsized = λ e. true_false none e;
     }
 
     -- and what the flipper knows
@@ -235,10 +237,12 @@ module _ {E : Era} {m : Memory} {team : Team} {g : Ghost} (ready : ReadyToFlip E
       stepping = λ s e. absurd ((nothing ready).none_scans j s l e);
       pages = assumption (at_pages);
       seen_traced = λ e. absurd (cc);
+      size_seen = λ p e. absurd (idle j l (k.size_seen p e).0);
       flips = λ e. absurd (cc);
       passage = λ s e. absurd (no_step s (k.passage s e));
       resets = λ r e. none≢some e;
       reset = λ r e. none≢some e;
+      unsized = λ e. absurd (cc);
     }
       where
         no_step : (s : GateStep) → Passes u.post u.epoch u.done (is_some u.account.end) u.traced_seen s.read s.passage → ⊥

@@ -1,5 +1,5 @@
 -- The passages of the gate.
-use Rattle.std.proofs.Common.{◌≡◌, ◌≢◌, ℕ, ◌+◌, ◌-◌, ◌<◌, Bool, true, false, Option, Some, None, is_some, refl, sym, ap, ◌∙◌, arith, ⊎_elim, ◌⊎◌, inl, inr, subst}
+use Rattle.std.proofs.Common.{◌≡◌, ◌≢◌, ℕ, ◌+◌, ◌-◌, ◌<◌, Bool, true, false, Option, Some, None, is_some, refl, sym, ap, ◌∙◌, arith, ⊎_elim, ◌⊎◌, inl, inr, subst, ◌*◌, ◌≤◌}
 use Rattle.std.proofs.lemmas.Bool.{eq-eqb}
 use Rattle.space_map.specs.declared.gate_word.GateWord.{GateWord}
 use Rattle.space_map.specs.declared.page_word.PageWord.TheVariants.{Open}
@@ -9,7 +9,7 @@ use Rattle.heap_state.specs.Invariant.Ghost.{Ghost}
 use Rattle.heap_state.specs.Invariant.Inductive.{Invariant, Knows}
 use Rattle.heap_state.specs.Invariant.Parts.Copying.{IsOrigin, Licensed}
 use Rattle.heap_state.specs.Invariant.Parts.Knowledge.{Accesses, Clean, Ends, Passes, Resets}
-use Rattle.heap_state.specs.Invariant.Parts.Pages.{Quiet}
+use Rattle.heap_state.specs.Invariant.Parts.Pages.{Quiet, Sizes}
 use Rattle.heap_state.specs.Invariant.Parts.Scanning.{Claims, Looks, LastLooks}
 use Rattle.heap_state.specs.Worker.{Worker, Team, Post, Scanner, Outside, Running, Stopped, Flipping, Gone, Passage, Enter, Park, Request, Forwarded, Resume, Leave, Origin, Register, Scanned, Quest, Claim, Look, LastLook, GateStep, Reset, Access, is_mutator, is_flipper, is_gone, is_live, is_running, is_late}
 use Rattle.heap_state.proofs.Puts.{none≢some, true_false}
@@ -21,6 +21,7 @@ use Rattle.heap_laws.proofs.Gate.Counts.{counted_moves, fits}
 use Rattle.heap_laws.proofs.Gate.Team.{passing_keeps, usual}
 use Rattle.heap_laws.proofs.Gate.Worker.{no_reset, none_at_pages, knows_then}
 use Rattle.heap_laws.proofs.Scanning.Scanners.{now_not_late}
+use Rattle.space_map.specs.declared.spaces.TheConstants.{PAGE_WORDS}
 
 runs : (p : Post) → is_running p ≡ true → p ≡ Running
 runs Scanner e = absurd (cc)
@@ -88,7 +89,8 @@ module _ (E : Era) (m : Memory) (team : Team) (g : Ghost) (k : ℕ) (s : GateSte
       (inl q)
       (counted_moves team.worker team.count k (worker_after m.gate.epoch Enter w) Outside Running m.gate (gate_after Enter m.gate) false false ready.member at refl (late m.gate.epoch) (now_not_late m.gate.epoch m.gate.epoch Running refl)
       refl (omega arith) (omega arith) refl refl refl (λ y. absurd (omega (arith, y, b))) inv.counted)
-      (knows_then E m team g k (gate_after Enter m.gate) inv ready.member (no_flip (inl q)) Running m.gate.epoch 0 (into_epoch w m.gate.epoch) w.access w.opened w.traced_seen
+      inv.sizes
+      (knows_then E m team g k (gate_after Enter m.gate) inv ready.member (no_flip (inl q)) Running m.gate.epoch 0 (into_epoch w m.gate.epoch) w.access w.opened w.size_seen w.traced_seen
       (record {
         now = ready.at_gate;
         done_none = refl;
@@ -99,25 +101,28 @@ module _ (E : Era) (m : Memory) (team : Team) (g : Ghost) (k : ℕ) (s : GateSte
         stocks = λ y e. none≢some e;
         accesses = λ f e. (refl, me.access f e);
         opens = λ x e. (refl, (me.opened x e).1);
+        sizes = λ x e. (refl, (me.size_seen x e).1);
         pages = none_at_pages w m.gate.epoch;
         seen = λ e. (inl refl, (me.seen_traced e).1);
         flips = λ e. absurd (cc);
+        unsized = λ e. absurd (cc);
       }))
 
   -- ---- within the epoch
 
   -- a mutator goes from post p to post q: what the gate counts, and what the worker still knows
-  stays : (p q : Post) (access : Option Access) (opened : Option ℕ) (seen : Bool) (live running left : ℕ) (request : Bool) → w.epoch ≡ E.epoch → w.post ≡ p → is_mutator p ≡ true → is_mutator q ≡ true
+  stays : (p q : Post) (access : Option Access) (opened size : Option ℕ) (seen : Bool) (live running left : ℕ) (request : Bool) → w.epoch ≡ E.epoch → w.post ≡ p → is_mutator p ≡ true → is_mutator q ≡ true
       → (m.gate.request ≡ false) ⊎ ((0 < m.gate.running) ⊎ (0 < m.gate.behind))
       → live + count_one (is_live p) ≡ m.gate.live + count_one (is_live q) → running + count_one (is_running p) ≡ m.gate.running + count_one (is_running q)
       → left + count_one (is_gone p) ≡ m.gate.left + count_one (is_gone q) → count_one request + count_one (is_flipper p) ≡ count_one m.gate.request + count_one (is_flipper q)
       → (0 < m.gate.behind → (running ≡ 0) × (request ≡ false)) → q ≢ Outside → Ends q (is_some w.account.end)
       → ((f : Access) → access ≡ Some f → (is_running q ≡ true) × Accesses E g.size g.writer g.kind f)
-      → ((x : ℕ) → opened ≡ Some x → (is_running q ≡ true) × (m.page x ≡ Open E.epoch))
+      → ((x : ℕ) → opened ≡ Some x → (is_running q ≡ true) × (m.page x ≡ Open E.epoch)) → ((x : ℕ) → size ≡ Some x → (is_running q ≡ true) × (E.span ≡ PAGE_WORDS * x))
       → (seen ≡ true → ((is_running q ≡ true) ⊎ (is_flipper q ≡ true)) × (m.traced ≡ E.epoch + 1)) → (is_flipper q ≡ true → seen ≡ true)
-      → Preserves E m (with_gate m (record m.gate { live = live; running = running; left = left; request = request })) team (with_worker team k (record w { post = q; access = access; opened = opened; traced_seen = seen; gate_step = None })) g g
-  stays p q access opened seen live running left request now at mutator mutates busy lives runs leaves asks still inside ends accesses opens sees flips =
-      let w' : Worker = record w { post = q; access = access; opened = opened; traced_seen = seen; gate_step = None } in
+      → Sizes E request → (is_flipper q ≡ true → E.old_span ≤ E.span)
+      → Preserves E m (with_gate m (record m.gate { live = live; running = running; left = left; request = request })) team (with_worker team k (record w { post = q; access = access; opened = opened; size_seen = size; traced_seen = seen; gate_step = None })) g g
+  stays p q access opened size seen live running left request now at mutator mutates busy lives runs leaves asks still inside ends accesses opens sizes sees flips smaller unsized =
+      let w' : Worker = record w { post = q; access = access; opened = opened; size_seen = size; traced_seen = seen; gate_step = None } in
       let gate' : GateWord = record m.gate { live = live; running = running; left = left; request = request } in
       let gate_now : w.epoch ≡ m.gate.epoch = now ∙ sym ready.at_gate in
       let was : is_mutator w.post ≡ true = rw at mutator in
@@ -135,7 +140,8 @@ module _ (E : Era) (m : Memory) (team : Team) (g : Ghost) (k : ℕ) (s : GateSte
       busy
       (counted_moves team.worker team.count k w' p q m.gate gate' false false ready.member at refl (now_not_late m.gate.epoch w.epoch w.post gate_now) (now_not_late m.gate.epoch w.epoch q gate_now)
       refl lives runs refl leaves asks still inv.counted)
-      (knows_then E m team g k gate' inv ready.member (no_flip busy) q w.epoch w.done w access opened seen
+      smaller
+      (knows_then E m team g k gate' inv ready.member (no_flip busy) q w.epoch w.done w access opened size seen
       (record {
         now = now;
         done_none = done_none now;
@@ -146,9 +152,11 @@ module _ (E : Era) (m : Memory) (team : Team) (g : Ghost) (k : ℕ) (s : GateSte
         stocks = me.stock;
         accesses = accesses;
         opens = opens;
+        sizes = sizes;
         pages = me.pages;
         seen = sees;
         flips = flips;
+        unsized = unsized;
       }))
 
   resumes : w.post ≡ Stopped → s.read.epoch ≡ w.epoch → s.read.request ≡ false → s.read.behind ≡ 0 → Preserves E m (with_gate m (gate_after Resume m.gate)) team (with_worker team k (worker_after m.gate.epoch Resume w)) g g
@@ -156,9 +164,9 @@ module _ (E : Era) (m : Memory) (team : Team) (g : Ghost) (k : ℕ) (s : GateSte
       let q = request_read false request in
       let b = behind_read behind in
       let same : m.gate.epoch ≡ s.read.epoch = ap (λ (x : GateWord). x.epoch) wins.unchanged in
-      stays Stopped Running w.access w.opened w.traced_seen m.gate.live (m.gate.running + 1) m.gate.left m.gate.request (sym (same ∙ epoch) ∙ ready.at_gate) at refl refl (inl q)
+      stays Stopped Running w.access w.opened w.size_seen w.traced_seen m.gate.live (m.gate.running + 1) m.gate.left m.gate.request (sym (same ∙ epoch) ∙ ready.at_gate) at refl refl (inl q)
       refl (omega arith) refl refl (λ y. absurd (omega (arith, y, b))) (λ e. absurd (cc)) (record { stays = λ e. inl refl; gone = λ e. absurd (cc) })
-      (λ f e. (refl, me.access f e)) (λ x e. (refl, (me.opened x e).1)) (λ e. (inl refl, (me.seen_traced e).1)) (λ e. absurd (cc))
+      (λ f e. (refl, me.access f e)) (λ x e. (refl, (me.opened x e).1)) (λ x e. (refl, (me.size_seen x e).1)) (λ e. (inl refl, (me.seen_traced e).1)) (λ e. absurd (cc)) inv.sizes (λ e. absurd (cc))
 
   -- who runs no more has left one running worker less
   module _ (running : is_running w.post ≡ true) where
@@ -169,23 +177,24 @@ module _ (E : Era) (m : Memory) (team : Team) (g : Ghost) (k : ℕ) (s : GateSte
     none_behind y = absurd (let c = inv.counted.still y in let z = some in omega (arith, c.0, z))
 
     parks : is_some w.account.end ≡ false → Preserves E m (with_gate m (gate_after Park m.gate)) team (with_worker team k (worker_after m.gate.epoch Park w)) g g
-    parks ended = stays Running Stopped None None false m.gate.live (m.gate.running - 1) m.gate.left m.gate.request (me.timely.running running) (runs w.post running) refl refl (inr (inl some))
+    parks ended = stays Running Stopped None None None false m.gate.live (m.gate.running - 1) m.gate.left m.gate.request (me.timely.running running) (runs w.post running) refl refl (inr (inl some))
         refl (let z = some in omega (arith, z)) refl refl (λ y. none_behind y) (λ e. absurd (cc)) (record { stays = λ e. true_false ended e; gone = λ e. absurd (cc) })
-        (λ f e. none≢some e) (λ x e. none≢some e) (λ e. absurd (cc)) (λ e. absurd (cc))
+        (λ f e. none≢some e) (λ x e. none≢some e) (λ x e. none≢some e) (λ e. absurd (cc)) (λ e. absurd (cc)) inv.sizes (λ e. absurd (cc))
 
     requests : (asked : ℕ) → is_some w.account.end ≡ false → s.read.request ≡ false → w.traced_seen ≡ true → Preserves E m (with_gate m (gate_after (Request asked) m.gate)) team (with_worker team k (worker_after m.gate.epoch (Request asked) w)) g g
     requests asked ended request seen =
         let q : count_one m.gate.request ≡ 0 = ap count_one (request_read false request) in
-        stays Running (Flipping asked) None None w.traced_seen m.gate.live (m.gate.running - 1) m.gate.left true (me.timely.running running) (runs w.post running) refl refl (inr (inl some))
+        stays Running (Flipping asked) None None None w.traced_seen m.gate.live (m.gate.running - 1) m.gate.left true (me.timely.running running) (runs w.post running) refl refl (inr (inl some))
         refl (let z = some in omega (arith, z)) refl (omega (arith, q)) (λ y. none_behind y) (λ e. absurd (cc)) (record { stays = λ e. true_false ended e; gone = λ e. absurd (cc) })
-        (λ f e. none≢some e) (λ x e. none≢some e) (λ e. (inr refl, (me.seen_traced e).1)) (λ e. seen)
+        (λ f e. none≢some e) (λ x e. none≢some e) (λ x e. none≢some e) (λ e. (inr refl, (me.seen_traced e).1)) (λ e. seen)
+        (record { below = λ e. absurd (cc) }) (λ e. inv.sizes.below (request_read false request))
 
     leaves : is_some w.account.end ≡ true → Preserves E m (with_gate m (gate_after Leave m.gate)) team (with_worker team k (worker_after m.gate.epoch Leave w)) g g
     leaves ended =
         let alive = live_some (ap is_live (runs w.post running)) in
-        stays Running Gone None None false (m.gate.live - 1) (m.gate.running - 1) (m.gate.left + 1) m.gate.request (me.timely.running running) (runs w.post running) refl refl (inr (inl some))
+        stays Running Gone None None None false (m.gate.live - 1) (m.gate.running - 1) (m.gate.left + 1) m.gate.request (me.timely.running running) (runs w.post running) refl refl (inr (inl some))
         (omega (arith, alive)) (let z = some in omega (arith, z)) (omega arith) refl (λ y. none_behind y) (λ e. absurd (cc)) (record { stays = λ e. inr refl; gone = λ e. ended })
-        (λ f e. none≢some e) (λ x e. none≢some e) (λ e. absurd (cc)) (λ e. absurd (cc))
+        (λ f e. none≢some e) (λ x e. none≢some e) (λ x e. none≢some e) (λ e. absurd (cc)) (λ e. absurd (cc)) inv.sizes (λ e. absurd (cc))
 
   -- ---- registers forwarded
 
@@ -261,8 +270,9 @@ module _ (E : Era) (m : Memory) (team : Team) (g : Ghost) (k : ℕ) (s : GateSte
         refl refl refl (let b = behind_some in omega (arith, b)) refl refl (λ y. inv.counted.still behind_some) inv.counted)
         (record { filling = λ p l n a. unquiet (inv.filling.filling p l n a) })
         (record { begun = inv.tracing.begun; bottom = inv.tracing.bottom; top = inv.tracing.top; quiet = λ e. unquiet (inv.tracing.quiet e); last = inv.tracing.last })
+        inv.sizes
         others
-        (knows_then E m team g k (gate_after Forwarded m.gate) inv ready.member (no_flip busy) w.post m.gate.epoch 0 (into_epoch w m.gate.epoch) w.access w.opened w.traced_seen
+        (knows_then E m team g k (gate_after Forwarded m.gate) inv ready.member (no_flip busy) w.post m.gate.epoch 0 (into_epoch w m.gate.epoch) w.access w.opened w.size_seen w.traced_seen
         (record {
           now = ready.at_gate;
           done_none = refl;
@@ -273,9 +283,11 @@ module _ (E : Era) (m : Memory) (team : Team) (g : Ghost) (k : ℕ) (s : GateSte
           stocks = λ y e. none≢some e;
           accesses = λ f e. (me.active f e, me.access f e);
           opens = me.opened;
+          sizes = me.size_seen;
           pages = none_at_pages w m.gate.epoch;
           seen = me.seen_traced;
           flips = me.flips;
+          unsized = λ e. absurd (let q = sym (ap is_flipper at) ∙ e in cc);
         }))
 
   by_passage : (p : Passage) → Passes w.post w.epoch w.done (is_some w.account.end) w.traced_seen s.read p → Preserves E m (with_gate m (gate_after p m.gate)) team (with_worker team k (worker_after m.gate.epoch p w)) g g

@@ -50,8 +50,9 @@ module _ (E : Era) (m : Memory) (team : Team) (g : Ghost) (k : ℕ) (inv : Invar
       (counted_moves team.worker team.count k (into_epoch w m.gate.epoch) w.post w.post m.gate m.gate false false below refl refl (not_late m.gate.epoch) (rw scanner refl) refl refl refl refl refl refl inv.counted.still inv.counted)
       inv.filling
       inv.tracing
+      inv.sizes
       (λ j l d. inv.workers j l)
-      (knows_then E m team g k m.gate inv below (λ r e. true_false not_flipping (me.resets r e)) w.post m.gate.epoch 0 (into_epoch w m.gate.epoch) w.access w.opened w.traced_seen
+      (knows_then E m team g k m.gate inv below (λ r e. true_false not_flipping (me.resets r e)) w.post m.gate.epoch 0 (into_epoch w m.gate.epoch) w.access w.opened w.size_seen w.traced_seen
       (record {
         now = at_gate;
         done_none = refl;
@@ -62,9 +63,11 @@ module _ (E : Era) (m : Memory) (team : Team) (g : Ghost) (k : ℕ) (inv : Invar
         stocks = λ q e. none≢some e;
         accesses = λ f e. (me.active f e, me.access f e);
         opens = me.opened;
+        sizes = me.size_seen;
         pages = none_at_pages w m.gate.epoch;
         seen = me.seen_traced;
         flips = me.flips;
+        unsized = λ e. true_false not_flipping e;
       }))
 
 pub takes_epoch_of_gate : TakingEpochKeeps

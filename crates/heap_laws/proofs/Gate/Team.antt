@@ -7,7 +7,7 @@ use Rattle.heap_state.specs.Invariant.Ghost.{Ghost}
 use Rattle.heap_state.specs.Invariant.Inductive.{Invariant, Knows}
 use Rattle.heap_state.specs.Invariant.Parts.Gate.{Counted}
 use Rattle.heap_state.specs.Invariant.Parts.Knowledge.{Resets}
-use Rattle.heap_state.specs.Invariant.Parts.Pages.{Filling, Tracing}
+use Rattle.heap_state.specs.Invariant.Parts.Pages.{Filling, Tracing, Sizes}
 use Rattle.heap_state.specs.Worker.{Worker, Team, Stock, Reset, is_mutator, is_late}
 use Rattle.heap_state.proofs.Workers.Frames.{staffed_put, scanned_put, stocks_put, numbered_put, rooted_put}
 use Rattle.heap_state.proofs.Puts.{team_put}
@@ -31,11 +31,11 @@ module _ {E : Era} {m : Memory} {team : Team} {g : Ghost} {k : ℕ} {w' : Worker
   inv = passing.inv
 
   -- the new gate and team keep all
-  pub passing_keeps : Counted gate' team.count (put team.worker k w') → Filling E gate'.behind m.front m.page → Tracing E m.traced gate'.behind m.front m.page
+  pub passing_keeps : Counted gate' team.count (put team.worker k w') → Filling E gate'.behind m.front m.page → Tracing E m.traced gate'.behind m.front m.page → Sizes E gate'.request
       → ((j : ℕ) → j < team.count → j ≢ k → Knows E gate' m.traced m.front m.low m.old_front m.old_low m.old_owed g m.page m.cross m.announced m.heap j (team.worker j))
       → Knows E gate' m.traced m.front m.low m.old_front m.old_low m.old_owed g m.page m.cross m.announced m.heap k w'
       → Preserves E m (with_gate m gate') team (with_worker team k w') g g
-  passing_keeps counted filling tracing others own = record {
+  passing_keeps counted filling tracing sizes others own = record {
     invariant =
         let p1 = staffed_put team.worker k w' passing.mutator inv.staffed in
         let p2 = scanned_put team.worker k w' passing.scan inv.scanned in
@@ -50,11 +50,11 @@ module _ {E : Era} {m : Memory} {team : Team} {g : Ghost} {k : ℕ} {w' : Worker
 
 -- a passage that leaves as many behind as there were
 pub usual : (E : Era) (m : Memory) (team : Team) (g : Ghost) (k : ℕ) (w' : Worker) (live running left : ℕ) (request : Bool) → GoesPastGate E m team g k w' → (m.gate.request ≡ false) ⊎ ((0 < m.gate.running) ⊎ (0 < m.gate.behind))
-    → Counted (record m.gate { live = live; running = running; left = left; request = request }) team.count (put team.worker k w')
+    → Counted (record m.gate { live = live; running = running; left = left; request = request }) team.count (put team.worker k w') → Sizes E request
     → Knows E (record m.gate { live = live; running = running; left = left; request = request }) m.traced m.front m.low m.old_front m.old_low m.old_owed g m.page m.cross m.announced m.heap k w'
     → Preserves E m (with_gate m (record m.gate { live = live; running = running; left = left; request = request })) team (with_worker team k w') g g
-usual E m team g k w' live running left request passing busy counted own = passing_keeps passing (record m.gate { live = live; running = running; left = left; request = request })
-    counted passing.inv.filling passing.inv.tracing (λ j l d. others j l) own
+usual E m team g k w' live running left request passing busy counted sizes own = passing_keeps passing (record m.gate { live = live; running = running; left = left; request = request })
+    counted passing.inv.filling passing.inv.tracing sizes (λ j l d. others j l) own
   where
     others : (j : ℕ) → j < team.count → Knows E (record m.gate { live = live; running = running; left = left; request = request }) m.traced m.front m.low m.old_front m.old_low m.old_owed g m.page m.cross m.announced m.heap j (team.worker j)
     others j l =

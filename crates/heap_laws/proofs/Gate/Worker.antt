@@ -1,5 +1,5 @@
 -- What a worker knows once it has passed the gate into or within the current epoch.
-use Rattle.std.proofs.Common.{◌≡◌, ℕ, ◌+◌, ◌<◌, Bool, true, false, Option, Some, None, is_some, refl, ap, arith, ⊎_elim, ◌⊎◌, inl, inr}
+use Rattle.std.proofs.Common.{◌≡◌, ℕ, ◌+◌, ◌<◌, Bool, true, false, Option, Some, None, is_some, refl, ap, arith, ⊎_elim, ◌⊎◌, inl, inr, ◌*◌, ◌≤◌}
 use Rattle.space_map.specs.declared.gate_word.GateWord.{GateWord}
 use Rattle.space_map.specs.declared.page_word.PageWord.{PageWord}
 use Rattle.space_map.specs.declared.page_word.PageWord.TheVariants.{Open}
@@ -15,6 +15,7 @@ use Rattle.heap_state.proofs.Workers.Idle.{at_rest, nothing_at_pages}
 use Rattle.heap_laws.specs.Gate.{into_epoch}
 use Rattle.heap_laws.proofs.Flipping.Sums.{sum_below-term, one_of}
 use Rattle.heap_laws.proofs.Scanning.Scanners.{now_not_late}
+use Rattle.space_map.specs.declared.spaces.TheConstants.{PAGE_WORDS}
 
 module _ (E : Era) (m : Memory) (team : Team) (g : Ghost) (inv : Invariant E m team g) where
   -- where somebody runs or is behind, or no flip is requested, no flip is in progress
@@ -42,7 +43,7 @@ none_at_pages {E} {traced} {front} {behind} {size} {writer} {page} w epoch =
     assumption
 
 -- what it brings with it: its run and its round of the duty are those of `duty`
-pub record Brings (E : Era) (m : Memory) (g : Ghost) (behind : ℕ) (w : Worker) (post : Post) (epoch done : ℕ) (duty : Worker) (access : Option Access) (opened : Option ℕ) (traced_seen : Bool) : Type 0 where
+pub record Brings (E : Era) (m : Memory) (g : Ghost) (behind : ℕ) (w : Worker) (post : Post) (epoch done : ℕ) (duty : Worker) (access : Option Access) (opened size_seen : Option ℕ) (traced_seen : Bool) : Type 0 where
   pub now : epoch ≡ E.epoch
   pub done_none : done ≡ 0
   pub inside : post ≡ Outside → ⊥
@@ -53,11 +54,13 @@ pub record Brings (E : Era) (m : Memory) (g : Ghost) (behind : ℕ) (w : Worker)
   pub accesses : (f : Access) → access ≡ Some f → (is_running post ≡ true) × Accesses E g.size g.writer g.kind f
   pub opens : (p : ℕ) → opened ≡ Some p → (is_running post ≡ true) × (m.page p ≡ Open E.epoch)
   pub pages : KnowsAtPages E m.traced m.front behind g.size g.writer m.page (record duty { epoch = epoch })
+  pub sizes : (p : ℕ) → size_seen ≡ Some p → (is_running post ≡ true) × (E.span ≡ PAGE_WORDS * p)
   pub seen : traced_seen ≡ true → ((is_running post ≡ true) ⊎ (is_flipper post ≡ true)) × (m.traced ≡ E.epoch + 1)
   pub flips : is_flipper post ≡ true → traced_seen ≡ true
+  pub unsized : is_flipper post ≡ true → E.old_span ≤ E.span
 
 module _ (E : Era) (m : Memory) (team : Team) (g : Ghost) (k : ℕ) (gate' : GateWord) (inv : Invariant E m team g) (below : k < team.count) (no_flip : (r : Reset) → (team.worker k).reset ≡ Some r → ⊥)
-    (post : Post) (epoch done : ℕ) (duty : Worker) (access : Option Access) (opened : Option ℕ) (traced_seen : Bool) (brings : Brings E m g gate'.behind (team.worker k) post epoch done duty access opened traced_seen) where
+    (post : Post) (epoch done : ℕ) (duty : Worker) (access : Option Access) (opened size_seen : Option ℕ) (traced_seen : Bool) (brings : Brings E m g gate'.behind (team.worker k) post epoch done duty access opened size_seen traced_seen) where
   abbrev w : Worker
   w = team.worker k
 
@@ -74,6 +77,7 @@ module _ (E : Era) (m : Memory) (team : Team) (g : Ghost) (k : ℕ) (gate' : Gat
     copy = w.copy;
     scan = w.scan;
     traced_seen = traced_seen;
+    size_seen = size_seen;
     gate_step = None;
     reset = w.reset;
   }
@@ -114,8 +118,10 @@ module _ (E : Era) (m : Memory) (team : Team) (g : Ghost) (k : ℕ) (gate' : Gat
     stepping = me.stepping;
     pages = assumption (brings.pages);
     seen_traced = brings.seen;
+    size_seen = brings.sizes;
     flips = brings.flips;
     passage = λ s e. none≢some e;
     resets = λ r e. absurd (no_flip r e);
     reset = λ r e. absurd (no_flip r e);
+    unsized = λ e _. brings.unsized e;
   }

@@ -16,7 +16,7 @@ use Rattle.heap_state.proofs.Table.Stores.{stores_entry}
 use Rattle.heap_laws.specs.Lifting.{words_after_row, table_after, RowFits, configuration_after, StandingIsReady, StandsWith}
 
 pub ready : StandingIsReady
-ready c p s k l = record { laid_out = laid_out c.pages c.words; at_gate = refl; invariant = s.invariant; member = l }
+ready c p s k l = record { laid_out = laid_out c.pages c.words s.formed; at_gate = refl; invariant = s.invariant; member = l }
 
 -- ---- where the rows are
 
@@ -26,7 +26,7 @@ board_at c = let n : (table c).pages ≡ c.pages = table_pages c.pages c.words i
 -- a record lies below the board
 pub below_board : (c : Configuration) (p : Plain) (s : Stands c p) (a : ℕ) → 0 < s.ghost.size a → a + s.ghost.size a ≤ 128 * c.pages
 below_board c p s a st =
-    let y = s.invariant.laid.lies a st in let o = s.invariant.laid.order in let l = laid_out c.pages c.words in let b = board_at c in
+    let y = s.invariant.laid.lies a st in let o = s.invariant.laid.order in let l = laid_out c.pages c.words s.formed in let b = board_at c in
     omega (arith, y, o, l.below, l.old_below, b)
 
 -- ---- what a step makes

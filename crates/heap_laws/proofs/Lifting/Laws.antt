@@ -1,18 +1,22 @@
 -- What a law says of a step is so of each configuration that stands.
-use Rattle.std.proofs.Common.{◌≡◌, ℕ, ◌+◌, Option, refl, ap, arith, subst, Some}
+use Rattle.std.proofs.Common.{◌≡◌, ℕ, ◌+◌, ◌*◌, Option, refl, ap, arith, subst, Some, ◌≤◌, ◌∙◌}
 use Rattle.space_map.specs.declared.gate_word.GateWord.{GateWord}
 use Rattle.space_map.specs.Spaces.{to_space, space_start}
 use Rattle.space_map.specs.GateWord.{GateFits}
+use Rattle.space_map.specs.Table.{Size}
 use Rattle.heap_state.specs.Configuration.{Configuration, table, era, memory, team}
-use Rattle.heap_state.specs.Memory.Entries.{Entry, GateIs}
-use Rattle.heap_state.specs.Memory.Era.{Memory, era_of, era_at, memory_of, from_space}
-use Rattle.heap_state.specs.Memory.Table.{Table}
+use Rattle.heap_state.specs.Memory.Entries.{Entry, GateIs, SizeIs}
+use Rattle.heap_state.specs.Memory.Era.{Memory, IsLaidOut, era_of, era_at, memory_of, from_space}
+use Rattle.heap_state.specs.Memory.Table.{Table, word_in}
+use Rattle.heap_state.proofs.Table.LaidOut.{laid_out, table_in_use}
 use Rattle.heap_state.proofs.Table.Seen.{follows}
-use Rattle.heap_laws.specs.Lifting.{table_after, RowFits, StepsAreLifted, PlainStepsAreLifted, Flipped, FlipsAreLifted}
+use Rattle.heap_laws.specs.Lifting.{table_after, RowFits, StepsAreLifted, PlainStepsAreLifted, words_after_row, SizesAreLifted, Flipped, FlipsAreLifted}
 use Rattle.heap_laws.specs.Steps.{WritesRow, NoRow, InGate, InTraced, InArea, InOldArea, InPage, InCross, InWord, InAnnounce}
 use Rattle.heap_laws.proofs.Lifting.Configurations.{board_at, seen, stand, ready}
 use Rattle.heap_laws.specs.Flipping.Flip.{FlipKeeps, flipped_gate, after_flip, next_ghost, next_era, next_memory}
+use Rattle.heap_laws.specs.Flipping.Sizes.{sized_era, after_size}
 use Rattle.heap_laws.proofs.Flipping.Flipped.{flip_keeps, table_flips}
+use Rattle.heap_laws.proofs.Flipping.Sizes.{sizes_are_stored}
 use Rattle.heap_laws.proofs.Gate.Counts.{fits}
 
 -- ---- the row
@@ -75,6 +79,29 @@ steps_are_lifted c p s e k w h l step = plain_steps_are_lifted c p p s e k w h l
   writes = step.writes;
   makes = record { invariant = step.keeps.invariant; shown = step.keeps.shown p s.shown; cycle = step.keeps.cycle; ages = step.keeps.ages };
 })
+
+-- ---- the size
+
+pub sizes_are_lifted : SizesAreLifted
+sizes_are_lifted c p s k r q l has loose grown most =
+    let to : ℕ = from_space (era c).epoch in
+    let me = s.invariant.workers k l in
+    let span : (era c).span ≤ 64 * q = (me.reset r has).grown q grown in
+    let least = (s.formed.sizes (to_space (era c).epoch) (omega arith)).0 in
+    let some : 4 ≤ q = (let e : (era c).span ≡ 64 * word_in c.pages c.words (Size (to_space (era c).epoch)) = rw (table_in_use c.pages c.words) refl in omega (arith, span, least, e)) in
+    let fits : RowFits c.pages (Some (SizeIs to q)) = (omega arith, some, most) in
+    let t = follows.size (table c) q in
+    let y = seen c (Some (SizeIs to q)) k (after_size ((team c).worker k) r) s.formed l fits in
+    let out : IsLaidOut (sized_era (era c) q) =
+    subst IsLaidOut (ap era_of y.table_said ∙ t.era) (laid_out c.pages (words_after_row c.pages c.words (Some (SizeIs to q))) y.formed) in
+    let law = sizes_are_stored (era c) (memory c) (team c) s.ghost k r q (ready c p s k l) has loose grown out in
+    record {
+      fits = fits;
+      standing = stand c p p (Some (SizeIs to q)) k (after_size ((team c).worker k) r) s.ghost s l fits (rw (t.era, t.memory) law.invariant) (rw (t.era, t.memory) (law.shown p s.shown));
+      cycle = λ o cy. rw (y.table_said, y.team_said, t.era, t.memory) (law.cycle o cy);
+      ages = λ page. rw y.table_said (omega arith);
+      epoch = rw y.table_said refl;
+    }
 
 -- ---- the flip
 

@@ -11,6 +11,7 @@ use Rattle.space_map.specs.PageWord.{age_of}
 use Rattle.space_map.specs.Spaces.{IsPageCount}
 use Rattle.heap_state.specs.Cycles.Cycle.{Cycle, IsRoot, InRegister, OnTheBoard, StillLeads}
 use Rattle.heap_state.specs.Memory.Entries.{table_with, EachFits}
+use Rattle.heap_state.specs.Theorems.Rows.{Written}
 use Rattle.heap_state.specs.Memory.Era.{Era, era_of, Memory, memory_of}
 use Rattle.heap_state.specs.Functions.{put}
 use Rattle.heap_state.specs.Invariant.Ghost.{Ghost}
@@ -34,9 +35,9 @@ nothing = record { size = λ a. 0; writer = λ a. 0; copy = λ a. 0; keeper = λ
 
 -- ---- the pages
 
-module _ (n : ℕ) where
+module _ (n least : ℕ) where
   abbrev T : Table
-  T = table_with n (opening_entries n)
+  T = table_with n (opening_entries n least)
 
   abbrev E : Era
   E = era_of T
@@ -48,7 +49,7 @@ module _ (n : ℕ) where
   unfolding put
   front = omega arith
 
-  low : m.low ≡ E.start + 64 * n
+  low : m.low ≡ E.start + 64 * least
   unfolding put
   low = omega arith
 
@@ -63,6 +64,14 @@ module _ (n : ℕ) where
   owes_nothing : m.owed ≤ E.span
   unfolding put
   owes_nothing = omega arith
+
+  as_large : E.old_span ≤ E.span
+  unfolding put
+  as_large = omega arith
+
+  span : E.span ≡ 64 * least
+  unfolding put
+  span = omega arith
 
   heap : (x : ℕ) → m.heap x ≡ 0
   heap x = refl
@@ -119,14 +128,14 @@ module _ (n : ℕ) where
     no_stock : (k : ℕ) → ((opening_team mutators scanners).worker k).stock ≡ None
     no_stock k = each_fresh mutators scanners k (λ w. w.stock ≡ None) refl refl
 
-    keeps : mutators ≤ 16 → mutators + scanners ≤ 24 → Invariant E m (opening_team mutators scanners) nothing
-    keeps few all =
+    keeps : least ≤ n → mutators ≤ 16 → mutators + scanners ≤ 24 → Invariant E m (opening_team mutators scanners) nothing
+    keeps short few all =
         let f = front in
         let l = low in
         record {
           counted = counted mutators scanners m.gate refl;
           staffed = staffed mutators scanners few all;
-          laid = record { apart = λ a b st. absurd (omega (arith, st)); lies = λ a st. absurd (omega (arith, st)); order = (omega arith, omega arith, omega arith); aligned = omega arith; start = inl (sym f); next = λ a s u st. absurd (omega (arith, st)) };
+          laid = record { apart = λ a b st. absurd (omega (arith, st)); lies = λ a st. absurd (omega (arith, st)); order = (omega (arith, f), omega (arith, f, l), omega (arith, l, span)); aligned = omega arith; start = inl (sym f); next = λ a s u st. absurd (omega (arith, st)) };
           headed = record { own = λ a st. absurd (omega (arith, st)); kept = λ a k st. absurd (omega (arith, st)); gone = λ a b st. absurd (omega (arith, st)) };
           copied = record { target = λ a b st. absurd (omega (arith, st)); blank = λ a y. (refl, refl); origin = λ b st. absurd (omega (arith, st)); keeper_of = λ a k st. absurd (omega (arith, st)) };
           once = record { once = λ a b st. absurd (omega (arith, st)) };
@@ -134,19 +143,20 @@ module _ (n : ℕ) where
           room = record { needs = λ t. absurd (omega (arith, t)); fits = λ t. absurd (omega (arith, t)); small = owes_nothing };
           raw_words = record { raw = λ a i st. absurd (omega (arith, st)) };
           counts = record { counts = λ a count st. absurd (omega (arith, st)) };
-          shut = record { free = λ p a b. rw (free p (omega (arith, b, l))) (omega arith); held = λ b x st. absurd (omega (arith, st)); by = λ b x k st. absurd (omega (arith, st)) };
+          shut = record { free = λ p a b. rw (free p (omega (arith, b, l, short))) (omega arith); held = λ b x st. absurd (omega (arith, st)); by = λ b x k st. absurd (omega (arith, st)) };
           filling = record { filling = λ p a b e. quiet };
           tracing = record { begun = omega arith; bottom = omega arith; top = omega arith; quiet = λ t. quiet; last = λ t p a b. absurd (omega (arith, a, f)) };
           aged = record { young = young; board = omega arith };
           scanned = record { scanned = λ p k s. idle p k s };
           opened = record { opened = λ x h o. zero_clean E 0 refl };
           landing = record { lands = λ x h. zero_lands (λ a. 0) (λ a. 0) 0 refl };
-          older = record { older = λ a i b y. absurd (omega (arith, y.stands)); written = λ a s u. refl };
+          older = record { older = λ a i b y. absurd (omega (arith, y.stands)); written = λ a st s u. refl };
           new = record { opened = λ a x st. absurd (omega (arith, st)); prior = λ b st. absurd (omega (arith, st)); blank = λ x a b w o none. refl };
           new_written = record { written = λ a st. absurd (omega (arith, st)) };
           old_space = record { walks = λ t. absurd (omega (arith, t)) };
           old_area = record { order = old_order };
           old_pages = record { old = λ p a b. absurd (let o = old_front in omega (arith, a, b, o)) };
+          sizes = record { below = λ e. as_large };
           crossing = record { crossing = λ p a s u st. absurd (omega (arith, st)) };
           stocks = record { stocked = λ k u q e. absurd (let z = no_stock k in none≢some (sym z ∙ e)); apart = λ i k u v d p q e. absurd (let z = no_stock i in none≢some (sym z ∙ e)) };
           numbered = record { maker = λ a st. absurd (omega (arith, st)); last = λ a st. absurd (omega (arith, st)) };
@@ -213,19 +223,23 @@ module _ (n : ℕ) where
 
 -- ---- the words
 
-pub entries_fit : (n : ℕ) → IsPageCount n → EachFits n (opening_entries n)
-entries_fit n size = (tt, ((omega arith, record { front_fits = omega arith; low_fits = omega (arith, size); owed_fits = omega arith }), ((omega arith, record { front_fits = omega arith; low_fits = omega (arith, size); owed_fits = omega arith }), ((omega arith, omega arith), tt))))
+entries_fit : (n least : ℕ) → IsPageCount n → 4 ≤ least → least ≤ n → EachFits n (opening_entries n least)
+entries_fit n least size some short = (tt, ((omega arith, record { front_fits = omega arith; low_fits = omega (arith, size, short); owed_fits = omega arith }), ((omega arith, record { front_fits = omega arith; low_fits = omega (arith, size, short); owed_fits = omega arith }), ((omega arith, some, short), ((omega arith, some, short), ((omega arith, omega arith), tt))))))
+
+pub opening_written : (n least : ℕ) → IsPageCount n → 4 ≤ least → least ≤ n → Written n (opening_entries n least)
+opening_written n least size some short =
+    writes_tables n (opening_entries n least) (entries_fit n least size some short) (record { first = (least, (3, omega arith, refl)); second = (least, (4, omega arith, refl)) })
 
 pub opening_stands : OpeningStands
-opening_stands n mutators scanners size few all =
-    let w = writes_tables n (opening_entries n) (entries_fit n size) in
+opening_stands n least mutators scanners size some short few all =
+    let w = opening_written n least size some short in
     record {
       stands = record {
         size = size;
         formed = w.formed;
         ghost = nothing;
-        invariant = rw w.says (keeps n mutators scanners few all);
-        shown = rw w.says (shows n mutators scanners);
+        invariant = rw w.says (keeps n least mutators scanners short few all);
+        shown = rw w.says (shows n least mutators scanners);
       };
-      cycle = rw w.says (cycle n mutators scanners);
+      cycle = rw w.says (cycle n least mutators scanners);
     }

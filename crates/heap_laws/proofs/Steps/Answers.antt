@@ -34,7 +34,7 @@ use Rattle.heap_laws.proofs.Scanning.Records.{place, crossing, first_lies, next_
 -- ---- an old record
 
 pub old_headers_are_read : OldHeadersAreRead
-old_headers_are_read E m team g k q ready asks idle = record { below = below_board ready q.old seeks.0; word = by_first (first E m team g ready.invariant q.old seeks.0 (ready.invariant.older.written q.old seeks.1 seeks.2)) }
+old_headers_are_read E m team g k q ready asks idle = record { below = below_board ready q.old seeks.0; word = by_first (first E m team g ready.invariant q.old seeks.0 (ready.invariant.older.written q.old seeks.0 seeks.1 seeks.2)) }
   where
     seeks : (0 < g.size q.old) × (E.old_start ≤ q.old) × (q.old < E.old_start + E.old_span)
     seeks = ((ready.invariant.workers k ready.member).quest q asks).old
@@ -182,8 +182,10 @@ module _ (c : Configuration) (p : Plain) (s : Stands c p) where
   pages_are : (table c).pages ≡ c.pages
   pages_are = table_pages c.pages c.words
 
-  spans : ((era c).span ≡ 64 * c.pages) × ((era c).old_span ≡ 64 * c.pages)
-  spans = rw (table_in_use c.pages c.words) (refl, refl)
+  spans : ((era c).span ≤ 64 * c.pages) × ((era c).old_span ≤ 64 * c.pages)
+  spans = rw (table_in_use c.pages c.words)
+      (let a = s.formed.sizes (to_space (era c).epoch) (omega arith) in let b = s.formed.sizes (from_space (era c).epoch) (omega arith) in
+      (omega (arith, a), omega (arith, b)))
 
   each : (space : ℕ) → space < 2 → AreaAnswers c.pages ((table c).area space)
   each space l = ⊎_elim

@@ -124,10 +124,12 @@ module _ (E : Era) (n : Memory) (h : Ghost) (k : ℕ) (w v : Worker) (most : IsA
     stepping = λ s e. let z = (within most.scan).had s e in less_steps z.2 (me.stepping z.0 z.1);
     pages = less_at_pages most.others.epoch most.round most.pages me.pages;
     seen_traced = λ e. rw most.others.post (me.seen_traced (most.gate.traced_seen e));
+    size_seen = λ p e. rw most.others.post (me.size_seen p (most.gate.size_seen p e));
     flips = λ e. most.gate.asks (inl e) ∙ me.flips (ap is_flipper (sym most.others.post) ∙ e);
     passage = λ s e. rw (most.others.post, most.others.epoch, most.others.done, most.others.account, most.gate.asks (inr (ap is_some e))) (me.passage s (most.gate.gate_step s e));
     resets = λ r e. ap is_flipper most.others.post ∙ me.resets r (most.gate.reset r e);
     reset = λ r e. me.reset r (most.gate.reset r e);
+    unsized = λ e loose. me.unsized (ap is_flipper (sym most.others.post) ∙ e) (sym most.gate.sized ∙ loose);
   }
 
 -- the team in which it is the other

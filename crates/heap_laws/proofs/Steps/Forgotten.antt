@@ -1,8 +1,8 @@
 -- What a worker may forget: a group of its parts, and all others stay.
-use Rattle.std.proofs.Common.{◌≡◌, Bool, false, Option, Some, None, is_some, refl, sym, ap, ◌∙◌, ⊎_elim}
-use Rattle.heap_state.specs.Worker.{Worker, Scan, Round, Claim, Look, LastLook, GateStep, Reset}
+use Rattle.std.proofs.Common.{◌≡◌, Bool, false, Option, Some, None, is_some, refl, sym, ap, ◌∙◌, ⊎_elim, ℕ}
+use Rattle.heap_state.specs.Worker.{Worker, Scan, Round, Claim, Look, LastLook, GateStep, Reset, is_sized}
 use Rattle.heap_state.proofs.Puts.{some_same, none≢some}
-use Rattle.heap_laws.specs.Composing.{SameToOthers, LessAtHand, LessAtPages, LessAtGate, IsAtMost, IsLess, IsLessScan, SameScan, LessScan, IsLessRound, of_no_record, RoundsAreForgotten, TracedIsForgotten, ScannedRecordsAreForgotten, RoundFrontsAreForgotten}
+use Rattle.heap_laws.specs.Composing.{SameToOthers, LessAtHand, LessAtPages, LessAtGate, IsAtMost, IsLess, IsLessScan, SameScan, LessScan, IsLessRound, of_no_record, RoundsAreForgotten, TracedIsForgotten, ScannedRecordsAreForgotten, RoundFrontsAreForgotten, SizesAreForgotten}
 
 module _ (w : Worker) where
   pub same_to_others : SameToOthers w w
@@ -25,9 +25,9 @@ pub of_scan : (w : Worker) (a b : Scan) → w.scan ≡ Some b → IsLessScan a b
 of_scan w a b has less = record { others = same_to_others w; scan = LessScan a b refl has less; hand = same_at_hand w; round = same_round w; pages = same_at_pages w; gate = same_at_gate w }
 
 -- of the gate
-of_gate : (w : Worker) (gate_step : Option GateStep) (reset : Option Reset) (seen : Bool) → LessAtGate (record w { gate_step = gate_step; reset = reset; traced_seen = seen }) w
-    → IsAtMost (record w { gate_step = gate_step; reset = reset; traced_seen = seen }) w
-of_gate w gate_step reset seen less = record { others = same_to_others w; scan = SameScan refl; hand = same_at_hand w; round = same_round w; pages = same_at_pages w; gate = less }
+of_gate : (w : Worker) (gate_step : Option GateStep) (reset : Option Reset) (seen : Bool) (size : Option ℕ) → LessAtGate (record w { gate_step = gate_step; reset = reset; traced_seen = seen; size_seen = size }) w
+    → IsAtMost (record w { gate_step = gate_step; reset = reset; traced_seen = seen; size_seen = size }) w
+of_gate w gate_step reset seen size less = record { others = same_to_others w; scan = SameScan refl; hand = same_at_hand w; round = same_round w; pages = same_at_pages w; gate = less }
 
 -- ---- the cases
 
@@ -62,13 +62,20 @@ round_fronts_are_forgotten w r has = record {
 
 -- that the epoch is traced
 pub traced_is_forgotten : TracedIsForgotten
-traced_is_forgotten w flips none = of_gate w w.gate_step w.reset false (record {
+traced_is_forgotten w flips none = of_gate w w.gate_step w.reset false w.size_seen (record {
   gate_step = λ _ e. e;
   reset = λ _ e. e;
+  sized = refl;
+  size_seen = λ _ e. e;
   traced_seen = λ e. absurd (cc);
   asks = λ o. absurd (⊎_elim (λ f. let q = sym flips ∙ f in cc) (λ f. let q = sym (ap is_some none) ∙ f in cc) o);
 })
 
--- the gate, or the flip, that was read
-pub reads_are_forgotten : (w : Worker) → IsAtMost (record w { gate_step = None; reset = None }) w
-reads_are_forgotten w = of_gate w None None w.traced_seen (record { gate_step = λ _ e. absurd (cc); reset = λ _ e. absurd (cc); traced_seen = λ e. e; asks = λ _. refl })
+-- the size of the epoch's space
+pub sizes_are_forgotten : SizesAreForgotten
+sizes_are_forgotten w = of_gate w w.gate_step w.reset w.traced_seen None
+    (record { gate_step = λ _ e. e; reset = λ _ e. e; sized = refl; size_seen = λ _ e. absurd (cc); traced_seen = λ e. e; asks = λ _. refl })
+
+-- the gate, or the flip that was read and has not stored a size
+pub reads_are_forgotten : (w : Worker) → is_sized w.reset ≡ false → IsAtMost (record w { gate_step = None; reset = None }) w
+reads_are_forgotten w loose = of_gate w None None w.traced_seen w.size_seen (record { gate_step = λ _ e. absurd (cc); reset = λ _ e. absurd (cc); sized = sym loose; size_seen = λ _ e. e; traced_seen = λ e. e; asks = λ _. refl })

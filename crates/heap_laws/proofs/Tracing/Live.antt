@@ -26,6 +26,7 @@ use Rattle.heap_laws.specs.Live.{TracedIsLive}
 use Rattle.heap_laws.specs.Tracing.{NothingLeads, CopiesReachable}
 use Rattle.heap_laws.proofs.Tracing.Copied.{copies_reachable}
 use Rattle.heap_laws.proofs.Tracing.Traced.{leads_nowhere}
+use Rattle.heap_state.specs.Memory.Table.{IsFormed}
 
 -- ---- lists
 
@@ -59,11 +60,14 @@ module _ (c : Configuration) (p o : Plain) (st : StandsInCycle c p o) (traced : 
   abbrev g : Ghost
   g = st.stands.ghost
 
+  formed : IsFormed c.pages c.words
+  formed = st.stands.formed
+
   inv : Invariant (era c) (memory c) (team c) g
   inv = st.stands.invariant
 
   lay : IsLaidOut (era c)
-  lay = laid_out c.pages c.words
+  lay = laid_out c.pages c.words formed
 
   nothing : NothingLeads (era c) (memory c) (team c) g
   nothing = leads_nowhere (era c) (memory c) (team c) g lay inv traced
@@ -75,7 +79,7 @@ module _ (c : Configuration) (p o : Plain) (st : StandsInCycle c p o) (traced : 
   IsOne w = IsItem (era c).start (memory c).front g.size g.writer w
 
   sound : (w : Walked) → Contains (copied_of c) w → IsOne w
-  sound = copied_sound c g inv nothing.none_writes
+  sound = copied_sound c g formed inv nothing.none_writes
 
   abbrev of : Walked → Identity
   of w = g.identity w.at
@@ -104,14 +108,14 @@ module _ (c : Configuration) (p o : Plain) (st : StandsInCycle c p o) (traced : 
 
   once : (a b : ℕ) (v w : Walked) → slice_get (copied_of c) a ≡ Some v → slice_get (copied_of c) b ≡ Some w → of v ≡ of w → a ≡ b
   once a b v w at_a at_b e =
-      copied_once c g inv nothing.none_writes a b v w at_a at_b
+      copied_once c g formed inv nothing.none_writes a b v w at_a at_b
       (same_place v w (sound v (has_it (copied_of c) a v at_a)) (sound w (has_it (copied_of c) b w at_b)) e)
 
   -- each reachable identity has its copy
   there : (i : Identity) → Reachable o i → (w : Walked) × Contains (copied_of c) w × (of w ≡ i)
   there i r =
       let k = reachable.all i r in
-      (item k.at (g.size k.at), copied_complete c g inv nothing.none_writes k.at k.below.0 k.below.1 k.stands.0, k.named)
+      (item k.at (g.size k.at), copied_complete c g formed inv nothing.none_writes k.at k.below.0 k.below.1 k.stands.0, k.named)
 
   abbrev identities : List Identity
   identities = map of (copied_of c)
@@ -141,7 +145,7 @@ module _ (c : Configuration) (p o : Plain) (st : StandsInCycle c p o) (traced : 
     once = λ a b v w at_a at_b e.
         once a b v w at_a at_b
         (same_Some (of v) (of w) (sym (named v (sound v (has_it (copied_of c) a v at_a))) ∙ (e ∙ named w (sound w (has_it (copied_of c) b w at_b)))));
-    front = copied_total c g inv nothing.none_writes;
+    front = copied_total c g formed inv nothing.none_writes;
     live = live;
   }
 

@@ -1,6 +1,6 @@
 -- What a running mutator may hold, and how it goes on: with other registers, another account, or another access.
 use Rattle.plain_state.specs.declared.value.Value.{Value}
-use Rattle.std.specs.Prelude.{◌≡◌, ℕ, ◌+◌, ◌<◌, true, Some, None, slice_set, Option, ◌↔◌}
+use Rattle.std.specs.Prelude.{◌≡◌, ℕ, ◌+◌, ◌<◌, true, Some, None, slice_set, Option, ◌↔◌, ◌*◌}
 use Rattle.plain_state.specs.State as plain
 use Rattle.space_map.specs.declared.page_word.PageWord.TheVariants.{Open}
 use Rattle.heap_state.specs.Memory.Era.{Era, Memory}
@@ -10,6 +10,7 @@ use Rattle.heap_state.specs.Meaning.Values.{value_of}
 use Rattle.heap_state.specs.Worker.{Worker, Stock, Access, Round, Reset, Account, Team}
 use Rattle.heap_laws.specs.Composing.{LessAtPages}
 use Rattle.heap_laws.specs.Steps.{Ready}
+use Rattle.space_map.specs.declared.spaces.TheConstants.{PAGE_WORDS}
 
 -- a word that a mutator may hold: where it is a pointer, it leads to a record that stands, and not into the old space
 pub record MayHold (E : Era) (size writer : ℕ → ℕ) (w : ℕ) : Type 0 where
@@ -26,7 +27,7 @@ abbrev pub SameWords : Type 0
 SameWords = (E : Era) (m : Memory) (team : Team) (g : Ghost) (k v w : ℕ) (x y : Value) → Ready E m team g k → HoldsValue E g v x → HoldsValue E g w y → (v ≡ w) ↔ (x ≡ y)
 
 -- Mutator w goes on as `next`. It stands where it stood, and copies and scans what it did. What it knows it knew before, but
--- for its access, a page found open and whether the epoch is traced, of which what it says is so. Its registers hold what a mutator may
+-- for its access, a page found open, whether the epoch is traced and its space's size, of which what it says is so. Its registers hold what a mutator may
 -- hold, as long as it has no end.
 pub record MutatorGoesOn (E : Era) (m : Memory) (g : Ghost) (w next : Worker) : Type 0 where
   pub post : next.post ≡ w.post
@@ -41,6 +42,7 @@ pub record MutatorGoesOn (E : Era) (m : Memory) (g : Ghost) (w next : Worker) : 
   pub round : (r : Round) → next.round ≡ Some r → w.round ≡ Some r
   pub pages : LessAtPages next w
   pub traced_seen : next.traced_seen ≡ true → m.traced ≡ E.epoch + 1
+  pub size_seen : (p : ℕ) → next.size_seen ≡ Some p → E.span ≡ PAGE_WORDS * p
   pub reset : (r : Reset) → next.reset ≡ Some r → w.reset ≡ Some r
   pub access : (f : Access) → next.access ≡ Some f → Accesses E g.size g.writer g.kind f
   pub opened : (p : ℕ) → next.opened ≡ Some p → m.page p ≡ Open E.epoch

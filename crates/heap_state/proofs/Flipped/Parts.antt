@@ -104,7 +104,7 @@ pub landing : Landing flipped_era size none (λ a. Raw) heap
 landing = record { lands = λ x h. rw (here_zero x h) (number_lands 0 0 zero_word) }
 
 pub older : Older flipped_era size none (λ a. Raw) heap
-older = record { older = λ a i b f l m e. absurd (let q : false ≡ true = f.field in cc); written = λ a l m. refl }
+older = record { older = λ a i b f l m e. absurd (let q : false ≡ true = f.field in cc); written = λ a st l m. refl }
 
 pub raw_words : RawWords size none (λ a. Raw) heap
 unfolding put

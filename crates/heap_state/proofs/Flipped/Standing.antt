@@ -8,7 +8,7 @@ use Rattle.heap_words.specs.Word.{header_word, pointer_word, tag_of}
 use Rattle.plain_state.specs.declared.value.Value.TheVariants.{Number, Reference}
 use Rattle.heap_state.specs.Configuration.{team, Stands}
 use Rattle.heap_state.specs.Meaning.Denotes.{denoted, denoted_in}
-use Rattle.heap_state.specs.Memory.Entries.{EachFits}
+use Rattle.heap_state.specs.Memory.Entries.{EachFits, HasSizes}
 use Rattle.heap_state.specs.Memory.Era.{era_of, memory_of}
 use Rattle.heap_state.specs.Examples.Flipped.{flipped, flipped_entries, flipped_plain, late_mutator}
 use Rattle.heap_state.specs.Functions.{put}
@@ -137,10 +137,13 @@ shows = record {
 -- ---- the words
 
 entries_fit : EachFits 4 flipped_entries
-entries_fit = (omega arith, (omega arith, (omega arith, (record { epoch_fits = omega arith; live_fits = omega arith; running_fits = omega arith; behind_fits = omega arith; left_fits = omega arith }, (tt, ((omega arith, record { front_fits = omega arith; low_fits = omega arith; owed_fits = omega arith }), ((omega arith, record { front_fits = omega arith; low_fits = omega arith; owed_fits = omega arith }), ((omega arith, omega arith), ((omega arith, omega arith), tt)))))))))
+entries_fit = (omega arith, (omega arith, (omega arith, (record { epoch_fits = omega arith; live_fits = omega arith; running_fits = omega arith; behind_fits = omega arith; left_fits = omega arith }, (tt, ((omega arith, record { front_fits = omega arith; low_fits = omega arith; owed_fits = omega arith }), ((omega arith, record { front_fits = omega arith; low_fits = omega arith; owed_fits = omega arith }), ((omega arith, omega arith, omega arith), ((omega arith, omega arith, omega arith), ((omega arith, omega arith), ((omega arith, omega arith), tt)))))))))))
+
+has_sizes : HasSizes flipped_entries
+has_sizes = record { first = (4, (7, omega arith, refl)); second = (4, (8, omega arith, refl)) }
 
 table_is : Written 4 flipped_entries
-table_is = writes_tables 4 flipped_entries entries_fit
+table_is = writes_tables 4 flipped_entries entries_fit has_sizes
 
 abbrev stands : Stands flipped flipped_plain
 stands = record {
@@ -152,7 +155,7 @@ stands = record {
 }
 
 sound : IsSound flipped flipped_plain
-sound = record { holds = holds flipped stands.ghost stands.invariant; represents = represents flipped stands.ghost stands.invariant flipped_plain stands.shown }
+sound = record { holds = holds flipped stands.ghost stands.formed stands.invariant; represents = represents flipped stands.ghost stands.formed stands.invariant flipped_plain stands.shown }
 
 old : old_walk_of flipped ≡ record { at = 192; size = 3 } ∷ []
 unfolding put walk decode tag_of header_word

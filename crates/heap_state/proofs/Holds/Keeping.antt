@@ -3,10 +3,12 @@ use Rattle.std.proofs.Common.{◌≡◌, ◌≢◌, ℕ, zero, suc, ◌+◌, ◌
 use Rattle.std.proofs.lemmas.Bool.{cases_eq, cases_lt, cases_Bool, eq-eqb, ne_eqb}
 use Rattle.heap_words.specs.Decoded.{BusyWord, ForwardWord, decode}
 use Rattle.space_map.specs.declared.page_word.PageWord.TheVariants.{Open}
+use Rattle.heap_state.specs.Memory.Table.{IsFormed}
 use Rattle.heap_state.specs.Configuration.{Configuration, era, memory, team}
 use Rattle.heap_state.specs.Memory.Era.{Era, Memory}
+use Rattle.heap_state.specs.Functions.{count_one}
 use Rattle.heap_state.specs.Invariant.Ghost.{Ghost, Here, OnBoard, header_kind}
-use Rattle.heap_state.specs.Invariant.Holds.{worker_of, IsWalkedField, GateHolds, HeadersHold, AccessHolds, RoomHolds, CrossingHolds, ClaimsHold, FreeHolds, Holds}
+use Rattle.heap_state.specs.Invariant.Holds.{worker_of, IsWalkedField, GateHolds, HeadersHold, AccessHolds, RoomHolds, SizesHold, CrossingHolds, ClaimsHold, FreeHolds, Holds}
 use Rattle.heap_state.specs.Invariant.Inductive.{Invariant, Knows}
 use Rattle.heap_state.specs.Invariant.Parts.Copies.{owing}
 use Rattle.heap_state.specs.Invariant.Parts.Stocks.{Stocked}
@@ -17,6 +19,8 @@ use Rattle.heap_state.proofs.Walks.Reserving.{kept_there}
 use Rattle.heap_state.specs.Sums.{is_uncopied}
 use Rattle.heap_state.specs.Memory.Walk.{Walked}
 use Rattle.heap_state.specs.Worker.{Post, Scanner, Outside, Running, Stopped, Flipping, Gone, Claim, Stock, is_live, is_running, is_flipper, is_late}
+use Rattle.heap_state.proofs.Puts.{sum_below-none}
+use Rattle.heap_state.proofs.Table.LaidOut.{table_in_use}
 use Rattle.heap_state.proofs.Represents.Denoting.{none_leads}
 use Rattle.heap_state.proofs.Records.Holding.{First, OwnHeader, KeptBy, GoneTo, first, keeper, writer, reserves}
 use Rattle.heap_state.proofs.Walks.InHeap.{in_heap_sound, lay, now_sound, now_complete, old_sum, still_copying}
@@ -24,7 +28,7 @@ use Rattle.heap_state.proofs.Represents.Owning.{walked_here}
 use Rattle.heap_state.proofs.Walks.Spaces.{IsOf}
 use Rattle.heap_state.proofs.Walks.Walking.{item}
 
-module _ (c : Configuration) (g : Ghost) (inv : Invariant (era c) (memory c) (team c) g) where
+module _ (c : Configuration) (g : Ghost) (formed : IsFormed c.pages c.words) (inv : Invariant (era c) (memory c) (team c) g) where
   abbrev E : Era
   E = era c
 
@@ -60,7 +64,7 @@ module _ (c : Configuration) (g : Ghost) (inv : Invariant (era c) (memory c) (te
 
   kept_here : (w : Walked) (len k : ℕ) → IsInHeap (dump_of c) w → decode (m.heap w.at) ≡ BusyWord len k → (0 < g.size w.at) × (g.keeper w.at ≡ k + 1) × (g.size w.at - 1 ≡ len)
   kept_here w len k h e =
-      let known = in_heap_sound c g inv w h in
+      let known = in_heap_sound c g formed inv w h in
       let st : 0 < g.size w.at = omega (arith, known.sized) in
       let q = by_first (first E m (team c) g inv w.at st known.written) in
       (st, q.0, q.1)
@@ -88,7 +92,7 @@ module _ (c : Configuration) (g : Ghost) (inv : Invariant (era c) (memory c) (te
 
   here : (x : ℕ) → IsWalkedField c x ⊎ OnBoard E x → Here E g.size g.writer g.kind x
   unfolding Here
-  here x (inl f) = walked_here c g inv x f
+  here x (inl f) = walked_here c g formed inv x f
   here x (inr b) = inr b
 
   access : AccessHolds c
@@ -96,7 +100,7 @@ module _ (c : Configuration) (g : Ghost) (inv : Invariant (era c) (memory c) (te
     opened = λ x h o. inv.opened.opened x (here x h) o;
     registers = λ k j l mu n late s. ((knows k l).registers mu n).clean j s (λ t. absurd (let q : true ≡ false = sym t ∙ late in cc));
     top = inv.tracing.top;
-    traced = λ t x h. none_leads c g inv t x (here x h);
+    traced = λ t x h. none_leads c g formed inv t x (here x h);
     none = λ t. (inv.tracing.quiet t).none;
   }
 
@@ -124,10 +128,10 @@ module _ (c : Configuration) (g : Ghost) (inv : Invariant (era c) (memory c) (te
   room : RoomHolds c
   room = record {
     order = inv.laid.order.1;
-    fits = λ n. inv.room.fits (still_copying c g inv n).0;
+    fits = λ n. inv.room.fits (still_copying c g formed inv n).0;
     enough = λ n.
-        let t = still_copying c g inv n in
-        let s = old_sum c g inv t.0 (E.epoch - 1) t.1 (λ w. is_uncopied (kept_of c.workers) (decode (m.heap w.at))) (owing g.size g.copy) (owes t.0) in
+        let t = still_copying c g formed inv n in
+        let s = old_sum c g formed inv t.0 (E.epoch - 1) t.1 (λ w. is_uncopied (kept_of c.workers) (decode (m.heap w.at))) (owing g.size g.copy) (owes t.0) in
         omega (arith, s, inv.room.needs t.0);
   }
 
@@ -149,7 +153,7 @@ module _ (c : Configuration) (g : Ghost) (inv : Invariant (era c) (memory c) (te
     crossing = λ p s f free.
         let o = over (64 * p) E.start (64 * p) (omega arith) (begun p s f) s f (omega arith) in
         let w = nobody (64 * p) o.0 o.1 o.3 o.4 free in
-        (item o.0 (g.size o.0), now_complete c g inv o.0 o.2 (omega (arith, o.3, f, inv.laid.order)) o.1 w, o.3, omega (arith, o.4), inv.crossing.crossing p o.0 s f o.1 o.3 o.4 w);
+        (item o.0 (g.size o.0), now_complete c g formed inv o.0 o.2 (omega (arith, o.3, f, inv.laid.order)) o.1 w, o.3, omega (arith, o.4), inv.crossing.crossing p o.0 s f o.1 o.3 o.4 w);
   }
     where
       begun : (p : ℕ) → E.start ≤ 64 * p → 64 * p < m.front → 0 < g.size E.start
@@ -168,6 +172,28 @@ module _ (c : Configuration) (g : Ghost) (inv : Invariant (era c) (memory c) (te
             inside = (l, rw (kept_there c.workers (g.writer b - 1), p.copies) (omega (arith, said, p.sized, r, st)));
           })))
           (cases_eq (g.writer b) 0)
+
+  -- ---- sizes
+
+  -- who flips has seen that the epoch is traced
+  no_request : m.traced ≤ E.epoch → m.gate.request ≡ false
+  no_request t =
+      let none = sum_below-none (team c).count (λ k. count_one (is_flipper (worker_of c k).post))
+      (λ k l. ⊎_elim
+      (λ (f : is_flipper (worker_of c k).post ≡ true). absurd (let y = ((knows k l).seen_traced ((knows k l).flips f)).1 in omega (arith, t, y)))
+      (λ (f : is_flipper (worker_of c k).post ≡ false). rw f refl)
+      (cases_Bool (is_flipper (worker_of c k).post))) in
+      ⊎_elim
+      (λ (r : m.gate.request ≡ true). absurd (let one : count_one m.gate.request ≡ 1 = rw r refl in omega (arith, one, inv.counted.request, none)))
+      (λ (r : m.gate.request ≡ false). r)
+      (cases_Bool m.gate.request)
+
+  sizes : SizesHold c
+  sizes = record {
+    least = λ space is. rw (table_in_use c.pages c.words) (formed.sizes space is).0;
+    most = λ space is. rw (table_in_use c.pages c.words) (formed.sizes space is).1;
+    below = λ n. inv.sizes.below (no_request (still_copying c g formed inv n).0);
+  }
 
   -- ---- claims
 
@@ -203,7 +229,7 @@ module _ (c : Configuration) (g : Ghost) (inv : Invariant (era c) (memory c) (te
 
   free : FreeHolds c
   free = record {
-    walked = λ w h. let i = now_sound c g inv w h in let l = inv.laid.lies w.at (omega (arith, i.sized)) in ⊎_elim (λ a. inl (omega (arith, a))) (λ a. inr a) (apart w i l);
+    walked = λ w h. let i = now_sound c g formed inv w h in let l = inv.laid.lies w.at (omega (arith, i.sized)) in ⊎_elim (λ a. inl (omega (arith, a))) (λ a. inr a) (apart w i l);
     above = λ k q l e n. (inv.stocks.stocked k l q e n).lies.0;
     apart = λ j k p q l n d e f a b. inv.stocks.apart j k l n d p q e f a b;
     zeros = λ k q x l e n a b u. let s = inv.stocks.stocked k l q e n in s.zeros x a (below q x s a b) u;
@@ -220,7 +246,7 @@ module _ (c : Configuration) (g : Ghost) (inv : Invariant (era c) (memory c) (te
           → (w.at + w.size ≤ m.front) ⊎ (m.low ≤ w.at)
       apart w i (inl p) = inl (omega (arith, p.1, i.sized))
       apart w i (inr (inl p)) = inr p.0
-      apart w i (inr (inr p)) = absurd (omega (arith, p, i.sized, i.inside, (lay c g inv).apart))
+      apart w i (inr (inr p)) = absurd (omega (arith, p, i.sized, i.inside, (lay c g formed inv).apart))
 
   pub holds : Holds c
-  holds = record { gate = gate; headers = headers; access = access; room = room; crossing = crossing; claims = claims; free = free }
+  holds = record { gate = gate; headers = headers; access = access; room = room; sizes = sizes; crossing = crossing; claims = claims; free = free }

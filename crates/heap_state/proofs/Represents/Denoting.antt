@@ -4,6 +4,7 @@ use Rattle.std.proofs.lemmas.Bool.{cases_lt}
 use Rattle.heap_words.specs.Decoded.{Decoded, NumberWord, PointerWord, HeaderWord, BusyWord, ForwardWord, Malformed, decode}
 use Rattle.plain_state.specs.declared.value.Identity.{Identity}
 use Rattle.space_map.specs.declared.page_word.PageWord.TheVariants.{Open}
+use Rattle.heap_state.specs.Memory.Table.{IsFormed}
 use Rattle.heap_state.specs.Configuration.{Configuration, era, memory, team}
 use Rattle.heap_state.specs.Meaning.Denotes.{named_in, denoted, denoted_in, denoted_by}
 use Rattle.heap_state.specs.Meaning.Dump.{dump_of}
@@ -17,7 +18,7 @@ use Rattle.heap_state.specs.Meaning.Values.{value_of, value_said}
 use Rattle.heap_state.proofs.Records.Holding.{First, OwnHeader, KeptBy, GoneTo, first, keeper, uncopied_here}
 use Rattle.heap_state.proofs.Walks.InHeap.{IsInReach, lay}
 
-module _ (c : Configuration) (g : Ghost) (inv : Invariant (era c) (memory c) (team c) g) where
+module _ (c : Configuration) (g : Ghost) (formed : IsFormed c.pages c.words) (inv : Invariant (era c) (memory c) (team c) g) where
   abbrev E : Era
   E = era c
 
@@ -54,7 +55,7 @@ module _ (c : Configuration) (g : Ghost) (inv : Invariant (era c) (memory c) (te
           let t = inv.copied.target a b st n in
           let sb : 0 < g.size b = omega (arith, t.4) in
           let wb : g.writer b ≡ 0 = omega (arith, t.7) in
-          let u = uncopied_here E m (team c) g inv (lay c g inv) b sb t.2 (omega (arith, t.3, inv.laid.order)) in
+          let u = uncopied_here E m (team c) g inv (lay c g formed inv) b sb t.2 (omega (arith, t.3, inv.laid.order)) in
           rw (e, inv.headed.own b sb wb u.0 u.1) (ap {B = Option Identity} Some t.5)
 
   -- a word that lands denotes the value that the proofs give it
@@ -75,16 +76,16 @@ module _ (c : Configuration) (g : Ghost) (inv : Invariant (era c) (memory c) (te
   -- where the epoch is traced, each page that mutators read is open
   pub all_open : m.traced ≡ E.epoch + 1 → (x : ℕ) → Here E g.size g.writer g.kind x → m.page (x / 64) ≡ Open E.epoch
   unfolding Here
-  all_open t x (inr b) = let e : x / 64 ≡ E.board / 64 = omega (arith, (lay c g inv).board) in rw e ((inv.tracing.quiet t).board)
+  all_open t x (inr b) = let e : x / 64 ≡ E.board / 64 = omega (arith, (lay c g formed inv).board) in rw e ((inv.tracing.quiet t).board)
   all_open t x (inl f) =
       let st : 0 < g.size f.a = f.field.stands in
       let l = inv.laid.lies f.a st in
       ⊎_elim
       (λ (b : x < m.front). ⊎_elim
       (λ (n : m.front < 64 * (x / 64) + 64). inv.tracing.last t (x / 64) (omega arith) n)
-      (λ (n : 64 * (x / 64) + 64 ≤ m.front). (inv.tracing.quiet t).full (x / 64) (omega (arith, f.at, f.inside, (lay c g inv).start)) n)
+      (λ (n : 64 * (x / 64) + 64 ≤ m.front). (inv.tracing.quiet t).full (x / 64) (omega (arith, f.at, f.inside, (lay c g formed inv).start)) n)
       (cases_lt m.front (64 * (x / 64) + 64)))
-      (λ (b : m.front ≤ x). inv.new.opened f.a x st (omega (arith, l, f.at, f.inside, f.field.last, b, (lay c g inv).apart, inv.laid.order)) f.inside.1 (omega (arith, f.at)) (omega (arith, f.at, f.field.last)))
+      (λ (b : m.front ≤ x). inv.new.opened f.a x st (omega (arith, l, f.at, f.inside, f.field.last, b, (lay c g formed inv).apart, inv.laid.order)) f.inside.1 (omega (arith, f.at)) (omega (arith, f.at, f.field.last)))
       (cases_lt x m.front)
 
   -- nothing that mutators read leads into the old space then
@@ -117,7 +118,7 @@ module _ (c : Configuration) (g : Ghost) (inv : Invariant (era c) (memory c) (te
   field_lands a i f (inl r) =
       let h : Here E g.size g.writer g.kind (a + i) = inl (record { a = a; i = i; field = f; inside = r; at = refl }) in
       (inv.landing.lands (a + i) h, λ t. none_leads t (a + i) h)
-  field_lands a i f (inr r) = ((λ b e. let o = inv.older.older a i b f r.1 r.2 e in (o.0, inv.older.written b o.1 o.2)), λ t. absurd (omega (arith, t, r.0)))
+  field_lands a i f (inr r) = ((λ b e. let o = inv.older.older a i b f r.1 r.2 e in (o.0, inv.older.written b o.0 o.1 o.2)), λ t. absurd (omega (arith, t, r.0)))
 
   pub board_lands : (x : ℕ) → x < 16 → Lands g.size g.writer (m.heap (E.board + x)) × (m.traced ≡ E.epoch + 1 → ¬ (Leads E (m.heap (E.board + x))))
   unfolding Here

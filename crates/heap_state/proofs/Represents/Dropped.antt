@@ -1,5 +1,6 @@
 -- The invariant without the records of the old space, once the epoch is traced: what workers know of it, and the whole.
 use Rattle.std.proofs.Common.{◌≡◌, ℕ, ◌+◌, ◌<◌, true, arith, Some, None}
+use Rattle.heap_state.specs.Memory.Table.{IsFormed}
 use Rattle.heap_state.specs.Configuration.{Configuration, era, memory, team}
 use Rattle.heap_state.specs.Memory.Era.{Era, Memory}
 use Rattle.heap_state.specs.Invariant.Ghost.{Ghost}
@@ -12,7 +13,7 @@ use Rattle.heap_state.proofs.Holds.Still.{nobody_scans, nobody_copies}
 use Rattle.heap_state.proofs.Represents.Dropping as drop
 use Rattle.heap_state.proofs.Represents.Dropping.{without_old}
 
-module _ (c : Configuration) (g : Ghost) (inv : Invariant (era c) (memory c) (team c) g) (traced : (memory c).traced ≡ (era c).epoch + 1) where
+module _ (c : Configuration) (g : Ghost) (formed : IsFormed c.pages c.words) (inv : Invariant (era c) (memory c) (team c) g) (traced : (memory c).traced ≡ (era c).epoch + 1) where
   abbrev E : Era
   E = era c
 
@@ -43,12 +44,12 @@ module _ (c : Configuration) (g : Ghost) (inv : Invariant (era c) (memory c) (te
     registers : is_mutator w.post ≡ true → w.account.end ≡ None → Clean E h.size h.writer (is_late E.epoch w) w.done w.registers
     registers mutator unended = let r = knew.registers mutator unended in record {
       clean = r.clean;
-      lands = λ j s. drop.lands_on c g inv traced (w.registers j) (r.lands j s) (r.clean j s (λ e. absurd (not_late e)));
+      lands = λ j s. drop.lands_on c g formed inv traced (w.registers j) (r.lands j s) (r.clean j s (λ e. absurd (not_late e)));
       old = r.old;
     }
 
     access : (f : Access) → w.access ≡ Some f → Accesses E h.size h.writer h.kind f
-    access f e = let a = knew.access f e in let z = drop.still c g inv traced f.at a.inside.0 a.inside.1 in let s = a.stands in record {
+    access f e = let a = knew.access f e in let z = drop.still c g formed inv traced f.at a.inside.0 a.inside.1 in let s = a.stands in record {
       stands = omega (arith, z, s);
       written = a.written;
       inside = a.inside;
@@ -61,7 +62,7 @@ module _ (c : Configuration) (g : Ghost) (inv : Invariant (era c) (memory c) (te
     claim q e = let a = knew.pages.claim q e in record {
       earlier = a.earlier;
       full = a.full;
-      clear = λ n i b j st. a.clear n i b j (drop.was c g inv traced b st).0;
+      clear = λ n i b j st. a.clear n i b j (drop.was c g formed inv traced b st).0;
       last = a.last;
       late = a.late;
       in_place = a.in_place;
@@ -81,29 +82,30 @@ module _ (c : Configuration) (g : Ghost) (inv : Invariant (era c) (memory c) (te
   dropped = record {
     counted = inv.counted;
     staffed = inv.staffed;
-    laid = drop.laid c g inv traced;
-    headed = drop.headed c g inv traced;
-    copied = drop.copied c g inv traced;
-    once = drop.once c g inv traced;
-    kept = drop.keepers c g inv traced;
-    room = drop.room c g inv traced;
-    raw_words = drop.raw_words c g inv traced;
-    counts = drop.counts c g inv traced;
-    shut = drop.shut c g inv traced;
+    laid = drop.laid c g formed inv traced;
+    headed = drop.headed c g formed inv traced;
+    copied = drop.copied c g formed inv traced;
+    once = drop.once c g formed inv traced;
+    kept = drop.keepers c g formed inv traced;
+    room = drop.room c g formed inv traced;
+    raw_words = drop.raw_words c g formed inv traced;
+    counts = drop.counts c g formed inv traced;
+    shut = drop.shut c g formed inv traced;
     filling = inv.filling;
     tracing = inv.tracing;
     aged = inv.aged;
     scanned = inv.scanned;
-    opened = drop.opened c g inv traced;
-    landing = drop.landing c g inv traced;
-    older = drop.older c g inv traced;
-    new = drop.new c g inv traced;
-    new_written = drop.new_written c g inv traced;
-    old_space = drop.old_space c g inv traced;
+    opened = drop.opened c g formed inv traced;
+    landing = drop.landing c g formed inv traced;
+    older = drop.older c g formed inv traced;
+    new = drop.new c g formed inv traced;
+    new_written = drop.new_written c g formed inv traced;
+    old_space = drop.old_space c g formed inv traced;
     old_area = inv.old_area;
     old_pages = inv.old_pages;
-    crossing = drop.crossing c g inv traced;
-    stocks = drop.stocks c g inv traced;
-    numbered = drop.numbered c g inv traced;
+    sizes = inv.sizes;
+    crossing = drop.crossing c g formed inv traced;
+    stocks = drop.stocks c g formed inv traced;
+    numbered = drop.numbered c g formed inv traced;
     workers = knows;
   }

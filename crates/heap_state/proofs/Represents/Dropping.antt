@@ -2,6 +2,7 @@
 use Rattle.std.proofs.Common.{◌≡◌, ◌≢◌, ℕ, ◌+◌, ◌%◌, ◌<◌, ◌≤◌, ◌&&◌, refl, arith, ⊎_elim, ◌⊎◌, inl, inr}
 use Rattle.std.specs.Prelude.{nat_le, nat_lt, if◌then◌else◌}
 use Rattle.std.proofs.lemmas.Bool.{cases_eq, cases_lt, lt-ltb, le-ltb, lt-leb, le-leb}
+use Rattle.heap_state.specs.Memory.Table.{IsFormed}
 use Rattle.heap_state.specs.Configuration.{Configuration, era, memory, team}
 use Rattle.heap_state.specs.Memory.Era.{Era, Memory, IsLaidOut}
 use Rattle.heap_state.specs.Invariant.Ghost.{Ghost, Here, Leads, Lands}
@@ -38,7 +39,7 @@ only_cases E size a = ⊎_elim
     (cases_lt a (E.start + E.span)))
     (cases_lt a E.start)
 
-module _ (c : Configuration) (g : Ghost) (inv : Invariant (era c) (memory c) (team c) g) (traced : (memory c).traced ≡ (era c).epoch + 1) where
+module _ (c : Configuration) (g : Ghost) (formed : IsFormed c.pages c.words) (inv : Invariant (era c) (memory c) (team c) g) (traced : (memory c).traced ≡ (era c).epoch + 1) where
   abbrev E : Era
   E = era c
 
@@ -49,7 +50,7 @@ module _ (c : Configuration) (g : Ghost) (inv : Invariant (era c) (memory c) (te
   h = without_old E g
 
   pub out : IsLaidOut E
-  out = lay c g inv
+  out = lay c g formed inv
 
   -- what stands still stood before, in the epoch's space
   pub was : (a : ℕ) → 0 < h.size a → (0 < g.size a) × (E.start ≤ a) × (a < E.start + E.span) × (h.size a ≡ g.size a)
@@ -193,12 +194,12 @@ module _ (c : Configuration) (g : Ghost) (inv : Invariant (era c) (memory c) (te
   opened = record { opened = λ x u o. inv.opened.opened x (here_was x u) o }
 
   pub landing : Landing E h.size h.writer h.kind m.heap
-  landing = record { lands = λ x u. let b = here_was x u in lands_on (m.heap x) (inv.landing.lands x b) (none_leads c g inv traced x b) }
+  landing = record { lands = λ x u. let b = here_was x u in lands_on (m.heap x) (inv.landing.lands x b) (none_leads c g formed inv traced x b) }
 
   pub older : Older E h.size h.writer h.kind m.heap
   older = record {
     older = λ a i b f l n e. absurd (let u = was a f.stands in let o = out.apart in omega (arith, u.1, u.2, l, n, o));
-    written = inv.older.written;
+    written = λ a st l n. absurd (let u = was a st in let o = out.apart in omega (arith, u.1, u.2, l, n, o));
   }
 
   -- ---- words claimed for new records

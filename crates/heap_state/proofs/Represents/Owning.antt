@@ -4,6 +4,7 @@ use Rattle.plain_state.specs.declared.kind.Kind.{Kind}
 use Rattle.heap_words.specs.Decoded.{HeaderWord, Malformed}
 use Rattle.plain_state.specs.declared.value.Identity.{Identity}
 use Rattle.plain_state.specs.Layout.{is_field}
+use Rattle.heap_state.specs.Memory.Table.{IsFormed}
 use Rattle.heap_state.specs.Configuration.{Configuration, era, memory, team}
 use Rattle.heap_state.specs.Meaning.Dump.{dump_of}
 use Rattle.heap_state.specs.Memory.Era.{Era, Memory}
@@ -22,7 +23,7 @@ identity_at mutator serial = record { mutator = mutator; serial = serial }
 same_identity : (mutator serial : ℕ) (i : Identity) → mutator ≡ i.mutator → serial ≡ i.serial → identity_at mutator serial ≡ i
 same_identity mutator serial i o s = λ x. record { mutator = o x; serial = s x }
 
-module _ (c : Configuration) (g : Ghost) (inv : Invariant (era c) (memory c) (team c) g) where
+module _ (c : Configuration) (g : Ghost) (formed : IsFormed c.pages c.words) (inv : Invariant (era c) (memory c) (team c) g) where
   abbrev E : Era
   E = era c
 
@@ -39,13 +40,13 @@ module _ (c : Configuration) (g : Ghost) (inv : Invariant (era c) (memory c) (te
 
   pub owns : (w : Walked) (kind : Kind) (len serial mutator : ℕ) → IsOwn (dump_of c) w kind len serial mutator → Owns w kind len serial mutator
   owns w kind len serial mutator is =
-      let known = in_heap_sound c g inv w is.walked in
-      by_headers known (headers c g inv w.at (omega (arith, known.sized)) known.written)
+      let known = in_heap_sound c g formed inv w is.walked in
+      by_headers known (headers c g formed inv w.at (omega (arith, known.sized)) known.written)
     where
-      by_headers : StandsWritten E m.traced g w → Headers c g inv w.at → Owns w kind len serial mutator
+      by_headers : StandsWritten E m.traced g w → Headers c g formed inv w.at → Owns w kind len serial mutator
       by_headers known (Forwarded b e y n f) = absurd (let q : Malformed ≡ HeaderWord is.head len serial mutator = sym e ∙ is.header in cc)
       by_headers known (Own e h) =
-          let q : header_of c g inv w.at ≡ HeaderWord is.head len serial mutator = sym e ∙ is.header in
+          let q : header_of c g formed inv w.at ≡ HeaderWord is.head len serial mutator = sym e ∙ is.header in
           let d : is.head ≡ header_kind (g.kind w.at) = cc in
           let k : kind ≡ g.kind w.at = is.said ∙ ap (λ y. said_kind y (m.heap (w.at + 1))) d ∙ said_there g.size g.writer g.kind m.heap inv.raw_words inv.counts w.at (omega (arith, known.sized)) known.written in
           let l : g.size w.at - 1 ≡ len = cc in
@@ -67,4 +68,4 @@ module _ (c : Configuration) (g : Ghost) (inv : Invariant (era c) (memory c) (te
   unfolding Here
   walked_here x f =
       let o = owns f.of f.kind f.len f.serial f.mutator f.own in
-      inl (record { a = f.of.at; i = f.i; field = field_of f.of f.kind f.len f.serial f.mutator f.i o f.field.inside.0 f.field.inside.1 f.field.field; inside = (now_sound c g inv f.of f.walked).inside; at = f.at })
+      inl (record { a = f.of.at; i = f.i; field = field_of f.of f.kind f.len f.serial f.mutator f.i o f.field.inside.0 f.field.inside.1 f.field.field; inside = (now_sound c g formed inv f.of f.walked).inside; at = f.at })

@@ -29,7 +29,7 @@ module _ (c : Configuration) (p q : Plain) (s : Stands c p) (represents : Repres
 
   while_copying : m.traced ≤ E.epoch → KeepsOn c q s.ghost
   while_copying t = record {
-    stands = record { size = s.size; formed = s.formed; ghost = s.ghost; invariant = s.invariant; shown = shown c s.ghost s.invariant reach q represents };
+    stands = record { size = s.size; formed = s.formed; ghost = s.ghost; invariant = s.invariant; shown = shown c s.ghost s.formed s.invariant reach q represents };
     cycle = λ o y. y;
   }
     where
@@ -40,15 +40,15 @@ module _ (c : Configuration) (p q : Plain) (s : Stands c p) (represents : Repres
           (s.invariant.laid.lies a st)
 
   once_traced : m.traced ≡ E.epoch + 1 → KeepsOn c q s.ghost
-  once_traced t = let inv = dropped c s.ghost s.invariant t in record {
+  once_traced t = let inv = dropped c s.ghost s.formed s.invariant t in record {
     stands = record {
       size = s.size;
       formed = s.formed;
       ghost = without_old E s.ghost;
       invariant = inv;
-      shown = shown c (without_old E s.ghost) inv (λ a st. let u = was c s.ghost s.invariant t a st in inl (u.1, u.2)) q represents;
+      shown = shown c (without_old E s.ghost) s.formed inv (λ a st. let u = was c s.ghost s.formed s.invariant t a st in inl (u.1, u.2)) q represents;
     };
-    cycle = dropped_cycle c s.ghost s.invariant t;
+    cycle = dropped_cycle c s.ghost s.formed s.invariant t;
   }
 
   keeps_on : KeepsOn c q s.ghost

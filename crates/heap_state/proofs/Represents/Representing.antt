@@ -7,6 +7,7 @@ use Rattle.std.proofs.lemmas.Option.{slice_get_within}
 use Rattle.plain_state.specs.declared.kind.Kind.{Kind}
 use Rattle.plain_state.specs.State as plain
 use Rattle.plain_state.specs.Layout.{word_of_value}
+use Rattle.heap_state.specs.Memory.Table.{IsFormed}
 use Rattle.heap_state.specs.Configuration.{Configuration, table, era, memory, team}
 use Rattle.heap_state.specs.Meaning.Denotes.{denoted}
 use Rattle.heap_state.specs.Memory.Era.{Era, Memory}
@@ -24,7 +25,7 @@ use Rattle.heap_state.proofs.Represents.Owning.{Owns, owns, field_of}
 use Rattle.heap_state.proofs.Records.Headers.{said_there}
 use Rattle.heap_state.proofs.Records.Layouts.{value_within}
 
-module _ (c : Configuration) (g : Ghost) (inv : Invariant (era c) (memory c) (team c) g) (p : plain.Plain) (shown : Shown (era c) (memory c) (team c) g p) where
+module _ (c : Configuration) (g : Ghost) (formed : IsFormed c.pages c.words) (inv : Invariant (era c) (memory c) (team c) g) (p : plain.Plain) (shown : Shown (era c) (memory c) (team c) g p) where
   abbrev E : Era
   E = era c
 
@@ -54,11 +55,11 @@ module _ (c : Configuration) (g : Ghost) (inv : Invariant (era c) (memory c) (te
   records_show : (w : Walked) (kind : Kind) (len serial mutator : ℕ) → IsOwn (dump_of c) w kind len serial mutator
       → (w.size ≡ len + 1) × ((r : plain.Record) × (plain.record_of p.heap (record { mutator = mutator; serial = serial }) ≡ Some r) × Shows (denoted c) (table c).heap w.at kind w.size r)
   records_show w kind len serial mutator is =
-      let o = owns c g inv w kind len serial mutator is in
+      let o = owns c g formed inv w kind len serial mutator is in
       let s = shown.objects.shows w.at (omega (arith, o.known.sized)) o.known.written o.own in
       (sym o.long, (s.0, ap (plain.record_of p.heap) o.named ∙ s.1, shows o s.0 s.2))
     where
-      shows : Owns c g inv w kind len serial mutator → (r : plain.Record) → Shows (value_of g.identity) m.heap w.at (g.kind w.at) (g.size w.at) r → Shows (denoted c) m.heap w.at kind w.size r
+      shows : Owns c g formed inv w kind len serial mutator → (r : plain.Record) → Shows (value_of g.identity) m.heap w.at (g.kind w.at) (g.size w.at) r → Shows (denoted c) m.heap w.at kind w.size r
       shows o r shown =
           let s : Shows (value_of g.identity) m.heap w.at kind (g.size w.at) r = subst (λ k. Shows (value_of g.identity) m.heap w.at k (g.size w.at) r) (sym o.of_kind) shown in
           record {
@@ -66,8 +67,8 @@ module _ (c : Configuration) (g : Ghost) (inv : Invariant (era c) (memory c) (te
             size = s.size ∙ o.known.sized.1;
             fields = λ x l f.
                 let v = value_within r s x l in
-                let q = field_of c g inv w kind len serial mutator (word_of_value kind x) o v.0 (omega (arith, v.1, o.known.sized)) f in
-                denotes c g inv (m.heap (w.at + word_of_value kind x)) (field_lands c g inv w.at (word_of_value kind x) q o.known.inside).0 ∙ s.fields x l f;
+                let q = field_of c g formed inv w kind len serial mutator (word_of_value kind x) o v.0 (omega (arith, v.1, o.known.sized)) f in
+                denotes c g formed inv (m.heap (w.at + word_of_value kind x)) (field_lands c g formed inv w.at (word_of_value kind x) q o.known.inside).0 ∙ s.fields x l f;
             numbers = s.numbers;
             count = s.count;
           }
@@ -75,25 +76,25 @@ module _ (c : Configuration) (g : Ghost) (inv : Invariant (era c) (memory c) (te
   -- in the epoch's space each record has its own header
   each_owns : (w : Walked) → Contains (walk_of c) w → HasOwn (dump_of c) w
   each_owns w h =
-      let i = now_sound c g inv w h in
+      let i = now_sound c g formed inv w h in
       let st : 0 < g.size w.at = omega (arith, i.sized) in
-      let u = uncopied_here E m (team c) g inv (lay c g inv) w.at st i.inside.0 i.inside.1 in
+      let u = uncopied_here E m (team c) g inv (lay c g formed inv) w.at st i.inside.0 i.inside.1 in
       record { kind = g.kind w.at; len = g.size w.at - 1; serial = (g.identity w.at).serial; mutator = (g.identity w.at).mutator; own = record { walked = inl h; head = header_kind (g.kind w.at); header = rw (inv.headed.own w.at st i.written u.0 u.1) refl; said = sym (said_there g.size g.writer g.kind m.heap inv.raw_words inv.counts w.at st i.written) } }
 
   -- ---- where words lead
 
   leads : (w : ℕ) → Lands g.size g.writer w × (m.traced ≡ E.epoch + 1 → ¬ (Leads E w)) → LeadsToRecord (dump_of c) w
-  leads w l a e = let r = reaches c g inv w a l.0 l.1 e in (g.size a, in_heap_complete c g inv a r.0 r.1 r.2)
+  leads w l a e = let r = reaches c g formed inv w a l.0 l.1 e in (g.size a, in_heap_complete c g formed inv a r.0 r.1 r.2)
 
   field_leads : (w : Walked) (kind : Kind) (len serial mutator i : ℕ) → IsOwn (dump_of c) w kind len serial mutator → IsFieldOf w kind i → LeadsToRecord (dump_of c) (m.heap (w.at + i))
   field_leads w kind len serial mutator i is f =
-      let o = owns c g inv w kind len serial mutator is in
-      leads (m.heap (w.at + i)) (field_lands c g inv w.at i (field_of c g inv w kind len serial mutator i o f.inside.0 f.inside.1 f.field) o.known.inside)
+      let o = owns c g formed inv w kind len serial mutator is in
+      leads (m.heap (w.at + i)) (field_lands c g formed inv w.at i (field_of c g formed inv w kind len serial mutator i o f.inside.0 f.inside.1 f.field) o.known.inside)
 
   once : (w v : Walked) (kind other : Kind) (len longer serial mutator : ℕ) → IsOwn (dump_of c) w kind len serial mutator → IsOwn (dump_of c) v other longer serial mutator → w.at ≡ v.at
   once w v kind other len longer serial mutator a b =
-      let x = owns c g inv w kind len serial mutator a in
-      let y = owns c g inv v other longer serial mutator b in
+      let x = owns c g formed inv w kind len serial mutator a in
+      let y = owns c g formed inv v other longer serial mutator b in
       let same : g.identity w.at ≡ g.identity v.at = sym x.named ∙ y.named in
       ⊎_elim (λ e. e)
       (λ o. ⊎_elim
@@ -109,14 +110,14 @@ module _ (c : Configuration) (g : Ghost) (inv : Invariant (era c) (memory c) (te
 
   register_shows : (k j : ℕ) → j < 8 → RegisterShows (dump_of c) p k j
   register_shows k j l = record {
-    shows = λ q e n. denotes c g inv (((team c).worker k).registers j) (registers_land k q e n j l).0 ∙ (shown.registers k q e).registers_show n j l;
+    shows = λ q e n. denotes c g formed inv (((team c).worker k).registers j) (registers_land k q e n j l).0 ∙ (shown.registers k q e).registers_show n j l;
     leads = λ q e n. leads (((team c).worker k).registers j) (registers_land k q e n j l);
   }
 
   board_word_shows : (x : ℕ) → x < 16 → BoardWordShows (dump_of c) p x
   board_word_shows x l = record {
-    shows = denotes c g inv (m.heap (E.board + x)) (board_lands c g inv x l).0 ∙ shown.board.board x l;
-    leads = leads (m.heap (E.board + x)) (board_lands c g inv x l);
+    shows = denotes c g formed inv (m.heap (E.board + x)) (board_lands c g formed inv x l).0 ∙ shown.board.board x l;
+    leads = leads (m.heap (E.board + x)) (board_lands c g formed inv x l);
   }
 
   pub represents : Represents c p
@@ -128,8 +129,8 @@ module _ (c : Configuration) (g : Ghost) (inv : Invariant (era c) (memory c) (te
       sixteen = shown.board.sixteen;
       registers = register_shows;
       board = board_word_shows;
-      readable = now_read c g inv;
-      old_readable = old_readable c g inv;
+      readable = now_read c g formed inv;
+      old_readable = old_readable c g formed inv;
       records = λ w h. record { owns = each_owns w; shows = λ kind len serial mutator is. let s = records_show w kind len serial mutator is in (omega (arith, s.0), s.1); leads = field_leads w; once = λ v kind other len longer serial mutator a b. let e = once w v kind other len longer serial mutator a b in omega arith };
     };
   }

@@ -5,6 +5,7 @@ use Rattle.std.proofs.lemmas.Bool.{lt-ltb}
 use Rattle.std.proofs.lemmas.Option.{slice_get_within}
 use Rattle.plain_state.specs.State as plain
 use Rattle.plain_state.specs.Layout.{word_of_value}
+use Rattle.heap_state.specs.Memory.Table.{IsFormed}
 use Rattle.heap_state.specs.Configuration.{Configuration, era, memory, team}
 use Rattle.heap_state.specs.Meaning.Denotes.{denoted}
 use Rattle.heap_state.specs.Meaning.Dump.{dump_of}
@@ -20,7 +21,7 @@ use Rattle.heap_state.proofs.Represents.Denoting.{Headers, Own, Forwarded, heade
 use Rattle.heap_state.proofs.Walks.InHeap.{IsInReach, in_heap_complete}
 use Rattle.heap_state.proofs.Walks.Walking.{item}
 
-module _ (c : Configuration) (g : Ghost) (inv : Invariant (era c) (memory c) (team c) g) (in_reach : (a : ℕ) → 0 < g.size a → IsInReach (era c) (memory c).traced a)
+module _ (c : Configuration) (g : Ghost) (formed : IsFormed c.pages c.words) (inv : Invariant (era c) (memory c) (team c) g) (in_reach : (a : ℕ) → 0 < g.size a → IsInReach (era c) (memory c).traced a)
     (q : plain.Plain) (represents : Represents c q) where
   abbrev E : Era
   E = era c
@@ -34,7 +35,7 @@ module _ (c : Configuration) (g : Ghost) (inv : Invariant (era c) (memory c) (te
   ShowsIt a = (r : plain.Record) × (plain.record_of q.heap (g.identity a) ≡ Some r) × Shows (value_of g.identity) m.heap a (g.kind a) (g.size a) r
 
   record_shows : (a : ℕ) → 0 < g.size a → g.writer a ≡ 0 → (g.copy a ≡ 0) ⊎ (0 < g.keeper a) → ShowsIt a
-  record_shows a st w own = by_headers (headers c g inv a st w)
+  record_shows a st w own = by_headers (headers c g formed inv a st w)
     where
       shows : (r : plain.Record) → Shows (denoted c) m.heap a (g.kind a) (g.size a) r → Shows (value_of g.identity) m.heap a (g.kind a) (g.size a) r
       shows r s = record {
@@ -43,15 +44,15 @@ module _ (c : Configuration) (g : Ghost) (inv : Invariant (era c) (memory c) (te
         fields = λ x l f.
             let v = value_within r s x l in
             let i : IsField g.size g.writer g.kind a (word_of_value (g.kind a) x) = record { stands = st; written = w; field = f; first = v.0; last = v.1 } in
-            sym (denotes c g inv (m.heap (a + word_of_value (g.kind a) x)) (field_lands c g inv a (word_of_value (g.kind a) x) i (in_reach a st)).0) ∙ s.fields x l f;
+            sym (denotes c g formed inv (m.heap (a + word_of_value (g.kind a) x)) (field_lands c g formed inv a (word_of_value (g.kind a) x) i (in_reach a st)).0) ∙ s.fields x l f;
         numbers = s.numbers;
         count = s.count;
       }
 
-      by_headers : Headers c g inv a → ShowsIt a
+      by_headers : Headers c g formed inv a → ShowsIt a
       by_headers (Forwarded b e n y f) = absurd (omega (arith, n, y, own))
       by_headers (Own e n) =
-          let i = in_heap_complete c g inv a st w (in_reach a st) in
+          let i = in_heap_complete c g formed inv a st w (in_reach a st) in
           let is : IsOwn (dump_of c) (item a (g.size a)) (g.kind a) (g.size a - 1) (g.identity a).serial (g.identity a).mutator =
           record { walked = i; head = header_kind (g.kind a); header = e; said = sym (said_there g.size g.writer g.kind m.heap inv.raw_words inv.counts a st w) } in
           let s = ((represents.dump.records (item a (g.size a)) i).shows (g.kind a) (g.size a - 1) (g.identity a).serial (g.identity a).mutator is).1 in
@@ -62,7 +63,7 @@ module _ (c : Configuration) (g : Ghost) (inv : Invariant (era c) (memory c) (te
   registers : (k : ℕ) (p : plain.Mutator) → slice_get q.mutators k ≡ Some p → RegistersShow (value_of g.identity) ((team c).worker k).registers p
   registers k p e = record {
     eight = represents.dump.eight k p e;
-    registers_show = λ n j l. sym (denotes c g inv (((team c).worker k).registers j) (lands n j l)) ∙ (represents.dump.registers k j l).shows p e n;
+    registers_show = λ n j l. sym (denotes c g formed inv (((team c).worker k).registers j) (lands n j l)) ∙ (represents.dump.registers k j l).shows p e n;
   }
     where
       lands : p.end ≡ None → (j : ℕ) → j < 8 → Lands g.size g.writer (((team c).worker k).registers j)
@@ -77,7 +78,7 @@ module _ (c : Configuration) (g : Ghost) (inv : Invariant (era c) (memory c) (te
   board : BoardShows E (value_of g.identity) m.heap q.heap
   board = record {
     sixteen = represents.dump.sixteen;
-    board = λ x l. sym (denotes c g inv (m.heap (E.board + x)) (board_lands c g inv x l).0) ∙ (represents.dump.board x l).shows;
+    board = λ x l. sym (denotes c g formed inv (m.heap (E.board + x)) (board_lands c g formed inv x l).0) ∙ (represents.dump.board x l).shows;
   }
 
   pub shown : Shown E m (team c) g q

@@ -1,15 +1,15 @@
 -- A store in a row of the table changes one part of what the table says. A family of rows whose words have a format gives it here.
-use Rattle.std.proofs.Common.{◌≡◌, ℕ, ◌==◌, true, false, cond, refl, sym, ap, subst, ◌∙◌, arith, ⊎_elim}
+use Rattle.std.proofs.Common.{◌≡◌, ℕ, ◌≤◌, ◌==◌, true, false, cond, List, length, set, refl, sym, ap, subst, ◌∙◌, arith, ⊎_elim}
 use Rattle.std.proofs.Math.Path.{fun_ext}
 use Rattle.std.proofs.lemmas.Bool.{cases_Bool}
 use Rattle.space_map.specs.AreaWord.{area_in, encode_area}
 use Rattle.space_map.specs.PageWord.{encode_page}
-use Rattle.space_map.specs.Table.{Row, Area, Page, IsRow}
+use Rattle.space_map.specs.Table.{Row, Area, Size, Page, IsRow, place_of, table_length}
 use Rattle.space_map.proofs.AreaWords.{area_in-encode_area, encode_area-lt}
 use Rattle.space_map.proofs.GateWords.{gate_in-encode_gate, encode_gate-lt}
 use Rattle.space_map.proofs.PageWords.{decode_page-encode_page}
 use Rattle.space_map.proofs.Rows.{row_eq, row_eq-decides}
-use Rattle.heap_state.specs.Memory.Entries.{Entry, GateIs, AreaIs, PageIs, EntryFits, row_of, word_of, with_entry}
+use Rattle.heap_state.specs.Memory.Entries.{Entry, GateIs, TracedIs, AreaIs, SizeIs, PageIs, CrossIs, WordIs, AnnounceIs, EntryFits, row_of, word_of, with_entry}
 use Rattle.heap_state.specs.Functions.{put}
 use Rattle.heap_state.specs.Memory.Table.{HasForm, page_word_in, table_by, table_of, word_in}
 use Rattle.heap_state.specs.Theorems.Rows.{StoresEntry}
@@ -21,6 +21,7 @@ use Rattle.heap_state.proofs.Table.Places.{length-after, put_row, word_in-set}
 pub entry_has_row : (n : ℕ) (e : Entry) → EntryFits n e → IsRow n (row_of e)
 entry_has_row n (GateIs gate) fits = tt
 entry_has_row n (AreaIs space area) fits = fits.0
+entry_has_row n (SizeIs space pages) fits = fits.0
 entry_has_row n (PageIs page word) fits = fits.0
 entry_has_row n _ fits = fits
 
@@ -62,16 +63,56 @@ forms_stay words row word form other stood = ⊎_elim
     (λ (test : row_eq other row ≡ false). rw test stood)
     (cases_Bool (row_eq other row))
 
+-- so many pages a space may have in use
+abbrev pub IsSize : ℕ → ℕ → Type 0
+IsSize n pages = (4 ≤ pages) × (pages ≤ n)
+
+-- the words of the sizes stay such numbers
+sizes_stay : (n : ℕ) (words : Row → ℕ) (e : Entry) → EntryFits n e → (space : ℕ) → IsSize n (words (Size space))
+    → IsSize n (put_row words (row_of e) (word_of e) (Size space))
+sizes_stay n words (SizeIs other pages) fits space stood = ⊎_elim
+    (λ (test : (space == other) ≡ true). rw test (fits.1, fits.2))
+    (λ (test : (space == other) ≡ false). rw test stood)
+    (cases_Bool (space == other))
+sizes_stay n words (GateIs gate) fits space stood = stood
+sizes_stay n words (AreaIs other area) fits space stood = stood
+sizes_stay n words (PageIs page word) fits space stood = stood
+sizes_stay n words (TracedIs word) fits space stood = stood
+sizes_stay n words (CrossIs page place) fits space stood = stood
+sizes_stay n words (WordIs addr word) fits space stood = stood
+sizes_stay n words (AnnounceIs worker place) fits space stood = stood
+
+-- the words hold a whole table, and each has the form of its row
+pub record HasForms (n : ℕ) (words : List ℕ) : Type 0 where
+  pub whole : table_length n ≤ length words
+  pub rows : (row : Row) → IsRow n row → HasForm row (word_in n words row)
+
+module _ (n : ℕ) (words : List ℕ) (e : Entry) (forms : HasForms n words) (fits : EntryFits n e) where
+  abbrev after : List ℕ
+  after = set words (place_of n (row_of e)) (word_of e)
+
+  pub word_in-after : word_in n after ≡ put_row (word_in n words) (row_of e) (word_of e)
+  word_in-after = word_in-set n words (row_of e) (word_of e) (entry_has_row n e fits) forms.whole
+
+  pub forms_after : HasForms n after
+  forms_after = record {
+    whole = omega (arith, length-after n words (row_of e) (word_of e) (entry_has_row n e fits), forms.whole);
+    rows = λ row has. subst (λ (f : Row → ℕ). HasForm row (f row)) (sym word_in-after)
+        (forms_stay (word_in n words) (row_of e) (word_of e) (has_form n e fits) row (forms.rows row has));
+  }
+
+  pub says_after : table_of n after ≡ with_entry e (table_of n words)
+  unfolding table_of
+  says_after = ap (table_by n) word_in-after ∙ one_part n (word_in n words) e fits
+
+  pub size_stays : (space : ℕ) → IsSize n (word_in n words (Size space)) → IsSize n (word_in n after (Size space))
+  size_stays space stood = subst (λ (f : Row → ℕ). IsSize n (f (Size space))) (sym word_in-after) (sizes_stay n (word_in n words) e fits space stood)
+
 pub stores_entry : StoresEntry
-unfolding table_of
 stores_entry n words e formed fits =
-    let is = entry_has_row n e fits in
-    let stored = word_in-set n words (row_of e) (word_of e) is formed.whole in
+    let forms : HasForms n words = record { whole = formed.whole; rows = formed.rows } in
+    let later = forms_after n words e forms fits in
     record {
-      formed = record {
-        whole = omega (arith, length-after n words (row_of e) (word_of e) is, formed.whole);
-        rows = λ row has. subst (λ (f : Row → ℕ). HasForm row (f row)) (sym stored)
-            (forms_stay (word_in n words) (row_of e) (word_of e) (has_form n e fits) row (formed.rows row has));
-      };
-      says = ap (table_by n) stored ∙ one_part n (word_in n words) e fits;
+      formed = record { whole = later.whole; rows = later.rows; sizes = λ space is. size_stays n words e forms fits space (formed.sizes space is) };
+      says = says_after n words e forms fits;
     }

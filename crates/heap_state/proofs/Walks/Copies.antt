@@ -4,6 +4,7 @@ use Rattle.std.specs.List.{Contains}
 use Rattle.std.proofs.lemmas.Bool.{cases_lt}
 use Rattle.std.proofs.lemmas.List.Elements.{All-contains}
 use Rattle.space_map.specs.declared.page_word.PageWord.{PageWord}
+use Rattle.heap_state.specs.Memory.Table.{IsFormed}
 use Rattle.heap_state.specs.Configuration.{Configuration, era, memory, team}
 use Rattle.heap_state.specs.Cycles.Copies.{copied_of, words_copied}
 use Rattle.heap_state.specs.Invariant.Ghost.{Ghost}
@@ -125,7 +126,7 @@ module _ (start front low end epoch : ℕ) (size writer heap reserved : ℕ → 
 
 -- ---- of a configuration, where nobody writes
 
-module _ (c : Configuration) (g : Ghost) (inv : Invariant (era c) (memory c) (team c) g) (quiet : (a : ℕ) → 0 < g.size a → g.writer a ≡ 0) where
+module _ (c : Configuration) (g : Ghost) (formed : IsFormed c.pages c.words) (inv : Invariant (era c) (memory c) (team c) g) (quiet : (a : ℕ) → 0 < g.size a → g.writer a ≡ 0) where
   abbrev start : ℕ
   start = (era c).start
 
@@ -137,16 +138,16 @@ module _ (c : Configuration) (g : Ghost) (inv : Invariant (era c) (memory c) (te
 
   pub copied_total : start + words_copied c ≡ front
   copied_total =
-      all_total start front (memory c).low (start + (era c).span) (era c).epoch g.size g.writer (memory c).heap (reserved_in (kept_of c.workers)) (memory c).page (told_now c g inv) tells_all quiet
+      all_total start front (memory c).low (start + (era c).span) (era c).epoch g.size g.writer (memory c).heap (reserved_in (kept_of c.workers)) (memory c).page (told_now c g formed inv) tells_all quiet
 
   pub copied_once : (a b : ℕ) (v w : Walked) → slice_get (copied_of c) a ≡ Some v → slice_get (copied_of c) b ≡ Some w → v.at ≡ w.at → a ≡ b
   copied_once =
-      all_once start front (memory c).low (start + (era c).span) (era c).epoch g.size g.writer (memory c).heap (reserved_in (kept_of c.workers)) (memory c).page (told_now c g inv) tells_all quiet
+      all_once start front (memory c).low (start + (era c).span) (era c).epoch g.size g.writer (memory c).heap (reserved_in (kept_of c.workers)) (memory c).page (told_now c g formed inv) tells_all quiet
 
   pub copied_sound : (w : Walked) → Contains (copied_of c) w → IsItem start front g.size g.writer w
   copied_sound =
-      all_sound start front (memory c).low (start + (era c).span) (era c).epoch g.size g.writer (memory c).heap (reserved_in (kept_of c.workers)) (memory c).page (told_now c g inv) tells_all quiet
+      all_sound start front (memory c).low (start + (era c).span) (era c).epoch g.size g.writer (memory c).heap (reserved_in (kept_of c.workers)) (memory c).page (told_now c g formed inv) tells_all quiet
 
   pub copied_complete : (a : ℕ) → start ≤ a → a < front → 0 < g.size a → Contains (copied_of c) (item a (g.size a))
   copied_complete =
-      all_complete start front (memory c).low (start + (era c).span) (era c).epoch g.size g.writer (memory c).heap (reserved_in (kept_of c.workers)) (memory c).page (told_now c g inv) tells_all quiet
+      all_complete start front (memory c).low (start + (era c).span) (era c).epoch g.size g.writer (memory c).heap (reserved_in (kept_of c.workers)) (memory c).page (told_now c g formed inv) tells_all quiet

@@ -1,6 +1,7 @@
 -- What the walks of a configuration meet is what its proofs know to stand there.
 use Rattle.std.proofs.Common.{◌≡◌, ◌≢◌, ℕ, ◌+◌, ◌-◌, ◌<◌, ◌≤◌, refl, ap, arith, ⊎_elim, ◌⊎◌, inl, inr, Bool, true}
 use Rattle.std.specs.List.{Contains}
+use Rattle.heap_state.specs.Memory.Table.{IsFormed}
 use Rattle.heap_state.specs.Configuration.{Configuration, table, era, memory, team}
 use Rattle.heap_state.specs.Memory.Era.{Era, Memory, IsLaidOut}
 use Rattle.heap_state.specs.Functions.{sum_below}
@@ -33,7 +34,7 @@ pub record StandsWritten (E : Era) (traced : ℕ) (g : Ghost) (w : Walked) : Typ
   pub written : g.writer w.at ≡ 0
   pub inside : IsInReach E traced w.at
 
-module _ (c : Configuration) (g : Ghost) (inv : Invariant (era c) (memory c) (team c) g) where
+module _ (c : Configuration) (g : Ghost) (formed : IsFormed c.pages c.words) (inv : Invariant (era c) (memory c) (team c) g) where
   abbrev E : Era
   E = era c
 
@@ -41,7 +42,7 @@ module _ (c : Configuration) (g : Ghost) (inv : Invariant (era c) (memory c) (te
   m = memory c
 
   pub lay : IsLaidOut E
-  lay = laid_out c.pages c.words
+  lay = laid_out c.pages c.words formed
 
   says_here : (a : ℕ) → 0 < g.size a → g.writer a ≡ 0 → met_word (decode (m.heap a)) ≡ Record (g.size a)
   says_here = says E m (team c) g inv
@@ -80,7 +81,7 @@ module _ (c : Configuration) (g : Ghost) (inv : Invariant (era c) (memory c) (te
       space = old_space;
       end_aligned = omega (arith, lay.old_start, lay.old_span);
       apart = inv.laid.apart;
-      new_written = λ a st f l. inv.older.written a (omega (arith, old_space.order)) l;
+      new_written = λ a st f l. inv.older.written a st (omega (arith, old_space.order)) l;
       says = λ a st f l w. says_here a st w;
     }
 

@@ -1,6 +1,6 @@
 -- Three configurations that break a rule are told from the one that keeps them all.
-use Rattle.std.proofs.Common.{◌≡◌, ◌+◌, ◌/◌, ◌≤◌, [], ◌∷◌, Some, None, refl, sym, ◌∙◌, arith, inl, inr, subst}
-use Rattle.std.specs.Prelude.{List, length, slice_get}
+use Rattle.std.proofs.Common.{suc, ◌≡◌, ◌+◌, ◌/◌, ◌≤◌, [], ◌∷◌, Some, None, refl, sym, ◌∙◌, arith, inl, inr, subst}
+use Rattle.std.specs.Prelude.{ℕ, List, length, slice_get}
 use Rattle.std.specs.List.{Contains}
 use Rattle.plain_state.specs.declared.kind.Kind.TheVariants.{Fields}
 use Rattle.heap_words.specs.Decoded.{decode}
@@ -10,7 +10,7 @@ use Rattle.space_map.specs.declared.page_word.PageWord.TheVariants.{Open}
 use Rattle.heap_state.specs.Configuration.{table, era, memory}
 use Rattle.heap_state.specs.Meaning.Denotes.{denoted, denoted_in}
 use Rattle.heap_state.specs.Meaning.Dump.{dump_of}
-use Rattle.heap_state.specs.Memory.Entries.{PageIs, AreaIs, WordIs}
+use Rattle.heap_state.specs.Memory.Entries.{Entry, HasSizes, SizeIs, PageIs, AreaIs, WordIs}
 use Rattle.heap_state.specs.Memory.Era.{memory_of}
 use Rattle.heap_state.specs.Functions.{put}
 use Rattle.heap_state.specs.Invariant.Ghost.{Leads, header_kind}
@@ -25,13 +25,20 @@ use Rattle.plain_state.specs.declared.value.Value.TheVariants.{Reference}
 use Rattle.plain_state.specs.State as plain
 use Rattle.heap_state.proofs.Puts.{none≢some}
 use Rattle.heap_state.specs.Examples.Worked.{worked_entries, forwarded_wrong, opened_early, short_of_room, made}
-use Rattle.heap_state.proofs.Worked.Standing.{entries_fit}
+use Rattle.heap_state.proofs.Worked.Standing.{entries_fit, has_sizes}
 use Rattle.heap_state.proofs.Table.Writing.{writes_tables}
+
+-- the sizes are also among these entries with one more before them
+further : {e : Entry} {space : ℕ} → (pages : ℕ) × Contains worked_entries (SizeIs space pages) → (pages : ℕ) × Contains (e ∷ worked_entries) (SizeIs space pages)
+further (pages, (k, below, same)) = (pages, (suc k, omega (arith, below), same))
+
+further_sizes : {e : Entry} → HasSizes worked_entries → HasSizes (e ∷ worked_entries)
+further_sizes sizes = record { first = further sizes.first; second = further sizes.second }
 
 -- ---- a reserve that is a word too small
 
 area_60 : Written 4 (AreaIs 1 (record { front = 5; low = 64; owed = 60 }) ∷ worked_entries)
-area_60 = writes_tables 4 (AreaIs 1 (record { front = 5; low = 64; owed = 60 }) ∷ worked_entries) ((omega arith, record { front_fits = omega arith; low_fits = omega arith; owed_fits = omega arith }), entries_fit)
+area_60 = writes_tables 4 (AreaIs 1 (record { front = 5; low = 64; owed = 60 }) ∷ worked_entries) ((omega arith, record { front_fits = omega arith; low_fits = omega arith; owed_fits = omega arith }), entries_fit) (further_sizes has_sizes)
 
 pub short : ¬ (RoomHolds short_of_room)
 unfolding put
@@ -43,7 +50,7 @@ short room =
 -- ---- an open page with a field that leads to an old record
 
 page_open : Written 4 (PageIs 4 (Open 1) ∷ worked_entries)
-page_open = writes_tables 4 (PageIs 4 (Open 1) ∷ worked_entries) ((omega arith, omega arith), entries_fit)
+page_open = writes_tables 4 (PageIs 4 (Open 1) ∷ worked_entries) ((omega arith, omega arith), entries_fit) (further_sizes has_sizes)
 
 the_copy : Contains (walk_of opened_early) (record { at = 256; size = 3 })
 unfolding put walk decode tag_of header_word
@@ -75,7 +82,7 @@ early access = access.opened 258 (inl the_field) is_open leads_back
 -- ---- a forward to a word that is no record's
 
 forward_257 : Written 4 (WordIs 192 (forward_word 2 257) ∷ worked_entries)
-forward_257 = writes_tables 4 (WordIs 192 (forward_word 2 257) ∷ worked_entries) (omega arith, entries_fit)
+forward_257 = writes_tables 4 (WordIs 192 (forward_word 2 257) ∷ worked_entries) (omega arith, entries_fit) (further_sizes has_sizes)
 
 the_second : Contains (old_walk_of forwarded_wrong) (record { at = 195; size = 2 })
 unfolding put walk decode tag_of header_word forward_word busy_word

@@ -30,11 +30,11 @@ use Rattle.heap_state.proofs.Worked.Records.{heap, older, word_258}
 use Rattle.heap_state.proofs.Worked.Broken.{second}
 use Rattle.heap_state.proofs.Holds.Keeping.{holds}
 use Rattle.heap_state.proofs.Represents.Representing.{represents}
-use Rattle.heap_state.proofs.Worked.Standing.{entries_fit, stands, the_mutator, objects}
+use Rattle.heap_state.proofs.Worked.Standing.{entries_fit, has_sizes, stands, the_mutator, objects}
 use Rattle.heap_state.proofs.Table.Writing.{writes_tables}
 
 table_is : Written 4 worked_entries
-table_is = writes_tables 4 worked_entries entries_fit
+table_is = writes_tables 4 worked_entries entries_fit has_sizes
 
 copies : walk_of worked ≡ record { at = 256; size = 3 } ∷ []
 unfolding put walk decode tag_of header_word
@@ -188,7 +188,7 @@ first_copied i e = record { at = 256; stands = (omega arith, refl); below = (ome
 
 copying : Copying worked_era 261 size writer copy keeper (λ a. Fields) identity heap worked_plain
 copying = record {
-  old = λ a st l m o. objects.shows a st (older.written a l m) o;
+  old = λ a st l m o. objects.shows a st (older.written a st l m) o;
   sound = λ x i h l. still_reached (heap x) i l;
   reached = λ a st l m o. all_reached a;
   sizes = each_place (λ b. 256 ≤ b → b < 261
@@ -224,7 +224,7 @@ unfolding put
 cycle = record { copying = copying; rooted = rooted }
 
 sound : IsSound worked worked_plain
-sound = record { holds = holds worked stands.ghost stands.invariant; represents = represents worked stands.ghost stands.invariant worked_plain stands.shown }
+sound = record { holds = holds worked stands.ghost stands.formed stands.invariant; represents = represents worked stands.ghost stands.formed stands.invariant worked_plain stands.shown }
 
 pub worked_out : IsWorkedOut
 worked_out = record { stands = stands; sound = sound; copies = copies; old = old; uncopied_words = uncopied_words; number = number; copied = copied; forwarded = forwarded; in_copy = in_copy; not_there = not_there; live = live; cycle = rw table_is.says cycle }

@@ -203,7 +203,7 @@ landing = record { lands = here_lands }
 pub older : Older worked_era size writer (λ a. Fields) heap
 older = record {
   older = λ a i b f l m e. field a f.stands m i f.first f.last b e;
-  written = λ a l m. rw (ne_eqb a 259 (λ e. omega arith)) refl;
+  written = λ a st l m. rw (ne_eqb a 259 (λ e. omega arith)) refl;
 }
   where
     field : (a : ℕ) → 0 < size a → a < 256 → (i : ℕ) → 0 < i → i < size a → (b : ℕ) → decode (heap (a + i)) ≡ PointerWord b → (0 < size b) × (0 ≤ b) × (b < 256)

@@ -1,5 +1,5 @@
 -- The worked configuration stands, and shows its plain state.
-use Rattle.std.proofs.Common.{◌≡◌, ◌≢◌, ℕ, ◌+◌, ◌<◌, [], ◌∷◌, Some, None, zero, suc, refl, sym, ◌∙◌, arith, ⊎_elim, ◌⊎◌}
+use Rattle.std.proofs.Common.{◌≡◌, ◌≢◌, ℕ, ◌+◌, ◌<◌, [], ◌∷◌, Some, None, zero, suc, refl, sym, ◌∙◌, arith, ⊎_elim, ◌⊎◌, false}
 use Rattle.std.specs.Prelude.{slice_get}
 use Rattle.std.proofs.lemmas.Bool.{cases_eq, ne_eqb}
 use Rattle.plain_state.specs.declared.kind.Kind.TheVariants.{Fields}
@@ -8,10 +8,11 @@ use Rattle.plain_state.specs.declared.value.Identity.{Identity}
 use Rattle.plain_state.specs.declared.value.Value.TheVariants.{Number, Reference}
 use Rattle.plain_state.specs.State as plain
 use Rattle.heap_state.specs.Configuration.{team, Stands}
-use Rattle.heap_state.specs.Memory.Entries.{EachFits}
+use Rattle.heap_state.specs.Memory.Entries.{EachFits, HasSizes}
 use Rattle.heap_state.specs.Memory.Era.{era_of, memory_of}
 use Rattle.heap_state.specs.Functions.{put}
 use Rattle.heap_state.specs.Invariant.Inductive.{Invariant}
+use Rattle.heap_state.specs.Invariant.Parts.Pages.{Sizes}
 use Rattle.heap_state.specs.Invariant.Parts.Records.{RawWords, Counts}
 use Rattle.heap_state.specs.Meaning.Values.{value_of, Shows, ShowsAll, Accounts, RegistersShow, BoardShows, Shown}
 use Rattle.heap_state.specs.Examples.Worked.{worked, worked_entries, worked_plain, worked_mutator, made, zeros_after}
@@ -37,9 +38,12 @@ raw_words = record { raw = λ a i st w b l f. absurd (cc) }
 counts : Counts size writer (λ a. Fields) heap
 counts = record { counts = λ a count st w e. absurd (cc) }
 
+sizes : Sizes worked_era false
+sizes = record { below = λ e. omega arith }
+
 pub keeps : Invariant (era_of worked_table) (memory_of worked_table) (team worked) worked_ghost
 unfolding put
-keeps = assumption (counted, staffed, laid, headed, copied, once, kept_by, room, raw_words, counts, shut, filling, tracing, aged, scanned, opened, landing, older, new_area, new_written, old_space, old_area, old_pages, crossing, stocks, numbered, knows)
+keeps = assumption (counted, staffed, laid, headed, copied, once, kept_by, room, raw_words, counts, shut, filling, tracing, aged, scanned, opened, landing, older, new_area, new_written, old_space, old_area, old_pages, sizes, crossing, stocks, numbered, knows)
 
 -- ---- the plain state
 
@@ -156,11 +160,15 @@ shows = record {
 
 -- each entry fits its word
 pub entries_fit : EachFits 4 worked_entries
-entries_fit = (omega arith, (omega arith, (omega arith, (omega arith, (omega arith, (omega arith, (omega arith, (omega arith, (omega arith, (omega arith, (record { epoch_fits = omega arith; live_fits = omega arith; running_fits = omega arith; behind_fits = omega arith; left_fits = omega arith }, (tt, ((omega arith, record { front_fits = omega arith; low_fits = omega arith; owed_fits = omega arith }), ((omega arith, record { front_fits = omega arith; low_fits = omega arith; owed_fits = omega arith }), ((omega arith, omega arith), ((omega arith, (omega arith, omega arith)), ((omega arith, omega arith), ((omega arith, omega arith), ((omega arith, omega arith), ((omega arith, omega arith), (omega arith, (omega arith, tt))))))))))))))))))))))
+entries_fit = (omega arith, (omega arith, (omega arith, (omega arith, (omega arith, (omega arith, (omega arith, (omega arith, (omega arith, (omega arith, (record { epoch_fits = omega arith; live_fits = omega arith; running_fits = omega arith; behind_fits = omega arith; left_fits = omega arith }, (tt, ((omega arith, record { front_fits = omega arith; low_fits = omega arith; owed_fits = omega arith }), ((omega arith, record { front_fits = omega arith; low_fits = omega arith; owed_fits = omega arith }), ((omega arith, omega arith, omega arith), ((omega arith, omega arith, omega arith), ((omega arith, omega arith), ((omega arith, (omega arith, omega arith)), ((omega arith, omega arith), ((omega arith, omega arith), ((omega arith, omega arith), ((omega arith, omega arith), (omega arith, (omega arith, tt))))))))))))))))))))))))
+
+-- the sizes stand behind the words of records, the gate, TRACED and the areas
+pub has_sizes : HasSizes worked_entries
+has_sizes = record { first = (4, (14, omega arith, refl)); second = (4, (15, omega arith, refl)) }
 
 abbrev pub stands : Stands worked worked_plain
 stands =
-    let w = writes_tables 4 worked_entries entries_fit in
+    let w = writes_tables 4 worked_entries entries_fit has_sizes in
     record {
       size = (omega arith, omega arith);
       formed = w.formed;

@@ -155,8 +155,10 @@ scanner_knows = record {
   stepping = λ r e. let s : the_scan ≡ r = some_same e in rw (← s) stepping;
   pages = assumption (at_pages);
   seen_traced = λ e. true_false refl e;
+  size_seen = λ p e. none≢some e;
   flips = λ e. true_false refl e;
   passage = λ s e. none≢some e;
   resets = λ r e. none≢some e;
   reset = λ r e. none≢some e;
+  unsized = λ e. true_false refl e;
 }

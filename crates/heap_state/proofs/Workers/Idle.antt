@@ -45,7 +45,9 @@ idle_knows w flips timely ends outside stock registers counted kept = record {
   pages = nothing_at_pages w;
   seen_traced = λ e. true_false refl e;
   flips = λ e. true_false flips e;
+  size_seen = λ p e. none≢some e;
   passage = λ s e. none≢some e;
   resets = λ r e. none≢some e;
   reset = λ r e. none≢some e;
+  unsized = λ e. true_false flips e;
 }

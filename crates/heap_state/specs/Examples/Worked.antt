@@ -14,12 +14,12 @@ use Rattle.plain_state.specs.declared.value.Value.TheVariants.{Number, Reference
 use Rattle.plain_state.specs.State as plain
 use Rattle.space_map.specs.declared.page_word.PageWord.TheVariants.{Open, Scanning}
 use Rattle.heap_state.specs.Configuration.{Configuration}
-use Rattle.heap_state.specs.Memory.Entries.{Entry, GateIs, TracedIs, AreaIs, PageIs, CrossIs, WordIs, AnnounceIs, written}
+use Rattle.heap_state.specs.Memory.Entries.{Entry, GateIs, TracedIs, AreaIs, SizeIs, PageIs, CrossIs, WordIs, AnnounceIs, written}
 use Rattle.heap_state.specs.Worker.{Worker, fresh, Running, Scanner, Scanned}
 
 -- ---- the table
 
--- the gate, TRACED, areas, pages and crossings: mutator 0 runs and has claimed the pages 5 to 7; what is free is as much as is
+-- the gate, TRACED, areas, sizes, pages and crossings: mutator 0 runs and has claimed the pages 5 to 7; what is free is as much as is
 -- owed, to the word
 abbrev pub worked_shared : List Entry
 worked_shared =
@@ -27,6 +27,8 @@ worked_shared =
     ∷ TracedIs 1
     ∷ AreaIs 0 (record { front = 0; low = 192; owed = 0 })
     ∷ AreaIs 1 (record { front = 5; low = 64; owed = 59 })
+    ∷ SizeIs 0 4
+    ∷ SizeIs 1 4
     ∷ PageIs 3 (Open 0)
     ∷ PageIs 4 (Scanning 1 1)
     ∷ PageIs 5 (Open 1)

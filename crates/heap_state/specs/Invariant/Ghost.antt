@@ -11,8 +11,8 @@ use Rattle.heap_state.specs.Memory.Era.{Era}
 
 -- By place: the size of the record or of the place reserved for one that begins there, or 0 where none does; the worker
 -- that still writes it, and one more, or 0; the place of its copy, and one more, or 0; the worker that keeps its header,
--- and one more, or 0; its kind and its identity, as the plain machine has them. By worker: the place of the record whose header it keeps, and one more,
--- or 0. A place that is written and a record that has a copy both count as standing.
+-- and one more, or 0; its kind and its identity, as the plain machine has them. By worker: the place of the record whose header
+-- it keeps, and one more, or 0. A place that is written and a record that has a copy both count as standing.
 pub record Ghost : Type 0 where
   pub size : ℕ → ℕ
   pub writer : ℕ → ℕ

@@ -76,7 +76,7 @@ pub record HeadersHold (c : Configuration) : Type 0 where
       → (memory c).announced k ≡ copy.to + 1
 
 -- On an open page no field leads into the old space, and no register does but of a mutator that is behind. TRACED is at most
--- the epoch and one more. Where the epoch is traced nothing leads into the old space, and nobody is behind.
+-- the epoch and one more. If the epoch is traced nothing leads into the old space, and nobody is behind.
 pub record AccessHolds (c : Configuration) : Type 0 where
   pub opened : (x : ℕ) → IsWalkedField c x ⊎ OnBoard (era c) x → (memory c).page (page_of x) ≡ Open (era c).epoch → ¬ (Leads (era c) ((memory c).heap x))
   pub registers : (k j : ℕ) → k < (team c).count → is_mutator (worker_of c k).post ≡ true → (worker_of c k).account.end ≡ None
@@ -92,15 +92,22 @@ pub record RoomHolds (c : Configuration) : Type 0 where
   pub fits : IsCopying (table c) → (memory c).front + (memory c).owed ≤ (memory c).low
   pub enough : IsCopying (table c) → uncopied c (old_walk_of c) ≤ (memory c).owed
 
+-- Of each space as many pages are in use as the heap may have, or fewer, and no fewer than four. While the epoch is not traced, the old
+-- space is no larger than the epoch's.
+pub record SizesHold (c : Configuration) : Type 0 where
+  pub least : (space : ℕ) → space < 2 → 4 ≤ (table c).in_use space
+  pub most : (space : ℕ) → space < 2 → (table c).in_use space ≤ c.pages
+  pub below : IsCopying (table c) → (era c).old_span ≤ (era c).span
+
 -- a page whose first word is copied has the place of the record over that word as its crossing
 abbrev pub CrossingHolds : Configuration → Type 0
 CrossingHolds c = CrossingsHold (table c) (kept_of c.workers)
 
--- A page's word says that a worker scans it where that worker does. What it has passed leads to no old record. No page's word
--- is of a later epoch. Where the epoch is traced, as the first one always is, the board and all copied pages are open. Who is about to claim a page in this
--- epoch knows it as full, as the board, or as one that was the filling page. Who is of a past epoch and has read the gate
--- again, as it does before each exchange, finds a word of that epoch or a later one there. On a page that a worker scans no
--- other worker has a reserved place.
+-- A page's word says that a worker scans it exactly if that worker does. What it has passed leads to no old record. No page's
+-- word is of a later epoch. If the epoch is traced, as the first one always is, the board and all copied pages are open. Who is
+-- about to claim a page in this epoch knows it as full, as the board, or as one that was the filling page. Who is of a past epoch
+-- and has read the gate again, as it does before each exchange, finds a word of that epoch or a later one there. On a page that a
+-- worker scans no other worker has a reserved place.
 pub record ClaimsHold (c : Configuration) : Type 0 where
   pub scanned : (p k : ℕ) → (memory c).page p ≡ Scanning (era c).epoch k → (k < (team c).count) × ((s : Scan) × ((worker_of c k).scan ≡ Some s) × (s.page ≡ p))
   pub scans : (k : ℕ) (s : Scan) → k < (team c).count → (worker_of c k).scan ≡ Some s → (memory c).page s.page ≡ Scanning (era c).epoch k
@@ -137,6 +144,7 @@ pub record Holds (c : Configuration) : Type 0 where
   pub headers : HeadersHold c
   pub access : AccessHolds c
   pub room : RoomHolds c
+  pub sizes : SizesHold c
   pub crossing : CrossingHolds c
   pub claims : ClaimsHold c
   pub free : FreeHolds c

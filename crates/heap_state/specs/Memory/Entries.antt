@@ -1,5 +1,5 @@
 -- Rows of the table with what they say, and tables written from a list of these.
-use Rattle.std.specs.Prelude.{ℕ, ◌*◌, ◌<◌, ◌≤◌, ⊤, false, List, [], ◌∷◌, replicate, slice_set}
+use Rattle.std.specs.Prelude.{Contains, ℕ, ◌*◌, ◌<◌, ◌≤◌, ⊤, false, List, [], ◌∷◌, replicate, slice_set}
 use Rattle.space_map.specs.declared.area_word.AreaWord.{AreaWord}
 use Rattle.space_map.specs.declared.gate_word.GateWord.{GateWord}
 use Rattle.space_map.specs.declared.page_word.PageWord.{PageWord}
@@ -7,7 +7,7 @@ use Rattle.space_map.specs.declared.page_word.PageWord.TheVariants.{Unset}
 use Rattle.space_map.specs.AreaWord.{AreaFits, encode_area}
 use Rattle.space_map.specs.GateWord.{GateFits, encode_gate}
 use Rattle.space_map.specs.PageWord.{PageFits, encode_page}
-use Rattle.space_map.specs.Table.{Row, Gate, Traced, Area, Page, Cross, HeapWord, Announce, IsRow, place_of, table_length}
+use Rattle.space_map.specs.Table.{Row, Gate, Traced, Area, Size, Page, Cross, HeapWord, Announce, IsRow, place_of, table_length}
 use Rattle.heap_state.specs.Functions.{put}
 use Rattle.heap_state.specs.Memory.Table.{Table}
 
@@ -16,6 +16,7 @@ pub data Entry : Type 0 where
   GateIs : GateWord → Entry
   TracedIs : ℕ → Entry
   AreaIs : (space : ℕ) → AreaWord → Entry
+  SizeIs : (space pages : ℕ) → Entry
   PageIs : (page : ℕ) → PageWord → Entry
   CrossIs : (page place : ℕ) → Entry
   WordIs : (addr word : ℕ) → Entry
@@ -25,6 +26,7 @@ abbrev pub row_of : Entry → Row
 row_of (GateIs gate) = Gate
 row_of (TracedIs word) = Traced
 row_of (AreaIs space area) = Area space
+row_of (SizeIs space pages) = Size space
 row_of (PageIs page word) = Page page
 row_of (CrossIs page place) = Cross page
 row_of (WordIs addr word) = HeapWord addr
@@ -35,6 +37,7 @@ abbrev pub word_of : Entry → ℕ
 word_of (GateIs gate) = encode_gate gate
 word_of (TracedIs word) = word
 word_of (AreaIs space area) = encode_area area
+word_of (SizeIs space pages) = pages
 word_of (PageIs page word) = encode_page word
 word_of (CrossIs page place) = place
 word_of (WordIs addr word) = word
@@ -45,6 +48,7 @@ abbrev pub EntryFits : ℕ → Entry → Type 0
 EntryFits n (GateIs gate) = GateFits gate
 EntryFits n (TracedIs word) = ⊤
 EntryFits n (AreaIs space area) = (space < 2) × AreaFits area
+EntryFits n (SizeIs space pages) = (space < 2) × (4 ≤ pages) × (pages ≤ n)
 EntryFits n (PageIs page word) = (page ≤ 2 * n) × PageFits word
 EntryFits n (CrossIs page place) = IsRow n (Cross page)
 EntryFits n (WordIs addr word) = IsRow n (HeapWord addr)
@@ -55,6 +59,7 @@ abbrev pub with_entry : Entry → Table → Table
 with_entry (GateIs gate) t = record t { gate = gate }
 with_entry (TracedIs word) t = record t { traced = word }
 with_entry (AreaIs space area) t = record t { area = put t.area space area }
+with_entry (SizeIs space pages) t = record t { in_use = put t.in_use space pages }
 with_entry (PageIs page word) t = record t { page = put t.page page word }
 with_entry (CrossIs page place) t = record t { cross = put t.cross page place }
 with_entry (WordIs addr word) t = record t { heap = put t.heap addr word }
@@ -70,7 +75,7 @@ blank_words n = replicate (table_length n) 0
 abbrev pub blank_table : ℕ → Table
 blank_table n = record {
   pages = n;
-  in_use = λ space. n;
+  in_use = λ space. 0;
   gate = record { epoch = 0; live = 0; running = 0; behind = 0; request = false; left = 0 };
   traced = 0;
   area = λ space. record { front = 0; low = 0; owed = 0 };
@@ -94,3 +99,8 @@ table_with n (e ∷ entries) = with_entry e (table_with n entries)
 abbrev pub EachFits : ℕ → List Entry → Type 0
 EachFits n [] = ⊤
 EachFits n (e ∷ entries) = EntryFits n e × EachFits n entries
+
+-- the sizes of both spaces are among them
+pub record HasSizes (entries : List Entry) : Type 0 where
+  pub first : (pages : ℕ) × Contains entries (SizeIs 0 pages)
+  pub second : (pages : ℕ) × Contains entries (SizeIs 1 pages)

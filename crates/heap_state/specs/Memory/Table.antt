@@ -7,7 +7,7 @@ use Rattle.space_map.specs.declared.page_word.PageWord.TheVariants.{Unset}
 use Rattle.space_map.specs.AreaWord.{area_in}
 use Rattle.space_map.specs.GateWord.{gate_in}
 use Rattle.space_map.specs.PageWord.{decode_page}
-use Rattle.space_map.specs.Table.{Row, Gate, Traced, Area, Page, Cross, HeapWord, Announce, IsRow, place_of, table_length}
+use Rattle.space_map.specs.Table.{Row, Gate, Traced, Area, Size, Page, Cross, HeapWord, Announce, IsRow, place_of, table_length}
 pub use Rattle.space_map.specs.Table.{is_row}
 
 -- ---- one word
@@ -46,7 +46,7 @@ pub record Table : Type 0 where
 abbrev pub table_by : ℕ → (Row → ℕ) → Table
 table_by n word = record {
   pages = n;
-  in_use = λ space. n;
+  in_use = λ space. word (Size space);
   gate = gate_in (word Gate);
   traced = word Traced;
   area = λ space. area_in (word (Area space));
@@ -60,7 +60,9 @@ table_by n word = record {
 unfoldable pub table_of : ℕ → List ℕ → Table
 table_of n words = table_by n (word_in n words)
 
--- The words hold a whole table, and each can be read: it has the form of its row. Words behind the table are no part of it.
+-- The words hold a whole table, and each can be read: it has the form of its row. Of the pages that a space may have at least four
+-- are in use. Words behind the table are no part of it.
 pub record IsFormed (n : ℕ) (words : List ℕ) : Type 0 where
   pub whole : table_length n ≤ length words
   pub rows : (row : Row) → IsRow n row → HasForm row (word_in n words row)
+  pub sizes : (space : ℕ) → space < 2 → (4 ≤ word_in n words (Size space)) × (word_in n words (Size space) ≤ n)

@@ -3,12 +3,12 @@ use Rattle.std.specs.Prelude.{◌≡◌, ℕ, ◌+◌, ◌*◌, ◌<◌, ◌≤�
 use Rattle.space_map.specs.declared.area_word.AreaWord.{AreaWord}
 use Rattle.space_map.specs.declared.gate_word.GateWord.{GateWord}
 use Rattle.space_map.specs.declared.page_word.PageWord.{PageWord}
-use Rattle.space_map.specs.declared.spaces.TheConstants.{LAST_WORKER}
+use Rattle.space_map.specs.declared.spaces.TheConstants.{LAST_WORKER, PAGE_WORDS}
 use Rattle.space_map.specs.AreaWord.{AreaFits, encode_area}
 use Rattle.space_map.specs.GateWord.{GateFits, encode_gate}
 use Rattle.space_map.specs.PageWord.{PageFits, encode_page}
-use Rattle.space_map.specs.Table.{Row, Gate, Traced, Area, Page, Cross, HeapWord, Announce, IsRow, place_of}
-use Rattle.heap_state.specs.Memory.Entries.{Entry, row_of, word_of, EntryFits, with_entry, written, table_with, EachFits}
+use Rattle.space_map.specs.Table.{Row, Gate, Traced, Area, Size, Page, Cross, HeapWord, Announce, IsRow, place_of}
+use Rattle.heap_state.specs.Memory.Entries.{Entry, row_of, word_of, EntryFits, with_entry, written, table_with, EachFits, HasSizes}
 use Rattle.heap_state.specs.Memory.Era.{era_of, memory_of, from_space, IsLaidOut}
 use Rattle.space_map.specs.Spaces.{to_space}
 use Rattle.heap_state.specs.Functions.{put}
@@ -26,6 +26,7 @@ pub record SpellsTable (n : ℕ) (words : List ℕ) : Type 0 where
   pub gate_fits : GateFits (table_of n words).gate
   pub areas : (space : ℕ) → word_in n words (Area space) ≡ encode_area ((table_of n words).area space)
   pub areas_fit : (space : ℕ) → space < 2 → AreaFits ((table_of n words).area space)
+  pub sizes : (space : ℕ) → space < 2 → word_in n words (Size space) ≡ (table_of n words).in_use space
   pub pages : (p : ℕ) → p ≤ 2 * n → word_in n words (Page p) ≡ encode_page ((table_of n words).page p)
   pub pages_fit : (p : ℕ) → p ≤ 2 * n → PageFits ((table_of n words).page p)
 
@@ -50,6 +51,10 @@ StoresTraced = (n : ℕ) (words : List ℕ) (word : ℕ) → IsFormed n words
 abbrev pub StoresArea : Type 0
 StoresArea = (n : ℕ) (words : List ℕ) (space : ℕ) (area : AreaWord) → IsFormed n words → space < 2 → AreaFits area
     → Stored n words (Area space) (encode_area area) (record (table_of n words) { area = put (table_of n words).area space area })
+
+abbrev pub StoresSize : Type 0
+StoresSize = (n : ℕ) (words : List ℕ) (space pages : ℕ) → IsFormed n words → space < 2 → 4 ≤ pages → pages ≤ n
+    → Stored n words (Size space) pages (record (table_of n words) { in_use = put (table_of n words).in_use space pages })
 
 abbrev pub StoresPage : Type 0
 StoresPage = (n : ℕ) (words : List ℕ) (p : ℕ) (page : PageWord) → IsFormed n words → p ≤ 2 * n → PageFits page
@@ -76,6 +81,11 @@ pub record AreaSeen (t : Table) (v : AreaWord) : Type 0 where
   pub old : memory_of (record t { area = put t.area (from_space t.gate.epoch) v })
       ≡ record (memory_of t) { old_front = (era_of t).old_start + v.front; old_low = (era_of t).old_start + v.low; old_owed = v.owed }
 
+-- a store of the old space's size
+pub record SizeSeen (t : Table) (pages : ℕ) : Type 0 where
+  pub memory : memory_of (record t { in_use = put t.in_use (from_space t.gate.epoch) pages }) ≡ memory_of t
+  pub era : era_of (record t { in_use = put t.in_use (from_space t.gate.epoch) pages }) ≡ record (era_of t) { old_span = PAGE_WORDS * pages }
+
 -- a flip: the spaces change places
 pub record FlipSeen (t : Table) (gate : GateWord) : Type 0 where
   pub memory : memory_of (record t { gate = gate })
@@ -95,7 +105,8 @@ pub record FlipSeen (t : Table) (gate : GateWord) : Type 0 where
 pub record MemoryFollows : Type 0 where
   pub area : (t : Table) (v : AreaWord) → AreaSeen t v
   pub flip : (t : Table) (gate : GateWord) → gate.epoch ≡ t.gate.epoch + 1 → FlipSeen t gate
-  pub laid_out : (n : ℕ) (words : List ℕ) → IsLaidOut (era_of (table_of n words))
+  pub size : (t : Table) (pages : ℕ) → SizeSeen t pages
+  pub laid_out : (n : ℕ) (words : List ℕ) → IsFormed n words → IsLaidOut (era_of (table_of n words))
 
 -- ---- tables from entries
 
@@ -110,4 +121,4 @@ pub record Written (n : ℕ) (entries : List Entry) : Type 0 where
   pub says : table_of n (written n entries) ≡ table_with n entries
 
 abbrev pub WritesTables : Type 0
-WritesTables = (n : ℕ) (entries : List Entry) → EachFits n entries → Written n entries
+WritesTables = (n : ℕ) (entries : List Entry) → EachFits n entries → HasSizes entries → Written n entries

@@ -14,7 +14,7 @@ use Rattle.lone_mutator.specs.Tracing.{waits, unclaimed, tracing_left, tracing_d
 -- ---- sums
 
 -- a sum of smaller terms is smaller
-sum_below-le : (n : ℕ) (f g : ℕ → ℕ) → ((x : ℕ) → x < n → f x ≤ g x) → sum_below n f ≤ sum_below n g
+pub sum_below-le : (n : ℕ) (f g : ℕ → ℕ) → ((x : ℕ) → x < n → f x ≤ g x) → sum_below n f ≤ sum_below n g
 unfolding sum_below
 sum_below-le zero f g each = omega arith
 sum_below-le (suc n) f g each =
@@ -23,7 +23,7 @@ sum_below-le (suc n) f g each =
     omega (arith, here, below)
 
 -- and one of terms that are 1 at most is no more than their number
-sum_below-few : (n : ℕ) (f : ℕ → ℕ) → ((x : ℕ) → x < n → f x ≤ 1) → sum_below n f ≤ n
+pub sum_below-few : (n : ℕ) (f : ℕ → ℕ) → ((x : ℕ) → x < n → f x ≤ 1) → sum_below n f ≤ n
 unfolding sum_below
 sum_below-few zero f each = omega arith
 sum_below-few (suc n) f each =

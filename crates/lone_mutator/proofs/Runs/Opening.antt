@@ -1,10 +1,10 @@
 -- A new heap of one mutator is alone, and has no more to pay than an instruction and its attaching.
-use Rattle.std.proofs.Common.{◌≡◌, ℕ, ◌<◌, length, refl, sym, ap, subst, arith}
+use Rattle.std.proofs.Common.{◌≡◌, ℕ, ◌<◌, ◌≤◌, length, refl, sym, ap, subst, arith}
 use Rattle.heap_state.specs.Memory.Entries.{table_with, written}
 use Rattle.heap_state.specs.Memory.Table.{Table, table_of}
-use Rattle.heap_state.proofs.Table.Writing.{writes_tables}
 use Rattle.heap_laws.specs.Opening.{opening_entries}
-use Rattle.heap_laws.proofs.Opening.Heap.{entries_fit}
+use Rattle.heap_laws.proofs.Opening.Heap.{opening_written}
+use Rattle.space_map.specs.declared.spaces.TheConstants.{FEWEST_PAGES}
 use Rattle.space_map.specs.Spaces.{IsPageCount, to_space}
 use Rattle.gc_worker.specs.Laws.Between.{fresh_mutator, fresh_workers, opening_heap}
 use Rattle.gc_worker.specs.Workers.Held.{Held}
@@ -16,25 +16,25 @@ use Rattle.lone_mutator.specs.Potential.{due_in, potential_in}
 use Rattle.lone_mutator.proofs.Runs.MostSteps.{costs_lt_most}
 use Rattle.lone_mutator.proofs.Epochs.Cost.{due_traced}
 
-module _ (n : ℕ) (size : IsPageCount n) where
+module _ (n least : ℕ) (size : IsPageCount n) (least_fits : FEWEST_PAGES ≤ least) (within : least ≤ n) where
   abbrev x : Held
   x = fresh_mutator n 1 0
 
   -- the table before the first step
   abbrev t : Table
-  t = table_of n (written n (opening_entries n))
+  t = table_of n (written n (opening_entries n least))
 
   abbrev opened : Table
-  opened = table_with n (opening_entries n)
+  opened = table_with n (opening_entries n least)
 
   says : t ≡ opened
-  says = (writes_tables n (opening_entries n) (entries_fit n size)).says
+  says = (opening_written n least size least_fits within).says
 
   one : length (fresh_workers n 1 0 1) ≡ 1
   unfolding fresh_workers
   one = refl
 
-  first : held_at (opening_heap n 1 0) 0 ≡ x
+  first : held_at (opening_heap n least 1 0) 0 ≡ x
   unfolding fresh_workers
   first = refl
 
@@ -48,7 +48,7 @@ module _ (n : ℕ) (size : IsPageCount n) where
   cheap : potential_in n opened x < most_steps n
   cheap = let none = nothing_due in let few = costs_lt_most n size.0 in omega (arith, none, few)
 
-  pub opens : IsLone (opening_heap n 1 0) × (potential (opening_heap n 1 0) < most_steps n)
+  pub opens : IsLone (opening_heap n least 1 0) × (potential (opening_heap n least 1 0) < most_steps n)
   opens = (
     record {
       one = one;
@@ -60,4 +60,4 @@ module _ (n : ℕ) (size : IsPageCount n) where
   )
 
 pub heaps_open : LoneHeapsOpen
-heaps_open n size = opens n size
+heaps_open n least size least_fits within = opens n least size least_fits within

@@ -24,11 +24,11 @@ use Rattle.gc_worker.specs.Steps.Wanted.{wanted}
 use Rattle.gc_worker.proofs.Between.Beginning.{tasks_may_begin}
 use Rattle.gc_worker.proofs.Between.Readying.{readying_stands}
 use Rattle.gc_worker.proofs.Between.Wanting.{workers_want}
-use Rattle.gc_core.specs.Core.{CoreState, opening_core, is_size}
+use Rattle.gc_core.specs.Core.{CoreState, opening_core, has_sizes}
 use Rattle.gc_core.specs.Event.{Event, event_of, core_after, ready, fetched_task}
 use Rattle.gc_core.specs.Law.{IsLawful}
 use Rattle.gc_core.specs.Run.{all_ended, run_from}
-use Rattle.gc_core.proofs.Events.Opening.{size_fits}
+use Rattle.gc_core.proofs.Events.Opening.{limit_fits, sizes_fit}
 use Rattle.gc_core.proofs.Events.Tasks.{at_look}
 use Rattle.gc_core.proofs.Events.Readied.{readied_awaits, readied_rests}
 use Rattle.gc_core.proofs.Events.Lawful.{event_none, event_some, lawful_after, lawful_opening, may_be_given, workers_after}
@@ -219,28 +219,28 @@ pace most steps executed some few =
     let below : steps / most < executed + 1 = (div-lt_iff_lt-mul some).1 (omega (arith, few)) in
     omega (arith, below)
 
-first_executed : (n : ℕ) → (held_at (opening_heap n 1 0) 0).account.executed ≡ 0
+first_executed : (n least : ℕ) → (held_at (opening_heap n least 1 0) 0).account.executed ≡ 0
 unfolding fresh_workers
-first_executed n = refl
+first_executed n least = refl
 
-module _ (section : List Instr) (items : List Item) (config : Config) (program : IsWellFormed (section ∷ []) items) (size : IsTrue (is_size config.pages))
+module _ (section : List Instr) (items : List Item) (config : Config) (program : IsWellFormed (section ∷ []) items) (size : IsTrue (has_sizes config))
     (turns : config.turns ≤ 10000000) (none : config.scanners ≡ 0) where
   abbrev first : CoreState
   first = opening_core (section ∷ []) config
 
-  heap_is : first.heap ≡ opening_heap config.pages 1 0
-  heap_is = ap (opening_heap config.pages 1) none
+  heap_is : first.heap ≡ opening_heap config.limit config.pages 1 0
+  heap_is = ap (opening_heap config.limit config.pages 1) none
 
-  begins : IsLone first.heap × (potential first.heap < most_steps config.pages)
-  begins = subst (λ (h : Heap). IsLone h × (potential h < most_steps config.pages)) (sym heap_is) (heaps_open config.pages (size_fits config.pages size))
+  begins : IsLone first.heap × (potential first.heap < most_steps config.limit)
+  begins = subst (λ (h : Heap). IsLone h × (potential h < most_steps config.limit)) (sym heap_is) (let fit = sizes_fit config size in heaps_open config.limit config.pages (limit_fits config size) fit.0 fit.1)
 
-  keeps_pace : (steps : ℕ) (last : CoreState) → Paces steps first last → KeepsPace config.pages steps last
+  keeps_pace : (steps : ℕ) (last : CoreState) → Paces steps first last → KeepsPace config.limit steps last
   keeps_pace steps last (inl ended) = inl ended
   keeps_pace steps last (inr paid) =
       let few = begins.1 in
-      let zero_first : executed_by first 0 ≡ 0 = ap (λ (h : Heap). (held_at h 0).account.executed) heap_is ∙ first_executed config.pages in
+      let zero_first : executed_by first 0 ≡ 0 = ap (λ (h : Heap). (held_at h 0).account.executed) heap_is ∙ first_executed config.limit config.pages in
       let all = rw zero_first at paid in
-      inr (pace (most_steps config.pages) steps (executed_by last 0) (omega (arith, few)) (omega (arith, few, all)))
+      inr (pace (most_steps config.limit) steps (executed_by last 0) (omega (arith, few)) (omega (arith, few, all)))
 
 pub lone_mutators_go_on : LoneMutatorsGoOn
 lone_mutators_go_on section items config schedule steps program size turns none alone =

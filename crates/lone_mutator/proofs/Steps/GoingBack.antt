@@ -11,10 +11,10 @@ use Rattle.lone_mutator.specs.Lone.{BackStands}
 use Rattle.lone_mutator.specs.Potential.{back_left}
 
 -- it is dear or not by the epochs alone
-pub same_back : (n : ℕ) (x y : Held) (back : Back) → x.begun ≡ y.begun → x.epoch ≡ y.epoch → back_left n x back ≡ back_left n y back
-same_back n x y (ToAccess a) begun epoch = refl
-same_back n x y ToPlace begun epoch = rw (begun, epoch) refl
-same_back n x y ToScanner begun epoch = refl
+pub same_back : (n size : ℕ) (x y : Held) (back : Back) → x.begun ≡ y.begun → x.epoch ≡ y.epoch → back_left n size x back ≡ back_left n size y back
+same_back n size x y (ToAccess a) begun epoch = refl
+same_back n size x y ToPlace begun epoch = rw (begun, epoch) refl
+same_back n size x y ToScanner begun epoch = refl
 
 -- a round that goes back to a mutator's work is of a running mutator, and of its epoch
 pub runs : (back : Back) → BackStands back → is_running (post_back back) ≡ true

@@ -19,7 +19,7 @@ use Rattle.gc_worker.specs.Steps.Turned.{places, back_from}
 use Rattle.gc_worker.proofs.Plain.NewRecords.{header_made, header_is}
 use Rattle.lone_mutator.specs.Bound.{longest_placing}
 use Rattle.lone_mutator.specs.Lone.{AccessStands, BackStands, IsLook, NobodyElseAnnounces, Remembers}
-use Rattle.lone_mutator.specs.Potential.{back_left, due_in, flip_left, potential_in}
+use Rattle.lone_mutator.specs.Potential.{back_left, due_in, flip_left, potential_in, size_in}
 
 -- the mutator remembers what is so, and has to pay no more than this
 pub record GoesAt (n : ℕ) (t : Table) (y : Held) (cost : ℕ) : Type 0 where
@@ -34,7 +34,7 @@ module _ (n : ℕ) (t : Table) (x : Held) (began : x.begun ≤ x.epoch) (quiet :
     begun_at stage = record { layout = x.layout; run = run_held x; header = header; fields = fields_for x; epoch = x.epoch; stage = stage }
 
     abbrev Begins : PlaceStage → Type 0
-    Begins stage = GoesAt n t (at_stage x (Places (begun_at stage))) (longest_placing + flip_left n x + due_in n t)
+    Begins stage = GoesAt n t (at_stage x (Places (begun_at stage))) (longest_placing + flip_left n (size_in t) x + due_in n t)
 
     begins_by : (kind : Kind) (b : Bool) → Begins (cond b (place.stores_first kind) LoadsTraced)
     begins_by Fields true = record { remembers = record { began = λ past. began; quiet = quiet; stands = tt }; within = omega arith }
@@ -42,12 +42,12 @@ module _ (n : ℕ) (t : Table) (x : Held) (began : x.begun ≤ x.epoch) (quiet :
     begins_by Mixed true = record { remembers = record { began = λ past. began; quiet = quiet; stands = tt }; within = omega arith }
     begins_by kind false = record { remembers = record { began = λ past. began; quiet = quiet; stands = tt }; within = omega arith }
 
-    pub begins : GoesAt n t (at_stage x (places x (Some header))) (longest_placing + flip_left n x + due_in n t)
+    pub begins : GoesAt n t (at_stage x (places x (Some header))) (longest_placing + flip_left n (size_in t) x + due_in n t)
     begins = begins_by header.kind (nat_le ((run_held x).at + place.size_of header) (run_held x).end)
 
-  pub goes_placing : IsMaking x.account x.registers x.task → GoesAt n t (at_stage x (places x (header_for x))) (longest_placing + flip_left n x + due_in n t)
+  pub goes_placing : IsMaking x.account x.registers x.task → GoesAt n t (at_stage x (places x (header_for x))) (longest_placing + flip_left n (size_in t) x + due_in n t)
   goes_placing making =
-      subst (λ (o : Option Header). GoesAt n t (at_stage x (places x o)) (longest_placing + flip_left n x + due_in n t)) (sym (header_is x making)) (begins (header_made x making))
+      subst (λ (o : Option Header). GoesAt n t (at_stage x (places x o)) (longest_placing + flip_left n (size_in t) x + due_in n t)) (sym (header_is x making)) (begins (header_made x making))
 
   -- ---- after a round
 
@@ -56,7 +56,7 @@ module _ (n : ℕ) (t : Table) (x : Held) (began : x.begun ≤ x.epoch) (quiet :
   looks_so l (SwapsBoard b old) look = absurd look
   looks_so l stage look = tt
 
-  pub goes_back : (back : Back) → BackStands back → FitsTaskBack x back → GoesAt n t (back_from x back) (back_left n x back + due_in n t)
+  pub goes_back : (back : Back) → BackStands back → FitsTaskBack x back → GoesAt n t (back_from x back) (back_left n (size_in t) x back + due_in n t)
   goes_back (ToAccess a) look task = record { remembers = record { began = λ past. began; quiet = quiet; stands = looks_so a.spaces a.stage look }; within = omega arith }
   goes_back ToPlace look making = goes_placing making
   goes_back ToScanner look task = absurd look

@@ -19,7 +19,7 @@ use Rattle.gc_worker.specs.declared.task.Task.{Task}
 use Rattle.gc_worker.specs.Plain.Answer.{IsAnswered, after_told}
 use Rattle.gc_worker.specs.Workers.Begun.{IsPastLook}
 use Rattle.gc_worker.specs.Laws.Between.{KeepsToTask, IsSo}
-use Rattle.gc_worker.specs.Workers.Held.{Held, at_stage}
+use Rattle.gc_worker.specs.Workers.Held.{Held, at_stage, has_seen_flip}
 use Rattle.gc_worker.specs.Workers.Knows.{knows}
 use Rattle.gc_worker.specs.Laws.Step.{Heap, StepKeeps, WorkersStand, at_flip, held_at, moved, nobody, read}
 use Rattle.gc_worker.specs.Steps.Stepped.{awaits_at}
@@ -28,7 +28,7 @@ use Rattle.gc_worker.specs.Steps.Turned.{Told, Silent, Answers, Marks, turned, t
 use Rattle.gc_worker.specs.Steps.Wanted.{wanted}
 use Rattle.gc_worker.proofs.Between.GoingOn.{workers_go_on}
 use Rattle.gc_worker.proofs.Between.Standing.{what_stands_is_so}
-use Rattle.gc_worker.proofs.Words.Eras.{span_is}
+use Rattle.gc_worker.proofs.Words.Eras.{span_within}
 use Rattle.gc_worker.proofs.Workers.Members.{member}
 use Rattle.gc_worker.proofs.StepKeeps.{steps_keep}
 use Rattle.lone_mutator.specs.Bound.{most_steps, whole_cost}
@@ -59,8 +59,8 @@ module _ (c : Configuration) (p : Plain) (s : Stands c p) (x : Held) where
 
   flips : (f : Flipping) → IsAlone c (at_stage x (Flips f)) → StepsLower c (at_stage x (Flips f))
   flips f a =
-      let same : f ≡ record { layout = x.layout; epoch = x.epoch; asked = f.asked; stage = f.stage } =
-      (λ i. record { layout = a.is.fits.stage.layout i; epoch = a.is.fits.stage.epoch i; asked = f.asked; stage = f.stage }) in
+      let same : f ≡ record { layout = x.layout; epoch = x.epoch; asked = f.asked; seen = has_seen_flip x; stage = f.stage } =
+      (λ i. record { layout = a.is.fits.stage.layout i; epoch = a.is.fits.stage.epoch i; asked = f.asked; seen = a.is.fits.stage.seen i; stage = f.stage }) in
       subst (λ (g : Flipping). StepsLower c (at_stage x (Flips g))) (sym same)
       (flips_by c p s x f.asked f.stage (subst (λ (g : Flipping). IsAlone c (at_stage x (Flips g))) same a))
 
@@ -145,7 +145,7 @@ module _ (h : Heap) (p o : Plain) (x : Held) (q : Step) (st : WorkersStand h p o
   look_costs p' o' stands =
       let t = table (read later) in
       let small = stands.stands.invariant.room.small in
-      let span = span_is (read later) in
+      let span = span_within (read later) p' stands.stands in
       let due = due_le_longest h.pages t.gate.epoch t.traced (t.area (to_space t.gate.epoch)).owed t.page (omega (arith, small, span)) in
       let bound = costs_lt_most h.pages stands.stands.size.0 in
       omega (arith, due, bound)

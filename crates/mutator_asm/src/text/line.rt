@@ -236,13 +236,11 @@ fn line_by_first<'a>(
 ) -> Result<Line<'a>, AllocError>
     ensures { IfOk result (λ l. line_view l ≡ line_from (first.now ∷ tokens_view rest.now)) }
 {
-    if first == b".mutator".as_slice() {
-        return Ok(plain(begins(rest)));
+    match first {
+        b".mutator" => Ok(plain(begins(rest))),
+        b".schedule" => Ok(plain(schedules(alloc, rest)?)),
+        _ => Ok(other(first, rest)),
     }
-    if first == b".schedule".as_slice() {
-        return Ok(plain(schedules(alloc, rest)?));
-    }
-    Ok(other(first, rest))
 }
 
 /// What the tokens of a line say.

@@ -1,4 +1,4 @@
-use Rattle.alloc_end.proofs.Reserving.{looks_at_traced, claims, loses}
+use Rattle.alloc_end.proofs.Reserving.{looks_at_traced, looks_at_size, claims, loses}
 use Rattle.alloc_end.proofs.laws.claims_keep_the_reserve.Goals as goal
 
 pub returns-clause-claimed : goal.returns-clause-claimed
@@ -9,3 +9,6 @@ returns-clause-lost c = loses
 
 pub returns-clause-traced : goal.returns-clause-traced
 returns-clause-traced c = looks_at_traced
+
+pub returns-clause-size : goal.returns-clause-size
+returns-clause-size c = looks_at_size

@@ -1,10 +1,11 @@
-use Rattle.std.proofs.Common.{◌≡◌, List, Err, refl, sym, ap, ◌∙◌, subst, arith}
+use Rattle.std.proofs.Common.{◌≡◌, ℕ, List, Err, refl, sym, ap, ◌∙◌, subst, arith}
 use Rattle.ael_threads.specs.Histories.{Each}
 use Rattle.ael_threads.specs.Readers.{SeatedScanner}
 use Rattle.ael_threads.specs.declared.view.Plan.{Plan}
 use Rattle.concordance_text.specs.declared.part.Part.{Part}
 use Rattle.concordance.specs.Making.{AreDealt}
 use Rattle.concordance.specs.MayBeFull.{MayBeFull}
+use Rattle.concordance.specs.OneMutator.{IsWhole}
 use Rattle.concordance.specs.Working.{WasFullForOne, SharedHeap, shared_heap}
 use Rattle.concordance.proofs.Working.ShortParts.{parts_short}
 use Rattle.concordance.proofs.LoneHeaps.FullSpaces.{handed_on, may_be_full_alone}
@@ -49,6 +50,6 @@ returns-in_err-words-clause-full g c = λ single asked room is.
     let from = c.from-2.ensures in
     let mutators = ap (λ (p : Plan). p.mutators) c.in_ok-heap.ensures.plan in
     let was = handed_on (WasFullForOne w 0 c.as_slice.result.now) (Err c.in_err-words.field-0.0) c.from_residual-in_err-words.result c.in_err-words.field-0.0 refl c.from_residual-in_err-words.ensures.1 c.in_err-words.ensures.full asked room is in
-    subst (λ (p : Plan). MayBeFull p.spaces.pages c.args.text.now asked room) c.in_ok-heap.ensures.plan
-    (may_be_full_alone w c.args.text.now c.parts-parts.result.items asked room c.requires.short (mutators ∙ single) (omega (arith, count, from, single)) cut.mentions
+    subst (λ (pages : ℕ). MayBeFull pages c.args.text.now asked room) (ap (λ (p : Plan). p.spaces.pages) c.in_ok-heap.ensures.plan ∙ c.requires.limit)
+    (may_be_full_alone w c.args.text.now c.parts-parts.result.items asked room c.requires.short (mutators ∙ single) (subst IsWhole (sym c.in_ok-heap.ensures.plan) (sym c.requires.limit)) (omega (arith, count, from, single)) cut.mentions
     (subst (λ (ps : List Part). WasFullForOne w 0 ps asked room) c.as_slice.ensures.value was))

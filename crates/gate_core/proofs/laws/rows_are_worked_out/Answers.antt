@@ -63,3 +63,23 @@ returns-clause-running_hinders_flip c = record { steps = refl; ends = refl }
 pub returns-clause-lost_flip_begins_again : goal.returns-clause-lost_flip_begins_again
 unfolding decode_area area_in encode_area decode_gate gate_in encode_gate place_of
 returns-clause-lost_flip_begins_again c = record { steps = refl; ends = refl }
+
+pub returns-clause-grows_once_seen : goal.returns-clause-grows_once_seen
+unfolding decode_area area_in encode_area decode_gate gate_in encode_gate place_of
+returns-clause-grows_once_seen c = record { steps = refl; ends = refl }
+
+pub returns-clause-stays_at_first : goal.returns-clause-stays_at_first
+unfolding decode_area area_in encode_area decode_gate gate_in encode_gate place_of
+returns-clause-stays_at_first c = record { steps = refl; ends = refl }
+
+pub returns-clause-grows_past_half : goal.returns-clause-grows_past_half
+unfolding decode_area area_in encode_area decode_gate gate_in encode_gate place_of
+returns-clause-grows_past_half c = record { steps = refl; ends = refl }
+
+pub returns-clause-stays_at_half : goal.returns-clause-stays_at_half
+unfolding decode_area area_in encode_area decode_gate gate_in encode_gate place_of
+returns-clause-stays_at_half c = record { steps = refl; ends = refl }
+
+pub returns-clause-grows_no_further : goal.returns-clause-grows_no_further
+unfolding decode_area area_in encode_area decode_gate gate_in encode_gate place_of
+returns-clause-grows_no_further c = record { steps = refl; ends = refl }

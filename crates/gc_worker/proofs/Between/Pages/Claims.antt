@@ -42,7 +42,7 @@ use Rattle.gc_worker.specs.Workers.Held.{Held}
 use Rattle.gc_worker.specs.Workers.Knows.{traced_seen_in}
 use Rattle.gc_worker.specs.Laws.Step.{Heap, read, WorkersStand}
 use Rattle.gc_worker.specs.Plain.Seen.{seen}
-use Rattle.gc_worker.specs.Steps.Turned.{Told, Silent, Answers, Marks, told_at, told_look, told_gate, told_start, told_acted, told_action, told_access, told_place, told_full, told_effect, told_end, finds_full, end_by_shortage}
+use Rattle.gc_worker.specs.Steps.Turned.{Told, Silent, Answers, Marks, told_at, told_look, told_gate, told_start, told_acted, told_action, told_access, told_place, told_full, told_effect, told_end, is_full, end_by_shortage}
 use Rattle.gc_worker.specs.Steps.Turned as turning
 use Rattle.gc_worker.proofs.Words.Areas.{area_now, area_says, is_space}
 use Rattle.gc_worker.proofs.Words.Eras.{board_is, start_is}
@@ -189,7 +189,7 @@ accesses_unmarked o More = tt
 
 full_unmarked : (x : Held) (s : Shortage) (traced : Bool) → NoMark (told_full x s traced)
 full_unmarked x s false = tt
-full_unmarked x s true = either_unmarked (finds_full x) (told_end x.task (end_by_shortage s)) Silent (ends_unmarked x.task (end_by_shortage s)) tt
+full_unmarked x s true = either_unmarked (is_full x s) (told_end x.task (end_by_shortage s)) Silent (ends_unmarked x.task (end_by_shortage s)) tt
 
 places_unmarked : (x : Held) (t : Turn Allocated) → NoMark (told_place x t)
 places_unmarked x (Finished (Placed at)) = effects_unmarked x.task

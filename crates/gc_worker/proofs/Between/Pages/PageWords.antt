@@ -83,8 +83,10 @@ module _ (c : Configuration) (p : Plain) (s : Stands c p) (k : ℕ) (x : Held) w
       let timely = (s.invariant.workers k is.below).timely in
       let now : x.epoch ≡ (era c).epoch = sym known ∙ timely.flipping (rw is.as_known refl) in
       let e : f.epoch ≡ (era c).epoch = is.fits.stage.epoch ∙ now in
-      subst (λ (n : ℕ). LeavesBy c (Some (Store (place_of n (Area (to_space (f.epoch + 1)))) (encode_area (flip.area_reset f.layout.pages r.used)))) none) (sym pages)
-      (stores_other c p s (to_space (f.epoch + 1)) (encode_area (flip.area_reset f.layout.pages r.used)) none (is_space (f.epoch + 1)) (λ same. omega (arith, same, e)))
+      subst (λ (n : ℕ). LeavesBy c (Some (Store (place_of n (Area (to_space (f.epoch + 1)))) (encode_area (flip.area_reset r.next r.used)))) none) (sym pages)
+      (stores_other c p s (to_space (f.epoch + 1)) (encode_area (flip.area_reset r.next r.used)) none (is_space (f.epoch + 1)) (λ same. omega (arith, same, e)))
+  flips f (flip_stage.StoresSize r) is =
+      spares c p s f.layout.pages (own f.layout is.fits.stage.layout is.fits.pages) (flip.wants_at f (flip_stage.StoresSize r)) none (is_space (f.epoch + 1))
   flips f stage is = spares c p s f.layout.pages (own f.layout is.fits.stage.layout is.fits.pages) (flip.wants_at f stage) none tt
 
   -- ---- new pages

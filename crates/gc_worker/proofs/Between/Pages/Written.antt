@@ -1,13 +1,13 @@
--- Which words of pages and which areas a step leaves as they were, by the row that it writes.
+-- Which words of pages, and which areas and sizes, a step leaves as they were, by the row that it writes.
 use Rattle.std.proofs.Common.{◌≡◌, ◌≢◌, ℕ, true, false, List, Some, refl, arith, ⊎_elim}
-use Rattle.std.specs.Prelude.{⊤}
+use Rattle.std.specs.Prelude.{⊤, ◌<◌}
 use Rattle.std.proofs.lemmas.Bool.{cases_Bool}
 use Rattle.atom_store.specs.declared.step.Step.{Step}
 use Rattle.atom_store.specs.declared.step.Step.TheVariants as step
 use Rattle.atom_store.specs.Step.{place_in, words_after}
 use Rattle.atom_store.specs.StepOn.{StepOn, Load, Store, Exchange, WritesOnly, step_at}
 use Rattle.atom_store.proofs.Steps.{slice_index-words_after}
-use Rattle.space_map.specs.Table.{Row, Area, Page, IsRow, place_of}
+use Rattle.space_map.specs.Table.{Row, Area, Size, Page, IsRow, place_of}
 use Rattle.heap_state.specs.Memory.Table.{is_row, word_in}
 use Rattle.heap_state.proofs.Table.Places.{row_is}
 
@@ -18,10 +18,17 @@ abbrev pub IsNoArea : Row → Type 0
 IsNoArea (Area space) = ⊥
 IsNoArea row = ⊤
 
--- a row of no area and no page
+-- a row of no size, and if it is an area, that of a space
+abbrev pub IsNoSize : Row → Type 0
+IsNoSize (Size space) = ⊥
+IsNoSize (Area space) = space < 2
+IsNoSize row = ⊤
+
+-- a row of no area and no page, and if it is a size, that of a space
 abbrev pub IsOther : Row → Type 0
 IsOther (Area space) = ⊥
 IsOther (Page page) = ⊥
+IsOther (Size space) = space < 2
 IsOther row = ⊤
 
 is_no_area : (row : Row) → IsOther row → IsNoArea row
@@ -32,6 +39,7 @@ page_apart : (n page : ℕ) (row : Row) → IsOther row → IsRow n (Page page) 
 unfolding place_of
 page_apart n page (Area space) other is same = other
 page_apart n page (Page another) other is same = other
+page_apart n page (Size space) other is same = omega (arith, other, is, same)
 page_apart n page row other is same = omega (arith, is, same)
 
 -- whatever pages the other row's table has
@@ -39,6 +47,12 @@ area_apart : (n m space : ℕ) (row : Row) → IsNoArea row → IsRow n (Area sp
 unfolding place_of
 area_apart n m space (Area another) other is same = other
 area_apart n m space row other is same = omega (arith, is, same)
+
+-- of a space
+size_apart : (n m space : ℕ) → space < 2 → (row : Row) → IsNoSize row → IsRow n (Size space) → place_of n (Size space) ≢ place_of m row
+unfolding place_of
+size_apart n m space small (Size another) other is same = other
+size_apart n m space small row other is same = omega (arith, small, is, same)
 
 -- ---- steps
 
@@ -60,6 +74,9 @@ module _ (n m : ℕ) (words : List ℕ) where
 
   pub area_stays : (on : StepOn Row) (space : ℕ) → WritesOnly IsNoArea (Some on) → word_in n (words_after (step_at (place_of m) on) words) (Area space) ≡ word_in n words (Area space)
   area_stays on space writes = unwritten (Area space) IsNoArea (area_apart n m space) on writes
+
+  pub size_stays : (on : StepOn Row) (space : ℕ) → space < 2 → WritesOnly IsNoSize (Some on) → word_in n (words_after (step_at (place_of m) on) words) (Size space) ≡ word_in n words (Size space)
+  size_stays on space small writes = unwritten (Size space) IsNoSize (size_apart n m space small) on writes
 
 module _ (n : ℕ) (words : List ℕ) (on : StepOn Row) (writes : WritesOnly IsOther (Some on)) where
   pub other_page_stays : (page : ℕ) → word_in n (words_after (step_at (place_of n) on) words) (Page page) ≡ word_in n words (Page page)

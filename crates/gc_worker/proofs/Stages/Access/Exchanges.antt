@@ -1,4 +1,5 @@
--- The exchange of a value of a record, whose page was found open: the word is loaded and compared, and exchanged from there if it is what is expected.
+-- The exchange of a value of a record, whose page was found open: the word is loaded and compared, and exchanged from there if it is
+-- what is expected.
 use Rattle.std.proofs.Common.{◌≡◌, ◌↔◌, ℕ, ◌<◌, ◌==◌, Bool, true, false, cond, None, Some, Ok, refl, ap, sym, subst, ◌∙◌, arith, eq-eqb}
 use Rattle.std.proofs.lemmas.Bool.{eqb-true}
 use Rattle.plain_state.specs.declared.value.Identity.{Identity}

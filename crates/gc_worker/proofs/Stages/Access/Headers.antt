@@ -83,7 +83,7 @@ first_by : (role : Role) → values_at (kind_of role) ≡ 1
 first_by roles.Field = refl
 first_by roles.Number = refl
 
-read_by : (r : RecordAccess) (role : Role) (len : ℕ) → by_kind r (header_kind (kind_of role)) len ≡ used_by r 1 role len r.usage
+read_by : (r : RecordAccess) (role : Role) (len : ℕ) → by_kind r (header_kind (kind_of role)) len ≡ used_by r role len r.usage
 read_by r roles.Field len = refl
 read_by r roles.Number len = refl
 
@@ -149,7 +149,7 @@ module _ (c : Configuration) (p : Plain) (s : Stands c p) (k : ℕ) (y : Held) (
     first_is : values_at says.record_there.kind ≡ 1
     first_is = ap values_at kind_is ∙ first_by role
 
-    reads_it : answered (own c p s k y stage) (replies.Value word) ≡ used_by r 1 role len r.usage
+    reads_it : answered (own c p s k y stage) (replies.Value word) ≡ used_by r role len r.usage
     reads_it = reads (kind_of role) of ∙ read_by r role len
 
     count_is : length says.record_there.values ≡ len
@@ -351,7 +351,7 @@ module _ (c : Configuration) (p : Plain) (s : Stands c p) (k : ℕ) (y : Held) w
       module _ (role : Role) (of : s.ghost.kind j.serial ≡ kind_of role) where
         comes_new : answered (own c p s k y (LoadsHeader of_new)) (replies.Value (word_in c.pages c.words (HeapWord j.serial)))
             ≡ storing (field_of j.serial 1 role at_value) (storing_use o (word_for v)) (may_store role (word_for v) (in_record length_there at_value))
-        comes_new = reads_it c p s k y of_new is act_new executes holds_both.0 role of ∙ used_so o of_new 1 role length_there (word_for v)
+        comes_new = reads_it c p s k y of_new is act_new executes holds_both.0 role of ∙ used_so o of_new role length_there (word_for v)
 
         by_holding : nat_lt at_value length_there ≡ true → Decided s.ghost.identity role at_value v → Answers of_new
         by_holding test (inl t) =

@@ -39,10 +39,10 @@ pub renewed : (o : Condition) (old new : ℕ) → with_new (storing_use o old) n
 renewed None old new = refl
 renewed (Some e) old new = refl
 
-pub used_so : (o : Condition) (r : RecordAccess) (first : ℕ) (role : Role) (len new : ℕ)
-    → used_by r first role len (record_use (storing_use o new)) ≡ storing (field_of r.at first role r.value) (storing_use o new) (may_store role new (in_record len r.value))
-used_so None r first role len new = refl
-used_so (Some e) r first role len new = refl
+pub used_so : (o : Condition) (r : RecordAccess) (role : Role) (len new : ℕ)
+    → used_by r role len (record_use (storing_use o new)) ≡ storing (field_of r.at 1 role r.value) (storing_use o new) (may_store role new (in_record len r.value))
+used_so None r role len new = refl
+used_so (Some e) r role len new = refl
 
 pub counted_so : (o : Condition) (r : RecordAccess) (len new : ℕ) → counted_by r len (record_use (storing_use o new)) ≡ counting r.at (storing_use o new) (in_record len r.value)
 counted_so None r len new = refl

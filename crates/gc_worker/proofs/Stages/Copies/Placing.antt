@@ -1,5 +1,5 @@
 -- The copy's place: FRONT is loaded, announced, and moved past the copy.
-use Rattle.std.proofs.Common.{None, Some, ap, arith, false, refl, subst, sym, true, ℕ, ⊎_elim, ◌%◌, ◌*◌, ◌+◌, ◌/◌, ◌∙◌, ◌≡◌, ◌≢◌, ◌≤◌}
+use Rattle.std.proofs.Common.{None, Some, ap, arith, false, refl, subst, sym, true, ℕ, ⊎_elim, ◌*◌, ◌+◌, ◌/◌, ◌∙◌, ◌≡◌, ◌≢◌, ◌≤◌}
 use Rattle.std.proofs.lemmas.Bool.{cases_eq, eq-eqb, eqb-true, ne_eqb}
 use Rattle.plain_state.specs.State.{Plain}
 use Rattle.atom_store.specs.declared.reply.Reply.{Reply}
@@ -28,6 +28,7 @@ use Rattle.heap_laws.proofs.Copying.Laws.{places_are_aimed, places_are_announced
 use Rattle.gc_worker.specs.Steps.Goes.{Is, Goes, StepsSo}
 use Rattle.gc_worker.specs.Workers.Held.{Held}
 use Rattle.gc_worker.specs.Workers.Knows.{knows, placing, copy_at, found_in, scan_of}
+use Rattle.gc_worker.proofs.Words.Eras.{ends_below, span_within}
 use Rattle.gc_worker.proofs.Stages.Copies.Hosts.{Host, ForScan, ForRegister, at, machine_at, wants_its, is_sound, has_pages, is_worker, copy_is, quest_with, quest_is}
 use Rattle.gc_worker.proofs.Stages.Copies.Publishing.{goes, stays}
 use Rattle.gc_worker.proofs.Stages.Gate.Words.{wants}
@@ -98,19 +99,13 @@ owed_word c = refl
 
 -- LOW is at most the space's end
 low_in : (c : Configuration) (p : Plain) → Stands c p → (area_read c).low ≤ 64 * c.pages
-unfolding table_of
-low_in c p s = let o = s.invariant.laid.order in omega (arith, o)
+low_in c p s =
+    let o = s.invariant.laid.order in let l = low_word c in let b = start_is c in let w = span_within c p s in
+    omega (arith, o, l, b, w)
 
 area_fits : (c : Configuration) (p : Plain) → Stands c p → AreaFits (area_read c)
 unfolding table_of
 area_fits c p s = (spelled c.pages c.words s.formed).areas_fit (to_space (era c).epoch) (omega arith)
-
--- both spaces end at the board
-ends_below : (n e : ℕ) → space_start n (to_space e) + 64 * n ≤ 128 * n
-ends_below n e = ⊎_elim
-    (λ (z : e % 2 ≡ 0). rw z (omega arith))
-    (λ (z : e % 2 ≢ 0). let q : e % 2 ≡ 1 = omega arith in rw q (omega arith))
-    (cases_eq (e % 2) 0)
 
 -- a copy whose place is not reserved has room
 room : (c : Configuration) (p : Plain) (s : Stands c p) (d : Copy) → law.HasRoomForCopy (memory c) d → AreaHoldsCopy c.pages d.size (area_read c)

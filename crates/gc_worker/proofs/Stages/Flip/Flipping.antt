@@ -1,5 +1,5 @@
 -- The flip: the exchange of the gate, which is never lost.
-use Rattle.std.proofs.Common.{◌≡◌, ℕ, ◌+◌, ◌^◌, ◌<◌, true, Some, refl, ap, sym, subst, ◌∙◌, arith}
+use Rattle.std.proofs.Common.{◌≡◌, ℕ, ◌+◌, ◌^◌, ◌<◌, ◌≤◌, true, Some, refl, ap, sym, subst, ◌∙◌, arith}
 use Rattle.plain_state.specs.State.{Plain}
 use Rattle.atom_store.specs.declared.step.Step.TheVariants.{Exchange}
 use Rattle.atom_store.specs.declared.reply.Reply.TheVariants.{Won}
@@ -22,7 +22,6 @@ use Rattle.gc_worker.specs.Steps.Goes.{Is, Goes, StepsSo}
 use Rattle.gc_worker.specs.Workers.Held.{Held, at_stage}
 use Rattle.gc_worker.specs.Workers.Knows.{knows}
 use Rattle.gc_worker.specs.Steps.Turned.{passes}
-use Rattle.gc_worker.proofs.Words.Eras.{old_span_is, span_is}
 use Rattle.gc_worker.proofs.Workers.Parts.{before_passage}
 use Rattle.gc_worker.proofs.Stages.Flip.Resetting.{at, now}
 use Rattle.gc_worker.proofs.Stages.Gate.Words.{wants, gate_now, gate_word}
@@ -33,12 +32,20 @@ module _ (c : Configuration) (p : Plain) (s : Stands c p) (k : ℕ) (y : Held) (
   x = at c p s k y asked (Exchanges r)
 
   abbrev q : Reset
-  q = record { read = r.gate; used = Some r.used; stored = true }
+  q = record { read = r.gate; size = Some r.size; grown = Some r.next; used = Some r.used; sized = true; stored = true }
 
   abbrev z : Held
   z = at_stage x (passes x (Resume x.epoch) afters.Places)
 
   module _ (is : Is c k x) where
+    -- the other space got no fewer pages
+    larger : (era c).span ≤ (era c).old_span
+    larger =
+        let resets = (s.invariant.workers k is.below).reset q (ap (λ (w : Worker). w.reset) is.as_known) in
+        let sized = resets.sized refl in
+        let least = resets.grown sized.0 sized.1 in
+        omega (arith, least, sized.2)
+
     flips : Flips (era c) (team c) k q
     flips = record {
       asked = asked;
@@ -46,7 +53,7 @@ module _ (c : Configuration) (p : Plain) (s : Stands c p) (k : ℕ) (y : Held) (
       reset = ap (λ (w : Worker). w.reset) is.as_known;
       stored = refl;
       fits = subst (λ (n : ℕ). n + 1 < 2 ^ 32) (now c p s k y asked (Exchanges r) is) is.fits.stage.sound.epoch;
-      large = let a = span_is c in let b = old_span_is c in omega (arith, a, b);
+      large = larger;
     }
 
     flipped : Flipped c (gate_flipped r.gate) k (knows z) p (next_ghost (era c) s.ghost)

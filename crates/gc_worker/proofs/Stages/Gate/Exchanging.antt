@@ -26,7 +26,7 @@ use Rattle.gc_worker.specs.declared.stage.after.After.{After}
 use Rattle.gc_worker.specs.declared.stage.Stage.TheVariants.{Passes, Flips, Looks, Gone}
 use Rattle.gc_worker.specs.Workers.Fits.{Fits, IsGoneBy}
 use Rattle.gc_worker.specs.Steps.Goes.{Is, Goes, StepsSo}
-use Rattle.gc_worker.specs.Workers.Held.{Held, at_stage, pages_needed}
+use Rattle.gc_worker.specs.Workers.Held.{Held, at_stage, has_seen_flip, pages_needed}
 use Rattle.gc_worker.specs.Workers.Knows.{knows, known_at, post_gone}
 use Rattle.gc_worker.specs.Steps.Turned.{passes, goes_on, turned, in_epoch, epoch_said, epoch_in_gate}
 use Rattle.gc_worker.proofs.Workers.Parts.{refit, come, before_passage, page_count}
@@ -49,7 +49,7 @@ module _ (c : Configuration) (p : Plain) (s : Stands c p) (k : ℕ) (y : Held) (
     loses : knows (at passage Loads) ≡ record (knows x) { gate_step = None; reset = None } → Goes c p s k None x (Lost (gate_now c))
     loses same =
         becomes c p s k x None (Lost (gate_now c)) (at passage Loads) s.ghost refl is.below
-        (less c p s k x is (knows (at passage Loads)) (rw same (reads_are_forgotten (knows x)))) refl refl
+        (less c p s k x is (knows (at passage Loads)) (rw same (reads_are_forgotten (knows x) refl))) refl refl
         (record { pages = is.fits.stage.sound.pages; stage = tt })
         (refit c.pages c.mutators k x is.fits (Passes (record { layout = l; passage = passage; stage = Loads }) after) is.fits.end is.fits.side is.fits.task
         (record { layout = is.fits.stage.layout; passage = is.fits.stage.passage; going = tt; sound = record { pages = is.fits.stage.sound.pages; stage = tt } }))
@@ -101,11 +101,11 @@ module _ (c : Configuration) (p : Plain) (s : Stands c p) (k : ℕ) (y : Held) (
   requests : (is : Is c k (at Request (Exchanges gate))) → StepsSo c p s k (at Request (Exchanges gate))
   requests is =
       let x = at Request (Exchanges gate) in
-      let z = at_stage x (Flips (flip.begun x.layout x.epoch (pages_needed x))) in
+      let z = at_stage x (Flips (flip.begun x.layout x.epoch (pages_needed x) (has_seen_flip x))) in
       exchanges_it Request is
       (wins Request is (workers.Request (pages_needed x)) refl refl z refl refl
-      (refit c.pages c.mutators k x is.fits (Flips (flip.begun x.layout x.epoch (pages_needed x))) is.fits.end is.fits.side (is.fits.task.0, refl)
-      (record { layout = refl; epoch = refl; going = tt; sound = record { pages = page_count c.pages c.mutators k x is.fits; epoch = is.fits.stage.passage; stage = tt } })))
+      (refit c.pages c.mutators k x is.fits (Flips (flip.begun x.layout x.epoch (pages_needed x) (has_seen_flip x))) is.fits.end is.fits.side (is.fits.task.0, refl)
+      (record { layout = refl; epoch = refl; seen = refl; going = tt; sound = record { pages = page_count c.pages c.mutators k x is.fits; epoch = is.fits.stage.passage; stage = tt } })))
       (loses Request is refl)
 
   resumes : (epoch : ℕ) (is : Is c k (at (Resume epoch) (Exchanges gate))) → StepsSo c p s k (at (Resume epoch) (Exchanges gate))

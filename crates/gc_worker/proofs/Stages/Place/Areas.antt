@@ -18,7 +18,9 @@ use Rattle.alloc_end.specs.Soundness.{FitsPlaceStage}
 use Rattle.fault_duty.specs.declared.caller.Caller.TheVariants as callers
 use Rattle.fault_duty.specs.Duty as duty
 use Rattle.heap_state.specs.Configuration.{Configuration, Stands, table}
+use Rattle.heap_laws.specs.Composing.{IsAtMost}
 use Rattle.heap_laws.proofs.Steps.Answers.{areas_are_read}
+use Rattle.heap_laws.proofs.Steps.Forgotten.{sizes_are_forgotten}
 use Rattle.gc_worker.specs.declared.stage.back.Back.TheVariants.{ToPlace}
 use Rattle.gc_worker.specs.declared.stage.Stage.TheVariants.{Serves}
 use Rattle.gc_worker.specs.Workers.Fits.{Fits}
@@ -30,11 +32,11 @@ use Rattle.gc_worker.proofs.Words.Areas.{area_now, area_says, is_space}
 use Rattle.gc_worker.proofs.Workers.Parts.{refit, page_count}
 use Rattle.gc_worker.proofs.Stages.Gate.Words.{wants}
 use Rattle.gc_worker.proofs.Stages.Place.Claiming.{placing, at, replace}
-use Rattle.gc_worker.proofs.Words.RowSteps.{becomes, loads, nothing}
+use Rattle.gc_worker.proofs.Words.RowSteps.{becomes, loads, less}
 
-module _ (c : Configuration) (p : Plain) (s : Stands c p) (k : ℕ) (y : Held) (run : Run) (header : Header) (is : Is c k (at c p s k y run header (LoadsArea false))) where
+module _ (c : Configuration) (p : Plain) (s : Stands c p) (k : ℕ) (y : Held) (run : Run) (header : Header) (size : ℕ) (is : Is c k (at c p s k y run header (LoadsArea false size))) where
   abbrev x : Held
-  x = at c p s k y run header (LoadsArea false)
+  x = at c p s k y run header (LoadsArea false size)
 
   abbrev space : ℕ
   space = to_space y.epoch
@@ -43,7 +45,7 @@ module _ (c : Configuration) (p : Plain) (s : Stands c p) (k : ℕ) (y : Held) (
   area = (table c).area space
 
   abbrev next : Bool → PlaceStage
-  next b = cond b (ExchangesArea (record { traced = false; area = area })) (Ended (Full (shortage false header area)))
+  next b = cond b (ExchangesArea (record { traced = false; area = area })) (Ended (Full (shortage false size header area)))
 
   abbrev by : PlaceStage → Held
   by stage = turned_place x (placing c p s k y run header stage) (told (placing c p s k y run header stage))
@@ -62,9 +64,10 @@ module _ (c : Configuration) (p : Plain) (s : Stands c p) (k : ℕ) (y : Held) (
   silent true = refl
   silent false = refl
 
-  known : (b : Bool) → knows x ≡ knows (then b)
-  known true = refl
-  known false = refl
+  -- it forgets the size
+  knows_less : (b : Bool) → IsAtMost (knows (then b)) (knows x)
+  knows_less true = sizes_are_forgotten (knows x)
+  knows_less false = sizes_are_forgotten (knows x)
 
   stage_fits : (b : Bool) → fits false (words_for header) area ≡ b → FitsPlaceStage y.layout.pages (pages_for (size_of header)) run header (next b)
   stage_fits true test =
@@ -75,18 +78,18 @@ module _ (c : Configuration) (p : Plain) (s : Stands c p) (k : ℕ) (y : Held) (
   stage_fits false test = tt
 
   worker_fits : (b : Bool) → fits false (words_for header) area ≡ b → Fits c.pages c.mutators k (then b)
-  worker_fits true test = replace c p s k y run header (LoadsArea false) (ExchangesArea (record { traced = false; area = area })) is tt tt (stage_fits true test)
+  worker_fits true test = replace c p s k y run header (LoadsArea false size) (ExchangesArea (record { traced = false; area = area })) is tt tt (stage_fits true test)
   worker_fits false test =
       refit c.pages c.mutators k x is.fits (Serves (duty.begun x.layout callers.Allocates x.epoch x.number) ToPlace) is.fits.end is.fits.side is.fits.task.0
       (record { layout = refl; worker = refl; caller = tt; epoch = refl; going = tt; sound = record { pages = page_count c.pages c.mutators k x is.fits; caller = tt; epoch = is.fits.epoch; worker = rw is.fits.number is.fits.few; stage = tt } }, tt)
 
-  reads : (b : Bool) → fits false (words_for header) area ≡ b → looked_at_area (placing c p s k y run header (LoadsArea false)) false (decode_area (area_now c space)) ≡ next b
-  reads b test = ap (looked_at_area (placing c p s k y run header (LoadsArea false)) false) (area_says c p s space (is_space y.epoch)) ∙ ap next test
+  reads : (b : Bool) → fits false (words_for header) area ≡ b → looked_at_area (placing c p s k y run header (LoadsArea false size)) false size (decode_area (area_now c space)) ≡ next b
+  reads b test = ap (looked_at_area (placing c p s k y run header (LoadsArea false size)) false size) (area_says c p s space (is_space y.epoch)) ∙ ap next test
 
   goes : (b : Bool) → fits false (words_for header) area ≡ b → Goes c p s k None x (Value (area_now c space))
   goes b test =
       becomes c p s k x None (Value (area_now c space)) (then b) s.ghost (ap by (reads b test) ∙ comes b) is.below
-      (nothing c p s k x is (knows (then b)) (known b)) (ap (λ (t : PlaceStage). told_place x (told (placing c p s k y run header t))) (reads b test) ∙ silent b) refl
+      (less c p s k x is (knows (then b)) (knows_less b)) (ap (λ (t : PlaceStage). told_place x (told (placing c p s k y run header t))) (reads b test) ∙ silent b) refl
       (record { pages = is.fits.stage.sound.pages; run = is.fits.stage.sound.run; fields = is.fits.stage.sound.fields; epoch = is.fits.stage.sound.epoch; stage = subst (FitsPlaceStage y.layout.pages (pages_for (size_of header)) run header) (sym (reads b test)) (stage_fits b test) })
       (worker_fits b test)
 

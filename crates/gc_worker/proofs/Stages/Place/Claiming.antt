@@ -1,4 +1,4 @@
--- A mutator claims pages for a record: TRACED is read, and the area is exchanged.
+-- A mutator claims pages for a record: TRACED and the size are read, and the area is exchanged.
 use Rattle.std.proofs.Common.{◌≡◌, ℕ, ◌+◌, ◌-◌, ◌*◌, ◌<◌, ◌≤◌, ◌==◌, Bool, true, false, Some, None, [], refl, ap, sym, subst, ◌∙◌, arith}
 use Rattle.std.proofs.lemmas.Bool.{eqb-true}
 use Rattle.plain_state.specs.State.{Plain}
@@ -8,23 +8,24 @@ use Rattle.record_layout.specs.declared.header.Header.{Header}
 use Rattle.space_map.specs.declared.area_word.AreaWord.{AreaWord}
 use Rattle.space_map.specs.AreaWord.{AreaFits, encode_area}
 use Rattle.space_map.specs.Spaces.{to_space, space_start}
-use Rattle.space_map.specs.Table.{Traced, Area, place_of}
+use Rattle.space_map.specs.Table.{Traced, Area, Size, place_of}
 use Rattle.alloc_end.specs.declared.fitting.Fitting.{Fitting}
 use Rattle.alloc_end.specs.declared.new_pages.NewPages.{NewPages}
 use Rattle.alloc_end.specs.declared.place_stage.PlaceStage.{PlaceStage}
-use Rattle.alloc_end.specs.declared.place_stage.PlaceStage.TheVariants.{LoadsTraced, LoadsArea, ExchangesArea, StoresZero}
+use Rattle.alloc_end.specs.declared.place_stage.PlaceStage.TheVariants.{LoadsTraced, LoadsSize, LoadsArea, ExchangesArea, StoresZero}
 use Rattle.alloc_end.specs.declared.run.Run.{Run}
 use Rattle.alloc_end.specs.Place.{Placing, size_of, pages_for, words_for, kept_room, area_after, first_claimed}
 use Rattle.alloc_end.specs.Soundness.{FitsPlaceStage, AreaHoldsClaim, IsPlacingGoing}
 use Rattle.heap_state.specs.Configuration.{Configuration, Stands, table, era, memory, team}
 use Rattle.heap_state.specs.Memory.Entries.{AreaIs}
+use Rattle.heap_state.specs.Memory.Table.{word_in}
 use Rattle.heap_state.specs.Worker.{Worker, Stock}
 use Rattle.heap_laws.specs.Allocation.Stocks.{SeesRoom, owed_beside, lowered, claimed, stocked}
 use Rattle.heap_laws.specs.Allocation.Stocks as room_laws
 use Rattle.heap_laws.specs.Composing.{unaware}
 use Rattle.heap_laws.specs.Steps.{IsAreaNow}
 use Rattle.heap_laws.proofs.Allocation.Laws.{room_is_seen, claims_pages}
-use Rattle.heap_laws.proofs.Gate.Reading.{sees_traced}
+use Rattle.heap_laws.proofs.Gate.Reading.{sees_size, sees_traced}
 use Rattle.heap_laws.proofs.Steps.Answers.{areas_are_read}
 use Rattle.heap_laws.proofs.Steps.Composing.{steps_forget}
 use Rattle.heap_laws.proofs.Steps.Forgotten.{traced_is_forgotten}
@@ -34,7 +35,7 @@ use Rattle.gc_worker.specs.Steps.Goes.{Is, Goes, StepsSo}
 use Rattle.gc_worker.specs.Workers.Held.{Held, at_stage, fields_for}
 use Rattle.gc_worker.specs.Workers.Knows.{knows, zeroed_to}
 use Rattle.gc_worker.proofs.Words.Areas.{area_now, area_is, is_space}
-use Rattle.gc_worker.proofs.Words.Eras.{start_is, board_is, span_is}
+use Rattle.gc_worker.proofs.Words.Eras.{ends_below, start_is, span_is}
 use Rattle.gc_worker.proofs.Workers.Parts.{refit}
 use Rattle.gc_worker.proofs.Stages.Gate.Words.{wants}
 use Rattle.gc_worker.proofs.Stages.Rounds.Words.{traced_now, traced_word}
@@ -64,12 +65,12 @@ module _ (c : Configuration) (p : Plain) (s : Stands c p) (k : ℕ) (y : Held) (
   module _ (is : Is c k (at LoadsTraced)) where
     goes : (b : Bool) → (traced_now c == y.epoch + 1) ≡ b → Goes c p s k None (at LoadsTraced) (Value (traced_now c))
     goes b test =
-        becomes c p s k (at LoadsTraced) None (Value (traced_now c)) (at (LoadsArea b)) s.ghost (ap (λ (t : Bool). at (LoadsArea t)) test) is.below (learnt b test) refl refl
+        becomes c p s k (at LoadsTraced) None (Value (traced_now c)) (at (LoadsSize b)) s.ghost (ap (λ (t : Bool). at (LoadsSize t)) test) is.below (learnt b test) refl refl
         (record { pages = is.fits.stage.sound.pages; run = is.fits.stage.sound.run; fields = is.fits.stage.sound.fields; epoch = is.fits.stage.sound.epoch; stage = tt })
-        (replace LoadsTraced (LoadsArea b) is tt tt tt)
+        (replace LoadsTraced (LoadsSize b) is tt tt tt)
       where
-        learnt : (b : Bool) → (traced_now c == y.epoch + 1) ≡ b → Law c p s k (at LoadsTraced) None (knows (at (LoadsArea b))) s.ghost
-        learnt false test = nothing c p s k (at LoadsTraced) is (knows (at (LoadsArea false))) refl
+        learnt : (b : Bool) → (traced_now c == y.epoch + 1) ≡ b → Law c p s k (at LoadsTraced) None (knows (at (LoadsSize b))) s.ghost
+        learnt false test = nothing c p s k (at LoadsTraced) is (knows (at (LoadsSize false))) refl
         learnt true test =
             subst (λ (w : Worker). Law c p s k (at LoadsTraced) None (record w { traced_seen = true }) s.ghost) is.as_known
             (sees_traced (era c) (memory c) (team c) s.ghost k (prepared c p s k (at LoadsTraced) is) (rw is.as_known refl)
@@ -79,6 +80,36 @@ module _ (c : Configuration) (p : Plain) (s : Stands c p) (k : ℕ) (y : Held) (
     loads_traced =
         wants c p s k (at LoadsTraced) (Load (place_of c.pages Traced)) (ap (λ n. Some (Load (place_of n Traced))) is.fits.pages)
         (loads c p s k (at LoadsTraced) Traced tt (goes (traced_now c == y.epoch + 1) refl))
+
+  -- ---- the size
+
+  module _ (traced : Bool) (is : Is c k (at (LoadsSize traced))) where
+    abbrev size_now : ℕ
+    size_now = word_in c.pages c.words (Size (to_space y.epoch))
+
+    few : size_now ≤ y.layout.pages
+    few = let n = is.fits.pages in let z = s.formed.sizes (to_space y.epoch) (is_space y.epoch) in omega (arith, n, z)
+
+    -- the epoch's space has so many pages in use
+    is_size : (era c).span ≡ 64 * size_now
+    is_size = span_is c ∙ ap (λ (e : ℕ). 64 * word_in c.pages c.words (Size (to_space e))) (sym (now (LoadsSize traced) is))
+
+    size_learnt : Law c p s k (at (LoadsSize traced)) None (knows (at (LoadsArea traced size_now))) s.ghost
+    size_learnt =
+        subst (λ (w : Worker). Law c p s k (at (LoadsSize traced)) None (record w { size_seen = Some size_now }) s.ghost) is.as_known
+        (sees_size (era c) (memory c) (team c) s.ghost k size_now (prepared c p s k (at (LoadsSize traced)) is) (rw is.as_known refl) is_size)
+
+    found : Goes c p s k None (at (LoadsSize traced)) (Value size_now)
+    found =
+        becomes c p s k (at (LoadsSize traced)) None (Value size_now) (at (LoadsArea traced size_now)) s.ghost refl is.below
+        size_learnt refl refl
+        (record { pages = is.fits.stage.sound.pages; run = is.fits.stage.sound.run; fields = is.fits.stage.sound.fields; epoch = is.fits.stage.sound.epoch; stage = few })
+        (replace (LoadsSize traced) (LoadsArea traced size_now) is tt tt few)
+
+    pub loads_size : StepsSo c p s k (at (LoadsSize traced))
+    loads_size =
+        wants c p s k (at (LoadsSize traced)) (Load (place_of c.pages (Size (to_space y.epoch)))) (ap (λ n. Some (Load (place_of n (Size (to_space y.epoch))))) is.fits.pages)
+        (loads c p s k (at (LoadsSize traced)) (Size (to_space y.epoch)) (is_space y.epoch) found)
 
   -- ---- the area
 
@@ -157,9 +188,9 @@ module _ (c : Configuration) (p : Plain) (s : Stands c p) (k : ℕ) (y : Held) (
 
       lies : first_claimed (placing (ExchangesArea f)) f + words_for header ≤ 128 * y.layout.pages
       lies =
-          let e = ap (λ (q : Stock). q.end) stock_is in let below = (prepared c p s k x is).laid_out.below in
-          let b = board_is c in let sp = span_is c in let n = is.fits.pages in
-          omega (arith, e, below, b, sp, n, room.in_space)
+          let e = ap (λ (q : Stock). q.end) stock_is in
+          let b = start_is c in let l = ends_below c.pages (era c).epoch in let n = is.fits.pages in
+          omega (arith, e, b, l, n, room.in_space)
 
       wins : Goes c p s k (Some (AreaIs space (area_after (words_for header) f))) x Won
       wins =

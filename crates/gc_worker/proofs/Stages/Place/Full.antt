@@ -1,7 +1,7 @@
 -- A mutator that allocates finds the heap full: in a traced epoch too few words are left, and no flip can help.
-use Rattle.std.proofs.Common.{◌≡◌, ℕ, ◌+◌, ◌-◌, ◌<◌, ◌≤◌, ◌^◌, ◌==◌, Bool, true, false, cond, None, Option, Ok, refl, ap, sym, subst, ◌∙◌, arith, ⊎_elim, inl, inr, nat_lt}
+use Rattle.std.proofs.Common.{◌≡◌, ℕ, ◌+◌, ◌-◌, ◌<◌, ◌≤◌, ◌^◌, ◌==◌, ◌&&◌, ◌*◌, Bool, true, false, cond, None, Option, Ok, refl, ap, sym, subst, ◌∙◌, arith, ⊎_elim, inl, inr}
 use Rattle.std.specs.Prelude.{◌⊎◌}
-use Rattle.std.proofs.lemmas.Bool.{leb-false, ltb-true, eqb-true, or_cases}
+use Rattle.std.proofs.lemmas.Bool.{and_parts, leb-false, ltb-true, eqb-true, or_cases}
 use Rattle.plain_state.specs.declared.end.End.{End}
 use Rattle.plain_state.specs.State.{Mutator, Plain}
 use Rattle.mutator_asm.specs.declared.instr.Instr.{Instr}
@@ -12,6 +12,7 @@ use Rattle.record_layout.specs.declared.header.Header.{Header}
 use Rattle.space_map.specs.declared.area_word.AreaWord.{AreaWord}
 use Rattle.space_map.specs.AreaWord.{decode_area}
 use Rattle.space_map.specs.Spaces.{to_space}
+use Rattle.space_map.specs.Table.{Size}
 use Rattle.alloc_end.specs.declared.allocated.Allocated.TheVariants.{Full}
 use Rattle.alloc_end.specs.declared.place_stage.PlaceStage.{PlaceStage}
 use Rattle.alloc_end.specs.declared.place_stage.PlaceStage.TheVariants.{LoadsArea, ExchangesArea, Ended}
@@ -19,13 +20,15 @@ use Rattle.alloc_end.specs.declared.run.Run.{Run}
 use Rattle.alloc_end.specs.Place.{size_of, pages_for, words_for, looked_at_area, fits, shortage, told}
 use Rattle.alloc_end.specs.Soundness.{FitsPlaceStage}
 use Rattle.heap_state.specs.Configuration.{Configuration, Stands, era, memory, table, team}
+use Rattle.heap_state.specs.Memory.Table.{word_in}
 use Rattle.heap_state.specs.Worker.{Worker}
 use Rattle.heap_laws.specs.Fields.Stores.{EndsFull, with_end}
+use Rattle.heap_laws.specs.Composing.{unaware}
 use Rattle.heap_laws.specs.Steps.{IsAreaNow}
 use Rattle.heap_laws.proofs.Fields.Laws.{mutators_find_no_room}
 use Rattle.heap_laws.proofs.Steps.Answers.{areas_are_read}
 use Rattle.heap_laws.proofs.Steps.Composing.{plain_steps_forget}
-use Rattle.heap_laws.proofs.Steps.Forgotten.{traced_is_forgotten}
+use Rattle.heap_laws.proofs.Steps.Forgotten.{sizes_are_forgotten, traced_is_forgotten}
 use Rattle.gate_core.specs.declared.passage.Passage.TheVariants.{Request}
 use Rattle.gc_worker.specs.declared.stage.after.After.TheVariants as afters
 use Rattle.gc_worker.specs.declared.task.Task.{Task}
@@ -34,13 +37,14 @@ use Rattle.gc_worker.specs.Plain.Answer.{after_outcome}
 use Rattle.gc_worker.specs.Workers.Fits.{IsMaking}
 use Rattle.gc_worker.specs.Plain.Full.{FindsNoRoom}
 use Rattle.gc_worker.specs.Steps.Goes.{Is, Goes}
-use Rattle.gc_worker.specs.Workers.Held.{Held, at_stage}
+use Rattle.gc_worker.specs.Workers.Held.{Held, at_stage, has_seen_flip}
 use Rattle.gc_worker.specs.Workers.Knows.{knows}
 use Rattle.gc_worker.specs.declared.calls.did.Did.TheVariants.{Trap}
-use Rattle.gc_worker.specs.Steps.Turned.{Silent, Answers, finds_full, passes, ended, end_by_shortage, told_end, turned_place, told_place}
+use Rattle.gc_worker.specs.Steps.Turned.{Silent, Answers, is_full, passes, ended, end_by_shortage, told_end, turned_place, told_place}
 use Rattle.gc_worker.specs.Steps.Turned as turning
 use Rattle.gc_worker.proofs.Plain.AnswerSteps.{LawTo, IsIts, answers}
 use Rattle.gc_worker.proofs.Words.Areas.{area_now, area_says, is_space}
+use Rattle.gc_worker.proofs.Words.Eras.{span_is}
 use Rattle.gc_worker.proofs.Stages.Gate.Words.{gate_says}
 use Rattle.gc_worker.proofs.Plain.NewRecords.{header_made, plain_pages}
 use Rattle.gc_worker.proofs.Stages.Place.Claiming.{placing, at, now}
@@ -48,7 +52,7 @@ use Rattle.gc_worker.proofs.Stages.Rounds.Words.{traced_word}
 use Rattle.gc_worker.proofs.Workers.Answered.{ended_fits}
 use Rattle.gc_worker.proofs.Words.RowSteps.{prepared}
 
-module _ (c : Configuration) (p : Plain) (s : Stands c p) (k : ℕ) (y : Held) (run : Run) (making : IsMaking y.account y.registers y.task) where
+module _ (c : Configuration) (p : Plain) (s : Stands c p) (k : ℕ) (y : Held) (run : Run) (size : ℕ) (making : IsMaking y.account y.registers y.task) where
   abbrev header : Header
   header = header_made y making
 
@@ -56,7 +60,7 @@ module _ (c : Configuration) (p : Plain) (s : Stands c p) (k : ℕ) (y : Held) (
   instr = making.executes.instr
 
   abbrev x : Held
-  x = at c p s k y run header (LoadsArea true)
+  x = at c p s k y run header (LoadsArea true size)
 
   abbrev space : ℕ
   space = to_space y.epoch
@@ -68,16 +72,16 @@ module _ (c : Configuration) (p : Plain) (s : Stands c p) (k : ℕ) (y : Held) (
   asked = pages_for (size_of header)
 
   abbrev end : End
-  end = end_by_shortage (shortage true header area)
+  end = end_by_shortage (shortage true size header area)
 
   abbrev after : Held
   after = ended x end
 
-  module _ (is : Is c k x) (full : finds_full y ≡ true) (short : fits true (words_for header) area ≡ false) where
-    reads : looked_at_area (placing c p s k y run header (LoadsArea true)) true (decode_area (area_now c space)) ≡ Ended (Full (shortage true header area))
+  module _ (is : Is c k x) (full : is_full y (shortage true size header area) ≡ true) (short : fits true (words_for header) area ≡ false) where
+    reads : looked_at_area (placing c p s k y run header (LoadsArea true size)) true size (decode_area (area_now c space)) ≡ Ended (Full (shortage true size header area))
     reads =
-        ap (looked_at_area (placing c p s k y run header (LoadsArea true)) true) (area_says c p s space (is_space y.epoch))
-        ∙ ap (λ (b : Bool). cond b (ExchangesArea (record { traced = true; area = area })) (Ended (Full (shortage true header area)))) short
+        ap (looked_at_area (placing c p s k y run header (LoadsArea true size)) true size) (area_says c p s space (is_space y.epoch))
+        ∙ ap (λ (b : Bool). cond b (ExchangesArea (record { traced = true; area = area })) (Ended (Full (shortage true size header area)))) short
 
     comes : turning.turned x (Value (area_now c space)) ≡ after
     comes =
@@ -91,7 +95,7 @@ module _ (c : Configuration) (p : Plain) (s : Stands c p) (k : ℕ) (y : Held) (
 
     -- the area is that of the current epoch
     is_now : IsAreaNow (era c) (memory c) area
-    is_now = subst (λ (e : ℕ). IsAreaNow (era c) (memory c) ((table c).area (to_space e))) (sym (now c p s k y run header (LoadsArea true) is)) (areas_are_read c p s).now
+    is_now = subst (λ (e : ℕ). IsAreaNow (era c) (memory c) ((table c).area (to_space e))) (sym (now c p s k y run header (LoadsArea true size) is)) (areas_are_read c p s).now
 
     order : area.front ≤ area.low
     order = ((areas_are_read c p s).each space (is_space y.epoch)).order.0
@@ -105,19 +109,31 @@ module _ (c : Configuration) (p : Plain) (s : Stands c p) (k : ℕ) (y : Held) (
 
       law : LawTo c p s k x None (knows after) s.ghost (after_outcome p k q (Calls instr) (Trap end))
       law =
-          plain_steps_forget (era c) (memory c) (team c) s.ghost k None (with_end (knows x) end) (knows after) s.ghost (after_outcome p k q (Calls instr) (Trap end))
+          let done = with_end (knows x) end in
+          plain_steps_forget (era c) (memory c) (team c) s.ghost k None (unaware done) (knows after) s.ghost (after_outcome p k q (Calls instr) (Trap end))
+          (plain_steps_forget (era c) (memory c) (team c) s.ghost k None done (unaware done) s.ghost (after_outcome p k q (Calls instr) (Trap end))
           (subst (λ (w : Worker). LawTo c p s k x None (with_end w end) s.ghost (after_outcome p k q (Calls instr) (Trap end))) is.as_known finds.ends)
-          (traced_is_forgotten (with_end (knows x) end) refl refl)
+          (traced_is_forgotten done refl refl))
+          (sizes_are_forgotten (unaware done))
 
-      no_flip : (y.begun < y.epoch) ⊎ (y.epoch ≡ 2 ^ 32 - 1)
+      -- it has read the size of the epoch's space
+      is_size : word_in c.pages c.words (Size space) ≡ size
+      is_size =
+          let seen = ((s.invariant.workers k is.below).size_seen size (rw is.as_known refl)).1 in
+          let here : (era c).span ≡ 64 * word_in c.pages c.words (Size space) = span_is c ∙ ap (λ (e : ℕ). 64 * word_in c.pages c.words (Size (to_space e))) (sym (now c p s k y run header (LoadsArea true size) is)) in
+          omega (arith, seen, here)
+
+      no_flip : ((y.begun < y.epoch) × (size ≡ c.pages)) ⊎ (y.epoch ≡ 2 ^ 32 - 1)
       no_flip = ⊎_elim
-          (λ (flipped : nat_lt y.begun y.epoch ≡ true). inl (ltb-true y.begun y.epoch flipped))
+          (λ (flipped : (has_seen_flip y && (size == y.layout.pages)) ≡ true).
+          let both = and_parts (has_seen_flip y) (size == y.layout.pages) flipped in
+          inl (ltb-true y.begun y.epoch both.0, eqb-true size y.layout.pages both.1 ∙ is.fits.pages))
           (λ (last : (y.epoch == 2 ^ 32 - 1) ≡ true). inr (eqb-true y.epoch (2 ^ 32 - 1) last))
-          (or_cases (nat_lt y.begun y.epoch) (y.epoch == 2 ^ 32 - 1) full)
+          (or_cases (has_seen_flip y && (size == y.layout.pages)) (y.epoch == 2 ^ 32 - 1) full)
 
       no_room : FindsNoRoom c.pages c.words x asked (area.low - area.front) area.front
       no_room =
-          let epoch = now c p s k y run header (LoadsArea true) is in
+          let epoch = now c p s k y run header (LoadsArea true size) is in
           record {
             gate = (table c).gate;
             gate_is = gate_says c p s;
@@ -128,6 +144,8 @@ module _ (c : Configuration) (p : Plain) (s : Stands c p) (k : ℕ) (y : Held) (
             room_is = omega (arith, order);
             live_is = refl;
             short = finds.short;
+            size = size;
+            size_is = is_size;
             no_flip = no_flip;
           }
 

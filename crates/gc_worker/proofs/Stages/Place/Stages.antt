@@ -4,7 +4,7 @@ use Rattle.std.proofs.lemmas.Option.{same_Some}
 use Rattle.plain_state.specs.State.{Plain}
 use Rattle.record_layout.specs.declared.header.Header.{Header}
 use Rattle.alloc_end.specs.declared.place_stage.PlaceStage.{PlaceStage}
-use Rattle.alloc_end.specs.declared.place_stage.PlaceStage.TheVariants.{LoadsTraced, LoadsArea, ExchangesArea, StoresZero, OpensPage, StoresCount, StoresHeader, Ended}
+use Rattle.alloc_end.specs.declared.place_stage.PlaceStage.TheVariants.{LoadsTraced, LoadsSize, LoadsArea, ExchangesArea, StoresZero, OpensPage, StoresCount, StoresHeader, Ended}
 use Rattle.alloc_end.specs.declared.run.Run.{Run}
 use Rattle.alloc_end.specs.Place.{Placing}
 use Rattle.heap_state.specs.Configuration.{Configuration, Stands}
@@ -14,7 +14,7 @@ use Rattle.gc_worker.specs.Workers.Fits.{IsMaking}
 use Rattle.gc_worker.specs.Workers.Held.{Held, at_stage, fields_for, header_for}
 use Rattle.gc_worker.proofs.Plain.NewRecords.{header_made, header_is}
 use Rattle.gc_worker.proofs.Stages.Place.Areas.{loads_area}
-use Rattle.gc_worker.proofs.Stages.Place.Claiming.{at, loads_traced, exchanges_area}
+use Rattle.gc_worker.proofs.Stages.Place.Claiming.{at, loads_traced, loads_size, exchanges_area}
 use Rattle.gc_worker.proofs.Stages.Place.Counting.{stores_count}
 use Rattle.gc_worker.proofs.Stages.Place.Header.{stores_header}
 use Rattle.gc_worker.proofs.Stages.Place.Opened.{opens_page}
@@ -31,8 +31,9 @@ module _ (c : Configuration) (p : Plain) (s : Stands c p) (k : ℕ) (x : Held) w
 
   own : (run : Run) (header : Header) (stage : PlaceStage) → Is c k (at c p s k x run header stage) → StepsSo c p s k (at c p s k x run header stage)
   own run header LoadsTraced is = loads_traced c p s k x run header is
-  own run header (LoadsArea false) is = loads_area c p s k x run header is
-  own run header (LoadsArea true) is = let task = is.fits.task in for_made run header (LoadsArea true) task.0 task.1 (loads_area_traced c p s k x run task.0) is
+  own run header (LoadsSize traced) is = loads_size c p s k x run header traced is
+  own run header (LoadsArea false size) is = loads_area c p s k x run header size is
+  own run header (LoadsArea true size) is = let task = is.fits.task in for_made run header (LoadsArea true size) task.0 task.1 (loads_area_traced c p s k x run size task.0) is
   own run header (ExchangesArea f) is = exchanges_area c p s k x run header f is
   own run header (StoresZero new) is = stores_zero c p s k x run header new is
   own run header (OpensPage new) is = opens_page c p s k x run header new is

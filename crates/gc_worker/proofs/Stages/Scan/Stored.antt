@@ -61,7 +61,7 @@ module _ (c : Configuration) (p : Plain) (s : Stands c p) (k : ℕ) (y : Held) (
         let q = (s.invariant.workers k is.below).quest quest asks in
         let t = s.invariant.copied.target quest.old to q.old.0 (q.found to refl).0 in
         let o = s.invariant.laid.order in
-        let l = laid_out c.pages c.words in
+        let l = laid_out c.pages c.words s.formed in
         let b = board_at c in
         let n = is.fits.counted.1 in
         omega (arith, t.3, o, l.below, b, n)

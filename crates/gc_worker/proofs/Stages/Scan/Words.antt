@@ -1,5 +1,5 @@
 -- A word of the board, or a field, is loaded: where it leads into the old space the copy is asked for, else it is passed.
-use Rattle.std.proofs.Common.{◌≡◌, ℕ, ◌+◌, ◌*◌, ◌<◌, ◌≤◌, ◌&&◌, Bool, true, false, None, nat_lt, nat_le, refl, sym, ap, ◌∙◌, subst, arith}
+use Rattle.std.proofs.Common.{◌≡◌, ℕ, ◌+◌, ◌*◌, ◌<◌, ◌≤◌, ◌⊎◌, ◌&&◌, Bool, true, false, None, nat_lt, nat_le, refl, sym, ap, ◌∙◌, subst, arith, inl, inr, ⊎_elim}
 use Rattle.std.proofs.lemmas.Bool.{ltb-true, leb-true}
 use Rattle.std.proofs.lemmas.Bool.Decides.{nat_tests}
 use Rattle.plain_state.specs.State.{Plain}
@@ -17,13 +17,14 @@ use Rattle.page_scan.specs.declared.spot.Spot.{Spot}
 use Rattle.page_scan.specs.declared.spot.Spot.TheVariants.{OnBoard, InRecord}
 use Rattle.heap_state.specs.Configuration.{Configuration, Stands, era, memory, team, table}
 use Rattle.heap_state.specs.Memory.Era.{Era}
-use Rattle.heap_state.specs.Invariant.Ghost.{Leads}
+use Rattle.heap_state.specs.Invariant.Ghost.{Lands, Leads}
 use Rattle.heap_state.specs.Memory.Table.{word_in}
 use Rattle.heap_state.specs.Worker.{Worker, Scan, Scanned}
-use Rattle.heap_state.proofs.Table.LaidOut.{table_pages, table_in_use, laid_out}
+use Rattle.heap_state.proofs.Table.LaidOut.{table_pages, laid_out}
 use Rattle.heap_laws.specs.Scanning.Words.{scanning, asking, past_word, IsScanning, AtField}
 use Rattle.heap_laws.proofs.Lifting.Configurations.{board_at}
 use Rattle.heap_laws.proofs.Scanning.Fields as fields
+use Rattle.heap_laws.proofs.Steps.Answers.{scans_are_answered}
 use Rattle.heap_laws.proofs.Steps.Composing.{steps_forget}
 use Rattle.gc_worker.specs.declared.stage.back.Back.{Back}
 use Rattle.gc_worker.specs.declared.stage.Stage.{Stage}
@@ -32,6 +33,7 @@ use Rattle.forwarding.specs.Evacuation as evac
 use Rattle.gc_worker.specs.Steps.Goes.{Is, Goes, StepsSo}
 use Rattle.gc_worker.specs.Workers.Held.{Held}
 use Rattle.gc_worker.specs.Workers.Knows.{knows, scan_at}
+use Rattle.gc_worker.proofs.Words.Eras.{old_span_within, old_start_is, spaces_apart, span_within, start_is}
 use Rattle.gc_worker.proofs.Workers.Parts.{refit, page_count}
 use Rattle.gc_worker.proofs.Stages.Gate.Words.{wants}
 use Rattle.gc_worker.proofs.Stages.Scan.GoingOn.{scans_to, still_back}
@@ -45,8 +47,20 @@ unfolding Leads
 unleading E w none l = none l.0 l.1 l.2 l.3
 
 -- the old space lies below the board
-old_space_below : (c : Configuration) → (era c).old_start + (era c).old_span ≤ 128 * c.pages
-old_space_below c = let l = laid_out c.pages c.words in let b = board_at c in omega (arith, l.old_below, b)
+old_space_below : (c : Configuration) (p : Plain) → Stands c p → (era c).old_start + (era c).old_span ≤ 128 * c.pages
+old_space_below c p s = let l = laid_out c.pages c.words s.formed in let b = board_at c in omega (arith, l.old_below, b)
+
+-- the epoch's space lies apart from the old one with all its pages, in use or not
+apart_from_old : (c : Configuration) (p : Plain) → Stands c p → ((era c).start + (era c).span ≤ (era c).old_start) ⊎ ((era c).old_start + 64 * c.pages ≤ (era c).start)
+apart_from_old c p s =
+    let apart = spaces_apart c.pages (era c).epoch in
+    let w = span_within c p s in let b = start_is c in let o = old_start_is c in
+    rw (b, o) (⊎_elim (λ l. inl (omega (arith, l, w))) (λ l. inr l) apart)
+
+-- a word that lands leads to a record
+leads_to : (size writer : ℕ → ℕ) (w : ℕ) → Lands size writer w → (b : ℕ) → decode w ≡ PointerWord b → (0 < size b) × (writer b ≡ 0)
+unfolding Lands
+leads_to size writer w lands b points = lands b points
 
 pointers : {a b : ℕ} → PointerWord a ≡ PointerWord b → a ≡ b
 pointers e = cc
@@ -92,8 +106,24 @@ module _ (c : Configuration) (p : Plain) (s : Stands c p) (k : ℕ) (y : Held) (
     old_start : (era c).old_start ≡ space_start u.layout.pages (to_space (u.epoch + 1))
     old_start = let n : (table c).pages ≡ c.pages = table_pages c.pages c.words in rw (of_now, n, is.fits.stage.0.layout, is.fits.pages) refl
 
-    old_span : (era c).old_span ≡ 64 * u.layout.pages
-    old_span = rw (table_in_use c.pages c.words, is.fits.stage.0.layout, is.fits.pages) refl
+    pages_are : u.layout.pages ≡ c.pages
+    pages_are = ap (λ l. l.pages) is.fits.stage.0.layout ∙ is.fits.pages
+
+    -- all the space's pages, in use or not
+    old_span : (era c).old_span ≤ 64 * u.layout.pages
+    old_span = let w = old_span_within c p s in let n = pages_are in omega (arith, w, n)
+
+    -- the word at the cursor leads to a record, and none is in the pages of the old space that are not in use
+    in_use : (a : ℕ) → decode ((memory c).heap now.cursor) ≡ PointerWord a → (era c).old_start ≤ a → a < (era c).old_start + 64 * u.layout.pages
+        → a < (era c).old_start + (era c).old_span
+    in_use a points low high =
+        let lands = (scans_are_answered (era c) (memory c) (team c) s.ghost k now (prepared c p s k x is) scans).field field in
+        let there = leads_to s.ghost.size s.ghost.writer ((memory c).heap now.cursor) lands.1 a points in
+        let lies = s.invariant.laid.lies a there.0 in
+        let o = s.invariant.laid.order in
+        let apart = apart_from_old c p s in
+        let n = pages_are in
+        omega (arith, there.0, lies, o, apart, n, low, high)
 
     -- it is passed
     goes_past : ¬ (Leads (era c) ((memory c).heap now.cursor)) → after (decode word) ≡ passes_word u.page u.in_place spot → Goes c p s k None x (Value word)
@@ -115,7 +145,7 @@ module _ (c : Configuration) (p : Plain) (s : Stands c p) (k : ℕ) (y : Held) (
     goes_asking a points low high same =
         let l : Law c p s k x None (asking (knows x) (record { old = a; origin = Scanned now.cursor; found = None })) s.ghost =
         rw is.as_known at (fields.asks (era c) (memory c) (team c) s.ghost k now a (prepared c p s k x is) scans field refl points low high) in
-        let inside : a < 128 * x.layout.pages = let w = old_space_below c in rw is.fits.pages (omega (arith, w, high)) in
+        let inside : a < 128 * x.layout.pages = let w = old_space_below c p s in rw is.fits.pages (omega (arith, w, high)) in
         quiet c p s k x None (Value word) s.ghost is.below (rw same l) refl
         (record { pages = is.fits.stage.0.sound.pages; page = is.fits.stage.0.sound.page; fits = rw same is.fits.stage.0.sound.fits })
         (rw same (refit c.pages c.mutators k x is.fits (asked a) is.fits.end is.fits.side is.fits.task (
@@ -135,11 +165,12 @@ module _ (c : Configuration) (p : Plain) (s : Stands c p) (k : ℕ) (y : Held) (
         by_old true f =
             let m = between_by (space_start u.layout.pages (to_space (u.epoch + 1))) (space_start u.layout.pages (to_space (u.epoch + 1)) + 64 * u.layout.pages) a
             (nat_le (space_start u.layout.pages (to_space (u.epoch + 1))) a) (nat_lt a (space_start u.layout.pages (to_space (u.epoch + 1)) + 64 * u.layout.pages)) refl refl f in
-            goes_asking a says (rw old_start m.0) (rw (old_start, old_span) m.1) (rw (e, f) refl)
+            let low : (era c).old_start ≤ a = rw old_start m.0 in
+            goes_asking a says low (in_use a says low (rw old_start m.1)) (rw (e, f) refl)
         by_old false f = goes_past
             (unleading (era c) ((memory c).heap now.cursor) (λ b q low high.
             let same : a ≡ b = pointers (sym says ∙ q) in
-            outside_by (space_start u.layout.pages (to_space (u.epoch + 1))) (space_start u.layout.pages (to_space (u.epoch + 1)) + 64 * u.layout.pages) a f (rw (← old_start, same) low) (rw (← old_start, ← old_span, same) high)))
+            outside_by (space_start u.layout.pages (to_space (u.epoch + 1))) (space_start u.layout.pages (to_space (u.epoch + 1)) + 64 * u.layout.pages) a f (rw (← old_start, same) low) (let w = old_span in let at = old_start in omega (arith, w, at, same, high))))
             (rw (e, f) refl)
     goes_by (NumberWord m) e = goes_past (unleading (era c) ((memory c).heap now.cursor) (λ b q _ _. let z = sym (ap decode (heap_word c (address_of spot)) ∙ e) ∙ q in absurd (cc))) (rw e refl)
     goes_by (HeaderWord kind len serial mutator) e = goes_past (unleading (era c) ((memory c).heap now.cursor) (λ b q _ _. let z = sym (ap decode (heap_word c (address_of spot)) ∙ e) ∙ q in absurd (cc))) (rw e refl)

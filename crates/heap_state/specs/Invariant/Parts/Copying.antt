@@ -21,8 +21,8 @@ pub record Seeks (E : Era) (size writer copy : ℕ → ℕ) (q : Quest) : Type 0
   pub found : (b : ℕ) → q.found ≡ Some b → (copy q.old ≡ b + 1) × (writer b ≡ 0)
 
 -- The record stands in the old space and this worker keeps its header. Its place was FRONT when it was read, and is at most
--- FRONT now; it is reserved once AREA was exchanged, and announced before. The words after the header that were copied agree, and so do the word that was
--- loaded and the crossings that were stored.
+-- FRONT now; it is reserved once AREA was exchanged, and announced before. The words after the header that were copied agree, and
+-- so do the word that was loaded and the crossings that were stored.
 pub record Copies (E : Era) (front : ℕ) (size writer copy keeper kept announced cross heap : ℕ → ℕ) (k : ℕ) (c : Copy) : Type 0 where
   pub old : (0 < c.size) × (size c.from ≡ c.size) × (keeper c.from ≡ k + 1) × (kept k ≡ c.from + 1) × (E.old_start ≤ c.from) × (c.from + c.size ≤ E.old_start + E.old_span)
   pub loose : c.reserved ≡ false → (copy c.from ≡ 0) × (c.done ≡ 0)

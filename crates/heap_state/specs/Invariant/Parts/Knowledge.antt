@@ -1,10 +1,11 @@
 -- What each worker knows, component by component.
-use Rattle.std.specs.Prelude.{◌≡◌, ℕ, ◌+◌, ◌<◌, ◌≤◌, ◌⊎◌, Bool, true, false, Some}
+use Rattle.std.specs.Prelude.{◌≡◌, ℕ, ◌+◌, ◌*◌, ◌<◌, ◌≤◌, ◌⊎◌, Bool, true, false, Some}
 use Rattle.heap_words.specs.Decoded.{PointerWord, decode}
 use Rattle.plain_state.specs.Layout.{is_field, is_raw, values_at}
 use Rattle.plain_state.specs.declared.kind.Kind.{Kind}
 use Rattle.plain_state.specs.declared.kind.Kind.TheVariants.{Mixed}
 use Rattle.space_map.specs.declared.gate_word.GateWord.{GateWord}
+use Rattle.space_map.specs.declared.spaces.TheConstants.{PAGE_WORDS}
 use Rattle.heap_state.specs.Memory.Era.{Era}
 use Rattle.heap_state.specs.Invariant.Ghost.{Leads, Lands}
 use Rattle.heap_state.specs.Worker.{Post, Outside, Stopped, Passage, Enter, Park, Request, Forwarded, Resume, Leave, Reset, Role, FieldRole, NumberRole, UnknownRole, Access, is_live, is_running, is_flipper, is_gone, is_behind}
@@ -35,13 +36,16 @@ Passes post epoch done ended traced_seen read Forwarded = (post ≡ Stopped) × 
 Passes post epoch done ended traced_seen read Resume = (post ≡ Stopped) × (read.epoch ≡ epoch) × (read.request ≡ false) × (read.behind ≡ 0)
 Passes post epoch done ended traced_seen read Leave = (is_running post ≡ true) × (ended ≡ true)
 
--- While a flip is in progress the gate stands still. The words in use are those that are, and AREA of the other space is
--- what was stored.
+-- While a flip is in progress the gate stands still. The size and the words in use are those that are. The other space gets no
+-- smaller than the epoch's; its size and its AREA are what was stored.
 pub record Resets (E : Era) (gate : GateWord) (front low old_front old_low old_owed : ℕ) (r : Reset) : Type 0 where
   pub unmoved : gate ≡ r.read
   pub stopped : (r.read.running ≡ 0) × (r.read.behind ≡ 0)
+  pub size : (p : ℕ) → r.size ≡ Some p → E.span ≡ PAGE_WORDS * p
+  pub grown : (q : ℕ) → r.grown ≡ Some q → E.span ≤ PAGE_WORDS * q
   pub used : (u : ℕ) → r.used ≡ Some u → u + low ≡ E.span + front
-  pub stored : r.stored ≡ true → (old_front ≡ E.old_start) × (old_low ≡ E.old_start + E.old_span) × (r.used ≡ Some old_owed)
+  pub sized : r.sized ≡ true → (q : ℕ) × (r.grown ≡ Some q) × (E.old_span ≡ PAGE_WORDS * q)
+  pub stored : r.stored ≡ true → (r.sized ≡ true) × (old_front ≡ E.old_start) × (old_low ≡ E.old_start + E.old_span) × (r.used ≡ Some old_owed)
 
 -- ---- registers and accesses
 

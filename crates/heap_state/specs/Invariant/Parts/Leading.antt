@@ -20,4 +20,4 @@ pub record Landing (E : Era) (size writer : ℕ → ℕ) (kind : ℕ → Kind) (
 pub record Older (E : Era) (size writer : ℕ → ℕ) (kind : ℕ → Kind) (heap : ℕ → ℕ) : Type 0 where
   pub older : (a i b : ℕ) → IsField size writer kind a i → E.old_start ≤ a → a < E.old_start + E.old_span → decode (heap (a + i)) ≡ PointerWord b
       → (0 < size b) × (E.old_start ≤ b) × (b < E.old_start + E.old_span)
-  pub written : (a : ℕ) → E.old_start ≤ a → a < E.old_start + E.old_span → writer a ≡ 0
+  pub written : (a : ℕ) → 0 < size a → E.old_start ≤ a → a < E.old_start + E.old_span → writer a ≡ 0

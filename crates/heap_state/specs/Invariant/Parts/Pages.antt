@@ -1,5 +1,5 @@
--- Which pages are open, and when.
-use Rattle.std.specs.Prelude.{◌≡◌, ℕ, ◌+◌, ◌<◌, ◌≤◌, Some}
+-- Which pages are open, and when; and which space is the larger one.
+use Rattle.std.specs.Prelude.{◌≡◌, ℕ, ◌+◌, ◌<◌, ◌≤◌, Bool, false, Some}
 use Rattle.space_map.specs.declared.page_word.PageWord.{PageWord}
 use Rattle.space_map.specs.declared.page_word.PageWord.TheVariants.{Open, Scanning}
 use Rattle.space_map.specs.PageWord.{age_of}
@@ -45,6 +45,10 @@ pub record Aged (E : Era) (page : ℕ → PageWord) : Type 0 where
 -- the copied pages of the old space were open in the epoch before
 pub record OldPages (E : Era) (old_front : ℕ) (page : ℕ → PageWord) : Type 0 where
   pub old : (p : ℕ) → E.old_start ≤ first_word p → first_word p < old_front → E.epoch ≤ age_of (page p)
+
+-- while no flip is requested, the old space is no larger than the epoch's
+pub record Sizes (E : Era) (request : Bool) : Type 0 where
+  pub below : request ≡ false → E.old_span ≤ E.span
 
 -- whoever a page's word names scans that page
 pub record ScannedBy (E : Era) (count : ℕ) (page : ℕ → PageWord) (worker : ℕ → Worker) : Type 0 where

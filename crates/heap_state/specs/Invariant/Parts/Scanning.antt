@@ -46,8 +46,8 @@ pub record IsHeaded (E : Era) (front : ℕ) (size writer : ℕ → ℕ) (kind : 
   pub cursor : (h.at ≤ x) × (x < h.at + h.size)
 
 -- Which record the cursor is in: the one over the page's first word once its place is read; the mixed one whose header is read;
--- the one that is entered. One begins at the cursor that FRONT was seen past. The cursor is never before the page. At the end it is past the page or at
--- FRONT. A page that wasn't claimed as the filling one is full or the board.
+-- the one that is entered. One begins at the cursor that FRONT was seen past. The cursor is never before the page. At the end it is
+-- past the page or at FRONT. A page that wasn't claimed as the filling one is full or the board.
 pub record Stepping (E : Era) (front : ℕ) (size writer : ℕ → ℕ) (kind : ℕ → Kind) (s : Scan) : Type 0 where
   pub over : (a : ℕ) → s.over ≡ Some a → (0 < size a) × (writer a ≡ 0) × (a ≤ first_word s.page) × (first_word s.page < a + size a)
   pub headed : (h : SeenHeader) → s.headed ≡ Some h → IsHeaded E front size writer kind s.cursor h

@@ -38,7 +38,7 @@ module _ (c : Configuration) (p : Plain) (s : Stands c p) (y : Held) (r : Record
 
   -- ---- by what is done with the record
 
-  uses_by : (role : Role) (len : ℕ) (usage : RecordUse) → Owes (used_by r 1 role len usage)
+  uses_by : (role : Role) (len : ℕ) (usage : RecordUse) → Owes (used_by r role len usage)
   uses_by role len (record_uses.TellsLength into) = brings c p s y (LoadsHeader r) a (table c) into (number_word len) a.remembers.quiet
   uses_by role len (record_uses.Loads into) = loads_it c p s y (LoadsHeader r) a (field_of r.at 1 role r.value) (omega arith) into (in_record len r.value)
   uses_by role len (record_uses.Stores new) = stores_it c p s y (LoadsHeader r) a (field_of r.at 1 role r.value) (omega arith) (field_uses.Stores new) (may_store role new (in_record len r.value))

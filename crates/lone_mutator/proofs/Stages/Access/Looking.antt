@@ -138,7 +138,7 @@ module _ (c : Configuration) (p : Plain) (s : Stands c p) (y : Held) where
   -- the pages of a record are open in a traced epoch
   open_at : (at x : ℕ) → 0 < s.ghost.size at → (era c).start ≤ at → at < (era c).start + (era c).span → at ≤ x → x < at + s.ghost.size at → IsTracedNow → (table c).page (page_of x) ≡ Open (table c).gate.epoch
   open_at at x stands from below low high traced =
-      records_are_open (era c) (memory c).traced (memory c).gate.behind (memory c).front (memory c).low s.ghost.size (memory c).heap (memory c).page (laid_out c.pages c.words)
+      records_are_open (era c) (memory c).traced (memory c).gate.behind (memory c).front (memory c).low s.ghost.size (memory c).heap (memory c).page (laid_out c.pages c.words s.formed)
       s.invariant.tracing s.invariant.laid s.invariant.new traced at x stands from below low high
 
   -- ---- the looks

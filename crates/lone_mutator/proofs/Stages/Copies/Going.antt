@@ -32,7 +32,7 @@ use Rattle.gc_worker.proofs.Words.Areas.{area_says, area_word, is_space}
 use Rattle.gc_worker.proofs.Stages.Scan.Headers.{heap_word}
 use Rattle.lone_mutator.specs.Copies.{CopyStands, copy_left}
 use Rattle.lone_mutator.specs.Lone.{is_announced, NobodyElseAnnounces}
-use Rattle.lone_mutator.specs.Potential.{left_in, due_in}
+use Rattle.lone_mutator.specs.Potential.{left_in, due_in, size_in}
 use Rattle.lone_mutator.proofs.Stages.Copies.Lowering.{copied-le, crossed-le, copied-announced, crossed-announced, copied-stands, crossed-stands}
 use Rattle.lone_mutator.proofs.Stages.Copies.Reading.{IsFirstWord}
 use Rattle.lone_mutator.proofs.Steps.Rows.{HoldsBy, loads, stores, exchanges}
@@ -44,6 +44,7 @@ pub record CopyGoes (n : ℕ) (t after : Table) (v w : Evacuation) : Type 0 wher
   pub quiet : NobodyElseAnnounces after.announced (is_announced w.stage)
   pub gate : after.gate ≡ t.gate
   pub traced : after.traced ≡ t.traced
+  pub size : size_in after ≡ size_in t
   pub left : copy_left w.stage + left_in n after < copy_left v.stage + left_in n t
 
 -- The copy is worker 0's, of the gate's epoch, which isn't traced. What it has read is so, it meets no record that is being copied, and
@@ -78,11 +79,11 @@ module _ (c : Configuration) (p : Plain) (s : Stands c p) (u : Evacuation) where
     steps q next holds r asked = subst (HoldsBy c p s (Goes z)) (same_Some q r (sym next ∙ asked)) holds
 
     -- nothing but the heap's words and the crossings changes, and the copy has less left
-    plain : (after : Table) (next : EvacStage) (reply : Reply) → taken (at z) reply ≡ at next → after.gate ≡ t.gate → after.traced ≡ t.traced
+    plain : (after : Table) (next : EvacStage) (reply : Reply) → taken (at z) reply ≡ at next → after.gate ≡ t.gate → after.traced ≡ t.traced → size_in after ≡ size_in t
         → left_in n after ≡ left_in n t → NobodyElseAnnounces after.announced (is_announced next) → CopyStands after (at next) next
         → copy_left next < copy_left z → Goes z after reply
-    plain after next reply is gate traced same quiet stands fewer = subst (λ (w : Evacuation). CopyGoes n t after (at z) w) (sym is)
-        (record { stands = stands; quiet = quiet; gate = gate; traced = traced; left = omega (arith, same, fewer) })
+    plain after next reply is gate traced size same quiet stands fewer = subst (λ (w : Evacuation). CopyGoes n t after (at z) w) (sym is)
+        (record { stands = stands; quiet = quiet; gate = gate; traced = traced; size = size; left = omega (arith, same, fewer) })
 
   -- ---- the old record's first word
 
@@ -98,8 +99,8 @@ module _ (c : Configuration) (p : Plain) (s : Stands c p) (u : Evacuation) where
 
   by_first : CopyIsAlone c (at LoadsHeader) → (d : Decoded) → decode word ≡ d → IsFirstWord d → Goes LoadsHeader t (Value word)
   by_first a (HeaderWord kind len serial mutator) is first =
-      plain LoadsHeader a t (TakesHeader (record { word = word; len = len })) (Value word) (ap (λ d. at (by_first_word word d)) is) refl refl refl a.quiet read (omega arith)
-  by_first a (ForwardWord len to) is first = plain LoadsHeader a t (Ended to) (Value word) (ap (λ d. at (by_first_word word d)) is) refl refl refl a.quiet tt (omega arith)
+      plain LoadsHeader a t (TakesHeader (record { word = word; len = len })) (Value word) (ap (λ d. at (by_first_word word d)) is) refl refl refl refl a.quiet read (omega arith)
+  by_first a (ForwardWord len to) is first = plain LoadsHeader a t (Ended to) (Value word) (ap (λ d. at (by_first_word word d)) is) refl refl refl refl a.quiet tt (omega arith)
   by_first a (BusyWord len worker) is first = neither (BusyWord len worker) refl refl first
   by_first a (NumberWord m) is first = neither (NumberWord m) refl refl first
   by_first a (PointerWord address) is first = neither (PointerWord address) refl refl first
@@ -135,7 +136,7 @@ module _ (c : Configuration) (p : Plain) (s : Stands c p) (u : Evacuation) where
   takes_header : (kept : KeptHeader) → Owes (TakesHeader kept)
   takes_header kept a = exchanges_it (TakesHeader kept) a (WordIs u.addr (busy_word kept.len u.worker)) kept.word (let l = a.sound.addr in let n = a.pages in omega (arith, l, n))
       (sym read ∙ a.stands) refl
-      (plain (TakesHeader kept) a (with_entry (WordIs u.addr (busy_word kept.len u.worker)) t) (LoadsArea kept) Won refl refl refl refl a.quiet tt (omega arith))
+      (plain (TakesHeader kept) a (with_entry (WordIs u.addr (busy_word kept.len u.worker)) t) (LoadsArea kept) Won refl refl refl refl refl a.quiet tt (omega arith))
 
   -- ---- the area
 
@@ -147,11 +148,11 @@ module _ (c : Configuration) (p : Plain) (s : Stands c p) (u : Evacuation) where
 
   loads_area : (kept : KeptHeader) → Owes (LoadsArea kept)
   loads_area kept a = loads_it (LoadsArea kept) a (Area space) (is_space u.epoch) refl
-      (plain (LoadsArea kept) a t (Announces kept area) (Value _) (ap (λ o. at (by_area kept o)) (area_says c p s space (is_space u.epoch))) refl refl refl a.quiet refl (omega arith))
+      (plain (LoadsArea kept) a t (Announces kept area) (Value _) (ap (λ o. at (by_area kept o)) (area_says c p s space (is_space u.epoch))) refl refl refl refl a.quiet refl (omega arith))
 
   announces : (kept : KeptHeader) (read : AreaWord) → Owes (Announces kept read)
   announces kept read a = stores_it (Announces kept read) a (AnnounceIs u.worker (front_of u.layout u.epoch read + 1)) a.sound.worker refl
-      (plain (Announces kept read) a (with_entry (AnnounceIs u.worker (front_of u.layout u.epoch read + 1)) t) (Reserves kept read) Done refl refl refl refl
+      (plain (Announces kept read) a (with_entry (AnnounceIs u.worker (front_of u.layout u.epoch read + 1)) t) (Reserves kept read) Done refl refl refl refl refl
       (λ k few others. put_other t.announced u.worker _ k (λ same. absurd (let e = others (same ∙ a.own) in cc)) ∙ a.quiet k few (λ _. refl)) a.stands (omega arith))
 
   module _ (kept : KeptHeader) (read : AreaWord) (a : CopyIsAlone c (at (Reserves kept read))) where
@@ -190,6 +191,7 @@ module _ (c : Configuration) (p : Plain) (s : Stands c p) (u : Evacuation) where
       quiet = a.quiet;
       gate = refl;
       traced = refl;
+      size = refl;
       left = (let cost = paid in omega (arith, cost));
     })
 
@@ -201,32 +203,32 @@ module _ (c : Configuration) (p : Plain) (s : Stands c p) (u : Evacuation) where
 
   stores_header : (r : Reserved) → Owes (StoresHeader r)
   stores_header r a = stores_it (StoresHeader r) a (WordIs r.to r.kept.word) (let f = a.sound.fits.inside in let n = a.pages in omega (arith, f, n)) refl
-      (plain (StoresHeader r) a (with_entry (WordIs r.to r.kept.word) t) (copied r 1) Done refl refl refl refl
+      (plain (StoresHeader r) a (with_entry (WordIs r.to r.kept.word) t) (copied r 1) Done refl refl refl refl refl
       (announced (copied r 1) (copied-announced r 1) a.quiet) (copied-stands (with_entry (WordIs r.to r.kept.word) t) (at (copied r 1)) r 1) (let few = copied-le r 1 in omega (arith, few)))
 
   stores_word : (r : Reserved) (w : LoadedWord) → Owes (StoresWord r w)
   stores_word r w a = stores_it (StoresWord r w) a (WordIs (r.to + w.number) w.word) (let f = a.sound.fits in let i = f.0.inside in let n = a.pages in omega (arith, f, i, n)) refl
-      (plain (StoresWord r w) a (with_entry (WordIs (r.to + w.number) w.word) t) (copied r (w.number + 1)) Done refl refl refl refl
+      (plain (StoresWord r w) a (with_entry (WordIs (r.to + w.number) w.word) t) (copied r (w.number + 1)) Done refl refl refl refl refl
       (announced (copied r (w.number + 1)) (copied-announced r (w.number + 1)) a.quiet) (copied-stands (with_entry (WordIs (r.to + w.number) w.word) t) (at (copied r (w.number + 1))) r (w.number + 1))
       (let few = copied-le r (w.number + 1) in let f = a.sound.fits.2 in omega (arith, few, f)))
 
   stores_cross : (r : Reserved) (page : ℕ) → Owes (StoresCross r page)
   stores_cross r page a = stores_it (StoresCross r page) a (CrossIs page r.to) (let f = a.sound.fits in let i = f.0.inside in let n = a.pages in omega (arith, f, i, n)) refl
-      (plain (StoresCross r page) a (with_entry (CrossIs page r.to) t) (crossed r (page + 1)) Done refl refl refl refl
+      (plain (StoresCross r page) a (with_entry (CrossIs page r.to) t) (crossed r (page + 1)) Done refl refl refl refl refl
       (announced (crossed r (page + 1)) (crossed-announced r (page + 1)) a.quiet) (crossed-stands (with_entry (CrossIs page r.to) t) (at (crossed r (page + 1))) r (page + 1))
       (let few = crossed-le r (page + 1) in let f = a.sound.fits.2 in omega (arith, few, f)))
 
   loads_word : (r : Reserved) (i : ℕ) → Owes (LoadsWord r i)
   loads_word r i a = loads_it (LoadsWord r i) a (HeapWord (u.addr + i)) (let f = a.sound.fits in let k = f.0.keeps.inside in let n = a.pages in omega (arith, f, k, n)) refl
-      (plain (LoadsWord r i) a t (StoresWord r (record { number = i; word = word_in c.pages c.words (HeapWord (u.addr + i)) })) (Value _) refl refl refl refl a.quiet tt (omega arith))
+      (plain (LoadsWord r i) a t (StoresWord r (record { number = i; word = word_in c.pages c.words (HeapWord (u.addr + i)) })) (Value _) refl refl refl refl refl a.quiet tt (omega arith))
 
   stores_forward : (r : Reserved) → Owes (StoresForward r)
   stores_forward r a = stores_it (StoresForward r) a (WordIs u.addr (forward_word r.kept.len r.to)) (let l = a.sound.addr in let n = a.pages in omega (arith, l, n)) refl
-      (plain (StoresForward r) a (with_entry (WordIs u.addr (forward_word r.kept.len r.to)) t) (Clears r.to) Done refl refl refl refl a.quiet tt (omega arith))
+      (plain (StoresForward r) a (with_entry (WordIs u.addr (forward_word r.kept.len r.to)) t) (Clears r.to) Done refl refl refl refl refl a.quiet tt (omega arith))
 
   clears : (to : ℕ) → Owes (Clears to)
   clears to a = stores_it (Clears to) a (AnnounceIs u.worker 0) a.sound.worker refl
-      (plain (Clears to) a (with_entry (AnnounceIs u.worker 0) t) (Ended to) Done refl refl refl refl
+      (plain (Clears to) a (with_entry (AnnounceIs u.worker 0) t) (Ended to) Done refl refl refl refl refl
       (λ k few others. ⊎_elim
       (λ (own : k ≡ u.worker). put_at t.announced u.worker 0 k own)
       (λ (other : k ≢ u.worker). put_other t.announced u.worker 0 k other ∙ a.quiet k few (λ none. absurd (other (none ∙ sym a.own))))

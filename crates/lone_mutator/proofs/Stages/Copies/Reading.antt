@@ -26,7 +26,7 @@ module _ (E : Era) (m : Memory) (team : Team) (g : Ghost) (i : Invariant E m tea
 
     by_copy : (b : ℕ) → g.copy a ≡ b → E.old_start ≤ a → a < E.old_start + E.old_span → IsFirstWord (decode (m.heap a))
     by_copy zero is low high =
-        inl (ap is_header (i.headed.own a stands (i.older.written a low high) is (unkept (g.keeper a) refl)))
+        inl (ap is_header (i.headed.own a stands (i.older.written a stands low high) is (unkept (g.keeper a) refl)))
     by_copy (suc b) is low high =
         inr (ap is_forward (i.headed.gone a b stands (let next : g.copy a ≡ b + 1 = omega (arith, is) in next) (unkept (g.keeper a) refl)))
 

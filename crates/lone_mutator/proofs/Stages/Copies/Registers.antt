@@ -19,7 +19,7 @@ use Rattle.gc_worker.specs.Steps.Turned.{Pointed, first_pointer, forwards_it, tu
 use Rattle.gc_worker.proofs.Words.Pointers.{FirstPointer, Nowhere, There, found}
 use Rattle.lone_mutator.specs.Law.{Lowers, IsAlone, StepsLower}
 use Rattle.lone_mutator.specs.Lone.{GoesOnPlacing}
-use Rattle.lone_mutator.specs.Potential.{due_in}
+use Rattle.lone_mutator.specs.Potential.{due_in, growing_left, size_in}
 use Rattle.lone_mutator.specs.Copies.{copy_left}
 use Rattle.lone_mutator.proofs.Stages.Gate.Counts.{knowing}
 use Rattle.lone_mutator.proofs.Stages.Copies.Going.{CopyGoes, CopyIsAlone, copy_goes, pays_due}
@@ -77,10 +77,13 @@ module _ (c : Configuration) (p : Plain) (s : Stands c p) (y : Held) (w : Forwar
     placing : GoesOnPlacing after.gate.epoch y.begun w.after
     placing = record { places = a.remembers.stands.0.places; earlier = (let e = a.remembers.stands.0.earlier in let g = ap (λ g. g.epoch) goes.gate in omega (arith, e, g)) }
 
+    growing : growing_left c.pages (size_in after) ≡ growing_left c.pages (size_in t)
+    growing = ap (λ (size : ℕ). growing_left c.pages size) goes.size
+
     goes_on : Lowers c.pages t after x (at_stage y (Forwards (with_evac w (at stage))))
     goes_on = record {
       remembers = record { began = a.remembers.began; quiet = goes.quiet; stands = (placing, goes.stands) };
-      falls = (let fewer = less in omega (arith, fewer));
+      falls = (let fewer = less in let same = growing in omega (arith, fewer, same));
     }
 
   module _ (after : Table) (to : ℕ) (goes : CopyGoes c.pages t after v (at (Ended to))) where
@@ -90,11 +93,11 @@ module _ (c : Configuration) (p : Plain) (s : Stands c p) (y : Held) (w : Forwar
     next_by : (o : Option Pointed) → FirstPointer copied.registers (8 - (w.register + 1)) (w.register + 1) o → Lowers c.pages t after x (at_stage copied (forwards_it copied w.after o))
     next_by None (Nowhere none) = record {
       remembers = record { began = a.remembers.began; quiet = goes.quiet; stands = (placing after (Ended to) goes, tt) };
-      falls = (let fewer = less after (Ended to) goes in omega (arith, fewer));
+      falls = (let fewer = less after (Ended to) goes in let same = growing after (Ended to) goes in omega (arith, fewer, same));
     }
     next_by (Some q) (There r addr from below is none) = record {
       remembers = record { began = a.remembers.began; quiet = goes.quiet; stands = (placing after (Ended to) goes, tt) };
-      falls = (let fewer = less after (Ended to) goes in omega (arith, fewer, from, below));
+      falls = (let fewer = less after (Ended to) goes in let same = growing after (Ended to) goes in omega (arith, fewer, same, from, below));
     }
 
     next : Lowers c.pages t after x (turned_register x (with_evac w (at (Ended to))) (told (Ended to)))

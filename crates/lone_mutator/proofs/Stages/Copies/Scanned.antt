@@ -22,6 +22,7 @@ use Rattle.gc_worker.specs.Workers.Held.{Held, at_stage}
 use Rattle.gc_worker.specs.Workers.Knows.{copy_at, cursor_asked, quest_for, scan_of}
 use Rattle.gc_worker.specs.Steps.Turned.{turned_copy}
 use Rattle.lone_mutator.specs.Law.{Lowers, IsAlone, StepsLower}
+use Rattle.lone_mutator.specs.Potential.{back_left, size_in}
 use Rattle.lone_mutator.proofs.Stages.Gate.Counts.{knowing, present}
 use Rattle.lone_mutator.proofs.Steps.GoingBack.{runs}
 use Rattle.lone_mutator.proofs.Stages.Copies.Going.{CopyGoes, CopyIsAlone, copy_goes}
@@ -79,16 +80,19 @@ module _ (c : Configuration) (p : Plain) (s : Stands c p) (y : Held) (v : Evacua
   at stage = record v { stage = stage }
 
   module _ (after : Table) where
+    returns : (stage : EvacStage) → CopyGoes c.pages t after v (at stage) → back_left c.pages (size_in after) y back ≡ back_left c.pages (size_in t) y back
+    returns stage goes = ap (λ (size : ℕ). back_left c.pages size y back) goes.size
+
     goes_on : (stage : EvacStage) → CopyGoes c.pages t after v (at stage) → Lowers c.pages t after x (at_stage y (Evacuates (at stage) z back))
     goes_on stage goes = record {
       remembers = record { began = a.remembers.began; quiet = goes.quiet; stands = (goes.stands, a.remembers.stands.1) };
-      falls = (let less = goes.left in omega (arith, less));
+      falls = (let less = goes.left in let same = returns stage goes in omega (arith, less, same));
     }
 
     answers : (to : ℕ) → CopyGoes c.pages t after v (at (Ended to)) → Lowers c.pages t after x (turned_copy x (at (Ended to)) z back (told (Ended to)))
     answers to goes = record {
       remembers = record { began = a.remembers.began; quiet = goes.quiet; stands = a.remembers.stands.1 };
-      falls = (let less = goes.left in let same = answered-left z z.stage v to a.is.fits.stage.2 in omega (arith, less, same));
+      falls = (let less = goes.left in let same = answered-left z z.stage v to a.is.fits.stage.2 in let back = returns (Ended to) goes in omega (arith, less, same, back));
     }
 
     by_stage : (stage : EvacStage) → CopyGoes c.pages t after v (at stage) → Lowers c.pages t after x (turned_copy x (at stage) z back (told stage))

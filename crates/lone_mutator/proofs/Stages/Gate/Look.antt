@@ -1,5 +1,5 @@
 -- The look that begins an instruction of a lone mutator: nobody requests a flip, and its task begins.
-use Rattle.std.proofs.Common.{◌≡◌, ℕ, ◌≤◌, Bool, true, false, cond, Option, Some, None, Result, Ok, Err, nat_lt, refl, sym, ap, subst, arith, ⊎_elim}
+use Rattle.std.proofs.Common.{◌≡◌, ℕ, ◌*◌, ◌≤◌, Bool, true, false, cond, Option, Some, None, Result, Ok, Err, nat_lt, refl, sym, ap, subst, arith, ⊎_elim}
 use Rattle.std.proofs.lemmas.Bool.{cases_Bool}
 use Rattle.plain_state.specs.declared.end.End.{End}
 use Rattle.plain_state.specs.declared.kind.Kind.{Kind}
@@ -23,18 +23,26 @@ use Rattle.gc_worker.specs.Plain.Seen.{seen}
 use Rattle.gc_worker.specs.Steps.Stepped.{awaits_at}
 use Rattle.gc_worker.specs.Steps.Turned.{Silent, acted, acts, begins, looked_by, passes, started, told_acted, told_action, told_gate, told_start}
 use Rattle.gc_worker.proofs.Stages.Gate.Words.{gate_says}
-use Rattle.lone_mutator.specs.Bound.{flip_cost}
+use Rattle.lone_mutator.specs.Bound.{flip_cost, most_flips}
 use Rattle.lone_mutator.specs.Law.{IsAlone, LowersWhereTold, StepsLower}
-use Rattle.lone_mutator.specs.Potential.{flip_left}
+use Rattle.lone_mutator.specs.Potential.{flip_left, flips_left, size_in}
 use Rattle.lone_mutator.proofs.Stages.Gate.Counts.{no_request}
+use Rattle.lone_mutator.proofs.Epochs.Growths.{flips_cost-le, flips_cost-most, growths-few}
 use Rattle.lone_mutator.proofs.Steps.GoingOn.{goes_placing}
 use Rattle.lone_mutator.proofs.Steps.Owed.{loads, wants}
 
-pub flip_left-le : (n : ℕ) (x : Held) → flip_left n x ≤ flip_cost n
-flip_left-le n x = ⊎_elim
-    (λ (e : nat_lt x.begun x.epoch ≡ true). rw e (omega arith))
-    (λ (e : nat_lt x.begun x.epoch ≡ false). rw e (omega arith))
+flips_left-le : (n size : ℕ) (x : Held) → flips_left n size x ≤ most_flips
+flips_left-le n size x =
+    let few = growths-few n size in ⊎_elim
+    (λ (e : nat_lt x.begun x.epoch ≡ true). rw e (omega (arith, few)))
+    (λ (e : nat_lt x.begun x.epoch ≡ false). rw e (omega (arith, few)))
     (cases_Bool (nat_lt x.begun x.epoch))
+
+flip_left-le : (n size : ℕ) (x : Held) → flip_left n size x ≤ most_flips * flip_cost n
+flip_left-le n size x =
+    let within = flips_cost-le n (flips_left n size x) most_flips (flips_left-le n size x) in
+    let all = flips_cost-most n in
+    omega (arith, within, all)
 
 module _ (c : Configuration) (p : Plain) (s : Stands c p) (y : Held) where
   abbrev x : Held
@@ -51,7 +59,7 @@ module _ (c : Configuration) (p : Plain) (s : Stands c p) (y : Held) where
       makes kind d n is =
           let making : IsMaking y.account y.registers y.task = record { making = record { kind = kind; into = d; len = n }; executes = record { instr = instr; task_is = task_is; call = call; acts = is } } in
           let goes = goes_placing c.pages (table c) (begins x) (omega arith) a.remembers.quiet making in
-          let flip = flip_left-le c.pages (begins x) in
+          let flip = flip_left-le c.pages (size_in (table c)) (begins x) in
           let within = goes.within in
           record { remembers = goes.remembers; falls = omega (arith, within, flip) }
 

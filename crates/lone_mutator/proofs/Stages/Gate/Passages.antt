@@ -30,8 +30,8 @@ use Rattle.gc_worker.specs.Workers.Held.{Held, at_stage}
 use Rattle.gc_worker.specs.Steps.Turned.{Pointed, epoch_in_gate, first_pointer, forwards_it, goes_on, in_epoch, passes, turned, turned_gate}
 use Rattle.gc_worker.proofs.Stages.Gate.Passing.{resumes_so}
 use Rattle.gc_worker.proofs.Stages.Gate.Words.{gate_now, gate_says}
-use Rattle.lone_mutator.specs.Bound.{longest_placing}
-use Rattle.lone_mutator.specs.Potential.{due_in, flip_left, potential_in}
+use Rattle.lone_mutator.specs.Bound.{flips_cost, growths, longest_placing}
+use Rattle.lone_mutator.specs.Potential.{due_in, flip_left, flips_left, potential_in, size_in}
 use Rattle.lone_mutator.specs.Law.{IsAlone, Lowers, StepsLower}
 use Rattle.lone_mutator.proofs.Stages.Gate.Counts.{and_false, is_clear_so, knowing, no_request, none_behind, none_live}
 use Rattle.lone_mutator.proofs.Steps.GoingOn.{GoesAt, goes_placing}
@@ -157,9 +157,9 @@ module _ (c : Configuration) (p : Plain) (s : Stands c p) (y : Held) (l : Layout
     now : y.epoch ≡ g.epoch
     now = sym ((resumes_so g epoch a.is.fits.stage.sound.stage.allowed).2 ∙ a.is.fits.stage.passage)
 
-    placing : (b : After) → b ≡ afters.Places → IsMaking y.account y.registers y.task → GoesAt c.pages (passed (Resume epoch)) (at_stage r (goes_on r b)) (longest_placing + flip_left c.pages r + due_in c.pages (table c))
+    placing : (b : After) → b ≡ afters.Places → IsMaking y.account y.registers y.task → GoesAt c.pages (passed (Resume epoch)) (at_stage r (goes_on r b)) (longest_placing + flip_left c.pages (size_in (table c)) r + due_in c.pages (table c))
     placing b is making =
-        subst (λ (z : After). GoesAt c.pages (passed (Resume epoch)) (at_stage r (goes_on r z)) (longest_placing + flip_left c.pages r + due_in c.pages (table c))) (sym is)
+        subst (λ (z : After). GoesAt c.pages (passed (Resume epoch)) (at_stage r (goes_on r z)) (longest_placing + flip_left c.pages (size_in (table c)) r + due_in c.pages (table c))) (sym is)
         (goes_placing c.pages (passed (Resume epoch)) r (let e = a.remembers.stands.0.earlier in omega (arith, e, now)) a.remembers.quiet making)
 
     resume_won : StepsLower c r
@@ -167,14 +167,15 @@ module _ (c : Configuration) (p : Plain) (s : Stands c p) (y : Held) (l : Layout
         let may = a.is.fits.stage.sound.stage in
         let stops = a.remembers.stands.0 in
         let seen : nat_lt y.begun y.epoch ≡ true = lt-ltb y.begun y.epoch (let e = stops.earlier in omega (arith, e, now)) in
-        let none : flip_left c.pages r ≡ 0 = rw seen refl in
+        let none : flips_left c.pages (size_in (table c)) r ≡ growths c.pages (size_in (table c)) = rw seen (omega arith) in
+        let grown = ap (flips_cost c.pages) none in
         let making : IsMaking y.account y.registers y.task = subst (FitsTaskAfter r) stops.places a.is.fits.task in
         let goes = placing after stops.places making in
         won_by (Resume epoch) a (record { epoch_fits = may.fits.epoch_fits; live_fits = may.fits.live_fits; running_fits = may.counts; behind_fits = may.fits.behind_fits; left_fits = may.fits.left_fits })
         (record {
           remembers = goes.remembers;
-          falls = lt_by (potential_in c.pages (passed (Resume epoch)) (at_stage r (goes_on r after))) (potential_in c.pages (table c) r) (longest_placing + flip_left c.pages r + due_in c.pages (table c)) goes.within
-              (rw (same_so y.epoch g.epoch now) (omega (arith, none)));
+          falls = lt_by (potential_in c.pages (passed (Resume epoch)) (at_stage r (goes_on r after))) (potential_in c.pages (table c) r) (longest_placing + flip_left c.pages (size_in (table c)) r + due_in c.pages (table c)) goes.within
+              (rw (same_so y.epoch g.epoch now) (omega (arith, grown)));
         })
 
   module _ (a : IsAlone c (at Forwarded (Exchanges g))) where

@@ -3,20 +3,21 @@ use Rattle.std.proofs.Common.{◌≡◌, sym, subst}
 use Rattle.plain_state.specs.State.{Plain}
 use Rattle.record_layout.specs.declared.header.Header.{Header}
 use Rattle.alloc_end.specs.declared.place_stage.PlaceStage.{PlaceStage}
-use Rattle.alloc_end.specs.declared.place_stage.PlaceStage.TheVariants.{LoadsTraced, LoadsArea, ExchangesArea, StoresZero, OpensPage, StoresCount, StoresHeader, Ended}
+use Rattle.alloc_end.specs.declared.place_stage.PlaceStage.TheVariants.{LoadsTraced, LoadsSize, LoadsArea, ExchangesArea, StoresZero, OpensPage, StoresCount, StoresHeader, Ended}
 use Rattle.alloc_end.specs.declared.run.Run.{Run}
 use Rattle.alloc_end.specs.Place.{Placing}
 use Rattle.heap_state.specs.Configuration.{Configuration, Stands}
 use Rattle.gc_worker.specs.declared.stage.Stage.TheVariants.{Places}
 use Rattle.gc_worker.specs.Workers.Held.{Held, at_stage, fields_for}
 use Rattle.lone_mutator.specs.Law.{IsAlone, StepsLower}
-use Rattle.lone_mutator.proofs.Stages.Place.Claiming.{at, loads_traced, loads_area, exchanges_area}
+use Rattle.lone_mutator.proofs.Stages.Place.Claiming.{at, loads_traced, loads_size, loads_area, exchanges_area}
 use Rattle.lone_mutator.proofs.Stages.Place.Clearing.{stores_zero, opens_page, stores_count, stores_header}
 
 module _ (c : Configuration) (p : Plain) (s : Stands c p) (x : Held) where
   own : (run : Run) (header : Header) (stage : PlaceStage) → IsAlone c (at c p s x run header stage) → StepsLower c (at c p s x run header stage)
   own run header LoadsTraced a = loads_traced c p s x run header a
-  own run header (LoadsArea traced) a = loads_area c p s x run header traced a
+  own run header (LoadsSize traced) a = loads_size c p s x run header traced a
+  own run header (LoadsArea traced size) a = loads_area c p s x run header traced size a
   own run header (ExchangesArea f) a = exchanges_area c p s x run header f a
   own run header (StoresZero new) a = stores_zero c p s x run header new a
   own run header (OpensPage new) a = opens_page c p s x run header new a

@@ -27,6 +27,7 @@ use Rattle.gc_worker.proofs.Words.Eras.{board_is, start_is}
 use Rattle.gc_worker.proofs.Stages.Rounds.Going.{round, at, same_pages}
 use Rattle.lone_mutator.specs.Law.{Lowers, IsAlone, StepsLower}
 use Rattle.lone_mutator.specs.Lone.{BackStands}
+use Rattle.lone_mutator.specs.Potential.{size_in}
 use Rattle.lone_mutator.proofs.Steps.GoingBack.{same_back, runs, own_epoch}
 use Rattle.lone_mutator.proofs.Stages.Gate.Counts.{none_behind, present}
 use Rattle.lone_mutator.proofs.Epochs.Pages.{opened}
@@ -127,7 +128,7 @@ module _ (c : Configuration) (p : Plain) (s : Stands c p) (y : Held) (d : Round)
       lower : Lowers c.pages (table c) (table c) x next
       lower = record {
         remembers = record { began = a.remembers.began; quiet = a.remembers.quiet; stands = (record { untraced = a.remembers.stands.0.untraced; found = goes.found }, back_stands) };
-        falls = (let same = same_back c.pages next x back refl refl in let less = fewer in omega (arith, same, less));
+        falls = (let same = same_back c.pages (size_in (table c)) next x back refl refl in let less = fewer in omega (arith, same, less));
       }
 
       pub goes_on : Owes c p s x (table c) reply

@@ -20,7 +20,7 @@ use Rattle.gc_worker.specs.Steps.Turned.{back_from}
 use Rattle.gc_worker.proofs.Stages.Rounds.Going.{at, done, same_pages}
 use Rattle.gc_worker.proofs.Stages.Rounds.Words.{traced_now, traced_word}
 use Rattle.lone_mutator.specs.Law.{Lowers, IsAlone, StepsLower}
-use Rattle.lone_mutator.specs.Potential.{back_left, due_in}
+use Rattle.lone_mutator.specs.Potential.{back_left, due_in, size_in}
 use Rattle.lone_mutator.proofs.Steps.GoingBack.{past_look, same_back}
 use Rattle.lone_mutator.proofs.Steps.GoingOn.{GoesAt, goes_back}
 use Rattle.lone_mutator.proofs.Stages.Rounds.Going.{of_epoch, era_epoch}
@@ -54,7 +54,7 @@ module _ (c : Configuration) (p : Plain) (s : Stands c p) (y : Held) (d : Round)
     began : y.begun ≤ d.epoch
     began = let b = a.remembers.began (past_look back a.remembers.stands.1) in let e = same_epoch in omega (arith, b, e)
 
-    goes : GoesAt c.pages (with_entry entry t) (back_from ended back) (back_left c.pages ended back + due_in c.pages (with_entry entry t))
+    goes : GoesAt c.pages (with_entry entry t) (back_from ended back) (back_left c.pages (size_in t) ended back + due_in c.pages (with_entry entry t))
     goes = goes_back c.pages (with_entry entry t) ended began a.remembers.quiet back a.remembers.stands.1 a.is.fits.task
 
     marked : due_in c.pages (with_entry entry t) ≡ 0
@@ -63,7 +63,7 @@ module _ (c : Configuration) (p : Plain) (s : Stands c p) (y : Held) (d : Round)
     lower : Lowers c.pages t (with_entry entry t) x (back_from ended back)
     lower = record {
       remembers = goes.remembers;
-      falls = (let within = goes.within in let same = same_back c.pages ended x back refl same_epoch in let none = marked in omega (arith, within, same, none));
+      falls = (let within = goes.within in let same = same_back c.pages (size_in t) ended x back refl same_epoch in let none = marked in omega (arith, within, same, none));
     }
 
     stands : traced_now c ≡ traced

@@ -27,11 +27,11 @@ use Rattle.gc_worker.specs.declared.stage.Stage.TheVariants.{Scans}
 use Rattle.gc_worker.specs.Workers.Held.{Held}
 use Rattle.gc_worker.specs.Workers.Knows.{claim_with, looked_all}
 use Rattle.gc_worker.specs.Steps.Turned.{served_by, turned}
-use Rattle.gc_worker.proofs.Words.Eras.{board_is, start_is, span_is}
+use Rattle.gc_worker.proofs.Words.Eras.{board_is, start_is, span_within}
 use Rattle.gc_worker.proofs.Stages.Rounds.Going.{round, at, same_pages}
 use Rattle.gc_worker.proofs.Stages.Rounds.Words.{page_now, page_says}
 use Rattle.lone_mutator.specs.Law.{Lowers, IsAlone, StepsLower}
-use Rattle.lone_mutator.specs.Potential.{left_in}
+use Rattle.lone_mutator.specs.Potential.{left_in, size_in}
 use Rattle.lone_mutator.specs.Bound.{page_cost}
 use Rattle.lone_mutator.proofs.Steps.GoingBack.{same_back}
 use Rattle.lone_mutator.proofs.Stages.Rounds.Going.{of_epoch, era_epoch, worker_now}
@@ -97,7 +97,7 @@ module _ (c : Configuration) (p : Plain) (s : Stands c p) (y : Held) (d : Round)
     in_space : (era c).start ≤ first_word q.page → first_word q.page < (memory c).front → IsToBeTraced c.pages (era c).epoch q.page
     in_space from below =
         let start = start_is c in
-        let span = span_is c in
+        let span = span_within c p s in
         let order = s.invariant.laid.order in
         inr (omega (arith, from, start), omega (arith, below, order, start, span))
 
@@ -120,7 +120,7 @@ module _ (c : Configuration) (p : Plain) (s : Stands c p) (y : Held) (d : Round)
     lower = record {
       remembers = record { began = λ past. (let b = a.remembers.began past in let e = of_epoch c p s y d back stage a in omega (arith, b, e)); quiet = a.remembers.quiet; stands = a.remembers.stands.1 };
       falls =
-          (let same = same_back c.pages scanner x back refl (of_epoch c p s y d back stage a) in
+          (let same = same_back c.pages (size_in t) scanner x back refl (of_epoch c p s y d back stage a) in
           let few = begun-le (nat_eq q.page (board_page y.layout.pages)) y.layout q.page d.epoch q.in_place refl in
           let less = paid in
           omega (arith, same, few, less));

@@ -1,5 +1,5 @@
 -- The scan of a lone mutator that goes on, asks for a copy, or ends, has less to pay.
-use Rattle.std.proofs.Common.{◌≡◌, ◌<◌, true, false, Some, arith}
+use Rattle.std.proofs.Common.{◌≡◌, ℕ, ◌<◌, true, false, Some, ap, arith}
 use Rattle.plain_state.specs.State.{Plain}
 use Rattle.atom_store.specs.declared.reply.Reply.{Reply}
 use Rattle.atom_store.specs.declared.step.Step.{Step}
@@ -19,7 +19,7 @@ use Rattle.gc_worker.proofs.Stages.Scan.GoingOn.{scans_to}
 use Rattle.gc_worker.proofs.Stages.Scan.Stages.{scans}
 use Rattle.lone_mutator.specs.Law.{Lowers, IsAlone, StepsLower}
 use Rattle.lone_mutator.specs.Lone.{NobodyElseAnnounces}
-use Rattle.lone_mutator.specs.Potential.{left_in}
+use Rattle.lone_mutator.specs.Potential.{back_left, left_in, size_in}
 use Rattle.lone_mutator.proofs.Stages.Scan.Lowering.{cost, lowers}
 use Rattle.lone_mutator.proofs.Steps.Rows.{HoldsBy}
 use Rattle.lone_mutator.proofs.Steps.Owed.{Owes}
@@ -36,17 +36,20 @@ module _ (c : Configuration) (p : Plain) (s : Stands c p) (y : Held) (z : Scanni
 
   -- ---- where the table is as dear as before, and nobody announces a place
 
-  module _ (a : IsAlone c x) (after : Table) (same : left_in c.pages after ≡ left_in c.pages t) (quiet : NobodyElseAnnounces after.announced false) where
+  module _ (a : IsAlone c x) (after : Table) (size : size_in after ≡ size_in t) (same : left_in c.pages after ≡ left_in c.pages t) (quiet : NobodyElseAnnounces after.announced false) where
+    returns : back_left c.pages (size_in after) y back ≡ back_left c.pages (size_in t) y back
+    returns = ap (λ (size : ℕ). back_left c.pages size y back) size
+
     lower : (next : ScanStage) → cost (scan_end z.layout z.page) next < left_at (scan_end z.layout z.page) stage → Lowers c.pages t after x (scans_to x at back next)
-    lower LoadsCross fewer = record { remembers = record { began = a.remembers.began; quiet = quiet; stands = a.remembers.stands }; falls = omega (arith, same, fewer) }
-    lower (LoadsFirst first) fewer = record { remembers = record { began = a.remembers.began; quiet = quiet; stands = a.remembers.stands }; falls = omega (arith, same, fewer) }
-    lower (LoadsCount h) fewer = record { remembers = record { began = a.remembers.began; quiet = quiet; stands = a.remembers.stands }; falls = omega (arith, same, fewer) }
-    lower (LoadsWord spot) fewer = record { remembers = record { began = a.remembers.began; quiet = quiet; stands = a.remembers.stands }; falls = omega (arith, same, fewer) }
-    lower (Asks asked) fewer = record { remembers = record { began = a.remembers.began; quiet = quiet; stands = (tt, a.remembers.stands) }; falls = omega (arith, same, fewer) }
-    lower (StoresCopy asked to) fewer = record { remembers = record { began = a.remembers.began; quiet = quiet; stands = a.remembers.stands }; falls = omega (arith, same, fewer) }
-    lower (LoadsFront r) fewer = record { remembers = record { began = a.remembers.began; quiet = quiet; stands = a.remembers.stands }; falls = omega (arith, same, fewer) }
-    lower (LoadsNext r) fewer = record { remembers = record { began = a.remembers.began; quiet = quiet; stands = a.remembers.stands }; falls = omega (arith, same, fewer) }
-    lower (Ended ending) fewer = record { remembers = record { began = a.remembers.began; quiet = quiet; stands = a.remembers.stands }; falls = omega (arith, same, fewer) }
+    lower LoadsCross fewer = record { remembers = record { began = a.remembers.began; quiet = quiet; stands = a.remembers.stands }; falls = omega (arith, same, returns, fewer) }
+    lower (LoadsFirst first) fewer = record { remembers = record { began = a.remembers.began; quiet = quiet; stands = a.remembers.stands }; falls = omega (arith, same, returns, fewer) }
+    lower (LoadsCount h) fewer = record { remembers = record { began = a.remembers.began; quiet = quiet; stands = a.remembers.stands }; falls = omega (arith, same, returns, fewer) }
+    lower (LoadsWord spot) fewer = record { remembers = record { began = a.remembers.began; quiet = quiet; stands = a.remembers.stands }; falls = omega (arith, same, returns, fewer) }
+    lower (Asks asked) fewer = record { remembers = record { began = a.remembers.began; quiet = quiet; stands = (tt, a.remembers.stands) }; falls = omega (arith, same, returns, fewer) }
+    lower (StoresCopy asked to) fewer = record { remembers = record { began = a.remembers.began; quiet = quiet; stands = a.remembers.stands }; falls = omega (arith, same, returns, fewer) }
+    lower (LoadsFront r) fewer = record { remembers = record { began = a.remembers.began; quiet = quiet; stands = a.remembers.stands }; falls = omega (arith, same, returns, fewer) }
+    lower (LoadsNext r) fewer = record { remembers = record { began = a.remembers.began; quiet = quiet; stands = a.remembers.stands }; falls = omega (arith, same, returns, fewer) }
+    lower (Ended ending) fewer = record { remembers = record { began = a.remembers.began; quiet = quiet; stands = a.remembers.stands }; falls = omega (arith, same, returns, fewer) }
 
     -- the stage after the reply
     abbrev next_at : Reply → ScanStage

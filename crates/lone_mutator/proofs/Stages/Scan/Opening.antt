@@ -18,7 +18,7 @@ use Rattle.gc_worker.specs.declared.stage.Stage.TheVariants.{Opens}
 use Rattle.gc_worker.specs.Workers.Held.{Held, at_stage}
 use Rattle.gc_worker.specs.Steps.Turned.{back_from}
 use Rattle.lone_mutator.specs.Law.{Lowers, IsAlone, StepsLower}
-use Rattle.lone_mutator.specs.Potential.{back_left, due_in, left_in}
+use Rattle.lone_mutator.specs.Potential.{back_left, due_in, left_in, size_in}
 use Rattle.lone_mutator.specs.Bound.{round_cost}
 use Rattle.lone_mutator.proofs.Stages.Gate.Counts.{present}
 use Rattle.lone_mutator.proofs.Steps.GoingBack.{past_look, runs}
@@ -40,7 +40,7 @@ module _ (c : Configuration) (p : Plain) (s : Stands c p) (y : Held) (o : Openin
     now : o.epoch ≡ t.gate.epoch
     now = a.is.fits.stage.0.epoch ∙ present c p s x a (runs back a.remembers.stands)
 
-    goes : GoesAt c.pages (with_entry entry t) (back_from x back) (back_left c.pages x back + due_in c.pages (with_entry entry t))
+    goes : GoesAt c.pages (with_entry entry t) (back_from x back) (back_left c.pages (size_in t) x back + due_in c.pages (with_entry entry t))
     goes = goes_back c.pages (with_entry entry t) x (a.remembers.began (past_look back a.remembers.stands)) a.remembers.quiet back a.remembers.stands a.is.fits.task
 
     paid : due_in c.pages (with_entry entry t) ≤ left_in c.pages t + round_cost c.pages

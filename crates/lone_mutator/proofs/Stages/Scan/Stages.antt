@@ -59,7 +59,7 @@ module _ (c : Configuration) (p : Plain) (s : Stands c p) (y : Held) (z : Scanni
         subst (steps.HoldsBy c p s (OwesSound c p s y z back stage))
         (same_Some (Load (place_of c.pages row)) q (sym (want ∙ ap (λ n. Some (Load (place_of n row))) pages) ∙ asked))
         (steps.loads c p s (OwesSound c p s y z back stage) row is
-        (goes_on c p s y z back stage a (table c) refl a.remembers.quiet (Value (word_in c.pages c.words row)) on)))
+        (goes_on c p s y z back stage a (table c) refl refl a.remembers.quiet (Value (word_in c.pages c.words row)) on)))
 
     -- ---- what it meets
 
@@ -139,7 +139,7 @@ module _ (c : Configuration) (p : Plain) (s : Stands c p) (y : Held) (z : Scanni
       sound_steps c p s y z back stage a (λ q asks.
       subst (steps.HoldsBy c p s (OwesSound c p s y z back stage)) (same_Some (Store (place_of c.pages (HeapWord place)) word) q (sym want ∙ asks))
       (steps.stores c p s (OwesSound c p s y z back stage) (WordIs place word) (on_table asked.spot a.is.fits.stage.0.sound.fits n)
-      (goes_on c p s y z back stage a (with_entry (WordIs place word) (table c)) refl a.remembers.quiet Done refl)))
+      (goes_on c p s y z back stage a (with_entry (WordIs place word) (table c)) refl refl a.remembers.quiet Done refl)))
 
   -- ---- all
 

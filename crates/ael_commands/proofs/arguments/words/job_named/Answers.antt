@@ -4,12 +4,6 @@ use Rattle.ael_commands.proofs.arguments.words.job_named.Goals as goal
 pub returns-in-asm-clause-value : goal.returns-in-asm-clause-value
 returns-in-asm-clause-value c = rw c.in-asm.is
 
-pub returns-in-sim-clause-value : goal.returns-in-sim-clause-value
-returns-in-sim-clause-value c = rw (c.in-sim.is, c.given.ensures.value)
-
-pub returns-in-run-clause-value : goal.returns-in-run-clause-value
-returns-in-run-clause-value c = rw (c.in-run.is, c.given-in-run.ensures.value)
-
 pub returns-in-concord-clause-value : goal.returns-in-concord-clause-value
 returns-in-concord-clause-value c = rw (c.in-concord.is, c.given-in-concord.ensures.value)
 

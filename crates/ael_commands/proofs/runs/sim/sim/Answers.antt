@@ -12,21 +12,21 @@ returns c =
     let items = c.args.program.now.schedule in
     let schedule = scheduled options program items in
     let formed = c.args.program.now.well_formed in
-    let pages = c.requires.pages in
+    let sizes = c.requires.sizes in
     let turns = c.requires.turns.1 in
     let scanners = c.requires.scanners in
-    let follows = c.runs_follow.ensures program items (config options.run) schedule options.steps formed pages turns scanners in
+    let follows = c.runs_follow.ensures program items (config options.run) schedule options.steps formed sizes turns scanners in
     let is : IsRunOf (Scheduled options) program items (simulated_run options program items) = record {
       made = record {
         is = refl;
         full = follows.full;
-        filled = c.full_heaps_are_filled.ensures.orders program items (config options.run) schedule options.steps formed pages turns scanners;
-        claimed = c.full_heaps_are_filled.ensures.by_claims program items (config options.run) schedule options.steps formed pages turns scanners;
-        large = c.large_heaps_are_never_full.ensures.large program items (config options.run) schedule options.steps formed pages turns scanners;
+        filled = c.full_heaps_are_filled.ensures.orders program items (config options.run) schedule options.steps formed sizes turns scanners;
+        claimed = c.full_heaps_are_filled.ensures.by_claims program items (config options.run) schedule options.steps formed sizes turns scanners;
+        large = c.large_heaps_are_never_full.ensures.large program items (config options.run) schedule options.steps formed sizes turns scanners;
       };
       acts = follows.acts;
       dump = follows.dump;
-      live = c.cycles_keep_what_is_live.ensures program items (config options.run) schedule options.steps formed pages turns scanners;
+      live = c.cycles_keep_what_is_live.ensures program items (config options.run) schedule options.steps formed sizes turns scanners;
     } in
     IfOk-weaker c.told.result _ _ (λ answer told. simulated options program items _ c.in_ok-order.order.items _ _ is follows.seen
     (rw (c.in_ok-core.ensures.opened, c.as_slice.ensures) at c.in_ok-order.ensures.core)

@@ -8,7 +8,9 @@ use Rattle.heap_state.specs.Memory.Entries.{written}
 use Rattle.space_map.specs.Table.{table_length}
 use Rattle.gc_worker.specs.declared.open_error.OpenError.{OpenError}
 use Rattle.gc_worker.specs.declared.open_error.OpenError.TheVariants.{BadPages, NoMemory}
-use Rattle.space_map.specs.Spaces.{IsPageCount, is_size}
+use Rattle.space_map.specs.declared.spaces.TheConstants.{FEWEST_PAGES}
+use Rattle.space_map.specs.Spaces.{IsPageCount}
+use Rattle.gc_worker.specs.Config.{has_sizes}
 use Rattle.atomic_table.specs.Table as table
 use Rattle.gc_worker.specs.declared.config.Config.{Config}
 use Rattle.ael_threads.specs.declared.view.Plan.{Plan}
@@ -19,31 +21,36 @@ use Rattle.ael_threads.proofs.TableRule.Opening.{opens_kept}
 use Rattle.ael_threads.proofs.shared.Shared.open.Goals as goal
 
 -- the words are as many as the table has
-all_words : (n : ℕ) (words : List ℕ) → words ≡ written n (opening_entries n) → length words ≡ table_length n
-all_words n words is = ap length is ∙ simp (length-set, length-replicate)
+all_words : (n least : ℕ) (words : List ℕ) → words ≡ written n (opening_entries n least) → length words ≡ table_length n
+all_words n least words is = ap length is ∙ simp (length-set, length-replicate)
 
--- of an allowed number of pages only memory may be wanting
-module _ (n : ℕ) (size : IsPageCount n) where
-  allowed : IsTrue (not (is_size n)) → ⊥
-  allowed refused = let is : is_size n ≡ true = rw (le-leb 4 n size.0, le-leb n 2048 size.1) refl in let never = ap not is in cc
+-- of sizes that a heap may have only memory may be wanting
+module _ (config : Config) (n : ℕ) (size : IsPageCount n) (is : n ≡ config.limit) (within : (FEWEST_PAGES ≤ config.pages) × (config.pages ≤ n)) where
+  allowed : IsTrue (not (has_sizes config)) → ⊥
+  allowed refused =
+      let most : config.pages ≤ config.limit = (let a = within.1 in omega (arith, a, is)) in
+      let all : config.limit ≤ 2048 = (let a = size.1 in omega (arith, a, is)) in
+      let few : config.pages ≤ 2048 = (let a = within.1 in let b = size.1 in omega (arith, a, b)) in
+      let has : has_sizes config ≡ true = rw (le-leb 4 config.pages within.0, le-leb config.pages 2048 few, le-leb config.pages config.limit most, le-leb config.limit 2048 all) refl in
+      let never = ap not has in cc
 
-  no_memory : {T : Type 0} (r : Result T OpenError) → IsErrAnd r (λ e. e ≡ NoMemory) → IsErrOf r BadPages ↔ IsTrue (not (is_size n))
+  no_memory : {T : Type 0} (r : Result T OpenError) → IsErrAnd r (λ e. e ≡ NoMemory) → IsErrOf r BadPages ↔ IsTrue (not (has_sizes config))
   no_memory (Ok x) h = absurd h
   no_memory (Err e) h = (λ is. cc, λ refused. absurd (allowed refused))
 
-  is_open : {T : Type 0} (x : T) → IsErrOf (Ok x) BadPages ↔ IsTrue (not (is_size n))
+  is_open : {T : Type 0} (x : T) → IsErrOf (Ok x) BadPages ↔ IsTrue (not (has_sizes config))
   is_open x = (λ is. cc, λ refused. absurd (allowed refused))
 
 -- the plan, with this number of pages
 abbrev opens : (mutators : ℕ) → Config → (pages : ℕ) → Plan
-opens mutators config pages = record { spaces = record { pages = pages }; mutators = mutators; scanners = config.scanners }
+opens mutators config pages = record { spaces = record { pages = pages }; least = config.pages; mutators = mutators; scanners = config.scanners }
 
 pub of_words-requires : goal.of_words-requires
 of_words-requires c =
-    let plan : Plan = record { spaces = c.in_ok-spaces.spaces; mutators = c.args.mutators; scanners = c.args.config.now.scanners } in
+    let plan : Plan = record { spaces = c.in_ok-spaces.spaces; least = c.args.config.now.pages; mutators = c.args.mutators; scanners = c.args.config.now.scanners } in
     let all : crew plan ≤ 24 = (let a = c.requires.mutators.1 in let b = c.requires.scanners in omega (arith, a, b)) in
     subst (λ (words : List ℕ). RuleHolds plan (table.opening {S = ℕ} words [] (first_view plan))) (sym (c.as_slice.ensures.value ∙ c.in_ok-words.ensures))
-    (opens_kept plan c.known.ensures c.requires.mutators.1 all)
+    (opens_kept plan c.known.ensures c.in_ok-spaces.ensures.at_first.0 c.in_ok-spaces.ensures.at_first.1 c.requires.mutators.1 all)
 
 pub deal-requires-clause-few : goal.deal-requires-clause-few
 deal-requires-clause-few c = (c.requires.mutators.1, (let a = c.requires.mutators.1 in let b = c.requires.scanners in omega (arith, a, b)))
@@ -68,16 +75,16 @@ returns-clause-scanners c =
     c.in_ok-seats.ensures.scanners ∙ ap (λ (n : ℕ). new_scanners t (opens c.args.mutators c.args.config.now n) c.args.mutators c.args.config.now.scanners) c.in_ok-spaces.ensures.pages
 
 pub returns-in_err-words-clause-bad_pages : goal.returns-in_err-words-clause-bad_pages
-returns-in_err-words-clause-bad_pages c = no_memory _ (subst IsPageCount c.in_ok-spaces.ensures.pages c.known.ensures) _ c.from_residual-in_err-words.ensures.1
+returns-in_err-words-clause-bad_pages c = no_memory c.args.config.now _ c.known.ensures c.in_ok-spaces.ensures.pages c.in_ok-spaces.ensures.at_first _ c.from_residual-in_err-words.ensures.1
 
 pub returns-in_err-table-clause-bad_pages : goal.returns-in_err-table-clause-bad_pages
-returns-in_err-table-clause-bad_pages c = no_memory _ (subst IsPageCount c.in_ok-spaces.ensures.pages c.known.ensures) _ c.from_residual-in_err-table.ensures.1
+returns-in_err-table-clause-bad_pages c = no_memory c.args.config.now _ c.known.ensures c.in_ok-spaces.ensures.pages c.in_ok-spaces.ensures.at_first _ c.from_residual-in_err-table.ensures.1
 
 pub returns-clause-bad_pages : goal.returns-clause-bad_pages
-returns-clause-bad_pages c = is_open _ (subst IsPageCount c.in_ok-spaces.ensures.pages c.known.ensures) _
+returns-clause-bad_pages c = is_open c.args.config.now _ c.known.ensures c.in_ok-spaces.ensures.pages c.in_ok-spaces.ensures.at_first _
 
 pub deal-requires-clause-live : goal.deal-requires-clause-live
-deal-requires-clause-live c = c.in_ok-table.ensures.0 ∙ all_words _ _ (c.as_slice.ensures.value ∙ c.in_ok-words.ensures)
+deal-requires-clause-live c = c.in_ok-table.ensures.0 ∙ all_words _ _ _ (c.as_slice.ensures.value ∙ c.in_ok-words.ensures)
 
 pub returns-clause-words : goal.returns-clause-words
-returns-clause-words c = c.in_ok-table.ensures.0 ∙ (all_words _ _ (c.as_slice.ensures.value ∙ c.in_ok-words.ensures) ∙ ap table_length c.in_ok-spaces.ensures.pages)
+returns-clause-words c = c.in_ok-table.ensures.0 ∙ (all_words _ _ _ (c.as_slice.ensures.value ∙ c.in_ok-words.ensures) ∙ ap table_length c.in_ok-spaces.ensures.pages)

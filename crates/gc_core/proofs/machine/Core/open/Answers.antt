@@ -1,6 +1,6 @@
 use Rattle.std.proofs.Common.{◌≡◌, ◌+◌, length, refl, ap, ◌∙◌, arith}
 use Rattle.gc_worker.proofs.Between.Opening.{many}
-use Rattle.gc_core.proofs.Events.Opening.{size_is}
+use Rattle.gc_core.proofs.Events.Opening.{sizes_fit}
 use Rattle.gc_core.proofs.Events.Lawful.{lawful_opening}
 use Rattle.gc_core.proofs.machine.Core.open.Goals as goal
 
@@ -9,6 +9,12 @@ all_there c =
     ap length c.in_ok-slots.ensures
     ∙ many c.in_ok-spaces.spaces.pages c.len-mutators.result 0 (c.len-mutators.result + c.args.config.now.scanners)
     ∙ ap (λ n. n + c.args.config.now.scanners) c.len-mutators.ensures
+
+pub words-requires : goal.words-requires
+words-requires c =
+    let fit = sizes_fit c.args.config.now (c.in_ok-spaces.ensures.refused_exactly_outside.0 refl) in
+    let pages = c.in_ok-spaces.ensures.pages in
+    omega (arith, fit.1, pages)
 
 pub returns-clause-workers : goal.returns-clause-workers
 returns-clause-workers c = all_there c
@@ -23,7 +29,7 @@ invariant_of-result c =
     let vec = c.in_ok-slots.slots.ok.0 in
     let program = c.args.program.now.well_formed in
     let few = program.few_sections in
-    let lawful = lawful_opening c.args.program.now.code c.args.program.now.schedule c.args.config.now program (size_is c.args.config.now.pages (c.in_ok-spaces.ensures.refused_exactly_outside.0 refl)) c.requires.turns.1 c.requires.scanners in (
+    let lawful = lawful_opening c.args.program.now.code c.args.program.now.schedule c.args.config.now program (c.in_ok-spaces.ensures.refused_exactly_outside.0 refl) c.requires.turns.1 c.requires.scanners in (
       omega (arith, vec, all, few, c.requires.scanners),
       omega (arith, vec, all),
       rw (words, slots, len, same) lawful,

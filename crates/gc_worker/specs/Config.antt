@@ -1,0 +1,9 @@
+-- How many pages the spaces of a heap may have.
+use Rattle.std.specs.Prelude.{◌&&◌, Bool, nat_le}
+use Rattle.space_map.specs.declared.spaces.TheConstants.{MOST_PAGES}
+use Rattle.space_map.specs.Spaces.{is_size}
+use Rattle.gc_worker.specs.declared.config.Config.{Config}
+
+-- a space may have so many pages, and so many of them are in use at first
+abbrev pub has_sizes : Config → Bool
+has_sizes config = is_size config.pages && (nat_le config.pages config.limit && nat_le config.limit MOST_PAGES)
