@@ -1,5 +1,5 @@
 -- The rule of the table: what is so of the words, of all workers and of what each seat knows, between any two steps.
-use Rattle.std.specs.Prelude.{◌≡◌, ℕ, ◌<◌, List, [], map, length}
+use Rattle.std.specs.Prelude.{◌≡◌, ℕ, ◌<◌, false, List, [], map, length}
 use mathlib.Core.Option.{some}
 use mathlib.Core.List.{IsPrefix}
 use lib.ListN.{get_elem?}
@@ -31,7 +31,7 @@ first_view plan = view plan (new_hands plan 0 (crew plan)) [] [] []
 
 -- a seat whose workers went to another seat
 abbrev pub no_plan : Plan
-no_plan = record { spaces = record { pages = 0 }; least = 0; mutators = 0; scanners = 0 }
+no_plan = record { spaces = record { pages = 0; checkpoints = false }; least = 0; mutators = 0; scanners = 0 }
 
 abbrev pub spent_view : View
 spent_view = view no_plan [] [] [] []

@@ -7,7 +7,7 @@ use Rattle.atom_store.specs.declared.reply.Reply.{Reply}
 use Rattle.atom_store.specs.declared.reply.Reply.TheVariants.{Won, Lost}
 use Rattle.atom_store.specs.declared.step.Step.{Step}
 use Rattle.alloc_end.specs.declared.place_stage.PlaceStage.{PlaceStage}
-use Rattle.alloc_end.specs.declared.place_stage.PlaceStage.TheVariants.{LoadsTraced, LoadsSize, LoadsArea, ExchangesArea, StoresZero, OpensPage, StoresCount, StoresHeader, Ended}
+use Rattle.alloc_end.specs.declared.place_stage.PlaceStage.TheVariants.{LoadsTraced, LoadsSize, LoadsArea, ExchangesArea, StoresZero, StoresNew, OpensPage, StoresCount, StoresHeader, Ended}
 use Rattle.alloc_end.specs.Place.{Placing, wanted_at, advances_at}
 use Rattle.alloc_end.specs.HeldUp.{IsHeldUp, GoesOn}
 
@@ -32,6 +32,7 @@ module _ (step : Step) (met : List ℕ) where
       subst (λ (s : Step). Holds (ExchangesArea f) (reply_of s met)) (same_Some _ _ wants)
       (of_exchange (Holds (ExchangesArea f)) _ _ (λ stays. absurd (cc)) (λ stays. tt))
   held p (StoresZero new) wants = subst (λ (s : Step). Holds (StoresZero new) (reply_of s met)) (same_Some _ _ wants) (λ stays. absurd (cc))
+  held p (StoresNew new) wants = subst (λ (s : Step). Holds (StoresNew new) (reply_of s met)) (same_Some _ _ wants) (λ stays. absurd (cc))
   held p (OpensPage new) wants = subst (λ (s : Step). Holds (OpensPage new) (reply_of s met)) (same_Some _ _ wants) (λ stays. absurd (cc))
   held p StoresCount wants = subst (λ (s : Step). Holds StoresCount (reply_of s met)) (same_Some _ _ wants) (λ stays. absurd (cc))
   held p StoresHeader wants = subst (λ (s : Step). Holds StoresHeader (reply_of s met)) (same_Some _ _ wants) (λ stays. absurd (cc))

@@ -1,5 +1,5 @@
 -- What an allocation's step does to the words, by its stage.
-use Rattle.std.proofs.Common.{◌≡◌, ◌≢◌, ℕ, ◌+◌, ◌*◌, ◌^◌, ◌<◌, ◌≤◌, Bool, true, false, cond, nat_lt, inl, inr, List, slice_index, Option, Some, None, arith, refl, sym, ap, subst, ◌∙◌}
+use Rattle.std.proofs.Common.{◌≡◌, ◌≢◌, ℕ, ◌+◌, ◌*◌, ◌^◌, ◌<◌, ◌≤◌, ◌==◌, Bool, true, false, cond, nat_lt, inl, inr, List, slice_index, Option, Some, None, arith, refl, sym, ap, subst, ◌∙◌}
 use Rattle.std.proofs.lemmas.Bool.{cases_lt}
 use Rattle.std.proofs.lemmas.Bool.Decides.{nat_tests}
 use Rattle.atom_store.specs.declared.reply.Reply.{Reply}
@@ -18,22 +18,24 @@ use Rattle.heap_words.specs.Word.{number_word}
 use Rattle.record_layout.specs.Layout.{header_says}
 use Rattle.space_map.specs.declared.area_word.AreaWord.{AreaWord}
 use Rattle.space_map.specs.declared.page_word.PageWord.TheVariants.{Open}
+use Rattle.space_map.specs.declared.save_word.SaveWord.TheVariants.{New}
 use Rattle.space_map.specs.AreaWord.{decode_area}
 use Rattle.space_map.specs.PageWord.{decode_page, encode_page}
 use Rattle.space_map.specs.Spaces.{page_of}
-use Rattle.space_map.specs.Table.{Page, HeapWord, place_of}
+use Rattle.space_map.specs.Table.{Row, Page, HeapWord, SaveOf, IsRow, place_of, save_place_of}
+use Rattle.space_map.specs.SaveWord.{encode_save}
 use Rattle.space_map.specs.TableWords.{row_word, HoldsTable}
 use Rattle.space_map.proofs.PageWords.{decode_page-encode_page}
-use Rattle.space_map.proofs.Rows.{place_of-apart, place_of-lt}
+use Rattle.space_map.proofs.Rows.{place_of-apart, place_of-lt, save_place_of-ge}
 use Rattle.alloc_end.specs.declared.fitting.Fitting.{Fitting}
 use Rattle.alloc_end.specs.declared.new_pages.NewPages.{NewPages}
 use Rattle.alloc_end.specs.declared.allocated.Allocated.{Allocated}
 use Rattle.alloc_end.specs.declared.allocated.Allocated.TheVariants.{Placed, Full}
 use Rattle.alloc_end.specs.declared.place_stage.PlaceStage.{PlaceStage}
-use Rattle.alloc_end.specs.declared.place_stage.PlaceStage.TheVariants.{LoadsTraced, LoadsSize, LoadsArea, ExchangesArea, StoresZero, OpensPage, StoresCount, StoresHeader, Ended}
-use Rattle.alloc_end.specs.Place.{Placing, at_stage, size_of, pages_for, words_for, fits, shortage, place_machine, stores_first, told, told_at, taken_at, looked_at_area, cleared, after_opening}
+use Rattle.alloc_end.specs.declared.place_stage.PlaceStage.TheVariants.{LoadsTraced, LoadsSize, LoadsArea, ExchangesArea, StoresZero, StoresNew, OpensPage, StoresCount, StoresHeader, Ended}
+use Rattle.alloc_end.specs.Place.{Placing, at_stage, size_of, pages_for, words_for, fits, shortage, place_machine, stores_first, told, told_at, taken_at, looked_at_area, readies, cleared, after_opening}
 use Rattle.alloc_end.specs.Soundness.{IsSoundPlacing}
-use Rattle.alloc_end.specs.Theorems.{area_word, AreZero, AreOpen, IsRunReady, AwaitsHeader, IsReady, PlacesRecord, zeros_from}
+use Rattle.alloc_end.specs.Theorems.{area_word, AreZero, AreOpen, AreCleared, IsRunReady, AwaitsHeader, IsReady, PlacesRecord, zeros_from}
 
 -- ---- stores in heap words and page words
 
@@ -83,6 +85,15 @@ this_page : (n page value : ℕ) (before after : List ℕ) → HoldsTable n befo
 this_page n page value before after whole is_page makes =
     let inside = place_of-lt n (Page page) is_page in
     ap (row_word n (Page page)) makes ∙ slice_index-stored (place_of n (Page page)) value before (omega (arith, inside, whole))
+
+-- so do all rows that each table has, after a store behind them
+pub row_before : (n page value : ℕ) (row : Row) (before after : List ℕ) → IsRow n row
+    → after ≡ words_after (Store (save_place_of n (SaveOf page)) value) before → row_word n row after ≡ row_word n row before
+row_before n page value row before after is makes =
+    let inside = place_of-lt n row is in
+    let behind = save_place_of-ge n (SaveOf page) in
+    ap (row_word n row) makes
+    ∙ slice_index-words_after (Store (save_place_of n (SaveOf page)) value) before (place_of n row) (λ same. omega (arith, inside, behind, same))
 
 -- ---- zeros and open pages
 
@@ -138,16 +149,24 @@ ready_by_exchange : (p : Placing) (f : Fitting) (b : Bool) (found : ℕ) (words 
 ready_by_exchange p f true found words = λ a low high. absurd (omega arith)
 ready_by_exchange p f false found words = tt
 
+-- the pages are as they are to be, whether the next one is marked first or not
+ready_next : (p : Placing) (new : NewPages) (words : List ℕ) → AreCleared p new words → IsReadyAt p (readies p.snap new) words
+ready_next p new words cleared = by_test (p.snap == 0)
+  where
+    by_test : (b : Bool) → IsReadyAt p (cond b (OpensPage new) (StoresNew new)) words
+    by_test true = cleared
+    by_test false = cleared
+
 ready_by_zero : (p : Placing) (new : NewPages) (words : List ℕ) → new.next < new.first + words_for p.header → AreZero p.layout.pages new.first (new.next + 1) words
-    → IsReadyAt p (cleared (words_for p.header) new) words
+    → IsReadyAt p (cleared (words_for p.header) p.snap new) words
 ready_by_zero p new words below zero = by_test (nat_lt (new.next + 1) (new.first + words_for p.header)) refl
   where
     by_test : (b : Bool) → nat_lt (new.next + 1) (new.first + words_for p.header) ≡ b
-        → IsReadyAt p (cond b (StoresZero (record { first = new.first; next = new.next + 1 })) (OpensPage (record { first = new.first; next = page_of new.first }))) words
+        → IsReadyAt p (cond b (StoresZero (record { first = new.first; next = new.next + 1 })) (readies p.snap (record { first = new.first; next = page_of new.first }))) words
     by_test true test = zero
     by_test false test =
         let last : new.first + words_for p.header ≤ new.next + 1 = grind (arith, nat_tests) in
-        (λ a low high. zero a low (omega arith), λ page low high. absurd (omega arith))
+        ready_next p (record { first = new.first; next = page_of new.first }) words (λ a low high. zero a low (omega arith), λ page low high. absurd (omega arith))
 
 zeros_from-pos : (kind : Kind) → 0 < zeros_from kind
 zeros_from-pos Fields = omega arith
@@ -174,10 +193,10 @@ ready_by_page : (p : Placing) (new : NewPages) (words : List ℕ) → AreZero p.
 ready_by_page p new words zero open_pages = by_test (nat_lt (new.next + 1) (page_of new.first + pages_for (size_of p.header))) refl
   where
     by_test : (b : Bool) → nat_lt (new.next + 1) (page_of new.first + pages_for (size_of p.header)) ≡ b
-        → let next = cond b (at_stage p (OpensPage (record { first = new.first; next = new.next + 1 })))
+        → let next = cond b (at_stage p (readies p.snap (record { first = new.first; next = new.next + 1 })))
         (record p { run = record { at = new.first; end = new.first + words_for p.header }; stage = stores_first p.header.kind })
         in IsReady next next.stage words
-    by_test true test = (zero, open_pages)
+    by_test true test = ready_next p (record { first = new.first; next = new.next + 1 }) words (zero, open_pages)
     by_test false test =
         let last : page_of new.first + pages_for (size_of p.header) ≤ new.next + 1 = grind (arith, nat_tests) in
         ready_first (record p { run = record { at = new.first; end = new.first + words_for p.header }; stage = stores_first p.header.kind }) p.header.kind words refl
@@ -207,6 +226,12 @@ ready p (ExchangesArea f) before after turn sound whole is acts = ready_by_excha
 ready p (StoresZero new) before after turn sound whole is acts =
     let stage = sound.stage in
     ready_by_zero p new after stage.2 (zero_more p.layout.pages new.first new.next before after whole (omega arith) is acts.makes)
+ready p (StoresNew new) before after turn sound whole is acts =
+    let pages = sound.stage.0 in
+    let value : ℕ = encode_save (New p.snap) in (
+      λ a low high. row_before p.layout.pages new.next value (HeapWord a) before after (omega (arith, pages, high)) acts.makes ∙ is.0 a low high,
+      λ page low high. ap decode_page (row_before p.layout.pages new.next value (Page page) before after (omega (arith, pages, high)) acts.makes) ∙ is.1 page low high,
+    )
 ready p (OpensPage new) before after turn sound whole is acts =
     let stage = sound.stage in
     let value : ℕ = encode_page (Open p.epoch) in
@@ -239,12 +264,19 @@ never_ends_at_exchange p f (reply.Lost word) result tells = cc
 never_ends_at_exchange p f (reply.Value word) result tells = cc
 never_ends_at_exchange p f reply.Done result tells = cc
 
-pub never_ends_at_zero : (p : Placing) (new : NewPages) (result : Allocated) → told (at_stage p (cleared (words_for p.header) new)) ≡ Finished result → ⊥
-never_ends_at_zero p new result tells = by_test (nat_lt (new.next + 1) (new.first + words_for p.header)) tells
+never_ends_at_next : (snap : ℕ) (new : NewPages) (result : Allocated) → told_at (readies snap new) ≡ Finished result → ⊥
+never_ends_at_next snap new result tells = by_test (snap == 0) tells
   where
-    by_test : (b : Bool) → told (at_stage p (cond b (StoresZero (record { first = new.first; next = new.next + 1 })) (OpensPage (record { first = new.first; next = page_of new.first })))) ≡ Finished result → ⊥
+    by_test : (b : Bool) → told_at (cond b (OpensPage new) (StoresNew new)) ≡ Finished result → ⊥
     by_test true e = cc
     by_test false e = cc
+
+pub never_ends_at_zero : (p : Placing) (new : NewPages) (result : Allocated) → told (at_stage p (cleared (words_for p.header) p.snap new)) ≡ Finished result → ⊥
+never_ends_at_zero p new result tells = by_test (nat_lt (new.next + 1) (new.first + words_for p.header)) tells
+  where
+    by_test : (b : Bool) → told (at_stage p (cond b (StoresZero (record { first = new.first; next = new.next + 1 })) (readies p.snap (record { first = new.first; next = page_of new.first })))) ≡ Finished result → ⊥
+    by_test true e = cc
+    by_test false e = never_ends_at_next p.snap (record { first = new.first; next = page_of new.first }) result e
 
 never_ends_at_first : (kind : Kind) (result : Allocated) → told_at (stores_first kind) ≡ Finished result → ⊥
 never_ends_at_first Fields result e = cc
@@ -254,9 +286,9 @@ never_ends_at_first Mixed result e = cc
 pub never_ends_at_page : (p : Placing) (new : NewPages) (result : Allocated) → told (after_opening p new) ≡ Finished result → ⊥
 never_ends_at_page p new result tells = by_test (nat_lt (new.next + 1) (page_of new.first + pages_for (size_of p.header))) tells
   where
-    by_test : (b : Bool) → told (cond b (at_stage p (OpensPage (record { first = new.first; next = new.next + 1 })))
+    by_test : (b : Bool) → told (cond b (at_stage p (readies p.snap (record { first = new.first; next = new.next + 1 })))
         (record p { run = record { at = new.first; end = new.first + words_for p.header }; stage = stores_first p.header.kind })) ≡ Finished result → ⊥
-    by_test true e = cc
+    by_test true e = never_ends_at_next p.snap (record { first = new.first; next = new.next + 1 }) result e
     by_test false e = never_ends_at_first p.header.kind result e
 
 pub more_never_ends : (result : Allocated) → More ≡ Finished result → ⊥
@@ -270,6 +302,7 @@ places p (LoadsSize traced) before after at sound whole is acts = absurd (more_n
 places p (LoadsArea traced size) before after at sound whole is acts = absurd (never_placed_at_area p traced size at (decode_area (area_word p before)) acts.tells)
 places p (ExchangesArea f) before after at sound whole is acts = absurd (never_ends_at_exchange p f _ (Placed at) acts.tells)
 places p (StoresZero new) before after at sound whole is acts = absurd (never_ends_at_zero p new (Placed at) acts.tells)
+places p (StoresNew new) before after at sound whole is acts = absurd (more_never_ends (Placed at) acts.tells)
 places p (OpensPage new) before after at sound whole is acts = absurd (never_ends_at_page p new (Placed at) acts.tells)
 places p StoresCount before after at sound whole is acts = absurd (more_never_ends (Placed at) acts.tells)
 places p StoresHeader before after at sound whole is acts = subst (PlacesRecord (at_stage p StoresHeader) before after) same record_placed

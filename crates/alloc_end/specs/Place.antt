@@ -15,10 +15,13 @@ use Rattle.record_layout.specs.declared.header.Header.{Header}
 use Rattle.record_layout.specs.Layout.{header_says}
 use Rattle.space_map.specs.declared.area_word.AreaWord.{AreaWord}
 use Rattle.space_map.specs.declared.page_word.PageWord.TheVariants.{Open}
+use Rattle.space_map.specs.declared.save_word.SaveWord.TheVariants.{New}
 use Rattle.space_map.specs.AreaWord.{encode_area, decode_area}
 use Rattle.space_map.specs.PageWord.{encode_page}
+use Rattle.space_map.specs.SaveWord.{encode_save}
 use Rattle.space_map.specs.Spaces.{Layout, to_space, space_start, page_of}
-use Rattle.space_map.specs.Table.{Row, Traced, Area, Size, Page, HeapWord, place_of}
+use Rattle.space_map.specs.Table.{Traced, Area, Size, Page, HeapWord, SaveOf}
+use Rattle.space_map.specs.WholeTable.{WholeRow, Within, Behind, whole_place_of}
 use Rattle.alloc_end.specs.declared.run.Run.{Run}
 use Rattle.alloc_end.specs.declared.fitting.Fitting.{Fitting}
 use Rattle.alloc_end.specs.declared.new_pages.NewPages.{NewPages}
@@ -26,15 +29,17 @@ use Rattle.alloc_end.specs.declared.shortage.Shortage.{Shortage}
 use Rattle.alloc_end.specs.declared.allocated.Allocated.{Allocated}
 use Rattle.alloc_end.specs.declared.allocated.Allocated.TheVariants.{Placed, Full}
 use Rattle.alloc_end.specs.declared.place_stage.PlaceStage.{PlaceStage}
-use Rattle.alloc_end.specs.declared.place_stage.PlaceStage.TheVariants.{LoadsTraced, LoadsSize, LoadsArea, ExchangesArea, StoresZero, OpensPage, StoresCount, StoresHeader, Ended}
+use Rattle.alloc_end.specs.declared.place_stage.PlaceStage.TheVariants.{LoadsTraced, LoadsSize, LoadsArea, ExchangesArea, StoresZero, StoresNew, OpensPage, StoresCount, StoresHeader, Ended}
 
--- the allocation of a record with this header, and if it is mixed with so many fields, by a mutator of an epoch that has this run
+-- The allocation of a record with this header, and if it is mixed with so many fields, by a mutator of an epoch that has this run and saw
+-- so many checkpoints begun.
 pub record Placing : Type 0 where
   pub layout : Layout
   pub run : Run
   pub header : Header
   pub fields : ℕ
   pub epoch : ℕ
+  pub snap : ℕ
   pub stage : PlaceStage
 
 -- the words of a record with this header
@@ -61,9 +66,9 @@ stores_first Mixed = StoresCount
 abbrev pub first_stage : Run → Header → PlaceStage
 first_stage run header = if nat_le (run.at + size_of header) run.end then stores_first header.kind else LoadsTraced
 
-abbrev pub begun : Layout → Run → Header → (epoch fields : ℕ) → Placing
-begun layout run header epoch fields =
-    record { layout = layout; run = run; header = header; fields = fields; epoch = epoch; stage = first_stage run header }
+abbrev pub begun : Layout → Run → Header → (epoch fields snap : ℕ) → Placing
+begun layout run header epoch fields snap =
+    record { layout = layout; run = run; header = header; fields = fields; epoch = epoch; snap = snap; stage = first_stage run header }
 
 -- ---- the claim of pages
 
@@ -102,19 +107,20 @@ first_claimed p f = space_start p.layout.pages (to_space p.epoch) + (f.area.low 
 -- ---- the next step
 
 -- by the row that it is on
-abbrev pub wants_at : Placing → PlaceStage → Option (StepOn Row)
-wants_at p LoadsTraced = Some (Load Traced)
-wants_at p (LoadsSize traced) = Some (Load (Size (to_space p.epoch)))
-wants_at p (LoadsArea traced size) = Some (Load (Area (to_space p.epoch)))
-wants_at p (ExchangesArea f) = Some (Exchange (Area (to_space p.epoch)) (encode_area f.area) (encode_area (area_after (words_for p.header) f)))
-wants_at p (StoresZero new) = Some (Store (HeapWord new.next) 0)
-wants_at p (OpensPage new) = Some (Store (Page new.next) (encode_page (Open p.epoch)))
-wants_at p StoresCount = Some (Store (HeapWord (p.run.at + 1)) (number_word p.fields))
-wants_at p StoresHeader = Some (Store (HeapWord p.run.at) (encode (header_says p.header)))
+abbrev pub wants_at : Placing → PlaceStage → Option (StepOn WholeRow)
+wants_at p LoadsTraced = Some (Load (Within Traced))
+wants_at p (LoadsSize traced) = Some (Load (Within (Size (to_space p.epoch))))
+wants_at p (LoadsArea traced size) = Some (Load (Within (Area (to_space p.epoch))))
+wants_at p (ExchangesArea f) = Some (Exchange (Within (Area (to_space p.epoch))) (encode_area f.area) (encode_area (area_after (words_for p.header) f)))
+wants_at p (StoresZero new) = Some (Store (Within (HeapWord new.next)) 0)
+wants_at p (StoresNew new) = Some (Store (Behind (SaveOf new.next)) (encode_save (New p.snap)))
+wants_at p (OpensPage new) = Some (Store (Within (Page new.next)) (encode_page (Open p.epoch)))
+wants_at p StoresCount = Some (Store (Within (HeapWord (p.run.at + 1))) (number_word p.fields))
+wants_at p StoresHeader = Some (Store (Within (HeapWord p.run.at)) (encode (header_says p.header)))
 wants_at p (Ended result) = None
 
 abbrev pub wanted_at : Placing → PlaceStage → Option Step
-wanted_at p stage = option_map (step_at (place_of p.layout.pages)) (wants_at p stage)
+wanted_at p stage = option_map (step_at (whole_place_of p.layout.pages)) (wants_at p stage)
 
 abbrev pub wanted : Placing → Option Step
 wanted p = wanted_at p p.stage
@@ -130,17 +136,21 @@ looked_at_area p traced size (Some area) =
     if fits traced (words_for p.header) area then ExchangesArea (record { traced = traced; area = area }) else Ended (Full (shortage traced size p.header area))
 looked_at_area p traced size None = LoadsArea traced size
 
+-- a page whose words are cleared is opened; where a checkpoint was begun, that it is new stands in its SAVE before that
+abbrev pub readies : (snap : ℕ) → NewPages → PlaceStage
+readies snap new = if snap == 0 then OpensPage new else StoresNew new
+
 -- after a word that was cleared, the next; after the last, the first page
-abbrev pub cleared : (words : ℕ) → NewPages → PlaceStage
-cleared words new =
+abbrev pub cleared : (words snap : ℕ) → NewPages → PlaceStage
+cleared words snap new =
     if nat_lt (new.next + 1) (new.first + words) then StoresZero (record { first = new.first; next = new.next + 1 })
-    else OpensPage (record { first = new.first; next = page_of new.first })
+    else readies snap (record { first = new.first; next = page_of new.first })
 
 -- after a page that was opened, the next; after the last, these pages are the run
 abbrev pub after_opening : Placing → NewPages → Placing
 after_opening p new =
     if nat_lt (new.next + 1) (page_of new.first + pages_for (size_of p.header))
-    then at_stage p (OpensPage (record { first = new.first; next = new.next + 1 }))
+    then at_stage p (readies p.snap (record { first = new.first; next = new.next + 1 }))
     else record p { run = record { at = new.first; end = new.first + words_for p.header }; stage = stores_first p.header.kind }
 
 -- the record stands, and the run goes on behind it
@@ -153,7 +163,8 @@ taken_at p (LoadsSize traced) (Value word) = at_stage p (LoadsArea traced word)
 taken_at p (LoadsArea traced size) (Value word) = at_stage p (looked_at_area p traced size (decode_area word))
 taken_at p (ExchangesArea f) Won = at_stage p (StoresZero (record { first = first_claimed p f; next = first_claimed p f }))
 taken_at p (ExchangesArea f) (Lost word) = at_stage p LoadsTraced
-taken_at p (StoresZero new) Done = at_stage p (cleared (words_for p.header) new)
+taken_at p (StoresZero new) Done = at_stage p (cleared (words_for p.header) p.snap new)
+taken_at p (StoresNew new) Done = at_stage p (OpensPage new)
 taken_at p (OpensPage new) Done = after_opening p new
 taken_at p StoresCount Done = at_stage p StoresHeader
 taken_at p StoresHeader Done = placed p
@@ -179,12 +190,13 @@ place_machine = record { wanted = wanted; taken = taken; told = told }
 
 -- where the record needs so many pages
 abbrev pub left_at : (asked : ℕ) → PlaceStage → ℕ
-left_at asked LoadsTraced = 65 * asked + 6
-left_at asked (LoadsSize traced) = 65 * asked + 5
-left_at asked (LoadsArea traced size) = 65 * asked + 4
-left_at asked (ExchangesArea f) = 65 * asked + 3
-left_at asked (StoresZero new) = 65 * asked + 2 - (new.next - new.first)
-left_at asked (OpensPage new) = asked + 2 - (new.next - page_of new.first)
+left_at asked LoadsTraced = 66 * asked + 6
+left_at asked (LoadsSize traced) = 66 * asked + 5
+left_at asked (LoadsArea traced size) = 66 * asked + 4
+left_at asked (ExchangesArea f) = 66 * asked + 3
+left_at asked (StoresZero new) = 66 * asked + 2 - (new.next - new.first)
+left_at asked (StoresNew new) = 2 * asked + 2 - 2 * (new.next - page_of new.first)
+left_at asked (OpensPage new) = 2 * asked + 1 - 2 * (new.next - page_of new.first)
 left_at asked StoresCount = 2
 left_at asked StoresHeader = 1
 left_at asked (Ended result) = 0
@@ -199,6 +211,7 @@ advances_at (LoadsSize traced) (Value word) = true
 advances_at (LoadsArea traced size) (Value word) = is_some (decode_area word)
 advances_at (ExchangesArea f) Won = true
 advances_at (StoresZero new) Done = true
+advances_at (StoresNew new) Done = true
 advances_at (OpensPage new) Done = true
 advances_at StoresCount Done = true
 advances_at StoresHeader Done = true

@@ -1,13 +1,14 @@
 -- What an allocation keeps of itself: its places are in the table, its run and the pages that it claimed are in the spaces, no more
--- pages are in use than a space has, and the areas that it writes fit their words.
-use Rattle.std.specs.Prelude.{◌≡◌, ℕ, ◌+◌, ◌*◌, ◌^◌, ◌<◌, ◌≤◌, ⊤}
-use Rattle.space_map.specs.Spaces.{IsPageCount, page_of}
+-- pages are in use than a space has, the areas that it writes fit their words, and pages are marked new only for a checkpoint.
+use Rattle.std.specs.Prelude.{◌≡◌, ℕ, ◌+◌, ◌*◌, ◌^◌, ◌<◌, ◌≤◌, ⊤, false}
+use Rattle.space_map.specs.Spaces.{Layout, IsPageCount, page_of}
 use Rattle.heap_words.specs.declared.kind.Kind.TheVariants.{Mixed}
 use Rattle.record_layout.specs.declared.header.Header.{Header}
 use Rattle.alloc_end.specs.declared.run.Run.{Run}
 use Rattle.alloc_end.specs.declared.fitting.Fitting.{Fitting}
+use Rattle.alloc_end.specs.declared.new_pages.NewPages.{NewPages}
 use Rattle.alloc_end.specs.declared.place_stage.PlaceStage.{PlaceStage}
-use Rattle.alloc_end.specs.declared.place_stage.PlaceStage.TheVariants.{LoadsTraced, LoadsSize, LoadsArea, ExchangesArea, StoresZero, OpensPage, StoresCount, StoresHeader, Ended}
+use Rattle.alloc_end.specs.declared.place_stage.PlaceStage.TheVariants.{LoadsTraced, LoadsSize, LoadsArea, ExchangesArea, StoresZero, StoresNew, OpensPage, StoresCount, StoresHeader, Ended}
 use Rattle.alloc_end.specs.Place.{Placing, size_of, pages_for, kept_room}
 
 -- the run lies in the spaces
@@ -28,25 +29,35 @@ pub record AreaHoldsClaim (pages words : ℕ) (f : Fitting) : Type 0 where
 abbrev pub IsClaimed : (pages words first : ℕ) → Type 0
 IsClaimed n words first = first + words ≤ 128 * n
 
--- where the record needs so many pages
-abbrev pub FitsPlaceStage : (pages asked : ℕ) → Run → Header → PlaceStage → Type 0
-FitsPlaceStage n asked run header LoadsTraced = ⊤
-FitsPlaceStage n asked run header (LoadsSize traced) = ⊤
-FitsPlaceStage n asked run header (LoadsArea traced size) = size ≤ n
-FitsPlaceStage n asked run header (ExchangesArea f) = AreaHoldsClaim n (64 * asked) f
-FitsPlaceStage n asked run header (StoresZero new) = IsClaimed n (64 * asked) new.first × (new.first ≤ new.next) × (new.next < new.first + 64 * asked)
-FitsPlaceStage n asked run header (OpensPage new) =
-    IsClaimed n (64 * asked) new.first × (page_of new.first ≤ new.next) × (new.next < page_of new.first + asked)
-FitsPlaceStage n asked run header StoresCount = (header.kind ≡ Mixed) × (1 < size_of header) × (run.at + size_of header ≤ run.end)
-FitsPlaceStage n asked run header StoresHeader = run.at + size_of header ≤ run.end
-FitsPlaceStage n asked run header (Ended result) = ⊤
+-- the first page and the next one are among so many that were claimed
+abbrev pub IsAtPage : (pages asked : ℕ) → NewPages → Type 0
+IsAtPage n asked new = IsClaimed n (64 * asked) new.first × (page_of new.first ≤ new.next) × (new.next < page_of new.first + asked)
+
+-- checkpoints are begun only where the layout has room for them
+abbrev pub HasRoomToMark : Layout → (snap : ℕ) → Type 0
+HasRoomToMark layout snap = layout.checkpoints ≡ false → snap ≡ 0
+
+-- where the record needs so many pages, and so many checkpoints were begun
+abbrev pub FitsPlaceStage : (pages asked snap : ℕ) → Run → Header → PlaceStage → Type 0
+FitsPlaceStage n asked snap run header LoadsTraced = ⊤
+FitsPlaceStage n asked snap run header (LoadsSize traced) = ⊤
+FitsPlaceStage n asked snap run header (LoadsArea traced size) = size ≤ n
+FitsPlaceStage n asked snap run header (ExchangesArea f) = AreaHoldsClaim n (64 * asked) f
+FitsPlaceStage n asked snap run header (StoresZero new) = IsClaimed n (64 * asked) new.first × (new.first ≤ new.next) × (new.next < new.first + 64 * asked)
+FitsPlaceStage n asked snap run header (StoresNew new) = IsAtPage n asked new × (0 < snap)
+FitsPlaceStage n asked snap run header (OpensPage new) = IsAtPage n asked new
+FitsPlaceStage n asked snap run header StoresCount = (header.kind ≡ Mixed) × (1 < size_of header) × (run.at + size_of header ≤ run.end)
+FitsPlaceStage n asked snap run header StoresHeader = run.at + size_of header ≤ run.end
+FitsPlaceStage n asked snap run header (Ended result) = ⊤
 
 pub record IsSoundPlacing (p : Placing) : Type 0 where
   pub pages : IsPageCount p.layout.pages
   pub run : RunLiesInSpaces p.layout.pages p.run
   pub fields : HoldsFields p.header p.fields
   pub epoch : p.epoch < 2 ^ 32
-  pub stage : FitsPlaceStage p.layout.pages (pages_for (size_of p.header)) p.run p.header p.stage
+  pub snap : p.snap < 2 ^ 32
+  pub room : HasRoomToMark p.layout p.snap
+  pub stage : FitsPlaceStage p.layout.pages (pages_for (size_of p.header)) p.snap p.run p.header p.stage
 
 -- the allocation has a next step
 abbrev pub IsPlacingGoing : PlaceStage → Type 0

@@ -3,25 +3,32 @@ use Rattle.std.specs.Prelude.{◌≡◌, ◌≢◌, ℕ, ◌+◌, ◌-◌, ◌*�
 use Rattle.atom_store.specs.declared.turn.Turn.{Turn}
 use Rattle.atom_store.specs.declared.turn.Turn.TheVariants.{Finished}
 use Rattle.atom_store.specs.Acts.{MakesStep, after_next_step}
+use Rattle.atom_store.specs.StepOn.{Store}
 use Rattle.heap_words.specs.declared.kind.Kind.{Kind}
 use Rattle.heap_words.specs.declared.kind.Kind.TheVariants.{Fields, Raw, Mixed}
 use Rattle.heap_words.specs.Decoded.{encode}
 use Rattle.heap_words.specs.Word.{number_word}
+use Rattle.record_layout.specs.declared.header.Header.{Header}
 use Rattle.record_layout.specs.Layout.{header_says}
 use Rattle.space_map.specs.declared.area_word.AreaWord.{AreaWord}
 use Rattle.space_map.specs.declared.page_word.PageWord.TheVariants.{Open}
+use Rattle.space_map.specs.declared.save_word.SaveWord.TheVariants.{New}
 use Rattle.space_map.specs.AreaWord.{decode_area, encode_area}
 use Rattle.space_map.specs.PageWord.{decode_page}
-use Rattle.space_map.specs.Spaces.{to_space, page_of}
-use Rattle.space_map.specs.Table.{Traced, Area, Size, Page, HeapWord}
+use Rattle.space_map.specs.SaveWord.{decode_save}
+use Rattle.space_map.specs.Spaces.{Layout, to_space, page_of}
+use Rattle.space_map.specs.Table.{Traced, Area, Size, Page, HeapWord, SaveOf}
 use Rattle.space_map.specs.TableWords.{row_word, HoldsTable, ChangesOnly}
+use Rattle.space_map.specs.WholeTable.{Within, Behind, HoldsWhole, whole_word}
 use Rattle.alloc_end.specs.declared.fitting.Fitting.{Fitting}
+use Rattle.alloc_end.specs.declared.new_pages.NewPages.{NewPages}
+use Rattle.alloc_end.specs.declared.run.Run.{Run}
 use Rattle.alloc_end.specs.declared.shortage.Shortage.{Shortage}
 use Rattle.alloc_end.specs.declared.allocated.Allocated.{Allocated}
 use Rattle.alloc_end.specs.declared.allocated.Allocated.TheVariants.{Placed, Full}
 use Rattle.alloc_end.specs.declared.place_stage.PlaceStage.{PlaceStage}
-use Rattle.alloc_end.specs.declared.place_stage.PlaceStage.TheVariants.{LoadsTraced, LoadsSize, LoadsArea, ExchangesArea, StoresZero, OpensPage, StoresCount, StoresHeader, Ended}
-use Rattle.alloc_end.specs.Place.{Placing, at_stage, size_of, pages_for, words_for, kept_room, room_in, area_after, first_claimed, shortage, place_machine}
+use Rattle.alloc_end.specs.declared.place_stage.PlaceStage.TheVariants.{LoadsTraced, LoadsSize, LoadsArea, ExchangesArea, StoresZero, StoresNew, OpensPage, StoresCount, StoresHeader, Ended}
+use Rattle.alloc_end.specs.Place.{Placing, begun, wants_at, at_stage, size_of, pages_for, words_for, kept_room, room_in, area_after, first_claimed, shortage, place_machine}
 use Rattle.alloc_end.specs.Soundness.{IsSoundPlacing}
 
 -- the area of the space that is copied into
@@ -108,6 +115,11 @@ pub record AwaitsHeader (p : Placing) (words : List ℕ) : Type 0 where
   pub zero : AreZero p.layout.pages (p.run.at + zeros_from p.header.kind) p.run.end words
   pub opened : AreOpen p.layout.pages p.epoch (page_of p.run.at) (page_of p.run.end) words
 
+-- all words of the pages that were claimed are 0, and the pages before the next one are open
+abbrev pub AreCleared : Placing → NewPages → List ℕ → Type 0
+AreCleared p new words =
+    AreZero p.layout.pages new.first (new.first + words_for p.header) words × AreOpen p.layout.pages p.epoch (page_of new.first) new.next words
+
 -- What an allocation has made ready: words that are 0 or a count, pages that are open. A run that it is given is to be so.
 abbrev pub IsReady : Placing → PlaceStage → List ℕ → Type 0
 IsReady p LoadsTraced words = ⊤
@@ -115,8 +127,8 @@ IsReady p (LoadsSize traced) words = ⊤
 IsReady p (LoadsArea traced size) words = ⊤
 IsReady p (ExchangesArea f) words = ⊤
 IsReady p (StoresZero new) words = AreZero p.layout.pages new.first new.next words
-IsReady p (OpensPage new) words =
-    AreZero p.layout.pages new.first (new.first + words_for p.header) words × AreOpen p.layout.pages p.epoch (page_of new.first) new.next words
+IsReady p (StoresNew new) words = AreCleared p new words
+IsReady p (OpensPage new) words = AreCleared p new words
 IsReady p StoresCount words = IsRunReady p words
 IsReady p StoresHeader words = AwaitsHeader p words
 IsReady p (Ended result) words = ⊤
@@ -142,6 +154,34 @@ pub record PlacesRecord (p : Placing) (before after : List ℕ) (at : ℕ) : Typ
 abbrev pub RecordsArePlaced : Type 0
 RecordsArePlaced = (p : Placing) (before after : List ℕ) (at : ℕ) → IsSoundPlacing p → HoldsTable p.layout.pages before
     → IsReady p p.stage before → MakesStep place_machine p before after (Finished (Placed at)) → PlacesRecord p before after at
+
+-- ---- where a checkpoint was begun
+
+-- it is said of the pages from one to another that they are new since this checkpoint
+abbrev pub AreNew : (pages snap from upto : ℕ) → List ℕ → Type 0
+AreNew n snap from upto words = (page : ℕ) → from ≤ page → page < upto → decode_save (whole_word n (Behind (SaveOf page)) words) ≡ Some (New snap)
+
+-- it is said so of the claimed pages that are open, and before a page is opened, of that one too
+abbrev pub AreMarked : Placing → PlaceStage → List ℕ → Type 0
+AreMarked p (StoresNew new) words = AreNew p.layout.pages p.snap (page_of new.first) new.next words
+AreMarked p (OpensPage new) words = 0 < p.snap → AreNew p.layout.pages p.snap (page_of new.first) (new.next + 1) words
+AreMarked p stage words = ⊤
+
+-- when an allocation begins, it has no page to open
+abbrev pub NoneIsMarkedYet : Type 0
+NoneIsMarkedYet = (layout : Layout) (run : Run) (header : Header) (epoch fields snap : ℕ) (words : List ℕ)
+    → AreMarked (begun layout run header epoch fields snap) (begun layout run header epoch fields snap).stage words
+
+-- nobody else writes these words; and the allocation's own steps keep it
+abbrev pub PagesAreMarked : Type 0
+PagesAreMarked = (p : Placing) (before after : List ℕ) (turn : Turn Allocated) → IsSoundPlacing p → HoldsWhole p.layout before
+    → AreMarked p p.stage before → MakesStep place_machine p before after turn
+    → AreMarked (after_next_step place_machine p before) (after_next_step place_machine p before).stage after
+
+-- so whichever page is opened, it is said to be new before that
+abbrev pub OpenedPagesAreNew : Type 0
+OpenedPagesAreNew = (p : Placing) (words : List ℕ) (page value : ℕ) → IsSoundPlacing p → AreMarked p p.stage words → 0 < p.snap
+    → wants_at p p.stage ≡ Some (Store (Within (Page page)) value) → decode_save (whole_word p.layout.pages (Behind (SaveOf page)) words) ≡ Some (New p.snap)
 
 -- ---- heap full
 

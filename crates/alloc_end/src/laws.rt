@@ -1,8 +1,8 @@
 //! What holds of the machines. Each function here does nothing: its contract is what is proved.
 
-ghost use Rattle.alloc_end.specs.Rows.{FirstPairIsPlaced, NextRecordIsPlaced, CountIsStoredFirst, MixedRecordIsPlaced, ReserveIsKept, ReserveIsFreeOnceTraced, FullTellsItsNumbers, LongestIsFull, LostClaimIsTriedAgain};
+ghost use Rattle.alloc_end.specs.Rows.{FirstPairIsPlaced, NextRecordIsPlaced, CountIsStoredFirst, MixedRecordIsPlaced, PagesAreMarkedAndOpened, ReserveIsKept, ReserveIsFreeOnceTraced, FullTellsItsNumbers, LongestIsFull, LostClaimIsTriedAgain};
 ghost use Rattle.alloc_end.specs.HeldUp.{GoesOn};
-ghost use Rattle.alloc_end.specs.Theorems.{TracedIsRead, SizeIsRead, PagesAreClaimed, PagesAreLost, PagesAreMadeReady, RecordsArePlaced, FullHeapsAreShort, ShortHeapsAreFull};
+ghost use Rattle.alloc_end.specs.Theorems.{TracedIsRead, SizeIsRead, PagesAreClaimed, PagesAreLost, PagesAreMadeReady, RecordsArePlaced, NoneIsMarkedYet, PagesAreMarked, OpenedPagesAreNew, FullHeapsAreShort, ShortHeapsAreFull};
 
 /// Pages are claimed only where the room that has to be kept is left, by an exchange of the area that was read.
 pub fn claims_keep_the_reserve()
@@ -16,6 +16,13 @@ pub fn claims_keep_the_reserve()
 pub fn records_are_placed_in_cleared_pages()
     ensures ready { PagesAreMadeReady }
     ensures placed { RecordsArePlaced }
+{}
+
+/// Once a checkpoint was begun, no page is opened before it is said in the page's SAVE that it is new since then.
+pub fn new_pages_are_marked()
+    ensures begins { NoneIsMarkedYet }
+    ensures marked { PagesAreMarked }
+    ensures opened { OpenedPagesAreNew }
 {}
 
 /// A heap is told to be full exactly where the claim of the pages doesn't fit, with the numbers read.
@@ -35,6 +42,7 @@ pub fn rows_are_worked_out()
     ensures next_record_is_placed { NextRecordIsPlaced }
     ensures count_is_stored_first { CountIsStoredFirst }
     ensures mixed_record_is_placed { MixedRecordIsPlaced }
+    ensures pages_are_marked_and_opened { PagesAreMarkedAndOpened }
     ensures reserve_is_kept { ReserveIsKept }
     ensures reserve_is_free_once_traced { ReserveIsFreeOnceTraced }
     ensures full_tells_its_numbers { FullTellsItsNumbers }

@@ -8,6 +8,8 @@
 //! made, the allocation tells the numbers that it read, with them how many pages of the space are in use.
 //! The store of its header makes a record; if it is mixed, the count of its fields is stored before that.
 //!
+//! Where a checkpoint was begun, a page is marked as new before it is opened: what it has is no part of that checkpoint.
+//!
 //! [`Place`] is a machine: it names its next atomic step, and takes the reply. [`PlaceStage`] lists what it does in turn. After
 //! its result it tells the [`Run`] that the mutator has then.
 #![tactic(auto)]
@@ -24,7 +26,7 @@ mod shortage;
 pub use allocated::Allocated;
 pub use fitting::Fitting;
 pub use laws::{
-    allocations_go_on, claims_keep_the_reserve, full_heaps_are_short_of_room,
+    allocations_go_on, claims_keep_the_reserve, full_heaps_are_short_of_room, new_pages_are_marked,
     records_are_placed_in_cleared_pages, rows_are_worked_out,
 };
 pub use new_pages::NewPages;

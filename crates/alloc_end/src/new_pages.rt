@@ -3,6 +3,6 @@
 pub struct NewPages {
     /// Their first word.
     pub first: u32,
-    /// The word to be cleared next, or the page to be opened next.
+    /// The word to be cleared next, or the page to be marked or opened next.
     pub next: u32,
 }

@@ -3,9 +3,9 @@ ghost use Rattle.atom_store.specs.Step.{place_in};
 ghost use Rattle.record_layout.specs.declared.header.Header.{Header};
 ghost use Rattle.space_map.specs.AreaWord.{AreaFits, decode_area};
 ghost use Rattle.space_map.specs.Spaces.{to_space};
-ghost use Rattle.space_map.specs.Table.{Area, Size, place_of, table_length};
-ghost use Rattle.alloc_end.specs.Place.{begun, wanted, taken, told, left, advances, size_of, pages_for, words_for, kept_room, looked_at_area, area_after, shortage, cleared, after_opening, placed, at_stage, first_claimed, stores_first};
-ghost use Rattle.alloc_end.specs.Soundness.{RunLiesInSpaces, HoldsFields, IsSoundPlacing, IsPlacingGoing, FitsPlaceStage, AreaHoldsClaim};
+ghost use Rattle.space_map.specs.Table.{Area, Size, place_of, table_length, whole_length};
+ghost use Rattle.alloc_end.specs.Place.{begun, wanted, taken, told, left, advances, size_of, pages_for, words_for, kept_room, looked_at_area, area_after, shortage, readies, cleared, after_opening, placed, at_stage, first_claimed, stores_first};
+ghost use Rattle.alloc_end.specs.Soundness.{RunLiesInSpaces, HasRoomToMark, HoldsFields, IsSoundPlacing, IsPlacingGoing, FitsPlaceStage, AreaHoldsClaim};
 
 use crate::allocated::Allocated;
 use crate::fitting::Fitting;
@@ -16,7 +16,7 @@ use crate::shortage::Shortage;
 use atom_store::{Reply, Step, Turn};
 use heap_words::{Kind, Word};
 use record_layout::{Header, pack};
-use space_map::{AreaWord, PAGE_WORDS, PageWord, Spaces};
+use space_map::{AreaWord, PAGE_WORDS, PageWord, SaveWord, Spaces};
 use std::marker::Model;
 
 /// The allocation of one record, by a running mutator.
@@ -27,6 +27,7 @@ pub struct Place {
     header: Header,
     fields: u16,
     epoch: u32,
+    snap: u32,
     stage: PlaceStage,
 }
 
@@ -36,20 +37,28 @@ impl Model for Place {
 
     ghost Value = { Placing };
 
-    ghost view = { λ p. record { layout = p.spaces; run = p.run; header = p.header; fields = p.fields; epoch = p.epoch; stage = p.stage } };
+    ghost view = { λ p. record { layout = p.spaces; run = p.run; header = p.header; fields = p.fields; epoch = p.epoch; snap = p.snap; stage = p.stage } };
 
-    ghost invariant = { λ p. IsSoundPlacing (record { layout = p.spaces; run = p.run; header = p.header; fields = p.fields; epoch = p.epoch; stage = p.stage }) };
+    ghost invariant = { λ p. IsSoundPlacing (record { layout = p.spaces; run = p.run; header = p.header; fields = p.fields; epoch = p.epoch; snap = p.snap; stage = p.stage }) };
 
-    ghost inverse = { λ p. record { spaces = p.layout; run = p.run; header = p.header; fields = p.fields; epoch = p.epoch; stage = p.stage } };
+    ghost inverse = { λ p. record { spaces = p.layout; run = p.run; header = p.header; fields = p.fields; epoch = p.epoch; snap = p.snap; stage = p.stage } };
 }
 
 impl Place {
     /// The allocation of a record with this header, and if it is mixed with so many fields, by a mutator of this epoch that
-    /// has this run.
-    pub fn new(spaces: Spaces, run: Run, header: Header, epoch: u32, fields: u16) -> Place
+    /// has this run, and saw so many checkpoints begun.
+    pub fn new(
+        spaces: Spaces,
+        run: Run,
+        header: Header,
+        epoch: u32,
+        fields: u16,
+        snap: u32,
+    ) -> Place
         requires in_spaces { RunLiesInSpaces spaces.pages run }
         requires holds { HoldsFields header fields }
-        ensures { result ≡ begun spaces run header epoch fields }
+        requires room { HasRoomToMark spaces snap }
+        ensures { result ≡ begun spaces run header epoch fields snap }
     {
         spaces.known();
         let stage = if run.at + size(header) <= run.end {
@@ -63,6 +72,7 @@ impl Place {
             header,
             fields,
             epoch,
+            snap,
             stage,
         }
     }
@@ -79,7 +89,7 @@ impl Place {
     pub fn want(&self) -> Step
         requires { IsPlacingGoing self.now.stage }
         ensures wanted { wanted self.now ≡ Some result }
-        ensures in_table { place_in result < table_length self.now.layout.pages }
+        ensures in_table { place_in result < whole_length self.now.layout }
     {
         let spaces = self.spaces;
         match self.stage {
@@ -92,6 +102,9 @@ impl Place {
                 claimed(spaces, self.header, fitting).pack(),
             ),
             PlaceStage::StoresZero(new) => Step::Store(spaces.word_place(new.next), 0),
+            PlaceStage::StoresNew(new) => {
+                Step::Store(spaces.save_place(new.next), SaveWord::New(self.snap).pack())
+            }
             PlaceStage::OpensPage(new) => {
                 Step::Store(
                     spaces.page_place(new.next),
@@ -137,6 +150,10 @@ impl Place {
                 Turn::More
             }
             (PlaceStage::StoresZero(new), Reply::Done) => self.clear(new),
+            (PlaceStage::StoresNew(new), Reply::Done) => {
+                self.stage = PlaceStage::OpensPage(new);
+                Turn::More
+            }
             (PlaceStage::OpensPage(new), Reply::Done) => self.open(new),
             (PlaceStage::StoresCount, Reply::Done) => {
                 self.stage = PlaceStage::StoresHeader;
@@ -188,8 +205,8 @@ impl Place {
     }
 
     fn clear(&mut self, new: NewPages) -> Turn<Allocated>
-        requires { FitsPlaceStage self.old.layout.pages (pages_for (size_of self.old.header)) self.old.run self.old.header (PlaceStage.StoresZero new) }
-        ensures state { self.new ≡ at_stage self.old (cleared (words_for self.old.header) new) }
+        requires { FitsPlaceStage self.old.layout.pages (pages_for (size_of self.old.header)) self.old.snap self.old.run self.old.header (PlaceStage.StoresZero new) }
+        ensures state { self.new ≡ at_stage self.old (cleared (words_for self.old.header) self.old.snap new) }
         ensures tells { result ≡ told self.new }
     {
         self.spaces.known();
@@ -200,16 +217,14 @@ impl Place {
                 next: next + 1,
             })
         } else {
-            PlaceStage::OpensPage(NewPages {
-                first,
-                next: self.spaces.page_of(first),
-            })
+            let next = self.spaces.page_of(first);
+            readies(self.snap, NewPages { first, next })
         };
         Turn::More
     }
 
     fn open(&mut self, new: NewPages) -> Turn<Allocated>
-        requires { FitsPlaceStage self.old.layout.pages (pages_for (size_of self.old.header)) self.old.run self.old.header (PlaceStage.OpensPage new) }
+        requires { FitsPlaceStage self.old.layout.pages (pages_for (size_of self.old.header)) self.old.snap self.old.run self.old.header (PlaceStage.OpensPage new) }
         ensures state { self.new ≡ after_opening self.old new }
         ensures tells { result ≡ told self.new }
     {
@@ -217,10 +232,8 @@ impl Place {
         let NewPages { first, next } = new;
         let asked = pages(self.header);
         if next + 1 < self.spaces.page_of(first) + asked {
-            self.stage = PlaceStage::OpensPage(NewPages {
-                first,
-                next: next + 1,
-            });
+            let next = next + 1;
+            self.stage = readies(self.snap, NewPages { first, next });
         } else {
             self.run = Run {
                 at: first,
@@ -287,6 +300,16 @@ fn pages(header: Header) -> u32
     ensures in_range { result ≤ 64 }
 {
     size(header).div_ceil(PAGE_WORDS)
+}
+
+/// What is done for a page whose words are cleared: it is opened, but first marked as new, if a checkpoint was begun.
+fn readies(snap: u32, new: NewPages) -> PlaceStage
+    ensures { result ≡ readies snap new }
+{
+    match snap {
+        0 => PlaceStage::OpensPage(new),
+        _ => PlaceStage::StoresNew(new),
+    }
 }
 
 /// The first store of a record into the run.

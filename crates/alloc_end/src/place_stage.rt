@@ -15,6 +15,8 @@ pub enum PlaceStage {
     ExchangesArea(Fitting),
     /// Store 0 in the next word of the pages claimed.
     StoresZero(NewPages),
+    /// Store that the next of the pages claimed is new, since a checkpoint was begun before.
+    StoresNew(NewPages),
     /// Open the next of the pages claimed.
     OpensPage(NewPages),
     /// Store the count of a mixed record's fields in the word behind the run's place.

@@ -27,6 +27,7 @@ use Rattle.fault_duty.specs.declared.end_look.EndLook.{EndLook}
 use Rattle.fault_duty.specs.declared.wanted_page.WantedPage.{WantedPage}
 use Rattle.fault_duty.specs.declared.page_state.PageState.{PageState}
 use Rattle.fault_duty.specs.declared.page_state.PageState.TheVariants.{Opened, Scanned, Waits, Past}
+use Rattle.fault_duty.specs.declared.round_end.RoundEnd.TheVariants as round_end
 use Rattle.fault_duty.specs.declared.round_end.RoundEnd.TheVariants.{AllLeft, NothingNow}
 use Rattle.fault_duty.specs.declared.duty_stage.DutyStage.{DutyStage}
 use Rattle.fault_duty.specs.declared.duty_stage.DutyStage.TheVariants.{LoadsGate, LoadsTraced, LoadsWanted, LoadsFrontFor, LoadsFront, LoadsPage, Claims, EndGate, EndArea, EndPage, EndFilling, EndAreaAgain, Traces, Ended}
@@ -66,7 +67,7 @@ first_never (Scans mutators) found c is = cc
 traced_never : (d : Round) (hindrance : Option ℕ) (loaded : ℕ) (c : Claiming) → Duty.looked_at_traced d hindrance loaded ≡ Claims c → ⊥
 traced_never d hindrance loaded c is = by_test (nat_eq loaded (d.epoch + 1)) is
   where
-    by_test : (b : Bool) → cond b (Ended (NothingNow loaded)) (Duty.first_look d.caller (record { traced = loaded; hindrance = hindrance })) ≡ Claims c → ⊥
+    by_test : (b : Bool) → cond b (Ended round_end.Traced) (Duty.first_look d.caller (record { traced = loaded; hindrance = hindrance })) ≡ Claims c → ⊥
     by_test true e = cc
     by_test false e = first_never d.caller (record { traced = loaded; hindrance = hindrance }) c e
 
@@ -259,7 +260,7 @@ claims_for d (Ended result) before c sound is = cc
 -- ---- TRACED
 
 pub traced_told : (d : Round) (hindrance : Option ℕ) (words : List ℕ) → word_of_row d Traced words ≡ d.epoch + 1
-    → MakesStep duty_machine (at_stage d (LoadsTraced hindrance)) words words (Finished (NothingNow (word_of_row d Traced words)))
+    → MakesStep duty_machine (at_stage d (LoadsTraced hindrance)) words words (Finished round_end.Traced)
 traced_told d hindrance words same =
     let test = same_test (word_of_row d Traced words) (d.epoch + 1) same in record { has_step = refl; makes = refl; tells = rw test refl }
   where

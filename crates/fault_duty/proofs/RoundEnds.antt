@@ -21,7 +21,7 @@ use Rattle.fault_duty.specs.declared.wanted_page.WantedPage.{WantedPage}
 use Rattle.fault_duty.specs.declared.page_state.PageState.{PageState}
 use Rattle.fault_duty.specs.declared.page_state.PageState.TheVariants.{Opened, Scanned, Waits, Past}
 use Rattle.fault_duty.specs.declared.round_end.RoundEnd.{RoundEnd}
-use Rattle.fault_duty.specs.declared.round_end.RoundEnd.TheVariants.{ScanPage, ScanInPlace, Marked, AllLeft, NothingNow}
+use Rattle.fault_duty.specs.declared.round_end.RoundEnd.TheVariants.{ScanPage, ScanInPlace, Marked, Traced, AllLeft, NothingNow}
 use Rattle.fault_duty.specs.declared.duty_stage.DutyStage.TheVariants.{LoadsTraced, LoadsFrontFor, LoadsFront, LoadsPage, EndArea, EndPage, EndFilling, EndAreaAgain, Ended}
 use Rattle.fault_duty.specs.Duty
 use Rattle.fault_duty.specs.Duty.{Round, told, told_at}
@@ -156,12 +156,12 @@ first_never Allocates found result e = cc
 first_never (Scans mutators) found result e = cc
 
 pub traced_ends : (d : Round) (hindrance : Option ℕ) (loaded : ℕ) (result : RoundEnd) → told_at (Duty.looked_at_traced d hindrance loaded) ≡ Finished result
-    → (loaded ≡ d.epoch + 1) × (result ≡ NothingNow loaded)
+    → (loaded ≡ d.epoch + 1) × (result ≡ Traced)
 traced_ends d hindrance loaded result tells = by_test (nat_eq loaded (d.epoch + 1)) refl tells
   where
     by_test : (b : Bool) → nat_eq loaded (d.epoch + 1) ≡ b
-        → told_at (cond b (Ended (NothingNow loaded)) (Duty.first_look d.caller (record { traced = loaded; hindrance = hindrance }))) ≡ Finished result
-        → (loaded ≡ d.epoch + 1) × (result ≡ NothingNow loaded)
+        → told_at (cond b (Ended Traced) (Duty.first_look d.caller (record { traced = loaded; hindrance = hindrance }))) ≡ Finished result
+        → (loaded ≡ d.epoch + 1) × (result ≡ Traced)
     by_test true test e = (grind (arith, nat_tests), cc)
     by_test false test e = absurd (first_never d.caller (record { traced = loaded; hindrance = hindrance }) result e)
 
@@ -298,14 +298,15 @@ claim_scans c (Finished claimed.Won) in_place page e = by_place c.in_place in_pl
     by_place false true is x = cc
 
 pub claim_never : (c : Claiming) (turn : Turn Claimed) (result : RoundEnd) → told_at (Duty.claim_went c turn) ≡ Finished result
-    → (result ≡ Marked → ⊥) × ((word : ℕ) → result ≡ AllLeft word → ⊥)
+    → (result ≡ Marked → ⊥) × (result ≡ Traced → ⊥) × ((word : ℕ) → result ≡ AllLeft word → ⊥)
 claim_never c More result e = cc
-claim_never c (Finished (claimed.Taken taken)) result e = (λ x. cc, λ word x. cc)
+claim_never c (Finished (claimed.Taken taken)) result e = (λ x. cc, λ x. cc, λ word x. cc)
 claim_never c (Finished claimed.Won) result e = by_place c.in_place e
   where
-    by_place : (b : Bool) → Finished (cond b (ScanInPlace c.page) (ScanPage c.page)) ≡ Finished result → (result ≡ Marked → ⊥) × ((word : ℕ) → result ≡ AllLeft word → ⊥)
-    by_place true x = (λ y. cc, λ word y. cc)
-    by_place false x = (λ y. cc, λ word y. cc)
+    by_place : (b : Bool) → Finished (cond b (ScanInPlace c.page) (ScanPage c.page)) ≡ Finished result
+        → (result ≡ Marked → ⊥) × (result ≡ Traced → ⊥) × ((word : ℕ) → result ≡ AllLeft word → ⊥)
+    by_place true x = (λ y. cc, λ y. cc, λ word y. cc)
+    by_place false x = (λ y. cc, λ y. cc, λ word y. cc)
 
 -- ---- the end of the area
 

@@ -29,13 +29,14 @@ use Rattle.fault_duty.specs.declared.caller.Caller.TheVariants.{Faulted, Allocat
 use Rattle.fault_duty.specs.declared.choice.Choice.{Choice}
 use Rattle.fault_duty.specs.declared.end_look.EndLook.{EndLook}
 use Rattle.fault_duty.specs.declared.round_end.RoundEnd.{RoundEnd}
+use Rattle.fault_duty.specs.declared.round_end.RoundEnd.TheVariants as round_end
 use Rattle.fault_duty.specs.declared.round_end.RoundEnd.TheVariants.{Marked, AllLeft, NothingNow}
 use Rattle.fault_duty.specs.declared.duty_stage.DutyStage.{DutyStage}
 use Rattle.fault_duty.specs.declared.duty_stage.DutyStage.TheVariants.{LoadsGate, LoadsTraced, LoadsWanted, LoadsFrontFor, LoadsFront, LoadsPage, Claims, EndGate, EndArea, EndPage, EndFilling, EndAreaAgain, Traces, Ended}
 use Rattle.fault_duty.specs.Duty
 use Rattle.fault_duty.specs.Duty.{Round, at_stage, duty_machine, told, told_at, taken_at}
 use Rattle.fault_duty.specs.Soundness.{Forbids, PageInScan, IsHindrance, IsSoundRound}
-use Rattle.fault_duty.specs.Theorems.{word_of_row, IsPastPage, ShowsNothing, SeesAllLeft, MarksEpoch, ClaimsPage}
+use Rattle.fault_duty.specs.Theorems.{word_of_row, IsPastPage, ShowsNothing, SeesTraced, SeesAllLeft, MarksEpoch, ClaimsPage}
 use Rattle.fault_duty.proofs.RoundEnds.{gate_ends, left_ends, traced_ends, wanted_ends, front_for_ends, front_never, ChoiceEnds, ByHindrance, ByScan, ByPast, page_ends, claim_nothing, claimed_page, claim_scans, claim_never, end_gate_ends, end_area_never, end_page_ends, filling_ends, AreaAgainEnds, ByFront, ByFilling, area_again_ends}
 
 told_word : (word other : ℕ) → NothingNow word ≡ NothingNow other → word ≡ other
@@ -102,10 +103,8 @@ nothing d LoadsGate before after word sound acts =
     let ends = gate_ends (at_stage d LoadsGate) loaded word (decode_gate loaded) acts.tells in
     (record { gate = ends.gate; read = ends.same; says = ap decode_gate ends.same ∙ ends.is; other = ends.other }, acts.makes)
 nothing d (LoadsTraced hindrance) before after word sound acts =
-    let loaded : ℕ = word_of_row d Traced before in
-    let ends = traced_ends (at_stage d (LoadsTraced hindrance)) hindrance loaded (NothingNow word) acts.tells in
-    let read = told_word word loaded ends.1 in
-    ((read, read ∙ ends.0), acts.makes)
+    let ends = traced_ends (at_stage d (LoadsTraced hindrance)) hindrance (word_of_row d Traced before) (NothingNow word) acts.tells in
+    absurd (let e = ends.1 in cc)
 nothing d (LoadsWanted found page) before after word sound acts =
     let loaded : ℕ = word_of_row d (Page page) before in
     let ends = wanted_ends (at_stage d (LoadsWanted found page)) found page loaded (NothingNow word) (decode_page loaded) acts.tells in
@@ -153,7 +152,7 @@ nothing d (Traces traced) before after word sound acts =
     (another, acts.makes ∙ words_after-lost place traced (d.epoch + 1) word before lost)
 nothing d (Ended result) before after word sound acts = absurd (no_step acts.has_step)
 
--- ---- the other results come at the gate, at a claim and at TRACED alone
+-- ---- the other results come at the gate, at a claim, and where TRACED is loaded or exchanged
 
 abbrev IsNothing : RoundEnd → Type 0
 IsNothing result = (word : ℕ) × (result ≡ NothingNow word)
@@ -184,9 +183,10 @@ pub at_gate : (d : Round) (loaded : ℕ) (o : Option GateWord) (result : RoundEn
 at_gate d loaded (Some g) result tells = gate_results d d.caller loaded g result tells
 at_gate d loaded None result tells = cc
 
--- what another result than these two comes from
+-- what can be told at a stage, but for a claim and the exchange of TRACED
 abbrev Elsewhere : DutyStage → RoundEnd → Type 0
 Elsewhere LoadsGate result = IsNothing result ⊎ IsAllLeft result
+Elsewhere (LoadsTraced hindrance) result = result ≡ round_end.Traced
 Elsewhere (Claims c) result = Unit {0}
 Elsewhere (Traces traced) result = Unit {0}
 Elsewhere stage result = IsNothing result
@@ -208,7 +208,7 @@ elsewhere : (d : Round) (stage : DutyStage) (before after : List ℕ) (result : 
     → Elsewhere stage result
 elsewhere d LoadsGate before after result acts = at_gate (at_stage d LoadsGate) (word_of_row d Gate before) (decode_gate (word_of_row d Gate before)) result acts.tells
 elsewhere d (LoadsTraced hindrance) before after result acts =
-    let ends = traced_ends (at_stage d (LoadsTraced hindrance)) hindrance (word_of_row d Traced before) result acts.tells in (word_of_row d Traced before, ends.1)
+    let ends = traced_ends (at_stage d (LoadsTraced hindrance)) hindrance (word_of_row d Traced before) result acts.tells in ends.1
 elsewhere d (LoadsWanted found page) before after result acts =
     let loaded : ℕ = word_of_row d (Page page) before in
     let ends = wanted_ends (at_stage d (LoadsWanted found page)) found page loaded result (decode_page loaded) acts.tells in wanted_told loaded ends.says result ends.told_word
@@ -239,9 +239,10 @@ elsewhere d (EndAreaAgain look filling) before after result acts =
 elsewhere d (Traces traced) before after result acts = tt
 elsewhere d (Ended result') before after result acts = absurd (no_step acts.has_step)
 
--- the result is neither
+-- the result is none of these
 record IsOther (result : RoundEnd) : Type 0 where
   not_nothing : (word : ℕ) → result ≡ NothingNow word → ⊥
+  not_traced : result ≡ round_end.Traced → ⊥
   not_left : (word : ℕ) → result ≡ AllLeft word → ⊥
 
 neither : (result : RoundEnd) → IsOther result → IsNothing result ⊎ IsAllLeft result → ⊥
@@ -258,7 +259,7 @@ last_alone : (stage : DutyStage) (result : RoundEnd) → IsOther result → Else
 last_alone LoadsGate result other is = neither result other is
 last_alone (Claims c) result other is = tt
 last_alone (Traces traced) result other is = tt
-last_alone (LoadsTraced hindrance) result other is = other.not_nothing is.0 is.1
+last_alone (LoadsTraced hindrance) result other is = other.not_traced is
 last_alone (LoadsWanted found page) result other is = other.not_nothing is.0 is.1
 last_alone (LoadsFrontFor found w) result other is = other.not_nothing is.0 is.1
 last_alone (LoadsFront found) result other is = other.not_nothing is.0 is.1
@@ -271,11 +272,11 @@ last_alone (EndAreaAgain look filling) result other is = other.not_nothing is.0 
 last_alone (Ended result') result other is = other.not_nothing is.0 is.1
 
 marked_other : IsOther Marked
-marked_other = record { not_nothing = λ word e. cc; not_left = λ word e. cc }
+marked_other = record { not_nothing = λ word e. cc; not_traced = λ e. cc; not_left = λ word e. cc }
 
 claimed_other : (in_place : Bool) (page : ℕ) → IsOther (claimed_page in_place page)
-claimed_other true page = record { not_nothing = λ word e. cc; not_left = λ word e. cc }
-claimed_other false page = record { not_nothing = λ word e. cc; not_left = λ word e. cc }
+claimed_other true page = record { not_nothing = λ word e. cc; not_traced = λ e. cc; not_left = λ word e. cc }
+claimed_other false page = record { not_nothing = λ word e. cc; not_traced = λ e. cc; not_left = λ word e. cc }
 
 -- ---- marked
 
@@ -333,6 +334,42 @@ pub claims_page : (d : Round) (stage : DutyStage) (before after : List ℕ) (in_
 claims_page d stage before after in_place page sound whole acts =
     claims_by d stage before after in_place page (last_alone stage (claimed_page in_place page) (claimed_other in_place page) (elsewhere d stage before after (claimed_page in_place page) acts)) sound whole acts
 
+-- ---- traced
+
+no_traced : IsNothing round_end.Traced → ⊥
+no_traced is = let e = is.1 in cc
+
+gate_never_traced : IsNothing round_end.Traced ⊎ IsAllLeft round_end.Traced → ⊥
+gate_never_traced (inl is) = no_traced is
+gate_never_traced (inr is) = let e = is.1 in cc
+
+trace_never_traced : (d : Round) (traced : ℕ) (r : Reply) → told (taken_at (at_stage d (Traces traced)) (Traces traced) r) ≡ Finished round_end.Traced → ⊥
+trace_never_traced d traced reply.Won e = cc
+trace_never_traced d traced (reply.Lost lost) e = cc
+trace_never_traced d traced (reply.Value value) e = cc
+trace_never_traced d traced reply.Done e = cc
+
+pub sees_traced : (d : Round) (stage : DutyStage) (before after : List ℕ) → MakesStep duty_machine (at_stage d stage) before after (Finished round_end.Traced)
+    → SeesTraced (at_stage d stage) before after
+sees_traced d (LoadsTraced hindrance) before after acts =
+    let ends = traced_ends (at_stage d (LoadsTraced hindrance)) hindrance (word_of_row d Traced before) round_end.Traced acts.tells in
+    record { hindrance = hindrance; loads = refl; says = ends.0; stays = acts.makes }
+sees_traced d LoadsGate before after acts = absurd (gate_never_traced (elsewhere d LoadsGate before after round_end.Traced acts))
+sees_traced d (Claims c) before after acts =
+    let tells = claim_tells d c (claim.wanted c) before round_end.Traced acts.tells in
+    absurd ((claim_never (after_next_step claim_machine c before) (claim.told (after_next_step claim_machine c before)) round_end.Traced tells).1 refl)
+sees_traced d (Traces traced) before after acts = absurd (trace_never_traced d traced _ acts.tells)
+sees_traced d (LoadsWanted found page) before after acts = absurd (no_traced (elsewhere d (LoadsWanted found page) before after round_end.Traced acts))
+sees_traced d (LoadsFrontFor found w) before after acts = absurd (no_traced (elsewhere d (LoadsFrontFor found w) before after round_end.Traced acts))
+sees_traced d (LoadsFront found) before after acts = absurd (no_traced (elsewhere d (LoadsFront found) before after round_end.Traced acts))
+sees_traced d (LoadsPage choice page) before after acts = absurd (no_traced (elsewhere d (LoadsPage choice page) before after round_end.Traced acts))
+sees_traced d (EndGate traced) before after acts = absurd (no_traced (elsewhere d (EndGate traced) before after round_end.Traced acts))
+sees_traced d (EndArea traced) before after acts = absurd (no_traced (elsewhere d (EndArea traced) before after round_end.Traced acts))
+sees_traced d (EndPage look page) before after acts = absurd (no_traced (elsewhere d (EndPage look page) before after round_end.Traced acts))
+sees_traced d (EndFilling look) before after acts = absurd (no_traced (elsewhere d (EndFilling look) before after round_end.Traced acts))
+sees_traced d (EndAreaAgain look filling) before after acts = absurd (no_traced (elsewhere d (EndAreaAgain look filling) before after round_end.Traced acts))
+sees_traced d (Ended result) before after acts = absurd (no_step acts.has_step)
+
 -- ---- all have left
 
 no_left : (word : ℕ) → IsNothing (AllLeft word) → ⊥
@@ -361,9 +398,9 @@ sees_left d LoadsGate before after word acts =
     }
 sees_left d (Claims c) before after word acts =
     let tells = claim_tells d c (claim.wanted c) before (AllLeft word) acts.tells in
-    absurd ((claim_never (after_next_step claim_machine c before) (claim.told (after_next_step claim_machine c before)) (AllLeft word) tells).1 word refl)
+    absurd ((claim_never (after_next_step claim_machine c before) (claim.told (after_next_step claim_machine c before)) (AllLeft word) tells).2 word refl)
 sees_left d (Traces traced) before after word acts = absurd (trace_never_left d traced _ word acts.tells)
-sees_left d (LoadsTraced hindrance) before after word acts = absurd (no_left word (elsewhere d (LoadsTraced hindrance) before after (AllLeft word) acts))
+sees_left d (LoadsTraced hindrance) before after word acts = absurd (let e = elsewhere d (LoadsTraced hindrance) before after (AllLeft word) acts in cc)
 sees_left d (LoadsWanted found page) before after word acts = absurd (no_left word (elsewhere d (LoadsWanted found page) before after (AllLeft word) acts))
 sees_left d (LoadsFrontFor found w) before after word acts = absurd (no_left word (elsewhere d (LoadsFrontFor found w) before after (AllLeft word) acts))
 sees_left d (LoadsFront found) before after word acts = absurd (no_left word (elsewhere d (LoadsFront found) before after (AllLeft word) acts))

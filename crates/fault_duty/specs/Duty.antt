@@ -29,6 +29,7 @@ use Rattle.fault_duty.specs.declared.end_look.EndLook.{EndLook}
 use Rattle.fault_duty.specs.declared.page_state.PageState.{PageState}
 use Rattle.fault_duty.specs.declared.page_state.PageState.TheVariants.{Opened, Scanned, Waits, Past}
 use Rattle.fault_duty.specs.declared.round_end.RoundEnd.{RoundEnd}
+use Rattle.fault_duty.specs.declared.round_end.RoundEnd.TheVariants as round_end
 use Rattle.fault_duty.specs.declared.round_end.RoundEnd.TheVariants.{ScanPage, ScanInPlace, Marked, AllLeft, NothingNow}
 use Rattle.fault_duty.specs.declared.duty_stage.DutyStage.{DutyStage}
 use Rattle.fault_duty.specs.declared.duty_stage.DutyStage.TheVariants.{LoadsGate, LoadsTraced, LoadsWanted, LoadsFrontFor, LoadsFront, LoadsPage, Claims, EndGate, EndArea, EndPage, EndFilling, EndAreaAgain, Traces, Ended}
@@ -144,7 +145,7 @@ first_look (Scans mutators) seen = LoadsFront seen
 
 abbrev pub looked_at_traced : Round → Option ℕ → (word : ℕ) → DutyStage
 looked_at_traced d hindrance word =
-    if word == d.epoch + 1 then Ended (NothingNow word) else first_look d.caller (record { traced = word; hindrance = hindrance })
+    if word == d.epoch + 1 then Ended round_end.Traced else first_look d.caller (record { traced = word; hindrance = hindrance })
 
 -- the claim of a page by what its word says
 abbrev pub claim_of : Round → (page : ℕ) → PageWord → (in_place : Bool) → DutyStage

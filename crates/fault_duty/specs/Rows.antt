@@ -10,7 +10,7 @@ use Rattle.space_map.specs.Worked.{four_pages}
 use Rattle.fault_duty.specs.declared.caller.Caller.{Caller}
 use Rattle.fault_duty.specs.declared.caller.Caller.TheVariants.{Faulted, Allocates, Scans}
 use Rattle.fault_duty.specs.declared.round_end.RoundEnd.{RoundEnd}
-use Rattle.fault_duty.specs.declared.round_end.RoundEnd.TheVariants.{ScanPage, ScanInPlace, Marked, AllLeft, NothingNow}
+use Rattle.fault_duty.specs.declared.round_end.RoundEnd.TheVariants.{ScanPage, ScanInPlace, Marked, Traced, AllLeft, NothingNow}
 use Rattle.page_slots.specs.Rows.{nothing_announced}
 use Rattle.fault_duty.specs.Duty.{begun, duty_machine}
 
@@ -37,10 +37,10 @@ abbrev pub EpochIsMarked : Type 0
 EpochIsMarked =
     ScannerComesTo ((Load 0, Value 0x0000_0001_0000_0001) ∷ (Load 2, Value 1) ∷ (Load 5, Value 0x0000_03d0_0400_0003) ∷ (Load 24, Value 65537) ∷ (Load 0, Value 0x0000_0001_0000_0001) ∷ (Load 5, Value 0x0000_03d0_0400_0003) ∷ (Load 24, Value 65537) ∷ (Load 20, Value 65537) ∷ (Load 5, Value 0x0000_03d0_0400_0003) ∷ (Exchange 2 1 2, Won) ∷ []) Marked
 
--- after that there is nothing to do in this epoch
-abbrev pub TracedEpochIsLeft : Type 0
-TracedEpochIsLeft =
-    ScannerComesTo ((Load 0, Value 0x0000_0001_0000_0001) ∷ (Load 2, Value 2) ∷ []) (NothingNow 2)
+-- after that a round finds it traced
+abbrev pub TracedEpochIsFound : Type 0
+TracedEpochIsFound =
+    ScannerComesTo ((Load 0, Value 0x0000_0001_0000_0001) ∷ (Load 2, Value 2) ∷ []) Traced
 
 -- a scanner ends when all mutators have left
 abbrev pub ScannerEndsWithMutators : Type 0

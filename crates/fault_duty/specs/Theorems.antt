@@ -18,6 +18,7 @@ use Rattle.fault_duty.specs.declared.caller.Caller.TheVariants.{Scans}
 use Rattle.fault_duty.specs.declared.choice.Choice.{Choice}
 use Rattle.fault_duty.specs.declared.end_look.EndLook.{EndLook}
 use Rattle.fault_duty.specs.declared.wanted_page.WantedPage.{WantedPage}
+use Rattle.fault_duty.specs.declared.round_end.RoundEnd.TheVariants as round_end
 use Rattle.fault_duty.specs.declared.round_end.RoundEnd.TheVariants.{ScanPage, ScanInPlace, Marked, AllLeft, NothingNow}
 use Rattle.fault_duty.specs.declared.duty_stage.DutyStage.{DutyStage}
 use Rattle.fault_duty.specs.declared.duty_stage.DutyStage.TheVariants.{LoadsGate, LoadsTraced, LoadsWanted, LoadsFrontFor, LoadsFront, LoadsPage, Claims, EndGate, EndArea, EndPage, EndFilling, EndAreaAgain, Traces, Ended}
@@ -72,7 +73,7 @@ pub record FrontMoved (d : Round) (look : EndLook) (words : List ℕ) (word : �
 -- A word shows that there is nothing to do now, by what the round was about to do.
 abbrev pub ShowsNothing : Round → DutyStage → (words : List ℕ) → (word : ℕ) → Type 0
 ShowsNothing d LoadsGate words word = OtherEpoch d words word
-ShowsNothing d (LoadsTraced hindrance) words word = (word ≡ word_of_row d Traced words) × (word ≡ d.epoch + 1)
+ShowsNothing d (LoadsTraced hindrance) words word = ⊥
 ShowsNothing d (LoadsWanted seen page) words word = IsServed d page words word
 -- the word of the wanted page, as it was read, is of this epoch or a later one
 ShowsNothing d (LoadsFrontFor seen w) words word = (word ≡ encode_page w.says) × (d.epoch < age_of w.says)
@@ -95,10 +96,23 @@ abbrev pub NothingIsShown : Type 0
 NothingIsShown = (d : Round) (before after : List ℕ) (word : ℕ) → IsSoundRound d
     → MakesStep duty_machine d before after (Finished (NothingNow word)) → ShowsNothing d d.stage before word × (after ≡ before)
 
--- and where TRACED says that the epoch is traced, that is what is told
-abbrev pub TracedEpochsEndRounds : Type 0
-TracedEpochsEndRounds = (d : Round) (hindrance : Option ℕ) (words : List ℕ) → word_of_row d Traced words ≡ d.epoch + 1
-    → MakesStep duty_machine (at_stage d (LoadsTraced hindrance)) words words (Finished (NothingNow (word_of_row d Traced words)))
+-- ---- the epoch is traced
+
+-- TRACED, which the round loads after the gate, says that its epoch is traced; no word changes
+pub record SeesTraced (d : Round) (before after : List ℕ) : Type 0 where
+  pub hindrance : Option ℕ
+  pub loads : d.stage ≡ LoadsTraced hindrance
+  pub says : word_of_row d Traced before ≡ d.epoch + 1
+  pub stays : after ≡ before
+
+abbrev pub TracedIsSeen : Type 0
+TracedIsSeen = (d : Round) (before after : List ℕ)
+    → MakesStep duty_machine d before after (Finished round_end.Traced) → SeesTraced d before after
+
+-- and where it says so as the round loads it there, that is what is told
+abbrev pub TracedIsTold : Type 0
+TracedIsTold = (d : Round) (hindrance : Option ℕ) (words : List ℕ) → word_of_row d Traced words ≡ d.epoch + 1
+    → MakesStep duty_machine (at_stage d (LoadsTraced hindrance)) words words (Finished round_end.Traced)
 
 -- ---- all mutators have left
 

@@ -1,13 +1,14 @@
 //! What holds of the machines. Each function here does nothing: its contract is what is proved.
 
-ghost use Rattle.fault_duty.specs.Rows.{BoardIsClaimed, FillingPageIsClaimed, EpochIsMarked, TracedEpochIsLeft, ScannerEndsWithMutators, LostMarkEnds, LostBoardEnds, LostFillingPageEnds, MovedFrontEnds, BehindForbidsEnd, ScannedBoardForbidsEnd, FullPageIsWanted, NextFullPageIsChosen, OpenPageIsLeft, FillingPageIsNotWanted, NoFillingPage, LaterWantedPageEnds, LaterFillingPageEnds, ScannedBoardIsPassed};
+ghost use Rattle.fault_duty.specs.Rows.{BoardIsClaimed, FillingPageIsClaimed, EpochIsMarked, TracedEpochIsFound, ScannerEndsWithMutators, LostMarkEnds, LostBoardEnds, LostFillingPageEnds, MovedFrontEnds, BehindForbidsEnd, ScannedBoardForbidsEnd, FullPageIsWanted, NextFullPageIsChosen, OpenPageIsLeft, FillingPageIsNotWanted, NoFillingPage, LaterWantedPageEnds, LaterFillingPageEnds, ScannedBoardIsPassed};
 ghost use Rattle.fault_duty.specs.HeldUp.{GoesOn};
-ghost use Rattle.fault_duty.specs.Theorems.{NothingIsShown, TracedEpochsEndRounds, ClaimsHaveCause, AllLeftIsSeen, AllLeftIsTold, MarkedEpochsAreTraced, ScannedPagesAreClaimed, PagesInPlaceAreClaimed};
+ghost use Rattle.fault_duty.specs.Theorems.{NothingIsShown, TracedIsSeen, TracedIsTold, ClaimsHaveCause, AllLeftIsSeen, AllLeftIsTold, MarkedEpochsAreTraced, ScannedPagesAreClaimed, PagesInPlaceAreClaimed};
 
-/// A round does nothing only where a word shows why.
+/// A round does nothing only where a word shows why, and tells that the epoch is traced exactly where TRACED says so.
 pub fn rounds_without_work_show_why()
     ensures nothing_now { NothingIsShown }
-    ensures traced { TracedEpochsEndRounds }
+    ensures traced_seen { TracedIsSeen }
+    ensures traced_told { TracedIsTold }
 {}
 
 /// A scanner ends exactly where the gate counts all mutators as left.
@@ -34,7 +35,7 @@ pub fn rows_are_worked_out()
     ensures board_is_claimed { BoardIsClaimed }
     ensures filling_page_is_claimed { FillingPageIsClaimed }
     ensures epoch_is_marked { EpochIsMarked }
-    ensures traced_epoch_is_left { TracedEpochIsLeft }
+    ensures traced_epoch_is_found { TracedEpochIsFound }
     ensures scanner_ends_with_mutators { ScannerEndsWithMutators }
     ensures lost_mark_ends { LostMarkEnds }
     ensures lost_board_ends { LostBoardEnds }

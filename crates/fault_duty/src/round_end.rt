@@ -7,6 +7,8 @@ pub enum RoundEnd {
     ScanInPlace(u32),
     /// All is scanned, and TRACED says so now.
     Marked,
+    /// The epoch is traced already: TRACED said so.
+    Traced,
     /// All mutators have left, as this word of the gate says.
     AllLeft(u64),
     /// There is nothing to do now, as this word shows.

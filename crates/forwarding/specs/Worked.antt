@@ -1,5 +1,5 @@
 -- A small heap, worked out by hand: a record of two words is copied by worker 1 in epoch 1.
-use Rattle.std.specs.Prelude.{ℕ, zero, suc, ◌+◌, List, [], ◌∷◌, ◌++◌, replicate}
+use Rattle.std.specs.Prelude.{ℕ, zero, suc, false, ◌+◌, List, [], ◌∷◌, ◌++◌, replicate}
 use Rattle.atom_store.specs.declared.step.Step.{Step}
 use Rattle.atom_store.specs.declared.step.Step.TheVariants.{Load, Store, Exchange}
 use Rattle.atom_store.specs.declared.reply.Reply.{Reply}
@@ -129,7 +129,7 @@ words_replied (suc n) = Value 0 ∷ Done ∷ words_replied n
 
 -- a record of 4095 words, at the first address of space 0, is copied to a space of 64 pages that is free and owed
 abbrev pub longest : Evacuation
-longest = begun (record { pages = 64 }) 0 1 1
+longest = begun (record { pages = 64; checkpoints = false }) 0 1 1
 
 -- the replies to its copy, in which 64 pages begin
 unfoldable pub longest_replies : List Reply

@@ -1,4 +1,7 @@
 pub mod Passing
 pub mod Flipping
+pub mod Recalling
+pub mod Snapping
+pub mod Clearing
 pub mod GoingOn
 pub mod RowsFit

@@ -18,7 +18,7 @@ use Rattle.space_map.specs.TableWords.{row_word, HoldsTable}
 use Rattle.space_map.proofs.GateWords.{decode_gate-encode_gate}
 use Rattle.space_map.proofs.Rows.{place_of-lt}
 use Rattle.gate_core.specs.declared.passage.Passage.{Passage}
-use Rattle.gate_core.specs.declared.passage.Passage.TheVariants.{Look, Attach, Park, Request, Resume, Forwarded, Leave}
+use Rattle.gate_core.specs.declared.passage.Passage.TheVariants.{Look, Attach, Park, Request, Resume, Forwarded, Leave, Clear}
 use Rattle.gate_core.specs.declared.passed.Passed.TheVariants.{Went, NotYet}
 use Rattle.gate_core.specs.declared.gate_stage.GateStage.{GateStage}
 use Rattle.gate_core.specs.declared.gate_stage.GateStage.TheVariants.{Loads, Exchanges, Ended}
@@ -77,6 +77,7 @@ is_allowed (Resume epoch) g is =
     same_epoch m n e = grind (arith, nat_tests)
 is_allowed Forwarded g is = tt
 is_allowed Leave g is = tt
+is_allowed Clear g is = tt
 
 pub is_forbidden : (passage : Passage) (g : GateWord) → allows passage g ≡ false → IsForbidden passage g
 is_forbidden Look g is = not_false g.request is
@@ -93,6 +94,7 @@ is_forbidden (Resume epoch) g is =
     other_epoch m n e = grind (arith, nat_tests)
 is_forbidden Forwarded g is = cc
 is_forbidden Leave g is = cc
+is_forbidden Clear g is = cc
 
 -- the gate after an allowed passage fits its word
 pub fits_after : (passage : Passage) (g : GateWord) → MayPass passage g → GateFits (gate_after passage g)
@@ -103,6 +105,7 @@ fits_after Request g may = record { epoch_fits = may.fits.epoch_fits; live_fits 
 fits_after (Resume epoch) g may = record { epoch_fits = may.fits.epoch_fits; live_fits = may.fits.live_fits; running_fits = may.counts; behind_fits = may.fits.behind_fits; left_fits = may.fits.left_fits }
 fits_after Forwarded g may = record { epoch_fits = may.fits.epoch_fits; live_fits = may.fits.live_fits; running_fits = may.fits.running_fits; behind_fits = (let f = may.fits.behind_fits in omega arith); left_fits = may.fits.left_fits }
 fits_after Leave g may = record { epoch_fits = may.fits.epoch_fits; live_fits = (let f = may.fits.live_fits in omega arith); running_fits = (let f = may.fits.running_fits in omega arith); behind_fits = may.fits.behind_fits; left_fits = may.counts.2 }
+fits_after Clear g may = record { epoch_fits = may.fits.epoch_fits; live_fits = may.fits.live_fits; running_fits = may.fits.running_fits; behind_fits = may.fits.behind_fits; left_fits = may.fits.left_fits }
 
 -- ---- the load
 
@@ -122,6 +125,7 @@ goes_at_once Request loaded word g tells = cc
 goes_at_once (Resume epoch) loaded word g tells = cc
 goes_at_once Forwarded loaded word g tells = cc
 goes_at_once Leave loaded word g tells = cc
+goes_at_once Clear loaded word g tells = cc
 
 looks : (passage : Passage) (loaded word : ℕ) (o : Option GateWord) → told_at (looked passage loaded o) ≡ Finished (Went word) → Looks passage loaded word o
 looks passage loaded word (Some g) tells = by_test (allows passage g) refl tells
@@ -146,6 +150,7 @@ never_hindered Request loaded word g tells = cc
 never_hindered (Resume epoch) loaded word g tells = cc
 never_hindered Forwarded loaded word g tells = cc
 never_hindered Leave loaded word g tells = cc
+never_hindered Clear loaded word g tells = cc
 
 hinders : (passage : Passage) (loaded word : ℕ) (o : Option GateWord) → told_at (looked passage loaded o) ≡ Finished (NotYet word) → Forbids passage loaded word o
 hinders passage loaded word (Some g) tells = by_test (allows passage g) refl tells
@@ -157,7 +162,7 @@ hinders passage loaded word None tells = cc
 
 -- ---- the exchange
 
-exchange_goes : (passage : Passage) (g : GateWord) (r : Reply) (word : ℕ) → told_at (next_stage passage (Exchanges g) r) ≡ Finished (Went word)
+pub exchange_goes : (passage : Passage) (g : GateWord) (r : Reply) (word : ℕ) → told_at (next_stage passage (Exchanges g) r) ≡ Finished (Went word)
     → (r ≡ reply.Won) × (word ≡ encode_gate (gate_after passage g))
 exchange_goes passage g reply.Won word tells = (refl, cc)
 exchange_goes passage g (reply.Lost lost) word tells = cc

@@ -13,7 +13,7 @@ use Rattle.space_map.specs.Spaces.{Layout}
 use Rattle.space_map.specs.Table.{Row, place_of}
 use Rattle.space_map.specs.Table as row
 use Rattle.gate_core.specs.declared.passage.Passage.{Passage}
-use Rattle.gate_core.specs.declared.passage.Passage.TheVariants.{Look, Attach, Park, Request, Resume, Forwarded, Leave}
+use Rattle.gate_core.specs.declared.passage.Passage.TheVariants.{Look, Attach, Park, Request, Resume, Forwarded, Leave, Clear}
 use Rattle.gate_core.specs.declared.passed.Passed.{Passed}
 use Rattle.gate_core.specs.declared.passed.Passed.TheVariants.{Went, NotYet}
 use Rattle.gate_core.specs.declared.gate_stage.GateStage.{GateStage}
@@ -28,9 +28,13 @@ pub record Passing : Type 0 where
 abbrev pub begun : Layout → Passage → Passing
 begun layout passage = record { layout = layout; passage = passage; stage = Loads }
 
+-- the passage by which who began a checkpoint clears the request: it goes on from the gate that was seen then
+abbrev pub clear_begun : Layout → GateWord → Passing
+clear_begun layout gate = record { layout = layout; passage = Clear; stage = Exchanges gate }
+
 -- ---- the table of passages
 
--- no flip is requested, and no mutator is behind
+-- nothing is requested, and no mutator is behind
 abbrev pub is_clear : GateWord → Bool
 is_clear gate = not gate.request && (gate.behind == 0)
 
@@ -43,6 +47,7 @@ allows Request gate = not gate.request
 allows (Resume epoch) gate = is_clear gate && (gate.epoch == epoch)
 allows Forwarded gate = true
 allows Leave gate = true
+allows Clear gate = true
 
 -- the gate after the passage
 abbrev pub gate_after : Passage → GateWord → GateWord
@@ -53,6 +58,7 @@ gate_after Request gate = record gate { running = gate.running - 1; request = tr
 gate_after (Resume epoch) gate = record gate { running = gate.running + 1 }
 gate_after Forwarded gate = record gate { behind = gate.behind - 1 }
 gate_after Leave gate = record gate { live = gate.live - 1; running = gate.running - 1; left = gate.left + 1 }
+gate_after Clear gate = record gate { request = false }
 
 -- ---- the next step
 

@@ -1,6 +1,10 @@
 pub mod Gate
 pub mod Flip
+pub mod Recall
+pub mod Snap
 pub mod Soundness
 pub mod Rows
+pub mod CheckpointRows
 pub mod Theorems
+pub mod Checkpoints
 pub mod HeldUp

@@ -26,7 +26,7 @@ FlipRunsTo rows result = RunsTo flip.flip_machine (flip.begun four_pages 0 1 fal
 
 -- the same in a heap of 8 pages a space, by a mutator that has seen a flip since its instruction began or not
 abbrev pub LargerFlipRunsTo : (seen : Bool) → List (Step × Reply) → Flipped → Type 0
-LargerFlipRunsTo seen rows result = RunsTo flip.flip_machine (flip.begun (record { pages = 8 }) 0 1 seen) rows result
+LargerFlipRunsTo seen rows result = RunsTo flip.flip_machine (flip.begun (record { pages = 8; checkpoints = false }) 0 1 seen) rows result
 
 -- the first mutator attaches to an empty heap
 abbrev pub Attaches : Type 0

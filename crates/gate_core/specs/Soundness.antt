@@ -6,14 +6,22 @@ use Rattle.space_map.specs.declared.spaces.TheConstants.{FEWEST_PAGES}
 use Rattle.space_map.specs.GateWord.{GateFits}
 use Rattle.space_map.specs.Spaces.{IsPageCount}
 use Rattle.gate_core.specs.declared.passage.Passage.{Passage}
-use Rattle.gate_core.specs.declared.passage.Passage.TheVariants.{Look, Attach, Park, Request, Resume, Forwarded, Leave}
+use Rattle.gate_core.specs.declared.passage.Passage.TheVariants.{Look, Attach, Park, Request, Resume, Forwarded, Leave, Clear}
 use Rattle.gate_core.specs.declared.gate_stage.GateStage.{GateStage}
 use Rattle.gate_core.specs.declared.gate_stage.GateStage.TheVariants as gate_stage
 use Rattle.gate_core.specs.declared.flip_stage.FlipStage.{FlipStage}
 use Rattle.gate_core.specs.declared.flip_stage.FlipStage.TheVariants as flip_stage
+use Rattle.gate_core.specs.declared.recall.recall_stage.RecallStage.{RecallStage}
+use Rattle.gate_core.specs.declared.recall.recall_stage.RecallStage.TheVariants as recall_stage
 use Rattle.gate_core.specs.declared.reset.Reset.{Reset}
+use Rattle.gate_core.specs.declared.snap.snap_stage.SnapStage.{SnapStage}
+use Rattle.gate_core.specs.declared.snap.snap_stage.SnapStage.TheVariants as snap_stage
+use Rattle.gate_core.specs.declared.snap.snapped.Snapped.{Snapped}
+use Rattle.gate_core.specs.declared.snap.snapped.Snapped.TheVariants.{Begun, NotYet}
 use Rattle.gate_core.specs.Gate.{Passing, allows}
 use Rattle.gate_core.specs.Flip.{Flipping, is_still, next_size}
+use Rattle.gate_core.specs.Recall.{Recalling}
+use Rattle.gate_core.specs.Snap.{Snapping}
 
 -- the gate counts those whom the passage takes away, and has room for those whom it brings
 abbrev pub CountsAllow : Passage → GateWord → Type 0
@@ -24,6 +32,7 @@ CountsAllow Request gate = 0 < gate.running
 CountsAllow (Resume epoch) gate = gate.running + 1 < 2 ^ 8
 CountsAllow Forwarded gate = 0 < gate.behind
 CountsAllow Leave gate = (0 < gate.live) × (0 < gate.running) × (gate.left + 1 < 2 ^ 5)
+CountsAllow Clear gate = ⊤
 
 -- a gate from which the passage may be made
 pub record MayPass (passage : Passage) (gate : GateWord) : Type 0 where
@@ -82,3 +91,46 @@ pub record IsSoundFlipping (f : Flipping) : Type 0 where
 abbrev pub IsFlippingGoing : FlipStage → Type 0
 IsFlippingGoing (flip_stage.Ended result) = ⊥
 IsFlippingGoing stage = ⊤
+
+-- ---- what runs
+
+abbrev pub FitsRecallStage : RecallStage → Type 0
+FitsRecallStage recall_stage.LoadsSnap = ⊤
+FitsRecallStage (recall_stage.LoadsDone number) = number < 2 ^ 32
+FitsRecallStage (recall_stage.Ended recalled) = recalled.number < 2 ^ 32
+
+pub record IsSoundRecalling (r : Recalling) : Type 0 where
+  pub pages : IsPageCount r.layout.pages
+  pub stage : FitsRecallStage r.stage
+
+-- the reading has a next step
+abbrev pub IsRecallGoing : RecallStage → Type 0
+IsRecallGoing (recall_stage.Ended result) = ⊥
+IsRecallGoing stage = ⊤
+
+-- ---- the beginning of a checkpoint
+
+-- a gate with nobody running
+pub record IsStopped (gate : GateWord) : Type 0 where
+  pub fits : GateFits gate
+  pub none_runs : gate.running ≡ 0
+
+-- a checkpoint is begun while nobody runs
+abbrev pub FitsSnapped : Snapped → Type 0
+FitsSnapped (Begun gate) = IsStopped gate
+FitsSnapped (NotYet word) = ⊤
+
+abbrev pub FitsSnapStage : SnapStage → Type 0
+FitsSnapStage snap_stage.LoadsGate = ⊤
+FitsSnapStage (snap_stage.ExchangesSnap gate) = IsStopped gate
+FitsSnapStage (snap_stage.Ended result) = FitsSnapped result
+
+pub record IsSoundSnapping (s : Snapping) : Type 0 where
+  pub pages : IsPageCount s.layout.pages
+  pub number : s.number + 1 < 2 ^ 32
+  pub stage : FitsSnapStage s.stage
+
+-- the beginning has a next step
+abbrev pub IsSnappingGoing : SnapStage → Type 0
+IsSnappingGoing (snap_stage.Ended result) = ⊥
+IsSnappingGoing stage = ⊤

@@ -11,7 +11,7 @@ use Rattle.space_map.specs.Spaces.{to_space}
 use Rattle.space_map.specs.Table as row
 use Rattle.space_map.specs.TableWords.{row_word, HoldsTable, ChangesOnly}
 use Rattle.gate_core.specs.declared.passage.Passage.{Passage}
-use Rattle.gate_core.specs.declared.passage.Passage.TheVariants.{Look, Attach, Park, Request, Resume, Forwarded, Leave}
+use Rattle.gate_core.specs.declared.passage.Passage.TheVariants.{Look, Attach, Park, Request, Resume, Forwarded, Leave, Clear}
 use Rattle.gate_core.specs.declared.passed.Passed.TheVariants as passed
 use Rattle.gate_core.specs.declared.reset.Reset.{Reset}
 use Rattle.gate_core.specs.declared.flipped.Flipped.{Flipped}
@@ -33,6 +33,7 @@ IsAllowed Request gate = gate.request ≡ false
 IsAllowed (Resume epoch) gate = (gate.request ≡ false) × (gate.behind ≡ 0) × (gate.epoch ≡ epoch)
 IsAllowed Forwarded gate = ⊤
 IsAllowed Leave gate = ⊤
+IsAllowed Clear gate = ⊤
 
 -- where it may not
 abbrev pub IsForbidden : Passage → GateWord → Type 0
@@ -43,6 +44,7 @@ IsForbidden Request gate = gate.request ≡ true
 IsForbidden (Resume epoch) gate = (gate.request ≡ true) ⊎ ((gate.behind ≢ 0) ⊎ (gate.epoch ≢ epoch))
 IsForbidden Forwarded gate = ⊥
 IsForbidden Leave gate = ⊥
+IsForbidden Clear gate = ⊥
 
 -- The gate's word allowed the passage, and says then what comes of it, as is told; no other word changes.
 pub record PassesGate (p : Passing) (before after : List ℕ) (word : ℕ) : Type 0 where

@@ -1,8 +1,8 @@
 ghost use Rattle.std.specs.Prelude.{◌≡◌, ◌^◌, ◌<◌, Some, IsTrue};
 ghost use Rattle.atom_store.specs.Step.{place_in};
 ghost use Rattle.space_map.specs.declared.gate_word.GateWord.{GateWord};
-ghost use Rattle.space_map.specs.GateWord.{decode_gate, encode_gate};
-ghost use Rattle.gate_core.specs.Gate.{begun, wanted, taken, told, left, advances, allows, allowed, gate_after, is_clear, looked};
+ghost use Rattle.space_map.specs.GateWord.{GateFits, decode_gate, encode_gate};
+ghost use Rattle.gate_core.specs.Gate.{begun, clear_begun, wanted, taken, told, left, advances, allows, allowed, gate_after, is_clear, looked};
 ghost use Rattle.gate_core.specs.Soundness.{IsSoundPassing, IsPassingGoing, FitsGateStage, MayPass};
 ghost use Rattle.space_map.specs.Table.{table_length};
 
@@ -35,7 +35,7 @@ impl Model for Gate {
 }
 
 impl Gate {
-    /// A running mutator goes on, unless a flip is requested.
+    /// A running mutator goes on, unless something is requested.
     pub fn look(spaces: Spaces) -> Gate
         ensures { result ≡ begun spaces Passage.Look }
     {
@@ -49,14 +49,14 @@ impl Gate {
         Gate::begin(spaces, Passage::Attach)
     }
 
-    /// A running mutator stops for a flip.
+    /// A running mutator stops for a flip or a checkpoint.
     pub fn park(spaces: Spaces) -> Gate
         ensures { result ≡ begun spaces Passage.Park }
     {
         Gate::begin(spaces, Passage::Park)
     }
 
-    /// A running mutator requests a flip, and stops.
+    /// A running mutator requests a flip or a checkpoint, and stops.
     pub fn request(spaces: Spaces) -> Gate
         ensures { result ≡ begun spaces Passage.Request }
     {
@@ -82,6 +82,19 @@ impl Gate {
         ensures { result ≡ begun spaces Passage.Leave }
     {
         Gate::begin(spaces, Passage::Leave)
+    }
+
+    /// A mutator that began a checkpoint when it saw this gate clears the request.
+    pub fn clear(spaces: Spaces, gate: GateWord) -> Gate
+        requires { GateFits gate }
+        ensures { result ≡ clear_begun spaces gate }
+    {
+        spaces.known();
+        Gate {
+            spaces,
+            passage: Passage::Clear,
+            stage: GateStage::Exchanges(gate),
+        }
     }
 
     fn begin(spaces: Spaces, passage: Passage) -> Gate
@@ -196,11 +209,11 @@ fn is_allowed(passage: Passage, gate: GateWord) -> bool
         Passage::Park => gate.request,
         Passage::Look | Passage::Request => !gate.request,
         Passage::Resume(epoch) => no_flip(gate) && gate.epoch == epoch,
-        Passage::Forwarded | Passage::Leave => true,
+        Passage::Forwarded | Passage::Leave | Passage::Clear => true,
     }
 }
 
-/// Whether no flip is requested, and no mutator is behind.
+/// Whether nothing is requested, and no mutator is behind.
 fn no_flip(gate: GateWord) -> bool
     ensures { result ≡ is_clear gate }
 {
@@ -248,6 +261,10 @@ fn after(passage: Passage, gate: GateWord) -> GateWord
             live: live - 1,
             running: running - 1,
             left: left + 1,
+            ..gate
+        },
+        Passage::Clear => GateWord {
+            request: false,
             ..gate
         },
     }

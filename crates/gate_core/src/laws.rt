@@ -1,7 +1,9 @@
 //! What holds of the machines. Each function here does nothing: its contract is what is proved.
 
 ghost use Rattle.gate_core.specs.Rows.{Attaches, Requests, FlipsSpaces, TellsForwarded, Resumes, Leaves, Looks, Parks, ExchangeIsTriedAgain, RequestHinders, BehindHinders, NoRequestHinders, LaterEpochHinders, RunningHindersFlip, LostFlipBeginsAgain, GrowsOnceSeen, StaysAtFirst, GrowsPastHalf, StaysAtHalf, GrowsNoFurther};
-ghost use Rattle.gate_core.specs.HeldUp.{PassagesGoOn, FlipsGoOn};
+ghost use Rattle.gate_core.specs.CheckpointRows.{RecallsNone, RecallsFirst, RecallsFinished, RecallIsTriedAgain, BeginsFirst, BeginsLast, RunningHindersCheckpoint, CheckpointIsTriedAgain, ClearsAtOnce, ClearIsTriedAgain};
+ghost use Rattle.gate_core.specs.Checkpoints.{RecallsTellWhatTheyRead, RecallsChangeNothing, SnapsKeepWhatTheyRead, CheckpointsAreBegun, NothingElseIsChanged, HinderedSnapsShowIt, RequestsAreCleared, NothingHindersClearing};
+ghost use Rattle.gate_core.specs.HeldUp.{PassagesGoOn, FlipsGoOn, RecallsGoOn, SnapsGoOn};
 ghost use Rattle.gate_core.specs.Theorems.{PassagesAreMade, HinderedPassagesShowIt, FlipsKeepWhatTheyRead, FlipsAreMade, HinderedFlipsShowIt};
 
 /// A passage of the gate is made where the gate allows it, and changes what it says as the passage does. Where it isn't made,
@@ -46,4 +48,45 @@ pub fn rows_are_worked_out()
     ensures grows_past_half { GrowsPastHalf }
     ensures stays_at_half { StaysAtHalf }
     ensures grows_no_further { GrowsNoFurther }
+{}
+
+/// A mutator that begins to run is told exactly the two numbers that it has loaded, and changes no word.
+pub fn recalls_tell_what_they_read()
+    ensures told { RecallsTellWhatTheyRead }
+    ensures nothing_changed { RecallsChangeNothing }
+{}
+
+/// A checkpoint is begun by the step from its number to the next one, after a gate by which nobody runs. The gate that is told
+/// stands, and no other step changes a word.
+pub fn checkpoints_begin_where_nobody_runs()
+    ensures kept { SnapsKeepWhatTheyRead }
+    ensures begun { CheckpointsAreBegun }
+    ensures nothing_else { NothingElseIsChanged }
+    ensures hindered { HinderedSnapsShowIt }
+{}
+
+/// Clearing the request of a checkpoint changes nothing else of the gate, and no gate forbids it.
+pub fn clearing_changes_the_request_alone()
+    ensures cleared { RequestsAreCleared }
+    ensures never_hindered { NothingHindersClearing }
+{}
+
+/// Nothing but a lost exchange, or a word that can't be there, holds up who begins a checkpoint, or who reads which one runs.
+pub fn recalls_and_snaps_go_on()
+    ensures recalls { RecallsGoOn }
+    ensures snaps { SnapsGoOn }
+{}
+
+/// What runs, the beginning of a checkpoint and its request, worked out step by step with all words as numbers.
+pub fn checkpoint_rows_are_worked_out()
+    ensures recalls_none { RecallsNone }
+    ensures recalls_first { RecallsFirst }
+    ensures recalls_finished { RecallsFinished }
+    ensures recall_is_tried_again { RecallIsTriedAgain }
+    ensures begins_first { BeginsFirst }
+    ensures begins_last { BeginsLast }
+    ensures running_hinders_checkpoint { RunningHindersCheckpoint }
+    ensures checkpoint_is_tried_again { CheckpointIsTriedAgain }
+    ensures clears_at_once { ClearsAtOnce }
+    ensures clear_is_tried_again { ClearIsTriedAgain }
 {}

@@ -41,7 +41,7 @@ fn words(alloc: Global, spaces: Spaces, pages: u32) -> Result<PlainAtoms, NoMemo
 fn worker(alloc: Global, spaces: Spaces, k: u8, mutators: u8) -> Result<Slot, NoMemory>
     requires few { mutators ≤ MOST_MUTATORS }
     requires all { k ≤ LAST_WORKER }
-    ensures { IfOk result (λ slot. slot ≡ fresh_worker spaces.pages mutators k) }
+    ensures { IfOk result (λ slot. slot ≡ fresh_worker spaces mutators k) }
 {
     if k < mutators {
         return Ok(Slot::new(Worker::mutator(alloc, spaces, k, mutators)?));
@@ -53,7 +53,7 @@ fn worker(alloc: Global, spaces: Spaces, k: u8, mutators: u8) -> Result<Slot, No
 fn slots(alloc: Global, spaces: Spaces, mutators: u8, count: u8) -> Result<Vec<Slot>, NoMemory>
     requires few { mutators ≤ MOST_MUTATORS }
     requires all { count ≤ MOST_MUTATORS + MOST_SCANNERS }
-    ensures { IfOk result (λ slots. slots.items ≡ fresh_workers spaces.pages mutators 0 count) }
+    ensures { IfOk result (λ slots. slots.items ≡ fresh_workers spaces mutators 0 count) }
 {
     let mut slots = Vec::new(alloc);
     for k in 0..count {

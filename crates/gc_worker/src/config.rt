@@ -1,4 +1,4 @@
-ghost use Rattle.std.specs.Prelude.{◌≡◌, ◌≤◌, ◌↔◌, IfOk, IsOk, IsTrue};
+ghost use Rattle.std.specs.Prelude.{◌≡◌, ◌≤◌, ◌↔◌, IfOk, IsOk, IsTrue, false};
 ghost use Rattle.space_map.specs.declared.spaces.TheConstants.{FEWEST_PAGES};
 ghost use Rattle.gc_worker.specs.Config.{has_sizes};
 
@@ -25,6 +25,7 @@ impl Config {
     /// first, or more than may come into use, or more than 2048 may.
     pub fn spaces(self) -> Result<Spaces, BadPages>
         ensures pages { IfOk result (λ spaces. spaces.pages ≡ self.limit) }
+        ensures without { IfOk result (λ spaces. spaces.checkpoints ≡ false) }
         ensures at_first { IfOk result (λ spaces. (FEWEST_PAGES ≤ self.pages) × (self.pages ≤ spaces.pages)) }
         ensures refused_exactly_outside { IsOk result ↔ IsTrue (has_sizes self) }
     {

@@ -1,7 +1,7 @@
 ghost use Rattle.std.specs.Prelude.{◌≡◌, ◌≤◌, ◌<◌, Some, IfOk, IfSome, IsSome};
 ghost use Rattle.atom_store.specs.Step.{place_in};
 ghost use Rattle.space_map.specs.declared.spaces.TheConstants.{LAST_WORKER, MOST_MUTATORS};
-ghost use Rattle.space_map.specs.Table.{table_length};
+ghost use Rattle.space_map.specs.Table.{whole_length};
 ghost use Rattle.gc_worker.specs.declared.task.Task.TheVariants.{Calls, Stops};
 ghost use Rattle.gc_worker.specs.Laws.Between.{IsIdle, fresh_mutator, fresh_scanner, with_task};
 ghost use Rattle.gc_worker.specs.Workers.Fits.{MayBegin, MayStop, Takes};
@@ -61,7 +61,7 @@ impl Worker {
     ) -> Result<Worker, NoMemory>
         requires number { number < mutators }
         requires few { mutators ≤ MOST_MUTATORS }
-        ensures { IfOk result (λ worker. worker ≡ fresh_mutator spaces.pages mutators number) }
+        ensures { IfOk result (λ worker. worker ≡ fresh_mutator spaces mutators number) }
     {
         spaces.known();
         let printed = Vec::with_capacity(alloc, MOST_PRINTED)?;
@@ -73,7 +73,7 @@ impl Worker {
     pub fn scanner(alloc: Global, spaces: Spaces, number: u8, mutators: u8) -> Worker
         requires number { mutators ≤ number }
         requires few { number ≤ LAST_WORKER }
-        ensures { result ≡ fresh_scanner spaces.pages mutators number }
+        ensures { result ≡ fresh_scanner spaces mutators number }
     {
         spaces.known();
         let state = State::scanner(spaces, number, mutators, Vec::new(alloc));
@@ -83,7 +83,7 @@ impl Worker {
     /// The next step. A mutator that has left has none, and neither has a scanner that has seen all leave.
     pub fn want(&self) -> Option<Step>
         ensures wanted { result ≡ wanted self.now }
-        ensures in_table { IfSome result (λ step. place_in step < table_length self.now.layout.pages) }
+        ensures in_table { IfSome result (λ step. place_in step < whole_length self.now.layout) }
     {
         self.state.want()
     }

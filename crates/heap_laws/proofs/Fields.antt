@@ -4,5 +4,6 @@ pub mod Stored
 pub mod Cycle
 pub mod Shown
 pub mod Laws
+pub mod Accounts
 pub mod Effects
 pub mod SameWords

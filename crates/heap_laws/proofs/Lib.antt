@@ -9,3 +9,4 @@ pub mod Opening
 pub mod Fields
 pub mod Allocation
 pub mod Gate
+pub mod Saving

@@ -13,7 +13,7 @@ use Rattle.heap_state.specs.Configuration.{Configuration, Stands, table, era, me
 use Rattle.heap_state.specs.Memory.Era.{Era, Memory}
 use Rattle.heap_state.specs.Invariant.Ghost.{Ghost, Lands}
 use Rattle.heap_state.specs.Invariant.Parts.Knowledge.{Passes}
-use Rattle.heap_state.specs.Worker.{Team, Passage, Enter, Park, Request, Forwarded, Resume, Leave, Quest, Copy, SeenHeader, Scan, SeenRecord}
+use Rattle.heap_state.specs.Worker.{Team, Passage, Enter, Park, Request, RequestSnap, Clear, Forwarded, Resume, Leave, Quest, Copy, SeenHeader, Scan, SeenRecord}
 use Rattle.heap_laws.specs.Gate.{gate_after}
 use Rattle.heap_laws.specs.Scanning.Words.{AtField, IsScanning}
 use Rattle.heap_laws.specs.Steps.{Ready, IsAreaNow}
@@ -81,6 +81,8 @@ abbrev pub IsCounted : GateWord → Passage → Type 0
 IsCounted gate Enter = ⊤
 IsCounted gate Park = 0 < gate.running
 IsCounted gate (Request asked) = 0 < gate.running
+IsCounted gate RequestSnap = 0 < gate.running
+IsCounted gate Clear = ⊤
 IsCounted gate Forwarded = 0 < gate.behind
 IsCounted gate Resume = ⊤
 IsCounted gate Leave = (0 < gate.live) × (0 < gate.running)

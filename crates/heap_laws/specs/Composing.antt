@@ -4,8 +4,8 @@ use Rattle.plain_state.specs.State.{Plain}
 use Rattle.heap_state.specs.Memory.Entries.{Entry}
 use Rattle.heap_state.specs.Memory.Era.{Era, Memory}
 use Rattle.heap_state.specs.Invariant.Ghost.{Ghost}
-use Rattle.heap_state.specs.Worker.{Worker, Team, Scan, Round, is_flipper, is_sized}
-use Rattle.heap_laws.specs.Steps.{Ready, Steps, StepsTo, with_worker}
+use Rattle.heap_state.specs.Worker.{Worker, Team, Scan, Round, is_asking, is_sized}
+use Rattle.heap_laws.specs.Steps.{Ready, IsBeside, Steps, StepsTo, with_worker}
 
 -- ---- what may be forgotten
 
@@ -67,8 +67,8 @@ LessAtPages w v = record {
   last_look : IsLess w.last_look v.last_look;
 }
 
--- And so of the gate. Who flips still knows whether it has stored the size; who flips, or is about to exchange the gate, whether the
--- epoch is traced.
+-- And so of the gate. Who flips still knows whether it has stored the size; whose the request is, or who is about to exchange the
+-- gate, whether the epoch is traced.
 abbrev pub LessAtGate : (w v : Worker) → Type 0
 LessAtGate w v = record {
   gate_step : IsLess w.gate_step v.gate_step;
@@ -76,7 +76,7 @@ LessAtGate w v = record {
   sized : is_sized w.reset ≡ is_sized v.reset;
   traced_seen : w.traced_seen ≡ true → v.traced_seen ≡ true;
   size_seen : IsLess w.size_seen v.size_seen;
-  asks : (is_flipper w.post ≡ true) ⊎ (is_some w.gate_step ≡ true) → w.traced_seen ≡ v.traced_seen;
+  asks : (is_asking w.post ≡ true) ⊎ (is_some w.gate_step ≡ true) → w.traced_seen ≡ v.traced_seen;
 }
 
 -- worker w knows at most what v knows, and scans the same page as far, if it scans
@@ -95,12 +95,12 @@ ends_round w = record w { round = None; claim = None; look = None; last_look = N
 abbrev pub RoundsAreForgotten : Type 0
 RoundsAreForgotten = (w : Worker) → IsAtMost (ends_round w) w
 
--- a worker that does not flip or pass the gate forgets that the epoch is traced
+-- a worker whose the request isn't, and that doesn't pass the gate, forgets that the epoch is traced
 abbrev pub unaware : Worker → Worker
 unaware w = record w { traced_seen = false }
 
 abbrev pub TracedIsForgotten : Type 0
-TracedIsForgotten = (w : Worker) → is_flipper w.post ≡ false → w.gate_step ≡ None → IsAtMost (unaware w) w
+TracedIsForgotten = (w : Worker) → is_asking w.post ≡ false → w.gate_step ≡ None → IsAtMost (unaware w) w
 
 -- a worker forgets the size that it has read
 abbrev pub without_size : Worker → Worker
@@ -152,3 +152,15 @@ PlainStepsAreReady = (E : Era) (m : Memory) (team : Team) (g : Ghost) (k : ℕ) 
 abbrev pub PlainStepsFollow : Type 0
 PlainStepsFollow = (E : Era) (m : Memory) (team : Team) (g : Ghost) (k : ℕ) (e : Option Entry) (v w : Worker) (h i : Ghost) (q : Plain)
     → (s : StepsTo E m team g k e v h q) → Steps E s.later (with_worker team k v) h k None w i → StepsTo E m team g k e w i q
+
+-- ---- rows of checkpoints
+
+-- a step that writes no row may write one of which the epoch sees nothing
+abbrev pub StepsWriteBeside : Type 0
+StepsWriteBeside = (E : Era) (m : Memory) (team : Team) (g : Ghost) (k : ℕ) (e : Entry) (w : Worker) (h : Ghost) → IsBeside E e
+    → Steps E m team g k None w h → Steps E m team g k (Some e) w h
+
+-- the same of a step of the plain machine
+abbrev pub PlainStepsWriteBeside : Type 0
+PlainStepsWriteBeside = (E : Era) (m : Memory) (team : Team) (g : Ghost) (k : ℕ) (e : Entry) (w : Worker) (h : Ghost) (q : Plain) → IsBeside E e
+    → StepsTo E m team g k None w h q → StepsTo E m team g k (Some e) w h q

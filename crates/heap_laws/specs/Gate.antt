@@ -1,5 +1,5 @@
--- The gate's other steps: a mutator attaches, parks, asks for a flip, has forwarded its registers, goes on, or leaves. Each is
--- the exchange of the gate from the word that was read.
+-- The gate's other steps: a mutator attaches, parks, asks for a flip or for a checkpoint, clears the request that was its own, has
+-- forwarded its registers, goes on, or leaves. Each is the exchange of the gate from the word that was read.
 use Rattle.std.specs.Prelude.{◌≡◌, ℕ, ◌+◌, ◌*◌, ◌-◌, true, false, Some, None, is_some}
 use Rattle.space_map.specs.declared.gate_word.GateWord.{GateWord}
 use Rattle.space_map.specs.declared.spaces.TheConstants.{PAGE_WORDS}
@@ -7,7 +7,7 @@ use Rattle.space_map.specs.GateWord.{GateFits}
 use Rattle.heap_state.specs.Memory.Era.{Era, Memory}
 use Rattle.heap_state.specs.Invariant.Ghost.{Ghost}
 use Rattle.heap_state.specs.Invariant.Inductive.{Invariant}
-use Rattle.heap_state.specs.Worker.{Worker, Team, Scanner, Running, Stopped, Flipping, Gone, Passage, Enter, Park, Request, Forwarded, Resume, Leave, GateStep, is_running}
+use Rattle.heap_state.specs.Worker.{Worker, Team, Scanner, Running, Stopped, Flipping, Snapping, Gone, Passage, Enter, Park, Request, RequestSnap, Clear, Forwarded, Resume, Leave, GateStep, is_running}
 use Rattle.heap_state.specs.Memory.Entries.{GateIs}
 use Rattle.heap_state.specs.Invariant.Parts.Knowledge.{Passes}
 use Rattle.heap_laws.specs.Steps.{Ready, Steps}
@@ -17,6 +17,8 @@ abbrev pub gate_after : Passage → GateWord → GateWord
 gate_after Enter gate = record gate { live = gate.live + 1; running = gate.running + 1 }
 gate_after Park gate = record gate { running = gate.running - 1 }
 gate_after (Request asked) gate = record gate { running = gate.running - 1; request = true }
+gate_after RequestSnap gate = record gate { running = gate.running - 1; request = true }
+gate_after Clear gate = record gate { request = false }
 gate_after Forwarded gate = record gate { behind = gate.behind - 1 }
 gate_after Resume gate = record gate { running = gate.running + 1 }
 gate_after Leave gate = record gate { live = gate.live - 1; running = gate.running - 1; left = gate.left + 1 }
@@ -34,6 +36,8 @@ abbrev pub worker_after : ℕ → Passage → Worker → Worker
 worker_after epoch Enter w = record (into_epoch w epoch) { post = Running }
 worker_after epoch Park w = record (out_of_run w) { post = Stopped; traced_seen = false }
 worker_after epoch (Request asked) w = record (out_of_run w) { post = Flipping asked }
+worker_after epoch RequestSnap w = record (out_of_run w) { post = Snapping }
+worker_after epoch Clear w = record (out_of_run w) { post = Stopped; traced_seen = false }
 worker_after epoch Forwarded w = into_epoch w epoch
 worker_after epoch Resume w = record w { post = Running; gate_step = None }
 worker_after epoch Leave w = record (out_of_run w) { post = Gone; traced_seen = false }

@@ -11,4 +11,4 @@ pub mod Gate
 pub mod Composing
 pub mod Composites
 pub mod Answers
-pub mod Live
+pub mod Saving

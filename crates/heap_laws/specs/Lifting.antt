@@ -1,13 +1,12 @@
 -- From the laws to configurations, once for all: a step writes a row of the table, or none, and one worker becomes another.
 use Rattle.std.specs.Prelude.{◌≡◌, ℕ, ◌+◌, ◌<◌, ⊤, false, List, length, Option, Some, None, slice_set, ◌≤◌}
 use Rattle.plain_state.specs.State.{Plain}
-use Rattle.space_map.specs.Table.{place_of}
 use Rattle.space_map.specs.PageWord.{age_of}
 use Rattle.space_map.specs.declared.gate_word.GateWord.{GateWord}
 use Rattle.space_map.specs.GateWord.{GateFits}
 use Rattle.heap_state.specs.Configuration.{Configuration, Stands, table, era, memory, team}
 use Rattle.heap_state.specs.Cycles.Cycle.{Cycle}
-use Rattle.heap_state.specs.Memory.Entries.{Entry, row_of, word_of, EntryFits, with_entry, GateIs, SizeIs}
+use Rattle.heap_state.specs.Memory.Entries.{whole_place_of, Entry, row_of, word_of, EntryFits, with_entry, GateIs, SizeIs}
 use Rattle.heap_state.specs.Invariant.Ghost.{Ghost}
 use Rattle.heap_state.specs.Memory.Era.{from_space}
 use Rattle.heap_state.specs.Memory.Table.{Table}
@@ -21,7 +20,7 @@ use Rattle.heap_laws.specs.Flipping.Sizes.{after_size}
 -- the words after a row is written, or none
 abbrev pub words_after_row : ℕ → List ℕ → Option Entry → List ℕ
 words_after_row n words None = words
-words_after_row n words (Some e) = slice_set words (place_of n (row_of e)) (word_of e)
+words_after_row n words (Some e) = slice_set words (whole_place_of n (row_of e)) (word_of e)
 
 -- what the table says then
 abbrev pub table_after : Table → Option Entry → Table

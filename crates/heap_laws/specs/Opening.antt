@@ -46,7 +46,7 @@ opening_mutator = record { counter = 0; registers = replicate 8 (Number 0); prin
 -- no mutator has made a record or a step, and the board is all 0
 abbrev pub opening_plain : ℕ → plain.Plain
 opening_plain mutators = record {
-  heap = record { records = replicate mutators []; board = replicate 16 (Number 0) };
+  heap = record { records = replicate mutators []; board = replicate 16 (Number 0); snaps = 0; snapped = plain.none_snapped };
   mutators = replicate mutators opening_mutator;
 }
 

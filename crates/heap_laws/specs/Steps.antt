@@ -1,5 +1,5 @@
 -- One step of one worker: the row that it writes, and what it keeps.
-use Rattle.std.specs.Prelude.{◌≡◌, ℕ, ◌+◌, ◌<◌, ◌≤◌, Option, Some, None}
+use Rattle.std.specs.Prelude.{◌≡◌, ℕ, ◌+◌, ◌<◌, ◌≤◌, ⊤, Option, Some, None}
 use Rattle.plain_state.specs.State.{Plain}
 use Rattle.space_map.specs.declared.area_word.AreaWord.{AreaWord}
 use Rattle.space_map.specs.declared.gate_word.GateWord.{GateWord}
@@ -7,9 +7,10 @@ use Rattle.space_map.specs.declared.page_word.PageWord.{PageWord}
 use Rattle.space_map.specs.AreaWord.{AreaFits}
 use Rattle.space_map.specs.GateWord.{GateFits}
 use Rattle.space_map.specs.PageWord.{PageFits, age_of}
+use Rattle.space_map.specs.SaveWord.{SaveFits}
 use Rattle.space_map.specs.Spaces.{to_space, page_of}
 use Rattle.heap_state.specs.Cycles.Cycle.{Cycle}
-use Rattle.heap_state.specs.Memory.Entries.{Entry, GateIs, TracedIs, AreaIs, PageIs, CrossIs, WordIs, AnnounceIs}
+use Rattle.heap_state.specs.Memory.Entries.{Entry, GateIs, TracedIs, AreaIs, PageIs, CrossIs, WordIs, AnnounceIs, SnapIs, DoneIs, SaveIs, ImageIs}
 use Rattle.heap_state.specs.Memory.Era.{Era, Memory, IsLaidOut, from_space}
 use Rattle.heap_state.specs.Functions.{put}
 use Rattle.heap_state.specs.Invariant.Ghost.{Ghost}
@@ -70,6 +71,14 @@ with_word m addr word = record m { heap = put m.heap addr word }
 abbrev pub with_announced : Memory → (worker place : ℕ) → Memory
 with_announced m worker place = record m { announced = put m.announced worker place }
 
+-- the row is one of checkpoints, of which the epoch sees nothing, and what is written fits its word
+abbrev pub IsBeside : Era → Entry → Type 0
+IsBeside E (SnapIs number) = ⊤
+IsBeside E (DoneIs number) = ⊤
+IsBeside E (SaveIs page word) = (page ≤ page_of E.board) × SaveFits word
+IsBeside E (ImageIs addr word) = addr < E.board + PAGE_WORDS
+IsBeside E _ = ⊥
+
 -- A row of the table is written that is no size, or none, and then the epoch sees this memory. What is written fits its word.
 pub data WritesRow (E : Era) (m : Memory) : Option Entry → Memory → Type 0 where
   NoRow : WritesRow E m None m
@@ -81,6 +90,7 @@ pub data WritesRow (E : Era) (m : Memory) : Option Entry → Memory → Type 0 w
   InCross : (page place : ℕ) → page < page_of E.board → WritesRow E m (Some (CrossIs page place)) (with_crossing m page place)
   InWord : (addr word : ℕ) → addr < E.board + PAGE_WORDS → WritesRow E m (Some (WordIs addr word)) (with_word m addr word)
   InAnnounce : (worker place : ℕ) → worker < MOST_MUTATORS + MOST_SCANNERS → WritesRow E m (Some (AnnounceIs worker place)) (with_announced m worker place)
+  Beside : (e : Entry) → IsBeside E e → WritesRow E m (Some e) m
 
 -- ---- what is kept
 

@@ -1,6 +1,6 @@
 //! Steps one after another, and what a worker may forget: an atomic step may be several changes of what it knows.
 
-ghost use Rattle.heap_laws.specs.Composing.{RoundsAreForgotten, TracedIsForgotten, SizesAreForgotten, ScannedRecordsAreForgotten, RoundFrontsAreForgotten, StepsForget, StepsAreReady, StepsFollow, PlainStepsForget, PlainStepsAreReady, PlainStepsFollow};
+ghost use Rattle.heap_laws.specs.Composing.{RoundsAreForgotten, TracedIsForgotten, SizesAreForgotten, ScannedRecordsAreForgotten, RoundFrontsAreForgotten, StepsForget, StepsAreReady, StepsFollow, PlainStepsForget, PlainStepsAreReady, PlainStepsFollow, StepsWriteBeside, PlainStepsWriteBeside};
 ghost use Rattle.heap_laws.specs.Composites.{RegistersArePassed, RegistersFindForwards, RegistersAreSettled, LookingAtLastPageKeeps, ClaimsBegin, RoundsEnd};
 
 /// What a worker may forget: the round of the duty that it is in or FRONT of it, that the epoch is traced, the size of its space, and in which
@@ -25,6 +25,12 @@ pub fn steps_follow()
     ensures kept { StepsFollow }
     ensures plain_ready { PlainStepsAreReady }
     ensures plain { PlainStepsFollow }
+{}
+
+/// A step that writes no row of the epoch's may write one of checkpoints: all is kept as if it had written none.
+pub fn rows_beside_are_written()
+    ensures kept { StepsWriteBeside }
+    ensures plain { PlainStepsWriteBeside }
 {}
 
 /// The registers of a mutator that is behind, several in one step: by themselves, where a copy is found, and where one was made.

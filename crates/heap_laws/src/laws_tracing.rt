@@ -1,7 +1,7 @@
 //! The end of the copied area: it is looked at, TRACED is exchanged, and then nothing leads into the old space.
 
 ghost use Rattle.heap_laws.specs.Tracing.{ReadingTracedKeeps, ReadingRoundFrontKeeps, BeginningLookKeeps, LookingAtFrontKeeps, LookingAtBoardKeeps, LookingAtPageKeeps, LookingAtFillingPageKeeps, LookingAgainKeeps, ClaimingFillingPageKeeps, TracingKeeps, SleeperLosesTraced, TracedLeadsNowhere, TracedCopiesReachable};
-ghost use Rattle.heap_laws.specs.Live.{TracedIsLive};
+ghost use Rattle.heap_laws.specs.Flipping.Live.{TracedIsLive};
 
 /// The loads of a round of the duty.
 pub fn rounds_are_begun()

@@ -13,6 +13,7 @@ mod laws_flipping;
 mod laws_gating;
 mod laws_lifting;
 mod laws_opening;
+mod laws_saving;
 mod laws_scanning;
 mod laws_tracing;
 
@@ -25,7 +26,8 @@ pub use laws_answers::{
     words_are_compared,
 };
 pub use laws_composing::{
-    knowledge_is_forgotten, registers_are_settled, rounds_are_ended, steps_follow, steps_forget,
+    knowledge_is_forgotten, registers_are_settled, rounds_are_ended, rows_beside_are_written,
+    steps_follow, steps_forget,
 };
 pub use laws_copying::{
     announces_are_cleared, copies_are_published, copies_have_room, crossings_are_stored,
@@ -34,7 +36,7 @@ pub use laws_copying::{
     words_are_copied,
 };
 pub use laws_fields::{
-    mutators_are_shown, mutators_end, mutators_learn, mutators_step, mutators_store,
+    mutators_are_shown, mutators_end, mutators_learn, mutators_snap, mutators_step, mutators_store,
     mutators_store_on_board, words_are_loaded,
 };
 pub use laws_flipping::{
@@ -43,6 +45,14 @@ pub use laws_flipping::{
 pub use laws_gating::{epochs_are_taken, gates_are_passed, gates_fit, passages_are_made_ready};
 pub use laws_lifting::{standing_is_ready, steps_are_lifted};
 pub use laws_opening::opening_stands;
+pub use laws_saving::{
+    askers_are_alone, checkpoints_end, flippers_are_spared, flips_are_spared, frozen_heaps_show,
+    new_pages_are_spared, pages_are_saved, passages_are_spared, passed_rounds_have_saved,
+    requests_are_spared, rounds_follow, rows_are_spared, savers_change, savers_forget,
+    savers_learn, saves_are_read, saves_change_alone, saves_open, says_are_found, snappers_step,
+    snaps_are_kept, stock_pages_are_marked, stores_are_spared, tracing_is_spared,
+    words_read_are_frozen, written_pages_are_open,
+};
 pub use laws_scanning::{
     claims_are_made_ready, fields_are_scanned, pages_are_claimed, pages_are_opened,
     records_are_scanned,

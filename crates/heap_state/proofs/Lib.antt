@@ -7,3 +7,5 @@ pub mod Holds
 pub mod Workers
 pub mod Worked
 pub mod Flipped
+pub mod Requested
+pub mod Saving

@@ -3,4 +3,5 @@ pub mod Stores
 pub mod Spelled
 pub mod LaidOut
 pub mod Seen
+pub mod Saves
 pub mod Writing

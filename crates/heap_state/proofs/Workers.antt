@@ -1,3 +1,4 @@
 pub mod Teams
 pub mod Frames
 pub mod Idle
+pub mod Posts

@@ -1,2 +1,4 @@
 pub mod Worked
 pub mod Flipped
+pub mod Requested
+pub mod Saving

@@ -7,5 +7,6 @@ pub mod Configuration
 pub mod Kept
 pub mod Sums
 pub mod Cycles
+pub mod Saving
 pub mod Examples
 pub mod Theorems

@@ -1,4 +1,5 @@
 pub mod Rows
+pub mod Saves
 pub mod Workers
 pub mod Standing
 pub mod Examples

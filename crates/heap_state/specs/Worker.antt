@@ -7,13 +7,14 @@ use Rattle.space_map.specs.declared.page_word.PageWord.{PageWord}
 -- ---- at the gate
 
 -- Where a worker stands at the gate: a scanner never enters; a mutator is outside, runs, is stopped, is stopped and
--- flips because it asked for so many pages, or is gone.
+-- flips because it asked for so many pages, is stopped and begins a checkpoint, or is gone.
 pub data Post : Type 0 where
   Scanner : Post
   Outside : Post
   Running : Post
   Stopped : Post
   Flipping : (asked : ℕ) → Post
+  Snapping : Post
   Gone : Post
 
 abbrev pub is_mutator : Post → Bool
@@ -25,6 +26,7 @@ abbrev pub is_live : Post → Bool
 is_live Running = true
 is_live Stopped = true
 is_live (Flipping asked) = true
+is_live Snapping = true
 is_live _ = false
 
 abbrev pub is_running : Post → Bool
@@ -35,6 +37,12 @@ abbrev pub is_flipper : Post → Bool
 is_flipper (Flipping asked) = true
 is_flipper _ = false
 
+-- the request is its own: it flips or begins a checkpoint
+abbrev pub is_asking : Post → Bool
+is_asking (Flipping asked) = true
+is_asking Snapping = true
+is_asking _ = false
+
 abbrev pub is_gone : Post → Bool
 is_gone Gone = true
 is_gone _ = false
@@ -44,6 +52,8 @@ pub data Passage : Type 0 where
   Enter : Passage
   Park : Passage
   Request : (asked : ℕ) → Passage
+  RequestSnap : Passage
+  Clear : Passage
   Forwarded : Passage
   Resume : Passage
   Leave : Passage

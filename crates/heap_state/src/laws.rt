@@ -1,10 +1,11 @@
 //! What holds of all tables and configurations. Each function here does nothing: its contract is what is proved.
 
 ghost use Rattle.std.specs.Prelude.{ℕ};
-ghost use Rattle.heap_state.specs.Theorems.Rows.{ReadsRows, SpellsShared, StoresGate, StoresTraced, StoresArea, StoresSize, StoresPage, StoresCross, StoresHeapWord, StoresAnnounce, StoresEntry, WritesTables, MemoryFollows};
+ghost use Rattle.heap_state.specs.Theorems.Rows.{ReadsRows, SpellsShared, StoresGate, StoresTraced, StoresArea, StoresSize, StoresPage, StoresCross, StoresHeapWord, StoresAnnounce, StoresBeside, StoresEntry, WritesTables, MemoryFollows};
+ghost use Rattle.heap_state.specs.Theorems.Saves.{WritesWholeTables};
 ghost use Rattle.heap_state.specs.Theorems.Workers.{ChangesAt, SumsByTerms, TeamsByWorkers, FramesOfWorkers};
 ghost use Rattle.heap_state.specs.Theorems.Standing.{StandingIsSound, RepresentedStands, RepresentedStandsInCycle, QuietStandsStill};
-ghost use Rattle.heap_state.specs.Theorems.Examples.{IsWorkedOut, IsWorkedOutFlipped, TellsBroken};
+ghost use Rattle.heap_state.specs.Theorems.Examples.{IsWorkedOut, IsWorkedOutFlipped, IsWorkedOutRequested, IsWorkedOutSaving, TellsBroken, TellsBrokenSaves};
 
 /// A load of a row's place reads what the decoded table has there.
 pub fn rows_are_read()
@@ -12,7 +13,8 @@ pub fn rows_are_read()
     ensures spelled { SpellsShared }
 {}
 
-/// A store in a row of the table is a change of one part of what the table says, and the table stays one that can be read.
+/// A store in a row of the table is a change of one part of what the table says, and the table stays one that can be read. Of
+/// checkpoints the decoded table shows nothing.
 pub fn rows_change_alone()
     ensures gate { StoresGate }
     ensures traced { StoresTraced }
@@ -22,8 +24,10 @@ pub fn rows_change_alone()
     ensures cross { StoresCross }
     ensures heap_word { StoresHeapWord }
     ensures announce { StoresAnnounce }
+    ensures beside { StoresBeside }
     ensures entry { StoresEntry }
     ensures written { WritesTables }
+    ensures whole { WritesWholeTables }
 {}
 
 /// What the epoch sees of the table after the store of an area word, after that of the old space's size, and after a flip. Its
@@ -68,8 +72,20 @@ pub fn flipped_configuration_stands()
     ensures { IsWorkedOutFlipped }
 {}
 
-/// With a forward to a wrong place no plain state is represented; and neither an open page that leads to an old record
-/// nor a reserve that is one word too small keeps the invariant.
+/// So does one whose mutator has begun a checkpoint and has still to clear the request.
+pub fn requested_configuration_stands()
+    ensures { IsWorkedOutRequested }
+{}
+
+/// In one that is in the midst of a checkpoint, what each step keeps of checkpoints stands, and what the plain heap has kept of then
+/// is shown. Three with words that break a rule don't stand, whatever the heap of then and the workers are.
+pub fn checkpoint_in_progress_stands()
+    ensures stands { IsWorkedOutSaving }
+    ensures broken { TellsBrokenSaves }
+{}
+
+/// With a forward to a wrong place no plain state is represented; and neither an open page that leads to an old record, nor a
+/// reserve that is one word too small, nor a mutator that runs though the request is its own keeps the invariant.
 pub fn broken_configurations_are_told()
     ensures { TellsBroken }
 {}

@@ -57,7 +57,7 @@ most_pages = 64
 
 -- an allocation of so many
 abbrev pub longest_placing : ℕ
-longest_placing = 65 * most_pages + 6
+longest_placing = 66 * most_pages + 6
 
 -- a whole instruction, in a traced epoch
 abbrev pub whole_cost : ℕ → ℕ

@@ -4,7 +4,7 @@ use Rattle.plain_state.specs.State.{Plain}
 use Rattle.atom_store.specs.declared.step.Step.{Step}
 use Rattle.atom_store.specs.Step.{words_after, reply_of}
 use Rattle.space_map.specs.declared.spaces.TheConstants.{FEWEST_PAGES}
-use Rattle.space_map.specs.Spaces.{IsPageCount}
+use Rattle.space_map.specs.Spaces.{IsPageCount, without_checkpoints}
 use Rattle.heap_state.specs.Configuration.{Configuration, table}
 use Rattle.heap_state.specs.Memory.Table.{Table, table_of}
 use Rattle.gc_worker.specs.declared.task.Task.{Task}
@@ -70,4 +70,4 @@ LoneTasksBegin = (h : Heap) (task : Task) → IsLone h
 -- a heap of one mutator without scanners opens so
 abbrev pub LoneHeapsOpen : Type 0
 LoneHeapsOpen = (n least : ℕ) → IsPageCount n → FEWEST_PAGES ≤ least → least ≤ n
-    → IsLone (opening_heap n least 1 0) × (potential (opening_heap n least 1 0) < most_steps n)
+    → IsLone (opening_heap (without_checkpoints n) least 1 0) × (potential (opening_heap (without_checkpoints n) least 1 0) < most_steps n)

@@ -8,7 +8,7 @@ use Rattle.alloc_end.specs.Place.{Placing}
 use Rattle.forwarding.specs.declared.evac_stage.EvacStage.{EvacStage}
 use Rattle.forwarding.specs.declared.evac_stage.EvacStage.TheVariants as evac_stage
 use Rattle.gate_core.specs.declared.passage.Passage.{Passage}
-use Rattle.gate_core.specs.declared.passage.Passage.TheVariants.{Look, Attach, Park, Request, Resume, Forwarded, Leave}
+use Rattle.gate_core.specs.declared.passage.Passage.TheVariants.{Look, Attach, Park, Request, Resume, Forwarded, Leave, Clear}
 use Rattle.gate_core.specs.declared.gate_stage.GateStage.{GateStage}
 use Rattle.gate_core.specs.declared.gate_stage.GateStage.TheVariants.{Loads, Exchanges, Ended}
 use Rattle.heap_state.specs.Configuration.{table}
@@ -52,6 +52,7 @@ PassageStands t x Request after = ⊤
 PassageStands t x (Resume epoch) after = GoesOnPlacing t.gate.epoch x.begun after
 PassageStands t x Forwarded after = GoesOnPlacing t.gate.epoch x.begun after
 PassageStands t x Leave after = ⊥
+PassageStands t x Clear after = ⊥
 
 -- the field's word, or the board's, is as it was read
 abbrev pub AccessStands : Table → Layout → AccessStage → Type 0

@@ -6,7 +6,7 @@ use Rattle.alloc_end.specs.declared.place_stage.PlaceStage.TheVariants as place_
 use Rattle.alloc_end.specs.Place as place
 use Rattle.fault_duty.specs.Duty as duty
 use Rattle.gate_core.specs.declared.passage.Passage.{Passage}
-use Rattle.gate_core.specs.declared.passage.Passage.TheVariants.{Look, Attach, Park, Request, Resume, Forwarded, Leave}
+use Rattle.gate_core.specs.declared.passage.Passage.TheVariants.{Look, Attach, Park, Request, Resume, Forwarded, Leave, Clear}
 use Rattle.gate_core.specs.declared.gate_stage.GateStage.{GateStage}
 use Rattle.gate_core.specs.Flip as flip
 use Rattle.gate_core.specs.Gate as gate
@@ -73,6 +73,7 @@ passage_left n later growing due late Forwarded stage = gate.left_at Forwarded s
 passage_left n later growing due late Look stage = 0
 passage_left n later growing due late Park stage = 0
 passage_left n later growing due late Leave stage = 0
+passage_left n later growing due late Clear stage = 0
 
 abbrev pub stage_left : (n size left due : ℕ) (late : Bool) → Held → Stage → ℕ
 stage_left n size left due late x Looks = whole_cost n + due

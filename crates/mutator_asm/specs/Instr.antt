@@ -2,7 +2,7 @@
 use Rattle.std.specs.Prelude.{ℕ, List, [], ◌∷◌, Result, Ok, Err, if◌then◌else◌, codes}
 use Rattle.std.specs.Str.{bytes_eq}
 use Rattle.mutator_asm.specs.declared.instr.Instr.{Instr}
-use Rattle.mutator_asm.specs.declared.instr.Instr.TheVariants.{Li, Mov, Add, Sub, Mul, Div, Rem, Lt, Eq, Jmp, Jz, Jal, Jr, New, Raw, Mix, Ld, St, Cas, Len, Isp, Get, Put, Swap, Out, Halt}
+use Rattle.mutator_asm.specs.declared.instr.Instr.TheVariants.{Li, Mov, Add, Sub, Mul, Div, Rem, Lt, Eq, Jmp, Jz, Jal, Jr, New, Raw, Mix, Ld, St, Cas, Len, Isp, Get, Put, Swap, Out, Snap, Halt}
 use Rattle.mutator_asm.specs.declared.listing.jump.Jump.{Jump}
 use Rattle.mutator_asm.specs.declared.listing.jump.Jump.TheVariants.{Always, IfZero, Link}
 use Rattle.mutator_asm.specs.declared.errors.mistake.Mistake.{Mistake}
@@ -151,5 +151,6 @@ instr_of name operands =
     else (if bytes_eq name (codes "put") then made (λ o. Put o.0 o.1) (operand_register operands)
     else (if bytes_eq name (codes "swap") then made (λ o. Swap o.0 o.1) (register_operand operands)
     else (if bytes_eq name (codes "out") then made Out (one_register operands)
+    else (if bytes_eq name (codes "snap") then made (λ o. Snap) (nothing operands)
     else (if bytes_eq name (codes "halt") then made (λ o. Halt) (nothing operands)
-    else Err UnknownInstr))))))))))))))))))))))
+    else Err UnknownInstr)))))))))))))))))))))))

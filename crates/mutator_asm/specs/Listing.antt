@@ -3,7 +3,7 @@ use Rattle.std.specs.Prelude.{ℕ, ◌+◌, Bool, false, List, [], ◌∷◌, �
 use Rattle.std.specs.Option.{option_map_or}
 use Rattle.std.specs.List.{flat_map, join_with_byte, list_any}
 use Rattle.mutator_asm.specs.declared.instr.Instr.{Instr}
-use Rattle.mutator_asm.specs.declared.instr.Instr.TheVariants.{Li, Mov, Add, Sub, Mul, Div, Rem, Lt, Eq, Jmp, Jz, Jal, Jr, New, Raw, Mix, Ld, St, Cas, Len, Isp, Get, Put, Swap, Out, Halt}
+use Rattle.mutator_asm.specs.declared.instr.Instr.TheVariants.{Li, Mov, Add, Sub, Mul, Div, Rem, Lt, Eq, Jmp, Jz, Jal, Jr, New, Raw, Mix, Ld, St, Cas, Len, Isp, Get, Put, Swap, Out, Snap, Halt}
 use Rattle.mutator_asm.specs.declared.item.Item.{Item}
 use Rattle.mutator_asm.specs.declared.operand.Operand.{Operand}
 use Rattle.mutator_asm.specs.declared.operand.Operand.TheVariants.{Reg, Number}
@@ -71,6 +71,7 @@ instr_tokens (Get d x) = codes "get" ∷ register_token d ∷ operand_token x �
 instr_tokens (Put x a) = codes "put" ∷ operand_token x ∷ register_token a ∷ []
 instr_tokens (Swap d x) = codes "swap" ∷ register_token d ∷ operand_token x ∷ []
 instr_tokens (Out a) = codes "out" ∷ register_token a ∷ []
+instr_tokens Snap = codes "snap" ∷ []
 instr_tokens Halt = codes "halt" ∷ []
 
 -- ---- lines, each by its tokens

@@ -3,7 +3,7 @@ use Rattle.std.specs.Prelude.{ℕ, ◌≤◌, Bool, true, ◌&&◌, List, [], le
 use Rattle.std.specs.List.{list_all}
 use Rattle.plain_state.specs.declared.sizes.TheConstants.{NUMBERS, REGISTERS}
 use Rattle.mutator_asm.specs.declared.instr.Instr.{Instr}
-use Rattle.mutator_asm.specs.declared.instr.Instr.TheVariants.{Li, Mov, Add, Sub, Mul, Div, Rem, Lt, Eq, Jmp, Jz, Jal, Jr, New, Raw, Mix, Ld, St, Cas, Len, Isp, Get, Put, Swap, Out, Halt}
+use Rattle.mutator_asm.specs.declared.instr.Instr.TheVariants.{Li, Mov, Add, Sub, Mul, Div, Rem, Lt, Eq, Jmp, Jz, Jal, Jr, New, Raw, Mix, Ld, St, Cas, Len, Isp, Get, Put, Swap, Out, Snap, Halt}
 use Rattle.mutator_asm.specs.declared.item.Item.{Item}
 use Rattle.mutator_asm.specs.declared.item.TheConstants.{LAST_WORKER, TIMES_MAX}
 use Rattle.mutator_asm.specs.declared.operand.Operand.{Operand}
@@ -57,6 +57,7 @@ is_valid (Get d x) = is_register d && is_operand x
 is_valid (Put x a) = is_operand x && is_register a
 is_valid (Swap d x) = is_register d && is_operand x
 is_valid (Out a) = is_register a
+is_valid Snap = true
 is_valid Halt = true
 
 -- a jump in a section of n instructions leads to one of them or behind the last; of no other

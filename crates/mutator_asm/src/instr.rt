@@ -59,6 +59,8 @@ pub enum Instr {
     Swap(u8, Operand),
     /// `out ra`: prints the number in ra.
     Out(u8),
+    /// `snap`: the board and what it leads to are kept.
+    Snap,
     /// `halt`: the mutator ends.
     Halt,
 }
@@ -108,6 +110,7 @@ impl Instr {
             Instr::Put(..) => "put",
             Instr::Swap(..) => "swap",
             Instr::Out(..) => "out",
+            Instr::Snap => "snap",
             Instr::Halt => "halt",
         }
     }
@@ -143,7 +146,7 @@ impl fmt::Display for Instr {
             Instr::St(a, x, b) => three(f, name, Reg(a), x, Reg(b)),
             Instr::Cas(d, a, x, b, c) => five(f, name, Reg(d), Reg(a), x, Reg(b), Reg(c)),
             Instr::Put(x, a) => two(f, name, x, Reg(a)),
-            Instr::Halt => f.write_str(name),
+            Instr::Snap | Instr::Halt => f.write_str(name),
         }
     }
 }

@@ -9,6 +9,8 @@ mod asserting;
 #[cfg(test)]
 mod atomic_steps;
 #[cfg(test)]
+mod checkpoints;
+#[cfg(test)]
 mod claiming;
 #[cfg(test)]
 mod copying;

@@ -39,6 +39,8 @@ cas reads its operands first|new r1 1/li r2 7/cas r2 r1 0 r0 r2/out r2/ld r1 r1 
 isp tells references|new r1 0/isp r2 r1/out r2/isp r2 r0/out r2/halt|1/0/halt
 put and get have a word of the board|li r1 5/put 15 r1/get r2 15/out r2/get r2 14/out r2/halt|5/0/halt
 swap exchanges|li r1 5/put 3 r1/li r2 6/swap r2 3/out r2/get r4 3/out r4/halt|5/6/halt
+snap goes on|snap/out r0/halt|0/halt
+snap leaves all as it is|new r1 1/li r2 5/st r1 0 r2/put 0 r1/snap/li r2 6/st r1 0 r2/snap/get r3 0/ld r3 r3 0/out r3/halt|6/halt
 ld asks for a reference|new r2 1/ld r1 r0 r2|not a pointer
 st asks for a reference|new r2 1/st r0 r2 r2|not a pointer
 cas asks for a reference|new r2 1/cas r1 r0 r2 r0 r0|not a pointer

@@ -4,3 +4,4 @@ pub mod Records
 pub mod Named
 pub mod Counts
 pub mod Consistency
+pub mod Checkpoints

@@ -2,4 +2,6 @@ pub mod States
 pub mod Alone
 pub mod Calls
 mod Examples
+pub mod Checkpoints
+pub mod WorkedCheckpoints
 pub mod Orders

@@ -17,7 +17,7 @@ use Rattle.mutator_asm.specs.declared.instr.Instr.TheVariants as instrs
 use Rattle.mutator_asm.specs.declared.operand.Operand.{Operand}
 use Rattle.mutator_asm.specs.declared.operand.Operand.TheVariants as operands
 use Rattle.plain_heap.specs.declared.action.Action.{Action}
-use Rattle.plain_heap.specs.declared.action.Action.TheVariants.{Sets, Jumps, Links, Prints, Makes, Measures, Loads, Stores, Exchanges, Gets, Puts, Swaps}
+use Rattle.plain_heap.specs.declared.action.Action.TheVariants.{Sets, Jumps, Links, Prints, Makes, Measures, Loads, Stores, Exchanges, Gets, Puts, Swaps, Snaps}
 
 -- the first end of two steps is the end of both
 infixl 10 ◌>>=◌
@@ -161,4 +161,5 @@ action k (instrs.Swap d x) = do
 action k (instrs.Out a) = do
   n ← as_number (register k a)
   prints k n
+action k instrs.Snap = Ok Snaps
 action k instrs.Halt = Err Halt

@@ -18,7 +18,7 @@ leaves_board (instrs.Put x a) = false
 leaves_board (instrs.Swap d x) = false
 leaves_board _ = true
 
--- no instruction of the program names the board, which is all that mutators share
+-- no instruction of the program names the board, by which alone mutators see each other
 abbrev pub shares_nothing : List (List Instr) → Bool
 shares_nothing code = list_all (list_all leaves_board) code
 

@@ -10,10 +10,10 @@ use Rattle.plain_state.specs.declared.value.Value.{Value}
 use Rattle.plain_state.specs.declared.value.Value.TheVariants.{Number, Reference}
 use Rattle.plain_state.specs.State.{Record, Heap, Mutator, record_of, serial_of}
 pub use Rattle.plain_state.specs.Writing.{zeros}
-use Rattle.plain_state.specs.Writing.{stored, with_board, gained}
+use Rattle.plain_state.specs.Writing.{stored, with_board, gained, took}
 use Rattle.mutator_asm.specs.declared.instr.Instr.{Instr}
 use Rattle.plain_heap.specs.declared.action.Action.{Action}
-use Rattle.plain_heap.specs.declared.action.Action.TheVariants.{Sets, Jumps, Links, Prints, Makes, Measures, Loads, Stores, Exchanges, Gets, Puts, Swaps}
+use Rattle.plain_heap.specs.declared.action.Action.TheVariants.{Sets, Jumps, Links, Prints, Makes, Measures, Loads, Stores, Exchanges, Gets, Puts, Swaps, Snaps}
 use Rattle.plain_heap.specs.Action.{◌>>=◌, action, are_same, next_of, in_record}
 
 -- what an instruction leaves: the heap, and the mutator that executed it
@@ -103,6 +103,7 @@ performed m heap k (Exchanges d i x expected new) = do
 performed m heap k (Gets d x) = Ok (loads heap k d (board_word heap x))
 performed m heap k (Puts x v) = Ok (record { heap = with_board heap x v; mutator = went_on k })
 performed m heap k (Swaps d x v) = Ok (loads (with_board heap x v) k d (board_word heap x))
+performed m heap k Snaps = Ok (record { heap = took heap; mutator = went_on k })
 
 unfoldable pub call : ℕ → Heap → Mutator → Instr → Result After End
 call m heap k instr = do

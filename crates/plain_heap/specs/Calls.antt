@@ -1,12 +1,14 @@
--- Laws of one instruction: it leaves the other mutators as they were, and makes the record whose room is counted.
+-- Laws of one instruction: it leaves the other mutators as they were, makes the record whose room is counted, and begins a checkpoint
+-- or leaves what is kept of the last one.
 use Rattle.std.specs.Prelude.{◌≡◌, ◌≢◌, ℕ, List, length, Some, None, Result, Ok, slice_get}
 use Rattle.std.specs.Option.{option_map}
 use Rattle.plain_state.specs.declared.end.End.{End}
 use Rattle.plain_state.specs.declared.kind.Kind.{Kind}
 use Rattle.plain_state.specs.State.{Record, Heap, Mutator, Plain, serial_of}
+use Rattle.plain_state.specs.Writing.{took}
 use Rattle.mutator_asm.specs.declared.instr.Instr.{Instr}
 use Rattle.plain_heap.specs.declared.action.Action.{Action}
-use Rattle.plain_heap.specs.declared.action.Action.TheVariants.{Makes}
+use Rattle.plain_heap.specs.declared.action.Action.TheVariants.{Makes, Snaps}
 use Rattle.plain_heap.specs.Action.{action}
 use Rattle.plain_heap.specs.Call.{After, allocated, zeros, call}
 use Rattle.plain_heap.specs.Step.{fetch, settled, new_record, pages_of, asked_if}
@@ -50,3 +52,20 @@ ElseNoneIsMade = (m j : ℕ) (heap : Heap) (k : Mutator) (instr : Instr) (after 
 abbrev pub AsksForNewRecord : Type 0
 AsksForNewRecord = (code : List (List Instr)) (turns m : ℕ) (k : Mutator) (instr : Instr) → fetch code turns m k ≡ Ok instr
     → asked_if code turns m k None ≡ option_map pages_of (new_record k instr)
+
+-- ---- checkpoints
+
+-- the second heap has as many checkpoints as the first, and keeps the same one
+pub record KeepsCheckpoint (heap next : Heap) : Type 0 where
+  pub snaps : next.snaps ≡ heap.snaps
+  pub snapped : next.snapped ≡ heap.snapped
+
+-- an action to begin one does this alone to the heap, and any other keeps what there is
+abbrev pub LeavesCheckpoint : Result Action End → (heap next : Heap) → Type 0
+LeavesCheckpoint (Ok Snaps) heap next = next ≡ took heap
+LeavesCheckpoint _ heap next = KeepsCheckpoint heap next
+
+-- an instruction whose action it is begins a checkpoint, and no other does
+abbrev pub OnlySnapBegins : Type 0
+OnlySnapBegins = (m : ℕ) (heap : Heap) (k : Mutator) (instr : Instr) (after : After) → call m heap k instr ≡ Ok after
+    → LeavesCheckpoint (action k instr) heap after.heap

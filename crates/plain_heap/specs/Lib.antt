@@ -7,6 +7,8 @@ pub mod Records
 pub mod Memory
 pub mod Order
 pub mod Print
+pub mod Checkpoint
+pub mod WorkedCheckpoint
 pub mod Alone
 pub mod Consistent
 pub mod Stores

@@ -4,15 +4,16 @@ use Rattle.plain_state.specs.declared.end.End.{End}
 use Rattle.plain_state.specs.State.{Heap, Mutator, Plain}
 use Rattle.mutator_asm.specs.declared.instr.Instr.{Instr}
 use Rattle.plain_heap.specs.declared.action.Action.{Action}
-use Rattle.plain_heap.specs.declared.action.Action.TheVariants.{Prints, Makes}
+use Rattle.plain_heap.specs.declared.action.Action.TheVariants.{Prints, Makes, Snaps}
 use Rattle.plain_heap.specs.Action.{action}
 use Rattle.plain_heap.specs.Call.{call}
 use Rattle.plain_heap.specs.Step.{fetch}
 
--- to make a record or to print a number takes memory
+-- to make a record, to print a number or to begin a checkpoint takes memory
 abbrev pub takes_memory : Result Action End → Bool
 takes_memory (Ok (Makes kind d n)) = true
 takes_memory (Ok (Prints n)) = true
+takes_memory (Ok Snaps) = true
 takes_memory _ = false
 
 -- the next instruction of mutator m, which is k, takes memory, and is no end

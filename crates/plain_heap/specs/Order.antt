@@ -6,7 +6,7 @@ use Rattle.plain_state.specs.declared.end.End.{End}
 use Rattle.plain_state.specs.declared.end.End.TheVariants.{HeapFull}
 use Rattle.plain_state.specs.declared.sizes.TheConstants.{REGISTERS, BOARD_WORDS}
 use Rattle.plain_state.specs.declared.value.Value.TheVariants.{Number}
-use Rattle.plain_state.specs.State.{Mutator, Plain}
+use Rattle.plain_state.specs.State.{Mutator, Plain, none_snapped}
 use Rattle.mutator_asm.specs.declared.instr.Instr.{Instr}
 use Rattle.plain_heap.specs.declared.mark.Mark.{Mark}
 use Rattle.plain_heap.specs.declared.mark.Mark.TheVariants.{Step, Flip, Full}
@@ -19,7 +19,7 @@ fresh = record { counter = 0; registers = replicate REGISTERS (Number 0); printe
 -- the state in which a program begins
 abbrev pub opening : List (List Instr) → Plain
 opening code = record {
-  heap = record { records = map (λ section. []) code; board = replicate BOARD_WORDS (Number 0) };
+  heap = record { records = map (λ section. []) code; board = replicate BOARD_WORDS (Number 0); snaps = 0; snapped = none_snapped };
   mutators = map (λ section. fresh) code;
 }
 

@@ -30,4 +30,6 @@ pub enum Action {
     Puts(u64, Value),
     /// A register takes a word of the board, which takes a value.
     Swaps(u8, u64, Value),
+    /// A checkpoint is begun: the board and all records are kept as they are.
+    Snaps,
 }

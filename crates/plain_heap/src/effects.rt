@@ -63,6 +63,10 @@ pub fn perform(
             heap.set_board(x, value);
             mutator.load(d, old);
         }
+        Action::Snaps => {
+            heap.snap(alloc)?;
+            mutator.go_on();
+        }
     }
     Ok(())
 }

@@ -1,22 +1,27 @@
 //! The plain heap, which never moves or frees a record.
 
+pub mod checkpoint;
 pub mod record;
 pub mod record_list;
 
 ghost use Rattle.std.specs.Prelude.{◌≡◌, ◌<◌, ◌+◌, [], length, IfOk, IfSome, IsOk, MatchResult, OnOk, OnErr, option_copied, replicate};
 ghost use Rattle.plain_state.specs.declared.value.Value.TheVariants.{Number};
 
+use crate::heap::checkpoint::PlainCheckpoint;
 use crate::heap::record::PlainRecord;
 use crate::heap::record_list::RecordList;
-use plain_state::{BOARD_WORDS, End, Identity, Kind, NoMemory, Value};
+use plain_state::{BOARD_WORDS, End, Identity, Kind, MOST_CHECKPOINTS, NoMemory, Value};
 use std::alloc::Global;
 use std::marker::Model;
 
-/// The records of each mutator, and the board. Contracts see it so.
+/// The records of each mutator, and the board; how many checkpoints were begun, and the last of these.
+/// Contracts see it so.
 #[derive(Debug, Drop)]
 pub struct PlainHeap {
     records: Vec<RecordList>,
     board: [Value; BOARD_WORDS],
+    snaps: u32,
+    snapped: PlainCheckpoint,
 }
 
 impl Model for PlainHeap {
@@ -26,20 +31,29 @@ impl Model for PlainHeap {
 
     ghost Value = { Heap };
 
-    ghost view = { λ h. record { records = h.records.items; board = h.board } };
+    ghost view = { λ h. record {
+      records = h.records.items;
+      board = h.board;
+      snaps = h.snaps;
+      snapped = h.snapped;
+    } };
 
     ghost invariant = { λ h. length h.board ≡ BOARD_WORDS };
 }
 
 impl PlainHeap {
-    ghost use Rattle.plain_state.specs.State.{record_of, serial_of};
-    ghost use Rattle.plain_state.specs.Writing.{stored, with_board, gained};
+    ghost use Rattle.plain_state.specs.State.{none_snapped, record_of, serial_of};
+    ghost use Rattle.plain_state.specs.Writing.{stored, with_board, gained, took};
     ghost use Rattle.plain_heap.specs.Call.{values_of, value_in, board_word, store_in, zeros};
 
     /// The heap of so many mutators, none of which has allocated a record.
     pub fn new(alloc: Global, mutators: usize) -> Result<PlainHeap, NoMemory>
-        ensures { IfOk result (λ heap.
-            heap ≡ record { records = replicate mutators []; board = replicate BOARD_WORDS (Number 0) }) }
+        ensures { IfOk result (λ heap. heap ≡ record {
+          records = replicate mutators [];
+          board = replicate BOARD_WORDS (Number 0);
+          snaps = 0;
+          snapped = none_snapped;
+        }) }
     {
         let mut records = Vec::new(alloc);
         for _mutator in 0..mutators {
@@ -48,6 +62,8 @@ impl PlainHeap {
         Ok(PlainHeap {
             records,
             board: [Value::Number(0); BOARD_WORDS],
+            snaps: 0,
+            snapped: PlainCheckpoint::none(alloc),
         })
     }
 
@@ -122,6 +138,20 @@ impl PlainHeap {
         let record = self.record(i).ok_or(End::OutOfRange)?;
         let value = record.admit(x, value)?;
         self.set_word(i, x, value);
+        Ok(())
+    }
+
+    /// Begins a checkpoint, which keeps the board and the records. Once there have been the most, or
+    /// where memory is out, nothing changes.
+    pub fn snap(&mut self, alloc: Global) -> Result<(), NoMemory>
+        ensures ok { OnOk result (self.new ≡ took self.old) }
+        ensures err { OnErr result (self.new ≡ self.old) }
+    {
+        if self.snaps == MOST_CHECKPOINTS {
+            return Ok(());
+        }
+        self.snapped = PlainCheckpoint::of(alloc, &self.board, &self.records)?;
+        self.snaps += 1;
         Ok(())
     }
 

@@ -56,6 +56,7 @@ pub fn action_of(mutator: &PlainMutator, instr: Instr) -> Result<Action, End>
         Instr::Put(x, a) => put(mutator, x, a),
         Instr::Swap(d, x) => swap(mutator, d, x),
         Instr::Out(a) => print(mutator, a),
+        Instr::Snap => Ok(Action::Snaps),
         Instr::Halt => Err(End::Halt),
     }
 }

@@ -1,11 +1,13 @@
 //! What holds of all runs. Each function here does nothing: its contract is what is proved.
 
-ghost use Rattle.plain_heap.specs.Calls.{CallLeavesOthers, CallKeepsCount, CallMakesNewRecord, NewRecordIsMade, ElseNoneIsMade, AsksForNewRecord};
+ghost use Rattle.plain_heap.specs.Calls.{CallLeavesOthers, CallKeepsCount, CallMakesNewRecord, NewRecordIsMade, ElseNoneIsMade, AsksForNewRecord, OnlySnapBegins};
+ghost use Rattle.plain_heap.specs.Checkpoint.{OneCheckpoint, OneText, SameIsPrinted, SameIsReached};
 ghost use Rattle.plain_heap.specs.Consistent.{OpensConsistent, MarksKeepConsistent, RunsStayConsistent};
 ghost use Rattle.plain_heap.specs.Records.{ExchangesFindTheWord, LoadsTakeTheWord, OnlyStoresChangeWords, ShapesStay};
 ghost use Rattle.plain_heap.specs.Order.{StoryIsPlain, StoryHasOpening, StoryHasLastFlip};
 ghost use Rattle.plain_heap.specs.Stores.{OrdersStoreWords, StepsCompareTheLastStore, StepsLoadTheLastStore};
 ghost use Rattle.plain_heap.specs.Alone.{AlwaysTheSame, EndsAlone};
+ghost use Rattle.plain_heap.specs.WorkedCheckpoint.{ArePrinted};
 
 /// In a program without `get`, `put` and `swap`, whatever the order, each mutator has printed the
 /// first of the numbers that it prints alone, and all of them where it has its end and that isn't
@@ -71,4 +73,31 @@ pub fn steps_find_the_last_store()
 /// An instruction leaves each record there, with its kind and its length.
 pub fn shapes_stay()
     ensures { ShapesStay }
+{}
+
+/// An instruction whose action it is to begin a checkpoint changes nothing else of the heap. Any other leaves
+/// as many checkpoints as there were, and what the last one keeps.
+pub fn only_snap_begins_checkpoints()
+    ensures { OnlySnapBegins }
+{}
+
+/// What is kept of a checkpoint has one board and one list of the records that the board leads to, and
+/// one text is printed of it.
+pub fn checkpoints_have_one_text()
+    ensures checkpoint { OneCheckpoint }
+    ensures text { OneText }
+{}
+
+/// What is printed of a checkpoint doesn't depend on records to which its board doesn't lead: if two
+/// boards are the same, and so is each record to which the first one leads, then the other leads to the
+/// same records, and the same is printed.
+pub fn only_reached_records_are_printed()
+    ensures reached { SameIsReached }
+    ensures printed { SameIsPrinted }
+{}
+
+/// Checkpoints worked out by hand: none, one with one record, and one with a record of each kind, beside
+/// a record to which the board doesn't lead.
+pub fn worked_checkpoints_are_printed()
+    ensures { ArePrinted }
 {}

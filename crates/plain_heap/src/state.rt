@@ -107,7 +107,7 @@ impl PlainState {
 
 /// A step of mutator m, which executes at most so many instructions. Where the program or the state
 /// has no such mutator, nothing changes; nor where there is no memory for the record or the number
-/// that the step adds.
+/// that the step adds, or for the checkpoint that it begins.
 pub fn plain_step(
     alloc: Global,
     s: &mut PlainState,

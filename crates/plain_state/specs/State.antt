@@ -13,11 +13,19 @@ pub record Record : Type 0 where
   pub kind : Kind
   pub values : List Value
 
+-- what a checkpoint keeps: the board and the records as they were when it began
+pub record Snapped : Type 0 where
+  pub board : List Value
+  pub records : List (List Record)
+
 -- The records of each mutator in the order of their serials, and the board. No record is ever
 -- removed or moved, so the record with serial k of mutator m stands at place k - 1 of list m.
+-- Beside them, how many checkpoints were begun, and the last of these; before the first it is empty.
 pub record Heap : Type 0 where
   pub records : List (List Record)
   pub board : List Value
+  pub snaps : ℕ
+  pub snapped : Snapped
 
 -- what a mutator is between two instructions
 pub record Mutator : Type 0 where
@@ -31,6 +39,10 @@ pub record Mutator : Type 0 where
 pub record Plain : Type 0 where
   pub heap : Heap
   pub mutators : List Mutator
+
+-- the checkpoint that is kept before the first one
+abbrev pub none_snapped : Snapped
+none_snapped = record { board = []; records = [] }
 
 -- the records that a mutator has allocated
 abbrev pub made_by : Heap → ℕ → List Record

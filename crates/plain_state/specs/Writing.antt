@@ -1,10 +1,11 @@
--- The plain heap after a word was stored, or a record was allocated.
-use Rattle.std.specs.Prelude.{ℕ, ◌-◌, List, [], ◌∷◌, ◌++◌, replicate, slice_set}
+-- The plain heap after a word was stored, a record was allocated, or a checkpoint was begun.
+use Rattle.std.specs.Prelude.{ℕ, ◌+◌, ◌-◌, ◌==◌, List, [], ◌∷◌, ◌++◌, if◌then◌else◌, replicate, slice_set}
 use Rattle.plain_state.specs.declared.value.Identity.{Identity}
 use Rattle.plain_state.specs.declared.kind.Kind.{Kind}
+use Rattle.plain_state.specs.declared.sizes.TheConstants.{MOST_CHECKPOINTS}
 use Rattle.plain_state.specs.declared.value.Value.{Value}
 use Rattle.plain_state.specs.declared.value.Value.TheVariants.{Number}
-use Rattle.plain_state.specs.State.{Record, Heap, Plain, made_by}
+use Rattle.plain_state.specs.State.{Record, Snapped, Heap, Plain, made_by}
 
 abbrev pub with_value : Record → ℕ → Value → Record
 with_value r x v = record r { values = slice_set r.values x v }
@@ -30,3 +31,14 @@ zeros kind n = record { kind = kind; values = replicate n (Number 0) }
 -- mutator m has one more record
 abbrev pub gained : Heap → ℕ → Record → Heap
 gained heap m r = with_records heap m (made_by heap m ++ r ∷ [])
+
+-- the board and the records as they are now
+abbrev pub snapped_now : Heap → Snapped
+snapped_now heap = record { board = heap.board; records = heap.records }
+
+-- One checkpoint more is begun, and the board and the records are kept. Once there have been the most, nothing changes.
+abbrev pub took : Heap → Heap
+took heap = record heap {
+  snaps = if heap.snaps == MOST_CHECKPOINTS then heap.snaps else heap.snaps + 1;
+  snapped = if heap.snaps == MOST_CHECKPOINTS then heap.snapped else snapped_now heap;
+}

@@ -13,5 +13,7 @@ pub use end::End;
 pub use kind::Kind;
 pub use no_memory::NoMemory;
 pub use operation::Operation;
-pub use sizes::{BOARD_WORDS, LONGEST_RECORD, MOST_PRINTED, NUMBERS, PAGE_WORDS, REGISTERS};
+pub use sizes::{
+    BOARD_WORDS, LONGEST_RECORD, MOST_CHECKPOINTS, MOST_PRINTED, NUMBERS, PAGE_WORDS, REGISTERS,
+};
 pub use value::{Identity, Value};

@@ -17,3 +17,6 @@ pub const BOARD_WORDS: usize = 16;
 
 /// The words of a page.
 pub const PAGE_WORDS: usize = 64;
+
+/// The most checkpoints that are begun.
+pub const MOST_CHECKPOINTS: u32 = u32::MAX;

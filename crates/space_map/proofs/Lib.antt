@@ -4,3 +4,5 @@ pub mod AreaWords
 pub mod GateWords
 pub mod Narrowed
 pub mod PageWords
+pub mod SaveWords
+pub mod WholeRows

@@ -3,5 +3,7 @@ pub mod Table
 pub mod AreaWord
 pub mod GateWord
 pub mod PageWord
+pub mod SaveWord
 pub mod TableWords
+pub mod WholeTable
 pub mod Worked

@@ -1,10 +1,15 @@
 -- The two spaces of n pages each and the board after them: where their pages and words lie.
-use Rattle.std.specs.Prelude.{ℕ, ◌+◌, ◌*◌, ◌/◌, ◌%◌, ◌<◌, ◌≤◌, ◌&&◌, Bool, nat_le}
+use Rattle.std.specs.Prelude.{ℕ, ◌+◌, ◌*◌, ◌/◌, ◌%◌, ◌<◌, ◌≤◌, ◌&&◌, Bool, false, nat_le}
 use Rattle.space_map.specs.declared.spaces.TheConstants.{MOST_PAGES, FEWEST_PAGES, PAGE_WORDS}
 
--- the layout of a heap: how many pages a space has
+-- the layout of a heap: how many pages a space has, and whether the table has room for checkpoints
 pub record Layout : Type 0 where
   pub pages : ℕ
+  pub checkpoints : Bool
+
+-- that of so many pages, without room for checkpoints
+abbrev pub without_checkpoints : ℕ → Layout
+without_checkpoints n = record { pages = n; checkpoints = false }
 
 -- a space may have this many pages
 abbrev pub IsPageCount : ℕ → Type 0

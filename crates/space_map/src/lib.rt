@@ -11,6 +11,7 @@ mod crossing;
 mod gate_word;
 mod laws;
 mod page_word;
+mod save_word;
 mod spaces;
 
 pub use area_word::AreaWord;
@@ -19,9 +20,10 @@ pub use crossing::crossed;
 pub use gate_word::GateWord;
 pub use laws::{
     area_words_are_unambiguous, gate_words_are_unambiguous, page_words_are_unambiguous,
-    rows_lie_apart,
+    rows_lie_apart, save_words_are_unambiguous,
 };
 pub use page_word::PageWord;
+pub use save_word::SaveWord;
 pub use spaces::{
     FEWEST_PAGES, LAST_WORKER, MOST_MUTATORS, MOST_PAGES, MOST_SCANNERS, PAGE_WORDS, Spaces,
 };

@@ -1,6 +1,6 @@
-ghost use Rattle.std.specs.Prelude.{◌≡◌, ◌<◌, ◌≤◌, ◌+◌, ◌*◌, ◌↔◌, IsTrue, IsOk, IfOk};
+ghost use Rattle.std.specs.Prelude.{◌≡◌, ◌<◌, ◌≤◌, ◌+◌, ◌*◌, ◌↔◌, IsTrue, IsOk, IfOk, true, false};
 ghost use Rattle.space_map.specs.Spaces.{IsPageCount, IsInSpace, board_page, first_word, page_of, space_start, to_space};
-ghost use Rattle.space_map.specs.Table.{Gate, Traced, Area, Size, Page, Cross, HeapWord, Announce, IsRow, place_of, table_length};
+ghost use Rattle.space_map.specs.Table.{Gate, Traced, Area, Size, SnapNumber, DoneNumber, Page, Cross, HeapWord, Announce, SaveOf, ImageOf, IsRow, place_of, save_place_of, table_length, whole_length};
 
 use crate::bad_pages::BadPages;
 use std::marker::Model;
@@ -31,15 +31,20 @@ const AREA_START: usize = 4;
 
 const SIZE_START: usize = 12;
 
+const SNAP_PLACE: usize = 14;
+
+const DONE_PLACE: usize = 15;
+
 const PAGE_START: usize = 16;
 
 /// The layout of a heap, which follows from the number of pages in a space: two spaces of so many pages each, then the
-/// board, and a table of all words that workers share.
+/// board, and a table of all words that workers share. If checkpoints can be made, the table has room for what they save.
 ///
-/// An address is a word's number, counted over both spaces and the board.
+/// An address is a word's number, counted over both spaces and the board. Each machine holds a layout, so it is kept small.
 #[derive(Clone, Copy, Debug, PartialEq, Eq)]
 pub struct Spaces {
-    pages: u32,
+    pages: u16,
+    checkpoints: bool,
 }
 
 impl Model for Spaces {
@@ -47,22 +52,45 @@ impl Model for Spaces {
 
     ghost Value = { Layout };
 
-    ghost view = { λ spaces. record { pages = spaces.pages } };
+    ghost view = { λ spaces. record { pages = spaces.pages; checkpoints = spaces.checkpoints } };
 
     ghost invariant = { λ spaces. IsPageCount spaces.pages };
 
-    ghost inverse = { λ layout. record { pages = layout.pages } };
+    ghost inverse = { λ layout. record { pages = layout.pages; checkpoints = layout.checkpoints } };
 }
 
 impl Spaces {
+    /// The layout with so many pages in a space, and no room for checkpoints.
     pub fn new(n: u32) -> Result<Spaces, BadPages>
         ensures pages { IfOk result (λ spaces. spaces.pages ≡ n) }
+        ensures without { IfOk result (λ spaces. spaces.checkpoints ≡ false) }
         ensures refused_exactly_outside { IsOk result ↔ IsPageCount n }
     {
         if n < FEWEST_PAGES || n > MOST_PAGES {
             return Err(BadPages);
         }
-        Ok(Spaces { pages: n })
+        Ok(Spaces {
+            pages: n as u16,
+            checkpoints: false,
+        })
+    }
+
+    /// The same with room for checkpoints.
+    pub fn with_checkpoints(self) -> Spaces
+        ensures { result ≡ record self { checkpoints = true } }
+    {
+        self.known();
+        Spaces {
+            pages: self.pages,
+            checkpoints: true,
+        }
+    }
+
+    /// Whether there is room for checkpoints.
+    pub fn has_checkpoints(self) -> bool
+        ensures { result ≡ self.checkpoints }
+    {
+        self.checkpoints
     }
 
     /// The number of pages in a space.
@@ -70,7 +98,7 @@ impl Spaces {
         ensures pages { result ≡ self.pages }
         ensures in_range { IsPageCount result }
     {
-        self.pages
+        u32::from(self.pages)
     }
 
     /// Tells a proof that the number of pages is one that a space can have. It does nothing when the program runs.
@@ -78,7 +106,7 @@ impl Spaces {
     pub fn known(self)
         ensures { IsPageCount self.pages }
     {
-        prove!(FEWEST_PAGES <= self.pages && self.pages <= MOST_PAGES);
+        prove!(FEWEST_PAGES <= self.pages() && self.pages() <= MOST_PAGES);
     }
 
     pub fn page_of(self, addr: u32) -> u32
@@ -107,7 +135,7 @@ impl Spaces {
         requires { space < 2 }
         ensures { result ≡ space_start self.pages space }
     {
-        PAGE_WORDS * (self.pages * u32::from(space))
+        PAGE_WORDS * (self.pages() * u32::from(space))
     }
 
     /// Whether the word is one of the space's own. The board is in neither space.
@@ -118,25 +146,36 @@ impl Spaces {
             return false;
         }
         let start = self.space_start(space);
-        start <= addr && addr < start + PAGE_WORDS * self.pages
+        start <= addr && addr < start + PAGE_WORDS * self.pages()
     }
 
     /// The page after both spaces, of which 16 words are used.
     pub fn board_page(self) -> u32
         ensures { result ≡ board_page self.pages }
     {
-        2 * self.pages
+        2 * self.pages()
     }
 }
 
 /// The length of the table, and the place of each row.
-#[tactic(auto, unfolding(crate::specs::Table::place_of))]
+#[tactic(auto, unfolding(crate::specs::Table::place_of, crate::specs::Table::save_place_of))]
 impl Spaces {
-    /// The number of words in the table.
+    /// The number of words in the table, without room for checkpoints.
     pub fn table_len(self) -> usize
         ensures { result ≡ table_length self.pages }
     {
         self.announce_start() + usize::from(LAST_WORKER) + 1
+    }
+
+    /// The number of words in the table, with the room for checkpoints if there is any.
+    pub fn whole_len(self) -> usize
+        ensures { result ≡ whole_length self }
+    {
+        if self.checkpoints {
+            self.image_start() + (PAGE_WORDS * (self.board_page() + 1)) as usize
+        } else {
+            self.table_len()
+        }
     }
 
     /// The place of the gate word.
@@ -171,6 +210,22 @@ impl Spaces {
         ensures in_table { result < table_length self.pages }
     {
         SIZE_START + usize::from(space)
+    }
+
+    /// The place of the number of the last checkpoint that was begun.
+    pub fn snap_place(self) -> usize
+        ensures place { result ≡ place_of self.pages SnapNumber }
+        ensures in_table { result < table_length self.pages }
+    {
+        SNAP_PLACE
+    }
+
+    /// The place of the number of the last checkpoint that was finished.
+    pub fn done_place(self) -> usize
+        ensures place { result ≡ place_of self.pages DoneNumber }
+        ensures in_table { result < table_length self.pages }
+    {
+        DONE_PLACE
     }
 
     /// The place of a page's word. The board has one too.
@@ -209,6 +264,26 @@ impl Spaces {
         self.announce_start() + usize::from(k)
     }
 
+    /// The place of the word that says whether a page is saved. The board has one too.
+    pub fn save_place(self, page: u32) -> usize
+        requires room { self.checkpoints ≡ true }
+        requires page { page ≤ board_page self.pages }
+        ensures place { result ≡ save_place_of self.pages (SaveOf page) }
+        ensures in_table { result < whole_length self }
+    {
+        self.table_len() + page as usize
+    }
+
+    /// The place in which a heap word, or a word of the board's page, is saved.
+    pub fn image_place(self, addr: u32) -> usize
+        requires room { self.checkpoints ≡ true }
+        requires row { IsRow self.pages (HeapWord addr) }
+        ensures place { result ≡ save_place_of self.pages (ImageOf addr) }
+        ensures in_table { result < whole_length self }
+    {
+        self.image_start() + addr as usize
+    }
+
     // Each family of rows begins where the one before it ends.
 
     fn cross_start(self) -> usize
@@ -227,5 +302,11 @@ impl Spaces {
         ensures { result ≡ 81 + 132 * self.pages }
     {
         self.word_start() + (PAGE_WORDS * (self.board_page() + 1)) as usize
+    }
+
+    fn image_start(self) -> usize
+        ensures { result ≡ 106 + 134 * self.pages }
+    {
+        self.table_len() + self.board_page() as usize + 1
     }
 }

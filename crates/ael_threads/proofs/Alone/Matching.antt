@@ -1,22 +1,21 @@
 -- Two states in which mutator m is the same, which shares nothing: a step of it, and one of another in one of the states.
-use Rattle.std.proofs.Common.{◌≡◌, ◌≢◌, ℕ, ◌<◌, ◌⊎◌, inl, inr, true, List, [], length, replicate, Some, Result, Ok, Err, slice_get, slice_set, refl, ap, sym, ◌∙◌, subst, length-set}
+use Rattle.std.proofs.Common.{◌≡◌, ◌≢◌, ℕ, ◌<◌, ◌⊎◌, inl, inr, true, List, [], length, replicate, Some, Result, Ok, Err, slice_get, slice_set, get_or, refl, ap, sym, ◌∙◌, subst, length-set}
 use Rattle.std.specs.List.{All}
 use Rattle.std.specs.Result.{IfOk}
 use Rattle.std.proofs.lemmas.Bool.{cases_eq}
-use Rattle.std.proofs.lemmas.List.{length-replicate, get_or-set_same, get_or-set_other, set-get_or}
+use Rattle.std.proofs.lemmas.List.{length-replicate, get_or-set_same, get_or-set_other}
 use Rattle.std.proofs.lemmas.List.Elements.{All-nil, All-replicate}
 use Rattle.std.proofs.lemmas.Option.{slice_get_within}
 use Rattle.plain_state.specs.declared.end.End.{End}
 use Rattle.plain_state.specs.declared.value.Value.{Value}
-use Rattle.plain_state.specs.State.{Record, Mutator, Plain, made_by}
-use Rattle.plain_state.specs.Writing.{with_records}
+use Rattle.plain_state.specs.State.{Record, Mutator, Plain, made_by, none_snapped}
 use Rattle.plain_state.proofs.Lists.{set-found, slice_get-replicate, slice_get-set_other, slice_get-set_same}
 use Rattle.mutator_asm.specs.declared.instr.Instr.{Instr}
 use Rattle.plain_heap.specs.Alone.{leaves_board}
 use Rattle.plain_heap.specs.Call.{After, call}
 use Rattle.plain_heap.specs.Step.{ended, settled}
-use Rattle.plain_heap.proofs.Alone.Alike.{GoAlike, Same, call-alike}
-use Rattle.plain_heap.proofs.Alone.Apart.{moved}
+use Rattle.plain_heap.proofs.Alone.Alike.{GoAlike, HasRecords, Same, call-alike, unchanged}
+use Rattle.plain_heap.proofs.Alone.Apart.{IsMoved}
 use Rattle.plain_heap.proofs.Alone.Owned.{AllOf, LeadsToOwn, OwnsRecords, read_all}
 use Rattle.ael_threads.proofs.Alone.Sparing.{AllElse, IsElse, IsSpared, Spares, call-spares}
 
@@ -76,38 +75,40 @@ module _ (m : ℕ) (p u : Plain) (same : Matches m p u) (k : Mutator) (is : slic
   own = record { registers = same.registers k is; words = same.words }
 
   -- in both states it becomes this, with these records
-  moves : (records : List Record) (next : Mutator) → OwnsRecords m records next → Matches m (moved p m records next) (moved u m records next)
-  moves records next its =
+  comes : (p_after u_after : Plain) (records : List Record) (next : Mutator) → IsMoved p m records next p_after → IsMoved u m records next u_after → OwnsRecords m records next → Matches m p_after u_after
+  comes p_after u_after records next e f its =
       let within : m < length p.mutators = slice_get_within p.mutators m k is in
       let within_there : m < length u.mutators = slice_get_within u.mutators m k is_there in
-      let made : made_by (with_records p.heap m records) m ≡ records = get_or-set_same p.heap.records m records [] (subst (λ n. m < n) (sym same.as_many) within) in
-      let made_there : made_by (with_records u.heap m records) m ≡ records = get_or-set_same u.heap.records m records [] (subst (λ n. m < n) (sym same.as_many_there) within_there) in
+      let made : made_by p_after.heap m ≡ records =
+      ap (λ rs. get_or rs m []) e.heap.records_are ∙ get_or-set_same p.heap.records m records [] (subst (λ n. m < n) (sym same.as_many) within) in
+      let made_there : made_by u_after.heap m ≡ records =
+      ap (λ rs. get_or rs m []) f.heap.records_are ∙ get_or-set_same u.heap.records m records [] (subst (λ n. m < n) (sym same.as_many_there) within_there) in
+      let at_place = λ (j : ℕ). ap (λ ks. slice_get ks j) e.mutators in
       record {
-        mutator = slice_get-set_same u.mutators m next within_there ∙ sym (slice_get-set_same p.mutators m next within);
+        mutator = ap (λ ks. slice_get ks m) f.mutators ∙ slice_get-set_same u.mutators m next within_there ∙ sym (at_place m ∙ slice_get-set_same p.mutators m next within);
         records = made_there ∙ sym made;
-        as_many = length-set p.heap.records m records ∙ same.as_many ∙ sym (length-set p.mutators m next);
-        as_many_there = length-set u.heap.records m records ∙ same.as_many_there ∙ sym (length-set u.mutators m next);
+        as_many = ap length e.heap.records_are ∙ length-set p.heap.records m records ∙ same.as_many ∙ sym (ap length e.mutators ∙ length-set p.mutators m next);
+        as_many_there = ap length f.heap.records_are ∙ length-set u.heap.records m records ∙ same.as_many_there ∙ sym (ap length f.mutators ∙ length-set u.mutators m next);
         words = subst (All (AllOf m)) (sym made) its.words;
-        registers = λ n at. subst (λ (k : Mutator). All (LeadsToOwn m) k.registers) (set-found p.mutators m m next n refl within at) its.registers;
+        registers = λ n at. subst (λ (k : Mutator). All (LeadsToOwn m) k.registers) (set-found p.mutators m m next n refl within (sym (at_place m) ∙ at)) its.registers;
         spared = record {
-          board = same.spared.board;
-          records = λ j else. subst (All (AllElse m)) (sym (get_or-set_other p.heap.records m j records [] else)) (same.spared.records j else);
+          board = subst (All (IsElse m)) (sym e.heap.board) same.spared.board;
+          records = λ j else. subst (All (AllElse m)) (sym (ap (λ rs. get_or rs j []) e.heap.records_are ∙ get_or-set_other p.heap.records m j records [] else)) (same.spared.records j else);
         };
-        others = λ j n else at. same.others j n else (sym (slice_get-set_other p.mutators m j next else) ∙ at);
+        others = λ j n else at. same.others j n else (sym (at_place j ∙ slice_get-set_other p.mutators m j next else) ∙ at);
       }
-
-  comes : (p_after u_after : Plain) (records : List Record) (next : Mutator) → p_after ≡ moved p m records next → u_after ≡ moved u m records next → OwnsRecords m records next → Matches m p_after u_after
-  comes p_after u_after records next e f its = rw (e, f) (moves records next its)
 
   -- it has its end
   pub own-ends : (why : End) → Matches m (ended p m k why) (ended u m k why)
   own-ends why = comes (ended p m k why) (ended u m k why) (made_by p.heap m) (record k { end = Some why })
-      (rw (set-get_or p.heap.records m []) refl) (rw (← same.records, set-get_or u.heap.records m []) refl) (record { registers = own.registers; words = own.words })
+      (record { heap = unchanged p.heap m; mutators = refl })
+      (record { heap = subst (λ records. HasRecords u.heap m records u.heap) same.records (unchanged u.heap m); mutators = refl })
+      (record { registers = own.registers; words = own.words })
 
   both_settle : (o v : Result After End) → Same (GoAlike m p.heap u.heap) o v → Matches m (settled p m k o) (settled u m k v)
   both_settle (Ok a) (Ok b) alike = comes (settled p m k (Ok a)) (settled u m k (Ok b)) alike.records a.mutator
-      (ap (λ heap. let t : Plain = record { heap = heap; mutators = slice_set p.mutators m a.mutator } in t) alike.heap_is)
-      (rw (alike.mutator_is) (ap (λ heap. let t : Plain = record { heap = heap; mutators = slice_set u.mutators m a.mutator } in t) alike.other_is))
+      (record { heap = alike.heap_is; mutators = refl })
+      (record { heap = alike.other_is; mutators = ap (slice_set u.mutators m) alike.mutator_is })
       alike.own
   both_settle (Ok a) (Err why) alike = absurd alike
   both_settle (Err why) (Ok b) alike = absurd alike
@@ -127,7 +128,7 @@ module _ (m : ℕ) (p u : Plain) (same : Matches m p u) (k : Mutator) (is : slic
 module _ (m n : ℕ) (board : List Value) (k : Mutator) (of : All (LeadsToOwn m) k.registers) (else : All (IsElse m) k.registers) (none : All (IsElse m) board) where
   -- nobody has a record, and all mutators are this
   abbrev begun : Plain
-  begun = record { heap = record { records = replicate n []; board = board }; mutators = replicate n k }
+  begun = record { heap = record { records = replicate n []; board = board; snaps = 0; snapped = none_snapped }; mutators = replicate n k }
 
   pub begins : Matches m begun begun
   begins = record {

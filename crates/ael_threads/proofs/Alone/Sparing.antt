@@ -10,7 +10,6 @@ use Rattle.std.proofs.lemmas.List.{get_or_past, get_or-set_same, get_or-set_othe
 use Rattle.std.proofs.lemmas.List.Elements.{All-nil, All-set, All-push, All-replicate}
 use Rattle.plain_state.specs.declared.end.End.{End}
 use Rattle.plain_state.specs.declared.kind.Kind.{Kind}
-use Rattle.plain_state.specs.declared.kind.Kind.TheVariants.{Fields, Raw}
 use Rattle.plain_state.specs.declared.value.Identity.{Identity}
 use Rattle.plain_state.specs.declared.value.Value.{Value}
 use Rattle.plain_state.specs.declared.value.Value.TheVariants.{Number, Reference}
@@ -20,7 +19,7 @@ use Rattle.plain_state.specs.Writing.{with_board, with_records, with_value, stor
 use Rattle.mutator_asm.specs.declared.instr.Instr.{Instr}
 use Rattle.mutator_asm.specs.declared.instr.Instr.TheVariants as instrs
 use Rattle.plain_heap.specs.declared.action.Action.{Action}
-use Rattle.plain_heap.specs.declared.action.Action.TheVariants.{Sets, Jumps, Links, Prints, Makes, Measures, Loads, Stores, Exchanges, Gets, Puts, Swaps}
+use Rattle.plain_heap.specs.declared.action.Action.TheVariants.{Sets, Jumps, Links, Prints, Makes, Measures, Loads, Stores, Exchanges, Gets, Puts, Swaps, Snaps}
 use Rattle.plain_heap.specs.Action.{◌>>=◌, action, in_record, next_of, register}
 use Rattle.plain_heap.specs.Call.{After, board_word, call, jumped, may_hold, performed, set_register, store_in, value_in, values_of, went_on, zeros}
 use Rattle.plain_heap.proofs.Calls.Named.{Names, Spells, named}
@@ -141,6 +140,7 @@ module _ (m j : ℕ) (other : j ≢ m) (heap : Heap) (k : Mutator) (spared : IsS
   performed_spares (Sets d v) is = loads_so d (next_of k) v is
   performed_spares (Jumps target) is = stays (jumped k target) registers
   performed_spares (Links d target) is = loads_so d target (Number (next_of k)) tt
+  performed_spares Snaps is = record { same = refl; as_many = refl; spared = record { board = spared.board; records = spared.records }; registers = registers }
   performed_spares (Prints n) is = stays (went_on (record k { printed = k.printed ++ n ∷ [] })) registers
   performed_spares (Makes kind d n) is = makes_so kind d n
   performed_spares (Measures d i) is = loads_so d (next_of k) (Number (length (values_of heap i))) tt

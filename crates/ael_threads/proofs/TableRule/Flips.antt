@@ -3,7 +3,7 @@ use Rattle.std.proofs.Common.{◌≡◌, ℕ, Bool, true, false, cond, List, Opt
 use Rattle.std.specs.Prelude.{⊤}
 use Rattle.plain_state.specs.declared.end.End.{End}
 use Rattle.plain_heap.specs.declared.action.Action.{Action}
-use Rattle.plain_heap.specs.declared.action.Action.TheVariants.{Sets, Jumps, Links, Prints, Makes, Measures, Loads, Stores, Exchanges, Gets, Puts, Swaps}
+use Rattle.plain_heap.specs.declared.action.Action.TheVariants.{Sets, Jumps, Links, Prints, Makes, Measures, Loads, Stores, Exchanges, Gets, Puts, Swaps, Snaps}
 use Rattle.plain_heap.specs.Action.{action}
 use Rattle.atom_store.specs.declared.reply.Reply.{Reply}
 use Rattle.atom_store.specs.declared.reply.Reply.TheVariants as replies
@@ -81,6 +81,7 @@ module _ (x : Held) where
   by_action task (Jumps target) = (refl, λ past. absurd past)
   by_action task (Links d target) = (refl, λ past. absurd past)
   by_action task (Prints n) = (refl, λ past. absurd past)
+  by_action task Snaps = (refl, λ past. absurd past)
   by_action task (Makes kind d n) = tt
   by_action task (Measures d i) = tt
   by_action task (Loads d i n) = tt

@@ -17,7 +17,7 @@ use Rattle.mutator_asm.specs.declared.instr.Instr.{Instr}
 use Rattle.mutator_asm.specs.declared.instr.Instr.TheVariants as instrs
 use Rattle.mutator_asm.specs.declared.operand.Operand.TheVariants as operands
 use Rattle.plain_heap.specs.declared.action.Action.{Action}
-use Rattle.plain_heap.specs.declared.action.Action.TheVariants.{Sets, Jumps, Links, Prints, Makes, Measures, Loads, Stores, Exchanges, Gets, Puts, Swaps}
+use Rattle.plain_heap.specs.declared.action.Action.TheVariants.{Sets, Jumps, Links, Prints, Makes, Measures, Loads, Stores, Exchanges, Gets, Puts, Swaps, Snaps}
 use Rattle.plain_heap.specs.Action.{◌>>=◌, action, register}
 use Rattle.plain_heap.specs.Call.{After, board_word, call, may_hold, performed, store_in, value_in}
 use Rattle.plain_heap.specs.Step.{settled}
@@ -37,7 +37,7 @@ use Rattle.gc_worker.proofs.History.Extensions.{after_append}
 use Rattle.ael_threads.specs.Alone.{task_leaves_board}
 use Rattle.ael_threads.specs.Unread.{BoardWordsStay, IsPut, LastPutStands, LeavesWord}
 use Rattle.ael_threads.proofs.Alone.Going.{after_is}
-use Rattle.ael_threads.proofs.Unread.OtherBoards.{KeepBoards, call-same}
+use Rattle.ael_threads.proofs.Unread.OtherBoards.{KeepsBoard, call-same}
 
 -- ---- a call that leaves the word
 
@@ -53,13 +53,13 @@ module _ (p : Plain) (m : ℕ) (k : Mutator) (x : ℕ) where
   abbrev Stays : Plain → Type 0
   Stays q = board_word q.heap x ≡ board_word p.heap x
 
-  settled_stays : (o v : Result After End) → Same (KeepBoards p.heap p.heap.board) o v → Stays (settled p m k o)
-  settled_stays (Ok a) (Ok b) same = ap (λ (board : List Value). get_or board x (Number 0)) same.here
+  settled_stays : (o v : Result After End) → Same (KeepsBoard p.heap) o v → Stays (settled p m k o)
+  settled_stays (Ok a) (Ok b) same = ap (λ (board : List Value). get_or board x (Number 0)) same.board
   settled_stays (Ok a) (Err why) same = absurd same
   settled_stays (Err why) v same = refl
 
   leaving_stays : (task : Task) (did : Did) → IsTrue (task_leaves_board task) → Stays (after_outcome p m k task did)
-  leaving_stays (Calls instr) Done leaves = settled_stays (call m p.heap k instr) _ (call-same m p.heap p.heap.board k instr leaves)
+  leaving_stays (Calls instr) Done leaves = settled_stays (call m p.heap k instr) _ (call-same m p.heap p.heap k instr leaves)
   leaving_stays (Calls instr) (Trap end) leaves = refl
   leaving_stays (Stops end) Done leaves = refl
   leaving_stays (Stops end) (Trap why) leaves = refl
@@ -105,6 +105,7 @@ module _ (m : ℕ) (heap : Heap) (k : Mutator) where
   performed-long (Jumps target) = refl
   performed-long (Links d target) = refl
   performed-long (Prints n) = refl
+  performed-long Snaps = refl
   performed-long (Makes kind d n) = refl
   performed-long (Measures d i) = refl
   performed-long (Loads d i x) = if_ok-bind (λ (a : After). AsLong a.heap) (value_in heap i x) _ (λ v. refl)

@@ -1,8 +1,7 @@
 -- A history in which nobody reads the board: with moves in place of puts it leaves the board alone, and else comes to the same.
 use Rattle.std.proofs.Common.{◌≡◌, ℕ, inl, inr, Bool, true, false, cond, ◌==◌, List, [], ◌∷◌, map, slice_get, refl, ap, sym, ◌∙◌, subst}
 use Rattle.std.specs.Prelude.{IsTrue}
-use Rattle.plain_state.specs.declared.value.Value.{Value}
-use Rattle.plain_state.specs.State.{Plain, made_by}
+use Rattle.plain_state.specs.State.{Heap, Plain, made_by}
 use Rattle.heap_laws.specs.Opening.{opening_plain}
 use Rattle.gc_worker.specs.declared.task.Task.{Task}
 use Rattle.gc_worker.specs.declared.calls.call.Call.{Call}
@@ -13,7 +12,7 @@ use Rattle.ael_threads.specs.Alone.{ComesToTheSame, LeavesBoard, task_leaves_boa
 use Rattle.ael_threads.specs.Histories.{Each}
 use Rattle.ael_threads.specs.Unread.{EachCall, LeavesUnread, UnreadBoardsShareNothing, as_move, task_as_move}
 use Rattle.ael_threads.proofs.Alone.Whole.{lone_calls_come_to_the_same}
-use Rattle.ael_threads.proofs.Unread.OneCall.{reboarded, same_as_move, unread-same}
+use Rattle.ael_threads.proofs.Unread.OneCall.{IsMovedTo, moved_to, same_as_move, unread-same}
 
 -- ---- the history
 
@@ -22,20 +21,20 @@ all_as_moves [] = []
 all_as_moves (Made c ∷ es) = Made (as_move c) ∷ all_as_moves es
 all_as_moves (Exchanged by asked ∷ es) = Exchanged by asked ∷ all_as_moves es
 
--- with moves it is legal from the state with another board on, which stays
-record GoesBeside (p : Plain) (board : List Value) (log : List Entry) : Type 0 where
-  legal : IsLegal (reboarded p board) (all_as_moves log)
-  after : after_all (reboarded p board) (all_as_moves log) ≡ reboarded (after_all p log) board
+-- with moves it is legal from the state with another heap on, and comes to the same with another heap
+record GoesBeside (p : Plain) (other : Heap) (log : List Entry) : Type 0 where
+  legal : IsLegal (moved_to p other) (all_as_moves log)
+  after : IsMovedTo (after_all p log) (after_all (moved_to p other) (all_as_moves log))
 
-goes_beside : (p : Plain) (board : List Value) (log : List Entry) → IsLegal p log → EachCall LeavesUnread log → GoesBeside p board log
-goes_beside p board [] legal unread = record { legal = tt; after = refl }
-goes_beside p board (Made c ∷ es) legal unread =
-    let one = unread-same p board c unread.0 legal.0 in
-    let rest = goes_beside (after_call p c) board es legal.1 unread.1 in record {
-      legal = (one.comes, subst (λ (z : Plain). IsLegal z (all_as_moves es)) (sym one.after) rest.legal);
-      after = ap (λ (z : Plain). after_all z (all_as_moves es)) one.after ∙ rest.after;
+goes_beside : (p : Plain) (other : Heap) (log : List Entry) → IsLegal p log → EachCall LeavesUnread log → GoesBeside p other log
+goes_beside p other [] legal unread = record { legal = tt; after = record { heap = other; is = refl } }
+goes_beside p other (Made c ∷ es) legal unread =
+    let one = unread-same p other c unread.0 legal.0 in
+    let rest = goes_beside (after_call p c) one.after.heap es legal.1 unread.1 in record {
+      legal = (one.comes, subst (λ (z : Plain). IsLegal z (all_as_moves es)) (sym one.after.is) rest.legal);
+      after = record { heap = rest.after.heap; is = ap (λ (z : Plain). after_all z (all_as_moves es)) one.after.is ∙ rest.after.is };
     }
-goes_beside p board (Exchanged by asked ∷ es) legal unread = let rest = goes_beside p board es legal unread in record { legal = rest.legal; after = rest.after }
+goes_beside p other (Exchanged by asked ∷ es) legal unread = let rest = goes_beside p other es legal unread in record { legal = rest.legal; after = rest.after }
 
 -- ---- whose calls they are
 
@@ -66,7 +65,7 @@ moves_leave m (Exchanged by asked ∷ es) unread = moves_leave m es unread
 pub unread_boards_share_nothing : UnreadBoardsShareNothing
 unread_boards_share_nothing mutators log m legal unread =
     let from = opening_plain mutators in
-    let goes = goes_beside from from.heap.board log legal unread in
+    let goes = goes_beside from from.heap log legal unread in
     let leaves = subst (Each LeavesBoard) (sym (calls_as_moves m log)) (moves_leave m log unread) in
     let same : ComesToTheSame from (after_all from (all_as_moves log)) m (map as_move (calls_of m log)) =
     subst (ComesToTheSame from (after_all from (all_as_moves log)) m) (calls_as_moves m log) (lone_calls_come_to_the_same mutators (all_as_moves log) m goes.legal leaves) in
@@ -74,6 +73,6 @@ unread_boards_share_nothing mutators log m legal unread =
       legal = same.legal;
       replies = same.replies;
       last = same.last;
-      mutator = same.mutator ∙ ap (λ (z : Plain). slice_get z.mutators m) goes.after;
-      records = same.records ∙ ap (λ (z : Plain). made_by z.heap m) goes.after;
+      mutator = same.mutator ∙ ap (λ (z : Plain). slice_get z.mutators m) goes.after.is;
+      records = same.records ∙ ap (λ (z : Plain). made_by z.heap m) goes.after.is;
     }

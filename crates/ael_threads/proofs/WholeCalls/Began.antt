@@ -4,7 +4,7 @@ use Rattle.atom_store.specs.declared.reply.Reply.{Reply}
 use Rattle.atom_store.specs.declared.turn.Turn.{Turn}
 use Rattle.atom_store.specs.declared.turn.Turn.TheVariants.{Finished, More}
 use Rattle.gate_core.specs.declared.passage.Passage.{Passage}
-use Rattle.gate_core.specs.declared.passage.Passage.TheVariants.{Attach, Forwarded, Leave, Look, Park, Request, Resume}
+use Rattle.gate_core.specs.declared.passage.Passage.TheVariants.{Attach, Clear, Forwarded, Leave, Look, Park, Request, Resume}
 use Rattle.gate_core.specs.declared.passed.Passed.{Passed}
 use Rattle.gate_core.specs.declared.passed.Passed.TheVariants as passed
 use Rattle.gate_core.specs.Gate as gate
@@ -34,6 +34,7 @@ module _ (x : Held) (none : x.task ≡ None) where
   none_before Look after f call = call
   none_before Attach after f call = call
   none_before Leave after f call = call
+  none_before Clear after f call = call
   none_before Park after f call = none_after after f call
   none_before Request after f call = let some = f.0.executes.task_is in let never = sym none ∙ some in cc
   none_before (Resume epoch) after f call = none_after after f call
@@ -90,6 +91,7 @@ module _ (x : Held) where
   passed_in after Request result task past own call = past
   passed_in after (Resume epoch) result task past own call = past
   passed_in after Forwarded result task past own call = past
+  passed_in after Clear result task past own call = subst IsPastAfter task.1 past
 
   gate_in : (g : gate.Passing) (after : After) (turn : Turn Passed) → FitsTaskBefore x g.passage after → IsPastAfter after → (IsInCall x.stage → IsInPassage g.passage after)
       → IsInCall (turned_gate x g after turn).stage → IsInPassage g.passage after

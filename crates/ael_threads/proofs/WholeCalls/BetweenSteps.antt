@@ -86,9 +86,9 @@ still_live t u v w e f live = subst (λ (z : TableId × Plan). (0 < z.1.spaces.p
 first_fits : (plan : Plan) (k : ℕ) → IsPageCount plan.spaces.pages → k ≤ 23 → Fits plan.spaces.pages plan.mutators k (first_held plan k)
 first_fits plan k size few = by_side (nat_lt k plan.mutators) refl
   where
-    by_side : (b : Bool) → nat_lt k plan.mutators ≡ b → Fits plan.spaces.pages plan.mutators k (if b then fresh_mutator plan.spaces.pages plan.mutators k else fresh_scanner plan.spaces.pages plan.mutators k)
-    by_side true e = mutator_fits plan.spaces.pages plan.mutators k size few e
-    by_side false e = scanner_fits plan.spaces.pages plan.mutators k size few e
+    by_side : (b : Bool) → nat_lt k plan.mutators ≡ b → Fits plan.spaces.pages plan.mutators k (if b then fresh_mutator plan.spaces plan.mutators k else fresh_scanner plan.spaces plan.mutators k)
+    by_side true e = mutator_fits plan.spaces plan.mutators k size few e
+    by_side false e = scanner_fits plan.spaces plan.mutators k size few e
 
 pub fresh_heads : (plan : Plan) (k : ℕ) (x : Held) (v : View) → IsPageCount plan.spaces.pages → k ≤ 23 → x ≡ first_held plan k → v ≡ view plan (hand k (first_held plan k) [] ∷ []) [] [] [] → Heads v.plan x v.hands
 fresh_heads plan k x v size few e is =
@@ -97,7 +97,7 @@ fresh_heads plan k x v size few e is =
 first_end : (plan : Plan) (k : ℕ) → (first_held plan k).account.end ≡ None
 first_end plan k = by_side (nat_lt k plan.mutators)
   where
-    by_side : (b : Bool) → (if b then fresh_mutator plan.spaces.pages plan.mutators k else fresh_scanner plan.spaces.pages plan.mutators k).account.end ≡ None
+    by_side : (b : Bool) → (if b then fresh_mutator plan.spaces plan.mutators k else fresh_scanner plan.spaces plan.mutators k).account.end ≡ None
     by_side true = refl
     by_side false = refl
 
@@ -106,11 +106,11 @@ fresh_shown : (plan : Plan) (k : ℕ) → IsPageCount plan.spaces.pages → plan
     → IsShown (first_plain plan).heap k (first_held plan k) q
 fresh_shown plan k size few all below q its =
     let n = plan.spaces.pages in
-    let h : Heap = opening_heap n n plan.mutators plan.scanners in
-    let so = what_stands_is_so h (first_plain plan) (first_plain plan) (heaps_open n n plan.mutators plan.scanners size size.0 (omega arith) few all) in
+    let h : Heap = opening_heap plan.spaces n plan.mutators plan.scanners in
+    let so = what_stands_is_so h (first_plain plan) (first_plain plan) (heaps_open plan.spaces n plan.mutators plan.scanners size size.0 (omega arith) few all) in
     let same : 0 + k ≡ k = omega arith in
-    let held : held_at h k ≡ counted 0 (first_held plan k) = get_of h.workers k (first_held plan (0 + k)) nobody (worker_at n plan.mutators 0 (crew plan) k below) ∙ (ap (first_held plan) same ∙ sym (uncounted_first n plan.mutators k)) in
-    subst (λ (x : Held). IsShown (first_plain plan).heap k x q) (uncounted_first n plan.mutators k)
+    let held : held_at h k ≡ counted 0 (first_held plan k) = get_of h.workers k (first_held plan (0 + k)) nobody (worker_at plan.spaces plan.mutators 0 (crew plan) k below) ∙ (ap (first_held plan) same ∙ sym (uncounted_first plan.spaces plan.mutators k)) in
+    subst (λ (x : Held). IsShown (first_plain plan).heap k x q) (uncounted_first plan.spaces plan.mutators k)
     (let a : IsAsPlain h (first_plain plan) k (counted 0 (first_held plan k)) q = subst (λ (x : Held). IsAsPlain h (first_plain plan) k x q) held (so.mutators k q its) in
     shown_by h (first_plain plan) k 0 (first_held plan k) q a (a.shows (sym a.account.end ∙ first_end plan k)))
 

@@ -4,7 +4,7 @@ use Rattle.atom_store.specs.declared.reply.Reply.{Reply}
 use Rattle.atom_store.specs.declared.turn.Turn.{Turn}
 use Rattle.atom_store.specs.declared.turn.Turn.TheVariants.{Finished, More}
 use Rattle.gate_core.specs.declared.passage.Passage.{Passage}
-use Rattle.gate_core.specs.declared.passage.Passage.TheVariants.{Attach, Forwarded, Leave, Look, Park, Request, Resume}
+use Rattle.gate_core.specs.declared.passage.Passage.TheVariants.{Attach, Clear, Forwarded, Leave, Look, Park, Request, Resume}
 use Rattle.gate_core.specs.declared.passed.Passed.{Passed}
 use Rattle.gate_core.specs.declared.passed.Passed.TheVariants as passed
 use Rattle.gate_core.specs.Gate as gate
@@ -24,6 +24,7 @@ leaves Park ended = absurd (cc)
 leaves Request ended = absurd (cc)
 leaves (Resume epoch) ended = absurd (cc)
 leaves Forwarded ended = absurd (cc)
+leaves Clear ended = absurd (cc)
 
 -- what is so there is so of who has an end
 pub ended_at : (P : Stage → Type 0) → ((g : gate.Passing) (after : After) → g.passage ≡ Leave → P (Passes g after)) → P Gone → (stage : Stage) → FitsEnd stage true → P stage

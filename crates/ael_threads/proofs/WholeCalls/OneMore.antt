@@ -14,7 +14,7 @@ use Rattle.plain_state.specs.Writing.{zeros}
 use Rattle.plain_state.proofs.Lists.{slice_get-replicate, slice_get-set_same}
 use Rattle.mutator_asm.specs.declared.instr.Instr.{Instr}
 use Rattle.plain_heap.specs.declared.action.Action.{Action}
-use Rattle.plain_heap.specs.declared.action.Action.TheVariants.{Sets, Jumps, Links, Prints, Makes, Measures, Loads, Stores, Exchanges, Gets, Puts, Swaps}
+use Rattle.plain_heap.specs.declared.action.Action.TheVariants.{Sets, Jumps, Links, Prints, Makes, Measures, Loads, Stores, Exchanges, Gets, Puts, Swaps, Snaps}
 use Rattle.plain_heap.specs.Action.{action}
 use Rattle.plain_heap.specs.Call.{After, call, may_hold, performed, store_in, value_in}
 use Rattle.plain_heap.specs.Step.{ended, fetch, settled}
@@ -56,6 +56,7 @@ module _ (m : ℕ) (heap : Heap) (k : Mutator) where
   performed-makers (Jumps target) = refl
   performed-makers (Links d target) = refl
   performed-makers (Prints n) = refl
+  performed-makers Snaps = refl
   performed-makers (Makes kind d n) = length-set heap.records m (made_by heap m ++ zeros kind n ∷ [])
   performed-makers (Measures d i) = refl
   performed-makers (Loads d i x) = if_ok-bind (λ (a : After). AsMany a.heap) (value_in heap i x) _ (λ v. refl)

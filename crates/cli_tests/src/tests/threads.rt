@@ -3,6 +3,7 @@
 pub const ROWS: &str = "\
 the first text on threads|run --cycles|.mutator/li r1 7/new r0 2/st r0 1 r1/ld r2 r0 1/out r2/halt/|0: 7/0: halt/cycles 0 live 0/||0
 a mixed record that is moved|run --pages 4 --cycles|.mutator/mix r0 1 1/li r1 769/st r0 1 r1/st r0 0 r0/raw r4 127/li r4 0/raw r4 127/ld r2 r0 1/out r2/ld r3 r0 0/eq r2 r3 r0/out r2/halt/|0: 769/0: 1/0: halt/cycles 1 live 4/||0
+snaps of two mutators|run|.mutator/new r0 1/put 0 r0/snap/li r1 3/st r0 0 r1/snap/ld r1 r0 0/out r1/halt/.mutator/snap/snap/halt/|0: 3/0: halt/1: halt/||0
 its order can't be told|run --order|.mutator/li r1 7/new r0 2/st r0 1 r1/ld r2 r0 1/out r2/halt/||usage: ael asm, sim, run, concord or bench/|2
 fewer pages than a run may have|run --pages 3|.mutator/halt/||usage: ael asm, sim, run, concord or bench/|2
 a run of a line of no form|run|.mutator/foo/||ael: line 2: error 1: unknown instruction/|1

@@ -48,7 +48,7 @@ impl Duty {
         ensures { self.new ≡ at_stage self.old (round.looked_at_traced self.old hindrance word) }
     {
         if word == u64::from(self.epoch) + 1 {
-            return self.end(RoundEnd::NothingNow(word));
+            return self.end(RoundEnd::Traced);
         }
         let seen = Findings {
             traced: word,

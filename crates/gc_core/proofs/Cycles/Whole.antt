@@ -16,6 +16,7 @@ use Rattle.gc_worker.specs.declared.steps.stepped.Stepped.TheVariants.{Idle, Mov
 use Rattle.gc_worker.specs.History.Needs.{EachFullIs, EachMayCome, being_made, made_since, first_story}
 use Rattle.gc_worker.specs.History.Order.{order_of}
 use Rattle.gc_worker.specs.History.Tally.{aside_in, tally}
+use Rattle.space_map.specs.Spaces.{without_checkpoints}
 use Rattle.gc_worker.specs.Laws.Step.{WorkersStand}
 use Rattle.gc_worker.specs.Plain.Marks.{EachActs, mark_of}
 use Rattle.gc_worker.proofs.Between.Pages.Copied.{copied_was_live}
@@ -75,7 +76,7 @@ module _ (code : List (List Instr)) (items : List Item) (config : Config) (sched
   begins = record {
     steady = steady;
     stands = stands;
-    tallied = (let at = sizes_fit config size in opening_tallied config.limit config.pages (length code) config.scanners (limit_fits config size) at.0 at.1 program.few_sections fits (opening code));
+    tallied = (let at = sizes_fit config size in opening_tallied (without_checkpoints config.limit) config.pages (length code) config.scanners (limit_fits config size) at.0 at.1 program.few_sections fits (opening code));
     legal = tt;
     fetched = λ m. tt;
   }
@@ -83,8 +84,8 @@ module _ (code : List (List Instr)) (items : List Item) (config : Config) (sched
   fills : HasClaimed config.limit s 0
   fills =
       let at = sizes_fit config size in
-      let l = low config.limit config.pages (length code) config.scanners (limit_fits config size) at.0 at.1 program.few_sections fits in
-      let u = in_use config.limit config.pages (length code) config.scanners (limit_fits config size) at.0 at.1 program.few_sections fits in
+      let l = low (without_checkpoints config.limit) config.pages (length code) config.scanners (limit_fits config size) at.0 at.1 program.few_sections fits in
+      let u = in_use (without_checkpoints config.limit) config.pages (length code) config.scanners (limit_fits config size) at.0 at.1 program.few_sections fits in
       record { limit_is = refl; low = omega (arith, l, u) }
 
   -- a core of this program, its history, and the words that were claimed since the last flip

@@ -8,7 +8,7 @@ use Rattle.mutator_asm.specs.declared.item.Item.{Item}
 use Rattle.mutator_asm.specs.Program.{IsWellFormed}
 use Rattle.plain_heap.specs.Order as order
 use Rattle.heap_state.proofs.Puts.{none≢some}
-use Rattle.space_map.specs.Spaces.{IsPageCount}
+use Rattle.space_map.specs.Spaces.{Layout, IsPageCount, without_checkpoints}
 use Rattle.heap_state.specs.Configuration.{table}
 use Rattle.heap_state.specs.Memory.Table.{Table}
 use Rattle.heap_laws.proofs.Opening.Heap.{opening_written}
@@ -41,24 +41,24 @@ pub limit_fits : (config : Config) → IsTrue (has_sizes config) → IsPageCount
 limit_fits config e = let fit = sizes_fit config e in let a = fit.0 in let b = fit.1 in (omega (arith, a, b), fit.2)
 
 -- one worker more is the next one
-pub fresh_push : (n mutators from count : ℕ) → fresh_workers n mutators from (count + 1) ≡ fresh_workers n mutators from count ++ fresh_worker n mutators (from + count) ∷ []
+pub fresh_push : (s : Layout) (mutators from count : ℕ) → fresh_workers s mutators from (count + 1) ≡ fresh_workers s mutators from count ++ fresh_worker s mutators (from + count) ∷ []
 unfolding fresh_workers
-fresh_push n mutators from zero = let e : from + 0 ≡ from = omega arith in rw e refl
-fresh_push n mutators from (suc count) =
+fresh_push s mutators from zero = let e : from + 0 ≡ from = omega arith in rw e refl
+fresh_push s mutators from (suc count) =
     let e : from + 1 + count ≡ from + suc count = omega arith in
     let f : suc count + 1 ≡ suc (count + 1) = omega arith in
-    rw f (ap (λ (ks : List Held). fresh_worker n mutators from ∷ ks) (fresh_push n mutators (from + 1) count ∙ ap (λ (k : ℕ). fresh_workers n mutators (from + 1) count ++ fresh_worker n mutators k ∷ []) e))
+    rw f (ap (λ (ks : List Held). fresh_worker s mutators from ∷ ks) (fresh_push s mutators (from + 1) count ∙ ap (λ (k : ℕ). fresh_workers s mutators (from + 1) count ++ fresh_worker s mutators k ∷ []) e))
 
 module _ (opens : HeapsOpen) (code : List (List Instr)) (items : List Item) (config : Config) (program : IsWellFormed code items) (size : IsTrue (has_sizes config)) (turns : config.turns ≤ 10000000) (few : config.scanners ≤ 8) where
   pub opening_stands : WorkersStand (opening_core code config).heap (order.opening code) (order.opening code)
   opening_stands =
       subst (λ (p : Plain). WorkersStand (opening_core code config).heap p p) (opens_so code)
-      (let fit = sizes_fit config size in opens config.limit config.pages (length code) config.scanners (limit_fits config size) fit.0 fit.1 program.few_sections (let l = program.few_sections in omega (arith, l, few)))
+      (let fit = sizes_fit config size in opens (without_checkpoints config.limit) config.pages (length code) config.scanners (limit_fits config size) fit.0 fit.1 program.few_sections (let l = program.few_sections in omega (arith, l, few)))
 
-  mutator_there : (m : ℕ) → m < length code → held_at (opening_core code config).heap m ≡ fresh_mutator config.limit (length code) m
+  mutator_there : (m : ℕ) → m < length code → held_at (opening_core code config).heap m ≡ fresh_mutator (without_checkpoints config.limit) (length code) m
   mutator_there m l =
-      is_there config.limit (length code) 0 (length code + config.scanners) m m (omega (arith, l)) (omega arith)
-      ∙ ap (λ (b : Bool). if b then fresh_mutator config.limit (length code) m else fresh_scanner config.limit (length code) m) (lt-ltb m (length code) l)
+      is_there (without_checkpoints config.limit) (length code) 0 (length code + config.scanners) m m (omega (arith, l)) (omega arith)
+      ∙ ap (λ (b : Bool). if b then fresh_mutator (without_checkpoints config.limit) (length code) m else fresh_scanner (without_checkpoints config.limit) (length code) m) (lt-ltb m (length code) l)
 
   pub opening_steady : IsSteady (opening_core code config)
   opening_steady = record {
@@ -66,7 +66,7 @@ module _ (opens : HeapsOpen) (code : List (List Instr)) (items : List Item) (con
     sections = refl;
     turns_fit = turns;
     on_task = λ m l. let e = mutator_there m l in record { counted = rw e (omega arith); within = rw e (omega arith); task = λ task t. none≢some (sym (ap (λ (h : Held). h.task) e) ∙ t) };
-    last = scanners_begin_last config.limit config.pages (length code) config.scanners;
+    last = scanners_begin_last (without_checkpoints config.limit) config.pages (length code) config.scanners;
   }
 
   pub opening_lawful : IsLawful (opening_core code config)

@@ -4,7 +4,7 @@ use Rattle.std.specs.Bool.{⊤}
 use Rattle.gate_core.specs.declared.gate_stage.GateStage.{GateStage}
 use Rattle.gate_core.specs.declared.gate_stage.GateStage.TheVariants as gate_stage
 use Rattle.gate_core.specs.declared.passage.Passage.{Passage}
-use Rattle.gate_core.specs.declared.passage.Passage.TheVariants.{Look, Attach, Park, Request, Resume, Forwarded, Leave}
+use Rattle.gate_core.specs.declared.passage.Passage.TheVariants.{Look, Attach, Park, Request, Resume, Forwarded, Leave, Clear}
 use Rattle.gc_worker.specs.declared.access.access_stage.AccessStage.{AccessStage}
 use Rattle.gc_worker.specs.declared.stage.after.After.{After}
 use Rattle.gc_worker.specs.declared.stage.after.After.TheVariants as afters
@@ -27,6 +27,7 @@ IsOnTheWay Attach after = ⊤
 IsOnTheWay Park after = after ≡ afters.Looks
 IsOnTheWay (Resume epoch) after = after ≡ afters.Looks
 IsOnTheWay Forwarded after = after ≡ afters.Looks
+IsOnTheWay Clear after = after ≡ afters.Looks
 IsOnTheWay Look after = ⊥
 IsOnTheWay Request after = ⊥
 IsOnTheWay Leave after = ⊥
@@ -59,6 +60,7 @@ module _ (x : Held) (idle : IsIdle x) where
   by_passage Park after end task = looks_after after task
   by_passage (Resume epoch) after end task = looks_after after task
   by_passage Forwarded after end task = looks_after after task
+  by_passage Clear after end task = task.1
   by_passage Look after end task = absurd task
   by_passage Request after end task = absurd (makes_none task.0)
   by_passage Leave after end task = absurd (unended end)
@@ -97,6 +99,7 @@ module _ (x : Held) (task : Task) where
   same_passage Park after on = refl
   same_passage (Resume epoch) after on = refl
   same_passage Forwarded after on = refl
+  same_passage Clear after on = refl
   same_passage Look after on = refl
   same_passage Request after on = absurd on
   same_passage Leave after on = refl
@@ -147,6 +150,7 @@ module _ (x : Held) (task : Task) where
     task_before Park after e = task_after after e
     task_before (Resume epoch) after e = task_after after e
     task_before Forwarded after e = task_after after e
+    task_before Clear after e = (may, e)
     task_before Look after on = absurd on
     task_before Request after on = absurd on
     task_before Leave after on = absurd on

@@ -15,7 +15,7 @@ use Rattle.alloc_end.specs.declared.run.Run.{Run}
 use Rattle.alloc_end.specs.declared.shortage.Shortage.{Shortage}
 use Rattle.alloc_end.specs.Place as place
 use Rattle.fault_duty.specs.declared.round_end.RoundEnd.{RoundEnd}
-use Rattle.fault_duty.specs.declared.round_end.RoundEnd.TheVariants.{ScanPage, ScanInPlace, Marked, AllLeft, NothingNow}
+use Rattle.fault_duty.specs.declared.round_end.RoundEnd.TheVariants.{ScanPage, ScanInPlace, Marked, Traced, AllLeft, NothingNow}
 use Rattle.fault_duty.specs.Duty as duty
 use Rattle.forwarding.specs.declared.to.To.{To}
 use Rattle.forwarding.specs.Evacuation as evac
@@ -23,7 +23,7 @@ use Rattle.forwarding.specs.Taken as evac_taken
 use Rattle.gate_core.specs.declared.flipped.Flipped.{Flipped}
 use Rattle.gate_core.specs.declared.flipped.Flipped.TheVariants as flipped
 use Rattle.gate_core.specs.declared.passage.Passage.{Passage}
-use Rattle.gate_core.specs.declared.passage.Passage.TheVariants.{Look, Attach, Park, Request, Resume, Forwarded, Leave}
+use Rattle.gate_core.specs.declared.passage.Passage.TheVariants.{Look, Attach, Park, Request, Resume, Forwarded, Leave, Clear}
 use Rattle.gate_core.specs.declared.passed.Passed.{Passed}
 use Rattle.gate_core.specs.declared.passed.Passed.TheVariants as passed
 use Rattle.gate_core.specs.Flip as flip
@@ -35,7 +35,7 @@ use Rattle.page_scan.specs.Taken as scan_taken
 use Rattle.page_slots.specs.declared.opened.Opened.{Opened}
 use Rattle.page_slots.specs.Open as open_page
 use Rattle.plain_heap.specs.declared.action.Action.{Action}
-use Rattle.plain_heap.specs.declared.action.Action.TheVariants.{Sets, Jumps, Links, Prints, Makes, Measures, Loads, Stores, Exchanges, Gets, Puts, Swaps}
+use Rattle.plain_heap.specs.declared.action.Action.TheVariants.{Sets, Jumps, Links, Prints, Makes, Measures, Loads, Stores, Exchanges, Gets, Puts, Swaps, Snaps}
 use Rattle.plain_heap.specs.Action.{action}
 use Rattle.gc_worker.specs.declared.access.Access.{Access}
 use Rattle.gc_worker.specs.declared.access.accessed.Accessed.{Accessed}
@@ -99,6 +99,8 @@ module _ (x : Held) where
   passed_so after Leave (passed.Went word) asks own past = absurd past
   passed_so after Leave (passed.NotYet word) asks own past = (own past, refl)
   passed_so after Look result asks own past = (own past, refl)
+  passed_so after Clear (passed.Went word) asks own past = (past, refl)
+  passed_so after Clear (passed.NotYet word) asks own past = (own past, refl)
 
   passing_by : (g : gate.Passing) (after : After) (turn : Turn Passed) → (g.passage ≡ Request → IsPastAfter after) → (IsPastLook x.stage → IsPastAfter after) → Kept (IsPastAfter after) (turned_gate x g after turn)
   passing_by g after More asks own past = (past, refl)
@@ -146,6 +148,7 @@ module _ (x : Held) where
   served_so d back (ScanPage page) past = (past, refl)
   served_so d back (ScanInPlace page) past = (past, refl)
   served_so d back Marked past = (goes_back_so (record x { epoch = d.epoch }) back past, refl)
+  served_so d back Traced past = (goes_back_so (record x { epoch = d.epoch }) back past, refl)
   served_so d back (NothingNow word) past = (goes_back_so (record x { epoch = d.epoch }) back past, refl)
   served_so d back (AllLeft word) past = absurd past
 
@@ -176,6 +179,7 @@ module _ (x : Held) where
   by_action (Jumps target) = refl
   by_action (Links d target) = refl
   by_action (Prints n) = refl
+  by_action Snaps = refl
   by_action (Makes kind d n) = refl
   by_action (Measures d i) = refl
   by_action (Loads d i n) = refl
@@ -248,6 +252,7 @@ action_not_full task (Sets d v) = tt
 action_not_full task (Jumps target) = tt
 action_not_full task (Links d target) = tt
 action_not_full task (Prints n) = tt
+action_not_full task Snaps = tt
 action_not_full task act = tt
 
 acted_not_full : (task : Task) (r : Result Action End) → StopsRight r → NotFull (told_acted task r)

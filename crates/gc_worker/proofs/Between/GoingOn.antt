@@ -13,7 +13,7 @@ use Rattle.alloc_end.specs.declared.run.Run.{Run}
 use Rattle.alloc_end.specs.declared.shortage.Shortage.{Shortage}
 use Rattle.alloc_end.specs.Place as place
 use Rattle.fault_duty.specs.declared.round_end.RoundEnd.{RoundEnd}
-use Rattle.fault_duty.specs.declared.round_end.RoundEnd.TheVariants.{ScanPage, ScanInPlace, Marked, AllLeft, NothingNow}
+use Rattle.fault_duty.specs.declared.round_end.RoundEnd.TheVariants.{ScanPage, ScanInPlace, Marked, Traced, AllLeft, NothingNow}
 use Rattle.fault_duty.specs.Duty as duty
 use Rattle.forwarding.specs.declared.to.To.{To}
 use Rattle.forwarding.specs.Evacuation as evac
@@ -21,7 +21,7 @@ use Rattle.forwarding.specs.Taken as evac_taken
 use Rattle.gate_core.specs.declared.flipped.Flipped.{Flipped}
 use Rattle.gate_core.specs.declared.flipped.Flipped.TheVariants as flipped
 use Rattle.gate_core.specs.declared.passage.Passage.{Passage}
-use Rattle.gate_core.specs.declared.passage.Passage.TheVariants.{Look, Attach, Park, Request, Resume, Forwarded, Leave}
+use Rattle.gate_core.specs.declared.passage.Passage.TheVariants.{Look, Attach, Park, Request, Resume, Forwarded, Leave, Clear}
 use Rattle.gate_core.specs.declared.passed.Passed.{Passed}
 use Rattle.gate_core.specs.declared.passed.Passed.TheVariants as passed
 use Rattle.gate_core.specs.Flip as flip
@@ -33,7 +33,7 @@ use Rattle.page_scan.specs.Taken as scan_taken
 use Rattle.page_slots.specs.declared.opened.Opened.{Opened}
 use Rattle.page_slots.specs.Open as open_page
 use Rattle.plain_heap.specs.declared.action.Action.{Action}
-use Rattle.plain_heap.specs.declared.action.Action.TheVariants.{Sets, Jumps, Links, Prints, Makes, Measures, Loads, Stores, Exchanges, Gets, Puts, Swaps}
+use Rattle.plain_heap.specs.declared.action.Action.TheVariants.{Sets, Jumps, Links, Prints, Makes, Measures, Loads, Stores, Exchanges, Gets, Puts, Swaps, Snaps}
 use Rattle.plain_heap.specs.Action.{action}
 use Rattle.gc_worker.specs.declared.access.Access.{Access}
 use Rattle.gc_worker.specs.declared.access.accessed.Accessed.{Accessed}
@@ -96,6 +96,7 @@ module _ (x : Held) where
     by_action (Jumps target) = at_once (acts (begins x) (Jumps target)) (refl, refl, refl) refl refl
     by_action (Links d target) = at_once (acts (begins x) (Links d target)) (refl, refl, refl) refl refl
     by_action (Prints n) = at_once (acts (begins x) (Prints n)) (refl, refl, refl) refl refl
+    by_action Snaps = at_once (acts (begins x) Snaps) (refl, refl, refl) refl refl
     by_action (Makes kind d n) = turns (acts (begins x) (Makes kind d n)) Silent (refl, refl, refl) refl
     by_action (Measures d i) = turns (acts (begins x) (Measures d i)) Silent (refl, refl, refl) refl
     by_action (Loads d i n) = turns (acts (begins x) (Loads d i n)) Silent (refl, refl, refl) refl
@@ -147,6 +148,8 @@ module _ (x : Held) where
   passed_so after Leave (passed.Went word) = turns (passed_by x after Leave (passed.Went word)) Silent (refl, refl, refl) refl
   passed_so after Leave (passed.NotYet word) = turns (passed_by x after Leave (passed.NotYet word)) Silent (refl, refl, refl) refl
   passed_so after Look result = turns x Silent (refl, refl, refl) refl
+  passed_so after Clear (passed.Went word) = turns (passed_by x after Clear (passed.Went word)) Silent (refl, refl, refl) refl
+  passed_so after Clear (passed.NotYet word) = turns x Silent (refl, refl, refl) refl
 
   passing_by : (g : gate.Passing) (after : After) (turn : Turn Passed) → Turns x (turned_gate x g after turn) Silent
   passing_by g after More = turns (turned_gate x g after More) Silent (refl, refl, refl) refl
@@ -194,6 +197,7 @@ module _ (x : Held) where
   served_so d back (ScanPage page) = turns (served_by x d back (ScanPage page)) Silent (refl, refl, refl) refl
   served_so d back (ScanInPlace page) = turns (served_by x d back (ScanInPlace page)) Silent (refl, refl, refl) refl
   served_so d back Marked = turns (served_by x d back Marked) Silent (refl, refl, refl) refl
+  served_so d back Traced = turns (served_by x d back Traced) Silent (refl, refl, refl) refl
   served_so d back (NothingNow word) = turns (served_by x d back (NothingNow word)) Silent (refl, refl, refl) refl
   served_so d back (AllLeft word) = turns (served_by x d back (AllLeft word)) Silent (refl, refl, refl) refl
 
@@ -250,6 +254,7 @@ module _ (x : Held) where
   leaves Request end = absurd (cc)
   leaves (Resume epoch) end = absurd (cc)
   leaves Forwarded end = absurd (cc)
+  leaves Clear end = absurd (cc)
 
   rests : (stage : Stage) → FitsEnd stage true → (reply : Reply) → Rests (turned_at x stage reply)
   rests (Passes g after) end reply = leaving (gate.taken g reply) after (gate.told (gate.taken g reply)) (leaves g.passage end)

@@ -27,7 +27,7 @@ use Rattle.fault_duty.specs.declared.caller.Caller.{Caller}
 use Rattle.fault_duty.specs.declared.caller.Caller.TheVariants.{Scans as ScansFor}
 use Rattle.fault_duty.specs.declared.duty_stage.DutyStage.{DutyStage}
 use Rattle.fault_duty.specs.declared.round_end.RoundEnd.{RoundEnd}
-use Rattle.fault_duty.specs.declared.round_end.RoundEnd.TheVariants.{ScanPage, ScanInPlace, Marked, AllLeft, NothingNow}
+use Rattle.fault_duty.specs.declared.round_end.RoundEnd.TheVariants.{ScanPage, ScanInPlace, Marked, Traced, AllLeft, NothingNow}
 use Rattle.fault_duty.specs.Duty as duty
 use Rattle.fault_duty.specs.Theorems.{SeesAllLeft}
 use Rattle.fault_duty.proofs.Rounds.{sees_left}
@@ -39,7 +39,7 @@ use Rattle.gate_core.specs.declared.flipped.Flipped.TheVariants as flipped
 use Rattle.gate_core.specs.declared.gate_stage.GateStage.{GateStage}
 use Rattle.gate_core.specs.declared.gate_stage.GateStage.TheVariants as gate_stage
 use Rattle.gate_core.specs.declared.passage.Passage.{Passage}
-use Rattle.gate_core.specs.declared.passage.Passage.TheVariants.{Look, Attach, Park, Request, Resume, Forwarded, Leave}
+use Rattle.gate_core.specs.declared.passage.Passage.TheVariants.{Look, Attach, Park, Request, Resume, Forwarded, Leave, Clear}
 use Rattle.gate_core.specs.declared.passed.Passed.{Passed}
 use Rattle.gate_core.specs.declared.passed.Passed.TheVariants as passed
 use Rattle.gate_core.specs.Flip as flip
@@ -52,7 +52,7 @@ use Rattle.page_scan.specs.Taken as scan_taken
 use Rattle.page_slots.specs.declared.opened.Opened.{Opened}
 use Rattle.page_slots.specs.Open as open_page
 use Rattle.plain_heap.specs.declared.action.Action.{Action}
-use Rattle.plain_heap.specs.declared.action.Action.TheVariants.{Sets, Jumps, Links, Prints, Makes, Measures, Loads, Stores, Exchanges, Gets, Puts, Swaps}
+use Rattle.plain_heap.specs.declared.action.Action.TheVariants.{Sets, Jumps, Links, Prints, Makes, Measures, Loads, Stores, Exchanges, Gets, Puts, Swaps, Snaps}
 use Rattle.plain_heap.specs.Action.{action}
 use Rattle.gc_worker.specs.declared.access.Access.{Access}
 use Rattle.gc_worker.specs.declared.access.accessed.Accessed.{Accessed}
@@ -113,6 +113,7 @@ module _ (x : Held) (here : IsHere x.stage) where
   acts_here y (Jumps target) = tt
   acts_here y (Links d target) = tt
   acts_here y (Prints n) = tt
+  acts_here y Snaps = tt
   acts_here y (Makes kind d n) = placing y (header_for y)
   acts_here y (Measures d i) = tt
   acts_here y (Loads d i n) = tt
@@ -166,6 +167,8 @@ module _ (x : Held) (here : IsHere x.stage) where
   passed_here after Leave (passed.Went word) gone = (refl, word, refl)
   passed_here after Leave (passed.NotYet word) gone = not_gone x.stage here gone
   passed_here after Look result gone = not_gone x.stage here gone
+  passed_here after Clear (passed.Went word) gone = not_gone (passes x (Resume x.epoch) after) tt gone
+  passed_here after Clear (passed.NotYet word) gone = not_gone x.stage here gone
 
   flip_here : (f : flip.Flipping) (turn : Turn Flipped) → IsHere (turned_flip x f turn).stage
   flip_here f More = tt
@@ -205,6 +208,7 @@ module _ (x : Held) (here : IsHere x.stage) where
   served_here d back (ScanPage page) gone = not_gone (served_by x d back (ScanPage page)).stage tt gone
   served_here d back (ScanInPlace page) gone = not_gone (served_by x d back (ScanInPlace page)).stage tt gone
   served_here d back Marked gone = not_gone (served_by x d back Marked).stage (going_back (record x { epoch = d.epoch }) back) gone
+  served_here d back Traced gone = not_gone (served_by x d back Traced).stage (going_back (record x { epoch = d.epoch }) back) gone
   served_here d back (NothingNow word) gone = not_gone (served_by x d back (NothingNow word)).stage (going_back (record x { epoch = d.epoch }) back) gone
   served_here d back (AllLeft word) gone = (word, refl)
 

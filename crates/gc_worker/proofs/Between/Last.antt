@@ -11,7 +11,7 @@ use Rattle.space_map.specs.GateWord.{decode_gate}
 use Rattle.space_map.specs.Table.{Gate}
 use Rattle.space_map.specs.TableWords.{row_word}
 use Rattle.gate_core.specs.declared.passage.Passage.{Passage}
-use Rattle.gate_core.specs.declared.passage.Passage.TheVariants.{Look, Attach, Park, Request, Resume, Forwarded, Leave}
+use Rattle.gate_core.specs.declared.passage.Passage.TheVariants.{Look, Attach, Park, Request, Resume, Forwarded, Leave, Clear}
 use Rattle.heap_state.specs.Configuration.{Configuration, table, team}
 use Rattle.heap_state.specs.Functions.{sum_below, count_one}
 use Rattle.heap_state.specs.Memory.Table.{word_in}
@@ -67,6 +67,7 @@ before_gone Request e = cc
 before_gone (Resume epoch) e = cc
 before_gone Forwarded e = cc
 before_gone Leave e = cc
+before_gone Clear e = cc
 
 back_gone : (back : Back) → is_gone (post_back back) ≡ true → ⊥
 back_gone (ToAccess a) e = cc
@@ -92,6 +93,7 @@ no_mutator workers.Scanner e = refl
 no_mutator workers.Outside e = absurd (cc)
 no_mutator workers.Running e = absurd (cc)
 no_mutator workers.Stopped e = absurd (cc)
+no_mutator workers.Snapping e = absurd (cc)
 no_mutator (workers.Flipping asked) e = absurd (cc)
 no_mutator workers.Gone e = absurd (cc)
 
@@ -182,8 +184,8 @@ scanners_last_with h k now l same last j m below scanner gone l_m =
 -- ---- the opening
 
 pub scanners_begin_last : ScannersBeginLast
-scanners_begin_last n least mutators scanners k m below scanner gone l_m =
-    let there : k < mutators + scanners = (let e = many n mutators 0 (mutators + scanners) in omega (arith, below, e)) in
-    let is : held_at (opening_heap n least mutators scanners) k ≡ fresh_scanner n mutators k =
-    is_there n mutators 0 (mutators + scanners) k k there (omega arith) ∙ ap (λ (b : Bool). cond b (fresh_mutator n mutators k) (fresh_scanner n mutators k)) (le-ltb k mutators scanner) in
+scanners_begin_last s least mutators scanners k m below scanner gone l_m =
+    let there : k < mutators + scanners = (let e = many s mutators 0 (mutators + scanners) in omega (arith, below, e)) in
+    let is : held_at (opening_heap s least mutators scanners) k ≡ fresh_scanner s mutators k =
+    is_there s mutators 0 (mutators + scanners) k k there (omega arith) ∙ ap (λ (b : Bool). cond b (fresh_mutator s mutators k) (fresh_scanner s mutators k)) (le-ltb k mutators scanner) in
     absurd (let e = sym (ap (λ (z : Held). z.stage) is) ∙ gone in cc)

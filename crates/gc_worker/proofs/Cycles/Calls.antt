@@ -10,7 +10,7 @@ use Rattle.alloc_end.specs.declared.allocated.Allocated.TheVariants.{Placed, Ful
 use Rattle.alloc_end.specs.declared.shortage.Shortage.{Shortage}
 use Rattle.alloc_end.specs.Place as place
 use Rattle.fault_duty.specs.declared.round_end.RoundEnd.{RoundEnd}
-use Rattle.fault_duty.specs.declared.round_end.RoundEnd.TheVariants.{ScanPage, ScanInPlace, Marked, AllLeft, NothingNow}
+use Rattle.fault_duty.specs.declared.round_end.RoundEnd.TheVariants.{ScanPage, ScanInPlace, Marked, Traced, AllLeft, NothingNow}
 use Rattle.fault_duty.specs.Duty as duty
 use Rattle.forwarding.specs.declared.to.To.{To}
 use Rattle.forwarding.specs.Evacuation as evac
@@ -18,7 +18,7 @@ use Rattle.forwarding.specs.Taken as evac_taken
 use Rattle.gate_core.specs.declared.flipped.Flipped.{Flipped}
 use Rattle.gate_core.specs.declared.flipped.Flipped.TheVariants as flipped
 use Rattle.gate_core.specs.declared.passage.Passage.{Passage}
-use Rattle.gate_core.specs.declared.passage.Passage.TheVariants.{Look, Attach, Park, Request, Resume, Forwarded, Leave}
+use Rattle.gate_core.specs.declared.passage.Passage.TheVariants.{Look, Attach, Park, Request, Resume, Forwarded, Leave, Clear}
 use Rattle.gate_core.specs.declared.passed.Passed.{Passed}
 use Rattle.gate_core.specs.declared.passed.Passed.TheVariants as passed
 use Rattle.gate_core.specs.Flip as flip
@@ -87,6 +87,7 @@ module _ (x : Held) where
   passed_on after Look result task past own = absurd past
   passed_on after Attach result task past own = absurd past
   passed_on after Leave result task past own = absurd past
+  passed_on after Clear result task past own = absurd past
   passed_on after Park (passed.Went word) task past own = past
   passed_on after Park (passed.NotYet word) task past own = going_on x after past task
   passed_on after Request (passed.Went word) task past own = tt
@@ -149,6 +150,7 @@ module _ (x : Held) where
     served_on d back (ScanPage page) past task side after = past
     served_on d back (ScanInPlace page) past task side after = past
     served_on d back Marked past task side after = going_back x d.epoch back past task
+    served_on d back Traced past task side after = going_back x d.epoch back past task
     served_on d back (NothingNow word) past task side after = going_back x d.epoch back past task
     served_on d back (AllLeft word) past task side after = absurd (not_gone back past (nat_lt x.number x.mutators) (is_some x.account.end) side end after.side)
 

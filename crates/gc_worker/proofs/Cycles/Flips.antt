@@ -13,7 +13,7 @@ use Rattle.space_map.specs.AreaWord.{decode_area}
 use Rattle.space_map.specs.Spaces.{page_of, to_space}
 use Rattle.alloc_end.specs.declared.new_pages.NewPages.{NewPages}
 use Rattle.alloc_end.specs.declared.place_stage.PlaceStage.{PlaceStage}
-use Rattle.alloc_end.specs.declared.place_stage.PlaceStage.TheVariants.{LoadsTraced, LoadsSize, LoadsArea, ExchangesArea, StoresZero, OpensPage, StoresCount, StoresHeader, Ended}
+use Rattle.alloc_end.specs.declared.place_stage.PlaceStage.TheVariants.{LoadsTraced, LoadsSize, LoadsArea, ExchangesArea, StoresZero, StoresNew, OpensPage, StoresCount, StoresHeader, Ended}
 use Rattle.alloc_end.specs.Soundness.{IsPlacingGoing}
 use Rattle.heap_state.specs.Configuration.{Configuration, Stands, era}
 use Rattle.heap_state.specs.Worker.{Worker, is_running}
@@ -31,7 +31,7 @@ use Rattle.alloc_end.specs.declared.run.Run.{Run}
 use Rattle.alloc_end.specs.declared.shortage.Shortage.{Shortage}
 use Rattle.alloc_end.specs.Place as place
 use Rattle.fault_duty.specs.declared.round_end.RoundEnd.{RoundEnd}
-use Rattle.fault_duty.specs.declared.round_end.RoundEnd.TheVariants.{ScanPage, ScanInPlace, Marked, AllLeft, NothingNow}
+use Rattle.fault_duty.specs.declared.round_end.RoundEnd.TheVariants.{ScanPage, ScanInPlace, Marked, Traced, AllLeft, NothingNow}
 use Rattle.fault_duty.specs.Duty as duty
 use Rattle.forwarding.specs.declared.to.To.{To}
 use Rattle.forwarding.specs.Evacuation as evac
@@ -39,7 +39,7 @@ use Rattle.forwarding.specs.Taken as evac_taken
 use Rattle.gate_core.specs.declared.flipped.Flipped.{Flipped}
 use Rattle.gate_core.specs.declared.flipped.Flipped.TheVariants as flipped
 use Rattle.gate_core.specs.declared.passage.Passage.{Passage}
-use Rattle.gate_core.specs.declared.passage.Passage.TheVariants.{Look, Attach, Park, Request, Resume, Forwarded, Leave}
+use Rattle.gate_core.specs.declared.passage.Passage.TheVariants.{Look, Attach, Park, Request, Resume, Forwarded, Leave, Clear}
 use Rattle.gate_core.specs.declared.passed.Passed.{Passed}
 use Rattle.gate_core.specs.declared.passed.Passed.TheVariants as passed
 use Rattle.gate_core.specs.Flip as flip
@@ -51,7 +51,7 @@ use Rattle.page_scan.specs.Taken as scan_taken
 use Rattle.page_slots.specs.declared.opened.Opened.{Opened}
 use Rattle.page_slots.specs.Open as open_page
 use Rattle.plain_heap.specs.declared.action.Action.{Action}
-use Rattle.plain_heap.specs.declared.action.Action.TheVariants.{Sets, Jumps, Links, Prints, Makes}
+use Rattle.plain_heap.specs.declared.action.Action.TheVariants.{Sets, Jumps, Links, Prints, Makes, Snaps}
 use Rattle.plain_heap.specs.Action.{action}
 use Rattle.gc_worker.specs.Laws.Cycles.{IsFirst, IsFirstAt, IsFirstBy, FlipsStayFirst, FlipsAreFirst, MayAsk, SizeGoes, size_of}
 use Rattle.gc_worker.specs.Laws.Step.{FlipsWhereTold, Heap, StepKeeps, WorkersStand, at_flip, held_at, moved, nobody, read}
@@ -106,10 +106,17 @@ module _ (size : ℕ) (p : place.Placing) where
   by_area traced found (Some area) is = by_fit traced found area is (place.fits traced (place.words_for p.header) area)
   by_area traced found None is = tt
 
+  by_next : (new : NewPages) → IsSized size (place.told_at (place.readies p.snap new))
+  by_next new = by_test (p.snap == 0)
+    where
+      by_test : (b : Bool) → IsSized size (place.told_at (cond b (OpensPage new) (StoresNew new)))
+      by_test true = tt
+      by_test false = tt
+
   by_cleared : (new : NewPages) (b : Bool)
-      → IsSized size (place.told_at (cond b (StoresZero (record { first = new.first; next = new.next + 1 })) (OpensPage (record { first = new.first; next = page_of new.first }))))
+      → IsSized size (place.told_at (cond b (StoresZero (record { first = new.first; next = new.next + 1 })) (place.readies p.snap (record { first = new.first; next = page_of new.first }))))
   by_cleared new true = tt
-  by_cleared new false = tt
+  by_cleared new false = by_next (record { first = new.first; next = page_of new.first })
 
   by_kind : (kind : HeaderKind) → IsSized size (place.told_at (place.stores_first kind))
   by_kind header_kinds.Fields = tt
@@ -117,9 +124,9 @@ module _ (size : ℕ) (p : place.Placing) where
   by_kind header_kinds.Mixed = tt
 
   by_opened : (new : NewPages) (b : Bool)
-      → IsSized size (place.told (cond b (place.at_stage (at (OpensPage new)) (OpensPage (record { first = new.first; next = new.next + 1 })))
+      → IsSized size (place.told (cond b (place.at_stage (at (OpensPage new)) (place.readies p.snap (record { first = new.first; next = new.next + 1 })))
       (record p { run = record { at = new.first; end = new.first + place.words_for p.header }; stage = place.stores_first p.header.kind })))
-  by_opened new true = tt
+  by_opened new true = by_next (record { first = new.first; next = new.next + 1 })
   by_opened new false = by_kind p.header.kind
 
   -- it has read the size before
@@ -144,6 +151,10 @@ module _ (size : ℕ) (p : place.Placing) where
   sized (StoresZero new) replies.Done going read = by_cleared new (nat_lt (new.next + 1) (new.first + place.words_for p.header))
   sized (StoresZero new) replies.Won going read = tt
   sized (StoresZero new) (replies.Lost word) going read = tt
+  sized (StoresNew new) (replies.Value word) going read = tt
+  sized (StoresNew new) replies.Done going read = tt
+  sized (StoresNew new) replies.Won going read = tt
+  sized (StoresNew new) (replies.Lost word) going read = tt
   sized (OpensPage new) (replies.Value word) going read = tt
   sized (OpensPage new) replies.Done going read = by_opened new (nat_lt (new.next + 1) (page_of new.first + place.pages_for (place.size_of p.header)))
   sized (OpensPage new) replies.Won going read = tt
@@ -209,6 +220,8 @@ module _ (n size : ℕ) where
     passed_first after Leave (passed.Went word) own asks = tt
     passed_first after Leave (passed.NotYet word) own asks = own
     passed_first after Look result own asks = own
+    passed_first after Clear (passed.Went word) own asks = tt
+    passed_first after Clear (passed.NotYet word) own asks = own
 
     passing : (g : gate.Passing) (after : After) (turn : Turn Passed) → First x → FirstAt x (Passes g after) → First (turned_gate x g after turn)
     passing g after More own asks = asks
@@ -266,6 +279,7 @@ module _ (n size : ℕ) where
     served_first d back (ScanPage page) = tt
     served_first d back (ScanInPlace page) = tt
     served_first d back Marked = going_back (served_by x d back Marked) (record x { epoch = d.epoch }) back
+    served_first d back Traced = going_back (served_by x d back Traced) (record x { epoch = d.epoch }) back
     served_first d back (NothingNow word) = going_back (served_by x d back (NothingNow word)) (record x { epoch = d.epoch }) back
     served_first d back (AllLeft word) = tt
 
@@ -297,6 +311,7 @@ module _ (n size : ℕ) where
     by_action (Jumps target) own = tt
     by_action (Links d target) own = tt
     by_action (Prints n) own = tt
+    by_action Snaps own = tt
     by_action (Makes kind d n) own = placing (acts x (Makes kind d n)) x (header_for x)
     by_action act own = access_begins (access.begun act) own
 
@@ -381,12 +396,13 @@ module _ (c : Configuration) (p : Plain) (s : Stands c p) (j : ℕ) (y : Held) w
   by_passage g after (Resume epoch) e is asks = absurd asks
   by_passage g after Forwarded e is asks = absurd asks
   by_passage g after Leave e is asks = absurd asks
+  by_passage g after Clear e is asks = absurd asks
 
   asks_now : (stage : Stage) → Is c j (at_stage y stage) → AsksAt stage → y.epoch ≡ (era c).epoch
   asks_now (Passes g after) is asks = by_passage g after g.passage refl is asks
   asks_now (Flips f) is asks =
       let t = (s.invariant.workers j is.below).timely in
-      sym (ap (λ (w : Worker). w.epoch) is.as_known) ∙ t.flipping (rw is.as_known refl)
+      sym (ap (λ (w : Worker). w.epoch) is.as_known) ∙ t.asking (rw is.as_known refl)
   asks_now Looks is asks = absurd asks
   asks_now (Forwards w) is asks = absurd asks
   asks_now (Accesses a) is asks = absurd asks

@@ -21,7 +21,7 @@ use Rattle.space_map.specs.Table.{Row, Gate, Area, Size, place_of, table_length}
 use Rattle.space_map.proofs.AreaWords.{decode_area-encode_area}
 use Rattle.alloc_end.specs.declared.fitting.Fitting.{Fitting}
 use Rattle.alloc_end.specs.declared.place_stage.PlaceStage.{PlaceStage}
-use Rattle.alloc_end.specs.declared.place_stage.PlaceStage.TheVariants.{ExchangesArea}
+use Rattle.alloc_end.specs.declared.place_stage.PlaceStage.TheVariants.{ExchangesArea, StoresNew}
 use Rattle.alloc_end.specs.Place.{Placing, words_for, kept_room, area_after}
 use Rattle.alloc_end.specs.Place as place
 use Rattle.alloc_end.specs.Soundness.{AreaHoldsClaim}
@@ -64,6 +64,7 @@ use Rattle.gc_worker.proofs.Between.Pages.Claims.{NoMark, flips_at}
 use Rattle.gc_worker.proofs.Between.Pages.Written.{IsNoArea, IsNoSize, area_stays, size_stays}
 use Rattle.gc_worker.proofs.Words.Eras.{old_span_is}
 use Rattle.gc_worker.proofs.Words.Sizes.{size_now}
+use Rattle.gc_worker.proofs.Words.TableRows.{in_each_table, never_marks}
 use Rattle.gc_worker.proofs.Stages.Gate.Words.{gate_says}
 use Rattle.gc_worker.proofs.Workers.Members.{member}
 use Rattle.gc_worker.proofs.StepKeeps.{steps_keep}
@@ -230,7 +231,7 @@ module _ (h : Heap) (p o : Plain) (k : ℕ) (x : Held) (st : WorkersStand h p o)
     flips_now : f.epoch ≡ epoch_of n words
     flips_now =
         let t = (st.stands.invariant.workers k is.below).timely in
-        is.fits.stage.epoch ∙ (sym (ap (λ (w : Worker). w.epoch) is.as_known) ∙ (t.flipping (rw is.as_known refl) ∙ of_now))
+        is.fits.stage.epoch ∙ (sym (ap (λ (w : Worker). w.epoch) is.as_known) ∙ (t.asking (rw is.as_known refl) ∙ of_now))
 
     apart : here ≢ to_space (f.epoch + 1)
     apart same = let e = flips_now in omega (arith, e, same)
@@ -250,7 +251,8 @@ module _ (h : Heap) (p o : Plain) (k : ℕ) (x : Held) (st : WorkersStand h p o)
 
   places : (z : Placing) (stage : PlaceStage) (q : Step) → Is c k (at_stage x (Places (record z { stage = stage }))) → place.wanted_at z stage ≡ Some q → Lows (Places (record z { stage = stage })) q
   places z (ExchangesArea f) q is asked = subst (Lows (Places (record z { stage = ExchangesArea f }))) (same_Some _ q asked) (claims_low z f is)
-  places z stage q is asked = quiet (Places (record z { stage = stage })) q z.layout.pages (place.wants_at z stage) refl tt asked
+  places z (StoresNew pages) q is asked = absurd (never_marks z.snap is.fits.stage.snap is.fits.stage.sound.stage.1)
+  places z stage q is asked = quiet (Places (record z { stage = stage })) q z.layout.pages (in_each_table (place.wants_at z stage)) refl tt asked
 
   by_stage : (stage : Stage) (q : Step) → Is c k (at_stage x stage) → wanted_at x stage ≡ Some q → Lows stage q
   by_stage Looks q is asked = quiet Looks q x.layout.pages (Some (on.Load Gate)) refl tt asked

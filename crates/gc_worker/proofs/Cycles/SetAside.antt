@@ -1,5 +1,5 @@
 -- What an allocation claims is set aside for the record that the mutator's instruction makes.
-use Rattle.std.proofs.Common.{◌≡◌, ℕ, ◌+◌, ◌*◌, ◌≤◌, Bool, true, false, cond, nat_lt, Option, Some, refl, ap, sym, subst, ◌∙◌, arith}
+use Rattle.std.proofs.Common.{◌≡◌, ℕ, ◌+◌, ◌*◌, ◌≤◌, ◌==◌, Bool, true, false, cond, nat_lt, Option, Some, refl, ap, sym, subst, ◌∙◌, arith}
 use Rattle.plain_state.specs.State.{Plain}
 use Rattle.atom_store.specs.declared.reply.Reply.{Reply}
 use Rattle.atom_store.specs.declared.reply.Reply.TheVariants as replies
@@ -14,7 +14,7 @@ use Rattle.alloc_end.specs.declared.allocated.Allocated.{Allocated}
 use Rattle.alloc_end.specs.declared.run.Run.{Run}
 use Rattle.alloc_end.specs.declared.new_pages.NewPages.{NewPages}
 use Rattle.alloc_end.specs.declared.place_stage.PlaceStage.{PlaceStage}
-use Rattle.alloc_end.specs.declared.place_stage.PlaceStage.TheVariants.{LoadsTraced, LoadsSize, LoadsArea, ExchangesArea, StoresZero, OpensPage, StoresCount, StoresHeader, Ended}
+use Rattle.alloc_end.specs.declared.place_stage.PlaceStage.TheVariants.{LoadsTraced, LoadsSize, LoadsArea, ExchangesArea, StoresZero, StoresNew, OpensPage, StoresCount, StoresHeader, Ended}
 use Rattle.alloc_end.specs.Place.{Placing, pages_for, size_of, stores_first, words_for}
 use Rattle.alloc_end.specs.Place as place
 use Rattle.alloc_end.specs.Soundness.{IsPlacingGoing}
@@ -60,13 +60,21 @@ module _ (x : Held) (z : Placing) (task : IsMaking x.account x.registers x.task)
   within stage claims next more keeps =
       subst (λ (t : Turn Allocated). SetsAside (at stage) claims (turned_place (at stage) next t) (told_place (at stage) t)) (sym more) keeps
 
-  clears : (new some other : NewPages) (b : Bool) → After (StoresZero new) 0 (record z { stage = cond b (StoresZero some) (OpensPage other) })
+  -- on to a page, whether it is marked first or not
+  readied : (stage : PlaceStage) → set_aside_by z stage ≡ words_for z.header → (other : NewPages) → After stage 0 (record z { stage = place.readies z.snap other })
+  readied stage asked other = by_test (z.snap == 0)
+    where
+      by_test : (b : Bool) → After stage 0 (record z { stage = cond b (OpensPage other) (StoresNew other) })
+      by_test true = within stage 0 (record z { stage = OpensPage other }) refl (omega (arith, asked))
+      by_test false = within stage 0 (record z { stage = StoresNew other }) refl (omega (arith, asked))
+
+  clears : (new some other : NewPages) (b : Bool) → After (StoresZero new) 0 (record z { stage = cond b (StoresZero some) (place.readies z.snap other) })
   clears new some other true = within (StoresZero new) 0 (record z { stage = StoresZero some }) refl (omega arith)
-  clears new some other false = within (StoresZero new) 0 (record z { stage = OpensPage other }) refl (omega arith)
+  clears new some other false = readied (StoresZero new) refl other
 
   opens : (new other : NewPages) (run : Run) (kind : Kind) (b : Bool)
-      → After (OpensPage new) 0 (cond b (record z { stage = OpensPage other }) (record z { run = run; stage = stores_first kind }))
-  opens new other run kind true = within (OpensPage new) 0 (record z { stage = OpensPage other }) refl (omega arith)
+      → After (OpensPage new) 0 (cond b (record z { stage = place.readies z.snap other }) (record z { run = run; stage = stores_first kind }))
+  opens new other run kind true = readied (OpensPage new) refl other
   opens new other run Fields false = within (OpensPage new) 0 (record z { run = run; stage = StoresHeader }) refl (omega arith)
   opens new other run Raw false = within (OpensPage new) 0 (record z { run = run; stage = StoresHeader }) refl (omega arith)
   opens new other run Mixed false = within (OpensPage new) 0 (record z { run = run; stage = StoresCount }) refl (omega arith)
@@ -88,6 +96,10 @@ module _ (x : Held) (z : Placing) (task : IsMaking x.account x.registers x.task)
       clears new (record { first = new.first; next = new.next + 1 }) (record { first = new.first; next = page_of new.first }) (nat_lt (new.next + 1) (new.first + words_for z.header))
   by_place (StoresZero new) replies.Won going = omega arith
   by_place (StoresZero new) (replies.Lost word) going = omega arith
+  by_place (StoresNew new) (replies.Value word) going = omega arith
+  by_place (StoresNew new) replies.Done going = within (StoresNew new) 0 (record z { stage = OpensPage new }) refl (omega arith)
+  by_place (StoresNew new) replies.Won going = omega arith
+  by_place (StoresNew new) (replies.Lost word) going = omega arith
   by_place (OpensPage new) (replies.Value word) going = omega arith
   by_place (OpensPage new) replies.Done going =
       opens new (record { first = new.first; next = new.next + 1 }) (record { at = new.first; end = new.first + words_for z.header }) z.header.kind (nat_lt (new.next + 1) (page_of new.first + pages_for (size_of z.header)))
@@ -145,6 +157,7 @@ module _ (h : Heap) (p o : Plain) (k : ℕ) (x : Held) (st : WorkersStand h p o)
     where
       most : words_for z.header ≡ PAGE_WORDS * pages_needed y → (stage : PlaceStage) → set_aside_by z stage ≤ PAGE_WORDS * pages_needed y
       most a (StoresZero new) = omega (arith, a)
+      most a (StoresNew new) = omega (arith, a)
       most a (OpensPage new) = omega (arith, a)
       most a StoresCount = omega (arith, a)
       most a StoresHeader = omega (arith, a)

@@ -13,7 +13,7 @@ use Rattle.atom_store.specs.StepOn as on
 use Rattle.space_map.specs.Spaces.{to_space}
 use Rattle.space_map.specs.Table.{Row, Gate, Size, place_of}
 use Rattle.alloc_end.specs.declared.place_stage.PlaceStage.{PlaceStage}
-use Rattle.alloc_end.specs.declared.place_stage.PlaceStage.TheVariants.{ExchangesArea}
+use Rattle.alloc_end.specs.declared.place_stage.PlaceStage.TheVariants.{ExchangesArea, StoresNew}
 use Rattle.alloc_end.specs.Place.{Placing}
 use Rattle.alloc_end.specs.Place as place
 use Rattle.fault_duty.specs.Duty as duty
@@ -52,6 +52,7 @@ use Rattle.gc_worker.proofs.Stages.Access.RowsFit as access_rows
 use Rattle.gc_worker.proofs.Words.Areas.{is_space}
 use Rattle.gc_worker.proofs.Words.Eras.{old_span_is, span_is}
 use Rattle.gc_worker.proofs.Words.Sizes.{next_grows, size_now, size_within}
+use Rattle.gc_worker.proofs.Words.TableRows.{in_each_table, never_marks}
 use Rattle.gc_worker.proofs.Between.Pages.Claims.{flips_at}
 use Rattle.gc_worker.proofs.Between.Pages.Written.{IsNoSize}
 use Rattle.gc_worker.proofs.Cycles.Lows.{exchanges_at, of_now, size_beside}
@@ -80,7 +81,7 @@ module _ (h : Heap) (p o : Plain) (k : ℕ) (x : Held) (st : WorkersStand h p o)
     flips_now : f.epoch ≡ epoch_of n words
     flips_now =
         let t = (st.stands.invariant.workers k is.below).timely in
-        is.fits.stage.epoch ∙ (sym (ap (λ (w : Worker). w.epoch) is.as_known) ∙ (t.flipping (rw is.as_known refl) ∙ of_now h p o k x st))
+        is.fits.stage.epoch ∙ (sym (ap (λ (w : Worker). w.epoch) is.as_known) ∙ (t.asking (rw is.as_known refl) ∙ of_now h p o k x st))
 
     apart : here ≢ to_space (f.epoch + 1)
     apart same = let e = flips_now in omega (arith, e, same)
@@ -132,9 +133,10 @@ module _ (h : Heap) (p o : Plain) (k : ℕ) (x : Held) (st : WorkersStand h p o)
     copies v (Reserves kept area) q asked = beside v.layout.pages (evac.wants_at v.layout v.addr v.epoch v.worker (Reserves kept area)) q (is_space v.epoch) asked
     copies v stage q asked = beside v.layout.pages (evac.wants_at v.layout v.addr v.epoch v.worker stage) q tt asked
 
-    places : (z : Placing) (stage : PlaceStage) (q : Step) → place.wanted_at z stage ≡ Some q → Leaves q
-    places z (ExchangesArea f) q asked = beside z.layout.pages (place.wants_at z (ExchangesArea f)) q (is_space z.epoch) asked
-    places z stage q asked = beside z.layout.pages (place.wants_at z stage) q tt asked
+    places : (z : Placing) (stage : PlaceStage) (q : Step) → Is c k (at_stage x (Places (record z { stage = stage }))) → place.wanted_at z stage ≡ Some q → Leaves q
+    places z (StoresNew new) q is asked = absurd (never_marks z.snap is.fits.stage.snap is.fits.stage.sound.stage.1)
+    places z (ExchangesArea f) q is asked = beside z.layout.pages (in_each_table (place.wants_at z (ExchangesArea f))) q (is_space z.epoch) asked
+    places z stage q is asked = beside z.layout.pages (in_each_table (place.wants_at z stage)) q tt asked
 
     flips : (f : Flipping) (stage : FlipStage) (q : Step) → Is c k (at_stage x (Flips (record f { stage = stage }))) → flip.wanted_at f stage ≡ Some q → Leaves q
     flips f (flip_stage.StoresSize r) q is asked = subst Leaves (same_Some _ q asked) (stored f r is)
@@ -149,7 +151,7 @@ module _ (h : Heap) (p o : Plain) (k : ℕ) (x : Held) (st : WorkersStand h p o)
     by_stage (Flips f) q is asked = flips f f.stage q is asked
     by_stage (Forwards w) q is asked = copies w.evac w.evac.stage q asked
     by_stage (Accesses a) q is asked = beside a.spaces.pages (Some (access.wants_at a.spaces a.stage)) q (access_rows.writes IsNoSize (λ addr. tt) a.spaces a.stage) asked
-    by_stage (Places z) q is asked = places z z.stage q asked
+    by_stage (Places z) q is asked = places z z.stage q is asked
     by_stage (Serves d back) q is asked =
         beside d.layout.pages (duty.wants_at d d.stage) q (duty_rows.writes IsNoSize tt (λ page. tt) d d.stage) (sym (duty_rows.by_rows d d.stage is.fits.stage.0.sound.stage) ∙ asked)
     by_stage (Scans s back) q is asked = beside s.layout.pages (scan.wants_at s.page s.epoch s.stage) q (scan_rows.writes IsNoSize (λ addr. tt) s.page s.epoch s.stage) asked

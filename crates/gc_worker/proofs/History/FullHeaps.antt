@@ -6,7 +6,7 @@ use Rattle.plain_state.specs.State.{Plain}
 use Rattle.mutator_asm.specs.declared.instr.Instr.{Instr}
 use Rattle.atom_store.specs.declared.reply.Reply.{Reply}
 use Rattle.gate_core.specs.declared.passage.Passage.{Passage}
-use Rattle.gate_core.specs.declared.passage.Passage.TheVariants.{Look, Attach, Park, Request, Resume, Forwarded, Leave}
+use Rattle.gate_core.specs.declared.passage.Passage.TheVariants.{Look, Attach, Park, Request, Resume, Forwarded, Leave, Clear}
 use Rattle.gc_worker.specs.declared.stage.after.After.{After}
 use Rattle.gc_worker.specs.declared.stage.Stage.{Stage}
 use Rattle.gc_worker.specs.declared.stage.Stage.TheVariants.{Looks, Passes, Flips, Forwards, Accesses, Places, Serves, Scans, Evacuates, Opens, Gone}
@@ -34,6 +34,7 @@ past_passage Request after call = call
 past_passage (Resume epoch) after call = call
 past_passage Forwarded after call = call
 past_passage Leave after call = absurd call
+past_passage Clear after call = absurd call
 
 pub past_look : (stage : Stage) → IsInCall stage → IsPastLook stage
 past_look Looks call = absurd call

@@ -139,6 +139,7 @@ module _ (x : Held) (q : Mutator) (eight : length x.registers ≡ REGISTERS) (va
   makes_same (instrs.Put y a) valid = if_ok-bind _ (board_place sight y) _ (λ n. tt)
   makes_same (instrs.Swap d y) valid = if_ok-bind _ (board_place sight y) _ (λ n. tt)
   makes_same (instrs.Out a) valid = if_ok-bind _ (as_number (register sight a)) _ (λ n. printed _ n (nat_lt (length sight.printed) MOST_PRINTED))
+  makes_same instrs.Snap valid = tt
   makes_same instrs.Halt valid = tt
 
   pub makes_its_record : (making : IsMaking x.account x.registers x.task) → action q making.executes.instr ≡ Ok (Makes making.making.kind making.making.into making.making.len)

@@ -4,7 +4,7 @@ use Rattle.std.proofs.lemmas.Bool.{cases_eq}
 use Rattle.heap_state.specs.Functions.{sum_below}
 use Rattle.heap_state.proofs.Puts.{sum_below-same}
 use Rattle.gate_core.specs.declared.passage.Passage.{Passage}
-use Rattle.gate_core.specs.declared.passage.Passage.TheVariants.{Look, Attach, Park, Request, Resume, Forwarded, Leave}
+use Rattle.gate_core.specs.declared.passage.Passage.TheVariants.{Look, Attach, Park, Request, Resume, Forwarded, Leave, Clear}
 use Rattle.gc_worker.specs.declared.stage.Stage.{Stage}
 use Rattle.gc_worker.specs.declared.stage.Stage.TheVariants.{Looks, Passes, Flips, Forwards, Accesses, Places, Serves, Scans, Evacuates, Opens, Gone}
 use Rattle.gc_worker.specs.declared.task.Task.{Task}
@@ -34,6 +34,7 @@ first_passage n size x task Park f = tt
 first_passage n size x task (Resume epoch) f = tt
 first_passage n size x task Forwarded f = tt
 first_passage n size x task Leave f = tt
+first_passage n size x task Clear f = tt
 
 first_given : (n size : ℕ) (x : Held) (task : Task) (stage : Stage) → IsFirstAt n size x stage → IsFirstAt n size (with_task x task) stage
 first_given n size x task (Passes g after) f = first_passage n size x task g.passage f

@@ -20,7 +20,7 @@ use Rattle.mutator_asm.specs.declared.operand.Operand.{Operand}
 use Rattle.mutator_asm.specs.declared.operand.Operand.TheVariants as operands
 use Rattle.mutator_asm.specs.Program.{is_valid, is_register, is_operand}
 use Rattle.plain_heap.specs.declared.action.Action.{Action}
-use Rattle.plain_heap.specs.declared.action.Action.TheVariants.{Sets, Jumps, Links, Prints, Makes, Measures, Loads, Stores, Exchanges, Gets, Puts, Swaps}
+use Rattle.plain_heap.specs.declared.action.Action.TheVariants.{Sets, Jumps, Links, Prints, Makes, Measures, Loads, Stores, Exchanges, Gets, Puts, Swaps, Snaps}
 use Rattle.plain_heap.specs.Action.{◌>>=◌, register, as_number, reference_in, is_zero, is_reference, are_same, operand, next_of, length_of, on_board, board_place, computes, allocates, prints, action, mixed_length, mixes}
 
 -- ---- what the plain machine has for what a worker sees
@@ -34,6 +34,7 @@ plain_action identity (Sets d v) = Sets d (plain_value identity v)
 plain_action identity (Jumps target) = Jumps target
 plain_action identity (Links d target) = Links d target
 plain_action identity (Prints n) = Prints n
+plain_action identity Snaps = Snaps
 plain_action identity (Makes kind d n) = Makes kind d n
 plain_action identity (Measures d i) = Measures d (identity i.serial)
 plain_action identity (Loads d i x) = Loads d (identity i.serial) x
@@ -188,4 +189,5 @@ module _ (identity : ℕ → Identity) (m q : Mutator) (alike : AreAlikeBy ident
   acts_alike (instrs.Swap d x) valid = let l = and_parts (is_register d) (is_operand x) valid in
       with_board_place x l.1 _ _ (λ n. ap (λ (v : Value). Ok (Swaps d n v)) (alike.values d (is_small d l.0)))
   acts_alike (instrs.Out a) valid = with_number a (is_small a valid) _ _ (λ n. printed n)
+  acts_alike instrs.Snap valid = refl
   acts_alike instrs.Halt valid = refl

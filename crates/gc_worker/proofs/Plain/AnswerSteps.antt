@@ -3,9 +3,8 @@ use Rattle.std.proofs.Common.{◌≡◌, ℕ, ◌+◌, ◌<◌, true, List, leng
 use Rattle.plain_state.specs.declared.value.Value.{Value}
 use Rattle.plain_state.specs.State.{Mutator, Plain}
 use Rattle.atom_store.specs.declared.reply.Reply.{Reply}
-use Rattle.space_map.specs.Table.{IsRow}
 use Rattle.heap_state.specs.Configuration.{Configuration, Stands, era, memory, team}
-use Rattle.heap_state.specs.Memory.Entries.{Entry, row_of}
+use Rattle.heap_state.specs.Memory.Entries.{IsWholeRow, Entry, row_of}
 use Rattle.heap_state.specs.Invariant.Ghost.{Ghost}
 use Rattle.heap_state.specs.Worker.{Account, Worker, is_running}
 use Rattle.heap_laws.specs.Fields.Effects.{IsLikePlain, RegisterHolds}
@@ -33,8 +32,8 @@ module _ (c : Configuration) (p : Plain) (s : Stands c p) (k : ℕ) (x : Held) w
   abbrev pub LawTo : (e : Option Entry) (w : Worker) (h : Ghost) (q : Plain) → Type 0
   LawTo e w h q = law.StepsTo (era c) (memory c) (team c) s.ghost k e w h q
 
-  -- the row that it says is written is one of the table
-  pub row_fits_to : (e : Entry) (w : Worker) (h : Ghost) (q : Plain) → k < length c.workers → LawTo (Some e) w h q → IsRow c.pages (row_of e)
+  -- the row that it says is written is one of the table, or one of those behind it
+  pub row_fits_to : (e : Entry) (w : Worker) (h : Ghost) (q : Plain) → k < length c.workers → LawTo (Some e) w h q → IsWholeRow c.pages (row_of e)
   row_fits_to e w h q below l = entry_has_row c.pages e (plain_steps_are_lifted c p q s (Some e) k w h below l).fits
 
   -- a step that answers the task, after which the worker is this

@@ -65,6 +65,7 @@ spelled (instrs.Get d x) = tt
 spelled (instrs.Put x a) = tt
 spelled (instrs.Swap d x) = tt
 spelled (instrs.Out a) = tt
+spelled instrs.Snap = tt
 spelled instrs.Halt = tt
 
 pub makes_short : (q : Mutator) (i : Instr) (m : Making) → action q i ≡ Ok (Makes m.kind m.into m.len) → FitsKind m.kind m.len

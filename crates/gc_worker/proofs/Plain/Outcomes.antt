@@ -5,7 +5,7 @@ use Rattle.std.specs.Prelude.{IfOk, IsOk, if◌then◌else◌, [], ◌∷◌, ma
 use Rattle.std.proofs.lemmas.Option.{slice_get_within}
 use Rattle.plain_state.specs.declared.end.End.{End}
 use Rattle.plain_state.specs.declared.end.End.TheVariants as ends
-use Rattle.plain_state.specs.State.{Record, Heap, Mutator, Plain, record_of, serial_of}
+use Rattle.plain_state.specs.State.{Record, Heap, Mutator, Plain, none_snapped, record_of, serial_of}
 use Rattle.plain_state.specs.declared.value.Identity.{Identity}
 use Rattle.plain_state.specs.declared.value.Value.{Value}
 use Rattle.plain_state.specs.declared.value.Value.TheVariants.{Number}
@@ -17,7 +17,7 @@ use Rattle.mutator_asm.specs.declared.instr.Instr.{Instr}
 use Rattle.mutator_asm.specs.Program.{instr_at}
 use Rattle.plain_heap.specs.declared.mark.Mark.TheVariants as marks
 use Rattle.plain_heap.specs.declared.action.Action.{Action}
-use Rattle.plain_heap.specs.declared.action.Action.TheVariants.{Sets, Jumps, Links, Prints, Makes, Measures, Loads, Stores, Exchanges, Gets, Puts, Swaps}
+use Rattle.plain_heap.specs.declared.action.Action.TheVariants.{Sets, Jumps, Links, Prints, Makes, Measures, Loads, Stores, Exchanges, Gets, Puts, Swaps, Snaps}
 use Rattle.plain_heap.specs.Action.{◌>>=◌, action}
 use Rattle.plain_heap.specs.Call.{After, call, performed, value_in, store_in, may_hold, set_register, went_on}
 use Rattle.plain_heap.specs.Order.{marked, state_after, end_of}
@@ -42,7 +42,7 @@ map_const b (x ∷ xs) = ap (λ rest. b ∷ rest) (map_const b xs)
 
 pub opens_so : (code : List (List Instr)) → opening_plain (length code) ≡ order.opening code
 opens_so code = λ i. record {
-  heap = record { records = sym (map_const [] code) i; board = replicate 16 (Number 0) };
+  heap = record { records = sym (map_const [] code) i; board = replicate 16 (Number 0); snaps = 0; snapped = none_snapped };
   mutators = sym (map_const order.fresh code) i;
 }
 
@@ -85,6 +85,7 @@ module _ (m : ℕ) (heap : Heap) (k : Mutator) (made : m < length heap.records) 
   performed-counted (Jumps target) = omega arith
   performed-counted (Links d target) = omega arith
   performed-counted (Prints n) = omega arith
+  performed-counted Snaps = omega arith
   performed-counted (Makes kind d n) = let g = gained_serial heap m (zeros kind n) made in omega (arith, g)
   performed-counted (Measures d i) = omega arith
   performed-counted (Loads d i x) = if_ok-bind Counted (value_in heap i x) _ (λ v. omega arith)

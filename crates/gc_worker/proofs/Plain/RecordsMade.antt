@@ -83,4 +83,5 @@ made_of q (instrs.Get d x) = no_record_then (board_place q x) _ (λ n. refl)
 made_of q (instrs.Put x a) = no_record_then (board_place q x) _ (λ n. refl)
 made_of q (instrs.Swap d x) = no_record_then (board_place q x) _ (λ n. refl)
 made_of q (instrs.Out a) = no_record_then (as_number (register q a)) _ (λ n. prints_no_record n (nat_lt (length q.printed) MOST_PRINTED))
+made_of q instrs.Snap = refl
 made_of q instrs.Halt = refl

@@ -246,6 +246,7 @@ module _ (c : Configuration) (p : Plain) (s : Stands c p) (k : ℕ) (x : Held) (
     spells (instrs.Put y a) valid = tt
     spells (instrs.Swap d y) valid = tt
     spells (instrs.Out a) valid = tt
+    spells instrs.Snap valid = tt
     spells instrs.Halt valid = tt
 
     -- each value and record that it names is held; lengths and words of the board are in range, and there is room to print

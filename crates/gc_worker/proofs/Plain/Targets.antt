@@ -87,4 +87,5 @@ module _ (q : Mutator) where
   writes_register (instrs.Put x a) valid = if_ok-bind WritesRegister (board_place q x) _ (λ y. tt)
   writes_register (instrs.Swap d x) valid = if_ok-bind WritesRegister (board_place q x) _ (λ y. first d _ valid)
   writes_register (instrs.Out a) valid = if_ok-bind WritesRegister (as_number (register q a)) _ (λ n. printed n (nat_lt (length q.printed) MOST_PRINTED) refl)
+  writes_register instrs.Snap valid = tt
   writes_register instrs.Halt valid = tt

@@ -11,7 +11,7 @@ use Rattle.alloc_end.specs.declared.run.Run.{Run}
 use Rattle.alloc_end.specs.declared.shortage.Shortage.{Shortage}
 use Rattle.alloc_end.specs.Place as place
 use Rattle.fault_duty.specs.declared.round_end.RoundEnd.{RoundEnd}
-use Rattle.fault_duty.specs.declared.round_end.RoundEnd.TheVariants.{ScanPage, ScanInPlace, Marked, AllLeft, NothingNow}
+use Rattle.fault_duty.specs.declared.round_end.RoundEnd.TheVariants.{ScanPage, ScanInPlace, Marked, Traced, AllLeft, NothingNow}
 use Rattle.fault_duty.specs.Duty as duty
 use Rattle.forwarding.specs.declared.to.To.{To}
 use Rattle.gate_core.specs.declared.flipped.Flipped.{Flipped}
@@ -21,7 +21,7 @@ use Rattle.space_map.specs.GateWord.{decode_gate}
 use Rattle.gate_core.specs.declared.gate_stage.GateStage.{GateStage}
 use Rattle.gate_core.specs.declared.gate_stage.GateStage.TheVariants as gate_stage
 use Rattle.gate_core.specs.declared.passage.Passage.{Passage}
-use Rattle.gate_core.specs.declared.passage.Passage.TheVariants.{Look, Attach, Park, Request, Resume, Forwarded, Leave}
+use Rattle.gate_core.specs.declared.passage.Passage.TheVariants.{Look, Attach, Park, Request, Resume, Forwarded, Leave, Clear}
 use Rattle.gate_core.specs.declared.passed.Passed.{Passed}
 use Rattle.gate_core.specs.declared.passed.Passed.TheVariants as passed
 use Rattle.gate_core.specs.Flip as flip
@@ -58,7 +58,7 @@ no_passing_on : (g : gate.Passing) (before : After) (y : Held) (after : After) �
 no_passing_on g before y afters.Looks same = same
 no_passing_on g before y afters.Places same = no_pass g before y (header_for y) same
 
--- who leaves, or says that its registers are forwarded, is let through by any gate
+-- who leaves, clears a request or says that its registers are forwarded is let through by any gate
 always_passes : (passage : Passage) → ((read : GateWord) → gate.allows passage read ≡ true) → ((word : ℕ) (read : GateWord) → gate.allowed passage word read ≡ gate_stage.Exchanges read) → (stage : GateStage) (reply : Reply)
     → IsPassingGoing stage → (word : ℕ) → gate.told_at (gate.next_stage passage stage reply) ≡ Finished (passed.NotYet word) → ⊥
 always_passes passage allows exchanges gate_stage.Loads (Value loaded) going word ends = by_gate (decode_gate loaded) ends
@@ -94,6 +94,8 @@ passages_end x g before after reply (Resume epoch) (passed.Went word) is look go
 passages_end x g before after reply Forwarded (passed.Went word) is look going ends same = absurd (let e = sym is ∙ sym same in cc)
 passages_end x g before after reply Leave (passed.Went word) is look going ends same = absurd same
 passages_end x g before after reply Look result is look going ends same = absurd (look refl)
+passages_end x g before after reply Clear (passed.Went word) is look going ends same = absurd (let e = sym is ∙ sym same in cc)
+passages_end x g before after reply Clear (passed.NotYet word) is look going ends same = absurd (always_passes Clear (λ read. refl) (λ loaded read. refl) g.stage reply going word ends)
 
 -- ---- flips
 
@@ -158,6 +160,7 @@ pub rounds_end : (x : Held) (was d : duty.Round) (back : Back) (result : RoundEn
 rounds_end x was d back (ScanPage page) same = absurd same
 rounds_end x was d back (ScanInPlace page) same = absurd same
 rounds_end x was d back Marked same = round_back (record x { epoch = d.epoch }) was back same
+rounds_end x was d back Traced same = round_back (record x { epoch = d.epoch }) was back same
 rounds_end x was d back (NothingNow word) same = round_back (record x { epoch = d.epoch }) was back same
 rounds_end x was d back (AllLeft word) same = absurd same
 

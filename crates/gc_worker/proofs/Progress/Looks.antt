@@ -7,7 +7,7 @@ use Rattle.plain_state.specs.declared.kind.Kind.{Kind}
 use Rattle.record_layout.specs.declared.header.Header.{Header}
 use Rattle.mutator_asm.specs.declared.instr.Instr.{Instr}
 use Rattle.plain_heap.specs.declared.action.Action.{Action}
-use Rattle.plain_heap.specs.declared.action.Action.TheVariants.{Sets, Jumps, Links, Prints, Makes, Measures, Loads, Stores, Exchanges, Gets, Puts, Swaps}
+use Rattle.plain_heap.specs.declared.action.Action.TheVariants.{Sets, Jumps, Links, Prints, Makes, Measures, Loads, Stores, Exchanges, Gets, Puts, Swaps, Snaps}
 use Rattle.plain_heap.specs.Action.{action}
 use Rattle.space_map.specs.declared.gate_word.GateWord.{GateWord}
 use Rattle.space_map.specs.GateWord.{decode_gate}
@@ -43,6 +43,7 @@ acts_done y task (Sets d v) has again = refl
 acts_done y task (Jumps target) has again = refl
 acts_done y task (Links d target) has again = refl
 acts_done y task (Prints n) has again = refl
+acts_done y task Snaps has again = refl
 acts_done y task (Makes kind d n) has again = absurd (no_placing y (header_for y) (has kind d n refl) again)
 acts_done y task (Measures d i) has again = absurd again
 acts_done y task (Loads d i n) has again = absurd again

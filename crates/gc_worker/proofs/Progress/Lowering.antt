@@ -17,7 +17,7 @@ use Rattle.gate_core.specs.declared.flipped.Flipped.TheVariants as flipped
 use Rattle.gate_core.specs.declared.gate_stage.GateStage.{GateStage}
 use Rattle.gate_core.specs.declared.gate_stage.GateStage.TheVariants as gate_stage
 use Rattle.gate_core.specs.declared.passage.Passage.{Passage}
-use Rattle.gate_core.specs.declared.passage.Passage.TheVariants.{Look, Attach, Park, Request, Resume, Forwarded, Leave}
+use Rattle.gate_core.specs.declared.passage.Passage.TheVariants.{Look, Attach, Park, Request, Resume, Forwarded, Leave, Clear}
 use Rattle.gate_core.specs.declared.passed.Passed.TheVariants as passed
 use Rattle.gate_core.specs.Flip as flip
 use Rattle.gate_core.specs.Gate as gate
@@ -48,6 +48,8 @@ by_allowed Forwarded word read true = omega arith
 by_allowed Forwarded word read false = omega arith
 by_allowed Leave word read true = omega arith
 by_allowed Leave word read false = omega arith
+by_allowed Clear word read true = omega arith
+by_allowed Clear word read false = omega arith
 
 by_gate : (passage : Passage) (word : ℕ) (o : Option GateWord) → is_some o ≡ true → gate.left_at passage (gate.looked passage word o) < gate.left_before passage
 by_gate passage word (Some read) t = by_allowed passage word read (gate.allows passage read)
@@ -93,16 +95,16 @@ module _ (p : place.Placing) where
   abbrev asked : ℕ
   asked = place.pages_for (place.size_of p.header)
 
-  by_fits : (traced : Bool) (size : ℕ) (area : AreaWord) (b : Bool) → place.left_at asked (cond b (place_stage.ExchangesArea (record { traced = traced; area = area })) (place_stage.Ended (Full (place.shortage traced size p.header area)))) < 65 * asked + 4
+  by_fits : (traced : Bool) (size : ℕ) (area : AreaWord) (b : Bool) → place.left_at asked (cond b (place_stage.ExchangesArea (record { traced = traced; area = area })) (place_stage.Ended (Full (place.shortage traced size p.header area)))) < 66 * asked + 4
   by_fits traced size area true = omega arith
   by_fits traced size area false = omega arith
 
-  by_place_area : (traced : Bool) (size : ℕ) (o : Option AreaWord) → is_some o ≡ true → place.left_at asked (place.looked_at_area p traced size o) < 65 * asked + 4
+  by_place_area : (traced : Bool) (size : ℕ) (o : Option AreaWord) → is_some o ≡ true → place.left_at asked (place.looked_at_area p traced size o) < 66 * asked + 4
   by_place_area traced size (Some area) t = by_fits traced size area (place.fits traced (place.words_for p.header) area)
   by_place_area traced size None t = absurd (cc)
 
-  by_cleared : (new : NewPages) → FitsPlaceStage p.layout.pages asked p.run p.header (place_stage.StoresZero new)
-      → place.left_at asked (place.cleared (place.words_for p.header) new) < 65 * asked + 2 - (new.next - new.first)
+  by_cleared : (new : NewPages) → FitsPlaceStage p.layout.pages asked p.snap p.run p.header (place_stage.StoresZero new)
+      → place.left_at asked (place.cleared (place.words_for p.header) p.snap new) < 66 * asked + 2 - (new.next - new.first)
   by_cleared new fits = grind (arith, nat_tests)
 
   by_first : (kind : Kind) → place.left_at asked (place.stores_first kind) ≤ 2
@@ -110,16 +112,17 @@ module _ (p : place.Placing) where
   by_first Raw = omega arith
   by_first Mixed = omega arith
 
-  by_opened : (new : NewPages) → FitsPlaceStage p.layout.pages asked p.run p.header (place_stage.OpensPage new) → place.left (place.after_opening p new) < asked + 2 - (new.next - page_of new.first)
+  by_opened : (new : NewPages) → FitsPlaceStage p.layout.pages asked p.snap p.run p.header (place_stage.OpensPage new) → place.left (place.after_opening p new) < 2 * asked + 1 - 2 * (new.next - page_of new.first)
   by_opened new fits = let first = by_first p.header.kind in grind (arith, nat_tests, first)
 
-  pub allocations_lower : (stage : PlaceStage) (r : Reply) → FitsPlaceStage p.layout.pages asked p.run p.header stage → place.advances_at stage r ≡ true
+  pub allocations_lower : (stage : PlaceStage) (r : Reply) → FitsPlaceStage p.layout.pages asked p.snap p.run p.header stage → place.advances_at stage r ≡ true
       → place.left (place.taken_at p stage r) < place.left_at asked stage
   allocations_lower place_stage.LoadsTraced (Value word) fits t = omega arith
   allocations_lower (place_stage.LoadsSize traced) (Value word) fits t = omega arith
   allocations_lower (place_stage.LoadsArea traced size) (Value word) fits t = by_place_area traced size (decode_area word) t
   allocations_lower (place_stage.ExchangesArea f) Won fits t = omega arith
   allocations_lower (place_stage.StoresZero new) Done fits t = by_cleared new fits
+  allocations_lower (place_stage.StoresNew new) Done fits t = let page = fits.0 in omega (arith, page)
   allocations_lower (place_stage.OpensPage new) Done fits t = by_opened new fits
   allocations_lower place_stage.StoresCount Done fits t = omega arith
   allocations_lower place_stage.StoresHeader Done fits t = omega arith

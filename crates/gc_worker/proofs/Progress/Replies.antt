@@ -140,6 +140,7 @@ module _ (c : Configuration) (p : Plain) (s : Stands c p) (k : ℕ) where
   placing a (place_stage.LoadsArea traced size) q same asked = subst (On (place.advances_at (place_stage.LoadsArea traced size))) (same_Some _ q asked) (Advances (says_area a.layout.pages same a.epoch))
   placing a (place_stage.ExchangesArea f) q same asked = subst (On (place.advances_at (place_stage.ExchangesArea f))) (same_Some _ q asked) (won_or_lost _ _ _ _ refl)
   placing a (place_stage.StoresZero new) q same asked = subst (On (place.advances_at (place_stage.StoresZero new))) (same_Some _ q asked) (Advances refl)
+  placing a (place_stage.StoresNew new) q same asked = subst (On (place.advances_at (place_stage.StoresNew new))) (same_Some _ q asked) (Advances refl)
   placing a (place_stage.OpensPage new) q same asked = subst (On (place.advances_at (place_stage.OpensPage new))) (same_Some _ q asked) (Advances refl)
   placing a place_stage.StoresCount q same asked = subst (On (place.advances_at place_stage.StoresCount)) (same_Some _ q asked) (Advances refl)
   placing a place_stage.StoresHeader q same asked = subst (On (place.advances_at place_stage.StoresHeader)) (same_Some _ q asked) (Advances refl)

@@ -31,7 +31,7 @@ use Rattle.forwarding.specs.Taken as evac_taken
 use Rattle.atom_store.specs.declared.reply.Reply.{Reply}
 use Rattle.atom_store.specs.declared.turn.Turn.TheVariants.{Finished}
 use Rattle.fault_duty.specs.declared.round_end.RoundEnd.{RoundEnd}
-use Rattle.fault_duty.specs.declared.round_end.RoundEnd.TheVariants.{ScanPage, ScanInPlace, Marked, AllLeft, NothingNow}
+use Rattle.fault_duty.specs.declared.round_end.RoundEnd.TheVariants.{ScanPage, ScanInPlace, Marked, Traced, AllLeft, NothingNow}
 use Rattle.gc_worker.specs.declared.task.Task.{Task}
 use Rattle.plain_state.specs.declared.value.Value.TheVariants.{Number, Reference}
 
@@ -190,7 +190,7 @@ serial_fits account registers task m = m.executes.call.serial m.making (ap makin
 
 -- an allocation fits a worker whatever its stage was before
 pub placing_fits : (x : Held) (was : Stage) (header : Option Header) → FitsStage (at_stage x was) (places x header) → FitsStage x (places x header)
-placing_fits x was (Some header) fits = record { layout = fits.layout; epoch = fits.epoch; fields = fits.fields; going = fits.going; rest = fits.rest; sound = fits.sound }
+placing_fits x was (Some header) fits = record { layout = fits.layout; epoch = fits.epoch; fields = fits.fields; snap = fits.snap; going = fits.going; rest = fits.rest; sound = fits.sound }
 placing_fits x was None fits = fits
 
 -- ---- rounds
@@ -200,6 +200,7 @@ served_alike : (x : Held) (d : Round) (epoch : ℕ) (back : Back) (end : RoundEn
 served_alike x d epoch back (ScanPage page) is = ap (λ (e : ℕ). scans (record x { epoch = e }) page false back) is
 served_alike x d epoch back (ScanInPlace page) is = ap (λ (e : ℕ). scans (record x { epoch = e }) page true back) is
 served_alike x d epoch back Marked is = ap (λ (e : ℕ). back_from (record x { epoch = e }) back) is
+served_alike x d epoch back Traced is = ap (λ (e : ℕ). back_from (record x { epoch = e }) back) is
 served_alike x d epoch back (NothingNow word) is = ap (λ (e : ℕ). back_from (record x { epoch = e }) back) is
 served_alike x d epoch back (AllLeft word) is = refl
 
@@ -210,6 +211,9 @@ served_anywhere x was epoch back (ScanInPlace page) = refl
 served_anywhere x was epoch (ToAccess access) Marked = refl
 served_anywhere x was epoch ToPlace Marked = refl
 served_anywhere x was epoch ToScanner Marked = refl
+served_anywhere x was epoch (ToAccess access) Traced = refl
+served_anywhere x was epoch ToPlace Traced = refl
+served_anywhere x was epoch ToScanner Traced = refl
 served_anywhere x was epoch (ToAccess access) (NothingNow word) = refl
 served_anywhere x was epoch ToPlace (NothingNow word) = refl
 served_anywhere x was epoch ToScanner (NothingNow word) = refl
@@ -232,6 +236,9 @@ served_uncounted x d back (ScanInPlace page) = refl
 served_uncounted x d (ToAccess access) Marked = refl
 served_uncounted x d ToPlace Marked = refl
 served_uncounted x d ToScanner Marked = refl
+served_uncounted x d (ToAccess access) Traced = refl
+served_uncounted x d ToPlace Traced = refl
+served_uncounted x d ToScanner Traced = refl
 served_uncounted x d (ToAccess access) (NothingNow word) = refl
 served_uncounted x d ToPlace (NothingNow word) = refl
 served_uncounted x d ToScanner (NothingNow word) = refl

@@ -9,7 +9,7 @@ use Rattle.atom_store.specs.declared.reply.Reply.TheVariants.{Value, Done, Won, 
 use Rattle.space_map.specs.Table.{Row, IsRow, place_of}
 use Rattle.space_map.proofs.Rows.{place_of-lt}
 use Rattle.heap_state.specs.Configuration.{Configuration, Stands, era, memory, team}
-use Rattle.heap_state.specs.Memory.Entries.{Entry, row_of, word_of}
+use Rattle.heap_state.specs.Memory.Entries.{WholeRow, Within, Behind, whole_place_of, IsWholeRow, word_in_whole, Entry, row_of, word_of}
 use Rattle.heap_state.specs.Invariant.Ghost.{Ghost}
 use Rattle.heap_state.specs.Memory.Table.{word_in}
 use Rattle.heap_state.specs.Worker.{Worker}
@@ -27,6 +27,15 @@ use Rattle.gc_worker.specs.Steps.Goes.{Is, Goes, StepsInTable, Wins}
 use Rattle.gc_worker.specs.Workers.Held.{Held}
 use Rattle.gc_worker.specs.Workers.Knows.{knows}
 use Rattle.gc_worker.specs.Steps.Turned.{Silent, PageWon, turned, told, won}
+
+-- the row is one of the table, not one of those behind it
+abbrev pub IsInTable : ℕ → WholeRow → Type 0
+IsInTable n (Within row) = IsRow n row
+IsInTable n (Behind row) = ⊥
+
+in_any : (n : ℕ) (row : WholeRow) → IsInTable n row → IsWholeRow n row
+in_any n (Within row) is = is
+in_any n (Behind row) is = absurd is
 
 module _ (c : Configuration) (p : Plain) (s : Stands c p) (k : ℕ) (x : Held) where
   -- what a law of the heap says of a step of worker k
@@ -54,8 +63,8 @@ module _ (c : Configuration) (p : Plain) (s : Stands c p) (k : ℕ) (x : Held) w
       quiet e reply h below (subst (λ (z : Held). Law e (knows z) h) (sym same) l) silent takes (subst (Fits c.pages c.mutators k) (sym same) fits)
       (subst (λ (w : Option PageWon). Wins c e k (turned x reply) w) (sym none) tt)
 
-  -- the row that a law says is written is one of the table
-  pub row_fits : (e : Entry) (w : Worker) (h : Ghost) → k < length c.workers → Law (Some e) w h → IsRow c.pages (row_of e)
+  -- the row that a law says is written is one of the table, or one of those behind it
+  pub row_fits : (e : Entry) (w : Worker) (h : Ghost) → k < length c.workers → Law (Some e) w h → IsWholeRow c.pages (row_of e)
   row_fits e w h below l = entry_has_row c.pages e (steps_are_lifted c p s (Some e) k w h below l).fits
 
   in_table : (row : Row) → IsRow c.pages row → place_of c.pages row < length c.words
@@ -67,30 +76,50 @@ module _ (c : Configuration) (p : Plain) (s : Stands c p) (k : ℕ) (x : Held) w
   pub loads : (row : Row) → IsRow c.pages row → Goes c p s k None x (Value (word_in c.pages c.words row)) → StepsInTable c p s k x (Load (place_of c.pages row))
   loads row is g = record { place = in_table row is; entry = None; writes = refl; goes = rw (reads row is) g }
 
-  pub stores : (e : Entry) → IsRow c.pages (row_of e) → Goes c p s k (Some e) x Done → StepsInTable c p s k x (Store (place_of c.pages (row_of e)) (word_of e))
-  stores e is g = record { place = in_table (row_of e) is; entry = Some e; writes = refl; goes = g }
+  -- where a row of the table stands there is a word
+  there : (row : WholeRow) → IsInTable c.pages row → whole_place_of c.pages row < length c.words
+  there (Within row) is = in_table row is
+  there (Behind row) is = absurd is
 
-  module _ (e : Entry) (old : ℕ) (is : IsRow c.pages (row_of e)) where
+  reads_any : (row : WholeRow) → IsWholeRow c.pages row → slice_index c.words (whole_place_of c.pages row) ≡ word_in_whole c.pages c.words row
+  reads_any (Within row) is = reads row is
+  reads_any (Behind row) is = refl
+
+  -- a store of any row whose word there is
+  pub stores_there : (e : Entry) → whole_place_of c.pages (row_of e) < length c.words → Goes c p s k (Some e) x Done
+      → StepsInTable c p s k x (Store (whole_place_of c.pages (row_of e)) (word_of e))
+  stores_there e within g = record { place = within; entry = Some e; writes = refl; goes = g }
+
+  pub stores : (e : Entry) → IsInTable c.pages (row_of e) → Goes c p s k (Some e) x Done → StepsInTable c p s k x (Store (whole_place_of c.pages (row_of e)) (word_of e))
+  stores e is g = stores_there e (there (row_of e) is) g
+
+  module _ (e : Entry) (old : ℕ) (is : IsWholeRow c.pages (row_of e)) (within : whole_place_of c.pages (row_of e) < length c.words) where
     abbrev word : ℕ
-    word = word_in c.pages c.words (row_of e)
+    word = word_in_whole c.pages c.words (row_of e)
 
-    at : slice_index c.words (place_of c.pages (row_of e)) ≡ word
-    at = reads (row_of e) is
+    at : slice_index c.words (whole_place_of c.pages (row_of e)) ≡ word
+    at = reads_any (row_of e) is
 
     abbrev Exchanges : Type 0
-    Exchanges = StepsInTable c p s k x (Exchange (place_of c.pages (row_of e)) old (word_of e))
+    Exchanges = StepsInTable c p s k x (Exchange (whole_place_of c.pages (row_of e)) old (word_of e))
 
-    by_won : (slice_index c.words (place_of c.pages (row_of e)) == old) ≡ true → Goes c p s k (Some e) x Won → Exchanges
-    by_won test g = record { place = in_table (row_of e) is; entry = Some e; writes = rw test refl; goes = rw test g }
+    by_won : (slice_index c.words (whole_place_of c.pages (row_of e)) == old) ≡ true → Goes c p s k (Some e) x Won → Exchanges
+    by_won test g = record { place = within; entry = Some e; writes = rw test refl; goes = rw test g }
 
-    by_lost : (slice_index c.words (place_of c.pages (row_of e)) == old) ≡ false → Goes c p s k None x (Lost word) → Exchanges
-    by_lost test g = record { place = in_table (row_of e) is; entry = None; writes = rw test refl; goes = rw (test, at) g }
+    by_lost : (slice_index c.words (whole_place_of c.pages (row_of e)) == old) ≡ false → Goes c p s k None x (Lost word) → Exchanges
+    by_lost test g = record { place = within; entry = None; writes = rw test refl; goes = rw (test, at) g }
 
-    pub exchanges : (word ≡ old → Goes c p s k (Some e) x Won) → (word ≢ old → Goes c p s k None x (Lost word)) → Exchanges
-    exchanges won lost = ⊎_elim
-        (λ (same : word ≡ old). by_won (eq-eqb (slice_index c.words (place_of c.pages (row_of e))) old (at ∙ same)) (won same))
-        (λ (other : word ≢ old). by_lost (ne_eqb (slice_index c.words (place_of c.pages (row_of e))) old (λ same. other (sym at ∙ same))) (lost other))
+    -- an exchange of any row whose word there is
+    pub exchanges_there : (word ≡ old → Goes c p s k (Some e) x Won) → (word ≢ old → Goes c p s k None x (Lost word)) → Exchanges
+    exchanges_there won lost = ⊎_elim
+        (λ (same : word ≡ old). by_won (eq-eqb (slice_index c.words (whole_place_of c.pages (row_of e))) old (at ∙ same)) (won same))
+        (λ (other : word ≢ old). by_lost (ne_eqb (slice_index c.words (whole_place_of c.pages (row_of e))) old (λ same. other (sym at ∙ same))) (lost other))
         (cases_eq word old)
+
+  pub exchanges : (e : Entry) (old : ℕ) → IsInTable c.pages (row_of e)
+      → (word_in_whole c.pages c.words (row_of e) ≡ old → Goes c p s k (Some e) x Won) → (word_in_whole c.pages c.words (row_of e) ≢ old → Goes c p s k None x (Lost (word_in_whole c.pages c.words (row_of e))))
+      → StepsInTable c p s k x (Exchange (whole_place_of c.pages (row_of e)) old (word_of e))
+  exchanges e old is = exchanges_there e old (in_any c.pages (row_of e) is) (there (row_of e) is)
 
   module _ (is : Is c k x) where
     pub prepared : Ready (era c) (memory c) (team c) s.ghost k

@@ -7,7 +7,7 @@ use Rattle.mutator_asm.specs.declared.instr.Instr.{Instr}
 use Rattle.mutator_asm.specs.declared.instr.Instr.TheVariants as instrs
 use Rattle.mutator_asm.specs.declared.operand.Operand.TheVariants as operands
 use Rattle.plain_heap.specs.declared.action.Action.{Action}
-use Rattle.plain_heap.specs.declared.action.Action.TheVariants.{Sets, Jumps, Links, Prints, Makes, Measures, Loads, Stores, Exchanges, Gets, Puts, Swaps}
+use Rattle.plain_heap.specs.declared.action.Action.TheVariants.{Sets, Jumps, Links, Prints, Makes, Measures, Loads, Stores, Exchanges, Gets, Puts, Swaps, Snaps}
 use Rattle.plain_heap.specs.Action.{action}
 use Rattle.record_layout.specs.declared.header.Header.{Header}
 use Rattle.space_map.specs.declared.gate_word.GateWord.{GateWord}
@@ -21,7 +21,7 @@ use Rattle.alloc_end.specs.declared.allocated.Allocated.TheVariants.{Placed, Ful
 use Rattle.alloc_end.specs.declared.shortage.Shortage.{Shortage}
 use Rattle.alloc_end.specs.Place as place
 use Rattle.fault_duty.specs.declared.round_end.RoundEnd.{RoundEnd}
-use Rattle.fault_duty.specs.declared.round_end.RoundEnd.TheVariants.{ScanPage, ScanInPlace, Marked, AllLeft, NothingNow}
+use Rattle.fault_duty.specs.declared.round_end.RoundEnd.TheVariants.{ScanPage, ScanInPlace, Marked, Traced, AllLeft, NothingNow}
 use Rattle.fault_duty.specs.Duty as duty
 use Rattle.forwarding.specs.declared.to.To.{To}
 use Rattle.forwarding.specs.Evacuation as evac
@@ -29,7 +29,7 @@ use Rattle.forwarding.specs.Taken as evac_taken
 use Rattle.gate_core.specs.declared.flipped.Flipped.{Flipped}
 use Rattle.gate_core.specs.declared.flipped.Flipped.TheVariants as flipped
 use Rattle.gate_core.specs.declared.passage.Passage.{Passage}
-use Rattle.gate_core.specs.declared.passage.Passage.TheVariants.{Look, Attach, Park, Request, Resume, Forwarded, Leave}
+use Rattle.gate_core.specs.declared.passage.Passage.TheVariants.{Look, Attach, Park, Request, Resume, Forwarded, Leave, Clear}
 use Rattle.gate_core.specs.declared.passed.Passed.{Passed}
 use Rattle.gate_core.specs.declared.passed.Passed.TheVariants as passed
 use Rattle.gate_core.specs.Gate as gate
@@ -100,6 +100,7 @@ same_action m count (instrs.Put (operands.Number n) a) = refl
 same_action m count (instrs.Swap d (operands.Reg r)) = refl
 same_action m count (instrs.Swap d (operands.Number n)) = refl
 same_action m count (instrs.Out a) = refl
+same_action m count instrs.Snap = refl
 same_action m count instrs.Halt = refl
 
 module _ (count : ℕ) (x : Held) where
@@ -127,7 +128,7 @@ module _ (count : ℕ) (x : Held) where
 
   same_places : (header : Option Header) → places y header ≡ places x header
   same_places None = refl
-  same_places (Some header) = ap (λ (n : ℕ). Places (place.begun x.layout (run_held x) header x.epoch n)) same_fields
+  same_places (Some header) = ap (λ (n : ℕ). Places (place.begun x.layout (run_held x) header x.epoch n 0)) same_fields
 
   placing : places y (header_for y) ≡ places x (header_for x)
   placing = same_places (header_for y) ∙ ap (places x) same_header
@@ -160,6 +161,8 @@ module _ (count : ℕ) (x : Held) where
   passing after Leave (passed.Went word) = refl
   passing after Leave (passed.NotYet word) = refl
   passing after Look result = refl
+  passing after Clear (passed.Went word) = refl
+  passing after Clear (passed.NotYet word) = refl
 
   gating : (g : gate.Passing) (after : After) (t : Turn Passed) → turned_gate y g after t ≡ counted count (turned_gate x g after t)
   gating g after More = refl
@@ -228,6 +231,7 @@ serving count x d back More = refl
 serving count x d back (Finished (ScanPage page)) = refl
 serving count x d back (Finished (ScanInPlace page)) = refl
 serving count x d back (Finished Marked) = ap (λ (stage : Stage). counted count (at_stage (of_round x d) stage)) (going_back count (of_round x d) back)
+serving count x d back (Finished Traced) = ap (λ (stage : Stage). counted count (at_stage (of_round x d) stage)) (going_back count (of_round x d) back)
 serving count x d back (Finished (NothingNow word)) = ap (λ (stage : Stage). counted count (at_stage (of_round x d) stage)) (going_back count (of_round x d) back)
 serving count x d back (Finished (AllLeft word)) = refl
 
@@ -240,6 +244,7 @@ module _ (count : ℕ) (x : Held) where
   acting instr (Ok (Jumps target)) = refl
   acting instr (Ok (Links d target)) = refl
   acting instr (Ok (Prints n)) = refl
+  acting instr (Ok Snaps) = refl
   acting instr (Ok (Makes kind d n)) = ap (λ (stage : Stage). counted count (at_stage (begins x) stage)) (placing count (begins x))
   acting instr (Ok (Measures d i)) = refl
   acting instr (Ok (Loads d i n)) = refl
@@ -380,6 +385,7 @@ module _ (count : ℕ) (x : Held) where
   task_before Park after task = task_after after task
   task_before (Resume epoch) after task = task_after after task
   task_before Forwarded after task = task_after after task
+  task_before Clear after task = (beginning x.task task.0, task.1)
   task_before Look after task = task
 
   fits_task : (stage : Stage) → FitsTask x stage → FitsTask z stage
@@ -410,7 +416,7 @@ module _ (count : ℕ) (x : Held) where
   fits_stage (Flips g) f = record { layout = f.layout; epoch = f.epoch; seen = f.seen; going = f.going; sound = f.sound }
   fits_stage (Forwards w) f = record { register = f.register; copy = fits_copy (x.epoch + 1) w.evac f.copy }
   fits_stage (Accesses a) f = f
-  fits_stage (Places p) f = record { layout = f.layout; epoch = f.epoch; fields = f.fields ∙ sym (same_fields count x); going = f.going; rest = f.rest; sound = f.sound }
+  fits_stage (Places p) f = record { layout = f.layout; epoch = f.epoch; fields = f.fields ∙ sym (same_fields count x); snap = f.snap; going = f.going; rest = f.rest; sound = f.sound }
   fits_stage (Serves d back) f = (fits_round d back f.0, f.1)
   fits_stage (Scans s back) f = (fits_scan s f.0, f.1, f.2)
   fits_stage (Evacuates v s back) f = (fits_copy x.epoch v f.0, fits_scan s f.1, f.2, f.3)

@@ -24,11 +24,11 @@ use Rattle.heap_laws.specs.Allocation.Records.{stored_ahead}
 -- ---- an allocation begins
 
 -- the first store of a record fits a run that has room for it
-pub first_fits : (n asked fields : ℕ) (run : Run) (header : Header) (kind : Kind) → header.kind ≡ kind → HoldsFields header fields → run.at + place.size_of header ≤ run.end
-    → FitsPlaceStage n asked run header (place.stores_first kind)
-first_fits n asked fields run header Fields is holds room = room
-first_fits n asked fields run header Raw is holds room = room
-first_fits n asked fields run header Mixed is holds room = let some = holds is in (is, omega (arith, some), room)
+pub first_fits : (n asked snap fields : ℕ) (run : Run) (header : Header) (kind : Kind) → header.kind ≡ kind → HoldsFields header fields → run.at + place.size_of header ≤ run.end
+    → FitsPlaceStage n asked snap run header (place.stores_first kind)
+first_fits n asked snap fields run header Fields is holds room = room
+first_fits n asked snap fields run header Raw is holds room = room
+first_fits n asked snap fields run header Mixed is holds room = let some = holds is in (is, omega (arith, some), room)
 
 -- and leaves less than a page of a short one
 pub first_rest : (run : Run) (header : Header) (kind : Kind) → run.end < run.at + place.size_of header + 64 → LeavesShortRun run header (place.stores_first kind)
@@ -46,7 +46,7 @@ first_at kind b = cond b (place.stores_first kind) LoadsTraced
 
 module _ (x : Held) (header : Header) where
   abbrev begun_at : PlaceStage → place.Placing
-  begun_at stage = record { layout = x.layout; run = run_held x; header = header; fields = fields_for x; epoch = x.epoch; stage = stage }
+  begun_at stage = record { layout = x.layout; run = run_held x; header = header; fields = fields_for x; epoch = x.epoch; snap = 0; stage = stage }
 
   -- a run that isn't there has no room
   held : (run : Option Run) → nat_le ((run_in run).at + place.size_of header) (run_in run).end ≡ true → Some (stock_of x.epoch (run_in run)) ≡ own_stock x.epoch run
@@ -67,9 +67,9 @@ module _ (x : Held) (header : Header) where
   known_by kind is false room = refl
 
   stage_by : HoldsFields header (fields_for x) → (b : Bool) → nat_le ((run_held x).at + place.size_of header) (run_held x).end ≡ b
-      → FitsPlaceStage x.layout.pages (place.pages_for (place.size_of header)) (run_held x) header (first_at header.kind b)
+      → FitsPlaceStage x.layout.pages (place.pages_for (place.size_of header)) 0 (run_held x) header (first_at header.kind b)
   stage_by holds true is =
-      first_fits x.layout.pages (place.pages_for (place.size_of header)) (fields_for x) (run_held x) header header.kind refl holds
+      first_fits x.layout.pages (place.pages_for (place.size_of header)) 0 (fields_for x) (run_held x) header header.kind refl holds
       (leb-true ((run_held x).at + place.size_of header) (run_held x).end is)
   stage_by holds false is = tt
 
@@ -106,10 +106,11 @@ module _ (n mutators k : ℕ) (x : Held) (f : Fits n mutators k x) (unended : is
       subst (λ (h : Header). HoldsFields h (fields_for x)) (same_Some (header_made x making) header (sym (header_is x making) ∙ is)) (holds_fields x making)
 
   places_by : (making : IsMaking x.account x.registers x.task) (header : Option Header) → header_for x ≡ header → Fits n mutators k (at_stage x (places x header))
-  places_by making (Some header) is = refit n mutators k x f (Places (place.begun x.layout (run_held x) header x.epoch (fields_for x))) unended mutator (making, is) (record {
+  places_by making (Some header) is = refit n mutators k x f (Places (place.begun x.layout (run_held x) header x.epoch (fields_for x) 0)) unended mutator (making, is) (record {
     layout = refl;
     epoch = refl;
     fields = refl;
+    snap = refl;
     going = going_by header (nat_le ((run_held x).at + place.size_of header) (run_held x).end);
     rest = leaves_by header (nat_le ((run_held x).at + place.size_of header) (run_held x).end);
     sound = record {
@@ -117,6 +118,8 @@ module _ (n mutators k : ℕ) (x : Held) (f : Fits n mutators k x) (unended : is
       run = subst (λ (m : ℕ). RunLiesInSpaces m (run_held x)) (sym f.pages) (is_run n x.run f.run);
       fields = holds making header is;
       epoch = f.epoch;
+      snap = omega arith;
+      room = λ none. refl;
       stage = stage_by x header (holds making header is) (nat_le ((run_held x).at + place.size_of header) (run_held x).end) refl;
     };
   })

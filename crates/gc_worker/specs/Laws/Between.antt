@@ -8,7 +8,7 @@ use Rattle.plain_state.specs.declared.value.Value.TheVariants.{Number, Reference
 use Rattle.plain_state.specs.declared.sizes.TheConstants.{REGISTERS}
 use Rattle.plain_state.specs.State.{Mutator, Plain, serial_of}
 use Rattle.space_map.specs.declared.spaces.TheConstants.{FEWEST_PAGES, MOST_MUTATORS, MOST_SCANNERS}
-use Rattle.space_map.specs.Spaces.{IsInSpace, IsPageCount, to_space}
+use Rattle.space_map.specs.Spaces.{Layout, IsInSpace, IsPageCount, to_space}
 use Rattle.space_map.specs.Table.{HeapWord, table_length}
 use Rattle.atom_store.specs.declared.reply.Reply.{Reply}
 use Rattle.fault_duty.specs.declared.caller.Caller.TheVariants as callers
@@ -37,10 +37,10 @@ use Rattle.gc_worker.specs.Steps.Wanted.{wanted}
 -- ---- how it begins
 
 -- worker k before its first step: a mutator that is about to attach, or a scanner before its first round
-abbrev pub fresh : (n mutators k : ℕ) → Held
-fresh n mutators k = record {
+abbrev pub fresh : Layout → (mutators k : ℕ) → Held
+fresh layout mutators k = record {
   number = k;
-  layout = record { pages = n };
+  layout = layout;
   mutators = mutators;
   epoch = 0;
   begun = 0;
@@ -51,33 +51,33 @@ fresh n mutators k = record {
   stage = Gone;
 }
 
-abbrev pub fresh_mutator : (n mutators k : ℕ) → Held
-fresh_mutator n mutators k = let x = fresh n mutators k in record x { stage = passes x Attach afters.Looks }
+abbrev pub fresh_mutator : Layout → (mutators k : ℕ) → Held
+fresh_mutator layout mutators k = let x = fresh layout mutators k in record x { stage = passes x Attach afters.Looks }
 
-abbrev pub fresh_scanner : (n mutators k : ℕ) → Held
-fresh_scanner n mutators k = let x = fresh n mutators k in record x { stage = Serves (duty.begun x.layout (callers.Scans mutators) 0 k) ToScanner }
+abbrev pub fresh_scanner : Layout → (mutators k : ℕ) → Held
+fresh_scanner layout mutators k = let x = fresh layout mutators k in record x { stage = Serves (duty.begun x.layout (callers.Scans mutators) 0 k) ToScanner }
 
-abbrev pub fresh_worker : (n mutators k : ℕ) → Held
-fresh_worker n mutators k = if nat_lt k mutators then fresh_mutator n mutators k else fresh_scanner n mutators k
+abbrev pub fresh_worker : Layout → (mutators k : ℕ) → Held
+fresh_worker layout mutators k = if nat_lt k mutators then fresh_mutator layout mutators k else fresh_scanner layout mutators k
 
 -- so many workers from this number on
-unfoldable pub fresh_workers : (n mutators from count : ℕ) → List Held
-fresh_workers n mutators from zero = []
-fresh_workers n mutators from (suc count) = fresh_worker n mutators from ∷ fresh_workers n mutators (from + 1) count
+unfoldable pub fresh_workers : Layout → (mutators from count : ℕ) → List Held
+fresh_workers layout mutators from zero = []
+fresh_workers layout mutators from (suc count) = fresh_worker layout mutators from ∷ fresh_workers layout mutators (from + 1) count
 
 -- at first so many pages of each space are in use
-abbrev pub opening_heap : (n least mutators scanners : ℕ) → Heap
-opening_heap n least mutators scanners = record {
-  pages = n;
-  words = written n (opening_entries n least);
+abbrev pub opening_heap : Layout → (least mutators scanners : ℕ) → Heap
+opening_heap layout least mutators scanners = record {
+  pages = layout.pages;
+  words = written layout.pages (opening_entries layout.pages least);
   mutators = mutators;
-  workers = fresh_workers n mutators 0 (mutators + scanners);
+  workers = fresh_workers layout mutators 0 (mutators + scanners);
 }
 
 -- it stands for the plain state in which nothing was made yet, and a cycle begins there
 abbrev pub HeapsOpen : Type 0
-HeapsOpen = (n least mutators scanners : ℕ) → IsPageCount n → FEWEST_PAGES ≤ least → least ≤ n → mutators ≤ MOST_MUTATORS → mutators + scanners ≤ MOST_MUTATORS + MOST_SCANNERS
-    → WorkersStand (opening_heap n least mutators scanners) (opening_plain mutators) (opening_plain mutators)
+HeapsOpen = (layout : Layout) (least mutators scanners : ℕ) → IsPageCount layout.pages → FEWEST_PAGES ≤ least → least ≤ layout.pages → mutators ≤ MOST_MUTATORS → mutators + scanners ≤ MOST_MUTATORS + MOST_SCANNERS
+    → WorkersStand (opening_heap layout least mutators scanners) (opening_plain mutators) (opening_plain mutators)
 
 -- ---- what a worker may become without a step
 

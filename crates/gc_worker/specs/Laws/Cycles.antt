@@ -14,10 +14,10 @@ use Rattle.space_map.specs.AreaWord.{decode_area}
 use Rattle.space_map.specs.Spaces.{to_space}
 use Rattle.space_map.specs.Table.{Area, Size}
 use Rattle.alloc_end.specs.declared.place_stage.PlaceStage.{PlaceStage}
-use Rattle.alloc_end.specs.declared.place_stage.PlaceStage.TheVariants.{ExchangesArea, StoresZero, OpensPage, StoresCount, StoresHeader}
+use Rattle.alloc_end.specs.declared.place_stage.PlaceStage.TheVariants.{ExchangesArea, StoresZero, StoresNew, OpensPage, StoresCount, StoresHeader}
 use Rattle.alloc_end.specs.Place.{Placing, words_for}
 use Rattle.gate_core.specs.declared.passage.Passage.{Passage}
-use Rattle.gate_core.specs.declared.passage.Passage.TheVariants.{Look, Attach, Park, Request, Resume, Forwarded, Leave}
+use Rattle.gate_core.specs.declared.passage.Passage.TheVariants.{Look, Attach, Park, Request, Resume, Forwarded, Leave, Clear}
 use Rattle.heap_state.specs.Memory.Table.{word_in}
 use Rattle.gc_worker.specs.declared.stage.after.After.{After}
 use Rattle.gc_worker.specs.declared.stage.Stage.{Stage}
@@ -76,6 +76,7 @@ LowFallsByClaims = (h : Heap) (p o : Plain) (k : ℕ) (x : Held) (q : Step) → 
 
 abbrev pub set_aside_by : Placing → PlaceStage → ℕ
 set_aside_by p (StoresZero new) = words_for p.header
+set_aside_by p (StoresNew new) = words_for p.header
 set_aside_by p (OpensPage new) = words_for p.header
 set_aside_by p StoresCount = words_for p.header
 set_aside_by p StoresHeader = words_for p.header
@@ -193,6 +194,7 @@ IsInPassage Request after = IsPastAfter after
 IsInPassage (Resume epoch) after = IsPastAfter after
 IsInPassage Forwarded after = IsPastAfter after
 IsInPassage Leave after = ⊥
+IsInPassage Clear after = ⊥
 
 -- a mutator at this stage has begun an instruction, and has not answered it
 abbrev pub IsInCall : Stage → Type 0

@@ -9,6 +9,7 @@ use Rattle.gate_core.specs.declared.passage.Passage.TheVariants.{Leave}
 use Rattle.gate_core.specs.Gate.{gate_after}
 use Rattle.space_map.specs.declared.gate_word.GateWord.{GateWord}
 use Rattle.space_map.specs.GateWord.{decode_gate, encode_gate}
+use Rattle.space_map.specs.Spaces.{Layout}
 use Rattle.space_map.specs.Table.{Gate, place_of}
 use Rattle.space_map.specs.TableWords.{row_word}
 use Rattle.gc_worker.specs.Laws.Between.{opening_heap}
@@ -47,7 +48,7 @@ ScannersAreLast h = (k m : ℕ) → k < length h.workers → h.mutators ≤ k �
 
 -- it is so at the opening, and each step of a worker keeps it
 abbrev pub ScannersBeginLast : Type 0
-ScannersBeginLast = (n least mutators scanners : ℕ) → ScannersAreLast (opening_heap n least mutators scanners)
+ScannersBeginLast = (layout : Layout) (least mutators scanners : ℕ) → ScannersAreLast (opening_heap layout least mutators scanners)
 
 abbrev pub ScannersStayLast : Type 0
 ScannersStayLast = (h : Heap) (p o : Plain) (k : ℕ) (x : Held) (q : Step) → WorkersStand h p o → k < length h.workers → held_at h k ≡ x → wanted x ≡ Some q

@@ -4,7 +4,7 @@ use Rattle.plain_state.specs.State.{Plain}
 use Rattle.atom_store.specs.declared.step.Step.{Step}
 use Rattle.atom_store.specs.Step.{place_in, words_after, reply_of}
 use Rattle.space_map.specs.PageWord.{age_of}
-use Rattle.space_map.specs.Table.{Gate, Page, table_length}
+use Rattle.space_map.specs.Table.{Gate, Page, whole_length}
 use Rattle.atom_store.specs.declared.reply.Reply.TheVariants.{Won}
 use Rattle.gate_core.specs.declared.flip_stage.FlipStage.TheVariants.{Exchanges}
 use Rattle.gate_core.specs.declared.reset.Reset.{Reset}
@@ -12,7 +12,7 @@ use Rattle.gate_core.specs.Flip.{Flipping}
 use Rattle.heap_state.specs.Configuration.{Configuration, Stands, era, memory, team}
 use Rattle.heap_state.specs.Cycles.Cycle.{Cycle}
 use Rattle.heap_state.specs.Memory.Table.{word_in, page_word_in}
-use Rattle.space_map.specs.Spaces.{IsInSpace, to_space}
+use Rattle.space_map.specs.Spaces.{IsInSpace, to_space, without_checkpoints}
 use Rattle.gc_worker.specs.declared.stage.forwarding_register.ForwardingRegister.{ForwardingRegister}
 use Rattle.gc_worker.specs.declared.stage.Stage.TheVariants.{Flips, Forwards, Gone}
 use Rattle.gc_worker.specs.Workers.Fits.{Fits, Takes}
@@ -39,7 +39,7 @@ read h = record { pages = h.pages; words = h.words; mutators = h.mutators; worke
 abbrev pub nobody : Held
 nobody = record {
   number = 0;
-  layout = record { pages = 0 };
+  layout = without_checkpoints 0;
   mutators = 0;
   epoch = 0;
   begun = 0;
@@ -125,7 +125,7 @@ FlipsAreWon = (h : Heap) (p o : Plain) (k : ℕ) (x : Held) (f : Flipping) (r : 
 
 -- The place of a step is in the table by what the worker holds alone: a caller asks for it before it knows any word.
 abbrev pub PlacesFit : Type 0
-PlacesFit = (n mutators k : ℕ) (x : Held) (q : Step) → Fits n mutators k x → wanted x ≡ Some q → place_in q < table_length n
+PlacesFit = (n mutators k : ℕ) (x : Held) (q : Step) → Fits n mutators k x → wanted x ≡ Some q → place_in q < whole_length x.layout
 
 -- a register whose record is being copied leads into the space that was copied into in the mutator's own epoch
 abbrev pub RegistersLeadBack : Type 0

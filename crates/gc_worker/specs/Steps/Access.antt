@@ -17,7 +17,7 @@ use Rattle.plain_state.specs.declared.value.Value.{Value}
 use Rattle.plain_state.specs.declared.value.Value.TheVariants.{Number, Reference}
 use Rattle.plain_state.specs.declared.sizes.TheConstants.{BOARD_WORDS}
 use Rattle.plain_heap.specs.declared.action.Action.{Action}
-use Rattle.plain_heap.specs.declared.action.Action.TheVariants.{Sets, Jumps, Links, Prints, Makes, Measures, Loads, Stores, Exchanges, Gets, Puts, Swaps}
+use Rattle.plain_heap.specs.declared.action.Action.TheVariants.{Sets, Jumps, Links, Prints, Makes, Measures, Loads, Stores, Exchanges, Gets, Puts, Swaps, Snaps}
 use Rattle.plain_heap.specs.Action.{in_record}
 use Rattle.plain_heap.specs.Call.{may_hold}
 use Rattle.space_map.specs.declared.spaces.TheConstants.{PAGE_WORDS}
@@ -383,6 +383,7 @@ begun (Sets d v) = None
 begun (Jumps target) = None
 begun (Links d target) = None
 begun (Prints n) = None
+begun Snaps = None
 begun (Makes kind d n) = None
 
 -- a field is that of the action: its value, or what stands there for it

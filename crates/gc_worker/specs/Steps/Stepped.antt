@@ -21,7 +21,7 @@ use Rattle.gc_worker.specs.Workers.Fits.{Fits}
 use Rattle.forwarding.specs.Keeping as keeping
 use Rattle.forwarding.specs.Keeping.{kept_word, reserved_word}
 use Rattle.fault_duty.specs.declared.round_end.RoundEnd.{RoundEnd}
-use Rattle.fault_duty.specs.declared.round_end.RoundEnd.TheVariants.{ScanPage, ScanInPlace, Marked, AllLeft, NothingNow}
+use Rattle.fault_duty.specs.declared.round_end.RoundEnd.TheVariants.{ScanPage, ScanInPlace, Marked, Traced, AllLeft, NothingNow}
 use Rattle.gc_worker.specs.declared.stage.back.Back.{Back}
 use Rattle.gc_worker.specs.declared.stage.back.Back.TheVariants.{ToScanner}
 use Rattle.gc_worker.specs.Workers.Held.{Held, at_stage}
@@ -137,6 +137,7 @@ abbrev pub served_in : Held → (epoch : ℕ) → Back → RoundEnd → Held
 served_in x epoch back (ScanPage page) = turned.scans (record x { epoch = epoch }) page false back
 served_in x epoch back (ScanInPlace page) = turned.scans (record x { epoch = epoch }) page true back
 served_in x epoch back Marked = turned.back_from (record x { epoch = epoch }) back
+served_in x epoch back Traced = turned.back_from (record x { epoch = epoch }) back
 served_in x epoch back (NothingNow word) = turned.back_from (record x { epoch = epoch }) back
 served_in x epoch back (AllLeft word) = at_stage x Gone
 

@@ -17,7 +17,7 @@ use Rattle.alloc_end.specs.declared.shortage.Shortage.{Shortage}
 use Rattle.alloc_end.specs.Place as place
 use Rattle.fault_duty.specs.declared.caller.Caller.TheVariants as callers
 use Rattle.fault_duty.specs.declared.round_end.RoundEnd.{RoundEnd}
-use Rattle.fault_duty.specs.declared.round_end.RoundEnd.TheVariants.{ScanPage, ScanInPlace, Marked, AllLeft, NothingNow}
+use Rattle.fault_duty.specs.declared.round_end.RoundEnd.TheVariants.{ScanPage, ScanInPlace, Marked, Traced, AllLeft, NothingNow}
 use Rattle.fault_duty.specs.Duty as duty
 use Rattle.forwarding.specs.declared.to.To.{To}
 use Rattle.forwarding.specs.Evacuation as evac
@@ -25,7 +25,7 @@ use Rattle.forwarding.specs.Taken as evac_taken
 use Rattle.gate_core.specs.declared.flipped.Flipped.{Flipped}
 use Rattle.gate_core.specs.declared.flipped.Flipped.TheVariants as flipped
 use Rattle.gate_core.specs.declared.passage.Passage.{Passage}
-use Rattle.gate_core.specs.declared.passage.Passage.TheVariants.{Look, Attach, Park, Request, Resume, Forwarded, Leave}
+use Rattle.gate_core.specs.declared.passage.Passage.TheVariants.{Look, Attach, Park, Request, Resume, Forwarded, Leave, Clear}
 use Rattle.gate_core.specs.declared.passed.Passed.{Passed}
 use Rattle.gate_core.specs.declared.passed.Passed.TheVariants as passed
 use Rattle.gate_core.specs.Gate as gate
@@ -60,7 +60,7 @@ use Rattle.gc_worker.specs.Steps.Access as access
 use Rattle.gc_worker.specs.Workers.Held.{Held, at_stage, has_seen_flip, making_for, header_for, fields_for, pages_needed, run_held}
 use Rattle.gc_worker.specs.Plain.Seen.{Making, seen, word_for}
 use Rattle.plain_heap.specs.declared.action.Action.{Action}
-use Rattle.plain_heap.specs.declared.action.Action.TheVariants.{Sets, Jumps, Links, Prints, Makes}
+use Rattle.plain_heap.specs.declared.action.Action.TheVariants.{Sets, Jumps, Links, Prints, Makes, Snaps}
 use Rattle.plain_heap.specs.Action.{action}
 use Rattle.plain_heap.specs.Action as plain_action
 use Rattle.alloc_end.specs.declared.run.Run.{Run}
@@ -72,7 +72,7 @@ passes x passage after = Passes (gate.begun x.layout passage) after
 
 -- the allocation of the record that the task asks for
 abbrev pub places : Held → Option Header → Stage
-places x (Some header) = Places (place.begun x.layout (run_held x) header x.epoch (fields_for x))
+places x (Some header) = Places (place.begun x.layout (run_held x) header x.epoch (fields_for x) 0)
 places x None = Looks
 
 -- a mutator that stopped goes on there
@@ -151,6 +151,8 @@ passed_by x after Forwarded (passed.NotYet word) = x
 passed_by x after Leave (passed.Went word) = at_stage x Gone
 passed_by x after Leave (passed.NotYet word) = x
 passed_by x after Look result = x
+passed_by x after Clear (passed.Went word) = at_stage x (passes x (Resume x.epoch) after)
+passed_by x after Clear (passed.NotYet word) = x
 
 abbrev pub turned_gate : Held → gate.Passing → After → Turn Passed → Held
 turned_gate x g after More = at_stage x (Passes g after)
@@ -205,6 +207,7 @@ acts x (Sets d v) = loads x d (word_for v)
 acts x (Jumps target) = jumped x target
 acts x (Links d target) = jumped (with_register_word x d (number_word (next_of x))) target
 acts x (Prints n) = prints x n
+acts x Snaps = went_on x
 acts x (Makes kind d n) = at_stage x (places x (header_for x))
 acts x act = accesses x (access.begun act)
 
@@ -310,6 +313,7 @@ abbrev pub served_by : Held → duty.Round → Back → RoundEnd → Held
 served_by x d back (ScanPage page) = scans (of_round x d) page false back
 served_by x d back (ScanInPlace page) = scans (of_round x d) page true back
 served_by x d back Marked = back_from (of_round x d) back
+served_by x d back Traced = back_from (of_round x d) back
 served_by x d back (NothingNow word) = back_from (of_round x d) back
 served_by x d back (AllLeft word) = at_stage x Gone
 
@@ -401,6 +405,7 @@ told_action task (Sets d v) = Answers task Done
 told_action task (Jumps target) = Answers task Done
 told_action task (Links d target) = Answers task Done
 told_action task (Prints n) = Answers task Done
+told_action task Snaps = Answers task Done
 told_action task act = Silent
 
 abbrev pub told_acted : Task → Result Action End → Told

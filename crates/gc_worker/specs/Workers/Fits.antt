@@ -55,7 +55,7 @@ use Rattle.plain_heap.specs.Action.{action}
 
 -- ---- what each machine is to its worker
 
--- who resumes does so in its own epoch, and who requests a flip is not of the last one
+-- who resumes does so in its own epoch, and who requests a flip is not of the last one; no worker clears a request yet
 abbrev pub IsOwnPassage : (epoch : ℕ) → Passage → Type 0
 IsOwnPassage epoch (passages.Resume own) = own ≡ epoch
 IsOwnPassage epoch passages.Look = ⊥
@@ -64,6 +64,7 @@ IsOwnPassage epoch passages.Park = ⊤
 IsOwnPassage epoch passages.Request = epoch + 1 < 2 ^ 32
 IsOwnPassage epoch passages.Forwarded = ⊤
 IsOwnPassage epoch passages.Leave = ⊤
+IsOwnPassage epoch passages.Clear = ⊥
 
 pub record FitsGate (x : Held) (g : gate.Passing) : Type 0 where
   pub layout : g.layout ≡ x.layout
@@ -97,10 +98,12 @@ LeavesShortRun run header StoresCount = run.end < run.at + place.size_of header 
 LeavesShortRun run header StoresHeader = run.end < run.at + place.size_of header + PAGE_WORDS
 LeavesShortRun run header stage = ⊤
 
+-- no worker begins checkpoints yet, so none was begun that an allocation would know of
 pub record FitsPlace (x : Held) (p : place.Placing) : Type 0 where
   pub layout : p.layout ≡ x.layout
   pub epoch : p.epoch ≡ x.epoch
   pub fields : p.fields ≡ fields_for x
+  pub snap : p.snap ≡ 0
   pub going : IsPlacingGoing p.stage
   pub rest : LeavesShortRun p.run p.header p.stage
   pub sound : IsSoundPlacing p
@@ -196,6 +199,7 @@ IsEndBefore passages.Park ended = ended ≡ false
 IsEndBefore passages.Request ended = ended ≡ false
 IsEndBefore (passages.Resume epoch) ended = ended ≡ false
 IsEndBefore passages.Forwarded ended = ended ≡ false
+IsEndBefore passages.Clear ended = ended ≡ false
 
 abbrev pub FitsEnd : Stage → (ended : Bool) → Type 0
 FitsEnd (Passes g after) ended = IsEndBefore g.passage ended
@@ -254,6 +258,7 @@ FitsTaskBefore x passages.Park after = FitsTaskAfter x after
 FitsTaskBefore x (passages.Resume epoch) after = FitsTaskAfter x after
 FitsTaskBefore x passages.Forwarded after = FitsTaskAfter x after
 FitsTaskBefore x passages.Look after = ⊥
+FitsTaskBefore x passages.Clear after = MayBegin x.account x.registers x.task × (after ≡ afters.Looks)
 
 -- its task is the one that brought it to the stage; at a look it may have one or none
 abbrev pub FitsTask : Held → Stage → Type 0

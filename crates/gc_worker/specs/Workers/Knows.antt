@@ -40,7 +40,7 @@ use Rattle.page_slots.specs.declared.claim_stage.ClaimStage.TheVariants as claim
 use Rattle.page_slots.specs.Claim.{Claiming}
 use Rattle.heap_laws.specs.Allocation.Records.{stored_ahead}
 use Rattle.heap_laws.specs.Copying.{begun}
-use Rattle.heap_state.specs.Worker.{Worker, Post, Outside, Running, Stopped, Flipping, Passage, Enter, Park, Request, Forwarded, Resume, Leave, GateStep, Reset, Stock, SeenHeader, SeenRecord, Role, FieldRole, NumberRole, UnknownRole, Origin, Register, Scanned, Quest, Copy, Scan, Round, Claim, Look, LastLook}
+use Rattle.heap_state.specs.Worker.{Worker, Post, Outside, Running, Stopped, Flipping, Snapping, Passage, Enter, Park, Request, Clear, Forwarded, Resume, Leave, GateStep, Reset, Stock, SeenHeader, SeenRecord, Role, FieldRole, NumberRole, UnknownRole, Origin, Register, Scanned, Quest, Copy, Scan, Round, Claim, Look, LastLook}
 use Rattle.heap_state.specs.Worker as workers
 use Rattle.heap_state.specs.Worker.{Access}
 use Rattle.gc_worker.specs.declared.access.access_stage.AccessStage.{AccessStage}
@@ -65,6 +65,7 @@ post_before passages.Request = Running
 post_before (passages.Resume epoch) = Stopped
 post_before passages.Forwarded = Stopped
 post_before passages.Leave = Running
+post_before passages.Clear = Snapping
 
 abbrev pub post_back : Back → Post
 post_back (ToAccess a) = Running
@@ -98,6 +99,7 @@ passage_in asked passages.Request = Some (Request asked)
 passage_in asked (passages.Resume epoch) = Some Resume
 passage_in asked passages.Forwarded = Some Forwarded
 passage_in asked passages.Leave = Some Leave
+passage_in asked passages.Clear = Some Clear
 
 abbrev pub step_from : Rattle.space_map.specs.declared.gate_word.GateWord.GateWord → Option Passage → Option GateStep
 step_from read None = None
@@ -136,6 +138,7 @@ done_before passages.Park = 0
 done_before passages.Request = 0
 done_before (passages.Resume epoch) = 0
 done_before passages.Leave = 0
+done_before passages.Clear = 0
 
 abbrev pub done_in : Stage → ℕ
 done_in (Passes g after) = done_before g.passage
@@ -184,6 +187,7 @@ stock_at x p (place_stage.LoadsSize traced) = own_stock x.epoch x.run
 stock_at x p (place_stage.LoadsArea traced size) = own_stock x.epoch x.run
 stock_at x p (place_stage.ExchangesArea f) = own_stock x.epoch x.run
 stock_at x p (place_stage.StoresZero new) = Some (zeroed_to p new)
+stock_at x p (place_stage.StoresNew new) = Some (opened_to p new)
 stock_at x p (place_stage.OpensPage new) = Some (opened_to p new)
 stock_at x p place_stage.StoresCount = Some (stock_of p.epoch p.run)
 stock_at x p place_stage.StoresHeader = Some (counted_in p)
@@ -202,6 +206,7 @@ traced_at stage = false
 
 abbrev pub traced_before : gate_passage.Passage → Bool
 traced_before passages.Request = true
+traced_before passages.Clear = true
 traced_before passage = false
 
 abbrev pub traced_seen_in : Stage → Bool

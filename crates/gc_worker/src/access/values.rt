@@ -11,7 +11,7 @@ use crate::access::Access;
 use crate::access::access_stage::AccessStage;
 use crate::access::access_words::{field, role_by_count, stored, tells_length, using_field};
 use crate::access::accessed::Accessed;
-use crate::access::field_access::{FieldAccess, FieldUse, Role};
+use crate::access::field_access::{FieldAccess, FieldExchange, FieldUse, Role};
 use crate::access::mixed_access::MixedAccess;
 use crate::access::record_access::{RecordAccess, RecordUse};
 use atom_store::Turn;
@@ -48,7 +48,7 @@ impl Access {
             RecordUse::TellsLength(into) => tells_length(into, len),
             RecordUse::Loads(into) => self.load(r, role, len, into),
             RecordUse::Stores(new) => self.store(r, role, len, FieldUse::Stores(new), new),
-            RecordUse::Exchanges(e) => self.store(r, role, len, FieldUse::Exchanges(e), e.new),
+            RecordUse::Exchanges(e) => self.exchange(r, role, len, e),
         }
     }
 
@@ -86,6 +86,42 @@ impl Access {
             return Turn::Finished(Accessed::Fails(End::OutOfRange));
         }
         self.store_in(field(r.at, 1, role, r.value as u32), usage, new)
+    }
+
+    #[inline(always)]
+    fn exchange(
+        &mut self,
+        r: RecordAccess,
+        role: Role,
+        len: u16,
+        e: FieldExchange,
+    ) -> Turn<Accessed>
+        requires in_heap { IsHeapAddress self.old.spaces.pages r.at }
+        requires short { len ≤ 4095 }
+        requires is_value { IsValueWord e.new }
+        ensures state { self.new ≡ goes_by self.old (storing (field_of r.at 1 role r.value) (FieldUse.Exchanges e) (may_store role e.new (in_record len r.value))) }
+        ensures tells { result ≡ turn_by (storing (field_of r.at 1 role r.value) (FieldUse.Exchanges e) (may_store role e.new (in_record len r.value))) }
+    {
+        self.exchange_apart(r, role, len, e)
+    }
+
+    /// An exchange stands apart for its size, as does what mixed records alone need: the rest of an access is then small enough to be
+    /// inlined. What calls it is a function too, since what is handed on in memory would be kept there by all of its caller.
+    #[inline(never)]
+    fn exchange_apart(
+        &mut self,
+        r: RecordAccess,
+        role: Role,
+        len: u16,
+        e: FieldExchange,
+    ) -> Turn<Accessed>
+        requires in_heap { IsHeapAddress self.old.spaces.pages r.at }
+        requires short { len ≤ 4095 }
+        requires is_value { IsValueWord e.new }
+        ensures state { self.new ≡ goes_by self.old (storing (field_of r.at 1 role r.value) (FieldUse.Exchanges e) (may_store role e.new (in_record len r.value))) }
+        ensures tells { result ≡ turn_by (storing (field_of r.at 1 role r.value) (FieldUse.Exchanges e) (may_store role e.new (in_record len r.value))) }
+    {
+        self.store(r, role, len, FieldUse::Exchanges(e), e.new)
     }
 
     /// A mixed record has the value or not by its header; what role it has the count says, which stands behind that.
@@ -132,6 +168,16 @@ impl Access {
     /// A count's word was read. What is no number can't be there.
     #[inline(always)]
     pub(super) fn read_count(&mut self, m: MixedAccess, word: u64) -> Turn<Accessed>
+        requires in_heap { IsHeapAddress self.old.spaces.pages (m.at + (m.value + 2)) }
+        requires fits { FitsMixedUse m.usage }
+        ensures state { self.new ≡ goes_by self.old (read_count m (number_in (decode word))) }
+        ensures tells { result ≡ turn_by (read_count m (number_in (decode word))) }
+    {
+        self.read_count_apart(m, word)
+    }
+
+    #[inline(never)]
+    fn read_count_apart(&mut self, m: MixedAccess, word: u64) -> Turn<Accessed>
         requires in_heap { IsHeapAddress self.old.spaces.pages (m.at + (m.value + 2)) }
         requires fits { FitsMixedUse m.usage }
         ensures state { self.new ≡ goes_by self.old (read_count m (number_in (decode word))) }

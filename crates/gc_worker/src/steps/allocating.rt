@@ -118,6 +118,7 @@ impl State {
                     header,
                     self.epoch,
                     fields,
+                    0,
                 ));
             }
             None => self.stage = Stage::Looks,
@@ -172,7 +173,7 @@ impl State {
     fn is_full(&self, s: Shortage) -> bool
         ensures { result ≡ is_full self.now s }
     {
-        self.begun < self.epoch && s.size == self.spaces.pages() || self.epoch == u32::MAX
+        self.has_seen_flip() && s.size == self.spaces.pages() || self.epoch == u32::MAX
     }
 
     /// The heap is full where the epoch is traced, and no flip can help.

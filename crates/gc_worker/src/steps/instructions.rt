@@ -69,6 +69,7 @@ impl State {
             Instr::Put(x, a) => self.put_on_board(x, a),
             Instr::Swap(d, x) => self.swap_with_board(d, x),
             Instr::Out(a) => self.print_number(a),
+            Instr::Snap => self.go_on(),
             Instr::Halt => self.end_with(End::Halt),
         }
     }

@@ -55,7 +55,9 @@ impl State {
             (Passage::Attach, Passed::NotYet(_)) => {
                 self.stage = Stage::Passes(Gate::attach(self.spaces), after);
             }
-            (Passage::Park, Passed::Went(_)) => self.stage = self.resuming(after),
+            (Passage::Park | Passage::Clear, Passed::Went(_)) => {
+                self.stage = self.resuming(after);
+            }
             (Passage::Park, Passed::NotYet(_)) | (Passage::Resume(_), Passed::Went(_)) => {
                 self.go_on_with(after);
             }
@@ -71,7 +73,8 @@ impl State {
                 self.stage = self.resuming(after);
             }
             (Passage::Leave, Passed::Went(_)) => self.stage = Stage::Gone,
-            (Passage::Forwarded | Passage::Leave, Passed::NotYet(_)) | (Passage::Look, _) => {}
+            (Passage::Forwarded | Passage::Leave | Passage::Clear, Passed::NotYet(_))
+            | (Passage::Look, _) => {}
         }
     }
 
@@ -130,12 +133,19 @@ impl State {
         }
     }
 
+    /// Whether a flip was seen since the instruction began, whoever flipped.
+    pub fn has_seen_flip(&self) -> bool
+        ensures { result ≡ has_seen_flip self.now }
+    {
+        self.begun < self.epoch
+    }
+
     /// The flip for so many pages.
     fn flipping(&self, asked: u32) -> Stage
         requires { self.now.epoch + 1 < 2 ^ 32 }
         ensures { result ≡ Flips (begun self.now.layout self.now.epoch asked (has_seen_flip self.now)) }
     {
-        let seen = self.begun < self.epoch;
+        let seen = self.has_seen_flip();
         Stage::Flips(Flip::new(self.spaces, self.epoch, asked, seen))
     }
 

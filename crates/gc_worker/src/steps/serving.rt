@@ -99,7 +99,7 @@ impl State {
         match end {
             RoundEnd::ScanPage(page) => self.scan_page(epoch, page, false),
             RoundEnd::ScanInPlace(page) => self.scan_page(epoch, page, true),
-            RoundEnd::Marked | RoundEnd::NothingNow(_) => self.go_back(epoch),
+            RoundEnd::Marked | RoundEnd::Traced | RoundEnd::NothingNow(_) => self.go_back(epoch),
             RoundEnd::AllLeft(_) => self.stage = Stage::Gone,
         }
     }

@@ -3,7 +3,7 @@
 ghost use Rattle.std.specs.Prelude.{◌≡◌, ◌<◌, ◌≤◌, [], IfSome, IsSome, vec_capacity};
 ghost use Rattle.atom_store.specs.Step.{place_in};
 ghost use Rattle.space_map.specs.declared.spaces.TheConstants.{LAST_WORKER};
-ghost use Rattle.space_map.specs.Table.{table_length};
+ghost use Rattle.space_map.specs.Table.{whole_length};
 ghost use Rattle.gc_worker.specs.declared.task.Task.TheVariants.{Calls, Stops};
 ghost use Rattle.gc_worker.specs.Laws.Between.{fresh, fresh_mutator, fresh_scanner, with_task};
 ghost use Rattle.gc_worker.specs.Workers.Fits.{Takes};
@@ -30,7 +30,7 @@ impl State {
     pub fn mutator(spaces: Spaces, number: u8, mutators: u8, printed: Vec<u64>) -> State
         requires room { HasRoomToPrint number mutators (vec_capacity printed) }
         requires empty { printed.items ≡ [] }
-        ensures { result ≡ fresh_mutator spaces.pages mutators number }
+        ensures { result ≡ fresh_mutator spaces mutators number }
     {
         let stage = Stage::Passes(Gate::attach(spaces), After::Looks);
         State::new(spaces, number, mutators, printed, stage)
@@ -41,7 +41,7 @@ impl State {
         requires few { number ≤ LAST_WORKER }
         requires room { HasRoomToPrint number mutators (vec_capacity printed) }
         requires empty { printed.items ≡ [] }
-        ensures { result ≡ fresh_scanner spaces.pages mutators number }
+        ensures { result ≡ fresh_scanner spaces mutators number }
     {
         let duty = Duty::scanner(spaces, number, mutators);
         State::new(
@@ -57,7 +57,7 @@ impl State {
     fn new(spaces: Spaces, number: u8, mutators: u8, printed: Vec<u64>, stage: Stage) -> State
         requires room { HasRoomToPrint number mutators (vec_capacity printed) }
         requires empty { printed.items ≡ [] }
-        ensures { result ≡ at_stage (fresh spaces.pages mutators number) stage }
+        ensures { result ≡ at_stage (fresh spaces mutators number) stage }
     {
         State {
             number,
@@ -98,7 +98,7 @@ impl State {
     pub fn want(&self) -> Option<Step>
         requires { IsSound self.now }
         ensures wanted { result ≡ wanted self.now }
-        ensures in_table { IfSome result (λ step. place_in step < table_length self.now.layout.pages) }
+        ensures in_table { IfSome result (λ step. place_in step < whole_length self.now.layout) }
     {
         match &self.stage {
             Stage::Looks => Some(Step::Load(self.spaces.gate_place())),

@@ -21,6 +21,7 @@ use Rattle.heap_laws.specs.Steps.{Ready, with_worker, with_area}
 use Rattle.heap_laws.proofs.Copying.Reservation.{Reservation, empty, not_new, was, is, source_other, old_side, laid_reserved, headed_reserved, copied_reserved, once_reserved, written_on, here_back, here_on, lands_reserved, opened_reserved, landing_reserved, older_reserved, raw_reserved, counts_reserved, new_reserved, written_reserved, space_reserved, crossing_reserved, stocks_reserved, numbered_reserved}
 use Rattle.heap_laws.proofs.Copying.Room.{untraced, alone, goes_on, at_source, has_room}
 use Rattle.heap_laws.proofs.Scanning.Scanners.{open_age, scan_age, scan_scan}
+use Rattle.heap_state.proofs.Workers.Posts.{flips_ask}
 
 pub record Reserving (E : Era) (m : Memory) (team : Team) (g : Ghost) (k : ℕ) (c : Copy) : Type 0 where
   pub ready : Ready E m team g k
@@ -261,7 +262,7 @@ module _ {E : Era} {m : Memory} {team : Team} {g : Ghost} {k : ℕ} {c : Copy} (
   resets : (j : ℕ) (r : Reset) → j < team.count → (team.worker j).reset ≡ Some r → Resets E m.gate (c.to + c.size) m.low m.old_front m.old_low m.old_owed r
   resets j r l e =
       let u = inv.workers j l in
-      let t = (u.seen_traced (u.flips (u.resets r e))).1 in
+      let t = (u.seen_traced (u.asks (flips_ask (team.worker j).post (u.resets r e)))).1 in
       let n = untraced E m team g k c ready has in
       absurd (omega (arith, t, n))
 

@@ -9,7 +9,7 @@ use Rattle.heap_state.specs.Invariant.Ghost.{Ghost}
 use Rattle.heap_state.specs.Invariant.Inductive.{Invariant, Knows}
 use Rattle.heap_state.specs.Invariant.Parts.Copying.{IsOrigin}
 use Rattle.heap_state.specs.Meaning.Reachable.{Reachable}
-use Rattle.heap_state.specs.Worker.{Worker, Team, Post, Scanner, Outside, Running, Stopped, Flipping, Gone, Quest, Origin, Register, Scanned, is_mutator, is_live, is_running, is_gone, is_late}
+use Rattle.heap_state.specs.Worker.{Worker, Team, Post, Scanner, Outside, Running, Stopped, Flipping, Gone, Quest, Origin, Register, Scanned, is_mutator, is_live, is_running, is_gone, is_late, Snapping}
 
 left_of : (x y : Bool) → x && y ≡ true → (x ≡ true) × (y ≡ true)
 left_of true y e = (refl, e)
@@ -25,6 +25,7 @@ live_mutator Outside e = refl
 live_mutator Running e = refl
 live_mutator Stopped e = refl
 live_mutator (Flipping asked) e = refl
+live_mutator Snapping e = refl
 live_mutator Gone e = refl
 
 live_here : (post : Post) → is_live post ≡ true → is_gone post ≡ true → ⊥
@@ -33,6 +34,7 @@ live_here Outside e g = absurd (cc)
 live_here Running e g = absurd (cc)
 live_here Stopped e g = absurd (cc)
 live_here (Flipping asked) e g = absurd (cc)
+live_here Snapping e g = absurd (cc)
 live_here Gone e g = absurd (cc)
 
 no_end : (o : Option End) → (is_some o ≡ true → ⊥) → o ≡ None

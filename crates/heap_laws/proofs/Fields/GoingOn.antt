@@ -16,7 +16,7 @@ use Rattle.heap_state.specs.Invariant.Parts.Copying.{IsOrigin}
 use Rattle.heap_state.specs.Invariant.Parts.Knowledge.{Clean, Ends, Passes}
 use Rattle.heap_state.specs.Meaning.Reachable.{Reachable}
 use Rattle.heap_state.specs.Meaning.Values.{Accounts, RegistersShow, value_of, Shown}
-use Rattle.heap_state.specs.Worker.{Worker, Team, Post, Running, Outside, Scanner, Stopped, Flipping, Gone, Origin, Register, Scanned, Quest, Access, GateStep, is_mutator, is_live, is_running, is_flipper, is_gone, is_late, Reset, is_sized}
+use Rattle.heap_state.specs.Worker.{Worker, Team, Post, Running, Outside, Scanner, Stopped, Flipping, Gone, Origin, Register, Scanned, Quest, Access, GateStep, is_mutator, is_live, is_running, is_flipper, is_gone, is_late, Reset, is_sized, Snapping, is_asking}
 use Rattle.heap_state.proofs.Workers.Frames.{counted_put, staffed_put, scanned_put, stocks_put, numbered_put}
 use Rattle.heap_state.proofs.Puts.{put_at, put_other, each_put, team_put, none≢some, true_false}
 use Rattle.heap_laws.specs.Composing.{IsAtMost, SameScan}
@@ -31,20 +31,22 @@ use Rattle.space_map.specs.declared.spaces.TheConstants.{PAGE_WORDS}
 
 -- ---- posts
 
--- who runs is no flipper, not gone, not outside, and a mutator
+-- who runs is no flipper, asks for nothing, is not gone, not outside, and a mutator
 pub record RunsAsMutator (post : Post) : Type 0 where
   pub flips : is_flipper post ≡ false
+  pub asks : is_asking post ≡ false
   pub gone : is_gone post ≡ false
   pub outside : post ≢ Outside
   pub mutator : is_mutator post ≡ true
   pub live : is_live post ≡ true
 
 pub runs : (post : Post) → is_running post ≡ true → RunsAsMutator post
-runs Running r = record { flips = refl; gone = refl; outside = λ e. absurd (cc); mutator = refl; live = refl }
+runs Running r = record { flips = refl; asks = refl; gone = refl; outside = λ e. absurd (cc); mutator = refl; live = refl }
 runs Scanner r = absurd (cc)
 runs Outside r = absurd (cc)
 runs Stopped r = absurd (cc)
 runs (Flipping asked) r = absurd (cc)
+runs Snapping r = absurd (cc)
 runs Gone r = absurd (cc)
 
 -- who runs is not late
@@ -52,7 +54,7 @@ pub timely : (E : Era) (w : Worker) → is_running w.post ≡ true → (is_runni
 timely E w r now = now_not_late E.epoch w.epoch w.post (now r)
 
 -- who has no flip in progress has stored no size
-none_sized : (o : Option Reset) → ((r : Reset) → o ≡ Some r → ⊥) → is_sized o ≡ false
+pub none_sized : (o : Option Reset) → ((r : Reset) → o ≡ Some r → ⊥) → is_sized o ≡ false
 none_sized None none = refl
 none_sized (Some r) none = absurd (none r refl)
 
@@ -112,9 +114,9 @@ module _ (E : Era) (m : Memory) (team : Team) (g : Ghost) (k : ℕ) (next : Work
       λ u n. record { clean = λ j s t. (goes.registers n j s).clean; lands = λ j s. (goes.registers n j s).lands; old = λ t. true_false still_late t } in
       let active : (f : Access) → next.access ≡ Some f → is_running next.post ≡ true = λ f e. still_runs in
       let opened : (p : ℕ) → next.opened ≡ Some p → (is_running next.post ≡ true) × (m.page p ≡ Open E.epoch) = λ p e. (still_runs, goes.opened p e) in
-      let seen_traced : next.traced_seen ≡ true → ((is_running next.post ≡ true) ⊎ (is_flipper next.post ≡ true)) × (m.traced ≡ E.epoch + 1) = λ e. (inl still_runs, goes.traced_seen e) in
+      let seen_traced : next.traced_seen ≡ true → ((is_running next.post ≡ true) ⊎ (is_asking next.post ≡ true)) × (m.traced ≡ E.epoch + 1) = λ e. (inl still_runs, goes.traced_seen e) in
       let size_seen : (p : ℕ) → next.size_seen ≡ Some p → (is_running next.post ≡ true) × (E.span ≡ PAGE_WORDS * p) = λ p e. (still_runs, goes.size_seen p e) in
-      let flips : is_flipper next.post ≡ true → next.traced_seen ≡ true = λ e. true_false (runs next.post still_runs).flips e in
+      let asks : is_asking next.post ≡ true → next.traced_seen ≡ true = λ e. true_false (runs next.post still_runs).asks e in
       let passage : (s : GateStep) → next.gate_step ≡ Some s → Passes next.post next.epoch next.done (is_some next.account.end) next.traced_seen s.read s.passage = λ s e. none≢some (sym goes.gate_step ∙ e) in
       assumption (origin)
 

@@ -14,9 +14,9 @@ use Rattle.heap_state.specs.Worker.{Worker, Team, Account, is_running}
 use Rattle.heap_state.proofs.Puts.{none≢some}
 use Rattle.heap_laws.specs.Fields.Held.{MutatorGoesOn, with_mutator, GoesOnSo}
 use Rattle.heap_laws.specs.Steps.{with_word, with_worker, Makes, NoRow, InWord}
-use Rattle.heap_laws.specs.Fields.Stores.{IsAs, MutatorsStep, MutatorsStore, MutatorsStoreOnBoard, MutatorsEnd, MutatorsFindNoRoom, with_end, MutatorsLearn}
+use Rattle.heap_laws.specs.Fields.Stores.{IsAs, MutatorsStep, MutatorsStore, MutatorsStoreOnBoard, MutatorsSnap, MutatorsEnd, MutatorsFindNoRoom, with_end, MutatorsLearn}
 use Rattle.heap_laws.proofs.Fields.Cycle.{stores_keep_cycle, board_stores_keep_cycle}
-use Rattle.heap_laws.proofs.Fields.Shown.{stores_show, board_stores_show}
+use Rattle.heap_laws.proofs.Fields.Shown.{stores_show, board_stores_show, snaps_show}
 use Rattle.heap_laws.proofs.Fields.Stored.{words_are_stored, board_is_stored}
 use Rattle.plain_state.proofs.Stored.{stored_serial}
 use Rattle.heap_laws.proofs.Fields.GoingOn.{mutators_go_on, going_on_shows, going_on_keeps_cycle}
@@ -90,6 +90,13 @@ mutators_store_on_board E m team g p k next q x v y ready runs s l opens holds g
           (goes_as E _ team g _ k next q inv ready.member runs (board_stores_show E m team g p x v y ready.laid_out ready.invariant l holds.denotes s)
           (goes_on (E.board + x) v goes) (record { account = accounts_in refl same.account; registers = same.registers }));
     }
+
+pub mutators_snap : MutatorsSnap
+mutators_snap E m team g p k next q ready runs s goes same = record {
+  later = m;
+  writes = NoRow;
+  makes = goes_as E m team g _ k next q ready.invariant ready.member runs (snaps_show E m team g p s) goes (record { account = accounts_in refl same.account; registers = same.registers });
+}
 
 -- ---- ends
 

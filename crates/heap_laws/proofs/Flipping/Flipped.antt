@@ -18,7 +18,7 @@ use Rattle.heap_state.specs.Invariant.Parts.Stocks.{Stocks, Numbered}
 use Rattle.heap_state.specs.Meaning.Reachable.{Reachable, FromRegister, FromBoard}
 use Rattle.heap_state.specs.Memory.Table.{Table}
 use Rattle.heap_state.specs.Meaning.Values.{Shown, value_of}
-use Rattle.heap_state.specs.Worker.{Worker, Team, Post, Stopped, Reset, is_mutator, is_live, is_running, is_flipper, is_gone, is_behind, is_late}
+use Rattle.heap_state.specs.Worker.{Worker, Team, Post, Stopped, Reset, is_mutator, is_live, is_running, is_gone, is_behind, is_late, is_asking}
 use Rattle.heap_state.proofs.Table.Seen.{follows}
 use Rattle.heap_state.proofs.Records.Holding.{uncopied_here}
 use Rattle.heap_state.proofs.Puts.{each_put, proj_put, team_put, sum_below-same, sum_below-none}
@@ -27,7 +27,7 @@ use Rattle.heap_laws.specs.Steps as laws
 use Rattle.heap_laws.specs.Flipping.Flip.{next_era, next_memory, next_ghost, flipped_gate, after_flip, Flips, FlipKeeps}
 use Rattle.heap_laws.specs.Steps.{with_worker}
 use Rattle.heap_laws.proofs.Flipping.Parts.{ReadyToFlip, nothing, was, laid, headed, copied, once, kept, room, raw_words, counts, shut, filling, tracing, aged, scanned, old_area, old_pages, lands_on, here_board, board_here, opened, landing, older, new, new_written, crossing, old_space}
-use Rattle.heap_laws.proofs.Flipping.Reset.{one_flipper}
+use Rattle.heap_laws.proofs.Flipping.Reset.{one_asks}
 use Rattle.heap_laws.proofs.Flipping.Workers.{late_is, done_none, other, flipper, none_true, not_live}
 use Rattle.heap_laws.proofs.Frames.Values.{pointer_from_value, value_from_pointer, pointer_lands, zero_word}
 
@@ -49,8 +49,8 @@ module _ (E : Era) (m : Memory) (team : Team) (g : Ghost) (k : ℕ) (r : Reset) 
   me : Knows E m.gate m.traced m.front m.low m.old_front m.old_low m.old_owed g m.page m.cross m.announced m.heap k (team.worker k)
   me = inv.workers k start.member
 
-  is_flipping : is_flipper (team.worker k).post ≡ true
-  is_flipping = ap is_flipper flips.post
+  is_asker : is_asking (team.worker k).post ≡ true
+  is_asker = ap is_asking flips.post
 
   won : m.gate ≡ r.read
   won = (me.reset r flips.reset).unmoved
@@ -59,7 +59,7 @@ module _ (E : Era) (m : Memory) (team : Team) (g : Ghost) (k : ℕ) (r : Reset) 
   ready = let t = me.reset r flips.reset in let s = t.stored flips.stored in record {
     out = out;
     inv = inv;
-    traced = (me.seen_traced (me.flips is_flipping)).1;
+    traced = (me.seen_traced (me.asks is_asker)).1;
     still = ap (λ (w : GateWord). w.running) won ∙ t.stopped.0;
     none = ap (λ (w : GateWord). w.behind) won ∙ t.stopped.1;
     front = s.1;
@@ -68,8 +68,8 @@ module _ (E : Era) (m : Memory) (team : Team) (g : Ghost) (k : ℕ) (r : Reset) 
     large = flips.large;
   }
 
-  not_flipper : (j : ℕ) → j < team.count → j ≢ k → is_flipper (team.worker j).post ≡ false
-  not_flipper j l d = none_true (is_flipper (team.worker j).post) (λ e. d (one_flipper E m team g inv j k l start.member e is_flipping))
+  not_asking : (j : ℕ) → j < team.count → j ≢ k → is_asking (team.worker j).post ≡ false
+  not_asking j l d = none_true (is_asking (team.worker j).post) (λ e. d (one_asks E m team g inv j k l start.member e is_asker))
 
   -- ---- the gate
 
@@ -82,7 +82,7 @@ module _ (E : Era) (m : Memory) (team : Team) (g : Ghost) (k : ℕ) (r : Reset) 
     running = inv.counted.running ∙ count_same is_running (sym (ap is_running flips.post));
     behind = inv.counted.live ∙ sum_below-same _ _ _ (λ j l. ap count_one (behind j l));
     left = inv.counted.left ∙ count_same is_gone (sym (ap is_gone flips.post));
-    request = sym (sum_below-none team.count (λ j. count_one (is_flipper (put team.worker k w' j).post)) (λ j l. no_flipper j l));
+    request = sym (sum_below-none team.count (λ j. count_one (is_asking (put team.worker k w' j).post)) (λ j l. none_asks j l));
     still = λ b. (ready.still, refl);
     epoch_fits = let a = start.at_gate in let f = flips.fits in omega (arith, a, f);
   }
@@ -96,8 +96,8 @@ module _ (E : Era) (m : Memory) (team : Team) (g : Ghost) (k : ℕ) (r : Reset) 
           let b : is_late (m.gate.epoch + 1) (team.worker j) ≡ is_live (team.worker j).post = rw a (late_is ready j l) in
           sym b ∙ sym (proj_put (is_late (m.gate.epoch + 1)) team.worker k w' j late_now)
 
-      no_flipper : (j : ℕ) → j < team.count → count_one (is_flipper (put team.worker k w' j).post) ≡ 0
-      no_flipper j l = each_put (λ i u. i < team.count → count_one (is_flipper u.post) ≡ 0) team.worker k w' j (λ d b. rw (not_flipper j b d) refl) (λ e b. refl) l
+      none_asks : (j : ℕ) → j < team.count → count_one (is_asking (put team.worker k w' j).post) ≡ 0
+      none_asks j l = each_put (λ i u. i < team.count → count_one (is_asking u.post) ≡ 0) team.worker k w' j (λ d b. rw (not_asking j b d) refl) (λ e b. refl) l
 
   staffed : Staffed team.mutators team.count (put team.worker k w')
   staffed = record { few = inv.staffed.few; posts = λ j l. proj_put (λ u. is_mutator u.post) team.worker k w' j (sym (ap is_mutator flips.post)) ∙ inv.staffed.posts j l }
@@ -149,7 +149,7 @@ module _ (E : Era) (m : Memory) (team : Team) (g : Ghost) (k : ℕ) (r : Reset) 
     stocks = stocks;
     numbered = numbered;
     workers = team_put team.count (Knows (next_era E) (flipped_gate m.gate) m.traced m.old_front m.old_low m.front m.low m.owed (next_ghost E g) m.page m.cross m.announced m.heap) team.worker k w'
-        (λ j l d. other ready j l (not_flipper j l d)) (flipper ready k start.member flips.asked flips.post);
+        (λ j l d. other ready j l (not_asking j l d)) (flipper ready k start.member flips.asked flips.post);
   }
 
   -- ---- what is shown

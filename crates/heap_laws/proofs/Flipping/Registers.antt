@@ -15,7 +15,7 @@ use Rattle.heap_state.specs.Invariant.Parts.Copying.{IsOrigin, Seeks, Licensed}
 use Rattle.heap_state.specs.Invariant.Parts.Knowledge.{Clean, Passes, Timely}
 use Rattle.heap_state.specs.Meaning.Reachable.{Reachable}
 use Rattle.heap_state.specs.Meaning.Values.{Shown, RegistersShow, value_of}
-use Rattle.heap_state.specs.Worker.{Worker, Team, Post, Passage, Outside, Enter, Park, Request, Forwarded, Resume, Leave, Origin, Register, Quest, Copy, is_mutator, is_live, is_late, GateStep}
+use Rattle.heap_state.specs.Worker.{Worker, Team, Post, Passage, Outside, Enter, Park, Request, Forwarded, Resume, Leave, Origin, Register, Quest, Copy, is_mutator, is_live, is_late, GateStep, RequestSnap, Clear}
 use Rattle.heap_state.proofs.Workers.Frames.{counted_put, staffed_put, scanned_put, stocks_put, numbered_put, accounts_put}
 use Rattle.heap_state.proofs.Puts.{put_at, put_other, put_same, each_put, team_put, none≢some, some_same, put_is}
 use Rattle.heap_laws.specs.Flipping.Registers.{forwarded, HasRegister, PassingRegisterKeeps, asking_for, AskingForRegisterKeeps, HasFoundCopy, past_register}
@@ -33,6 +33,8 @@ passes_on : (post : Post) (epoch done then_done : ℕ) (ended seen : Bool) (read
 passes_on post epoch done then_done ended seen read Enter l q = q
 passes_on post epoch done then_done ended seen read Park l q = q
 passes_on post epoch done then_done ended seen read (Request n) l q = q
+passes_on post epoch done then_done ended seen read RequestSnap l q = q
+passes_on post epoch done then_done ended seen read Clear l q = q
 passes_on post epoch done then_done ended seen read Forwarded l q = absurd (omega (arith, l, q.2))
 passes_on post epoch done then_done ended seen read Resume l q = q
 passes_on post epoch done then_done ended seen read Leave l q = q
@@ -73,7 +75,7 @@ module _ (E : Era) (m : Memory) (team : Team) (g : Ghost) (k : ℕ) (inv : Invar
     own =
         let u = me in
         let o1 : Timely E (team.worker k).post (team.worker k).epoch ((team.worker k).done + 1) =
-        record { past = me.timely.past; live = me.timely.live; running = me.timely.running; flipping = me.timely.flipping; rest = λ e. absurd (let q = sym e ∙ has.late in cc); below = let l = has.left in omega (arith, l) } in
+        record { past = me.timely.past; live = me.timely.live; running = me.timely.running; asking = me.timely.asking; rest = λ e. absurd (let q = sym e ∙ has.late in cc); below = let l = has.left in omega (arith, l) } in
         let o2 : (team.worker k).post ≡ Outside → (j : ℕ) → j < 8 → registers' j ≡ 0 = λ e. absurd (let q : is_live (team.worker k).post ≡ false = ap is_live e in let r = sym q ∙ late_lives E.epoch (team.worker k) has.late in cc) in
         let o3 = λ (mu : is_mutator (team.worker k).post ≡ true) (e : (team.worker k).account.end ≡ None). clean' in
         let o4 : (q : Quest) → None ≡ Some q → IsOrigin E g.size g.writer g.kind m.heap (is_late E.epoch (team.worker k)) ((team.worker k).done + 1) registers' (team.worker k).scan q.old q.origin = λ q e. none≢some e in

@@ -8,23 +8,30 @@ use Rattle.heap_state.specs.Invariant.Inductive.{Invariant, Knows}
 use Rattle.heap_state.specs.Invariant.Parts.Knowledge.{Resets}
 use Rattle.heap_state.specs.Invariant.Parts.OldSpace.{OldSpace, OldArea}
 use Rattle.heap_state.specs.Invariant.Parts.Pages.{OldPages}
-use Rattle.heap_state.specs.Worker.{Worker, Team, Reset, is_flipper, is_sized}
+use Rattle.heap_state.specs.Worker.{Worker, Team, Reset, is_flipper, is_sized, is_asking}
 use Rattle.heap_state.proofs.Workers.Frames.{counted_put, staffed_put, scanned_put, stocks_put, numbered_put, rooted_put}
 use Rattle.heap_state.proofs.Puts.{team_put, some_same, none≢some, true_false}
 use Rattle.heap_laws.specs.Flipping.Reset.{resetting, found_still, FindingStillKeeps, ReadingSizeKeeps, ReadingUsedKeeps, StoringAreaKeeps, whole_area}
 use Rattle.heap_laws.specs.Steps.{with_worker, with_old_area, InOldArea, Preserves}
 use Rattle.heap_laws.proofs.Flipping.Sums.{sum_below-two, one_of, at_most_one}
 use Rattle.heap_laws.proofs.Steps.Learning.{shown_put, learns, learnt}
+use Rattle.heap_state.proofs.Workers.Posts.{flips_ask}
+
+-- the request is at most one worker's
+pub one_asks : (E : Era) (m : Memory) (team : Team) (g : Ghost) → Invariant E m team g → (j k : ℕ) → j < team.count → k < team.count
+    → is_asking (team.worker j).post ≡ true → is_asking (team.worker k).post ≡ true → j ≡ k
+one_asks E m team g inv j k lj lk a b = ⊎_elim (λ e. e)
+    (λ (d : j ≢ k). absurd (
+    let t = sum_below-two team.count (λ i. count_one (is_asking (team.worker i).post)) j k lj lk d in
+    let p = one_of (is_asking (team.worker j).post) a in let q = one_of (is_asking (team.worker k).post) b in
+    let r = inv.counted.request in let s = at_most_one m.gate.request in omega (arith, t, p, q, r, s)))
+    (cases_eq j k)
 
 -- at most one worker flips
 pub one_flipper : (E : Era) (m : Memory) (team : Team) (g : Ghost) → Invariant E m team g → (j k : ℕ) → j < team.count → k < team.count
     → is_flipper (team.worker j).post ≡ true → is_flipper (team.worker k).post ≡ true → j ≡ k
-one_flipper E m team g inv j k lj lk a b = ⊎_elim (λ e. e)
-    (λ (d : j ≢ k). absurd (
-    let t = sum_below-two team.count (λ i. count_one (is_flipper (team.worker i).post)) j k lj lk d in
-    let p = one_of (is_flipper (team.worker j).post) a in let q = one_of (is_flipper (team.worker k).post) b in
-    let r = inv.counted.request in let s = at_most_one m.gate.request in omega (arith, t, p, q, r, s)))
-    (cases_eq j k)
+one_flipper E m team g inv j k lj lk a b =
+    one_asks E m team g inv j k lj lk (flips_ask (team.worker j).post a) (flips_ask (team.worker k).post b)
 
 -- a flipper that knows more of its flip
 module _ (E : Era) (m : Memory) (team : Team) (g : Ghost) (k : ℕ) (r : Reset) (inv : Invariant E m team g) (below : k < team.count) (flips : is_flipper (team.worker k).post ≡ true)
@@ -34,7 +41,7 @@ module _ (E : Era) (m : Memory) (team : Team) (g : Ghost) (k : ℕ) (r : Reset) 
       (let me = inv.workers k below in
       let a : (q : Reset) → Some r ≡ Some q → is_flipper (team.worker k).post ≡ true = λ q e. flips in
       let b : (q : Reset) → Some r ≡ Some q → Resets E m.gate m.front m.low m.old_front m.old_low m.old_owed q = λ q e. rw (← some_same e) new in
-      let c : is_flipper (team.worker k).post ≡ true → is_sized (Some r) ≡ false → E.old_span ≤ E.span = λ _ e. smaller e in
+      let c : is_asking (team.worker k).post ≡ true → is_sized (Some r) ≡ false → E.old_span ≤ E.span = λ _ e. smaller e in
       assumption)
 
 pub finds_still : FindingStillKeeps
@@ -48,14 +55,14 @@ finds_still E m team g k ready flips none still behind = learnt (resets_more E m
       sized = λ e. absurd (cc);
       stored = λ e. absurd (cc);
     })
-    (λ _. (ready.invariant.workers k ready.member).unsized flips (ap is_sized none)))
+    (λ _. (ready.invariant.workers k ready.member).unsized (flips_ask (team.worker k).post flips) (ap is_sized none)))
 
 pub reads_size : ReadingSizeKeeps
 reads_size E m team g k r p ready e size =
     let me = ready.invariant.workers k ready.member in let o = me.reset r e in
     learnt (resets_more E m team g k (record r { size = Some p }) ready.invariant ready.member (me.resets r e)
     (record { unmoved = o.unmoved; stopped = o.stopped; size = λ q f. let z : p ≡ q = some_same f in rw (← z) size; grown = o.grown; used = o.used; sized = o.sized; stored = o.stored })
-    (λ loose. me.unsized (me.resets r e) (ap is_sized e ∙ loose)))
+    (λ loose. me.unsized (flips_ask (team.worker k).post (me.resets r e)) (ap is_sized e ∙ loose)))
 
 pub reads_used : ReadingUsedKeeps
 reads_used E m team g k r u q ready e loose used grown =
@@ -70,7 +77,7 @@ reads_used E m team g k r u q ready e loose used grown =
       sized = λ f. true_false loose f;
       stored = λ f. true_false loose (o.stored f).0;
     })
-    (λ _. me.unsized (me.resets r e) (ap is_sized e ∙ loose)))
+    (λ _. me.unsized (flips_ask (team.worker k).post (me.resets r e)) (ap is_sized e ∙ loose)))
 
 module _ (E : Era) (m : Memory) (team : Team) (g : Ghost) (k : ℕ) (r : Reset) (front low u : ℕ) (out : IsLaidOut E) (inv : Invariant E m team g) (below : k < team.count)
     (has : (team.worker k).reset ≡ Some r) (sized : r.sized ≡ true) (used : r.used ≡ Some u) (at_start : front ≡ E.old_start) (at_end : low ≡ E.old_start + E.old_span) where
@@ -84,7 +91,7 @@ module _ (E : Era) (m : Memory) (team : Team) (g : Ghost) (k : ℕ) (r : Reset) 
   flips = me.resets r has
 
   traced : m.traced ≡ E.epoch + 1
-  traced = (me.seen_traced (me.flips flips)).1
+  traced = (me.seen_traced (me.asks (flips_ask (team.worker k).post flips))).1
 
   abbrev KnowsNow : ℕ → Worker → Type 0
   KnowsNow = Knows E m.gate m.traced m.front m.low front low u g m.page m.cross m.announced m.heap
@@ -103,7 +110,7 @@ module _ (E : Era) (m : Memory) (team : Team) (g : Ghost) (k : ℕ) (r : Reset) 
       let v = me in
       let a : (q : Reset) → w'.reset ≡ Some q → is_flipper (team.worker k).post ≡ true = λ q e. flips in
       let b : (q : Reset) → w'.reset ≡ Some q → Resets E m.gate m.front m.low front low u q = λ q e. rw (← some_same e) new in
-      let c : is_flipper (team.worker k).post ≡ true → is_sized w'.reset ≡ false → E.old_span ≤ E.span = λ _ e. true_false e sized in
+      let c : is_asking (team.worker k).post ≡ true → is_sized w'.reset ≡ false → E.old_span ≤ E.span = λ _ e. true_false e sized in
       assumption
 
   invariant : Invariant E (with_old_area m front low u) (with_worker team k w') g

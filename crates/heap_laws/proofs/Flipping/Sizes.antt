@@ -20,16 +20,17 @@ use Rattle.heap_state.specs.Invariant.Parts.Records.{Laid, NewWritten}
 use Rattle.heap_state.specs.Invariant.Parts.Scanning.{Rounds, Claims, Looks, LastLooks}
 use Rattle.heap_state.specs.Invariant.Parts.Stocks.{Stocks, Stocked}
 use Rattle.heap_state.specs.Meaning.Values.{Shown}
-use Rattle.heap_state.specs.Worker.{Worker, Team, Origin, Register, Scanned, Quest, Stock, Round, Claim, Look, LastLook, Access, Reset, is_mutator, is_running, is_flipper, is_late, is_sized}
+use Rattle.heap_state.specs.Worker.{Worker, Team, Origin, Register, Scanned, Quest, Stock, Round, Claim, Look, LastLook, Access, Reset, is_mutator, is_running, is_flipper, is_late, is_sized, is_asking}
 use Rattle.heap_state.proofs.Workers.Frames.{counted_put, staffed_put, scanned_put, stocks_put, numbered_put, rooted_put}
 use Rattle.heap_state.proofs.Puts.{team_put, some_same, true_false}
 use Rattle.heap_laws.specs.Flipping.Sizes.{sized_era, after_size, SizeKeeps, SizesAreStored}
 use Rattle.heap_laws.specs.Steps.{with_worker, Ready}
 use Rattle.heap_laws.specs.Tracing.{NothingLeads}
-use Rattle.heap_laws.proofs.Flipping.Reset.{one_flipper}
+use Rattle.heap_laws.proofs.Flipping.Reset.{one_asks}
 use Rattle.heap_laws.proofs.Flipping.Sums.{sum_below-term, one_of}
 use Rattle.heap_laws.proofs.Steps.Learning.{shown_put}
 use Rattle.heap_laws.proofs.Tracing.Traced.{leads_nowhere}
+use Rattle.heap_state.proofs.Workers.Posts.{flips_ask}
 
 module _ (E : Era) (m : Memory) (team : Team) (g : Ghost) (k : ℕ) (r : Reset) (q : ℕ) (start : Ready E m team g k) (has : (team.worker k).reset ≡ Some r) (loose : r.sized ≡ false)
     (grown : r.grown ≡ Some q) (out' : IsLaidOut (sized_era E q)) where
@@ -55,10 +56,10 @@ module _ (E : Era) (m : Memory) (team : Team) (g : Ghost) (k : ℕ) (r : Reset) 
   flips = me.resets r has
 
   traced : m.traced ≡ E.epoch + 1
-  traced = (me.seen_traced (me.flips flips)).1
+  traced = (me.seen_traced (me.asks (flips_ask (team.worker k).post flips))).1
 
   larger : E.old_span ≤ E1.old_span
-  larger = let a = me.unsized flips (ap is_sized has ∙ loose) in let b = told.grown q grown in omega (arith, a, b)
+  larger = let a = me.unsized (flips_ask (team.worker k).post flips) (ap is_sized has ∙ loose) in let b = told.grown q grown in omega (arith, a, b)
 
   still : m.gate.running ≡ 0
   still = ap (λ (w : GateWord). w.running) told.unmoved ∙ told.stopped.0
@@ -68,8 +69,8 @@ module _ (E : Era) (m : Memory) (team : Team) (g : Ghost) (k : ℕ) (r : Reset) 
 
   requested : {A : Type 0} → m.gate.request ≡ false → A
   requested e =
-      let t = sum_below-term team.count (λ j. count_one (is_flipper (team.worker j).post)) k start.member in
-      let a = one_of (is_flipper (team.worker k).post) flips in
+      let t = sum_below-term team.count (λ j. count_one (is_asking (team.worker j).post)) k start.member in
+      let a = one_of (is_asking (team.worker k).post) (flips_ask (team.worker k).post flips) in
       let b : count_one m.gate.request ≡ 0 = rw e refl in
       absurd (omega (arith, t, a, b, inv.counted.request))
 
@@ -237,7 +238,7 @@ module _ (E : Era) (m : Memory) (team : Team) (g : Ghost) (k : ℕ) (r : Reset) 
     -- with what is known of its flip
     with_reset : (v : Worker) → v ≡ record u { reset = v.reset }
         → ((s : Reset) → v.reset ≡ Some s → is_flipper u.post ≡ true) → ((s : Reset) → v.reset ≡ Some s → Resets E1 m.gate m.front m.low m.old_front m.old_low m.old_owed s)
-        → (is_flipper u.post ≡ true → is_sized v.reset ≡ false → E1.old_span ≤ E1.span)
+        → (is_asking u.post ≡ true → is_sized v.reset ≡ false → E1.old_span ≤ E1.span)
         → Knows E1 m.gate m.traced m.front m.low m.old_front m.old_low m.old_owed g m.page m.cross m.announced m.heap j (record u { reset = v.reset })
     with_reset v same resets reset unsized = record {
       timely = timely;
@@ -259,7 +260,7 @@ module _ (E : Era) (m : Memory) (team : Team) (g : Ghost) (k : ℕ) (r : Reset) 
       pages = assumption (pages);
       seen_traced = kn.seen_traced;
       size_seen = kn.size_seen;
-      flips = kn.flips;
+      asks = kn.asks;
       passage = kn.passage;
       resets = resets;
       reset = reset;
@@ -271,8 +272,8 @@ module _ (E : Era) (m : Memory) (team : Team) (g : Ghost) (k : ℕ) (r : Reset) 
 
   others : (j : ℕ) → j < team.count → j ≢ k → KnowsNow j (team.worker j)
   others j l d =
-      let alone : is_flipper (team.worker j).post ≡ true → ⊥ = λ f. d (one_flipper E m team g inv j k l start.member f flips) in
-      with_reset j l (team.worker j) refl (knows j l).resets (λ s e. absurd (alone ((knows j l).resets s e))) (λ f _. absurd (alone f))
+      let alone : is_asking (team.worker j).post ≡ true → ⊥ = λ f. d (one_asks E m team g inv j k l start.member f (flips_ask (team.worker k).post flips)) in
+      with_reset j l (team.worker j) refl (knows j l).resets (λ s e. absurd (alone (flips_ask (team.worker j).post ((knows j l).resets s e)))) (λ f _. absurd (alone f))
 
   reset_now : Resets E1 m.gate m.front m.low m.old_front m.old_low m.old_owed (record r { sized = true })
   reset_now = record {

@@ -10,13 +10,14 @@ use Rattle.heap_state.specs.Invariant.Inductive.{Knows, KnowsAtPages}
 use Rattle.heap_state.specs.Invariant.Parts.Copying.{IsOrigin, Licensed}
 use Rattle.heap_state.specs.Invariant.Parts.Knowledge.{Timely, Clean, Passes}
 use Rattle.heap_state.specs.Invariant.Parts.Scanning.{Rounds, Claims, Looks, LastLooks}
-use Rattle.heap_state.specs.Worker.{Worker, Team, Post, Scanner, Outside, Running, Stopped, Flipping, Gone, Passage, Enter, Park, Request, Forwarded, Resume, Leave, Origin, Register, Scanned, Quest, Round, Claim, Look, LastLook, GateStep, is_mutator, is_live, is_running, is_flipper, is_gone, is_behind, is_late}
+use Rattle.heap_state.specs.Worker.{Worker, Team, Post, Scanner, Outside, Running, Stopped, Flipping, Gone, Passage, Enter, Park, Request, Forwarded, Resume, Leave, Origin, Register, Scanned, Quest, Round, Claim, Look, LastLook, GateStep, is_mutator, is_live, is_running, is_gone, is_behind, is_late, Snapping, RequestSnap, Clear, is_asking}
 use Rattle.heap_state.proofs.Puts.{none≢some, true_false}
 use Rattle.heap_laws.specs.Flipping.Flip.{next_era, next_ghost, flipped_gate, after_flip}
 use Rattle.heap_laws.proofs.Flipping.Parts.{ReadyToFlip, nothing, lands_on, leads_inside, page_age, board_age}
 use Rattle.heap_laws.proofs.Flipping.Sums.{sum_below-term, one_of}
 use Rattle.heap_laws.proofs.Scanning.Scanners.{open_age}
 use Rattle.heap_laws.proofs.Frames.Values.{zero_clean, zero_lands}
+use Rattle.heap_state.proofs.Workers.Posts.{flips_ask}
 
 -- ---- words and bits
 
@@ -31,6 +32,7 @@ not_live Outside m l g = refl
 not_live Running m l g = absurd (cc)
 not_live Stopped m l g = absurd (cc)
 not_live (Flipping asked) m l g = absurd (cc)
+not_live Snapping m l g = absurd (cc)
 not_live Gone m l g = absurd (cc)
 
 -- who is not live, is no flipper and does not run is late in no epoch
@@ -40,6 +42,7 @@ behind_live e own Outside b = absurd (cc)
 behind_live e own Running b = refl
 behind_live e own Stopped b = refl
 behind_live e own (Flipping asked) b = refl
+behind_live e own Snapping b = refl
 behind_live e own Gone b = absurd (cc)
 
 behind_next : (e own : ℕ) (post : Post) → (is_live post ≡ true → own ≡ e) → is_behind (e + 1) post own ≡ is_live post
@@ -48,6 +51,7 @@ behind_next e own Outside h = refl
 behind_next e own Running h = let z : own + 1 ≡ e + 1 = ap (λ i. i + 1) (h refl) in eq-eqb (own + 1) (e + 1) z
 behind_next e own Stopped h = let z : own + 1 ≡ e + 1 = ap (λ i. i + 1) (h refl) in eq-eqb (own + 1) (e + 1) z
 behind_next e own (Flipping asked) h = let z : own + 1 ≡ e + 1 = ap (λ i. i + 1) (h refl) in eq-eqb (own + 1) (e + 1) z
+behind_next e own Snapping h = let z : own + 1 ≡ e + 1 = ap (λ i. i + 1) (h refl) in eq-eqb (own + 1) (e + 1) z
 behind_next e own Gone h = refl
 
 behind_now : (e own : ℕ) (post : Post) → is_live post ≡ true → own + 1 ≡ e → is_behind e post own ≡ true
@@ -58,6 +62,8 @@ flipper_passes : (asked epoch done : ℕ) (ended seen : Bool) (read : GateWord) 
 flipper_passes asked epoch done ended seen read Enter q = absurd (let y = q.0 in cc)
 flipper_passes asked epoch done ended seen read Park q = absurd (let y = q.0 in cc)
 flipper_passes asked epoch done ended seen read (Request n) q = absurd (let y = q.0 in cc)
+flipper_passes asked epoch done ended seen read RequestSnap q = absurd (let y = q.0 in cc)
+flipper_passes asked epoch done ended seen read Clear q = absurd (cc)
 flipper_passes asked epoch done ended seen read Forwarded q = absurd (let y = q.0 in cc)
 flipper_passes asked epoch done ended seen read Resume q = absurd (let y = q.0 in cc)
 flipper_passes asked epoch done ended seen read Leave q = absurd (let y = q.0 in cc)
@@ -167,12 +173,12 @@ module _ {E : Era} {m : Memory} {team : Team} {g : Ghost} (ready : ReadyToFlip E
         ended : u.account.end ≡ None → is_some u.account.end ≡ false
         ended e = rw e refl
 
-    pub timely : (post : Post) → is_live post ≡ is_live u.post → is_running post ≡ false → is_flipper post ≡ false → Timely E1 post u.epoch u.done
+    pub timely : (post : Post) → is_live post ≡ is_live u.post → is_running post ≡ false → is_asking post ≡ false → Timely E1 post u.epoch u.done
     timely post same still none = let z = past in record {
       past = omega (arith, z);
       live = λ e. inr (let q = current j l (sym same ∙ e) in omega (arith, q));
       running = λ e. true_false still e;
-      flipping = λ e. true_false none e;
+      asking = λ e. true_false none e;
       rest = λ e. done_none j l;
       below = (knows j l).timely.below;
     }
@@ -188,7 +194,7 @@ module _ {E : Era} {m : Memory} {team : Team} {g : Ghost} (ready : ReadyToFlip E
     }
 
     -- what another than the flipper knows
-    pub other : is_flipper u.post ≡ false → Knows E1 gate' m.traced m.old_front m.old_low m.front m.low m.owed g1 m.page m.cross m.announced m.heap j u
+    pub other : is_asking u.post ≡ false → Knows E1 gate' m.traced m.old_front m.old_low m.front m.low m.owed g1 m.page m.cross m.announced m.heap j u
     other none = let still = none_true (is_running u.post) (idle j l) in let k = knows j l in record {
       timely = timely u.post refl still none;
       ends = k.ends;
@@ -209,10 +215,10 @@ module _ {E : Era} {m : Memory} {team : Team} {g : Ghost} (ready : ReadyToFlip E
       pages = at_pages;
       seen_traced = λ e. absurd (⊎_elim (λ y. true_false still y) (λ y. true_false none y) (k.seen_traced e).0);
       size_seen = λ p e. absurd (idle j l (k.size_seen p e).0);
-      flips = k.flips;
+      asks = k.asks;
       passage = k.passage;
       resets = k.resets;
-      reset = λ r e. true_false none (k.resets r e);
+      reset = λ r e. true_false none (flips_ask u.post (k.resets r e));
       unsized = λ e. true_false none e;
     }
 
@@ -238,7 +244,7 @@ module _ {E : Era} {m : Memory} {team : Team} {g : Ghost} (ready : ReadyToFlip E
       pages = assumption (at_pages);
       seen_traced = λ e. absurd (cc);
       size_seen = λ p e. absurd (idle j l (k.size_seen p e).0);
-      flips = λ e. absurd (cc);
+      asks = λ e. absurd (cc);
       passage = λ s e. absurd (no_step s (k.passage s e));
       resets = λ r e. none≢some e;
       reset = λ r e. none≢some e;

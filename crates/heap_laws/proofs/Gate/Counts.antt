@@ -3,7 +3,7 @@ use Rattle.std.proofs.Common.{◌≡◌, ℕ, zero, suc, ◌+◌, ◌<◌, ◌�
 use Rattle.space_map.specs.declared.gate_word.GateWord.{GateWord}
 use Rattle.heap_state.specs.Functions.{put, sum_below, count_one}
 use Rattle.heap_state.specs.Invariant.Parts.Gate.{Counted}
-use Rattle.heap_state.specs.Worker.{Worker, Post, is_live, is_running, is_flipper, is_gone, is_late}
+use Rattle.heap_state.specs.Worker.{Worker, Post, is_live, is_running, is_asking, is_gone, is_late}
 use Rattle.heap_state.proofs.Puts.{put_other, put_same, sum_below-change}
 use Rattle.heap_laws.specs.Gate.{GatesFit}
 use Rattle.heap_laws.proofs.Flipping.Sums.{at_most_one}
@@ -38,7 +38,7 @@ pub counted_moves : (worker : ℕ → Worker) (count k : ℕ) (w : Worker) (p q 
     → gate'.running + count_one (is_running p) ≡ gate.running + count_one (is_running q)
     → gate'.behind + count_one late ≡ gate.behind + count_one late'
     → gate'.left + count_one (is_gone p) ≡ gate.left + count_one (is_gone q)
-    → count_one gate'.request + count_one (is_flipper p) ≡ count_one gate.request + count_one (is_flipper q)
+    → count_one gate'.request + count_one (is_asking p) ≡ count_one gate.request + count_one (is_asking q)
     → (0 < gate'.behind → (gate'.running ≡ 0) × (gate'.request ≡ false))
     → Counted gate count worker → Counted gate' count (put worker k w)
 counted_moves worker count k w p q gate gate' late late' l ep eq la lb same live running behind left request still c = record {
@@ -46,7 +46,7 @@ counted_moves worker count k w p q gate gate' late late' l ep eq la lb same live
   running = let t = count_moves worker count k w (λ u. is_running u.post) l in let a = ap (λ x. count_one (is_running x)) ep in let b = ap (λ x. count_one (is_running x)) eq in omega (arith, t, a, b, running, c.running);
   behind = rw same (let t = count_moves worker count k w (is_late gate.epoch) l in let a = ap count_one la in let b = ap count_one lb in let z : gate'.behind ≡ sum_below count (λ j. count_one (is_late gate.epoch (put worker k w j))) = omega (arith, t, a, b, behind, c.behind) in z);
   left = let t = count_moves worker count k w (λ u. is_gone u.post) l in let a = ap (λ x. count_one (is_gone x)) ep in let b = ap (λ x. count_one (is_gone x)) eq in omega (arith, t, a, b, left, c.left);
-  request = let t = count_moves worker count k w (λ u. is_flipper u.post) l in let a = ap (λ x. count_one (is_flipper x)) ep in let b = ap (λ x. count_one (is_flipper x)) eq in omega (arith, t, a, b, request, c.request);
+  request = let t = count_moves worker count k w (λ u. is_asking u.post) l in let a = ap (λ x. count_one (is_asking x)) ep in let b = ap (λ x. count_one (is_asking x)) eq in omega (arith, t, a, b, request, c.request);
   still = still;
   epoch_fits = rw same c.epoch_fits;
 }

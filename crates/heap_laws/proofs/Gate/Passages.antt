@@ -11,17 +11,20 @@ use Rattle.heap_state.specs.Invariant.Parts.Copying.{IsOrigin, Licensed}
 use Rattle.heap_state.specs.Invariant.Parts.Knowledge.{Accesses, Clean, Ends, Passes, Resets}
 use Rattle.heap_state.specs.Invariant.Parts.Pages.{Quiet, Sizes}
 use Rattle.heap_state.specs.Invariant.Parts.Scanning.{Claims, Looks, LastLooks}
-use Rattle.heap_state.specs.Worker.{Worker, Team, Post, Scanner, Outside, Running, Stopped, Flipping, Gone, Passage, Enter, Park, Request, Forwarded, Resume, Leave, Origin, Register, Scanned, Quest, Claim, Look, LastLook, GateStep, Reset, Access, is_mutator, is_flipper, is_gone, is_live, is_running, is_late}
+use Rattle.heap_state.specs.Worker.{Worker, Team, Post, Scanner, Outside, Running, Stopped, Flipping, Gone, Passage, Enter, Park, Request, Forwarded, Resume, Leave, Origin, Register, Scanned, Quest, Claim, Look, LastLook, GateStep, Reset, Access, is_mutator, is_flipper, is_gone, is_live, is_running, is_late, Snapping, RequestSnap, Clear, is_asking}
 use Rattle.heap_state.proofs.Puts.{none≢some, true_false}
 use Rattle.heap_state.specs.Memory.Entries.{GateIs}
-use Rattle.heap_laws.specs.Gate.{gate_after, into_epoch, worker_after, WinsGate, PassingGateKeeps}
+use Rattle.heap_laws.specs.Gate.{gate_after, into_epoch, worker_after, WinsGate, PassingGateKeeps, out_of_run}
 use Rattle.heap_laws.specs.Steps.{with_worker, Ready, Steps, InGate, with_gate, Preserves}
 use Rattle.heap_laws.proofs.Flipping.Sums.{sum_below-term, sum_below-two, one_of}
 use Rattle.heap_laws.proofs.Gate.Counts.{counted_moves, fits}
 use Rattle.heap_laws.proofs.Gate.Team.{passing_keeps, usual}
-use Rattle.heap_laws.proofs.Gate.Worker.{no_reset, none_at_pages, knows_then}
+use Rattle.heap_laws.proofs.Gate.Worker.{no_reset, none_at_pages, knows_then, NoneFlips}
 use Rattle.heap_laws.proofs.Scanning.Scanners.{now_not_late}
 use Rattle.space_map.specs.declared.spaces.TheConstants.{PAGE_WORDS}
+use Rattle.heap_state.proofs.Workers.Posts.{flips_ask}
+use Rattle.heap_laws.proofs.Flipping.Reset.{one_asks}
+use Rattle.heap_laws.proofs.Fields.GoingOn.{none_sized}
 
 runs : (p : Post) → is_running p ≡ true → p ≡ Running
 runs Scanner e = absurd (cc)
@@ -29,6 +32,7 @@ runs Outside e = absurd (cc)
 runs Running e = refl
 runs Stopped e = absurd (cc)
 runs (Flipping asked) e = absurd (cc)
+runs Snapping e = absurd (cc)
 runs Gone e = absurd (cc)
 
 module _ (E : Era) (m : Memory) (team : Team) (g : Ghost) (k : ℕ) (s : GateStep) (ready : Ready E m team g k) (wins : WinsGate m team k s) where
@@ -86,7 +90,7 @@ module _ (E : Era) (m : Memory) (team : Team) (g : Ghost) (k : ℕ) (s : GateSte
         stock = λ y e. none≢some e;
         none_left = λ r l y d. true_false (late E.epoch) y;
       })
-      (inl q)
+      (no_reset E m team g inv (inl q))
       (counted_moves team.worker team.count k (worker_after m.gate.epoch Enter w) Outside Running m.gate (gate_after Enter m.gate) false false ready.member at refl (late m.gate.epoch) (now_not_late m.gate.epoch m.gate.epoch Running refl)
       refl (omega arith) (omega arith) refl refl refl (λ y. absurd (omega (arith, y, b))) inv.counted)
       inv.sizes
@@ -104,7 +108,7 @@ module _ (E : Era) (m : Memory) (team : Team) (g : Ghost) (k : ℕ) (s : GateSte
         sizes = λ x e. (refl, (me.size_seen x e).1);
         pages = none_at_pages w m.gate.epoch;
         seen = λ e. (inl refl, (me.seen_traced e).1);
-        flips = λ e. absurd (cc);
+        asks = λ e. absurd (cc);
         unsized = λ e. absurd (cc);
       }))
 
@@ -112,16 +116,16 @@ module _ (E : Era) (m : Memory) (team : Team) (g : Ghost) (k : ℕ) (s : GateSte
 
   -- a mutator goes from post p to post q: what the gate counts, and what the worker still knows
   stays : (p q : Post) (access : Option Access) (opened size : Option ℕ) (seen : Bool) (live running left : ℕ) (request : Bool) → w.epoch ≡ E.epoch → w.post ≡ p → is_mutator p ≡ true → is_mutator q ≡ true
-      → (m.gate.request ≡ false) ⊎ ((0 < m.gate.running) ⊎ (0 < m.gate.behind))
+      → NoneFlips E m team g inv
       → live + count_one (is_live p) ≡ m.gate.live + count_one (is_live q) → running + count_one (is_running p) ≡ m.gate.running + count_one (is_running q)
-      → left + count_one (is_gone p) ≡ m.gate.left + count_one (is_gone q) → count_one request + count_one (is_flipper p) ≡ count_one m.gate.request + count_one (is_flipper q)
+      → left + count_one (is_gone p) ≡ m.gate.left + count_one (is_gone q) → count_one request + count_one (is_asking p) ≡ count_one m.gate.request + count_one (is_asking q)
       → (0 < m.gate.behind → (running ≡ 0) × (request ≡ false)) → q ≢ Outside → Ends q (is_some w.account.end)
       → ((f : Access) → access ≡ Some f → (is_running q ≡ true) × Accesses E g.size g.writer g.kind f)
       → ((x : ℕ) → opened ≡ Some x → (is_running q ≡ true) × (m.page x ≡ Open E.epoch)) → ((x : ℕ) → size ≡ Some x → (is_running q ≡ true) × (E.span ≡ PAGE_WORDS * x))
-      → (seen ≡ true → ((is_running q ≡ true) ⊎ (is_flipper q ≡ true)) × (m.traced ≡ E.epoch + 1)) → (is_flipper q ≡ true → seen ≡ true)
-      → Sizes E request → (is_flipper q ≡ true → E.old_span ≤ E.span)
+      → (seen ≡ true → ((is_running q ≡ true) ⊎ (is_asking q ≡ true)) × (m.traced ≡ E.epoch + 1)) → (is_asking q ≡ true → seen ≡ true)
+      → Sizes E request → (is_asking q ≡ true → E.old_span ≤ E.span)
       → Preserves E m (with_gate m (record m.gate { live = live; running = running; left = left; request = request })) team (with_worker team k (record w { post = q; access = access; opened = opened; size_seen = size; traced_seen = seen; gate_step = None })) g g
-  stays p q access opened size seen live running left request now at mutator mutates busy lives runs leaves asks still inside ends accesses opens sizes sees flips smaller unsized =
+  stays p q access opened size seen live running left request now at mutator mutates none lives runs leaves requests still inside ends accesses opens sizes sees asks smaller unsized =
       let w' : Worker = record w { post = q; access = access; opened = opened; size_seen = size; traced_seen = seen; gate_step = None } in
       let gate' : GateWord = record m.gate { live = live; running = running; left = left; request = request } in
       let gate_now : w.epoch ≡ m.gate.epoch = now ∙ sym ready.at_gate in
@@ -137,11 +141,11 @@ module _ (E : Era) (m : Memory) (team : Team) (g : Ghost) (k : ℕ) (s : GateSte
         stock = λ y e. e;
         none_left = λ r l y d. not_late now y;
       })
-      busy
+      none
       (counted_moves team.worker team.count k w' p q m.gate gate' false false ready.member at refl (now_not_late m.gate.epoch w.epoch w.post gate_now) (now_not_late m.gate.epoch w.epoch q gate_now)
-      refl lives runs refl leaves asks still inv.counted)
+      refl lives runs refl leaves requests still inv.counted)
       smaller
-      (knows_then E m team g k gate' inv ready.member (no_flip busy) q w.epoch w.done w access opened size seen
+      (knows_then E m team g k gate' inv ready.member (λ r e. none k r ready.member e) q w.epoch w.done w access opened size seen
       (record {
         now = now;
         done_none = done_none now;
@@ -155,7 +159,7 @@ module _ (E : Era) (m : Memory) (team : Team) (g : Ghost) (k : ℕ) (s : GateSte
         sizes = sizes;
         pages = me.pages;
         seen = sees;
-        flips = flips;
+        asks = asks;
         unsized = unsized;
       }))
 
@@ -164,7 +168,7 @@ module _ (E : Era) (m : Memory) (team : Team) (g : Ghost) (k : ℕ) (s : GateSte
       let q = request_read false request in
       let b = behind_read behind in
       let same : m.gate.epoch ≡ s.read.epoch = ap (λ (x : GateWord). x.epoch) wins.unchanged in
-      stays Stopped Running w.access w.opened w.size_seen w.traced_seen m.gate.live (m.gate.running + 1) m.gate.left m.gate.request (sym (same ∙ epoch) ∙ ready.at_gate) at refl refl (inl q)
+      stays Stopped Running w.access w.opened w.size_seen w.traced_seen m.gate.live (m.gate.running + 1) m.gate.left m.gate.request (sym (same ∙ epoch) ∙ ready.at_gate) at refl refl (no_reset E m team g inv (inl q))
       refl (omega arith) refl refl (λ y. absurd (omega (arith, y, b))) (λ e. absurd (cc)) (record { stays = λ e. inl refl; gone = λ e. absurd (cc) })
       (λ f e. (refl, me.access f e)) (λ x e. (refl, (me.opened x e).1)) (λ x e. (refl, (me.size_seen x e).1)) (λ e. (inl refl, (me.seen_traced e).1)) (λ e. absurd (cc)) inv.sizes (λ e. absurd (cc))
 
@@ -177,24 +181,68 @@ module _ (E : Era) (m : Memory) (team : Team) (g : Ghost) (k : ℕ) (s : GateSte
     none_behind y = absurd (let c = inv.counted.still y in let z = some in omega (arith, c.0, z))
 
     parks : is_some w.account.end ≡ false → Preserves E m (with_gate m (gate_after Park m.gate)) team (with_worker team k (worker_after m.gate.epoch Park w)) g g
-    parks ended = stays Running Stopped None None None false m.gate.live (m.gate.running - 1) m.gate.left m.gate.request (me.timely.running running) (runs w.post running) refl refl (inr (inl some))
+    parks ended = stays Running Stopped None None None false m.gate.live (m.gate.running - 1) m.gate.left m.gate.request (me.timely.running running) (runs w.post running) refl refl (no_reset E m team g inv (inr (inl some)))
         refl (let z = some in omega (arith, z)) refl refl (λ y. none_behind y) (λ e. absurd (cc)) (record { stays = λ e. true_false ended e; gone = λ e. absurd (cc) })
         (λ f e. none≢some e) (λ x e. none≢some e) (λ x e. none≢some e) (λ e. absurd (cc)) (λ e. absurd (cc)) inv.sizes (λ e. absurd (cc))
 
-    requests : (asked : ℕ) → is_some w.account.end ≡ false → s.read.request ≡ false → w.traced_seen ≡ true → Preserves E m (with_gate m (gate_after (Request asked) m.gate)) team (with_worker team k (worker_after m.gate.epoch (Request asked) w)) g g
-    requests asked ended request seen =
-        let q : count_one m.gate.request ≡ 0 = ap count_one (request_read false request) in
-        stays Running (Flipping asked) None None None w.traced_seen m.gate.live (m.gate.running - 1) m.gate.left true (me.timely.running running) (runs w.post running) refl refl (inr (inl some))
-        refl (let z = some in omega (arith, z)) refl (omega (arith, q)) (λ y. none_behind y) (λ e. absurd (cc)) (record { stays = λ e. true_false ended e; gone = λ e. absurd (cc) })
-        (λ f e. none≢some e) (λ x e. none≢some e) (λ x e. none≢some e) (λ e. (inr refl, (me.seen_traced e).1)) (λ e. seen)
+    -- it stops, and the request is its own
+    asks_for : (q : Post) → is_mutator q ≡ true → is_live q ≡ true → is_running q ≡ false → is_gone q ≡ false → is_asking q ≡ true → q ≢ Outside
+        → is_some w.account.end ≡ false → s.read.request ≡ false → w.traced_seen ≡ true
+        → Preserves E m (with_gate m (record m.gate { running = m.gate.running - 1; request = true })) team (with_worker team k (record (out_of_run w) { post = q })) g g
+    asks_for q mutates live still there asks inside ended request seen =
+        let none : count_one m.gate.request ≡ 0 = ap count_one (request_read false request) in
+        stays Running q None None None w.traced_seen m.gate.live (m.gate.running - 1) m.gate.left true (me.timely.running running) (runs w.post running) refl mutates (no_reset E m team g inv (inr (inl some)))
+        (rw live refl) (rw still (let z = some in omega (arith, z))) (rw there refl) (rw asks (omega (arith, none))) (λ y. none_behind y) inside
+        (record { stays = λ e. true_false ended e; gone = λ e. true_false there e })
+        (λ f e. none≢some e) (λ x e. none≢some e) (λ x e. none≢some e) (λ e. (inr asks, (me.seen_traced e).1)) (λ e. seen)
         (record { below = λ e. absurd (cc) }) (λ e. inv.sizes.below (request_read false request))
+
+    requests : (asked : ℕ) → is_some w.account.end ≡ false → s.read.request ≡ false → w.traced_seen ≡ true → Preserves E m (with_gate m (gate_after (Request asked) m.gate)) team (with_worker team k (worker_after m.gate.epoch (Request asked) w)) g g
+    requests asked = asks_for (Flipping asked) refl refl refl refl refl (λ e. absurd (cc))
+
+    requests_snap : is_some w.account.end ≡ false → s.read.request ≡ false → w.traced_seen ≡ true → Preserves E m (with_gate m (gate_after RequestSnap m.gate)) team (with_worker team k (worker_after m.gate.epoch RequestSnap w)) g g
+    requests_snap = asks_for Snapping refl refl refl refl refl (λ e. absurd (cc))
 
     leaves : is_some w.account.end ≡ true → Preserves E m (with_gate m (gate_after Leave m.gate)) team (with_worker team k (worker_after m.gate.epoch Leave w)) g g
     leaves ended =
         let alive = live_some (ap is_live (runs w.post running)) in
-        stays Running Gone None None None false (m.gate.live - 1) (m.gate.running - 1) (m.gate.left + 1) m.gate.request (me.timely.running running) (runs w.post running) refl refl (inr (inl some))
+        stays Running Gone None None None false (m.gate.live - 1) (m.gate.running - 1) (m.gate.left + 1) m.gate.request (me.timely.running running) (runs w.post running) refl refl (no_reset E m team g inv (inr (inl some)))
         (omega (arith, alive)) (let z = some in omega (arith, z)) (omega arith) refl (λ y. none_behind y) (λ e. absurd (cc)) (record { stays = λ e. inr refl; gone = λ e. ended })
         (λ f e. none≢some e) (λ x e. none≢some e) (λ x e. none≢some e) (λ e. absurd (cc)) (λ e. absurd (cc)) inv.sizes (λ e. absurd (cc))
+
+  -- ---- the request cleared
+
+  module _ (at : w.post ≡ Snapping) where
+    asks : is_asking w.post ≡ true
+    asks = ap is_asking at
+
+    request_set : m.gate.request ≡ true
+    request_set = by_request m.gate.request refl
+      where
+        by_request : (b : Bool) → m.gate.request ≡ b → m.gate.request ≡ true
+        by_request true e = e
+        by_request false e =
+            let t = sum_below-term team.count (λ j. count_one (is_asking (team.worker j).post)) k ready.member in
+            let o = one_of (is_asking w.post) asks in
+            let z : count_one m.gate.request ≡ 0 = ap count_one e in
+            absurd (omega (arith, t, o, z, inv.counted.request))
+
+    -- who flips would have the request too
+    nobody_flips : NoneFlips E m team g inv
+    nobody_flips j r l e =
+        let flips = (inv.workers j l).resets r e in
+        let own : j ≡ k = one_asks E m team g inv j k l ready.member (flips_ask (team.worker j).post flips) asks in
+        let post : (team.worker j).post ≡ Snapping = ap (λ (i : ℕ). (team.worker i).post) own ∙ at in
+        true_false (ap is_flipper post) flips
+
+    clears : Preserves E m (with_gate m (gate_after Clear m.gate)) team (with_worker team k (worker_after m.gate.epoch Clear w)) g g
+    clears =
+        let one : count_one m.gate.request ≡ 1 = ap count_one request_set in
+        stays Snapping Stopped None None None false m.gate.live m.gate.running m.gate.left false (me.timely.asking asks) at refl refl nobody_flips
+        refl refl refl (omega (arith, one)) (λ y. absurd (let z = sym (inv.counted.still y).1 ∙ request_set in cc)) (λ e. absurd (cc))
+        (record { stays = λ e. absurd (⊎_elim (λ y. true_false (ap is_running at) y) (λ y. true_false (ap is_gone at) y) (me.ends.stays e)); gone = λ e. absurd (cc) })
+        (λ f e. none≢some e) (λ x e. none≢some e) (λ x e. none≢some e) (λ e. absurd (cc)) (λ e. absurd (cc))
+        (record { below = λ e. me.unsized asks (none_sized w.reset (λ r f. nobody_flips k r ready.member f)) }) (λ e. absurd (cc))
 
   -- ---- registers forwarded
 
@@ -286,14 +334,16 @@ module _ (E : Era) (m : Memory) (team : Team) (g : Ghost) (k : ℕ) (s : GateSte
           sizes = me.size_seen;
           pages = none_at_pages w m.gate.epoch;
           seen = me.seen_traced;
-          flips = me.flips;
-          unsized = λ e. absurd (let q = sym (ap is_flipper at) ∙ e in cc);
+          asks = me.asks;
+          unsized = λ e. absurd (let q = sym (ap is_asking at) ∙ e in cc);
         }))
 
   by_passage : (p : Passage) → Passes w.post w.epoch w.done (is_some w.account.end) w.traced_seen s.read p → Preserves E m (with_gate m (gate_after p m.gate)) team (with_worker team k (worker_after m.gate.epoch p w)) g g
   by_passage Enter y = enters y.0 y.1 y.2
   by_passage Park y = parks y.0 y.1
   by_passage (Request asked) y = requests y.0 asked y.1 y.2 y.3
+  by_passage RequestSnap y = requests_snap y.0 y.1 y.2 y.3
+  by_passage Clear y = clears y
   by_passage Forwarded y = forwards y.0 y.1 y.2
   by_passage Resume y = resumes y.0 y.1 y.2 y.3
   by_passage Leave y = leaves y.0 y.1
@@ -303,6 +353,8 @@ same_epoch : (p : Passage) (gate : GateWord) → (gate_after p gate).epoch ≡ g
 same_epoch Enter gate = refl
 same_epoch Park gate = refl
 same_epoch (Request asked) gate = refl
+same_epoch RequestSnap gate = refl
+same_epoch Clear gate = refl
 same_epoch Forwarded gate = refl
 same_epoch Resume gate = refl
 same_epoch Leave gate = refl

@@ -2,7 +2,7 @@
 use Rattle.std.proofs.Common.{◌≡◌, ℕ, Bool, ◌+◌, true, Some, is_some, refl, arith, ◌⊎◌, inl, ◌*◌}
 use Rattle.space_map.specs.declared.gate_word.GateWord.{GateWord}
 use Rattle.heap_state.specs.Invariant.Parts.Knowledge.{Passes}
-use Rattle.heap_state.specs.Worker.{Worker, Post, Passage, Enter, Park, Request, Forwarded, Resume, Leave, GateStep, is_running, is_flipper}
+use Rattle.heap_state.specs.Worker.{Worker, Post, Passage, Enter, Park, Request, Forwarded, Resume, Leave, GateStep, is_running, RequestSnap, Clear, is_asking}
 use Rattle.heap_state.proofs.Puts.{some_same}
 use Rattle.heap_laws.proofs.Steps.Learning.{learns, learnt}
 use Rattle.heap_laws.specs.Gate.{ReadingGateKeeps, SeeingTracedKeeps, SeeingSizeKeeps, SizesAreKnown}
@@ -13,6 +13,8 @@ seen_on : (post : Post) (epoch done : ℕ) (ended seen : Bool) (read : GateWord)
 seen_on post epoch done ended seen read Enter q = q
 seen_on post epoch done ended seen read Park q = q
 seen_on post epoch done ended seen read (Request asked) q = (q.0, q.1, q.2, refl)
+seen_on post epoch done ended seen read RequestSnap q = (q.0, q.1, q.2, refl)
+seen_on post epoch done ended seen read Clear q = q
 seen_on post epoch done ended seen read Forwarded q = q
 seen_on post epoch done ended seen read Resume q = q
 seen_on post epoch done ended seen read Leave q = q
@@ -33,8 +35,8 @@ sees_traced E m team g k ready running traced =
     let w : Worker = record (team.worker k) { traced_seen = true } in
     let now = me.timely.running running in
     learnt (learns E m team g k w inv (assumption) (λ s e. (s, e, refl))
-    (let seen : true ≡ true → ((is_running (team.worker k).post ≡ true) ⊎ (is_flipper (team.worker k).post ≡ true)) × (m.traced ≡ E.epoch + 1) = λ e. (inl running, omega (arith, traced, now)) in
-    let flips : is_flipper (team.worker k).post ≡ true → true ≡ true = λ e. refl in
+    (let seen : true ≡ true → ((is_running (team.worker k).post ≡ true) ⊎ (is_asking (team.worker k).post ≡ true)) × (m.traced ≡ E.epoch + 1) = λ e. (inl running, omega (arith, traced, now)) in
+    let asks : is_asking (team.worker k).post ≡ true → true ≡ true = λ e. refl in
     let passage = λ (s : GateStep) (e : (team.worker k).gate_step ≡ Some s). seen_on (team.worker k).post (team.worker k).epoch (team.worker k).done (is_some (team.worker k).account.end) (team.worker k).traced_seen s.read s.passage (me.passage s e) in
     assumption))
 

@@ -4,7 +4,7 @@ use Rattle.heap_state.specs.Memory.Era.{Era, Memory}
 use Rattle.heap_state.specs.Invariant.Ghost.{Ghost}
 use Rattle.heap_state.specs.Invariant.Inductive.{Invariant, Knows}
 use Rattle.heap_state.specs.Invariant.Parts.Copying.{IsOrigin}
-use Rattle.heap_state.specs.Worker.{Worker, Team, Scanner, Origin, Register, Scanned, Quest, is_mutator, is_flipper, is_late}
+use Rattle.heap_state.specs.Worker.{Worker, Team, Scanner, Origin, Register, Scanned, Quest, is_mutator, is_flipper, is_late, is_asking}
 use Rattle.heap_state.proofs.Puts.{none≢some, true_false}
 use Rattle.heap_laws.specs.Gate.{TakingEpochKeeps, into_epoch}
 use Rattle.heap_laws.specs.Steps.{with_worker, Preserves}
@@ -26,6 +26,9 @@ module _ (E : Era) (m : Memory) (team : Team) (g : Ghost) (k : ℕ) (inv : Invar
 
   not_flipping : is_flipper w.post ≡ false
   not_flipping = ap is_flipper scanner
+
+  not_asking : is_asking w.post ≡ false
+  not_asking = ap is_asking scanner
 
   no_quest : (q : Quest) → w.quest ≡ Some q → ⊥
   no_quest q e = by_origin q.origin (me.origin q e)
@@ -66,8 +69,8 @@ module _ (E : Era) (m : Memory) (team : Team) (g : Ghost) (k : ℕ) (inv : Invar
         sizes = me.size_seen;
         pages = none_at_pages w m.gate.epoch;
         seen = me.seen_traced;
-        flips = me.flips;
-        unsized = λ e. true_false not_flipping e;
+        asks = me.asks;
+        unsized = λ e. true_false not_asking e;
       }))
 
 pub takes_epoch_of_gate : TakingEpochKeeps

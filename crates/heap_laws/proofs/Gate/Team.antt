@@ -1,5 +1,5 @@
 -- A worker passes the gate: what it brings with it, and the new gate and team, keep all.
-use Rattle.std.proofs.Common.{◌≡◌, ◌≢◌, ℕ, ◌<◌, ◌≤◌, Bool, true, false, Some, refl, ap, arith, ◌⊎◌}
+use Rattle.std.proofs.Common.{◌≡◌, ◌≢◌, ℕ, ◌<◌, ◌≤◌, Bool, true, Some, refl, ap, arith}
 use Rattle.space_map.specs.declared.gate_word.GateWord.{GateWord}
 use Rattle.heap_state.specs.Memory.Era.{Era, Memory}
 use Rattle.heap_state.specs.Functions.{put}
@@ -12,7 +12,7 @@ use Rattle.heap_state.specs.Worker.{Worker, Team, Stock, Reset, is_mutator, is_l
 use Rattle.heap_state.proofs.Workers.Frames.{staffed_put, scanned_put, stocks_put, numbered_put, rooted_put}
 use Rattle.heap_state.proofs.Puts.{team_put}
 use Rattle.heap_laws.specs.Steps.{with_worker, with_gate, Preserves}
-use Rattle.heap_laws.proofs.Gate.Worker.{no_reset}
+use Rattle.heap_laws.proofs.Gate.Worker.{NoneFlips}
 use Rattle.heap_laws.proofs.Steps.Learning.{shown_put}
 
 -- worker k, which had this to do at the gate, passes it
@@ -49,15 +49,15 @@ module _ {E : Era} {m : Memory} {team : Team} {g : Ghost} {k : ℕ} {w' : Worker
   }
 
 -- a passage that leaves as many behind as there were
-pub usual : (E : Era) (m : Memory) (team : Team) (g : Ghost) (k : ℕ) (w' : Worker) (live running left : ℕ) (request : Bool) → GoesPastGate E m team g k w' → (m.gate.request ≡ false) ⊎ ((0 < m.gate.running) ⊎ (0 < m.gate.behind))
+pub usual : (E : Era) (m : Memory) (team : Team) (g : Ghost) (k : ℕ) (w' : Worker) (live running left : ℕ) (request : Bool) → (passing : GoesPastGate E m team g k w') → NoneFlips E m team g passing.inv
     → Counted (record m.gate { live = live; running = running; left = left; request = request }) team.count (put team.worker k w') → Sizes E request
     → Knows E (record m.gate { live = live; running = running; left = left; request = request }) m.traced m.front m.low m.old_front m.old_low m.old_owed g m.page m.cross m.announced m.heap k w'
     → Preserves E m (with_gate m (record m.gate { live = live; running = running; left = left; request = request })) team (with_worker team k w') g g
-usual E m team g k w' live running left request passing busy counted sizes own = passing_keeps passing (record m.gate { live = live; running = running; left = left; request = request })
+usual E m team g k w' live running left request passing none counted sizes own = passing_keeps passing (record m.gate { live = live; running = running; left = left; request = request })
     counted passing.inv.filling passing.inv.tracing sizes (λ j l d. others j l) own
   where
     others : (j : ℕ) → j < team.count → Knows E (record m.gate { live = live; running = running; left = left; request = request }) m.traced m.front m.low m.old_front m.old_low m.old_owed g m.page m.cross m.announced m.heap j (team.worker j)
     others j l =
         let u = passing.inv.workers j l in
-        let a : (r : Reset) → (team.worker j).reset ≡ Some r → Resets E (record m.gate { live = live; running = running; left = left; request = request }) m.front m.low m.old_front m.old_low m.old_owed r = λ r e. absurd (no_reset E m team g passing.inv busy j r l e) in
+        let a : (r : Reset) → (team.worker j).reset ≡ Some r → Resets E (record m.gate { live = live; running = running; left = left; request = request }) m.front m.low m.old_front m.old_low m.old_owed r = λ r e. absurd (none j r l e) in
         assumption

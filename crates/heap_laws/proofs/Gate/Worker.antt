@@ -9,17 +9,22 @@ use Rattle.heap_state.specs.Invariant.Ghost.{Ghost}
 use Rattle.heap_state.specs.Invariant.Inductive.{Invariant, Knows, KnowsAtPages}
 use Rattle.heap_state.specs.Invariant.Parts.Copying.{IsOrigin}
 use Rattle.heap_state.specs.Invariant.Parts.Knowledge.{Ends, Clean, Accesses}
-use Rattle.heap_state.specs.Worker.{Worker, Team, Post, Outside, Origin, Register, Scanned, Quest, Stock, Access, Reset, is_mutator, is_running, is_flipper, is_late}
+use Rattle.heap_state.specs.Worker.{Worker, Team, Post, Outside, Origin, Register, Scanned, Quest, Stock, Access, Reset, is_mutator, is_running, is_late, is_asking}
 use Rattle.heap_state.proofs.Puts.{none≢some, true_false}
 use Rattle.heap_state.proofs.Workers.Idle.{at_rest, nothing_at_pages}
 use Rattle.heap_laws.specs.Gate.{into_epoch}
 use Rattle.heap_laws.proofs.Flipping.Sums.{sum_below-term, one_of}
 use Rattle.heap_laws.proofs.Scanning.Scanners.{now_not_late}
 use Rattle.space_map.specs.declared.spaces.TheConstants.{PAGE_WORDS}
+use Rattle.heap_state.proofs.Workers.Posts.{flips_ask}
 
 module _ (E : Era) (m : Memory) (team : Team) (g : Ghost) (inv : Invariant E m team g) where
-  -- where somebody runs or is behind, or no flip is requested, no flip is in progress
-  pub no_reset : (m.gate.request ≡ false) ⊎ ((0 < m.gate.running) ⊎ (0 < m.gate.behind)) → (j : ℕ) (r : Reset) → j < team.count → (team.worker j).reset ≡ Some r → ⊥
+  -- no flip is in progress
+  abbrev pub NoneFlips : Type 0
+  NoneFlips = (j : ℕ) (r : Reset) → j < team.count → (team.worker j).reset ≡ Some r → ⊥
+
+  -- so it is where somebody runs or is behind, or nothing is requested
+  pub no_reset : (m.gate.request ≡ false) ⊎ ((0 < m.gate.running) ⊎ (0 < m.gate.behind)) → NoneFlips
   no_reset busy j r l e = by_gate busy
     where
       u : Knows E m.gate m.traced m.front m.low m.old_front m.old_low m.old_owed g m.page m.cross m.announced m.heap j (team.worker j)
@@ -30,8 +35,8 @@ module _ (E : Era) (m : Memory) (team : Team) (g : Ghost) (inv : Invariant E m t
 
       by_gate : (m.gate.request ≡ false) ⊎ ((0 < m.gate.running) ⊎ (0 < m.gate.behind)) → ⊥
       by_gate (inl q) =
-          let t = sum_below-term team.count (λ i. count_one (is_flipper (team.worker i).post)) j l in
-          let a = one_of (is_flipper (team.worker j).post) (u.resets r e) in
+          let t = sum_below-term team.count (λ i. count_one (is_asking (team.worker i).post)) j l in
+          let a = one_of (is_asking (team.worker j).post) (flips_ask (team.worker j).post (u.resets r e)) in
           let b = none_of m.gate.request q in let c = inv.counted.request in omega (arith, t, a, b, c)
       by_gate (inr (inl q)) = let o = u.reset r e in let z = ap (λ (w : GateWord). w.running) o.unmoved in omega (arith, o.stopped, z, q)
       by_gate (inr (inr q)) = let o = u.reset r e in let z = ap (λ (w : GateWord). w.behind) o.unmoved in omega (arith, o.stopped, z, q)
@@ -55,9 +60,9 @@ pub record Brings (E : Era) (m : Memory) (g : Ghost) (behind : ℕ) (w : Worker)
   pub opens : (p : ℕ) → opened ≡ Some p → (is_running post ≡ true) × (m.page p ≡ Open E.epoch)
   pub pages : KnowsAtPages E m.traced m.front behind g.size g.writer m.page (record duty { epoch = epoch })
   pub sizes : (p : ℕ) → size_seen ≡ Some p → (is_running post ≡ true) × (E.span ≡ PAGE_WORDS * p)
-  pub seen : traced_seen ≡ true → ((is_running post ≡ true) ⊎ (is_flipper post ≡ true)) × (m.traced ≡ E.epoch + 1)
-  pub flips : is_flipper post ≡ true → traced_seen ≡ true
-  pub unsized : is_flipper post ≡ true → E.old_span ≤ E.span
+  pub seen : traced_seen ≡ true → ((is_running post ≡ true) ⊎ (is_asking post ≡ true)) × (m.traced ≡ E.epoch + 1)
+  pub asks : is_asking post ≡ true → traced_seen ≡ true
+  pub unsized : is_asking post ≡ true → E.old_span ≤ E.span
 
 module _ (E : Era) (m : Memory) (team : Team) (g : Ghost) (k : ℕ) (gate' : GateWord) (inv : Invariant E m team g) (below : k < team.count) (no_flip : (r : Reset) → (team.worker k).reset ≡ Some r → ⊥)
     (post : Post) (epoch done : ℕ) (duty : Worker) (access : Option Access) (opened size_seen : Option ℕ) (traced_seen : Bool) (brings : Brings E m g gate'.behind (team.worker k) post epoch done duty access opened size_seen traced_seen) where
@@ -95,7 +100,7 @@ module _ (E : Era) (m : Memory) (team : Team) (g : Ghost) (k : ℕ) (gate' : Gat
 
   pub knows_then : Knows E gate' m.traced m.front m.low m.old_front m.old_low m.old_owed g m.page m.cross m.announced m.heap k passed
   knows_then = let now = brings.now in let none = brings.done_none in record {
-    timely = record { past = omega (arith, now); live = λ e. inl now; running = λ e. now; flipping = λ e. now; rest = λ e. none; below = omega (arith, none) };
+    timely = record { past = omega (arith, now); live = λ e. inl now; running = λ e. now; asking = λ e. now; rest = λ e. none; below = omega (arith, none) };
     ends = brings.ends;
     outside = λ e. absurd (brings.inside e);
     stock = brings.stocks;
@@ -119,7 +124,7 @@ module _ (E : Era) (m : Memory) (team : Team) (g : Ghost) (k : ℕ) (gate' : Gat
     pages = assumption (brings.pages);
     seen_traced = brings.seen;
     size_seen = brings.sizes;
-    flips = brings.flips;
+    asks = brings.asks;
     passage = λ s e. none≢some e;
     resets = λ r e. absurd (no_flip r e);
     reset = λ r e. absurd (no_flip r e);

@@ -5,13 +5,13 @@ use Rattle.space_map.specs.Spaces.{to_space, space_start}
 use Rattle.space_map.specs.GateWord.{GateFits}
 use Rattle.space_map.specs.Table.{Size}
 use Rattle.heap_state.specs.Configuration.{Configuration, table, era, memory, team}
-use Rattle.heap_state.specs.Memory.Entries.{Entry, GateIs, SizeIs}
+use Rattle.heap_state.specs.Memory.Entries.{Entry, GateIs, SizeIs, SnapIs, DoneIs, SaveIs, ImageIs}
 use Rattle.heap_state.specs.Memory.Era.{Memory, IsLaidOut, era_of, era_at, memory_of, from_space}
 use Rattle.heap_state.specs.Memory.Table.{Table, word_in}
 use Rattle.heap_state.proofs.Table.LaidOut.{laid_out, table_in_use}
 use Rattle.heap_state.proofs.Table.Seen.{follows}
 use Rattle.heap_laws.specs.Lifting.{table_after, RowFits, StepsAreLifted, PlainStepsAreLifted, words_after_row, SizesAreLifted, Flipped, FlipsAreLifted}
-use Rattle.heap_laws.specs.Steps.{WritesRow, NoRow, InGate, InTraced, InArea, InOldArea, InPage, InCross, InWord, InAnnounce}
+use Rattle.heap_laws.specs.Steps.{WritesRow, NoRow, InGate, InTraced, InArea, InOldArea, InPage, InCross, InWord, InAnnounce, Beside, IsBeside}
 use Rattle.heap_laws.proofs.Lifting.Configurations.{board_at, seen, stand, ready}
 use Rattle.heap_laws.specs.Flipping.Flip.{FlipKeeps, flipped_gate, after_flip, next_ghost, next_era, next_memory}
 use Rattle.heap_laws.specs.Flipping.Sizes.{sized_era, after_size}
@@ -44,6 +44,14 @@ memory_at t gate epoch = record {
   announced = t.announced;
 }
 
+-- a row of checkpoints is no part of the table
+seen_beside : (c : Configuration) (e : Entry) → IsBeside (era c) e → RowSeen c (Some e) (memory c)
+seen_beside c (SnapIs number) beside = record { fits = tt; era_stays = refl; memory_is = refl }
+seen_beside c (DoneIs number) beside = record { fits = tt; era_stays = refl; memory_is = refl }
+seen_beside c (SaveIs page word) beside = record { fits = (let b = board_at c in omega (arith, b, beside.0), beside.1); era_stays = refl; memory_is = refl }
+seen_beside c (ImageIs addr word) beside = record { fits = let b = board_at c in omega (arith, b, beside); era_stays = refl; memory_is = refl }
+seen_beside c _ beside = absurd beside
+
 row_seen : (c : Configuration) (e : Option Entry) (later : Memory) → WritesRow (era c) (memory c) e later → RowSeen c e later
 row_seen c _ _ NoRow = record { fits = tt; era_stays = refl; memory_is = refl }
 row_seen c _ _ (InGate gate fits same) = record {
@@ -58,6 +66,7 @@ row_seen c _ _ (InPage page word below fits) = record { fits = (let b = board_at
 row_seen c _ _ (InCross page place below) = record { fits = let b = board_at c in omega (arith, b, below); era_stays = refl; memory_is = refl }
 row_seen c _ _ (InWord addr word below) = record { fits = let b = board_at c in omega (arith, b, below); era_stays = refl; memory_is = refl }
 row_seen c _ _ (InAnnounce worker place below) = record { fits = omega (arith, below); era_stays = refl; memory_is = refl }
+row_seen c _ _ (Beside e beside) = seen_beside c e beside
 
 -- ---- the step
 

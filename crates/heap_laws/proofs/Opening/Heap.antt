@@ -104,7 +104,7 @@ module _ (n least : ℕ) where
 
   outside : (k : ℕ) → Known k (fresh Outside)
   outside k = idle_knows (fresh Outside) refl
-      (record { past = omega arith; live = λ l. true_false refl l; running = λ r. refl; flipping = λ f. refl; rest = λ r. refl; below = omega arith })
+      (record { past = omega arith; live = λ l. true_false refl l; running = λ r. refl; asking = λ f. refl; rest = λ r. refl; below = omega arith })
       (record { stays = λ e. true_false refl e; gone = λ e. true_false refl e })
       (λ e j l. refl)
       (λ q e. none≢some e)
@@ -114,7 +114,7 @@ module _ (n least : ℕ) where
 
   scanner : (k : ℕ) → Known k (fresh Scanner)
   scanner k = idle_knows (fresh Scanner) refl
-      (record { past = omega arith; live = λ l. true_false refl l; running = λ r. refl; flipping = λ f. refl; rest = λ r. refl; below = omega arith })
+      (record { past = omega arith; live = λ l. true_false refl l; running = λ r. refl; asking = λ f. refl; rest = λ r. refl; below = omega arith })
       (record { stays = λ e. true_false refl e; gone = λ e. true_false refl e })
       (λ e. absurd (cc))
       (λ q e. none≢some e)

@@ -8,7 +8,7 @@ use Rattle.space_map.specs.declared.gate_word.GateWord.{GateWord}
 use Rattle.heap_state.specs.Configuration.{team_of}
 use Rattle.heap_state.specs.Functions.{sum_below, count_one}
 use Rattle.heap_state.specs.Invariant.Parts.Gate.{Counted, Staffed}
-use Rattle.heap_state.specs.Worker.{Worker, Team, Outside, Scanner, fresh, is_live, is_running, is_gone, is_flipper, is_late, is_mutator}
+use Rattle.heap_state.specs.Worker.{Worker, Team, Outside, Scanner, fresh, is_live, is_running, is_gone, is_late, is_mutator, is_asking}
 use Rattle.heap_laws.specs.Opening.{opening_workers}
 
 -- ---- who they are
@@ -66,7 +66,7 @@ counted mutators scanners gate e = rw e (record {
   running = sum-zero _ _ (λ k. each_fresh mutators scanners k (λ w. count_one (is_running w.post) ≡ 0) refl refl);
   behind = sum-zero _ _ (λ k. each_fresh mutators scanners k (λ w. count_one (is_late 0 w) ≡ 0) refl refl);
   left = sum-zero _ _ (λ k. each_fresh mutators scanners k (λ w. count_one (is_gone w.post) ≡ 0) refl refl);
-  request = sum-zero _ _ (λ k. each_fresh mutators scanners k (λ w. count_one (is_flipper w.post) ≡ 0) refl refl);
+  request = sum-zero _ _ (λ k. each_fresh mutators scanners k (λ w. count_one (is_asking w.post) ≡ 0) refl refl);
   still = λ b. absurd (omega (arith, b));
   epoch_fits = omega arith;
 })

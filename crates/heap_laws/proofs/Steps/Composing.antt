@@ -12,11 +12,11 @@ use Rattle.heap_state.specs.Invariant.Inductive.{Invariant, Knows, KnowsAtPages}
 use Rattle.heap_state.specs.Invariant.Parts.Copying.{IsOrigin, Licensed}
 use Rattle.heap_state.specs.Invariant.Parts.Scanning.{Scans, Stepping, Rounds}
 use Rattle.heap_state.specs.Meaning.Values.{Shown}
-use Rattle.heap_state.specs.Worker.{Worker, Team, Account, Quest, Scan, Round, Origin, Register, Scanned, is_mutator, is_flipper, is_late}
+use Rattle.heap_state.specs.Worker.{Worker, Team, Account, Quest, Scan, Round, Origin, Register, Scanned, is_mutator, is_flipper, is_late, is_asking}
 use Rattle.heap_state.proofs.Workers.Frames.{counted_put, staffed_put, stocks_put, numbered_put, rooted_put}
 use Rattle.heap_state.proofs.Puts.{put_same, put_twice, each_put, some_same}
-use Rattle.heap_laws.specs.Composing.{IsAtMost, IsLess, IsLessScan, IsLessRound, LessAtPages, IsScanWithin, SameScan, LessScan, StepsForget, StepsAreReady, StepsFollow, PlainStepsForget, PlainStepsAreReady, PlainStepsFollow}
-use Rattle.heap_laws.specs.Steps.{WritesRow, NoRow, InGate, with_worker, Preserves, Steps}
+use Rattle.heap_laws.specs.Composing.{IsAtMost, IsLess, IsLessScan, IsLessRound, LessAtPages, IsScanWithin, SameScan, LessScan, StepsForget, StepsAreReady, StepsFollow, PlainStepsForget, PlainStepsAreReady, PlainStepsFollow, StepsWriteBeside, PlainStepsWriteBeside}
+use Rattle.heap_laws.specs.Steps.{WritesRow, NoRow, InGate, with_worker, Preserves, Steps, Beside, Makes}
 use Rattle.heap_laws.proofs.Steps.Learning.{shown_put, scanned_on}
 
 -- ---- forgetting
@@ -125,11 +125,11 @@ module _ (E : Era) (n : Memory) (h : Ghost) (k : ℕ) (w v : Worker) (most : IsA
     pages = less_at_pages most.others.epoch most.round most.pages me.pages;
     seen_traced = λ e. rw most.others.post (me.seen_traced (most.gate.traced_seen e));
     size_seen = λ p e. rw most.others.post (me.size_seen p (most.gate.size_seen p e));
-    flips = λ e. most.gate.asks (inl e) ∙ me.flips (ap is_flipper (sym most.others.post) ∙ e);
+    asks = λ e. most.gate.asks (inl e) ∙ me.asks (ap is_asking (sym most.others.post) ∙ e);
     passage = λ s e. rw (most.others.post, most.others.epoch, most.others.done, most.others.account, most.gate.asks (inr (ap is_some e))) (me.passage s (most.gate.gate_step s e));
     resets = λ r e. ap is_flipper most.others.post ∙ me.resets r (most.gate.reset r e);
     reset = λ r e. me.reset r (most.gate.reset r e);
-    unsized = λ e loose. me.unsized (ap is_flipper (sym most.others.post) ∙ e) (sym most.gate.sized ∙ loose);
+    unsized = λ e loose. me.unsized (ap is_asking (sym most.others.post) ∙ e) (sym most.gate.sized ∙ loose);
   }
 
 -- the team in which it is the other
@@ -260,3 +260,21 @@ plain_steps_follow E m team g k e v w h i q s t =
         ages = s.makes.ages;
       };
     }
+
+-- ---- rows of checkpoints
+
+pub steps_write_beside : StepsWriteBeside
+steps_write_beside E m team g k e w h beside s = record { later = m; writes = Beside e beside; keeps = (keeps_on refl s).keeps }
+
+-- what a step of the plain machine makes that writes no row
+record MakesOn (E : Era) (m : Memory) (team after : Team) (g h : Ghost) (q : Plain) : Type 0 where
+  makes : Makes E m m team after g h q
+
+makes_on : {E : Era} {m : Memory} {team after : Team} {g h : Ghost} {q : Plain} (e : Option Entry) (later : Memory) → WritesRow E m e later → e ≡ None
+    → Makes E m later team after g h q → MakesOn E m team after g h q
+makes_on _ _ NoRow none y = record { makes = y }
+makes_on _ _ _ none y = absurd (cc)
+
+pub plain_steps_write_beside : PlainStepsWriteBeside
+plain_steps_write_beside E m team g k e w h q beside s =
+    record { later = m; writes = Beside e beside; makes = (makes_on None s.later s.writes refl s.makes).makes }

@@ -62,13 +62,13 @@ round_fronts_are_forgotten w r has = record {
 
 -- that the epoch is traced
 pub traced_is_forgotten : TracedIsForgotten
-traced_is_forgotten w flips none = of_gate w w.gate_step w.reset false w.size_seen (record {
+traced_is_forgotten w asking none = of_gate w w.gate_step w.reset false w.size_seen (record {
   gate_step = λ _ e. e;
   reset = λ _ e. e;
   sized = refl;
   size_seen = λ _ e. e;
   traced_seen = λ e. absurd (cc);
-  asks = λ o. absurd (⊎_elim (λ f. let q = sym flips ∙ f in cc) (λ f. let q = sym (ap is_some none) ∙ f in cc) o);
+  asks = λ o. absurd (⊎_elim (λ f. let q = sym asking ∙ f in cc) (λ f. let q = sym (ap is_some none) ∙ f in cc) o);
 })
 
 -- the size of the epoch's space

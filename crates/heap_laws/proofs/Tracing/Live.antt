@@ -22,7 +22,7 @@ use Rattle.heap_state.proofs.Records.Holding.{uncopied_here}
 use Rattle.heap_state.proofs.Table.LaidOut.{laid_out}
 use Rattle.heap_state.proofs.Walks.Copies.{copied_total, copied_once, copied_sound, copied_complete}
 use Rattle.heap_state.proofs.Walks.Walking.{IsItem, item}
-use Rattle.heap_laws.specs.Live.{TracedIsLive}
+use Rattle.heap_laws.specs.Flipping.Live.{TracedIsLive}
 use Rattle.heap_laws.specs.Tracing.{NothingLeads, CopiesReachable}
 use Rattle.heap_laws.proofs.Tracing.Copied.{copies_reachable}
 use Rattle.heap_laws.proofs.Tracing.Traced.{leads_nowhere}

@@ -9,7 +9,7 @@ use Rattle.heap_state.specs.Invariant.Parts.Copies.{Room}
 use Rattle.heap_state.specs.Invariant.Parts.OldSpace.{OldSpace}
 use Rattle.heap_state.specs.Invariant.Parts.Pages.{Quiet, IsLastOpen, Tracing}
 use Rattle.heap_state.specs.Invariant.Parts.Scanning.{Rounds, LastLooks}
-use Rattle.heap_state.specs.Worker.{Worker, Team, Copy, Scan, Round, LastLook, is_mutator, is_running, is_flipper}
+use Rattle.heap_state.specs.Worker.{Worker, Team, Copy, Scan, Round, LastLook, is_mutator, is_running, is_asking}
 use Rattle.heap_state.proofs.Workers.Frames.{counted_put, staffed_put, scanned_put, stocks_put, numbered_put, rooted_put}
 use Rattle.heap_state.proofs.Puts.{team_put, none≢some}
 use Rattle.heap_state.specs.Memory.Entries.{TracedIs}
@@ -57,7 +57,7 @@ module _ (E : Era) (m : Memory) (team : Team) (g : Ghost) (k : ℕ) (l : LastLoo
       let u = inv.workers j y in
       let a = λ (r : Round) (e : (team.worker j).round ≡ Some r). rounds (team.worker j).epoch r (u.pages.round r e) in
       let b = λ (q : LastLook) (e : (team.worker j).last_look ≡ Some q). looks (team.worker j).epoch q (u.pages.last_look q e) in
-      let c : (team.worker j).traced_seen ≡ true → ((is_running (team.worker j).post ≡ true) ⊎ (is_flipper (team.worker j).post ≡ true)) × (E.epoch + 1 ≡ E.epoch + 1) = λ e. ((u.seen_traced e).0, refl) in
+      let c : (team.worker j).traced_seen ≡ true → ((is_running (team.worker j).post ≡ true) ⊎ (is_asking (team.worker j).post ≡ true)) × (E.epoch + 1 ≡ E.epoch + 1) = λ e. ((u.seen_traced e).0, refl) in
       assumption
 
   own : KnowsNow k w'
@@ -65,7 +65,7 @@ module _ (E : Era) (m : Memory) (team : Team) (g : Ghost) (k : ℕ) (l : LastLoo
       let u = me in
       let a = λ (r : Round) (e : (team.worker k).round ≡ Some r). rounds (team.worker k).epoch r (u.pages.round r e) in
       let b : (q : LastLook) → None ≡ Some q → LastLooks E (E.epoch + 1) m.gate.behind m.front m.page (team.worker k).epoch q = λ q e. none≢some e in
-      let c : (team.worker k).traced_seen ≡ true → ((is_running (team.worker k).post ≡ true) ⊎ (is_flipper (team.worker k).post ≡ true)) × (E.epoch + 1 ≡ E.epoch + 1) = λ e. ((u.seen_traced e).0, refl) in
+      let c : (team.worker k).traced_seen ≡ true → ((is_running (team.worker k).post ≡ true) ⊎ (is_asking (team.worker k).post ≡ true)) × (E.epoch + 1 ≡ E.epoch + 1) = λ e. ((u.seen_traced e).0, refl) in
       assumption
 
   invariant : Invariant E (with_traced m (E.epoch + 1)) (with_worker team k w') g

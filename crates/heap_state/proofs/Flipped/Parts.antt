@@ -87,7 +87,7 @@ pub pointer_lands : (w a : ℕ) → decode w ≡ PointerWord a → 0 < size a �
 unfolding Lands
 pointer_lands w a e st b d = let q = sym e ∙ d in let s : a ≡ b = cc in rw (← s) (st, refl)
 
-number_leads : (w n : ℕ) → decode w ≡ NumberWord n → ¬ (Leads flipped_era w)
+pub number_leads : (w n : ℕ) → decode w ≡ NumberWord n → ¬ (Leads flipped_era w)
 unfolding Leads
 number_leads w n e l = absurd (let q = sym e ∙ l.1 in cc)
 
@@ -160,17 +160,17 @@ room = record { needs = λ t. omega arith; fits = λ t. omega arith; small = ome
 -- ---- pages
 
 -- the pages that have a word, for goals that compute
-each_page : (P : ℕ → Type 0) → P 3 → P 8 → ((p : ℕ) → page p ≡ Unset → P p) → (p : ℕ) → P p
+pub each_page : (P : ℕ → Type 0) → P 3 → P 8 → ((p : ℕ) → page p ≡ Unset → P p) → (p : ℕ) → P p
 unfolding put
 each_page P a b c p = ⊎_elim (λ (x : p ≡ 3). rw x a) (λ (n : p ≢ 3).
     ⊎_elim (λ (x : p ≡ 8). rw x b) (λ (o : p ≢ 8). c p (rw (ne_eqb p 3 n, ne_eqb p 8 o) refl)) (cases_eq p 8)) (cases_eq p 3)
 
-page_3 : page 3 ≡ Open 0
+pub page_3 : page 3 ≡ Open 0
 unfolding put
 page_3 = refl
 
 -- no page has a word of this epoch
-before : (p : ℕ) → age_of (page p) ≤ 1
+pub before : (p : ℕ) → age_of (page p) ≤ 1
 unfolding put
 before = each_page (λ p. age_of (page p) ≤ 1) (omega arith) (omega arith) (λ p e. rw e (omega arith))
 
@@ -212,7 +212,7 @@ new_area = record {
 pub new_written : NewWritten flipped_era 512 size none
 new_written = record { written = λ a st l e. refl }
 
-old_area : NewArea 192 256 0 size heap page
+pub old_area : NewArea 192 256 0 size heap page
 old_area = record {
   opened = λ a x st l e f m. let q : x / 64 ≡ 3 = omega (arith, only a st) in rw q page_3;
   prior = λ b st l e n. let o = only b st in absurd (n (rw (o.0) refl));

@@ -52,7 +52,7 @@ clean = record {
 
 mutator_knows : Known 0 late_mutator
 mutator_knows = idle_knows late_mutator refl
-    (record { past = omega arith; live = λ l. inr refl; running = λ r. true_false refl r; flipping = λ f. true_false refl f; rest = λ r. refl; below = omega arith })
+    (record { past = omega arith; live = λ l. inr refl; running = λ r. true_false refl r; asking = λ f. true_false refl f; rest = λ r. refl; below = omega arith })
     (record { stays = λ e. true_false refl e; gone = λ e. true_false refl e })
     (λ e. absurd (cc))
     (λ q e. none≢some e)
@@ -70,7 +70,7 @@ keeps = assumption (counted, staffed, laid, headed, copied, once, kept_by, room,
 
 -- ---- the plain state
 
-objects : ShowsAll size none none none (λ a. Raw) identity heap flipped_plain.heap
+pub objects : ShowsAll size none none none (λ a. Raw) identity heap flipped_plain.heap
 unfolding put
 objects = record {
   shows = λ a st w o. let p = only a st in rw (p.0) (
@@ -89,7 +89,7 @@ objects = record {
   );
 }
 
-board_zero : (x : ℕ) → x < 16 → slice_get flipped_plain.heap.board x ≡ Some (Number 0)
+pub board_zero : (x : ℕ) → x < 16 → slice_get flipped_plain.heap.board x ≡ Some (Number 0)
 board_zero zero l = refl
 board_zero (suc zero) l = refl
 board_zero (suc (suc zero)) l = refl
@@ -114,7 +114,7 @@ board = record {
   board = λ x l. rw (blank_word (512 + x) (omega arith)) (number_value identity 0 0 zero_word ∙ sym (board_zero x l));
 }
 
-registers : RegistersShow (value_of identity) late_mutator.registers the_mutator
+pub registers : RegistersShow (value_of identity) late_mutator.registers the_mutator
 registers = record {
   eight = refl;
   registers_show = λ n j l. ⊎_elim

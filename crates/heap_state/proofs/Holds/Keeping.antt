@@ -18,7 +18,7 @@ use Rattle.heap_state.specs.Meaning.Represents.{IsInHeap}
 use Rattle.heap_state.proofs.Walks.Reserving.{kept_there}
 use Rattle.heap_state.specs.Sums.{is_uncopied}
 use Rattle.heap_state.specs.Memory.Walk.{Walked}
-use Rattle.heap_state.specs.Worker.{Post, Scanner, Outside, Running, Stopped, Flipping, Gone, Claim, Stock, is_live, is_running, is_flipper, is_late}
+use Rattle.heap_state.specs.Worker.{Post, Scanner, Outside, Running, Stopped, Flipping, Snapping, Gone, Claim, Stock, is_live, is_running, is_asking, is_late}
 use Rattle.heap_state.proofs.Puts.{sum_below-none}
 use Rattle.heap_state.proofs.Table.LaidOut.{table_in_use}
 use Rattle.heap_state.proofs.Represents.Denoting.{none_leads}
@@ -40,14 +40,15 @@ module _ (c : Configuration) (g : Ghost) (formed : IsFormed c.pages c.words) (in
 
   -- ---- the gate
 
-  -- who is live but neither runs nor flips is stopped
-  is_stopped : (post : Post) → is_live post ≡ true → (is_running post ≡ true → ⊥) → (is_flipper post ≡ true → ⊥) → post ≡ Stopped
-  is_stopped Scanner live runs flips = absurd (cc)
-  is_stopped Outside live runs flips = absurd (cc)
-  is_stopped Running live runs flips = absurd (runs refl)
-  is_stopped Stopped live runs flips = refl
-  is_stopped (Flipping asked) live runs flips = absurd (flips refl)
-  is_stopped Gone live runs flips = absurd (cc)
+  -- who is live but neither runs nor asks is stopped
+  is_stopped : (post : Post) → is_live post ≡ true → (is_running post ≡ true → ⊥) → (is_asking post ≡ true → ⊥) → post ≡ Stopped
+  is_stopped Scanner live runs asks = absurd (cc)
+  is_stopped Outside live runs asks = absurd (cc)
+  is_stopped Running live runs asks = absurd (runs refl)
+  is_stopped Stopped live runs asks = refl
+  is_stopped (Flipping asked) live runs asks = absurd (asks refl)
+  is_stopped Snapping live runs asks = absurd (asks refl)
+  is_stopped Gone live runs asks = absurd (cc)
 
   gate : GateHolds c
   gate = record {
@@ -57,7 +58,7 @@ module _ (c : Configuration) (g : Ghost) (formed : IsFormed c.pages c.words) (in
     late = λ k l live e.
         let t = (knows k l).timely in
         let late : is_late E.epoch (worker_of c k) ≡ true = rw (live, eq-eqb ((worker_of c k).epoch + 1) E.epoch e) refl in
-        (is_stopped (worker_of c k).post live (λ r. let s = t.running r in omega (arith, s, e)) (λ f. let s = t.flipping f in omega (arith, s, e)), (knows k l).licensed.counted late);
+        (is_stopped (worker_of c k).post live (λ r. let s = t.running r in omega (arith, s, e)) (λ f. let s = t.asking f in omega (arith, s, e)), (knows k l).licensed.counted late);
   }
 
   -- ---- headers
@@ -175,14 +176,14 @@ module _ (c : Configuration) (g : Ghost) (formed : IsFormed c.pages c.words) (in
 
   -- ---- sizes
 
-  -- who flips has seen that the epoch is traced
+  -- who asks has seen that the epoch is traced
   no_request : m.traced ≤ E.epoch → m.gate.request ≡ false
   no_request t =
-      let none = sum_below-none (team c).count (λ k. count_one (is_flipper (worker_of c k).post))
+      let none = sum_below-none (team c).count (λ k. count_one (is_asking (worker_of c k).post))
       (λ k l. ⊎_elim
-      (λ (f : is_flipper (worker_of c k).post ≡ true). absurd (let y = ((knows k l).seen_traced ((knows k l).flips f)).1 in omega (arith, t, y)))
-      (λ (f : is_flipper (worker_of c k).post ≡ false). rw f refl)
-      (cases_Bool (is_flipper (worker_of c k).post))) in
+      (λ (f : is_asking (worker_of c k).post ≡ true). absurd (let y = ((knows k l).seen_traced ((knows k l).asks f)).1 in omega (arith, t, y)))
+      (λ (f : is_asking (worker_of c k).post ≡ false). rw f refl)
+      (cases_Bool (is_asking (worker_of c k).post))) in
       ⊎_elim
       (λ (r : m.gate.request ≡ true). absurd (let one : count_one m.gate.request ≡ 1 = rw r refl in omega (arith, one, inv.counted.request, none)))
       (λ (r : m.gate.request ≡ false). r)

@@ -1,11 +1,12 @@
--- A store in a row of the table changes what that row says and nothing else.
+-- A store in a row of the table changes what that row says and nothing else, one behind the table nothing.
 use Rattle.std.proofs.Common.{◌≡◌, ◌≢◌, ℕ, ◌<◌, ◌≤◌, true, false, cond, List, length, refl, ap, ◌∙◌, arith, get_or, set, get_or-set_other, get_or-set_same, ⊎_elim}
 use Rattle.std.proofs.Math.ListN.{length-set}
 use Rattle.std.proofs.Math.Path.{fun_ext}
 use Rattle.std.proofs.lemmas.Bool.{cases_Bool}
 use Rattle.std.proofs.lemmas.Bool.Decides.{not_from_Decides}
-use Rattle.space_map.specs.Table.{Row, IsRow, is_row, place_of, table_length}
-use Rattle.space_map.proofs.Rows.{is_row-decides, place_of-apart, place_of-lt, row_eq, row_eq-decides}
+use Rattle.space_map.specs.Table.{Row, IsRow, is_row, place_of, save_place_of, table_length}
+use Rattle.space_map.proofs.Rows.{is_row-decides, place_of-apart, place_of-lt, save_place_of-ge, row_eq, row_eq-decides}
+use Rattle.heap_state.specs.Memory.Entries.{WholeRow, Within, Behind, whole_place_of, IsWholeRow}
 use Rattle.heap_state.specs.Memory.Table.{word_in}
 
 -- a row that the table has is one that it has
@@ -50,3 +51,22 @@ word_in-set n words row word is whole = fun_ext (λ other. ⊎_elim
     (ap (word_in n (after n words row word is)) ((row_eq-decides other row).0 test) ∙ word_in-same n words row word is whole))
     (λ (test : row_eq other row ≡ false). rw test (word_in-other n words row word is other (not_from_Decides (row_eq other row) (row_eq-decides other row) test)))
     (cases_Bool (row_eq other row)))
+
+-- ---- rows behind the table too
+
+-- the words of all rows of the table, where a row of it or one behind it has this word
+abbrev pub put_any : (Row → ℕ) → WholeRow → ℕ → Row → ℕ
+put_any words (Within row) word = put_row words row word
+put_any words (Behind row) word = words
+
+pub word_in-set_any : (n : ℕ) (words : List ℕ) (row : WholeRow) (word : ℕ) → IsWholeRow n row → table_length n ≤ length words
+    → word_in n (set words (whole_place_of n row) word) ≡ put_any (word_in n words) row word
+unfolding word_in
+word_in-set_any n words (Within row) word is whole = word_in-set n words row word is whole
+word_in-set_any n words (Behind row) word is whole = fun_ext (λ other. ⊎_elim
+    (λ (e : is_row n other ≡ true).
+    let before = place_of-lt n other (row_is n other e) in
+    let behind = save_place_of-ge n row in
+    rw e (get_or-set_other words (save_place_of n row) (place_of n other) word 0 (λ same. omega (arith, before, behind, same))))
+    (λ (e : is_row n other ≡ false). rw e refl)
+    (cases_Bool (is_row n other)))

@@ -1,32 +1,41 @@
 -- A store in a row of the table changes one part of what the table says. A family of rows whose words have a format gives it here.
 use Rattle.std.proofs.Common.{◌≡◌, ℕ, ◌≤◌, ◌==◌, true, false, cond, List, length, set, refl, sym, ap, subst, ◌∙◌, arith, ⊎_elim}
+use Rattle.std.proofs.Math.ListN.{length-set}
 use Rattle.std.proofs.Math.Path.{fun_ext}
 use Rattle.std.proofs.lemmas.Bool.{cases_Bool}
 use Rattle.space_map.specs.AreaWord.{area_in, encode_area}
 use Rattle.space_map.specs.PageWord.{encode_page}
-use Rattle.space_map.specs.Table.{Row, Area, Size, Page, IsRow, place_of, table_length}
+use Rattle.space_map.specs.Table.{Row, Area, Size, SnapNumber, DoneNumber, Page, IsRow, table_length}
 use Rattle.space_map.proofs.AreaWords.{area_in-encode_area, encode_area-lt}
 use Rattle.space_map.proofs.GateWords.{gate_in-encode_gate, encode_gate-lt}
 use Rattle.space_map.proofs.PageWords.{decode_page-encode_page}
 use Rattle.space_map.proofs.Rows.{row_eq, row_eq-decides}
-use Rattle.heap_state.specs.Memory.Entries.{Entry, GateIs, TracedIs, AreaIs, SizeIs, PageIs, CrossIs, WordIs, AnnounceIs, EntryFits, row_of, word_of, with_entry}
+use Rattle.heap_state.specs.Memory.Entries.{WholeRow, Within, Behind, whole_place_of, IsWholeRow, Entry, GateIs, TracedIs, AreaIs, SizeIs, PageIs, CrossIs, WordIs, AnnounceIs, SnapIs, DoneIs, SaveIs, ImageIs, EntryFits, row_of, word_of, with_entry}
 use Rattle.heap_state.specs.Functions.{put}
 use Rattle.heap_state.specs.Memory.Table.{HasForm, page_word_in, table_by, table_of, word_in}
-use Rattle.heap_state.specs.Theorems.Rows.{StoresEntry}
-use Rattle.heap_state.proofs.Table.Places.{length-after, put_row, word_in-set}
+use Rattle.heap_state.specs.Theorems.Rows.{StoresBeside, StoresEntry}
+use Rattle.heap_state.proofs.Table.Places.{put_any, word_in-set_any}
 
 -- ---- each family
 
--- the table has the row
-pub entry_has_row : (n : ℕ) (e : Entry) → EntryFits n e → IsRow n (row_of e)
+-- the table has the row, if there is room for it
+pub entry_has_row : (n : ℕ) (e : Entry) → EntryFits n e → IsWholeRow n (row_of e)
 entry_has_row n (GateIs gate) fits = tt
 entry_has_row n (AreaIs space area) fits = fits.0
 entry_has_row n (SizeIs space pages) fits = fits.0
 entry_has_row n (PageIs page word) fits = fits.0
+entry_has_row n (SnapIs number) fits = tt
+entry_has_row n (DoneIs number) fits = tt
+entry_has_row n (SaveIs page word) fits = fits.0
 entry_has_row n _ fits = fits
 
+-- a word of a row of the table has the form of its row
+abbrev HasFormAt : WholeRow → ℕ → Type 0
+HasFormAt (Within row) word = HasForm row word
+HasFormAt (Behind row) word = Unit {0}
+
 -- its word has the form
-has_form : (n : ℕ) (e : Entry) → EntryFits n e → HasForm (row_of e) (word_of e)
+has_form : (n : ℕ) (e : Entry) → EntryFits n e → HasFormAt (row_of e) (word_of e)
 has_form n (GateIs gate) fits = encode_gate-lt gate fits
 has_form n (AreaIs space area) fits = encode_area-lt area fits.1
 has_form n (PageIs page word) fits = rw (decode_page-encode_page word fits.1) refl
@@ -43,7 +52,7 @@ put_said says words place word said is = fun_ext (λ x. ⊎_elim
 
 module _ (n : ℕ) (words : Row → ℕ) where
   -- its part changes, and no other
-  one_part : (e : Entry) → EntryFits n e → table_by n (put_row words (row_of e) (word_of e)) ≡ with_entry e (table_by n words)
+  one_part : (e : Entry) → EntryFits n e → table_by n (put_any words (row_of e) (word_of e)) ≡ with_entry e (table_by n words)
   unfolding put
   one_part (GateIs gate) fits = ap (λ z. record (table_by n words) { gate = z }) (gate_in-encode_gate gate fits)
   one_part (AreaIs space area) fits =
@@ -56,9 +65,10 @@ module _ (n : ℕ) (words : Row → ℕ) where
 
 -- ---- a store
 
-forms_stay : (words : Row → ℕ) (row : Row) (word : ℕ) → HasForm row word → (other : Row) → HasForm other (words other)
-    → HasForm other (put_row words row word other)
-forms_stay words row word form other stood = ⊎_elim
+forms_stay : (words : Row → ℕ) (row : WholeRow) (word : ℕ) → HasFormAt row word → (other : Row) → HasForm other (words other)
+    → HasForm other (put_any words row word other)
+forms_stay words (Behind row) word form other stood = stood
+forms_stay words (Within row) word form other stood = ⊎_elim
     (λ (test : row_eq other row ≡ true). rw test (subst (λ (r : Row). HasForm r word) (sym ((row_eq-decides other row).0 test)) form))
     (λ (test : row_eq other row ≡ false). rw test stood)
     (cases_Bool (row_eq other row))
@@ -69,7 +79,7 @@ IsSize n pages = (4 ≤ pages) × (pages ≤ n)
 
 -- the words of the sizes stay such numbers
 sizes_stay : (n : ℕ) (words : Row → ℕ) (e : Entry) → EntryFits n e → (space : ℕ) → IsSize n (words (Size space))
-    → IsSize n (put_row words (row_of e) (word_of e) (Size space))
+    → IsSize n (put_any words (row_of e) (word_of e) (Size space))
 sizes_stay n words (SizeIs other pages) fits space stood = ⊎_elim
     (λ (test : (space == other) ≡ true). rw test (fits.1, fits.2))
     (λ (test : (space == other) ≡ false). rw test stood)
@@ -81,6 +91,10 @@ sizes_stay n words (TracedIs word) fits space stood = stood
 sizes_stay n words (CrossIs page place) fits space stood = stood
 sizes_stay n words (WordIs addr word) fits space stood = stood
 sizes_stay n words (AnnounceIs worker place) fits space stood = stood
+sizes_stay n words (SnapIs number) fits space stood = stood
+sizes_stay n words (DoneIs number) fits space stood = stood
+sizes_stay n words (SaveIs page word) fits space stood = stood
+sizes_stay n words (ImageIs addr word) fits space stood = stood
 
 -- the words hold a whole table, and each has the form of its row
 pub record HasForms (n : ℕ) (words : List ℕ) : Type 0 where
@@ -89,14 +103,14 @@ pub record HasForms (n : ℕ) (words : List ℕ) : Type 0 where
 
 module _ (n : ℕ) (words : List ℕ) (e : Entry) (forms : HasForms n words) (fits : EntryFits n e) where
   abbrev after : List ℕ
-  after = set words (place_of n (row_of e)) (word_of e)
+  after = set words (whole_place_of n (row_of e)) (word_of e)
 
-  pub word_in-after : word_in n after ≡ put_row (word_in n words) (row_of e) (word_of e)
-  word_in-after = word_in-set n words (row_of e) (word_of e) (entry_has_row n e fits) forms.whole
+  pub word_in-after : word_in n after ≡ put_any (word_in n words) (row_of e) (word_of e)
+  word_in-after = word_in-set_any n words (row_of e) (word_of e) (entry_has_row n e fits) forms.whole
 
   pub forms_after : HasForms n after
   forms_after = record {
-    whole = omega (arith, length-after n words (row_of e) (word_of e) (entry_has_row n e fits), forms.whole);
+    whole = omega (arith, length-set words (whole_place_of n (row_of e)) (word_of e), forms.whole);
     rows = λ row has. subst (λ (f : Row → ℕ). HasForm row (f row)) (sym word_in-after)
         (forms_stay (word_in n words) (row_of e) (word_of e) (has_form n e fits) row (forms.rows row has));
   }
@@ -115,4 +129,20 @@ stores_entry n words e formed fits =
     record {
       formed = record { whole = later.whole; rows = later.rows; sizes = λ space is. size_stays n words e forms fits space (formed.sizes space is) };
       says = says_after n words e forms fits;
+    }
+
+pub stores_beside : StoresBeside
+unfolding table_of
+stores_beside n words (Within SnapNumber) word formed is has = stores_entry n words (SnapIs word) formed tt
+stores_beside n words (Within DoneNumber) word formed is has = stores_entry n words (DoneIs word) formed tt
+stores_beside n words (Within _) word formed is has = absurd is
+stores_beside n words (Behind row) word formed is has =
+    let same = word_in-set_any n words (Behind row) word has formed.whole in
+    record {
+      formed = record {
+        whole = omega (arith, length-set words (whole_place_of n (Behind row)) word, formed.whole);
+        rows = λ other has. subst (λ (f : Row → ℕ). HasForm other (f other)) (sym same) (formed.rows other has);
+        sizes = λ space is. subst (λ (f : Row → ℕ). IsSize n (f (Size space))) (sym same) (formed.sizes space is);
+      };
+      says = ap (table_by n) same;
     }

@@ -48,7 +48,7 @@ clean = record {
 
 pub mutator_knows : Known 0 worked_mutator
 mutator_knows = idle_knows worked_mutator refl
-    (record { past = omega arith; live = λ l. inl refl; running = λ r. refl; flipping = λ f. true_false refl f; rest = λ r. refl; below = omega arith })
+    (record { past = omega arith; live = λ l. inl refl; running = λ r. refl; asking = λ f. true_false refl f; rest = λ r. refl; below = omega arith })
     (record { stays = λ e. true_false refl e; gone = λ e. true_false refl e })
     (λ e. absurd (cc))
     (λ q e. let s : record { epoch = 1; at = 320; end = 512; zeroed = 512; opened = 512; ahead = [] } ≡ q = some_same e in rw (← s) refl)
@@ -132,7 +132,7 @@ at_pages = nothing_at_pages worked_scanner
 
 pub scanner_knows : Known 1 worked_scanner
 scanner_knows = record {
-  timely = record { past = omega arith; live = λ l. true_false refl l; running = λ r. refl; flipping = λ f. refl; rest = λ r. refl; below = omega arith };
+  timely = record { past = omega arith; live = λ l. true_false refl l; running = λ r. refl; asking = λ f. refl; rest = λ r. refl; below = omega arith };
   ends = record { stays = λ e. true_false refl e; gone = λ e. true_false refl e };
   outside = λ e. absurd (cc);
   stock = λ q e. none≢some e;
@@ -156,7 +156,7 @@ scanner_knows = record {
   pages = assumption (at_pages);
   seen_traced = λ e. true_false refl e;
   size_seen = λ p e. none≢some e;
-  flips = λ e. true_false refl e;
+  asks = λ e. true_false refl e;
   passage = λ s e. none≢some e;
   resets = λ r e. none≢some e;
   reset = λ r e. none≢some e;

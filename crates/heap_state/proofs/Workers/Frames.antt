@@ -13,7 +13,7 @@ use Rattle.heap_state.specs.Invariant.Parts.Pages.{ScannedBy}
 use Rattle.heap_state.specs.Invariant.Parts.Stocks.{Stocks, Stocked, Numbered}
 use Rattle.heap_state.specs.Theorems.Workers.{FramesOfWorkers}
 use Rattle.heap_state.specs.Meaning.Values.{Accounts, RegistersShow}
-use Rattle.heap_state.specs.Worker.{Worker, Stock, is_mutator, is_live, is_running, is_flipper, is_gone, is_late}
+use Rattle.heap_state.specs.Worker.{Worker, Account, Stock, is_mutator, is_live, is_running, is_asking, is_gone, is_late}
 use Rattle.heap_state.proofs.Puts.{put_at, put_other, each_put, proj_put, sum_below-same}
 
 module _ (worker : ℕ → Worker) (k : ℕ) (w : Worker) where
@@ -30,7 +30,7 @@ module _ (worker : ℕ → Worker) (k : ℕ) (w : Worker) where
     running = c.running ∙ count_put count (λ u. is_running u.post) (ap is_running post);
     behind = c.behind ∙ count_put count (is_late gate.epoch) (rw (post, epoch) refl);
     left = c.left ∙ count_put count (λ u. is_gone u.post) (ap is_gone post);
-    request = c.request ∙ count_put count (λ u. is_flipper u.post) (ap is_flipper post);
+    request = c.request ∙ count_put count (λ u. is_asking u.post) (ap is_asking post);
     still = c.still;
     epoch_fits = c.epoch_fits;
   }
@@ -84,16 +84,16 @@ module _ (worker : ℕ → Worker) (k : ℕ) (w : Worker) where
   pub registers_put : {denotes : ℕ → Option _} → w.registers ≡ (worker k).registers → (j : ℕ) (q : plain.Mutator) → RegistersShow denotes (worker j).registers q → RegistersShow denotes (after j).registers q
   registers_put same j q p = rw (proj_put (λ u. u.registers) worker k w j same) p
 
-  -- a register that was to be forwarded still is
-  pub rooted_put : {E : Era} {front count : ℕ} {size writer : ℕ → ℕ} {identity : ℕ → Identity} {heap : ℕ → ℕ} {p : plain.Plain}
-      → is_mutator w.post ≡ is_mutator (worker k).post → w.account ≡ (worker k).account → w.registers ≡ (worker k).registers
+  -- a register that was to be forwarded still is, where the worker has an end if it had one
+  pub rooted_put_end : {E : Era} {front count : ℕ} {size writer : ℕ → ℕ} {identity : ℕ → Identity} {heap : ℕ → ℕ} {p : plain.Plain}
+      → is_mutator w.post ≡ is_mutator (worker k).post → w.account.end ≡ (worker k).account.end → w.registers ≡ (worker k).registers
       → ((r : ℕ) → r < 8 → is_late E.epoch (worker k) ≡ true → (worker k).done ≤ r → (is_late E.epoch w ≡ true) × (w.done ≤ r))
       → Rooted E front count size writer identity heap worker p → Rooted E front count size writer identity heap after p
-  rooted_put {E} {front} {count} {size} {writer} {identity} {heap} mutator account registers left r = record {
+  rooted_put_end {E} {front} {count} {size} {writer} {identity} {heap} mutator ends registers left r = record {
     roots = λ i root. ⊎_elim (λ c. inl c) (λ l. inr (leads i l)) (r.roots i root);
     sound = λ j n i l m end small t. r.sound j n i l
         (sym (proj_put (λ u. is_mutator u.post) worker k w j mutator) ∙ m)
-        (sym (ap (λ a. a.end) (proj_put (λ u. u.account) worker k w j account)) ∙ end) small (rw (proj_put (λ u. u.registers) worker k w j registers) at t);
+        (sym (proj_put (λ u. u.account.end) worker k w j ends) ∙ end) small (rw (proj_put (λ u. u.registers) worker k w j registers) at t);
   }
     where
       leads : (i : Identity) → RootLeads E count identity heap worker i → RootLeads E count identity heap after i
@@ -101,6 +101,13 @@ module _ (worker : ℕ → Worker) (k : ℕ) (w : Worker) where
       leads i (ByRegister j n l s late d t) =
           let y = each_put (λ a u. is_late E.epoch (worker a) ≡ true → (worker a).done ≤ n → (is_late E.epoch u ≡ true) × (u.done ≤ n)) worker k w j (λ _ b c. (b, c)) (λ e b c. left n s (rw e at b) (rw e at c)) late d in
           ByRegister j n l s y.0 y.1 (rw (proj_put (λ u. u.registers) worker k w j registers) t)
+
+  -- so it is where its account stays
+  pub rooted_put : {E : Era} {front count : ℕ} {size writer : ℕ → ℕ} {identity : ℕ → Identity} {heap : ℕ → ℕ} {p : plain.Plain}
+      → is_mutator w.post ≡ is_mutator (worker k).post → w.account ≡ (worker k).account → w.registers ≡ (worker k).registers
+      → ((r : ℕ) → r < 8 → is_late E.epoch (worker k) ≡ true → (worker k).done ≤ r → (is_late E.epoch w ≡ true) × (w.done ≤ r))
+      → Rooted E front count size writer identity heap worker p → Rooted E front count size writer identity heap after p
+  rooted_put mutator account registers left r = rooted_put_end mutator (ap (λ (a : Account). a.end) account) registers left r
 
 pub frames_of_workers : FramesOfWorkers
 frames_of_workers worker k w same = record {

@@ -6,7 +6,7 @@ use Rattle.heap_state.specs.Memory.Era.{Era}
 use Rattle.heap_state.specs.Invariant.Ghost.{Ghost}
 use Rattle.heap_state.specs.Invariant.Inductive.{Knows, KnowsAtPages}
 use Rattle.heap_state.specs.Invariant.Parts.Knowledge.{Timely, Ends, Clean}
-use Rattle.heap_state.specs.Worker.{Worker, Outside, Stock, fresh, is_mutator, is_flipper, is_late}
+use Rattle.heap_state.specs.Worker.{Worker, Outside, Stock, fresh, is_mutator, is_asking, is_late}
 use Rattle.heap_state.proofs.Puts.{none≢some, true_false}
 
 -- the worker that stands where this one does, and has its account, its registers and its stock, but nothing else
@@ -21,11 +21,11 @@ nothing_at_pages w = record {
   last_look = λ l e. none≢some e;
 }
 
-pub idle_knows : {E : Era} {gate : GateWord} {traced front low old_front old_low old_owed : ℕ} {g : Ghost} {page : ℕ → PageWord} {cross announced heap : ℕ → ℕ} {k : ℕ} (w : Worker) → is_flipper w.post ≡ false
+pub idle_knows : {E : Era} {gate : GateWord} {traced front low old_front old_low old_owed : ℕ} {g : Ghost} {page : ℕ → PageWord} {cross announced heap : ℕ → ℕ} {k : ℕ} (w : Worker) → is_asking w.post ≡ false
     → Timely E w.post w.epoch w.done → Ends w.post (is_some w.account.end) → (w.post ≡ Outside → (j : ℕ) → j < 8 → w.registers j ≡ 0) → ((q : Stock) → w.stock ≡ Some q → q.epoch ≡ w.epoch)
     → (is_mutator w.post ≡ true → w.account.end ≡ None → Clean E g.size g.writer (is_late E.epoch w) w.done w.registers) → (is_late E.epoch w ≡ true → 0 < gate.behind) → g.kept k ≡ 0
     → Knows E gate traced front low old_front old_low old_owed g page cross announced heap k (at_rest w)
-idle_knows w flips timely ends outside stock registers counted kept = record {
+idle_knows w asks timely ends outside stock registers counted kept = record {
   timely = timely;
   ends = ends;
   outside = outside;
@@ -44,10 +44,10 @@ idle_knows w flips timely ends outside stock registers counted kept = record {
   stepping = λ s e. none≢some e;
   pages = nothing_at_pages w;
   seen_traced = λ e. true_false refl e;
-  flips = λ e. true_false flips e;
+  asks = λ e. true_false asks e;
   size_seen = λ p e. none≢some e;
   passage = λ s e. none≢some e;
   resets = λ r e. none≢some e;
   reset = λ r e. none≢some e;
-  unsized = λ e. true_false flips e;
+  unsized = λ e. true_false asks e;
 }

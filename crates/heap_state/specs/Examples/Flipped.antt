@@ -45,6 +45,8 @@ flipped_plain = record {
   heap = record {
     records = (record { kind = plain_kind.Raw; values = Number 7 ∷ Number 9 ∷ [] } ∷ []) ∷ [];
     board = zeros_after (zeros_after (Number 0 ∷ Number 0 ∷ []));
+    snaps = 0;
+    snapped = plain.none_snapped;
   };
   mutators = record { counter = 12; registers = Reference (made 1) ∷ zeros_after []; printed = 7 ∷ []; executed = 20; end = None } ∷ [];
 }

@@ -110,6 +110,8 @@ worked_plain = record {
     records = (record { kind = plain_kind.Fields; values = Number 7 ∷ Reference (made 2) ∷ [] }
         ∷ record { kind = plain_kind.Fields; values = Reference (made 1) ∷ [] } ∷ []) ∷ [];
     board = Number 0 ∷ Number 0 ∷ Number 0 ∷ Reference (made 1) ∷ Number 0 ∷ Number 0 ∷ Number 0 ∷ Number 0 ∷ Number 0 ∷ zeros_after [];
+    snaps = 0;
+    snapped = plain.none_snapped;
   };
   mutators = record { counter = 12; registers = Reference (made 1) ∷ zeros_after []; printed = 7 ∷ []; executed = 20; end = None } ∷ [];
 }

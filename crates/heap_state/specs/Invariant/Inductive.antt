@@ -6,7 +6,7 @@ use Rattle.space_map.specs.declared.page_word.PageWord.TheVariants.{Open}
 use Rattle.space_map.specs.declared.spaces.TheConstants.{PAGE_WORDS}
 use Rattle.heap_state.specs.Memory.Era.{Era, Memory}
 use Rattle.heap_state.specs.Invariant.Ghost.{Ghost}
-use Rattle.heap_state.specs.Worker.{Worker, Team, Outside, Stock, GateStep, Reset, Access, Quest, Copy, Scan, Round, Claim, Look, LastLook, is_mutator, is_running, is_flipper, is_late, is_sized}
+use Rattle.heap_state.specs.Worker.{Worker, Team, Outside, Stock, GateStep, Reset, Access, Quest, Copy, Scan, Round, Claim, Look, LastLook, is_mutator, is_running, is_flipper, is_asking, is_late, is_sized}
 use Rattle.heap_state.specs.Invariant.Parts.Records.{Laid, Headed, NewArea, NewWritten, RawWords, Counts}
 use Rattle.heap_state.specs.Invariant.Parts.Copies.{Copied, Once, Keepers, Room}
 use Rattle.heap_state.specs.Invariant.Parts.Pages.{Shut, Filling, Tracing, Aged, OldPages, Sizes, ScannedBy}
@@ -45,13 +45,13 @@ pub record Knows (E : Era) (gate : GateWord) (traced front low old_front old_low
   pub scan : (s : Scan) → w.scan ≡ Some s → Scans E front g.size g.writer g.kind heap page k s
   pub stepping : (s : Scan) → w.scan ≡ Some s → Stepping E front g.size g.writer g.kind s
   pub pages : KnowsAtPages E traced front gate.behind g.size g.writer page w
-  pub seen_traced : w.traced_seen ≡ true → ((is_running w.post ≡ true) ⊎ (is_flipper w.post ≡ true)) × (traced ≡ E.epoch + 1)
+  pub seen_traced : w.traced_seen ≡ true → ((is_running w.post ≡ true) ⊎ (is_asking w.post ≡ true)) × (traced ≡ E.epoch + 1)
   pub size_seen : (p : ℕ) → w.size_seen ≡ Some p → (is_running w.post ≡ true) × (E.span ≡ PAGE_WORDS * p)
-  pub flips : is_flipper w.post ≡ true → w.traced_seen ≡ true
+  pub asks : is_asking w.post ≡ true → w.traced_seen ≡ true
   pub passage : (s : GateStep) → w.gate_step ≡ Some s → Passes w.post w.epoch w.done (is_some w.account.end) w.traced_seen s.read s.passage
   pub resets : (r : Reset) → w.reset ≡ Some r → is_flipper w.post ≡ true
   pub reset : (r : Reset) → w.reset ≡ Some r → Resets E gate front low old_front old_low old_owed r
-  pub unsized : is_flipper w.post ≡ true → is_sized w.reset ≡ false → E.old_span ≤ E.span
+  pub unsized : is_asking w.post ≡ true → is_sized w.reset ≡ false → E.old_span ≤ E.span
 
 -- the invariant of a memory and its team, with what the proofs know beside
 pub record Invariant (E : Era) (m : Memory) (team : Team) (g : Ghost) : Type 0 where

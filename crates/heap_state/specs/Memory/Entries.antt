@@ -1,15 +1,25 @@
 -- Rows of the table with what they say, and tables written from a list of these.
-use Rattle.std.specs.Prelude.{Contains, ℕ, ◌*◌, ◌<◌, ◌≤◌, ⊤, false, List, [], ◌∷◌, replicate, slice_set}
+use Rattle.std.specs.Prelude.{Contains, ℕ, ◌*◌, ◌<◌, ◌≤◌, ⊤, false, List, [], ◌∷◌, replicate, slice_index, slice_set}
 use Rattle.space_map.specs.declared.area_word.AreaWord.{AreaWord}
 use Rattle.space_map.specs.declared.gate_word.GateWord.{GateWord}
 use Rattle.space_map.specs.declared.page_word.PageWord.{PageWord}
 use Rattle.space_map.specs.declared.page_word.PageWord.TheVariants.{Unset}
+use Rattle.space_map.specs.declared.save_word.SaveWord.{SaveWord}
 use Rattle.space_map.specs.AreaWord.{AreaFits, encode_area}
 use Rattle.space_map.specs.GateWord.{GateFits, encode_gate}
 use Rattle.space_map.specs.PageWord.{PageFits, encode_page}
-use Rattle.space_map.specs.Table.{Row, Gate, Traced, Area, Size, Page, Cross, HeapWord, Announce, IsRow, place_of, table_length}
+use Rattle.space_map.specs.SaveWord.{SaveFits, encode_save}
+use Rattle.space_map.specs.Table.{Gate, Traced, Area, Size, SnapNumber, DoneNumber, Page, Cross, HeapWord, Announce, SaveOf, ImageOf, IsRow, IsSaveRow, save_place_of, table_length}
+pub use Rattle.space_map.specs.WholeTable.{WholeRow, Within, Behind, IsWholeRow, whole_place_of}
 use Rattle.heap_state.specs.Functions.{put}
-use Rattle.heap_state.specs.Memory.Table.{Table}
+use Rattle.heap_state.specs.Memory.Table.{Table, word_in}
+
+-- the word in a row of either kind
+abbrev pub word_in_whole : ℕ → List ℕ → WholeRow → ℕ
+word_in_whole n words (Within row) = word_in n words row
+word_in_whole n words (Behind row) = slice_index words (save_place_of n row)
+
+-- ---- entries
 
 -- a row and what it says
 pub data Entry : Type 0 where
@@ -21,16 +31,24 @@ pub data Entry : Type 0 where
   CrossIs : (page place : ℕ) → Entry
   WordIs : (addr word : ℕ) → Entry
   AnnounceIs : (worker place : ℕ) → Entry
+  SnapIs : (number : ℕ) → Entry
+  DoneIs : (number : ℕ) → Entry
+  SaveIs : (page : ℕ) → SaveWord → Entry
+  ImageIs : (addr word : ℕ) → Entry
 
-abbrev pub row_of : Entry → Row
-row_of (GateIs gate) = Gate
-row_of (TracedIs word) = Traced
-row_of (AreaIs space area) = Area space
-row_of (SizeIs space pages) = Size space
-row_of (PageIs page word) = Page page
-row_of (CrossIs page place) = Cross page
-row_of (WordIs addr word) = HeapWord addr
-row_of (AnnounceIs worker place) = Announce worker
+abbrev pub row_of : Entry → WholeRow
+row_of (GateIs gate) = Within Gate
+row_of (TracedIs word) = Within Traced
+row_of (AreaIs space area) = Within (Area space)
+row_of (SizeIs space pages) = Within (Size space)
+row_of (PageIs page word) = Within (Page page)
+row_of (CrossIs page place) = Within (Cross page)
+row_of (WordIs addr word) = Within (HeapWord addr)
+row_of (AnnounceIs worker place) = Within (Announce worker)
+row_of (SnapIs number) = Within SnapNumber
+row_of (DoneIs number) = Within DoneNumber
+row_of (SaveIs page word) = Behind (SaveOf page)
+row_of (ImageIs addr word) = Behind (ImageOf addr)
 
 -- the word that says it
 abbrev pub word_of : Entry → ℕ
@@ -42,8 +60,12 @@ word_of (PageIs page word) = encode_page word
 word_of (CrossIs page place) = place
 word_of (WordIs addr word) = word
 word_of (AnnounceIs worker place) = place
+word_of (SnapIs number) = number
+word_of (DoneIs number) = number
+word_of (SaveIs page word) = encode_save word
+word_of (ImageIs addr word) = word
 
--- its parts fit the word, and the table has the row
+-- its parts fit the word, and the table has the row, or has it if there is room for checkpoints
 abbrev pub EntryFits : ℕ → Entry → Type 0
 EntryFits n (GateIs gate) = GateFits gate
 EntryFits n (TracedIs word) = ⊤
@@ -53,8 +75,12 @@ EntryFits n (PageIs page word) = (page ≤ 2 * n) × PageFits word
 EntryFits n (CrossIs page place) = IsRow n (Cross page)
 EntryFits n (WordIs addr word) = IsRow n (HeapWord addr)
 EntryFits n (AnnounceIs worker place) = IsRow n (Announce worker)
+EntryFits n (SnapIs number) = ⊤
+EntryFits n (DoneIs number) = ⊤
+EntryFits n (SaveIs page word) = IsSaveRow n (SaveOf page) × SaveFits word
+EntryFits n (ImageIs addr word) = IsSaveRow n (ImageOf addr)
 
--- the table where the row says it
+-- The table where the row says it. The rows of checkpoints are no part of what is decoded.
 abbrev pub with_entry : Entry → Table → Table
 with_entry (GateIs gate) t = record t { gate = gate }
 with_entry (TracedIs word) t = record t { traced = word }
@@ -64,6 +90,10 @@ with_entry (PageIs page word) t = record t { page = put t.page page word }
 with_entry (CrossIs page place) t = record t { cross = put t.cross page place }
 with_entry (WordIs addr word) t = record t { heap = put t.heap addr word }
 with_entry (AnnounceIs worker place) t = record t { announced = put t.announced worker place }
+with_entry (SnapIs number) t = t
+with_entry (DoneIs number) t = t
+with_entry (SaveIs page word) t = t
+with_entry (ImageIs addr word) t = t
 
 -- ---- whole tables
 
@@ -88,7 +118,7 @@ blank_table n = record {
 -- the words after these rows were written, the last of the list first
 abbrev pub written : ℕ → List Entry → List ℕ
 written n [] = blank_words n
-written n (e ∷ entries) = slice_set (written n entries) (place_of n (row_of e)) (word_of e)
+written n (e ∷ entries) = slice_set (written n entries) (whole_place_of n (row_of e)) (word_of e)
 
 -- the table after that
 abbrev pub table_with : ℕ → List Entry → Table

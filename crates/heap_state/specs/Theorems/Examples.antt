@@ -1,10 +1,19 @@
 -- What is proved of the configurations that were worked out by hand.
-use Rattle.std.specs.Prelude.{◌≡◌, [], ◌∷◌, true, Some, None}
+use Rattle.std.specs.Prelude.{◌≡◌, ℕ, [], ◌∷◌, true, Some, None}
 use Rattle.heap_words.specs.Word.{number_word, pointer_word}
 use Rattle.plain_state.specs.declared.value.Value.TheVariants.{Number, Reference}
 use Rattle.plain_state.specs.State.{Plain}
 use Rattle.heap_state.specs.Meaning.Denotes.{denoted}
 use Rattle.heap_state.specs.Examples.Flipped.{flipped, flipped_plain, late_mutator}
+use Rattle.heap_state.specs.Examples.Requested.{requested, running_on}
+use Rattle.heap_state.specs.Examples.Saving.{saving_entries, saving_workers, frozen_heap, kept_board, kept_records, StandsFrom, marked_ahead, saved_by_nobody, saved_too_late}
+use Rattle.heap_state.specs.Memory.Table.{table_of, IsFormed}
+use Rattle.heap_state.specs.Saving.Words.{saves_of, save_word_in, word_read, AreFormedSaves}
+use Rattle.heap_state.specs.Saving.Frozen.{Frozen}
+use Rattle.heap_state.specs.Saving.Savers.{Saver}
+use Rattle.heap_state.specs.Saving.Kept.{KeepsPicture}
+use Rattle.heap_state.specs.Saving.Written.{written_whole}
+use Rattle.space_map.specs.Table.{SaveOf}
 use Rattle.heap_state.specs.Meaning.Reachable.{IsLive}
 use Rattle.heap_state.specs.Sums.{uncopied}
 use Rattle.heap_state.specs.Memory.Walk.{walk_of, old_walk_of}
@@ -12,7 +21,7 @@ use Rattle.heap_state.specs.Worker.{is_late}
 use Rattle.heap_state.specs.Examples.Worked.{worked, forwarded_wrong, opened_early, short_of_room, worked_plain, made}
 use Rattle.heap_state.specs.Configuration.{Stands, era, memory, team}
 use Rattle.heap_state.specs.Cycles.Cycle.{Cycle}
-use Rattle.heap_state.specs.Invariant.Holds.{AccessHolds, RoomHolds}
+use Rattle.heap_state.specs.Invariant.Holds.{GateHolds, AccessHolds, RoomHolds}
 use Rattle.heap_state.specs.Meaning.Represents.{Represents}
 use Rattle.heap_state.specs.Theorems.Standing.{IsSound}
 
@@ -42,8 +51,35 @@ pub record IsWorkedOutFlipped : Type 0 where
   pub uncopied_words : uncopied flipped (old_walk_of flipped) ≡ 3
   pub in_place : denoted flipped (pointer_word 192) ≡ Some (Reference (made 1))
 
+-- what the definitions say of the configuration whose mutator has begun a checkpoint
+pub record IsWorkedOutRequested : Type 0 where
+  pub stands : Stands requested flipped_plain
+  pub sound : IsSound requested flipped_plain
+
+-- What the definitions say of the one in the midst of a checkpoint: its words can be read, what each step keeps of checkpoints stands,
+-- and the heap of then shows what the plain heap has kept. SAVE of the pages 2, 3 and 8 are these words. Of the record's field and of
+-- the board's first word, the words of the checkpoint are read.
+pub record IsWorkedOutSaving : Type 0 where
+  pub formed : IsFormed 4 (written_whole 4 saving_entries)
+  pub saves_formed : AreFormedSaves 4 (written_whole 4 saving_entries)
+  pub stands : StandsFrom saving_entries frozen_heap 2 saving_workers
+  pub picture : KeepsPicture frozen_heap kept_board kept_records
+  pub page_2 : save_word_in 4 (written_whole 4 saving_entries) (SaveOf 2) ≡ 65539
+  pub page_3 : save_word_in 4 (written_whole 4 saving_entries) (SaveOf 3) ≡ 65538
+  pub page_8 : save_word_in 4 (written_whole 4 saving_entries) (SaveOf 8) ≡ 65541
+  pub field : word_read (saves_of 4 (written_whole 4 saving_entries)) (table_of 4 (written_whole 4 saving_entries)).heap 193 ≡ number_word 5
+  pub board : word_read (saves_of 4 (written_whole 4 saving_entries)) (table_of 4 (written_whole 4 saving_entries)).heap 512 ≡ pointer_word 192
+
+-- What is broken is told. No heap of then and no workers stand with a page that is new for a checkpoint above SNAP; nor with a SAVE
+-- that names a third of two workers; nor with an image that has another number than the record kept.
+pub record TellsBrokenSaves : Type 0 where
+  pub ahead : (z : Frozen) (count : ℕ) (saver : ℕ → Saver) → ¬ (StandsFrom marked_ahead z count saver)
+  pub nobody : (z : Frozen) (saver : ℕ → Saver) → ¬ (StandsFrom saved_by_nobody z 2 saver)
+  pub too_late : (z : Frozen) (count : ℕ) (saver : ℕ → Saver) → KeepsPicture z kept_board kept_records → ¬ (StandsFrom saved_too_late z count saver)
+
 -- what is broken is told: no plain state is represented, or the part of the invariant that speaks of it doesn't hold
 pub record TellsBroken : Type 0 where
   pub wrong : (p : Plain) → ¬ (Represents forwarded_wrong p)
   pub early : ¬ (AccessHolds opened_early)
   pub short : ¬ (RoomHolds short_of_room)
+  pub runs_on : ¬ (GateHolds running_on)

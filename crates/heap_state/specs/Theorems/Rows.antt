@@ -1,5 +1,5 @@
 -- What is proved of the table's rows.
-use Rattle.std.specs.Prelude.{◌≡◌, ℕ, ◌+◌, ◌*◌, ◌<◌, ◌≤◌, List, slice_index, slice_set}
+use Rattle.std.specs.Prelude.{◌≡◌, ℕ, ◌+◌, ◌*◌, ◌<◌, ◌≤◌, ⊤, List, slice_index, slice_set}
 use Rattle.space_map.specs.declared.area_word.AreaWord.{AreaWord}
 use Rattle.space_map.specs.declared.gate_word.GateWord.{GateWord}
 use Rattle.space_map.specs.declared.page_word.PageWord.{PageWord}
@@ -7,8 +7,8 @@ use Rattle.space_map.specs.declared.spaces.TheConstants.{LAST_WORKER, PAGE_WORDS
 use Rattle.space_map.specs.AreaWord.{AreaFits, encode_area}
 use Rattle.space_map.specs.GateWord.{GateFits, encode_gate}
 use Rattle.space_map.specs.PageWord.{PageFits, encode_page}
-use Rattle.space_map.specs.Table.{Row, Gate, Traced, Area, Size, Page, Cross, HeapWord, Announce, IsRow, place_of}
-use Rattle.heap_state.specs.Memory.Entries.{Entry, row_of, word_of, EntryFits, with_entry, written, table_with, EachFits, HasSizes}
+use Rattle.space_map.specs.Table.{Row, Gate, Traced, Area, Size, SnapNumber, DoneNumber, Page, Cross, HeapWord, Announce, IsRow, place_of}
+use Rattle.heap_state.specs.Memory.Entries.{WholeRow, Within, Behind, whole_place_of, IsWholeRow, Entry, row_of, word_of, EntryFits, with_entry, written, table_with, EachFits, HasSizes}
 use Rattle.heap_state.specs.Memory.Era.{era_of, memory_of, from_space, IsLaidOut}
 use Rattle.space_map.specs.Spaces.{to_space}
 use Rattle.heap_state.specs.Functions.{put}
@@ -35,42 +35,54 @@ SpellsShared = (n : ℕ) (words : List ℕ) → IsFormed n words → SpellsTable
 
 -- ---- stores, one law a family of places
 
--- the words after a store in a row, and what they say
-pub record Stored (n : ℕ) (words : List ℕ) (row : Row) (word : ℕ) (t : Table) : Type 0 where
-  pub formed : IsFormed n (slice_set words (place_of n row) word)
-  pub says : table_of n (slice_set words (place_of n row) word) ≡ t
+-- the words after a store in a row of the table, or behind it, and what they say
+pub record Stored (n : ℕ) (words : List ℕ) (row : WholeRow) (word : ℕ) (t : Table) : Type 0 where
+  pub formed : IsFormed n (slice_set words (whole_place_of n row) word)
+  pub says : table_of n (slice_set words (whole_place_of n row) word) ≡ t
 
 abbrev pub StoresGate : Type 0
 StoresGate = (n : ℕ) (words : List ℕ) (gate : GateWord) → IsFormed n words → GateFits gate
-    → Stored n words Gate (encode_gate gate) (record (table_of n words) { gate = gate })
+    → Stored n words (Within Gate) (encode_gate gate) (record (table_of n words) { gate = gate })
 
 abbrev pub StoresTraced : Type 0
 StoresTraced = (n : ℕ) (words : List ℕ) (word : ℕ) → IsFormed n words
-    → Stored n words Traced word (record (table_of n words) { traced = word })
+    → Stored n words (Within Traced) word (record (table_of n words) { traced = word })
 
 abbrev pub StoresArea : Type 0
 StoresArea = (n : ℕ) (words : List ℕ) (space : ℕ) (area : AreaWord) → IsFormed n words → space < 2 → AreaFits area
-    → Stored n words (Area space) (encode_area area) (record (table_of n words) { area = put (table_of n words).area space area })
+    → Stored n words (Within (Area space)) (encode_area area) (record (table_of n words) { area = put (table_of n words).area space area })
 
 abbrev pub StoresSize : Type 0
 StoresSize = (n : ℕ) (words : List ℕ) (space pages : ℕ) → IsFormed n words → space < 2 → 4 ≤ pages → pages ≤ n
-    → Stored n words (Size space) pages (record (table_of n words) { in_use = put (table_of n words).in_use space pages })
+    → Stored n words (Within (Size space)) pages (record (table_of n words) { in_use = put (table_of n words).in_use space pages })
 
 abbrev pub StoresPage : Type 0
 StoresPage = (n : ℕ) (words : List ℕ) (p : ℕ) (page : PageWord) → IsFormed n words → p ≤ 2 * n → PageFits page
-    → Stored n words (Page p) (encode_page page) (record (table_of n words) { page = put (table_of n words).page p page })
+    → Stored n words (Within (Page p)) (encode_page page) (record (table_of n words) { page = put (table_of n words).page p page })
 
 abbrev pub StoresCross : Type 0
 StoresCross = (n : ℕ) (words : List ℕ) (p word : ℕ) → IsFormed n words → p < 2 * n
-    → Stored n words (Cross p) word (record (table_of n words) { cross = put (table_of n words).cross p word })
+    → Stored n words (Within (Cross p)) word (record (table_of n words) { cross = put (table_of n words).cross p word })
 
 abbrev pub StoresHeapWord : Type 0
 StoresHeapWord = (n : ℕ) (words : List ℕ) (addr word : ℕ) → IsFormed n words → addr ≤ 128 * n + 63
-    → Stored n words (HeapWord addr) word (record (table_of n words) { heap = put (table_of n words).heap addr word })
+    → Stored n words (Within (HeapWord addr)) word (record (table_of n words) { heap = put (table_of n words).heap addr word })
 
 abbrev pub StoresAnnounce : Type 0
 StoresAnnounce = (n : ℕ) (words : List ℕ) (worker word : ℕ) → IsFormed n words → worker ≤ LAST_WORKER
-    → Stored n words (Announce worker) word (record (table_of n words) { announced = put (table_of n words).announced worker word })
+    → Stored n words (Within (Announce worker)) word (record (table_of n words) { announced = put (table_of n words).announced worker word })
+
+-- the rows of checkpoints, which the decoded table doesn't show
+abbrev pub IsOfCheckpoints : WholeRow → Type 0
+IsOfCheckpoints (Within SnapNumber) = ⊤
+IsOfCheckpoints (Within DoneNumber) = ⊤
+IsOfCheckpoints (Within row) = ⊥
+IsOfCheckpoints (Behind row) = ⊤
+
+-- a store in one of them changes nothing that the table says
+abbrev pub StoresBeside : Type 0
+StoresBeside = (n : ℕ) (words : List ℕ) (row : WholeRow) (word : ℕ) → IsFormed n words → IsOfCheckpoints row → IsWholeRow n row
+    → Stored n words row word (table_of n words)
 
 -- ---- what the epoch sees of them
 

@@ -5,7 +5,7 @@ use Rattle.heap_state.specs.Memory.Table.{Table, table_of}
 use Rattle.heap_laws.specs.Opening.{opening_entries}
 use Rattle.heap_laws.proofs.Opening.Heap.{opening_written}
 use Rattle.space_map.specs.declared.spaces.TheConstants.{FEWEST_PAGES}
-use Rattle.space_map.specs.Spaces.{IsPageCount, to_space}
+use Rattle.space_map.specs.Spaces.{IsPageCount, to_space, without_checkpoints}
 use Rattle.gc_worker.specs.Laws.Between.{fresh_mutator, fresh_workers, opening_heap}
 use Rattle.gc_worker.specs.Workers.Held.{Held}
 use Rattle.gc_worker.specs.Laws.Step.{held_at}
@@ -18,7 +18,7 @@ use Rattle.lone_mutator.proofs.Epochs.Cost.{due_traced}
 
 module _ (n least : ℕ) (size : IsPageCount n) (least_fits : FEWEST_PAGES ≤ least) (within : least ≤ n) where
   abbrev x : Held
-  x = fresh_mutator n 1 0
+  x = fresh_mutator (without_checkpoints n) 1 0
 
   -- the table before the first step
   abbrev t : Table
@@ -30,11 +30,11 @@ module _ (n least : ℕ) (size : IsPageCount n) (least_fits : FEWEST_PAGES ≤ l
   says : t ≡ opened
   says = (opening_written n least size least_fits within).says
 
-  one : length (fresh_workers n 1 0 1) ≡ 1
+  one : length (fresh_workers (without_checkpoints n) 1 0 1) ≡ 1
   unfolding fresh_workers
   one = refl
 
-  first : held_at (opening_heap n least 1 0) 0 ≡ x
+  first : held_at (opening_heap (without_checkpoints n) least 1 0) 0 ≡ x
   unfolding fresh_workers
   first = refl
 
@@ -48,7 +48,7 @@ module _ (n least : ℕ) (size : IsPageCount n) (least_fits : FEWEST_PAGES ≤ l
   cheap : potential_in n opened x < most_steps n
   cheap = let none = nothing_due in let few = costs_lt_most n size.0 in omega (arith, none, few)
 
-  pub opens : IsLone (opening_heap n least 1 0) × (potential (opening_heap n least 1 0) < most_steps n)
+  pub opens : IsLone (opening_heap (without_checkpoints n) least 1 0) × (potential (opening_heap (without_checkpoints n) least 1 0) < most_steps n)
   opens = (
     record {
       one = one;

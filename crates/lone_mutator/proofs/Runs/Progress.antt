@@ -9,6 +9,7 @@ use Rattle.atom_store.specs.Step.{words_after, reply_of}
 use Rattle.mutator_asm.specs.declared.instr.Instr.{Instr}
 use Rattle.mutator_asm.specs.declared.item.Item.{Item}
 use Rattle.mutator_asm.specs.Program.{IsWellFormed}
+use Rattle.space_map.specs.Spaces.{without_checkpoints}
 use Rattle.gc_worker.specs.declared.config.Config.{Config}
 use Rattle.gc_worker.specs.declared.stage.Stage.{Stage}
 use Rattle.gc_worker.specs.declared.stage.Stage.TheVariants.{Looks, Gone}
@@ -219,7 +220,7 @@ pace most steps executed some few =
     let below : steps / most < executed + 1 = (div-lt_iff_lt-mul some).1 (omega (arith, few)) in
     omega (arith, below)
 
-first_executed : (n least : ℕ) → (held_at (opening_heap n least 1 0) 0).account.executed ≡ 0
+first_executed : (n least : ℕ) → (held_at (opening_heap (without_checkpoints n) least 1 0) 0).account.executed ≡ 0
 unfolding fresh_workers
 first_executed n least = refl
 
@@ -228,8 +229,8 @@ module _ (section : List Instr) (items : List Item) (config : Config) (program :
   abbrev first : CoreState
   first = opening_core (section ∷ []) config
 
-  heap_is : first.heap ≡ opening_heap config.limit config.pages 1 0
-  heap_is = ap (opening_heap config.limit config.pages 1) none
+  heap_is : first.heap ≡ opening_heap (without_checkpoints config.limit) config.pages 1 0
+  heap_is = ap (opening_heap (without_checkpoints config.limit) config.pages 1) none
 
   begins : IsLone first.heap × (potential first.heap < most_steps config.limit)
   begins = subst (λ (h : Heap). IsLone h × (potential h < most_steps config.limit)) (sym heap_is) (let fit = sizes_fit config size in heaps_open config.limit config.pages (limit_fits config size) fit.0 fit.1)

@@ -31,7 +31,7 @@ module _ (n : ℕ) (t : Table) (x : Held) (began : x.begun ≤ x.epoch) (quiet :
 
   module _ (header : Header) where
     abbrev begun_at : PlaceStage → place.Placing
-    begun_at stage = record { layout = x.layout; run = run_held x; header = header; fields = fields_for x; epoch = x.epoch; stage = stage }
+    begun_at stage = record { layout = x.layout; run = run_held x; header = header; fields = fields_for x; epoch = x.epoch; snap = 0; stage = stage }
 
     abbrev Begins : PlaceStage → Type 0
     Begins stage = GoesAt n t (at_stage x (Places (begun_at stage))) (longest_placing + flip_left n (size_in t) x + due_in n t)

@@ -8,7 +8,7 @@ use Rattle.atom_store.specs.declared.step.Step.{Step}
 use Rattle.atom_store.specs.declared.step.Step.TheVariants.{Load, Store, Exchange}
 use Rattle.space_map.specs.Table.{Row, IsRow, place_of}
 use Rattle.heap_state.specs.Configuration.{Configuration, Stands, table}
-use Rattle.heap_state.specs.Memory.Entries.{Entry, EntryFits, with_entry, row_of, word_of}
+use Rattle.heap_state.specs.Memory.Entries.{whole_place_of, word_in_whole, Entry, EntryFits, with_entry, row_of, word_of}
 use Rattle.heap_state.specs.Memory.Table.{Table, word_in}
 use Rattle.gc_worker.specs.Workers.Held.{Held}
 use Rattle.gc_worker.specs.Steps.Turned.{turned, told}
@@ -31,10 +31,10 @@ module _ (c : Configuration) (p : Plain) (s : Stands c p) (x : Held) where
   pub loads : (row : Row) → IsRow c.pages row → Owes (table c) (Value (word_in c.pages c.words row)) → OwesBy (Load (place_of c.pages row))
   loads row is owes = steps.loads c p s Owes row is owes
 
-  pub stores : (e : Entry) → EntryFits c.pages e → Owes (with_entry e (table c)) Done → OwesBy (Store (place_of c.pages (row_of e)) (word_of e))
+  pub stores : (e : Entry) → EntryFits c.pages e → Owes (with_entry e (table c)) Done → OwesBy (Store (whole_place_of c.pages (row_of e)) (word_of e))
   stores e fits owes = steps.stores c p s Owes e fits owes
 
   -- an exchange from the word that stands there is won
-  pub exchanges : (e : Entry) (old : ℕ) → EntryFits c.pages e → word_in c.pages c.words (row_of e) ≡ old → Owes (with_entry e (table c)) Won
-      → OwesBy (Exchange (place_of c.pages (row_of e)) old (word_of e))
+  pub exchanges : (e : Entry) (old : ℕ) → EntryFits c.pages e → word_in_whole c.pages c.words (row_of e) ≡ old → Owes (with_entry e (table c)) Won
+      → OwesBy (Exchange (whole_place_of c.pages (row_of e)) old (word_of e))
   exchanges e old fits same owes = steps.exchanges c p s Owes e old fits same owes

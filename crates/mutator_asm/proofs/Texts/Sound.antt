@@ -6,7 +6,7 @@ use Rattle.std.specs.Str.Parse.{digits_value}
 use Rattle.std.specs.Prelude.{codes}
 use Rattle.std.proofs.lemmas.Bool.{and_parts, and_from, cond_both, lt-ltb, leb-true}
 use Rattle.mutator_asm.specs.declared.instr.Instr.{Instr}
-use Rattle.mutator_asm.specs.declared.instr.Instr.TheVariants.{Li, Mov, Add, Sub, Mul, Div, Rem, Lt, Eq, Jmp, Jz, Jal, Jr, New, Raw, Mix, Ld, St, Cas, Len, Isp, Get, Put, Swap, Out, Halt}
+use Rattle.mutator_asm.specs.declared.instr.Instr.TheVariants.{Li, Mov, Add, Sub, Mul, Div, Rem, Lt, Eq, Jmp, Jz, Jal, Jr, New, Raw, Mix, Ld, St, Cas, Len, Isp, Get, Put, Swap, Out, Snap, Halt}
 use Rattle.mutator_asm.specs.declared.listing.jump.Jump.{Jump}
 use Rattle.mutator_asm.specs.declared.listing.jump.Jump.TheVariants.{Always, IfZero, Link}
 use Rattle.mutator_asm.specs.declared.item.Item.{Item}
@@ -160,7 +160,8 @@ instr_good name operands =
     (if_passes (good is_plain_valid) (bytes_eq name (codes "put")) _ _ (made_good is_plain_valid (λ (o : Operand × ℕ). Put o.0 o.1) (operand_register operands) (operand_register_good operands))
     (if_passes (good is_plain_valid) (bytes_eq name (codes "swap")) _ _ (made_good is_plain_valid (λ (o : ℕ × Operand). Swap o.0 o.1) (register_operand operands) (register_operand_good operands))
     (if_passes (good is_plain_valid) (bytes_eq name (codes "out")) _ _ (made_good is_plain_valid (λ (o : ℕ). Out o) (one_register operands) (one_good operands))
-    (if_passes (good is_plain_valid) (bytes_eq name (codes "halt")) _ _ (made_good is_plain_valid (λ (o : Unit {0}). Halt) (nothing operands) (nothing_good operands)) refl))))))))))))))))))))))
+    (if_passes (good is_plain_valid) (bytes_eq name (codes "snap")) _ _ (made_good is_plain_valid (λ (o : Unit {0}). Snap) (nothing operands) (nothing_good operands))
+    (if_passes (good is_plain_valid) (bytes_eq name (codes "halt")) _ _ (made_good is_plain_valid (λ (o : Unit {0}). Halt) (nothing operands) (nothing_good operands)) refl)))))))))))))))))))))))
 
 -- ---- jumps
 

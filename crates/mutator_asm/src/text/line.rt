@@ -16,7 +16,7 @@ use crate::text::operands::{
     register_operand_register, register_two_operands, registers_operand_registers, three_registers,
     two_registers, two_registers_operand,
 };
-use crate::text::token::{is_name, label, register, tokens};
+use crate::text::token::{is_name, label, put_tokens, register};
 use std::alloc::{AllocError, Global};
 
 /// What a line has beside its label.
@@ -142,6 +142,7 @@ fn instr(name: &[u8], operands: &[&[u8]]) -> Result<Instr, Mistake>
         b"put" => operand_register(operands, Instr::Put),
         b"swap" => register_operand(operands, Instr::Swap),
         b"out" => one_register(operands, Instr::Out),
+        b"snap" => nothing(operands, Instr::Snap),
         b"halt" => nothing(operands, Instr::Halt),
         _ => Err(Mistake::UnknownInstr),
     }
@@ -253,13 +254,17 @@ fn line_from<'a>(alloc: Global, tokens: &[&'a [u8]]) -> Result<Line<'a>, AllocEr
     }
 }
 
-/// What a line says.
+/// What a line says. Its tokens are put into a list, in place of those of the line before.
 #[tactic(auto, unfolding(crate::specs::Line::line_of))]
-fn read_line<'a>(alloc: Global, bytes: &'a [u8]) -> Result<Line<'a>, AllocError>
+fn read_line<'a>(
+    alloc: Global,
+    tokens: &mut Vec<&'a [u8]>,
+    bytes: &'a [u8],
+) -> Result<Line<'a>, AllocError>
     ensures { IfOk result (λ l. line_view l ≡ line_of bytes.now) }
 {
-    let tokens = tokens(alloc, bytes)?;
-    line_from(alloc, &tokens)
+    put_tokens(tokens, bytes)?;
+    line_from(alloc, tokens.as_slice())
 }
 
 /// The bytes of each line of a text.
@@ -275,8 +280,9 @@ pub fn lines<'a>(alloc: Global, text: &'a [u8]) -> Result<Vec<Line<'a>>, AllocEr
     ensures { IfOk result (λ v. lines_view v.items ≡ lines_of text.now) }
 {
     let mut lines = Vec::new(alloc);
+    let mut tokens = Vec::new(alloc);
     for bytes in &split(alloc, text)? {
-        lines.push(read_line(alloc, bytes)?)?;
+        lines.push(read_line(alloc, &mut tokens, bytes)?)?;
     }
     Ok(lines)
 }

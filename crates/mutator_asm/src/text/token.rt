@@ -1,6 +1,6 @@
 //! The tokens of a line, and what one token says.
 
-ghost use Rattle.std.specs.Prelude.{◌≡◌, ◌==◌, IsTrue, IfOk, map};
+ghost use Rattle.std.specs.Prelude.{◌≡◌, ◌==◌, IsTrue, OnOk, map};
 ghost use Rattle.std.specs.List.{list_all, position, before_first};
 ghost use Rattle.std.specs.Char.{is_ascii_digit};
 ghost use Rattle.mutator_asm.specs.Token.{is_blank, is_semicolon, tokens_of, begins_name, is_in_name, is_name, label_of, register_of, number_of, operand_of, number_or};
@@ -9,7 +9,7 @@ ghost use Rattle.mutator_asm.specs.Read.{label_view};
 use crate::errors::mistake::Mistake;
 use crate::operand::Operand;
 use plain_state::NUMBERS;
-use std::alloc::{AllocError, Global};
+use std::alloc::AllocError;
 
 /// The numbers of the language are below this one.
 const NUMBERS_END: u128 = NUMBERS as u128;
@@ -38,15 +38,17 @@ fn before_comment(line: &[u8]) -> &[u8]
     }
 }
 
-/// The tokens of a line.
+/// Puts the tokens of a line into a list, in place of what is in it.
 #[tactic(auto, unfolding(crate::specs::Token::tokens_of))]
-pub fn tokens<'a>(alloc: Global, line: &'a [u8]) -> Result<Vec<&'a [u8]>, AllocError>
-    ensures { IfOk result (λ v. map (λ t. t.now) v.items ≡ tokens_of line.now) }
+pub fn put_tokens<'a>(tokens: &mut Vec<&'a [u8]>, line: &'a [u8]) -> Result<(), AllocError>
+    ensures { OnOk result (map (λ t. t.now) tokens.new.items ≡ tokens_of line.now) }
 {
-    before_comment(line)
-        .split(|b| is_blank(*b))
-        .filter(|token| !token.is_empty())
-        .collect(alloc)
+    tokens.clear();
+    tokens.extend(
+        before_comment(line)
+            .split(|b| is_blank(*b))
+            .filter(|token| !token.is_empty()),
+    )
 }
 
 /// Whether a name may begin with a byte.

@@ -30,10 +30,10 @@ fn program_of(alloc: Global, text: &str) -> Result<Program, Fail> {
 
 /// A text with each instruction.
 const EACH_INSTRUCTION: &str =
-    ".mutator\nli r1 7\nmov r2 r1\nadd r0 r1 r2\nsub r0 r1 r2\nmul r0 r1 r2\ndiv r0 r1 r2\nrem r0 r1 r2\nlt r0 r1 r2\neq r0 r1 r2\njmp end\njz r1 end\njal r7 end\njr r3\nnew r0 2\nraw r0 r1\nmix r0 2 r1\nld r2 r0 1\nst r0 1 r7\ncas r3 r0 r1 r2 r7\nlen r1 r0\nisp r1 r0\nget r1 15\nput r2 r1\nswap r1 0\nend: out r2\nhalt\n";
+    ".mutator\nli r1 7\nmov r2 r1\nadd r0 r1 r2\nsub r0 r1 r2\nmul r0 r1 r2\ndiv r0 r1 r2\nrem r0 r1 r2\nlt r0 r1 r2\neq r0 r1 r2\njmp end\njz r1 end\njal r7 end\njr r3\nnew r0 2\nraw r0 r1\nmix r0 2 r1\nld r2 r0 1\nst r0 1 r7\ncas r3 r0 r1 r2 r7\nlen r1 r0\nisp r1 r0\nget r1 15\nput r2 r1\nswap r1 0\nend: out r2\nsnap\nhalt\n";
 
 /// Its instructions.
-const INSTRUCTIONS: [Instr; 26] = [
+const INSTRUCTIONS: [Instr; 27] = [
     Instr::Li(1, 7),
     Instr::Mov(2, 1),
     Instr::Add(0, 1, 2),
@@ -59,6 +59,7 @@ const INSTRUCTIONS: [Instr; 26] = [
     Instr::Put(Operand::Reg(2), 1),
     Instr::Swap(1, Operand::Number(0)),
     Instr::Out(2),
+    Instr::Snap,
     Instr::Halt,
 ];
 

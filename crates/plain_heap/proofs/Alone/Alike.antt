@@ -1,6 +1,6 @@
 -- An instruction that leaves the board alone does the same on any two heaps in which its mutator has
 -- the same records, and leads it to no record of another.
-use Rattle.std.proofs.Common.{◌≡◌, ℕ, ◌+◌, ◌-◌, Bool, true, false, cond, List, [], ◌∷◌, ◌++◌, length, Option, Some, None, Result, Ok, Err, slice_set, refl, ap, sym, subst}
+use Rattle.std.proofs.Common.{◌≡◌, ℕ, ◌+◌, ◌-◌, Bool, true, false, cond, List, [], ◌∷◌, ◌++◌, length, Option, Some, None, Result, Ok, Err, slice_set, refl, sym, subst}
 use Rattle.std.specs.Bool.{⊤}
 use Rattle.std.specs.Result.{IfOk}
 use Rattle.std.proofs.lemmas.List.{set-get_or}
@@ -11,11 +11,11 @@ use Rattle.plain_state.specs.declared.value.Value.{Value}
 use Rattle.plain_state.specs.declared.value.Value.TheVariants.{Number, Reference}
 use Rattle.plain_state.specs.Operation.{applied}
 use Rattle.plain_state.specs.State.{Record, Heap, Mutator, made_by, record_of, serial_of}
-use Rattle.plain_state.specs.Writing.{with_value, with_records, stored}
+use Rattle.plain_state.specs.Writing.{with_value, with_records, stored, took}
 use Rattle.mutator_asm.specs.declared.instr.Instr.{Instr}
 use Rattle.mutator_asm.specs.declared.instr.Instr.TheVariants as instrs
 use Rattle.plain_heap.specs.declared.action.Action.{Action}
-use Rattle.plain_heap.specs.declared.action.Action.TheVariants.{Sets, Jumps, Links, Prints, Makes, Measures, Loads, Stores, Exchanges, Gets, Puts, Swaps}
+use Rattle.plain_heap.specs.declared.action.Action.TheVariants.{Sets, Jumps, Links, Prints, Makes, Measures, Loads, Stores, Exchanges, Gets, Puts, Swaps, Snaps}
 use Rattle.plain_heap.specs.Action.{◌>>=◌, are_same, next_of, action}
 use Rattle.plain_heap.specs.Call.{After, value_in, values_of, may_hold, store_in, zeros, jumped, went_on, set_register, loads, allocated, performed, call}
 use Rattle.plain_heap.specs.Alone.{leaves_board}
@@ -33,16 +33,26 @@ pub same-bind : {A : Type 0} (R : After → After → Type 0) (o : Result A End)
 same-bind R (Ok a) f g next = next a refl
 same-bind R (Err why) f g next = refl
 
+-- the heap after has these records of mutator m, and those of others and the board as before
+pub record HasRecords (heap : Heap) (m : ℕ) (records : List Record) (after : Heap) : Type 0 where
+  pub records_are : after.records ≡ slice_set heap.records m records
+  pub board : after.board ≡ heap.board
+
 -- both heaps take these records of mutator m, and both times it becomes the same
 pub record GoAlike (m : ℕ) (heap other : Heap) (a b : After) : Type 0 where
   pub records : List Record
-  pub heap_is : a.heap ≡ with_records heap m records
-  pub other_is : b.heap ≡ with_records other m records
+  pub heap_is : HasRecords heap m records a.heap
+  pub other_is : HasRecords other m records b.heap
   pub mutator_is : b.mutator ≡ a.mutator
   pub own : OwnsRecords m records a.mutator
 
-unchanged : (heap : Heap) (m : ℕ) → heap ≡ with_records heap m (made_by heap m)
-unchanged heap m = ap (λ records. let h : Heap = record { records = records; board = heap.board } in h) (sym (set-get_or heap.records m []))
+-- a heap has the records that it has
+pub unchanged : (heap : Heap) (m : ℕ) → HasRecords heap m (made_by heap m) heap
+unchanged heap m = record { records_are = sym (set-get_or heap.records m []); board = refl }
+
+-- with other records of mutator m
+pub has_records : (heap : Heap) (m : ℕ) (records : List Record) → HasRecords heap m records (with_records heap m records)
+has_records heap m records = record { records_are = refl; board = refl }
 
 module _ (m : ℕ) (heap other : Heap) (k : Mutator) (same : made_by other m ≡ made_by heap m) (own : OwnsRecords m (made_by heap m) k) where
   abbrev IsAlike : Result After End → Result After End → Type 0
@@ -53,10 +63,22 @@ module _ (m : ℕ) (heap other : Heap) (k : Mutator) (same : made_by other m ≡
   stays k' own' = record {
     records = made_by heap m;
     heap_is = unchanged heap m;
-    other_is = subst (λ records. other ≡ with_records other m records) same (unchanged other m);
+    other_is = subst (λ records. HasRecords other m records other) same (unchanged other m);
     mutator_is = refl;
     own = own';
   }
+
+  -- both heaps begin a checkpoint
+  snaps-alike : GoAlike m heap other (record { heap = took heap; mutator = went_on k }) (record { heap = took other; mutator = went_on k })
+  snaps-alike =
+      let same = stays (went_on k) (jumps-own m (made_by heap m) k (next_of k) own) in
+      record {
+        records = same.records;
+        heap_is = record { records_are = same.heap_is.records_are; board = refl };
+        other_is = record { records_are = same.other_is.records_are; board = refl };
+        mutator_is = refl;
+        own = same.own;
+      }
 
   loads-alike : (d : ℕ) (v : Value) → LeadsToOwn m v → GoAlike m heap other (loads heap k d v) (loads other k d v)
   loads-alike d v is = stays (went_on (set_register k d v)) (loads-own m (made_by heap m) k d (next_of k) v own is)
@@ -64,8 +86,8 @@ module _ (m : ℕ) (heap other : Heap) (k : Mutator) (same : made_by other m ≡
   allocated-alike : (kind : Kind) (d n : ℕ) → GoAlike m heap other (allocated m heap k kind d n) (allocated m other k kind d n)
   allocated-alike kind d n = rw same (record {
     records = made_by heap m ++ zeros kind n ∷ [];
-    heap_is = refl;
-    other_is = refl;
+    heap_is = has_records heap m _;
+    other_is = has_records other m _;
     mutator_is = refl;
     own = loads-own m _ k d (next_of k) (Reference (record { mutator = m; serial = serial_of heap m + 1 }))
         (record { registers = own.registers; words = gains-own m (made_by heap m) kind n own.words }) refl;
@@ -91,8 +113,8 @@ module _ (m : ℕ) (heap other : Heap) (k : Mutator) (same : made_by other m ≡
   stored-alike : (l : Mutator) → OwnsRecords m (made_by heap m) l → StoredAlike (λ h. record { heap = h; mutator = l }) (λ h. record { heap = h; mutator = l })
   stored-alike l own_l n r x v found is = rw same (record {
     records = slice_set (made_by heap m) (n - 1) (with_value r x v);
-    heap_is = refl;
-    other_is = refl;
+    heap_is = has_records heap m _;
+    other_is = has_records other m _;
     mutator_is = refl;
     own = record { registers = own_l.registers; words = stores-own m (made_by heap m) n r x v own.words found is };
   })
@@ -155,6 +177,7 @@ module _ (m : ℕ) (heap other : Heap) (k : Mutator) (same : made_by other m ≡
   performed-alike (Gets d x) is = absurd is.0
   performed-alike (Puts x v) is = absurd is.0
   performed-alike (Swaps d x v) is = absurd is.0
+  performed-alike Snaps is = snaps-alike
 
   spells : (i : Instr) → leaves_board i ≡ true → Spells (LeadsToOwn m) ⊥ i
   spells (instrs.Get d x) leaves = cc

@@ -3,7 +3,6 @@ use Rattle.std.proofs.Common.{◌≡◌, ℕ, ◌<◌, ◌≤◌, ◌⊎◌, inl
 use Rattle.std.specs.List.{list_all}
 use Rattle.std.specs.Option.{ok_or}
 use Rattle.std.proofs.lemmas.Bool.{cases_eq, cases_lt}
-use Rattle.std.proofs.lemmas.List.{set-get_or}
 use Rattle.std.proofs.lemmas.List.Sums.{AllPass-from_list_all}
 use Rattle.std.proofs.lemmas.Option.{slice_get-get_or, slice_get_within, get_or_from_slice_get}
 use Rattle.plain_state.specs.declared.end.End.{End}
@@ -19,16 +18,16 @@ use Rattle.plain_heap.specs.Order.{fresh, is_asked, marked}
 use Rattle.plain_heap.specs.Alone.{leaves_board, shares_nothing}
 use Rattle.plain_heap.proofs.States.Steps.{stepped-past}
 use Rattle.plain_heap.proofs.Alone.Owned.{OwnsRecords, found_all, read_all}
-use Rattle.plain_heap.proofs.Alone.Alike.{Same, GoAlike, call-alike, same-bind}
+use Rattle.plain_heap.proofs.Alone.Alike.{Same, GoAlike, HasRecords, call-alike, same-bind, unchanged}
 use Rattle.plain_heap.proofs.Alone.Runs.{mutator_of, stepped-rests, stepped-goes}
-use Rattle.plain_heap.proofs.Alone.Apart.{IsApart, moved, MovesMutator, HasSameMutator, moves-other, moved-meets, moves-apart, moves-mutator, stays-moves, full-moves}
+use Rattle.plain_heap.proofs.Alone.Apart.{IsApart, IsMoved, MovesMutator, HasSameMutator, moves-other, moved-meets, moves-apart, moves-mutator, stays-moves, full-moves}
 
 -- both states take these records of mutator m, and in both it becomes the same
 record MovesBoth (m : ℕ) (s u s_after u_after : Plain) : Type 0 where
   records : List Record
   mutator : Mutator
-  is : s_after ≡ moved s m records mutator
-  other_is : u_after ≡ moved u m records mutator
+  is : IsMoved s m records mutator s_after
+  other_is : IsMoved u m records mutator u_after
   own : OwnsRecords m records mutator
 
 -- a step of mutator m from two states in which it is the same
@@ -69,8 +68,8 @@ module _ (code : List (List Instr)) (turns : ℕ) (alone : shares_nothing code �
   settles (Ok a) (Ok b) same = record {
     records = same.records;
     mutator = a.mutator;
-    is = ap (λ heap. let t : Plain = record { heap = heap; mutators = slice_set s.mutators m a.mutator } in t) same.heap_is;
-    other_is = rw (same.mutator_is) (ap (λ heap. let t : Plain = record { heap = heap; mutators = slice_set u.mutators m a.mutator } in t) same.other_is);
+    is = record { heap = same.heap_is; mutators = refl };
+    other_is = record { heap = same.other_is; mutators = ap (slice_set u.mutators m) same.mutator_is };
     own = same.own;
   }
   settles (Ok a) (Err why) same = absurd same
@@ -78,8 +77,8 @@ module _ (code : List (List Instr)) (turns : ℕ) (alone : shares_nothing code �
   settles (Err why) (Err other) same = rw (← same) (record {
     records = made_by s.heap m;
     mutator = record (mutator_of s m) { end = Some why };
-    is = rw (set-get_or s.heap.records m []) refl;
-    other_is = rw (← meets.records, set-get_or u.heap.records m []) refl;
+    is = record { heap = unchanged s.heap m; mutators = refl };
+    other_is = record { heap = subst (λ records. HasRecords u.heap m records u.heap) meets.records (unchanged u.heap m); mutators = refl };
     own = record { registers = (apart.own m).registers; words = (apart.own m).words };
   })
 
@@ -100,8 +99,8 @@ module _ (code : List (List Instr)) (turns : ℕ) (alone : shares_nothing code �
       record {
         one = record { records = both.records; mutator = both.mutator; is = both.is; own = both.own; rests = λ ended. absurd (ended_apart (sym ended ∙ no_end)) };
         other = record { records = both.records; mutator = both.mutator; is = both.other_is; own = both.own; rests = λ ended. absurd (ended_apart (sym ended ∙ there)) };
-        meets = rw (both.is, both.other_is) (moved-meets m s u both.records both.mutator
-            (subst (λ n. m < n) (sym apart.counted) has) (subst (λ n. m < n) (sym apart.as_many) has) (subst (λ n. m < n) (sym other_apart.counted) has) (subst (λ n. m < n) (sym other_apart.as_many) has));
+        meets = moved-meets m s u (stepped code turns s m) (stepped code turns u m) both.records both.mutator both.is both.other_is
+            (subst (λ n. m < n) (sym apart.counted) has) (subst (λ n. m < n) (sym apart.as_many) has) (subst (λ n. m < n) (sym other_apart.counted) has) (subst (λ n. m < n) (sym other_apart.as_many) has);
       }
 
 -- ---- a mark

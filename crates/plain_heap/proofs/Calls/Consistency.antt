@@ -22,7 +22,7 @@ use Rattle.plain_state.specs.Consistent.{IsNumber, IsRecord, IsHeap, IsMutator}
 use Rattle.plain_state.specs.Layout.{is_raw, word_of_value}
 use Rattle.plain_state.specs.Operation.{one_if, applied, divided_by}
 use Rattle.plain_state.specs.State.{Record, Heap, Mutator, made_by, record_of, serial_of, IsMade, IsValue}
-use Rattle.plain_state.specs.Writing.{with_value, with_board, stored, gained}
+use Rattle.plain_state.specs.Writing.{with_value, with_board, stored, gained, took}
 use Rattle.plain_state.proofs.Gained.{gained_made, gained_newest, gained_makers}
 use Rattle.plain_state.proofs.Lists.{slice_get-replicate, slice_get-set_other, set-found}
 use Rattle.plain_state.proofs.Stored.{stored_made, stored_makers}
@@ -30,7 +30,7 @@ use Rattle.mutator_asm.specs.declared.instr.Instr.{Instr}
 use Rattle.mutator_asm.specs.declared.instr.Instr.TheVariants as instrs
 use Rattle.mutator_asm.specs.Program.{is_valid, is_register, is_number, is_target}
 use Rattle.plain_heap.specs.declared.action.Action.{Action}
-use Rattle.plain_heap.specs.declared.action.Action.TheVariants.{Sets, Jumps, Links, Prints, Makes, Measures, Loads, Stores, Exchanges, Gets, Puts, Swaps}
+use Rattle.plain_heap.specs.declared.action.Action.TheVariants.{Sets, Jumps, Links, Prints, Makes, Measures, Loads, Stores, Exchanges, Gets, Puts, Swaps, Snaps}
 use Rattle.plain_heap.specs.Action.{◌>>=◌, register, next_of, in_record, action}
 use Rattle.plain_heap.specs.Call.{After, values_of, value_in, board_word, as_plain, may_hold, store_in, zeros, jumped, went_on, set_register, loads, allocated, performed, call}
 use Rattle.plain_heap.proofs.Calls.Named.{Spells, Names, named, fits-short}
@@ -69,6 +69,9 @@ mutator-grows heap next grows k is = record {
 
 grows-board : (heap : Heap) (x : ℕ) (v : Value) → HeapGrows heap (with_board heap x v)
 grows-board heap x v i made = record { first = made.first; last = made.last }
+
+grows-took : (heap : Heap) → HeapGrows heap (took heap)
+grows-took heap i made = record { first = made.first; last = made.last }
 
 -- ---- what is read
 
@@ -132,6 +135,13 @@ module _ (heap : Heap) (is_heap : IsHeap heap) where
     board_words = length-set heap.board x v ∙ is_heap.board_words;
     board = All-weaker (IsValue heap) (IsValue (with_board heap x v)) (value-grows heap (with_board heap x v) (grows-board heap x v)) _ (All-set (IsValue heap) heap.board x v is is_heap.board);
     records = records-grow heap (with_board heap x v) (grows-board heap x v) heap.records is_heap.records;
+  }
+
+  took-kept : IsHeap (took heap)
+  took-kept = record {
+    board_words = is_heap.board_words;
+    board = All-weaker (IsValue heap) (IsValue (took heap)) (value-grows heap (took heap) (grows-took heap)) heap.board is_heap.board;
+    records = records-grow heap (took heap) (grows-took heap) heap.records is_heap.records;
   }
 
   -- a word of a record, which it may hold
@@ -290,6 +300,12 @@ module _ (m : ℕ) (heap : Heap) (k : Mutator) (is_heap : IsHeap heap) (is_mutat
   performed-kept (Swaps d x v) is =
       let old = board_word heap x in
       boards-kept x v (went_on (set_register k d old)) is.2 (loads-kept d old (board_word-value heap is_heap x)).mutator
+  performed-kept Snaps is = record {
+    heap = took-kept heap is_heap;
+    mutator = mutator-grows heap (took heap) (grows-took heap) (went_on k) (jumps-kept (next_of k) next_of-small).mutator;
+    grows = grows-took heap;
+    as_many = refl;
+  }
 
   target-small : (target : ℕ) → is_target target ≡ true → target < NUMBERS
   target-small target valid = omega (arith, leb-true target 65536 valid)

@@ -4,7 +4,7 @@ use Rattle.std.specs.Result.{IfOk}
 use Rattle.plain_state.specs.State.{Heap, Mutator, record_of}
 use Rattle.mutator_asm.specs.declared.instr.Instr.{Instr}
 use Rattle.plain_heap.specs.declared.action.Action.{Action}
-use Rattle.plain_heap.specs.declared.action.Action.TheVariants.{Sets, Jumps, Links, Prints, Makes, Measures, Loads, Stores, Exchanges, Gets, Puts, Swaps}
+use Rattle.plain_heap.specs.declared.action.Action.TheVariants.{Sets, Jumps, Links, Prints, Makes, Measures, Loads, Stores, Exchanges, Gets, Puts, Swaps, Snaps}
 use Rattle.plain_heap.specs.Action.{action}
 use Rattle.plain_heap.specs.Call.{After, value_in, store_in, performed, call}
 use Rattle.plain_heap.proofs.Calls.Outcomes.{if_ok-bind, performed_exchange}
@@ -48,6 +48,7 @@ module _ (m : ℕ) (heap : Heap) (k : Mutator) where
   performed-went (Gets d x) = quiet _ refl refl refl
   performed-went (Puts x v) = quiet _ refl refl refl
   performed-went (Swaps d x v) = quiet _ refl refl refl
+  performed-went Snaps = quiet _ refl refl refl
 
   pub call-went : (i : Instr) → IfOk (call m heap k i) WentOn
   unfolding call

@@ -18,7 +18,7 @@ use Rattle.mutator_asm.specs.declared.instr.Instr.{Instr}
 use Rattle.mutator_asm.specs.declared.instr.Instr.TheVariants as instrs
 use Rattle.mutator_asm.specs.declared.operand.Operand.{Operand}
 use Rattle.plain_heap.specs.declared.action.Action.{Action}
-use Rattle.plain_heap.specs.declared.action.Action.TheVariants.{Sets, Jumps, Links, Prints, Makes, Measures, Loads, Stores, Exchanges, Gets, Puts, Swaps}
+use Rattle.plain_heap.specs.declared.action.Action.TheVariants.{Sets, Jumps, Links, Prints, Makes, Measures, Loads, Stores, Exchanges, Gets, Puts, Swaps, Snaps}
 use Rattle.plain_heap.specs.Action.{◌>>=◌, register, as_number, reference_in, is_zero, is_reference, are_same, operand, next_of, length_of, in_record, on_board, board_place, computes, allocates, mixed_length, mixes, prints, action}
 use Rattle.plain_heap.proofs.Calls.Outcomes.{if_ok-bind, if_ok-then}
 
@@ -58,6 +58,7 @@ Names P B k (Exchanges d i x expected new) = P (Reference i) × P expected × P 
 Names P B k (Gets d x) = B × (x < BOARD_WORDS)
 Names P B k (Puts x v) = B × (x < BOARD_WORDS) × P v
 Names P B k (Swaps d x v) = B × (x < BOARD_WORDS) × P v
+Names P B k Snaps = ⊤
 
 length_of-short : (n : ℕ) (short : Bool) → nat_le n LONGEST_RECORD ≡ short → IfOk (length_of n) (λ n. n ≤ LONGEST_RECORD)
 length_of-short n true is = rw is (leb-true n LONGEST_RECORD is)
@@ -144,4 +145,5 @@ module _ (P : Value → Type 0) (B : Type 0) (k : Mutator) (held : (r : ℕ) →
   named (instrs.Put x a) is = with_board_place x _ (λ y within. (is, within, held a))
   named (instrs.Swap d x) is = with_board_place x _ (λ y within. (is, within, held d))
   named (instrs.Out a) is = with_number a _ (λ n is_n. prints_as n (nat_lt (length k.printed) MOST_PRINTED) is_n refl)
+  named instrs.Snap is = tt
   named instrs.Halt is = tt

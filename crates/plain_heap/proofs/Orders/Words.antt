@@ -10,7 +10,7 @@ use Rattle.plain_state.specs.declared.end.End.TheVariants.{HeapFull}
 use Rattle.plain_state.specs.declared.value.Identity.{Identity}
 use Rattle.plain_state.specs.declared.value.Value.{Value}
 use Rattle.plain_state.specs.declared.value.Value.TheVariants.{Number}
-use Rattle.plain_state.specs.State.{Mutator, Plain, Record, at_serial, made_by}
+use Rattle.plain_state.specs.State.{Mutator, Plain, Record, at_serial, made_by, none_snapped}
 use Rattle.plain_state.proofs.Lists.{slice_get-set_same}
 use Rattle.mutator_asm.specs.declared.instr.Instr.{Instr}
 use Rattle.plain_heap.specs.declared.action.Action.{Action}
@@ -75,10 +75,10 @@ marks_store_words code turns s (mark ∷ marks) i x =
     ∙ ap (λ (first : Value). last_in_order code turns (marked code turns s mark) marks i x first) (mark_word code turns s i x mark)
 
 -- a heap without a record
-pub no_words : (mutators : ℕ) (board : List Value) (i : Identity) (x : ℕ) → record_word (record { records = replicate mutators []; board = board }) i x ≡ Number 0
+pub no_words : (mutators : ℕ) (board : List Value) (i : Identity) (x : ℕ) → record_word (record { records = replicate mutators []; board = board; snaps = 0; snapped = none_snapped }) i x ≡ Number 0
 no_words mutators board i x = rw none (by_serial i.serial)
   where
-    none : made_by (record { records = replicate mutators []; board = board }) i.mutator ≡ []
+    none : made_by (record { records = replicate mutators []; board = board; snaps = 0; snapped = none_snapped }) i.mutator ≡ []
     none =
         let no_records : List Record = [] in
         ⊎_elim

@@ -12,7 +12,7 @@ use Rattle.plain_state.specs.declared.end.End.TheVariants.{HeapFull, JumpOut}
 use Rattle.plain_state.specs.declared.sizes.TheConstants.{NUMBERS, REGISTERS, BOARD_WORDS}
 use Rattle.plain_state.specs.declared.value.Value.TheVariants.{Number}
 use Rattle.plain_state.specs.Consistent.{IsRecord, IsMutator, IsConsistent}
-use Rattle.plain_state.specs.State.{Heap, Mutator, Plain, IsValue}
+use Rattle.plain_state.specs.State.{Heap, Mutator, Plain, IsValue, none_snapped}
 use Rattle.mutator_asm.specs.declared.instr.Instr.{Instr}
 use Rattle.mutator_asm.specs.Program.{instr_at, is_valid}
 use Rattle.mutator_asm.proofs.Programs.Instructions.{valid_at}
@@ -39,7 +39,7 @@ fresh-mutator heap = record {
 
 pub opening-consistent : (code : List (List Instr)) → IsConsistent (opening code)
 opening-consistent code =
-    let empty : Heap = record { records = replicate (length code) []; board = replicate BOARD_WORDS (Number 0) } in
+    let empty : Heap = record { records = replicate (length code) []; board = replicate BOARD_WORDS (Number 0); snaps = 0; snapped = none_snapped } in
     rw (opening-replicate code) (record {
       heap = record {
         board_words = length-replicate BOARD_WORDS (Number 0);

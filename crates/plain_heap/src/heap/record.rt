@@ -34,6 +34,17 @@ impl PlainRecord {
         Ok(PlainRecord { kind, values })
     }
 
+    /// The same record once more.
+    pub fn copy(&self, alloc: Global) -> Result<PlainRecord, NoMemory>
+        ensures { IfOk result (λ r. r ≡ self.now) }
+    {
+        let values = self.values.to_vec(alloc)?;
+        Ok(PlainRecord {
+            kind: self.kind,
+            values,
+        })
+    }
+
     pub fn len(&self) -> usize
         ensures { result ≡ length self.now.values }
     {

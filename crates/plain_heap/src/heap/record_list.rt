@@ -1,6 +1,6 @@
 //! The records that a mutator has allocated.
 
-ghost use Rattle.std.specs.Prelude.{◌≡◌, ◌<◌, ◌+◌, ◌-◌, ◌^◌, [], ◌∷◌, ◌++◌, length, IfSome, OnOk, OnErr, option_copied, slice_set};
+ghost use Rattle.std.specs.Prelude.{◌≡◌, ◌<◌, ◌+◌, ◌-◌, ◌^◌, [], ◌∷◌, ◌++◌, length, IfOk, IfSome, OnOk, OnErr, option_copied, slice_set};
 
 use crate::heap::record::PlainRecord;
 use plain_state::{NoMemory, Value};
@@ -32,6 +32,17 @@ impl RecordList {
         RecordList {
             records: Vec::new(alloc),
         }
+    }
+
+    /// The same records once more.
+    pub fn copy(&self, alloc: Global) -> Result<RecordList, NoMemory>
+        ensures { IfOk result (λ list. list ≡ self.now) }
+    {
+        let mut records = Vec::new(alloc);
+        for record in &self.records {
+            records.push(record.copy(alloc)?)?;
+        }
+        Ok(RecordList { records })
     }
 
     pub fn len(&self) -> usize

@@ -2,7 +2,8 @@ use Rattle.std.proofs.Common.{refl}
 use Rattle.heap_words.specs.Word.{header_word, number_word}
 use Rattle.space_map.specs.AreaWord.{decode_area, area_in, encode_area}
 use Rattle.space_map.specs.PageWord.{encode_page}
-use Rattle.space_map.specs.Table.{place_of}
+use Rattle.space_map.specs.SaveWord.{encode_save}
+use Rattle.space_map.specs.Table.{place_of, save_place_of}
 use Rattle.alloc_end.proofs.laws.rows_are_worked_out.Goals as goal
 
 pub returns-clause-first_pair_is_placed : goal.returns-clause-first_pair_is_placed
@@ -20,6 +21,10 @@ returns-clause-count_is_stored_first c = record { steps = refl; ends = refl }
 pub returns-clause-mixed_record_is_placed : goal.returns-clause-mixed_record_is_placed
 unfolding header_word number_word decode_area area_in encode_area encode_page place_of
 returns-clause-mixed_record_is_placed c = record { steps = refl; ends = refl }
+
+pub returns-clause-pages_are_marked_and_opened : goal.returns-clause-pages_are_marked_and_opened
+unfolding header_word decode_area area_in encode_area encode_page encode_save place_of save_place_of
+returns-clause-pages_are_marked_and_opened c = record { steps = refl; ends = refl }
 
 pub returns-clause-reserve_is_kept : goal.returns-clause-reserve_is_kept
 unfolding header_word decode_area area_in encode_area encode_page place_of

@@ -17,9 +17,9 @@ pub returns-clause-epoch_is_marked : goal.returns-clause-epoch_is_marked
 unfolding decode_area area_in decode_gate gate_in encode_page decode_page place_of
 returns-clause-epoch_is_marked c = record { steps = refl; ends = refl }
 
-pub returns-clause-traced_epoch_is_left : goal.returns-clause-traced_epoch_is_left
+pub returns-clause-traced_epoch_is_found : goal.returns-clause-traced_epoch_is_found
 unfolding decode_area area_in decode_gate gate_in encode_page decode_page place_of
-returns-clause-traced_epoch_is_left c = record { steps = refl; ends = refl }
+returns-clause-traced_epoch_is_found c = record { steps = refl; ends = refl }
 
 pub returns-clause-scanner_ends_with_mutators : goal.returns-clause-scanner_ends_with_mutators
 unfolding decode_area area_in decode_gate gate_in encode_page decode_page place_of

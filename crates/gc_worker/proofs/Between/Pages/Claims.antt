@@ -6,7 +6,7 @@ use Rattle.std.proofs.lemmas.Option.{same_Some}
 use Rattle.plain_state.specs.declared.end.End.{End}
 use Rattle.plain_state.specs.State.{Plain}
 use Rattle.plain_heap.specs.declared.action.Action.{Action}
-use Rattle.plain_heap.specs.declared.action.Action.TheVariants.{Sets, Jumps, Links, Prints}
+use Rattle.plain_heap.specs.declared.action.Action.TheVariants.{Sets, Jumps, Links, Prints, Snaps}
 use Rattle.plain_heap.specs.Action.{action}
 use Rattle.atom_store.specs.declared.reply.Reply.{Reply}
 use Rattle.atom_store.specs.declared.reply.Reply.TheVariants as replies
@@ -155,6 +155,7 @@ actions_unmarked task (Sets d v) = tt
 actions_unmarked task (Jumps target) = tt
 actions_unmarked task (Links d target) = tt
 actions_unmarked task (Prints n) = tt
+actions_unmarked task Snaps = tt
 actions_unmarked task act = tt
 
 acted_unmarked : (task : Task) (o : Result Action End) → NoMark (told_acted task o)

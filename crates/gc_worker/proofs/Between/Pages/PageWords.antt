@@ -49,6 +49,7 @@ use Rattle.gc_worker.specs.Steps.Wanted.{wanted, wanted_at}
 use Rattle.gc_worker.proofs.Stages.Access.RowsFit as access_rows
 use Rattle.gc_worker.proofs.Words.Areas.{is_space}
 use Rattle.gc_worker.proofs.Words.Eras.{board_is}
+use Rattle.gc_worker.proofs.Words.TableRows.{in_each_table, never_marks}
 use Rattle.gc_worker.proofs.Stages.OpenedPage.{of_page}
 use Rattle.gc_worker.proofs.Stages.Rounds.Words.{page_age}
 use Rattle.gc_worker.proofs.Between.Pages.Written.{IsOther}
@@ -81,7 +82,7 @@ module _ (c : Configuration) (p : Plain) (s : Stands c p) (k : ℕ) (x : Held) w
       let pages = own f.layout is.fits.stage.layout is.fits.pages in
       let known : ((team c).worker k).epoch ≡ x.epoch = ap (λ (w : Worker). w.epoch) is.as_known in
       let timely = (s.invariant.workers k is.below).timely in
-      let now : x.epoch ≡ (era c).epoch = sym known ∙ timely.flipping (rw is.as_known refl) in
+      let now : x.epoch ≡ (era c).epoch = sym known ∙ timely.asking (rw is.as_known refl) in
       let e : f.epoch ≡ (era c).epoch = is.fits.stage.epoch ∙ now in
       subst (λ (n : ℕ). LeavesBy c (Some (Store (place_of n (Area (to_space (f.epoch + 1)))) (encode_area (flip.area_reset r.next r.used)))) none) (sym pages)
       (stores_other c p s (to_space (f.epoch + 1)) (encode_area (flip.area_reset r.next r.used)) none (is_space (f.epoch + 1)) (λ same. omega (arith, same, e)))
@@ -119,7 +120,8 @@ module _ (c : Configuration) (p : Plain) (s : Stands c p) (k : ℕ) (x : Held) w
       (New (age_now c p s new.next within (Open z.epoch) is.fits.stage.sound.epoch ∙ ap (λ (d : ℕ). d + 1) e)
       (omega (arith, q.lies, q.aligned, fits))
       (omega (arith, q.lies, q.aligned, fits, below)))
-  places z stage is = spares c p s z.layout.pages (own z.layout is.fits.stage.layout is.fits.pages) (place.wants_at z stage) none tt
+  places z (place_stage.StoresNew new) is = absurd (never_marks z.snap is.fits.stage.snap is.fits.stage.sound.stage.1)
+  places z stage is = spares c p s z.layout.pages (own z.layout is.fits.stage.layout is.fits.pages) (in_each_table (place.wants_at z stage)) none tt
 
   -- ---- scanned pages
 

@@ -7,7 +7,7 @@ use Rattle.plain_state.specs.declared.value.Value.TheVariants.{Number}
 use Rattle.plain_state.specs.State.{Mutator, Plain}
 use Rattle.plain_state.specs.Writing.{with_board}
 use Rattle.plain_heap.specs.declared.action.Action.{Action}
-use Rattle.plain_heap.specs.declared.action.Action.TheVariants.{Sets, Jumps, Links, Prints, Makes, Measures, Loads, Stores, Exchanges, Gets, Puts, Swaps}
+use Rattle.plain_heap.specs.declared.action.Action.TheVariants.{Sets, Jumps, Links, Prints, Makes, Measures, Loads, Stores, Exchanges, Gets, Puts, Swaps, Snaps}
 use Rattle.plain_heap.specs.Call as plain
 use Rattle.plain_heap.specs.Call.{board_word}
 use Rattle.atom_store.specs.declared.step.Step.TheVariants.{Load, Store, Exchange}
@@ -69,6 +69,7 @@ gets (Sets d v) y into is = absurd (cc)
 gets (Jumps target) y into is = absurd (cc)
 gets (Links d target) y into is = absurd (cc)
 gets (Prints n) y into is = absurd (cc)
+gets Snaps y into is = absurd (cc)
 gets (Makes kind d n) y into is = absurd (cc)
 gets (Measures d i) y into is = absurd (cc)
 gets (Loads d i x) y into is = absurd (cc)
@@ -87,6 +88,7 @@ puts (Sets d v) y new is = absurd (cc)
 puts (Jumps target) y new is = absurd (cc)
 puts (Links d target) y new is = absurd (cc)
 puts (Prints n) y new is = absurd (cc)
+puts Snaps y new is = absurd (cc)
 puts (Makes kind d n) y new is = absurd (cc)
 puts (Measures d i) y new is = absurd (cc)
 puts (Loads d i x) y new is = absurd (cc)
@@ -106,6 +108,7 @@ swaps (Sets d v) s is = absurd (cc)
 swaps (Jumps target) s is = absurd (cc)
 swaps (Links d target) s is = absurd (cc)
 swaps (Prints n) s is = absurd (cc)
+swaps Snaps s is = absurd (cc)
 swaps (Makes kind d n) s is = absurd (cc)
 swaps (Measures d i) s is = absurd (cc)
 swaps (Loads d i x) s is = absurd (cc)

@@ -9,7 +9,7 @@ use Rattle.plain_state.specs.declared.value.Value.{Value}
 use Rattle.plain_state.specs.declared.value.Value.TheVariants.{Reference}
 use Rattle.plain_state.specs.State.{Plain}
 use Rattle.plain_heap.specs.declared.action.Action.{Action}
-use Rattle.plain_heap.specs.declared.action.Action.TheVariants.{Sets, Jumps, Links, Prints, Makes, Measures, Loads, Stores, Exchanges, Gets, Puts, Swaps}
+use Rattle.plain_heap.specs.declared.action.Action.TheVariants.{Sets, Jumps, Links, Prints, Makes, Measures, Loads, Stores, Exchanges, Gets, Puts, Swaps, Snaps}
 use Rattle.plain_heap.specs.Call.{may_hold}
 use Rattle.atom_store.specs.declared.step.Step.TheVariants.{Load}
 use Rattle.atom_store.specs.declared.reply.Reply.TheVariants as replies
@@ -187,6 +187,7 @@ module _ (c : Configuration) (p : Plain) (s : Stands c p) (k : ℕ) (y : Held) w
   by_action m (Jumps target) executes e is = absurd (cc)
   by_action m (Links d target) executes e is = absurd (cc)
   by_action m (Prints n) executes e is = absurd (cc)
+  by_action m Snaps executes e is = absurd (cc)
   by_action m (Makes kind d n) executes e is = absurd (cc)
   by_action m (Gets d x) executes e is = absurd (cc)
   by_action m (Puts x v) executes e is = absurd (cc)

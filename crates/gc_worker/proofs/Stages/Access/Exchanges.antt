@@ -7,7 +7,7 @@ use Rattle.plain_state.specs.declared.value.Value.{Value}
 use Rattle.plain_state.specs.declared.value.Value.TheVariants.{Number, Reference}
 use Rattle.plain_state.specs.State.{Heap, Mutator, Plain}
 use Rattle.plain_heap.specs.declared.action.Action.{Action}
-use Rattle.plain_heap.specs.declared.action.Action.TheVariants.{Sets, Jumps, Links, Prints, Makes, Measures, Loads, Stores, Exchanges, Gets, Puts, Swaps}
+use Rattle.plain_heap.specs.declared.action.Action.TheVariants.{Sets, Jumps, Links, Prints, Makes, Measures, Loads, Stores, Exchanges, Gets, Puts, Swaps, Snaps}
 use Rattle.plain_heap.specs.Action.{are_same}
 use Rattle.plain_heap.specs.Call as plain
 use Rattle.plain_heap.specs.Call.{After, may_hold, performed}
@@ -154,6 +154,7 @@ module _ (c : Configuration) (p : Plain) (s : Stands c p) (k : ℕ) (y : Held) w
     of_action P e (Jumps target) executes of so = absurd of
     of_action P e (Links d target) executes of so = absurd of
     of_action P e (Prints n) executes of so = absurd of
+    of_action P e Snaps executes of so = absurd of
     of_action P e (Makes kind d n) executes of so = absurd of
     of_action P e (Measures d j) executes of so = absurd of
     of_action P e (Gets d x) executes of so = absurd of

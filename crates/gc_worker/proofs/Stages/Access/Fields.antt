@@ -15,7 +15,7 @@ use Rattle.plain_state.specs.Layout.{is_raw, word_of_value}
 use Rattle.plain_state.specs.State.{Heap, Mutator, Plain, Record, record_of}
 use Rattle.plain_state.specs.Writing.{stored}
 use Rattle.plain_heap.specs.declared.action.Action.{Action}
-use Rattle.plain_heap.specs.declared.action.Action.TheVariants.{Sets, Jumps, Links, Prints, Makes, Measures, Loads, Stores, Exchanges, Gets, Puts, Swaps}
+use Rattle.plain_heap.specs.declared.action.Action.TheVariants.{Sets, Jumps, Links, Prints, Makes, Measures, Loads, Stores, Exchanges, Gets, Puts, Swaps, Snaps}
 use Rattle.plain_heap.specs.Action.{◌>>=◌}
 use Rattle.plain_heap.specs.Call as plain
 use Rattle.plain_heap.specs.Call.{After, performed, values_of, value_in, store_in, may_hold, went_on}
@@ -233,6 +233,7 @@ module _ (c : Configuration) (p : Plain) (s : Stands c p) (k : ℕ) (y : Held) w
     loads_by into (Jumps target) executes of is = absurd of
     loads_by into (Links d target) executes of is = absurd of
     loads_by into (Prints n) executes of is = absurd of
+    loads_by into Snaps executes of is = absurd of
     loads_by into (Makes kind d n) executes of is = absurd of
     loads_by into (Measures d j) executes of is = absurd of
     loads_by into (Gets d x) executes of is = absurd of
@@ -257,6 +258,7 @@ module _ (c : Configuration) (p : Plain) (s : Stands c p) (k : ℕ) (y : Held) w
     stores_by new (Jumps target) executes of is = absurd of
     stores_by new (Links d target) executes of is = absurd of
     stores_by new (Prints n) executes of is = absurd of
+    stores_by new Snaps executes of is = absurd of
     stores_by new (Makes kind d n) executes of is = absurd of
     stores_by new (Measures d j) executes of is = absurd of
     stores_by new (Gets d x) executes of is = absurd of

@@ -15,7 +15,7 @@ use Rattle.plain_state.specs.declared.value.Value.TheVariants.{Number, Reference
 use Rattle.plain_state.specs.Layout.{values_at, word_of_value}
 use Rattle.plain_state.specs.State.{Plain, Record}
 use Rattle.plain_heap.specs.declared.action.Action.{Action}
-use Rattle.plain_heap.specs.declared.action.Action.TheVariants.{Sets, Jumps, Links, Prints, Makes, Measures, Loads, Stores, Exchanges, Gets, Puts, Swaps}
+use Rattle.plain_heap.specs.declared.action.Action.TheVariants.{Sets, Jumps, Links, Prints, Makes, Measures, Loads, Stores, Exchanges, Gets, Puts, Swaps, Snaps}
 use Rattle.plain_heap.specs.Action.{in_record}
 use Rattle.plain_heap.specs.Call.{values_of, may_hold}
 use Rattle.atom_store.specs.declared.step.Step.TheVariants.{Load}
@@ -409,6 +409,7 @@ module _ (c : Configuration) (p : Plain) (s : Stands c p) (k : ℕ) (y : Held) w
   by_action r (Jumps target) executes e is = absurd (cc)
   by_action r (Links d target) executes e is = absurd (cc)
   by_action r (Prints n) executes e is = absurd (cc)
+  by_action r Snaps executes e is = absurd (cc)
   by_action r (Makes kind d n) executes e is = absurd (cc)
   by_action r (Gets d x) executes e is = absurd (cc)
   by_action r (Puts x v) executes e is = absurd (cc)

@@ -3,7 +3,7 @@ use Rattle.std.proofs.Common.{◌≡◌, ℕ, ◌≤◌, true, Some, is_some, sy
 use Rattle.plain_state.specs.State.{Plain}
 use Rattle.plain_state.specs.declared.value.Value.TheVariants.{Reference}
 use Rattle.plain_heap.specs.declared.action.Action.{Action}
-use Rattle.plain_heap.specs.declared.action.Action.TheVariants.{Sets, Jumps, Links, Prints, Makes, Measures, Loads, Stores, Exchanges, Gets, Puts, Swaps}
+use Rattle.plain_heap.specs.declared.action.Action.TheVariants.{Sets, Jumps, Links, Prints, Makes, Measures, Loads, Stores, Exchanges, Gets, Puts, Swaps, Snaps}
 use Rattle.heap_words.specs.Decoded.{Decoded, decode, number_in}
 use Rattle.heap_state.specs.Configuration.{Configuration, Stands, era, memory}
 use Rattle.gc_worker.specs.declared.access.Access.{Access}
@@ -44,6 +44,7 @@ module _ (c : Configuration) (p : Plain) (s : Stands c p) (k : ℕ) (x : Held) w
     named_by (Jumps target) executes e = absurd (cc)
     named_by (Links d target) executes e = absurd (cc)
     named_by (Prints n) executes e = absurd (cc)
+    named_by Snaps executes e = absurd (cc)
     named_by (Makes kind d n) executes e = absurd (cc)
     named_by (Gets d y) executes e = absurd (cc)
     named_by (Puts y v) executes e = absurd (cc)

@@ -73,7 +73,7 @@ module _ (c : Configuration) (p : Plain) (s : Stands c p) (k : ℕ) (y : Held) (
   pub now : (before : FlipStage) → Is c k (at before) → y.epoch ≡ (era c).epoch
   now before is =
       let t = (s.invariant.workers k is.below).timely in
-      sym (ap (λ (w : Worker). w.epoch) is.as_known) ∙ t.flipping (rw is.as_known refl)
+      sym (ap (λ (w : Worker). w.epoch) is.as_known) ∙ t.asking (rw is.as_known refl)
 
   -- ---- the gate
 

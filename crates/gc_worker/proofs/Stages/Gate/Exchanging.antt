@@ -12,7 +12,7 @@ use Rattle.space_map.proofs.GateWords.{decode_gate-encode_gate}
 use Rattle.gate_core.specs.declared.gate_stage.GateStage.{GateStage}
 use Rattle.gate_core.specs.declared.gate_stage.GateStage.TheVariants.{Loads, Exchanges}
 use Rattle.gate_core.specs.declared.passage.Passage.{Passage}
-use Rattle.gate_core.specs.declared.passage.Passage.TheVariants.{Look, Attach, Park, Request, Resume, Forwarded, Leave}
+use Rattle.gate_core.specs.declared.passage.Passage.TheVariants.{Look, Attach, Park, Request, Resume, Forwarded, Leave, Clear}
 use Rattle.gate_core.specs.Flip as flip
 use Rattle.gate_core.specs.Gate.{gate_after}
 use Rattle.heap_state.specs.Configuration.{Configuration, Stands, table, era, memory, team}
@@ -151,3 +151,4 @@ module _ (c : Configuration) (p : Plain) (s : Stands c p) (k : ℕ) (y : Held) (
   exchanges_gate (Resume epoch) is = resumes epoch is
   exchanges_gate Forwarded is = forwards is
   exchanges_gate Leave is = leaves is
+  exchanges_gate Clear is = absurd is.fits.stage.passage

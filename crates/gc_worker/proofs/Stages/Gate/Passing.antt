@@ -13,7 +13,7 @@ use Rattle.space_map.specs.Table.{Gate, place_of}
 use Rattle.gate_core.specs.declared.gate_stage.GateStage.{GateStage}
 use Rattle.gate_core.specs.declared.gate_stage.GateStage.TheVariants.{Loads, Exchanges, Ended}
 use Rattle.gate_core.specs.declared.passage.Passage.{Passage}
-use Rattle.gate_core.specs.declared.passage.Passage.TheVariants.{Look, Attach, Park, Request, Resume, Forwarded, Leave}
+use Rattle.gate_core.specs.declared.passage.Passage.TheVariants.{Look, Attach, Park, Request, Resume, Forwarded, Leave, Clear}
 use Rattle.gate_core.specs.declared.passed.Passed.TheVariants.{NotYet}
 use Rattle.gate_core.specs.Gate.{allows, allowed, is_clear, told_at, looked}
 use Rattle.gate_core.specs.Soundness.{CountsAllow, FitsGateStage, MayPass}
@@ -184,3 +184,4 @@ module _ (c : Configuration) (p : Plain) (s : Stands c p) (k : ℕ) (y : Held) (
   loads_gate (Resume epoch) is = steps_of (Resume epoch) is (resumes epoch is (allows (Resume epoch) gate) refl)
   loads_gate Forwarded is = steps_of Forwarded is (forwards is)
   loads_gate Leave is = steps_of Leave is (leaves is)
+  loads_gate Clear is = absurd is.fits.stage.passage

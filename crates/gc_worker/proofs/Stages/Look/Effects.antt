@@ -1,4 +1,4 @@
--- A look whose instruction's effect the registers alone decide: a register is set, a jump is made, or a number is printed.
+-- A look whose instruction's effect the registers alone decide: a register is set, a jump is made, a number is printed, or a checkpoint is begun.
 use Rattle.std.proofs.Common.{◌≡◌, ℕ, ◌+◌, ◌%◌, ◌<◌, ◌≤◌, List, [], ◌∷◌, ◌++◌, length, slice_index, slice_set, is_some, Some, None, Result, Ok, refl, ap, sym, subst, ◌∙◌, length-set, arith}
 use Rattle.std.specs.Prelude.{⊤, IsTrue}
 use Rattle.std.proofs.lemmas.List.{length-append}
@@ -6,11 +6,12 @@ use Rattle.plain_state.specs.declared.end.End.{End}
 use Rattle.plain_state.specs.declared.sizes.TheConstants.{NUMBERS, REGISTERS, MOST_PRINTED}
 use Rattle.plain_state.specs.declared.value.Value.{Value}
 use Rattle.plain_state.specs.declared.value.Value.TheVariants.{Number}
-use Rattle.plain_state.specs.State.{Mutator, Plain}
+use Rattle.plain_state.specs.State.{Heap, Mutator, Plain}
+use Rattle.plain_state.specs.Writing.{took, with_heap}
 use Rattle.mutator_asm.specs.declared.instr.Instr.{Instr}
 use Rattle.mutator_asm.specs.Program.{is_valid}
 use Rattle.plain_heap.specs.declared.action.Action.{Action}
-use Rattle.plain_heap.specs.declared.action.Action.TheVariants.{Sets, Jumps, Links, Prints}
+use Rattle.plain_heap.specs.declared.action.Action.TheVariants.{Sets, Jumps, Links, Prints, Snaps}
 use Rattle.plain_heap.specs.Action.{◌>>=◌, action, next_of}
 use Rattle.plain_heap.specs.Call as plain
 use Rattle.plain_heap.specs.Call.{performed, call}
@@ -21,7 +22,7 @@ use Rattle.heap_state.specs.Configuration.{Configuration, Stands, era, memory, t
 use Rattle.heap_state.specs.Worker.{Account, Worker, is_running}
 use Rattle.heap_laws.specs.Fields.Held.{HoldsValue, MayHold, going_on, with_mutator}
 use Rattle.heap_laws.specs.Fields.Stores.{IsAs}
-use Rattle.heap_laws.proofs.Fields.Laws.{mutators_step}
+use Rattle.heap_laws.proofs.Fields.Laws.{mutators_snap, mutators_step}
 use Rattle.gc_worker.specs.declared.stage.Stage.TheVariants.{Looks}
 use Rattle.gc_worker.specs.declared.task.Task.TheVariants.{Calls}
 use Rattle.gc_worker.specs.Workers.Fits.{AreValues, Fits}
@@ -34,7 +35,7 @@ use Rattle.gc_worker.specs.Steps.Turned.{Answers, begins, acts, turned, told, to
 use Rattle.gc_worker.specs.Steps.Turned as turn
 use Rattle.gc_worker.proofs.Plain.Actions.{plain_value, plain_action, plain_outcome}
 use Rattle.gc_worker.proofs.Plain.AnswerSteps.{LawTo, IsIts, may_hold, going, next_as}
-use Rattle.gc_worker.proofs.Plain.Effects.{counted, loaded_goes, loaded_as, effect}
+use Rattle.gc_worker.proofs.Plain.Effects.{counted, loaded_goes, loaded_as, moved_as, moved_goes, effect}
 use Rattle.gc_worker.proofs.Stages.Look.Begun.{begun_fits}
 use Rattle.gc_worker.proofs.Plain.Registers.{sight, Holds, holds_number, alike, is_value, names, writes}
 use Rattle.gc_worker.proofs.Workers.Answered.{values_set, settled_as, settled_fits}
@@ -61,7 +62,18 @@ module _ (c : Configuration) (p : Plain) (s : Stands c p) (k : ℕ) (y : Held) w
     small_in : (act : Action) → Acts act → WritesRegister act
     small_in = writes c p s k x is refl unended q its instr valid
 
-    -- with this account and these registers it goes on, as the plain mutator does
+    -- with this account and these registers it goes on, as the plain mutator does that leaves this plain heap
+    module _ (heap : Heap) (account : Account) (registers : List ℕ) (next : Mutator) (no_end : account.end ≡ None) (few : length account.printed ≤ MOST_PRINTED)
+        (eight : length registers ≡ REGISTERS) (values : AreValues registers)
+        (law : LawTo c p s k x None (knows (settled_as (begins x) account registers x.run)) s.ghost (with_mutator (with_heap p heap) k next))
+        (calls : call k p.heap q instr ≡ Ok (record { heap = heap; mutator = next })) (same : turned x reply ≡ settled_as (begins x) account registers x.run) where
+      fits : Fits c.pages c.mutators k (settled_as (begins x) account registers x.run)
+      fits = settled_fits c.pages c.mutators k (begins x) (begun_fits c.pages c.mutators k y is.fits) is.fits.side account registers x.run (ap is_some no_end) eight values few is.fits.run
+
+      leaves : Goes c p s k None x reply
+      leaves = effect c p s k x is refl unended q its None reply (settled_as (begins x) account registers x.run) instr (record { heap = heap; mutator = next }) task same (tells ∙ sym (ap told_effect task)) refl calls law tt fits
+
+    -- where the plain heap stays
     module _ (account : Account) (registers : List ℕ) (next : Mutator) (serial : account.serial ≡ x.account.serial) (no_end : account.end ≡ None) (few : length account.printed ≤ MOST_PRINTED)
         (eight : length registers ≡ REGISTERS) (values : AreValues registers) (may : (j : ℕ) → j < 8 → MayHold (era c) s.ghost.size s.ghost.writer (slice_index registers j))
         (like : IsAs s.ghost p.heap k (going_on (knows x) account (λ (j : ℕ). slice_index registers j) None None) next)
@@ -71,11 +83,8 @@ module _ (c : Configuration) (p : Plain) (s : Stands c p) (k : ℕ) (y : Held) w
           (ap (λ (w : Worker). is_running w.post) is.as_known) s.shown
           (going c p s k x is refl unended account (λ (j : ℕ). slice_index registers j) serial may) like
 
-      fits : Fits c.pages c.mutators k (settled_as (begins x) account registers x.run)
-      fits = settled_fits c.pages c.mutators k (begins x) (begun_fits c.pages c.mutators k y is.fits) is.fits.side account registers x.run (ap is_some no_end) eight values few is.fits.run
-
       goes : Goes c p s k None x reply
-      goes = effect c p s k x is refl unended q its None reply (settled_as (begins x) account registers x.run) instr (record { heap = p.heap; mutator = next }) task same (tells ∙ sym (ap told_effect task)) refl calls law tt fits
+      goes = leaves p.heap account registers next no_end few eight values law calls same
 
     abbrev identity : ℕ → Rattle.plain_state.specs.declared.value.Identity.Identity
     identity = s.ghost.identity
@@ -120,3 +129,13 @@ module _ (c : Configuration) (p : Plain) (s : Stands c p) (k : ℕ) (y : Held) w
         (let l = length-append x.account.printed (n ∷ []) in omega (arith, room, l)) is.fits.eight is.fits.registers
         (may_hold c p s k x is refl unended) (next_as c p s k x q its (turn.next_of x) (next_of q) printed (q.printed ++ n ∷ []) next_same (ap (λ (l : List ℕ). l ++ n ∷ []) its.same.account.printed))
         (called (Prints n) is_act) same
+
+    pub snaps : Acts Snaps → turned x reply ≡ acts (begins x) Snaps → Goes c p s k None x reply
+    snaps is_act same =
+        let account : Account = counted c p s k x is refl unended in
+        let next : Mutator = plain.went_on q in
+        let law : LawTo c p s k x None (knows (settled_as (begins x) account x.registers x.run)) s.ghost (with_mutator (with_heap p (took p.heap)) k next) =
+        mutators_snap (era c) (memory c) (team c) s.ghost p k (knows (settled_as (begins x) account x.registers x.run)) next (prepared c p s k x is)
+        (ap (λ (w : Worker). is_running w.post) is.as_known) s.shown
+        (moved_goes c p s k x is refl unended q its) (moved_as c p s k x is refl unended q its) in
+        leaves (took p.heap) account x.registers next unended is.fits.few_printed is.fits.eight is.fits.registers law (called Snaps is_act) same

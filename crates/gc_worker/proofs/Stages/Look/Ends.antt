@@ -102,6 +102,7 @@ module _ (m : Mutator) where
   action_stops (instrs.Put x a) = bind (board_place m x) _ (board_stops x) (λ n. tt)
   action_stops (instrs.Swap d x) = bind (board_place m x) _ (board_stops x) (λ n. tt)
   action_stops (instrs.Out a) = bind (as_number (register m a)) _ (number_stops (register m a)) (λ n. if_else (Prints n) OutputFull (nat_lt (length m.printed) MOST_PRINTED) tt)
+  action_stops instrs.Snap = tt
   action_stops instrs.Halt = tt
 
 -- an instruction that ends so by its registers

@@ -7,7 +7,7 @@ use Rattle.plain_state.specs.State.{Heap, Mutator, Plain}
 use Rattle.mutator_asm.specs.declared.instr.Instr.{Instr}
 use Rattle.mutator_asm.specs.Program.{is_valid}
 use Rattle.plain_heap.specs.declared.action.Action.{Action}
-use Rattle.plain_heap.specs.declared.action.Action.TheVariants.{Sets, Jumps, Links, Prints, Makes, Measures, Loads, Stores, Exchanges, Gets, Puts, Swaps}
+use Rattle.plain_heap.specs.declared.action.Action.TheVariants.{Sets, Jumps, Links, Prints, Makes, Measures, Loads, Stores, Exchanges, Gets, Puts, Swaps, Snaps}
 use Rattle.plain_heap.specs.Action.{◌>>=◌, action}
 use Rattle.plain_heap.specs.Call.{performed, call}
 use Rattle.plain_heap.specs.Step.{ended as plain_ended}
@@ -122,6 +122,7 @@ module _ (c : Configuration) (p : Plain) (s : Stands c p) (k : ℕ) (y : Held) w
       acts_so (Jumps target) e so = effect.jumps c p s k y is unended q mutator.1 instr task valid reply so.tells target e so.turns
       acts_so (Links d target) e so = effect.links c p s k y is unended q mutator.1 instr task valid reply so.tells d target e so.turns
       acts_so (Prints n) e so = effect.prints c p s k y is unended q mutator.1 instr task valid reply so.tells n e so.turns
+      acts_so Snaps e so = effect.snaps c p s k y is unended q mutator.1 instr task valid reply so.tells e so.turns
       acts_so (Makes kind d n) e so = beginning.makes c p s k y is unended q mutator.1 instr task reply so.tells kind d n e so.turns
       acts_so (Measures d i) e so = beginning.measures c p s k y is unended q mutator.1 instr task reply so.tells d i e so.turns
       acts_so (Loads d i n) e so = beginning.loads c p s k y is unended q mutator.1 instr task reply so.tells d i n e so.turns

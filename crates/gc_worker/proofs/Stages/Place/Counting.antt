@@ -62,7 +62,7 @@ module _ (c : Configuration) (p : Plain) (s : Stands c p) (k : ℕ) (y : Held) (
   goes : Goes c p s k (Some entry) x Done
   goes =
       becomes c p s k x (Some entry) Done (at c p s k y run header StoresHeader) s.ghost refl is.below law refl refl
-      (record { pages = is.fits.stage.sound.pages; run = is.fits.stage.sound.run; fields = is.fits.stage.sound.fields; epoch = is.fits.stage.sound.epoch; stage = room })
+      (record { pages = is.fits.stage.sound.pages; run = is.fits.stage.sound.run; fields = is.fits.stage.sound.fields; epoch = is.fits.stage.sound.epoch; snap = is.fits.stage.sound.snap; room = is.fits.stage.sound.room; stage = room })
       (replace c p s k y run header StoresCount StoresHeader is tt is.fits.stage.rest room)
 
   pub stores_count : StepsSo c p s k x

@@ -118,7 +118,7 @@ module _ (c : Configuration) (p : Plain) (s : Stands c p) (k : ℕ) (y : Held) (
         is.fits.few_printed ((room, omega (arith, l, n)), is.fits.stage.rest)
 
     takes : IsSoundPlacing (placed (placing c p s k y run header StoresHeader))
-    takes = record { pages = is.fits.stage.sound.pages; run = (room, is.fits.stage.sound.run.1); fields = is.fits.stage.sound.fields; epoch = is.fits.stage.sound.epoch; stage = tt }
+    takes = record { pages = is.fits.stage.sound.pages; run = (room, is.fits.stage.sound.run.1); fields = is.fits.stage.sound.fields; epoch = is.fits.stage.sound.epoch; snap = is.fits.stage.sound.snap; room = is.fits.stage.sound.room; stage = tt }
 
     -- ---- the law
 

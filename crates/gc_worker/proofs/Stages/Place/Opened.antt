@@ -108,7 +108,7 @@ module _ (c : Configuration) (p : Plain) (s : Stands c p) (k : ℕ) (y : Held) (
     sound : (b : Bool) → test_of ≡ b → IsSoundPlacing (pick b)
     sound true test =
         let l = ltb-true (new.next + 1) (page_of new.first + asked) test in let f = is.fits.stage.sound.stage in
-        record { pages = is.fits.stage.sound.pages; run = is.fits.stage.sound.run; fields = is.fits.stage.sound.fields; epoch = is.fits.stage.sound.epoch; stage = (f.0, omega (arith, f), l) }
+        record { pages = is.fits.stage.sound.pages; run = is.fits.stage.sound.run; fields = is.fits.stage.sound.fields; epoch = is.fits.stage.sound.epoch; snap = is.fits.stage.sound.snap; room = is.fits.stage.sound.room; stage = (f.0, omega (arith, f), l) }
     sound false test =
         let f = is.fits.stage.sound.stage in
         record {
@@ -116,12 +116,14 @@ module _ (c : Configuration) (p : Plain) (s : Stands c p) (k : ℕ) (y : Held) (
           run = (omega arith, f.0);
           fields = is.fits.stage.sound.fields;
           epoch = is.fits.stage.sound.epoch;
-          stage = first_fits y.layout.pages asked (fields_for y) all header header.kind refl is.fits.stage.sound.fields (omega arith);
+          snap = is.fits.stage.sound.snap;
+          room = is.fits.stage.sound.room;
+          stage = first_fits y.layout.pages asked 0 (fields_for y) all header header.kind refl is.fits.stage.sound.fields (omega arith);
         }
 
     fits : (b : Bool) → test_of ≡ b → Fits c.pages c.mutators k (then b)
-    fits true test = refit c.pages c.mutators k x is.fits (Places (pick true)) is.fits.end is.fits.side is.fits.task (record { layout = refl; epoch = refl; fields = refl; going = tt; rest = tt; sound = sound true test })
-    fits false test = refit c.pages c.mutators k x is.fits (Places (pick false)) is.fits.end is.fits.side is.fits.task (record { layout = refl; epoch = refl; fields = refl; going = first_going header.kind; rest = first_rest all header header.kind (omega arith); sound = sound false test })
+    fits true test = refit c.pages c.mutators k x is.fits (Places (pick true)) is.fits.end is.fits.side is.fits.task (record { layout = refl; epoch = refl; fields = refl; snap = refl; going = tt; rest = tt; sound = sound true test })
+    fits false test = refit c.pages c.mutators k x is.fits (Places (pick false)) is.fits.end is.fits.side is.fits.task (record { layout = refl; epoch = refl; fields = refl; snap = refl; going = first_going header.kind; rest = first_rest all header header.kind (omega arith); sound = sound false test })
 
     -- at the record's first store all pages are open
     abbrev stock_with : (opened : ℕ) (ahead : List ℕ) → Stock

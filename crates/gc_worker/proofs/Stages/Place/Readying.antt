@@ -61,7 +61,7 @@ module _ (c : Configuration) (p : Plain) (s : Stands c p) (k : ℕ) (y : Held) (
     abbrev next : Bool → PlaceStage
     next b = cond b (StoresZero (record { first = new.first; next = new.next + 1 })) (OpensPage (record { first = new.first; next = page_of new.first }))
 
-    fits : (b : Bool) → nat_lt (new.next + 1) (new.first + words) ≡ b → FitsPlaceStage y.layout.pages asked run header (next b)
+    fits : (b : Bool) → nat_lt (new.next + 1) (new.first + words) ≡ b → FitsPlaceStage y.layout.pages asked 0 run header (next b)
     fits true test = let l = ltb-true (new.next + 1) (new.first + words) test in let f = is.fits.stage.sound.stage in (f.0, omega (arith, f), l)
     fits false test = let f = is.fits.stage.sound.stage in (f.0, omega arith, omega arith)
 
@@ -99,7 +99,7 @@ module _ (c : Configuration) (p : Plain) (s : Stands c p) (k : ℕ) (y : Held) (
     goes b test =
         becomes c p s k x (Some (WordIs new.next 0)) Done (here (next b)) s.ghost (ap (λ (t : Bool). by (next t)) test ∙ comes b) is.below
         (subst (λ (v : Worker). Law c p s k x (Some (WordIs new.next 0)) v s.ghost) (stock_then b test) law) (ap (λ (t : Bool). tells (next t)) test ∙ silent b) refl
-        (record { pages = is.fits.stage.sound.pages; run = is.fits.stage.sound.run; fields = is.fits.stage.sound.fields; epoch = is.fits.stage.sound.epoch; stage = subst (FitsPlaceStage y.layout.pages asked run header) (ap next (sym test)) (fits b test) })
+        (record { pages = is.fits.stage.sound.pages; run = is.fits.stage.sound.run; fields = is.fits.stage.sound.fields; epoch = is.fits.stage.sound.epoch; snap = is.fits.stage.sound.snap; room = is.fits.stage.sound.room; stage = subst (FitsPlaceStage y.layout.pages asked 0 run header) (ap next (sym test)) (fits b test) })
         (replace c p s k y run header (StoresZero new) (next b) is (going b) (rest b) (fits b test))
 
     pub stores_zero : StepsSo c p s k x

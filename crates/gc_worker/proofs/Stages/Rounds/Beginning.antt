@@ -10,6 +10,7 @@ use Rattle.fault_duty.specs.declared.caller.Caller.{Caller}
 use Rattle.fault_duty.specs.declared.caller.Caller.TheVariants.{Faulted, Allocates, Scans}
 use Rattle.fault_duty.specs.declared.findings.Findings.{Findings}
 use Rattle.fault_duty.specs.declared.duty_stage.DutyStage.TheVariants.{LoadsGate, LoadsTraced, LoadsWanted, LoadsFront, Ended}
+use Rattle.fault_duty.specs.declared.round_end.RoundEnd.TheVariants as round_end
 use Rattle.fault_duty.specs.declared.round_end.RoundEnd.TheVariants.{AllLeft, NothingNow}
 use Rattle.fault_duty.specs.Duty as duty
 use Rattle.fault_duty.specs.Duty.{Round}
@@ -30,7 +31,7 @@ use Rattle.gc_worker.specs.Workers.Knows.{knows, own_stock, post_gone}
 use Rattle.gc_worker.specs.Steps.Turned.{turned_round}
 use Rattle.gc_worker.proofs.Workers.Parts.{refit}
 use Rattle.gc_worker.proofs.Stages.Gate.Words.{gate_now, gate_says}
-use Rattle.gc_worker.proofs.Stages.Rounds.Going.{round, at, sound_at, goes_on, ends, loads_it}
+use Rattle.gc_worker.proofs.Stages.Rounds.Going.{round, at, sound_at, goes_on, ends, finds_traced, loads_it}
 use Rattle.gc_worker.proofs.Stages.Rounds.Words.{traced_now, traced_word}
 use Rattle.gc_worker.proofs.Words.RowSteps.{Law, becomes, nothing, prepared}
 
@@ -179,8 +180,8 @@ module _ (c : Configuration) (p : Plain) (s : Stands c p) (k : ℕ) (y : Held) w
 
     traced_by : (b : Bool) → nat_eq (traced_now c) (d.epoch + 1) ≡ b
         → duty.taken_at (round c p s k y d back (LoadsTraced hindrance)) (LoadsTraced hindrance) (Value (traced_now c))
-        ≡ round c p s k y d back (cond b (Ended (NothingNow (traced_now c))) (duty.first_look d.caller found)) → Goes c p s k None before (Value (traced_now c))
-    traced_by true test taken = ends c p s k y d back (LoadsTraced hindrance) is (Value (traced_now c)) (traced_now c) taken refl refl
+        ≡ round c p s k y d back (cond b (Ended round_end.Traced) (duty.first_look d.caller found)) → Goes c p s k None before (Value (traced_now c))
+    traced_by true test taken = finds_traced c p s k y d back (LoadsTraced hindrance) is (Value (traced_now c)) taken refl refl
     traced_by false test taken = first_by d.caller refl (other_of (traced_now c) (d.epoch + 1) test) taken
 
     pub loads_traced : StepsSo c p s k before

@@ -8,6 +8,7 @@ use Rattle.fault_duty.specs.declared.caller.Caller.TheVariants as callers
 use Rattle.fault_duty.specs.declared.duty_stage.DutyStage.{DutyStage}
 use Rattle.fault_duty.specs.declared.duty_stage.DutyStage.TheVariants.{LoadsGate, LoadsTraced, LoadsWanted, LoadsFrontFor, LoadsFront, LoadsPage, Claims, EndGate, EndArea, EndPage, EndFilling, EndAreaAgain, Traces, Ended}
 use Rattle.fault_duty.specs.declared.round_end.RoundEnd.{RoundEnd}
+use Rattle.fault_duty.specs.declared.round_end.RoundEnd.TheVariants as round_end
 use Rattle.fault_duty.specs.declared.round_end.RoundEnd.TheVariants.{NothingNow}
 use Rattle.fault_duty.specs.Duty as duty
 use Rattle.fault_duty.specs.Duty.{Round}
@@ -174,12 +175,23 @@ module _ (c : Configuration) (p : Plain) (s : Stands c p) (k : ℕ) (y : Held) (
         (ap (λ (r : Round). turned_round x r back (duty.told r)) taken ∙ comes)
         is.below law refl none (subst IsSoundRound (sym taken) (sound_at (Ended result) tt)) ended_fits
 
-    -- there is nothing to do now, and what the round has read is forgotten
-    pub ends : (reply : Reply) (word : ℕ) → duty.taken_at (round stage) stage reply ≡ round (Ended (NothingNow word)) → won_in stage reply ≡ None
+    -- the worker goes back with nothing, and what the round has read is forgotten
+    goes_back_with : (reply : Reply) (result : RoundEnd) → duty.taken_at (round stage) stage reply ≡ round (Ended result)
+        → turned_round x (round (Ended result)) back (Finished result) ≡ back_from done back → won_in stage reply ≡ None
         → epoch_at y.epoch (round stage) stage ≡ d.epoch → Goes c p s k None x reply
-    ends reply word taken none own = ends_with None reply (NothingNow word) s.ghost taken refl none
+    goes_back_with reply result taken comes none own = ends_with None reply result s.ghost taken comes none
         (subst (λ (w : Worker). Law c p s k x None w s.ghost) (ap ends_round is.as_known ∙ sym (ended_known own own_stock_same))
         (rounds_end (era c) (memory c) (team c) s.ghost k (prepared c p s k x is)))
+
+    -- there is nothing to do now
+    pub ends : (reply : Reply) (word : ℕ) → duty.taken_at (round stage) stage reply ≡ round (Ended (NothingNow word)) → won_in stage reply ≡ None
+        → epoch_at y.epoch (round stage) stage ≡ d.epoch → Goes c p s k None x reply
+    ends reply word taken none own = goes_back_with reply (NothingNow word) taken refl none own
+
+    -- the epoch is traced
+    pub finds_traced : (reply : Reply) → duty.taken_at (round stage) stage reply ≡ round (Ended round_end.Traced) → won_in stage reply ≡ None
+        → epoch_at y.epoch (round stage) stage ≡ d.epoch → Goes c p s k None x reply
+    finds_traced reply taken none own = goes_back_with reply round_end.Traced taken refl none own
 
     -- the pages of the round's heap are the heap's
     pub same_pages : d.layout.pages ≡ c.pages

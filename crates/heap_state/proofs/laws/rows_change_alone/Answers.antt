@@ -1,6 +1,6 @@
 use Rattle.heap_state.specs.Memory.Entries.{GateIs, TracedIs, AreaIs, SizeIs, PageIs, CrossIs, WordIs, AnnounceIs}
-use Rattle.heap_state.proofs.Table.Stores.{stores_entry}
-use Rattle.heap_state.proofs.Table.Writing.{writes_tables}
+use Rattle.heap_state.proofs.Table.Stores.{stores_beside, stores_entry}
+use Rattle.heap_state.proofs.Table.Writing.{writes_tables, writes_whole_tables}
 use Rattle.heap_state.proofs.laws.rows_change_alone.Goals as goal
 
 pub returns-clause-gate : goal.returns-clause-gate
@@ -27,8 +27,14 @@ returns-clause-heap_word c = λ n words addr word formed is. stores_entry n word
 pub returns-clause-announce : goal.returns-clause-announce
 returns-clause-announce c = λ n words worker word formed is. stores_entry n words (AnnounceIs worker word) formed is
 
+pub returns-clause-beside : goal.returns-clause-beside
+returns-clause-beside c = stores_beside
+
 pub returns-clause-entry : goal.returns-clause-entry
 returns-clause-entry c = stores_entry
 
 pub returns-clause-written : goal.returns-clause-written
 returns-clause-written c = writes_tables
+
+pub returns-clause-whole : goal.returns-clause-whole
+returns-clause-whole c = writes_whole_tables

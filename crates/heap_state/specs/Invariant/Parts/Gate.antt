@@ -3,16 +3,16 @@ use Rattle.std.specs.Prelude.{◌≡◌, ℕ, ◌+◌, ◌^◌, ◌<◌, ◌≤�
 use Rattle.space_map.specs.declared.spaces.TheConstants.{MOST_MUTATORS, MOST_SCANNERS}
 use Rattle.space_map.specs.declared.gate_word.GateWord.{GateWord}
 use Rattle.heap_state.specs.Functions.{sum_below, count_one}
-use Rattle.heap_state.specs.Worker.{Worker, is_mutator, is_live, is_running, is_flipper, is_gone, is_late}
+use Rattle.heap_state.specs.Worker.{Worker, is_mutator, is_live, is_running, is_asking, is_gone, is_late}
 
--- The gate counts the mutators that are live, run, are behind and are gone; request is set where one of them flips, and no
--- two do. While one is behind nobody runs, and no flip is requested.
+-- The gate counts the mutators that are live, run, are behind and are gone; request is set where one of them flips or begins a
+-- checkpoint, and no two do. While one is behind nobody runs, and nothing is requested.
 pub record Counted (gate : GateWord) (count : ℕ) (worker : ℕ → Worker) : Type 0 where
   pub live : gate.live ≡ sum_below count (λ k. count_one (is_live (worker k).post))
   pub running : gate.running ≡ sum_below count (λ k. count_one (is_running (worker k).post))
   pub behind : gate.behind ≡ sum_below count (λ k. count_one (is_late gate.epoch (worker k)))
   pub left : gate.left ≡ sum_below count (λ k. count_one (is_gone (worker k).post))
-  pub request : count_one gate.request ≡ sum_below count (λ k. count_one (is_flipper (worker k).post))
+  pub request : count_one gate.request ≡ sum_below count (λ k. count_one (is_asking (worker k).post))
   pub still : 0 < gate.behind → (gate.running ≡ 0) × (gate.request ≡ false)
   pub epoch_fits : gate.epoch < 2 ^ 32
 

@@ -8,17 +8,17 @@ use Rattle.space_map.specs.declared.gate_word.GateWord.{GateWord}
 use Rattle.space_map.specs.declared.spaces.TheConstants.{PAGE_WORDS}
 use Rattle.heap_state.specs.Memory.Era.{Era}
 use Rattle.heap_state.specs.Invariant.Ghost.{Leads, Lands}
-use Rattle.heap_state.specs.Worker.{Post, Outside, Stopped, Passage, Enter, Park, Request, Forwarded, Resume, Leave, Reset, Role, FieldRole, NumberRole, UnknownRole, Access, is_live, is_running, is_flipper, is_gone, is_behind}
+use Rattle.heap_state.specs.Worker.{Post, Outside, Stopped, Snapping, Passage, Enter, Park, Request, RequestSnap, Clear, Forwarded, Resume, Leave, Reset, Role, FieldRole, NumberRole, UnknownRole, Access, is_live, is_running, is_asking, is_gone, is_behind}
 
 -- ---- epochs and the gate
 
--- No worker is of a later epoch; one that is live is of this epoch or the one before, one that runs or flips of this one.
--- Only who is late has forwarded registers.
+-- No worker is of a later epoch; one that is live is of this epoch or the one before, and one that runs, or whose the request is,
+-- of this one. Only who is late has forwarded registers.
 pub record Timely (E : Era) (post : Post) (epoch done : ℕ) : Type 0 where
   pub past : epoch ≤ E.epoch
   pub live : is_live post ≡ true → (epoch ≡ E.epoch) ⊎ (epoch + 1 ≡ E.epoch)
   pub running : is_running post ≡ true → epoch ≡ E.epoch
-  pub flipping : is_flipper post ≡ true → epoch ≡ E.epoch
+  pub asking : is_asking post ≡ true → epoch ≡ E.epoch
   pub rest : is_behind E.epoch post epoch ≡ false → done ≡ 0
   pub below : done ≤ 8
 
@@ -32,6 +32,8 @@ abbrev pub Passes : (post : Post) (epoch done : ℕ) (ended traced_seen : Bool) 
 Passes post epoch done ended traced_seen read Enter = (post ≡ Outside) × (read.request ≡ false) × (read.behind ≡ 0)
 Passes post epoch done ended traced_seen read Park = (is_running post ≡ true) × (ended ≡ false) × (read.request ≡ true)
 Passes post epoch done ended traced_seen read (Request asked) = (is_running post ≡ true) × (ended ≡ false) × (read.request ≡ false) × (traced_seen ≡ true)
+Passes post epoch done ended traced_seen read RequestSnap = (is_running post ≡ true) × (ended ≡ false) × (read.request ≡ false) × (traced_seen ≡ true)
+Passes post epoch done ended traced_seen read Clear = post ≡ Snapping
 Passes post epoch done ended traced_seen read Forwarded = (post ≡ Stopped) × (read.epoch ≡ epoch + 1) × (done ≡ 8)
 Passes post epoch done ended traced_seen read Resume = (post ≡ Stopped) × (read.epoch ≡ epoch) × (read.request ≡ false) × (read.behind ≡ 0)
 Passes post epoch done ended traced_seen read Leave = (is_running post ≡ true) × (ended ≡ true)

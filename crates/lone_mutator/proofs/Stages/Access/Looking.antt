@@ -4,7 +4,7 @@ use Rattle.std.proofs.lemmas.Bool.{eqb-true, eq-eqb}
 use Rattle.plain_state.specs.State.{Plain}
 use Rattle.plain_state.specs.declared.value.Value.TheVariants.{Reference}
 use Rattle.plain_heap.specs.declared.action.Action.{Action}
-use Rattle.plain_heap.specs.declared.action.Action.TheVariants.{Sets, Jumps, Links, Prints, Makes, Measures, Loads, Stores, Exchanges, Gets, Puts, Swaps}
+use Rattle.plain_heap.specs.declared.action.Action.TheVariants.{Sets, Jumps, Links, Prints, Makes, Measures, Loads, Stores, Exchanges, Gets, Puts, Swaps, Snaps}
 use Rattle.atom_store.specs.declared.step.Step.TheVariants.{Load}
 use Rattle.atom_store.specs.declared.reply.Reply.TheVariants.{Value}
 use Rattle.space_map.specs.declared.page_word.PageWord.{PageWord}
@@ -127,6 +127,7 @@ module _ (c : Configuration) (p : Plain) (s : Stands c p) (y : Held) where
     named_by (Jumps target) executes e = absurd (cc)
     named_by (Links d target) executes e = absurd (cc)
     named_by (Prints n) executes e = absurd (cc)
+    named_by Snaps executes e = absurd (cc)
     named_by (Makes kind d n) executes e = absurd (cc)
     named_by (Gets d v) executes e = absurd (cc)
     named_by (Puts v w) executes e = absurd (cc)

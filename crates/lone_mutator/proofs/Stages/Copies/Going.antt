@@ -25,7 +25,7 @@ use Rattle.forwarding.specs.Evacuation.{Evacuation, area_past, front_of, size_of
 use Rattle.forwarding.specs.Soundness.{IsSound}
 use Rattle.forwarding.specs.Taken.{by_area, by_first_word, copied, crossed, taken}
 use Rattle.heap_state.specs.Configuration.{Configuration, Stands, table}
-use Rattle.heap_state.specs.Memory.Entries.{Entry, EntryFits, AreaIs, CrossIs, WordIs, AnnounceIs, with_entry, row_of, word_of}
+use Rattle.heap_state.specs.Memory.Entries.{WholeRow, whole_place_of, word_in_whole, Entry, EntryFits, AreaIs, CrossIs, WordIs, AnnounceIs, with_entry, row_of, word_of}
 use Rattle.heap_state.specs.Memory.Table.{Table, table_of, word_in}
 use Rattle.heap_state.proofs.Puts.{put_at, put_other}
 use Rattle.gc_worker.proofs.Words.Areas.{area_says, area_word, is_space}
@@ -110,20 +110,23 @@ module _ (c : Configuration) (p : Plain) (s : Stands c p) (u : Evacuation) where
   row_place : (z : EvacStage) → CopyIsAlone c (at z) → (row : Row) → place_of u.layout.pages row ≡ place_of c.pages row
   row_place z a row = ap (λ m. place_of m row) a.pages
 
+  any_place : (z : EvacStage) → CopyIsAlone c (at z) → (row : WholeRow) → whole_place_of u.layout.pages row ≡ whole_place_of c.pages row
+  any_place z a row = ap (λ m. whole_place_of m row) a.pages
+
   loads_it : (z : EvacStage) → CopyIsAlone c (at z) → (row : Row) → IsRow c.pages row → wanted (at z) ≡ Some (Load (place_of u.layout.pages row))
       → Goes z t (Value (word_in c.pages c.words row)) → (r : Step) → wanted (at z) ≡ Some r → HoldsBy c p s (Goes z) r
   loads_it z a row is next goes = steps z a (Load (place_of c.pages row)) (next ∙ ap (λ m. Some (Load m)) (row_place z a row)) (loads c p s (Goes z) row is goes)
 
-  stores_it : (z : EvacStage) → CopyIsAlone c (at z) → (e : Entry) → EntryFits c.pages e → wanted (at z) ≡ Some (Store (place_of u.layout.pages (row_of e)) (word_of e))
+  stores_it : (z : EvacStage) → CopyIsAlone c (at z) → (e : Entry) → EntryFits c.pages e → wanted (at z) ≡ Some (Store (whole_place_of u.layout.pages (row_of e)) (word_of e))
       → Goes z (with_entry e t) Done → (r : Step) → wanted (at z) ≡ Some r → HoldsBy c p s (Goes z) r
   stores_it z a e fits next goes =
-      steps z a (Store (place_of c.pages (row_of e)) (word_of e)) (next ∙ ap (λ m. Some (Store m (word_of e))) (row_place z a (row_of e))) (stores c p s (Goes z) e fits goes)
+      steps z a (Store (whole_place_of c.pages (row_of e)) (word_of e)) (next ∙ ap (λ m. Some (Store m (word_of e))) (any_place z a (row_of e))) (stores c p s (Goes z) e fits goes)
 
-  exchanges_it : (z : EvacStage) → CopyIsAlone c (at z) → (e : Entry) (old : ℕ) → EntryFits c.pages e → word_in c.pages c.words (row_of e) ≡ old
-      → wanted (at z) ≡ Some (Exchange (place_of u.layout.pages (row_of e)) old (word_of e)) → Goes z (with_entry e t) Won
+  exchanges_it : (z : EvacStage) → CopyIsAlone c (at z) → (e : Entry) (old : ℕ) → EntryFits c.pages e → word_in_whole c.pages c.words (row_of e) ≡ old
+      → wanted (at z) ≡ Some (Exchange (whole_place_of u.layout.pages (row_of e)) old (word_of e)) → Goes z (with_entry e t) Won
       → (r : Step) → wanted (at z) ≡ Some r → HoldsBy c p s (Goes z) r
   exchanges_it z a e old fits same next goes =
-      steps z a (Exchange (place_of c.pages (row_of e)) old (word_of e)) (next ∙ ap (λ m. Some (Exchange m old (word_of e))) (row_place z a (row_of e)))
+      steps z a (Exchange (whole_place_of c.pages (row_of e)) old (word_of e)) (next ∙ ap (λ m. Some (Exchange m old (word_of e))) (any_place z a (row_of e)))
       (exchanges c p s (Goes z) e old fits same goes)
 
   abbrev Owes : EvacStage → Type 0

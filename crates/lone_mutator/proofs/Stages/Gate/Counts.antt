@@ -7,7 +7,7 @@ use Rattle.gate_core.specs.Gate.{is_clear}
 use Rattle.heap_state.specs.Configuration.{Configuration, Stands, table, era, memory, team}
 use Rattle.heap_state.specs.Functions.{sum_below, count_one}
 use Rattle.heap_state.specs.Invariant.Inductive as inductive
-use Rattle.heap_state.specs.Worker.{Worker, is_live, is_running, is_flipper, is_late}
+use Rattle.heap_state.specs.Worker.{Worker, is_live, is_running, is_asking, is_late}
 use Rattle.gc_worker.specs.Workers.Held.{Held}
 use Rattle.gc_worker.specs.Workers.Knows.{knows}
 use Rattle.lone_mutator.specs.Law.{IsAlone}
@@ -45,11 +45,11 @@ module _ (c : Configuration) (p : Plain) (s : Stands c p) (x : Held) (a : IsAlon
   pub behind_is : g.behind ≡ count_one (is_late g.epoch (knows x))
   behind_is = s.invariant.counted.behind ∙ counts (λ w. is_late g.epoch w)
 
-  request_is : count_one g.request ≡ count_one (is_flipper (knows x).post)
-  request_is = s.invariant.counted.request ∙ counts (λ w. is_flipper w.post)
+  request_is : count_one g.request ≡ count_one (is_asking (knows x).post)
+  request_is = s.invariant.counted.request ∙ counts (λ w. is_asking w.post)
 
-  -- who doesn't flip has requested nothing
-  pub no_request : is_flipper (knows x).post ≡ false → g.request ≡ false
+  -- who asks for nothing has requested nothing
+  pub no_request : is_asking (knows x).post ≡ false → g.request ≡ false
   no_request none = uncounted g.request (request_is ∙ ap count_one none)
 
   -- who is of the gate's epoch isn't behind

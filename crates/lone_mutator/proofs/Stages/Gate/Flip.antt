@@ -53,7 +53,7 @@ module _ (c : Configuration) (p : Plain) (s : Stands c p) (y : Held) (asked : â„
   module _ (stage : FlipStage) (a : IsAlone c (at stage)) where
     -- a flipper is of the gate's epoch
     present : y.epoch â‰¡ g.epoch
-    present = (knowing c p s (at stage) a).timely.flipping refl
+    present = (knowing c p s (at stage) a).timely.asking refl
 
   -- ---- what it reads and stores
 

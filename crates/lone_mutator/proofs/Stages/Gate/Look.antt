@@ -6,7 +6,7 @@ use Rattle.plain_state.specs.declared.kind.Kind.{Kind}
 use Rattle.plain_state.specs.State.{Plain}
 use Rattle.mutator_asm.specs.declared.instr.Instr.{Instr}
 use Rattle.plain_heap.specs.declared.action.Action.{Action}
-use Rattle.plain_heap.specs.declared.action.Action.TheVariants.{Sets, Jumps, Links, Prints, Makes, Measures, Loads, Stores, Exchanges, Gets, Puts, Swaps}
+use Rattle.plain_heap.specs.declared.action.Action.TheVariants.{Sets, Jumps, Links, Prints, Makes, Measures, Loads, Stores, Exchanges, Gets, Puts, Swaps, Snaps}
 use Rattle.plain_heap.specs.Action.{action}
 use Rattle.atom_store.specs.declared.step.Step.TheVariants.{Load}
 use Rattle.space_map.specs.declared.gate_word.GateWord.{GateWord}
@@ -68,6 +68,7 @@ module _ (c : Configuration) (p : Plain) (s : Stands c p) (y : Held) where
       act_by (Jumps target) is = a.remembers.quiet
       act_by (Links d target) is = a.remembers.quiet
       act_by (Prints n) is = a.remembers.quiet
+      act_by Snaps is = a.remembers.quiet
       act_by (Makes kind d n) is = makes kind d n is
       act_by (Measures d i) is = record { remembers = record { began = λ past. omega arith; quiet = a.remembers.quiet; stands = tt }; falls = omega arith }
       act_by (Loads d i n) is = record { remembers = record { began = λ past. omega arith; quiet = a.remembers.quiet; stands = tt }; falls = omega arith }

@@ -14,7 +14,7 @@ use Rattle.space_map.proofs.GateWords.{decode_gate-encode_gate}
 use Rattle.gate_core.specs.declared.gate_stage.GateStage.{GateStage}
 use Rattle.gate_core.specs.declared.gate_stage.GateStage.TheVariants.{Loads, Exchanges, Ended}
 use Rattle.gate_core.specs.declared.passage.Passage.{Passage}
-use Rattle.gate_core.specs.declared.passage.Passage.TheVariants.{Look, Attach, Park, Request, Resume, Forwarded, Leave}
+use Rattle.gate_core.specs.declared.passage.Passage.TheVariants.{Look, Attach, Park, Request, Resume, Forwarded, Leave, Clear}
 use Rattle.gate_core.specs.declared.passed.Passed.TheVariants.{NotYet}
 use Rattle.gate_core.specs.Gate.{allows, allowed, gate_after, is_clear, looked, told_at}
 use Rattle.heap_state.specs.Configuration.{Configuration, Stands, table}
@@ -211,6 +211,7 @@ module _ (c : Configuration) (p : Plain) (s : Stands c p) (y : Held) (l : Layout
   loads_gate Look a = absurd a.remembers.stands.0
   loads_gate Park a = absurd a.remembers.stands.0
   loads_gate Leave a = absurd a.remembers.stands.0
+  loads_gate Clear a = absurd a.remembers.stands.0
 
   pub exchanges_gate : (passage : Passage) (gate : GateWord) → IsAlone c (at passage (Exchanges gate)) → StepsLower c (at passage (Exchanges gate))
   exchanges_gate Attach gate a = own Attach attach_won gate a
@@ -220,3 +221,4 @@ module _ (c : Configuration) (p : Plain) (s : Stands c p) (y : Held) (l : Layout
   exchanges_gate Look gate a = absurd a.remembers.stands.0
   exchanges_gate Park gate a = absurd a.remembers.stands.0
   exchanges_gate Leave gate a = absurd a.remembers.stands.0
+  exchanges_gate Clear gate a = absurd a.remembers.stands.0

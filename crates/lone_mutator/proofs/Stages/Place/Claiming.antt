@@ -63,7 +63,7 @@ neither false b e = refl
 
 module _ (c : Configuration) (p : Plain) (s : Stands c p) (y : Held) (run : Run) (header : Header) where
   abbrev pub placing : PlaceStage → Placing
-  placing stage = record { layout = y.layout; run = run; header = header; fields = fields_for y; epoch = y.epoch; stage = stage }
+  placing stage = record { layout = y.layout; run = run; header = header; fields = fields_for y; epoch = y.epoch; snap = 0; stage = stage }
 
   abbrev pub at : PlaceStage → Held
   at stage = at_stage y (Places (placing stage))

@@ -1,4 +1,4 @@
-use Rattle.std.proofs.Common.{◌≡◌, ◌≤◌, ℕ, true, not, List, [], length, Result, Ok, Err, refl, sym, subst, ap, ◌∙◌, arith}
+use Rattle.std.proofs.Common.{◌≡◌, ◌≤◌, ℕ, true, false, not, List, [], length, Result, Ok, Err, refl, sym, subst, ap, ◌∙◌, arith}
 use Rattle.std.specs.Prelude.{◌↔◌, IsErrAnd, IsErrOf, IsTrue}
 use Rattle.std.proofs.lemmas.Bool.{le-leb}
 use Rattle.std.proofs.lemmas.List.{length-replicate}
@@ -9,7 +9,7 @@ use Rattle.space_map.specs.Table.{table_length}
 use Rattle.gc_worker.specs.declared.open_error.OpenError.{OpenError}
 use Rattle.gc_worker.specs.declared.open_error.OpenError.TheVariants.{BadPages, NoMemory}
 use Rattle.space_map.specs.declared.spaces.TheConstants.{FEWEST_PAGES}
-use Rattle.space_map.specs.Spaces.{IsPageCount}
+use Rattle.space_map.specs.Spaces.{Layout, IsPageCount, without_checkpoints}
 use Rattle.gc_worker.specs.Config.{has_sizes}
 use Rattle.atomic_table.specs.Table as table
 use Rattle.gc_worker.specs.declared.config.Config.{Config}
@@ -41,9 +41,13 @@ module _ (config : Config) (n : ℕ) (size : IsPageCount n) (is : n ≡ config.l
   is_open : {T : Type 0} (x : T) → IsErrOf (Ok x) BadPages ↔ IsTrue (not (has_sizes config))
   is_open x = (λ is. cc, λ refused. absurd (allowed refused))
 
--- the plan, with this number of pages
-abbrev opens : (mutators : ℕ) → Config → (pages : ℕ) → Plan
-opens mutators config pages = record { spaces = record { pages = pages }; least = config.pages; mutators = mutators; scanners = config.scanners }
+-- the plan, with this layout
+abbrev opens : (mutators : ℕ) → Config → Layout → Plan
+opens mutators config layout = record { spaces = layout; least = config.pages; mutators = mutators; scanners = config.scanners }
+
+-- a layout is known by its parts
+laid_out : (layout : Layout) (n : ℕ) → layout.pages ≡ n → layout.checkpoints ≡ false → layout ≡ without_checkpoints n
+laid_out layout n pages without = λ i. record { pages = pages i; checkpoints = without i }
 
 pub of_words-requires : goal.of_words-requires
 of_words-requires c =
@@ -62,17 +66,17 @@ pub deal-requires-clause-seat : goal.deal-requires-clause-seat
 deal-requires-clause-seat c = c.in_ok-table.ensures.4
 
 pub returns-clause-key : goal.returns-clause-key
-returns-clause-key c = c.in_ok-table.ensures.5 ∙ ap (opens c.args.mutators c.args.config.now) c.in_ok-spaces.ensures.pages
+returns-clause-key c = c.in_ok-table.ensures.5 ∙ ap (opens c.args.mutators c.args.config.now) (laid_out c.in_ok-spaces.spaces c.args.config.now.limit c.in_ok-spaces.ensures.pages c.in_ok-spaces.ensures.without)
 
 pub returns-clause-mutators : goal.returns-clause-mutators
 returns-clause-mutators c =
     let t = c.in_ok-table.table.shared.table_id in
-    c.in_ok-seats.ensures.mutators ∙ ap (λ (n : ℕ). new_callers t (opens c.args.mutators c.args.config.now n) 0 c.args.mutators) c.in_ok-spaces.ensures.pages
+    c.in_ok-seats.ensures.mutators ∙ ap (λ (l : Layout). new_callers t (opens c.args.mutators c.args.config.now l) 0 c.args.mutators) (laid_out c.in_ok-spaces.spaces c.args.config.now.limit c.in_ok-spaces.ensures.pages c.in_ok-spaces.ensures.without)
 
 pub returns-clause-scanners : goal.returns-clause-scanners
 returns-clause-scanners c =
     let t = c.in_ok-table.table.shared.table_id in
-    c.in_ok-seats.ensures.scanners ∙ ap (λ (n : ℕ). new_scanners t (opens c.args.mutators c.args.config.now n) c.args.mutators c.args.config.now.scanners) c.in_ok-spaces.ensures.pages
+    c.in_ok-seats.ensures.scanners ∙ ap (λ (l : Layout). new_scanners t (opens c.args.mutators c.args.config.now l) c.args.mutators c.args.config.now.scanners) (laid_out c.in_ok-spaces.spaces c.args.config.now.limit c.in_ok-spaces.ensures.pages c.in_ok-spaces.ensures.without)
 
 pub returns-in_err-words-clause-bad_pages : goal.returns-in_err-words-clause-bad_pages
 returns-in_err-words-clause-bad_pages c = no_memory c.args.config.now _ c.known.ensures c.in_ok-spaces.ensures.pages c.in_ok-spaces.ensures.at_first _ c.from_residual-in_err-words.ensures.1

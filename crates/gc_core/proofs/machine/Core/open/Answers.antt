@@ -1,4 +1,5 @@
 use Rattle.std.proofs.Common.{◌≡◌, ◌+◌, length, refl, ap, ◌∙◌, arith}
+use Rattle.space_map.specs.Spaces.{without_checkpoints}
 use Rattle.gc_worker.proofs.Between.Opening.{many}
 use Rattle.gc_core.proofs.Events.Opening.{sizes_fit}
 use Rattle.gc_core.proofs.Events.Lawful.{lawful_opening}
@@ -7,7 +8,7 @@ use Rattle.gc_core.proofs.machine.Core.open.Goals as goal
 all_there : (c : goal.In_ok-slots) → length c.in_ok-slots.slots.items ≡ length c.args.program.now.code + c.args.config.now.scanners
 all_there c =
     ap length c.in_ok-slots.ensures
-    ∙ many c.in_ok-spaces.spaces.pages c.len-mutators.result 0 (c.len-mutators.result + c.args.config.now.scanners)
+    ∙ many c.in_ok-spaces.spaces c.len-mutators.result 0 (c.len-mutators.result + c.args.config.now.scanners)
     ∙ ap (λ n. n + c.args.config.now.scanners) c.len-mutators.ensures
 
 pub words-requires : goal.words-requires
@@ -22,6 +23,8 @@ returns-clause-workers c = all_there c
 pub invariant_of-result : goal.invariant_of-result
 invariant_of-result c =
     let same = c.in_ok-spaces.ensures.pages in
+    let without = c.in_ok-spaces.ensures.without in
+    let layout : c.in_ok-spaces.spaces ≡ without_checkpoints c.args.config.now.limit = λ i. record { pages = same i; checkpoints = without i } in
     let words = c.in_ok-atoms.ensures in
     let slots = c.in_ok-slots.ensures in
     let len = c.len-mutators.ensures in
@@ -32,5 +35,5 @@ invariant_of-result c =
     let lawful = lawful_opening c.args.program.now.code c.args.program.now.schedule c.args.config.now program (c.in_ok-spaces.ensures.refused_exactly_outside.0 refl) c.requires.turns.1 c.requires.scanners in (
       omega (arith, vec, all, few, c.requires.scanners),
       omega (arith, vec, all),
-      rw (words, slots, len, same) lawful,
+      rw (words, slots, len, layout) lawful,
     )

@@ -91,6 +91,10 @@ pub returns-in-out : goal.returns-in-out
 unfolding instr_of
 returns-in-out c = rw (three_letters c.args.name.now 111 117 116 (search arith)) (made_of _ _ c.one_register-in-out.ensures (λ o x p. search rules))
 
+pub returns-in-snap : goal.returns-in-snap
+unfolding instr_of
+returns-in-snap c = rw (four_letters c.args.name.now 115 110 97 112 (search arith)) c.nothing.ensures
+
 pub returns-in-halt : goal.returns-in-halt
 unfolding instr_of
-returns-in-halt c = rw (four_letters c.args.name.now 104 97 108 116 (search arith)) c.nothing.ensures
+returns-in-halt c = rw (four_letters c.args.name.now 104 97 108 116 (search arith)) c.nothing-in-halt.ensures

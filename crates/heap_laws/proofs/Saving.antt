@@ -1,0 +1,15 @@
+pub mod Tables
+pub mod Rows
+pub mod Workers
+pub mod Frozen
+pub mod Stores
+pub mod Requests
+pub mod Pictures
+pub mod Snapping
+pub mod Snappers
+pub mod Rounds
+pub mod Forgotten
+pub mod Ends
+pub mod Sparing
+pub mod Passing
+pub mod Pages

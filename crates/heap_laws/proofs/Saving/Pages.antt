@@ -1,0 +1,4 @@
+pub mod Marks
+pub mod Images
+pub mod Stages
+pub mod Writes

@@ -1,0 +1,5 @@
+pub mod Words
+pub mod Standing
+pub mod Picture
+pub mod Out
+pub mod Broken

@@ -1,0 +1,5 @@
+use Rattle.heap_state.proofs.Requested.Standing.{worked_out_requested}
+use Rattle.heap_state.proofs.laws.requested_configuration_stands.Goals as goal
+
+pub returns : goal.returns
+returns c = worked_out_requested

@@ -1,0 +1,6 @@
+pub mod Words
+pub mod Frozen
+pub mod Savers
+pub mod Parts
+pub mod Kept
+pub mod Written

@@ -1,0 +1,272 @@
+-- What a save round has found of pages by the time that it marks the checkpoint.
+use Rattle.std.specs.Prelude.{⊤}
+use Rattle.std.proofs.Common.{◌≡◌, ◌≢◌, ℕ, zero, suc, ◌+◌, ◌<◌, ◌≤◌, ◌⊎◌, inl, inr, Bool, true, false, cond, nat_eq, nat_lt, List, Option, Some, None, arith, refl, sym, ◌∙◌, subst}
+use Rattle.std.proofs.lemmas.Bool.Decides.{nat_tests}
+use Rattle.atom_store.specs.declared.reply.Reply.TheVariants.{Won, Lost}
+use Rattle.atom_store.specs.declared.step.Step.{Step}
+use Rattle.atom_store.specs.declared.turn.Turn.{Turn}
+use Rattle.atom_store.specs.declared.turn.Turn.TheVariants.{More, Finished}
+use Rattle.atom_store.specs.Runs.{among, after_step}
+use Rattle.space_map.specs.declared.gate_word.GateWord.{GateWord}
+use Rattle.space_map.specs.declared.page_word.PageWord.TheVariants.{Open}
+use Rattle.space_map.specs.declared.save_word.SaveWord.{SaveWord}
+use Rattle.space_map.specs.PageWord.{encode_page}
+use Rattle.space_map.specs.SaveWord.{decode_save}
+use Rattle.space_map.specs.Spaces.{board_page}
+use Rattle.space_map.specs.Table.{Gate, Page, SaveOf}
+use Rattle.page_saves.specs.declared.save_caller.SaveCaller.{SaveCaller}
+use Rattle.page_saves.specs.declared.save_caller.SaveCaller.TheVariants.{Mutates, Scans}
+use Rattle.page_saves.specs.declared.save_end.SaveEnd.{SaveEnd}
+use Rattle.page_saves.specs.declared.save_round_end.SaveRoundEnd.TheVariants.{NoneRuns, NothingNow}
+use Rattle.page_saves.specs.declared.save_round_stage.SaveRoundStage.{SaveRoundStage}
+use Rattle.page_saves.specs.declared.save_round_stage.SaveRoundStage.TheVariants.{LoadsGate, LoadsSnap, LoadsDone, LoadsGateAgain, LoadsPage, LoadsSave, Saves, ExchangesDone, Ended}
+use Rattle.page_saves.specs.declared.save_state.SaveState.{SaveState}
+use Rattle.page_saves.specs.declared.save_state.SaveState.TheVariants.{Waits, Copying, Kept, Past}
+use Rattle.page_saves.specs.RoundTheorems.{HasLoaded, loaded, FoundKept, WasNotOpen, WasSaved, IsBegun, ByMutator, ByScanner, RoundsMarkWhatIsKept, round_after, word_of_row}
+use Rattle.page_saves.specs.Save.{PageSaving}
+use Rattle.page_saves.specs.Save as save
+use Rattle.page_saves.specs.SaveRound
+use Rattle.page_saves.specs.SaveRound.{SavingRound, wanted, at_stage, save_round_machine}
+use Rattle.page_saves.specs.SaveState.{state_of}
+use Rattle.page_saves.specs.SoundRound.{IsRoundPage}
+use Rattle.space_map.specs.WholeTable.{Within, Behind}
+use Rattle.page_saves.proofs.Guarding.{kept_is}
+use Rattle.page_saves.proofs.Pages.{IsOrNot, Board, Other, board_or_not}
+use Rattle.page_saves.proofs.Reading.{now, later, then_at}
+
+-- ---- the pages that are passed
+
+-- the page comes before this one in the order of the round
+abbrev IsBefore : SavingRound → (page other : ℕ) → Type 0
+IsBefore r page other = (page ≢ board_page r.layout.pages) × ((other ≡ board_page r.layout.pages) ⊎ ((SaveRound.to_page r ≤ other) × (other < page)))
+
+-- the page is one of the round's
+abbrev IsInRound : SavingRound → (page : ℕ) → Type 0
+IsInRound r page = (page ≡ board_page r.layout.pages) ⊎ ((SaveRound.to_page r ≤ page) × (page < SaveRound.to_page r + r.layout.pages))
+
+-- K is so of each page that is passed, if none of them was being saved
+abbrev HasFound : (K : ℕ → Type 0) → SavingRound → SaveRoundStage → Type 0
+HasFound K r (LoadsPage page false) = (other : ℕ) → IsBefore r page other → K other
+HasFound K r (LoadsSave page false) = (other : ℕ) → IsBefore r page other → K other
+HasFound K r ExchangesDone = (other : ℕ) → IsInRound r other → K other
+HasFound K r stage = ⊤
+
+more_found : (K L : ℕ → Type 0) → ((page : ℕ) → K page → L page) → (r : SavingRound) (stage : SaveRoundStage) → HasFound K r stage → HasFound L r stage
+more_found K L then r (LoadsPage page false) has = λ other before. then other (has other before)
+more_found K L then r (LoadsPage page true) has = tt
+more_found K L then r (LoadsSave page false) has = λ other before. then other (has other before)
+more_found K L then r (LoadsSave page true) has = tt
+more_found K L then r ExchangesDone has = λ other in_round. then other (has other in_round)
+more_found K L then r LoadsGate has = tt
+more_found K L then r LoadsSnap has = tt
+more_found K L then r LoadsDone has = tt
+more_found K L then r LoadsGateAgain has = tt
+more_found K L then r (Saves s) has = tt
+more_found K L then r (Ended result) has = tt
+
+-- the board comes first
+first_found : (K : ℕ → Type 0) (r : SavingRound) → HasFound K r (SaveRound.first_page r)
+first_found K r = λ other before. absurd (before.0 refl)
+
+module _ (K : ℕ → Type 0) (r : SavingRound) (page : ℕ) (is : K page) (has : (other : ℕ) → IsBefore r page other → K other) where
+  -- so the page before the next one is this, or one before it
+  next_found : IsOrNot r page → (other : ℕ) → IsBefore r (SaveRound.page_after r page) other → K other
+  next_found (Board at next left) other (apart, inl board) = subst K (at ∙ sym board) is
+  next_found (Board at next left) other (apart, inr between) = absurd (let low = between.0 in let high = between.1 in omega (arith, low, high, next))
+  next_found (Other apart next left) other (apart_next, inl board) = has other (apart, inl board)
+  next_found (Other apart next left) other (apart_next, inr between) = by_test (nat_eq other page) refl
+    where
+      by_test : (b : Bool) → nat_eq other page ≡ b → K other
+      by_test true test = let same : page ≡ other = grind (arith, nat_tests) in subst K same is
+      by_test false test =
+          let differ : other ≢ page = grind (arith, nat_tests) in
+          let high = between.1 in
+          has other (apart, inr (between.0, omega (arith, high, next, differ)))
+
+  -- and behind the last page all are passed
+  all_found : IsOrNot r page → SaveRound.to_page r + r.layout.pages ≤ SaveRound.page_after r page → (other : ℕ) → IsInRound r other → K other
+  all_found (Board at next left) last other (inl board) = subst K (at ∙ sym board) is
+  all_found (Board at next left) last other (inr between) = absurd (let low = between.0 in let high = between.1 in omega (arith, low, high, next, last))
+  all_found (Other apart next left) last other (inl board) = has other (apart, inl board)
+  all_found (Other apart next left) last other (inr between) = by_test (nat_eq other page) refl
+    where
+      by_test : (b : Bool) → nat_eq other page ≡ b → K other
+      by_test true test = let same : page ≡ other = grind (arith, nat_tests) in subst K same is
+      by_test false test =
+          let differ : other ≢ page = grind (arith, nat_tests) in
+          let high = between.1 in
+          has other (apart, inr (between.0, omega (arith, high, next, last, differ)))
+
+  passed_found : (word : ℕ) → HasFound K r (SaveRound.passed_page r page false word)
+  passed_found word = by_test (nat_lt (SaveRound.page_after r page) (SaveRound.to_page r + r.layout.pages)) refl
+    where
+      by_test : (b : Bool) → nat_lt (SaveRound.page_after r page) (SaveRound.to_page r + r.layout.pages) ≡ b
+          → HasFound K r (cond b (LoadsPage (SaveRound.page_after r page) false) ExchangesDone)
+      by_test true test = next_found (board_or_not r page)
+      by_test false test = all_found (board_or_not r page) (grind (arith, nat_tests))
+
+-- where one is being saved, nothing is claimed
+busy_found : (K : ℕ → Type 0) (r : SavingRound) (page word : ℕ) → HasFound K r (SaveRound.passed_page r page true word)
+busy_found K r page word = by_test (nat_lt (SaveRound.page_after r page) (SaveRound.to_page r + r.layout.pages))
+  where
+    by_test : (b : Bool) → HasFound K r (cond b (LoadsPage (SaveRound.page_after r page) true) (Ended (NothingNow word)))
+    by_test true = tt
+    by_test false = tt
+
+passed_by : (K : ℕ → Type 0) (r : SavingRound) (page : ℕ) (busy : Bool) (word : ℕ) → K page → HasFound K r (LoadsPage page busy)
+    → HasFound K r (SaveRound.passed_page r page busy word)
+passed_by K r page true word is has = busy_found K r page word
+passed_by K r page false word is has = passed_found K r page is has word
+
+-- a look at SAVE keeps what a look at the page had
+as_page : (K : ℕ → Type 0) (r : SavingRound) (page : ℕ) (busy : Bool) → HasFound K r (LoadsSave page busy) → HasFound K r (LoadsPage page busy)
+as_page K r page true has = tt
+as_page K r page false has = has
+
+as_save : (K : ℕ → Type 0) (r : SavingRound) (page : ℕ) (busy : Bool) → HasFound K r (LoadsPage page busy) → HasFound K r (LoadsSave page busy)
+as_save K r page true has = tt
+as_save K r page false has = has
+
+-- ---- what was found of a page
+
+module _ (begun : SavingRound) (met : ℕ → List ℕ) where
+  -- the page was not open, or its state was that of a saved or new one
+  data Found (n pages epoch number page : ℕ) : Type 0 where
+    NotOpen : (load : HasLoaded begun met n pages (Within (Page page))) → loaded load ≢ encode_page (Open epoch) → Found n pages epoch number page
+    IsSaved : (load : HasLoaded begun met n pages (Behind (SaveOf page))) (says : SaveWord) → decode_save (loaded load) ≡ Some says → state_of says number ≡ Kept
+        → Found n pages epoch number page
+
+  later_found : (n pages epoch number page : ℕ) → Found n pages epoch number page → Found (suc n) pages epoch number page
+  later_found n pages epoch number page (NotOpen load other) = NotOpen (later begun met n pages (Within (Page page)) load) other
+  later_found n pages epoch number page (IsSaved load says reads is) = IsSaved (later begun met n pages (Behind (SaveOf page)) load) says reads is
+
+  abbrev FoundAt : ℕ → SavingRound → SaveRoundStage → Type 0
+  FoundAt n r stage = HasFound (Found n r.layout.pages r.epoch r.number) r stage
+
+  abbrev FoundBy : ℕ → SavingRound → Type 0
+  FoundBy n r = FoundAt n r r.stage
+
+  found_later : (n : ℕ) (r : SavingRound) (stage : SaveRoundStage) → FoundAt n r stage → FoundAt (suc n) r stage
+  found_later n r stage has =
+      more_found (Found n r.layout.pages r.epoch r.number) (Found (suc n) r.layout.pages r.epoch r.number)
+      (later_found n r.layout.pages r.epoch r.number) r stage has
+
+  -- ---- the first loads
+
+  at_gate : (n : ℕ) (r : SavingRound) (word : ℕ) (o : Option GateWord) → FoundBy n (SaveRound.looked_at_gate (at_stage r LoadsGate) word o)
+  at_gate n r word (Some gate) = by_test (SaveRound.all_left r.caller gate)
+    where
+      by_test : (b : Bool) → FoundBy n (cond b (at_stage r (Ended (NothingNow word))) (record r { epoch = gate.epoch; stage = LoadsSnap }))
+      by_test true = tt
+      by_test false = tt
+  at_gate n r word None = tt
+
+  at_snap : (n : ℕ) (r : SavingRound) (o : Option ℕ) → FoundBy n (SaveRound.found_snap (at_stage r LoadsSnap) o)
+  at_snap n r (Some number) = tt
+  at_snap n r None = tt
+
+  when_runs : (n : ℕ) (r : SavingRound) (caller : SaveCaller) → FoundAt n r (SaveRound.when_one_runs r caller)
+  when_runs n r Mutates = first_found (Found n r.layout.pages r.epoch r.number) r
+  when_runs n r (Scans mutators) = tt
+
+  at_done : (n : ℕ) (r : SavingRound) (o : Option ℕ) → FoundAt n r (SaveRound.found_done r o)
+  at_done n r (Some done) = by_test (nat_eq done r.number)
+    where
+      by_test : (b : Bool) → FoundAt n r (cond b (Ended (NoneRuns done)) (SaveRound.when_one_runs r r.caller))
+      by_test true = tt
+      by_test false = when_runs n r r.caller
+  at_done n r None = tt
+
+  at_gate_again : (n : ℕ) (r : SavingRound) (word : ℕ) (o : Option GateWord) → FoundAt n r (SaveRound.looked_at_gate_again r word o)
+  at_gate_again n r word (Some gate) = by_test (nat_eq gate.epoch r.epoch)
+    where
+      by_test : (b : Bool) → FoundAt n r (cond b (SaveRound.first_page r) (Ended (NothingNow word)))
+      by_test true = first_found (Found n r.layout.pages r.epoch r.number) r
+      by_test false = tt
+  at_gate_again n r word None = tt
+
+  -- ---- pages
+
+  at_page : (n : ℕ) (r : SavingRound) (page : ℕ) (busy : Bool) → round_after begun met n ≡ at_stage r (LoadsPage page busy) → FoundAt n r (LoadsPage page busy)
+      → FoundAt (suc n) r (SaveRound.looked_at_page r page busy (word_of_row r (Within (Page page)) (met n)))
+  at_page n r page busy is has = by_test (nat_eq (word_of_row r (Within (Page page)) (met n)) (encode_page (Open r.epoch))) refl
+    where
+      by_test : (b : Bool) → nat_eq (word_of_row r (Within (Page page)) (met n)) (encode_page (Open r.epoch)) ≡ b
+          → FoundAt (suc n) r (cond b (LoadsSave page busy) (SaveRound.passed_page r page busy (word_of_row r (Within (Page page)) (met n))))
+      by_test true test = as_save (Found (suc n) r.layout.pages r.epoch r.number) r page busy (found_later n r (LoadsPage page busy) has)
+      by_test false test =
+          let other : word_of_row r (Within (Page page)) (met n) ≢ encode_page (Open r.epoch) = grind (arith, nat_tests) in
+          let load = now begun met n (at_stage r (LoadsPage page busy)) r.layout.pages (Within (Page page)) is refl in
+          passed_by (Found (suc n) r.layout.pages r.epoch r.number) r page busy (word_of_row r (Within (Page page)) (met n)) (NotOpen load other)
+          (found_later n r (LoadsPage page busy) has)
+
+  by_state : (n : ℕ) (r : SavingRound) (page : ℕ) (busy : Bool) (says : SaveWord) (state : SaveState) → round_after begun met n ≡ at_stage r (LoadsSave page busy)
+      → decode_save (word_of_row r (Behind (SaveOf page)) (met n)) ≡ Some says → state_of says r.number ≡ state → FoundAt n r (LoadsSave page busy)
+      → FoundAt (suc n) r (SaveRound.looked_by r page busy (word_of_row r (Behind (SaveOf page)) (met n)) says state)
+  by_state n r page busy says Waits is reads state has = tt
+  by_state n r page busy says Copying is reads state has =
+      busy_found (Found (suc n) r.layout.pages r.epoch r.number) r page (word_of_row r (Behind (SaveOf page)) (met n))
+  by_state n r page busy says Kept is reads state has =
+      let load = now begun met n (at_stage r (LoadsSave page busy)) r.layout.pages (Behind (SaveOf page)) is refl in
+      passed_by (Found (suc n) r.layout.pages r.epoch r.number) r page busy (word_of_row r (Behind (SaveOf page)) (met n)) (IsSaved load says reads state)
+      (as_page (Found (suc n) r.layout.pages r.epoch r.number) r page busy (found_later n r (LoadsSave page busy) has))
+  by_state n r page busy says Past is reads state has = tt
+
+  at_save : (n : ℕ) (r : SavingRound) (page : ℕ) (busy : Bool) (o : Option SaveWord) → round_after begun met n ≡ at_stage r (LoadsSave page busy)
+      → decode_save (word_of_row r (Behind (SaveOf page)) (met n)) ≡ o → FoundAt n r (LoadsSave page busy)
+      → FoundAt (suc n) r (SaveRound.looked_at_save r page busy (word_of_row r (Behind (SaveOf page)) (met n)) o)
+  at_save n r page busy (Some says) is reads has = by_state n r page busy says (state_of says r.number) is reads refl has
+  at_save n r page busy None is reads has = found_later n r (LoadsSave page busy) has
+
+  went : (n : ℕ) (r : SavingRound) (s : PageSaving) (turn : Turn SaveEnd) → FoundAt n r (SaveRound.save_went s turn)
+  went n r s More = tt
+  went n r s (Finished result) = tt
+
+  at_saving : (n : ℕ) (r : SavingRound) (s : PageSaving) (o : Option Step) (words : List ℕ) → FoundBy n (after_step save_round_machine (at_stage r (Saves s)) o words)
+  at_saving n r s None words = tt
+  at_saving n r s (Some step) words = went n r _ _
+
+  at_end : (n : ℕ) (r : SavingRound) (won : Bool) (word : ℕ) → FoundBy n (SaveRound.taken_at (at_stage r ExchangesDone) ExchangesDone (cond won Won (Lost word)))
+  at_end n r true word = tt
+  at_end n r false word = tt
+
+  -- ---- all
+
+  keeps : (n : ℕ) (r : SavingRound) (stage : SaveRoundStage) → round_after begun met n ≡ at_stage r stage → FoundAt n r stage
+      → FoundBy (suc n) (then_at begun met n r stage)
+  keeps n r LoadsGate is has = at_gate (suc n) r (word_of_row r (Within Gate) (met n)) _
+  keeps n r LoadsSnap is has = at_snap (suc n) r _
+  keeps n r LoadsDone is has = at_done (suc n) r _
+  keeps n r LoadsGateAgain is has = at_gate_again (suc n) r (word_of_row r (Within Gate) (met n)) _
+  keeps n r (LoadsPage page busy) is has = at_page n r page busy is has
+  keeps n r (LoadsSave page busy) is has = at_save n r page busy _ is refl has
+  keeps n r (Saves s) is has = at_saving (suc n) r s (save.wanted s) (met n)
+  keeps n r ExchangesDone is has = at_end (suc n) r _ _
+  keeps n r (Ended result) is has = tt
+
+  begins : IsBegun begun → FoundBy 0 begun
+  begins (ByMutator layout epoch worker is) = subst (FoundBy 0) (sym is) tt
+  begins (ByScanner layout mutators worker is) = subst (FoundBy 0) (sym is) tt
+
+  holds : IsBegun begun → (n : ℕ) → FoundBy n (round_after begun met n)
+  unfolding among
+  holds new zero = begins new
+  holds new (suc n) = let r : SavingRound = round_after begun met n in keeps n r r.stage refl (holds new n)
+
+  told_found : (n pages epoch number page : ℕ) → 0 < number → Found n pages epoch number page → FoundKept begun met n pages epoch number page
+  told_found n pages epoch number page some (NotOpen load other) = WasNotOpen load other
+  told_found n pages epoch number page some (IsSaved load says reads is) = WasSaved load says reads (kept_is says number some is)
+
+-- a page of the round is the board or lies in the space
+in_round : (r : SavingRound) (page : ℕ) → IsRoundPage r page → IsInRound r page
+in_round r page fits = by_test (nat_eq page (board_page r.layout.pages)) refl
+  where
+    by_test : (b : Bool) → nat_eq page (board_page r.layout.pages) ≡ b → IsInRound r page
+    by_test true test = inl (grind (arith, nat_tests))
+    by_test false test = let apart : page ≢ board_page r.layout.pages = grind (arith, nat_tests) in inr (fits.low apart, fits.high apart)
+
+pub rounds_mark_what_is_kept : RoundsMarkWhatIsKept
+rounds_mark_what_is_kept begun met n r new is at some page fits =
+    let has : FoundBy begun met n r = subst (FoundBy begun met n) is (holds begun met new n) in
+    let all : FoundAt begun met n r ExchangesDone = subst (FoundAt begun met n r) at has in
+    told_found begun met n r.layout.pages r.epoch r.number page some (all page (in_round r page fits))

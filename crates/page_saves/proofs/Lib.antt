@@ -1,0 +1,13 @@
+pub mod WholeRows
+pub mod Pages
+pub mod Lowering
+pub mod GoingOn
+pub mod RowsFit
+pub mod Saving
+pub mod Ordering
+pub mod Guarding
+pub mod RoundEnds
+pub mod Rounds
+pub mod Reading
+pub mod Finding
+pub mod Staying

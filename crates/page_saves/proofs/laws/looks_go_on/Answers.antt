@@ -1,0 +1,5 @@
+use Rattle.page_saves.proofs.GoingOn.{guards_go_on}
+use Rattle.page_saves.proofs.laws.looks_go_on.Goals as goal
+
+pub returns : goal.returns
+returns c = guards_go_on

@@ -1,0 +1,14 @@
+use Rattle.page_saves.proofs.Rounds.{shows_nothing, none_runs, saves_page, marks_done}
+use Rattle.page_saves.proofs.laws.save_rounds_show_why.Goals as goal
+
+pub returns-clause-none_runs : goal.returns-clause-none_runs
+returns-clause-none_runs c = λ r before after number acts. none_runs r r.stage before after number acts
+
+pub returns-clause-saved : goal.returns-clause-saved
+returns-clause-saved c = λ r before after sound whole acts. saves_page r r.stage before after sound whole acts
+
+pub returns-clause-marked : goal.returns-clause-marked
+returns-clause-marked c = λ r before after sound whole acts. marks_done r r.stage before after sound whole acts
+
+pub returns-clause-nothing : goal.returns-clause-nothing
+returns-clause-nothing c = λ r before after word acts. shows_nothing r r.stage before after word acts

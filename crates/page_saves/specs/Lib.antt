@@ -1,0 +1,11 @@
+pub mod Save
+pub mod SaveState
+pub mod Guard
+pub mod SaveRound
+pub mod SoundSave
+pub mod SoundGuard
+pub mod SoundRound
+pub mod HeldUp
+pub mod Theorems
+pub mod RoundTheorems
+pub mod Rows

@@ -1,0 +1,8 @@
+/// For whom a save round is made.
+#[derive(Clone, Copy, Debug, PartialEq, Eq)]
+pub enum SaveCaller {
+    /// A mutator, which runs: neither the epoch nor the checkpoint changes meanwhile.
+    Mutates,
+    /// A scanner beside so many mutators.
+    Scans(u8),
+}

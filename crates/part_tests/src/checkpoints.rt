@@ -1,0 +1,4 @@
+//! Tests of the machines that make checkpoints.
+
+mod beginning;
+mod saving;

@@ -1,0 +1,5 @@
+use Rattle.plain_heap.proofs.Calls.Checkpoints.{only_snap_begins}
+use Rattle.plain_heap.proofs.laws.only_snap_begins_checkpoints.Goals as goal
+
+pub returns : goal.returns
+returns c = only_snap_begins
