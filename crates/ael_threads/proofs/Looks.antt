@@ -32,7 +32,7 @@ use Rattle.gc_worker.specs.Laws.Step.{Heap, WorkersStand, epoch_of, held_at, nob
 use Rattle.gc_worker.specs.Steps.Turned.{Answers, Marks, Silent, Told, epoch_in_gate, told, turned}
 use Rattle.gc_worker.specs.Steps.Stepped.{uncounted}
 use Rattle.gc_worker.specs.Steps.Wanted.{wanted}
-use Rattle.gc_worker.proofs.Between.Begun.{beginnings_are_kept, full_is_found_later}
+use Rattle.gc_worker.proofs.Between.Begun.{beginnings_are_kept, full_is_found_later, rests_before}
 use Rattle.gc_worker.proofs.Between.GoingOn.{workers_go_on}
 use Rattle.gc_worker.proofs.Between.Standing.{what_stands_is_so}
 use Rattle.gc_worker.proofs.History.Extensions.{calls_append}
@@ -128,7 +128,7 @@ module _ (plan : Plan) (m : ℕ) (y : Held) (q : Step) (words : List ℕ) (worke
     where
       by_told : (u : Told) → t ≡ u → IsNoAnswer t
       by_told Silent e = subst IsNoAnswer (sym e) tt
-      by_told (Answers task Done) e = absurd (subst IsInCall (goes.answers task Done e).after call)
+      by_told (Answers task Done) e = absurd (rests_before y.stage z.stage (goes.answers task Done e).after (past_look z.stage call))
       by_told (Answers task (Trap end)) e =
           let ended : z.account.end ≡ Some end = ap (λ (a : Account). a.end) (goes.answers task (Trap end) e).after.0 in
           absurd (ended_out z.stage (subst (λ (o : Option End). FitsEnd z.stage (is_some o)) ended fits_z.end) call)

@@ -9,7 +9,7 @@ use Rattle.atom_store.specs.declared.reply.Reply.TheVariants as replies
 use Rattle.atom_store.specs.declared.step.Step.{Step}
 use Rattle.atom_store.specs.declared.step.Step.TheVariants.{Load, Store, Exchange}
 use Rattle.atom_store.specs.Step.{reply_of, words_after}
-use Rattle.space_map.specs.Table.{table_length}
+use Rattle.space_map.specs.Table.{whole_length}
 use Rattle.plain_state.specs.State.{Mutator, Plain, serial_of}
 use Rattle.plain_state.specs.State as plain
 use Rattle.gc_worker.specs.declared.stage.Stage.TheVariants.{Gone}
@@ -195,11 +195,13 @@ pub record Seated : Type 0 where
   pub worker : Held
   pub knows : View
 
--- Since its last step the worker may have been given a task; whatever it has counted, to the proofs of the heap it is as it was then.
+-- Since its last step the worker may have been given a task; whatever it has counted, to the proofs of the heap it is as it was then. Its
+-- layout is the heap's.
 pub record Follows (plan : Plan) (m : ℕ) (was now : Held) : Type 0 where
   pub begins : Begins was now
   pub readies : (count : ℕ) → Readies plan.spaces.pages plan.mutators m (counted count was) (counted count now)
   pub fits : Fits plan.spaces.pages plan.mutators m now
+  pub laid_out : now.layout ≡ plan.spaces
 
 abbrev pub Heads : Plan → Held → List Hand → Type 0
 Heads plan x [] = ⊥
@@ -207,7 +209,7 @@ Heads plan x (was ∷ others) = Follows plan was.number was.worker x
 
 -- the seat is of a heap whose table has as many words as this one
 abbrev pub FitsTable : TableId → View → Type 0
-FitsTable t v = (0 < v.plan.spaces.pages) × (t.words ≡ table_length v.plan.spaces.pages)
+FitsTable t v = (0 < v.plan.spaces.pages) × (t.words ≡ whole_length v.plan.spaces)
 
 -- what an act tells: the caller's code took this reply to the step that it wanted, and goes on with its task or has answered it
 pub record ActsBy (a : Seated) (r : Reply) (s : Stepped) (b : Seated) : Type 0 where

@@ -12,7 +12,7 @@ abbrev pub crew : Plan → ℕ
 crew plan = plan.mutators + plan.scanners
 
 abbrev pub heap_of : Plan → (words : List ℕ) → (workers : List Held) → Heap
-heap_of plan words workers = record { pages = plan.spaces.pages; words = words; mutators = plan.mutators; workers = workers }
+heap_of plan words workers = record { pages = plan.spaces.pages; checkpoints = plan.spaces.checkpoints; words = words; mutators = plan.mutators; workers = workers }
 
 -- A worker stands in the list with its count of instructions, which its code doesn't hold.
 pub record StandsAs (workers : List Held) (n : ℕ) (x : Held) : Type 0 where

@@ -4,7 +4,7 @@ ghost use Rattle.std.specs.Prelude.{◌≡◌, ◌+◌, ◌-◌, ◌≤◌, ◌<
 ghost use Rattle.heap_laws.specs.Opening.{opening_entries};
 ghost use Rattle.heap_state.specs.Memory.Entries.{written};
 ghost use Rattle.space_map.specs.declared.spaces.TheConstants.{MOST_MUTATORS, MOST_SCANNERS};
-ghost use Rattle.space_map.specs.Table.{table_length};
+ghost use Rattle.space_map.specs.Table.{table_length, whole_length};
 ghost use Rattle.gc_worker.specs.Config.{has_sizes};
 ghost use Rattle.ael_threads.specs.Histories.{first_held, new_hands};
 ghost use Rattle.ael_threads.specs.Opened.{new_scanners, plan_of};
@@ -81,7 +81,7 @@ impl Shared {
     /// Gives each worker a seat of its own.
     fn deal(&self, alloc: Global, mut seat: Seat<u8, View>, plan: &Plan) -> Result<Seats, OpenError>
         requires few { (plan.now.mutators ≤ MOST_MUTATORS) × (crew plan.now ≤ MOST_MUTATORS + MOST_SCANNERS) }
-        requires live { self.now.table.shared.table_id.words ≡ table_length plan.now.spaces.pages }
+        requires live { self.now.table.shared.table_id.words ≡ whole_length plan.now.spaces }
         requires table { seat.table_id ≡ self.now.table.shared.table_id }
         requires seat { seat.me ≡ (first_view plan.now, []) }
         ensures mutators { IfOk result (λ all. all.mutators.items ≡ new_callers self.now.table.shared.table_id plan.now 0 plan.now.mutators) }
@@ -109,7 +109,7 @@ impl Shared {
     /// Gives the next worker a seat of its own.
     fn seated(&self, seat: &mut Seat<u8, View>, worker: Worker, plan: &Plan, k: u8) -> Caller
         requires few { (plan.now.mutators ≤ MOST_MUTATORS) × (crew plan.now ≤ MOST_MUTATORS + MOST_SCANNERS) }
-        requires live { self.now.table.shared.table_id.words ≡ table_length plan.now.spaces.pages }
+        requires live { self.now.table.shared.table_id.words ≡ whole_length plan.now.spaces }
         requires below { k < crew plan.now }
         requires worker { worker ≡ first_held plan.now k }
         requires table { seat.old.table_id ≡ self.now.table.shared.table_id }

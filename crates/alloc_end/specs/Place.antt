@@ -125,6 +125,12 @@ wanted_at p stage = option_map (step_at (whole_place_of p.layout.pages)) (wants_
 abbrev pub wanted : Placing → Option Step
 wanted p = wanted_at p p.stage
 
+-- the page on which it writes a word of its record next
+abbrev pub writes_on : Placing → PlaceStage → Option ℕ
+writes_on p StoresCount = Some (page_of (p.run.at + 1))
+writes_on p StoresHeader = Some (page_of p.run.at)
+writes_on p stage = None
+
 -- ---- what a reply makes of it
 
 abbrev pub at_stage : Placing → PlaceStage → Placing

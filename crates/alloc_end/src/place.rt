@@ -4,7 +4,7 @@ ghost use Rattle.record_layout.specs.declared.header.Header.{Header};
 ghost use Rattle.space_map.specs.AreaWord.{AreaFits, decode_area};
 ghost use Rattle.space_map.specs.Spaces.{to_space};
 ghost use Rattle.space_map.specs.Table.{Area, Size, place_of, table_length, whole_length};
-ghost use Rattle.alloc_end.specs.Place.{begun, wanted, taken, told, left, advances, size_of, pages_for, words_for, kept_room, looked_at_area, area_after, shortage, readies, cleared, after_opening, placed, at_stage, first_claimed, stores_first};
+ghost use Rattle.alloc_end.specs.Place.{begun, wanted, taken, told, left, advances, size_of, pages_for, words_for, kept_room, looked_at_area, area_after, shortage, readies, cleared, writes_on, after_opening, placed, at_stage, first_claimed, stores_first};
 ghost use Rattle.alloc_end.specs.Soundness.{RunLiesInSpaces, HasRoomToMark, HoldsFields, IsSoundPlacing, IsPlacingGoing, FitsPlaceStage, AreaHoldsClaim};
 
 use crate::allocated::Allocated;
@@ -119,6 +119,19 @@ impl Place {
                 Step::Store(spaces.word_place(self.run.at), pack(&self.header))
             }
             PlaceStage::Ended(_) => unreachable!(),
+        }
+    }
+
+    /// The page on which it writes a word of its record next, if it does.
+    pub fn page_written(&self) -> Option<u32>
+        ensures { result ≡ writes_on self.now self.now.stage }
+    {
+        let spaces = self.spaces;
+        spaces.known();
+        match self.stage {
+            PlaceStage::StoresCount => Some(spaces.page_of(self.run.at + 1)),
+            PlaceStage::StoresHeader => Some(spaces.page_of(self.run.at)),
+            _ => None,
         }
     }
 

@@ -4,7 +4,7 @@ ghost use Rattle.fault_duty.specs.Rows.{BoardIsClaimed, FillingPageIsClaimed, Ep
 ghost use Rattle.fault_duty.specs.HeldUp.{GoesOn};
 ghost use Rattle.fault_duty.specs.Theorems.{NothingIsShown, TracedIsSeen, TracedIsTold, ClaimsHaveCause, AllLeftIsSeen, AllLeftIsTold, MarkedEpochsAreTraced, ScannedPagesAreClaimed, PagesInPlaceAreClaimed};
 
-/// A round does nothing only where a word shows why, and tells that the epoch is traced exactly where TRACED says so.
+/// A round does nothing only if a word shows why, and tells that the epoch is traced exactly if TRACED says so.
 pub fn rounds_without_work_show_why()
     ensures nothing_now { NothingIsShown }
     ensures traced_seen { TracedIsSeen }

@@ -205,16 +205,16 @@ fn is_allowed(passage: Passage, gate: GateWord) -> bool
     ensures { result ≡ allows passage gate }
 {
     match passage {
-        Passage::Attach => no_flip(gate),
+        Passage::Attach => is_clear(gate),
         Passage::Park => gate.request,
         Passage::Look | Passage::Request => !gate.request,
-        Passage::Resume(epoch) => no_flip(gate) && gate.epoch == epoch,
+        Passage::Resume(epoch) => is_clear(gate) && gate.epoch == epoch,
         Passage::Forwarded | Passage::Leave | Passage::Clear => true,
     }
 }
 
 /// Whether nothing is requested, and no mutator is behind.
-fn no_flip(gate: GateWord) -> bool
+fn is_clear(gate: GateWord) -> bool
     ensures { result ≡ is_clear gate }
 {
     !gate.request && gate.behind == 0

@@ -9,7 +9,6 @@ use Rattle.gc_worker.proofs.Between.Opening.{heaps_open}
 use Rattle.gc_worker.proofs.Between.Readying.{readying_stands}
 use Rattle.gc_worker.proofs.Between.Standing.{what_stands_is_so}
 use Rattle.gc_worker.proofs.Between.Wanting.{workers_want}
-use Rattle.gc_worker.proofs.Plain.Represented.{represented_workers}
 use Rattle.gc_worker.proofs.StepKeeps.{steps_keep}
 use Rattle.gc_core.specs.Core.{CoreState, opening_core}
 use Rattle.gc_core.specs.Law.{EventsKeep, EventsMeet}
@@ -31,7 +30,7 @@ events_meet = events.events_meet steps_keep readying_stands tasks_may_begin work
 pub runs_are_plain_runs : RunsArePlainRuns
 runs_are_plain_runs schedule at n s p lawful represents =
     let story : Story = record { flip = lawful.flip; now = p } in
-    let stands = represented_workers s.heap lawful.plain p lawful.flip lawful.stands represents in
+    let stands = events.represented_lawful s p lawful represents in
     let r : Ran = run_from schedule at n s in
     let law = run_law events_keep schedule at n s story lawful.steady stands in
     let now = story_after-now s.code s.turns story r.order in

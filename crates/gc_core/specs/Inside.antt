@@ -7,5 +7,5 @@ abbrev pub core_in : Inside → CoreState
 core_in c = record {
   code = c.program.now.code;
   turns = c.turns;
-  heap = record { pages = c.spaces.pages; words = c.atoms; mutators = length c.program.now.code; workers = c.slots.items };
+  heap = record { pages = c.spaces.pages; checkpoints = c.spaces.checkpoints; words = c.atoms; mutators = length c.program.now.code; workers = c.slots.items };
 }

@@ -1,5 +1,5 @@
 -- The law of an event: it does to the plain state what the mark of it does, and what is told of it is what the plain machine has.
-use Rattle.std.specs.Prelude.{◌≡◌, ◌≢◌, ⊤, ℕ, ◌+◌, ◌<◌, ◌≤◌, length, Some, None, IsTrue}
+use Rattle.std.specs.Prelude.{◌≡◌, ◌≢◌, ⊤, false, ℕ, ◌+◌, ◌<◌, ◌≤◌, length, Some, None, IsTrue}
 use Rattle.std.specs.List.{list_all}
 use Rattle.std.specs.Option.{option_to_list}
 use Rattle.plain_state.specs.declared.end.End.{End}
@@ -31,13 +31,15 @@ pub record IsOnTask (s : CoreState) (m : ℕ) : Type 0 where
   pub within : (held_at s.heap m).account.executed ≤ s.turns
   pub task : (t : Task) → (held_at s.heap m).task ≡ Some t → t ≡ fetched_task s.code s.turns m (held_at s.heap m)
 
--- there is a mutator for each section of valid code, and each is on its task; once a scanner is gone, all mutators are
+-- There is a mutator for each section of valid code, and each is on its task; once a scanner is gone, all mutators are. The heap has no
+-- checkpoints.
 pub record IsSteady (s : CoreState) : Type 0 where
   pub valid : IsTrue (list_all (list_all is_valid) s.code)
   pub sections : length s.code ≡ s.heap.mutators
   pub turns_fit : s.turns ≤ MOST_TURNS
   pub on_task : (m : ℕ) → m < s.heap.mutators → IsOnTask s m
   pub last : ScannersAreLast s.heap
+  pub none : s.heap.checkpoints ≡ false
 
 -- it is steady, and its heap stands for some plain state
 pub record IsLawful (s : CoreState) : Type 0 where

@@ -9,3 +9,4 @@ pub mod Effects
 pub mod Registers
 pub mod Outcomes
 pub mod RecordsMade
+pub mod OnlySnap

@@ -3,6 +3,7 @@ pub mod Copies
 pub mod Scans
 pub mod Accesses
 pub mod Replies
+pub mod Saves
 pub mod Ends
 pub mod Looks
 pub mod Whole

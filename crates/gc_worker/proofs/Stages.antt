@@ -7,3 +7,8 @@ pub mod Copies
 pub mod Place
 pub mod Access
 pub mod Look
+pub mod Snaps
+pub mod Saves
+pub mod Checkpoints
+pub mod Guards
+pub mod Recalls

@@ -6,6 +6,7 @@ use Rattle.plain_state.specs.State.{Plain}
 use Rattle.atom_store.specs.declared.reply.Reply.{Reply}
 use Rattle.atom_store.specs.declared.step.Step.{Step}
 use Rattle.atom_store.specs.Step.{words_after, reply_of}
+use Rattle.atom_store.proofs.Steps.{length-words_after}
 use Rattle.gate_core.specs.declared.flip_stage.FlipStage.{FlipStage}
 use Rattle.gate_core.specs.declared.flip_stage.FlipStage.TheVariants as flip_stage
 use Rattle.gate_core.specs.declared.gate_stage.GateStage.{GateStage}
@@ -16,17 +17,19 @@ use Rattle.heap_state.specs.Configuration.{Configuration, Stands, table, era, me
 use Rattle.heap_state.specs.Cycles.Cycle.{Cycle}
 use Rattle.heap_state.specs.Memory.Entries.{Entry, GateIs}
 use Rattle.space_map.specs.PageWord.{age_of}
+use Rattle.space_map.specs.Spaces.{Layout}
+use Rattle.space_map.specs.Table.{whole_length}
 use Rattle.heap_state.specs.Invariant.Ghost.{Ghost}
 use Rattle.heap_laws.specs.Lifting.{StandsWith, configuration_after, LeavesConfiguration, Flipped}
 use Rattle.gc_worker.specs.declared.stage.after.After.{After}
 use Rattle.gc_worker.specs.declared.stage.Stage.{Stage}
-use Rattle.gc_worker.specs.declared.stage.Stage.TheVariants.{Looks, Passes, Flips, Forwards, Accesses, Places, Serves, Scans, Evacuates, Opens, Gone}
+use Rattle.gc_worker.specs.declared.stage.Stage.TheVariants.{Looks, Passes, Flips, Forwards, Accesses, Places, Serves, Scans, Evacuates, Opens, Recalls, Guards, Checkpoints, BeginsCheckpoint, Gone}
 use Rattle.gc_worker.specs.Plain.Answer.{after_told}
 use Rattle.gc_worker.specs.Workers.Fits.{Fits}
 use Rattle.gc_worker.specs.Steps.Goes.{Is, LeavesToPlain, StepsInTable, StepsSo, Wins, FlipIsOwn}
 use Rattle.gc_worker.specs.Workers.Held.{Held, at_stage, has_seen_flip}
 use Rattle.gc_worker.specs.Workers.Knows.{knows}
-use Rattle.gc_worker.specs.Laws.Step.{Heap, read, nobody, held_at, WorkersStand, moved, at_flip, epoch_of, age, WinsOne, FlipsOnce, FlipsWhereTold, StepKeeps, StepsKeep}
+use Rattle.gc_worker.specs.Laws.Step.{Heap, read, nobody, held_at, layout_of, StandIf, WorkersStand, moved, at_flip, epoch_of, age, WinsOne, FlipsOnce, FlipsWhereTold, StepKeeps, StepsKeep}
 use Rattle.gc_worker.specs.Steps.Turned.{Told, Silent, Answers, Marks, PageWon, epoch_in_gate, turned, told, won}
 use Rattle.gc_worker.specs.Steps.Wanted.{wanted}
 use Rattle.gc_worker.proofs.Stages.Gate.Exchanging.{exchanges_gate}
@@ -36,6 +39,7 @@ use Rattle.gc_worker.proofs.Stages.Gate.Words.{gate_says}
 use Rattle.gc_worker.proofs.Stages.Gate.Passing.{loads_gate}
 use Rattle.gc_worker.proofs.Stages.Flip.Resetting as resetting
 use Rattle.gc_worker.proofs.Stages.Flip.Flipping.{flips_gate}
+use Rattle.gc_worker.proofs.Saving.Keeping.{saving_kept}
 use Rattle.gc_worker.proofs.Workers.Members.{member}
 use Rattle.gc_worker.proofs.Stages.OpenedPage.{opens}
 use Rattle.gc_worker.proofs.Stages.Rounds.Whole.{serves}
@@ -43,6 +47,11 @@ use Rattle.gc_worker.proofs.Stages.Rounds.Words.{page_age}
 use Rattle.gc_worker.proofs.Stages.Copies.Whole.{evacuates, forwards}
 use Rattle.gc_worker.proofs.Stages.Place.Stages.{places}
 use Rattle.gc_worker.proofs.Stages.Scan.Stages.{scans}
+use Rattle.gc_worker.proofs.Stages.Recalls.Recalling.{recalls}
+use Rattle.gc_worker.proofs.Stages.Guards.Looking.{guards}
+use Rattle.gc_worker.proofs.Stages.Checkpoints.Rounds.{checkpoints}
+use Rattle.gc_worker.proofs.Stages.Snaps.Beginning.{snaps}
+use Rattle.gc_worker.proofs.Between.GoingOn.{workers_go_on}
 use Rattle.page_scan.specs.Scanning.{Scanning}
 use Rattle.page_slots.specs.declared.open_stage.OpenStage.{OpenStage}
 use Rattle.page_slots.specs.declared.open_stage.OpenStage.TheVariants as open_stage
@@ -97,6 +106,10 @@ module _ (c : Configuration) (p : Plain) (s : Stands c p) (k : ℕ) (x : Held) w
   by_stage (Scans z back) is = scans c p s k x z back is
   by_stage (Evacuates v z back) is = evacuates c p s k x v z back is
   by_stage (Opens o z back) is = opens_page o z back o.stage is
+  by_stage (Recalls r after) is = recalls c p s k x after r is
+  by_stage (Guards g write) is = guards c p s k x write g is
+  by_stage (Checkpoints r goal) is = checkpoints c p s k x r goal is
+  by_stage (BeginsCheckpoint z) is = snaps c p s k x z is
   by_stage Gone is = rests c p s k (at_stage x Gone) refl
 
   pub kinds : Is c k x → StepsSo c p s k x
@@ -111,13 +124,30 @@ module _ (h : Heap) (p o : Plain) (k : ℕ) (x : Held) (q : Step) (st : WorkersS
   abbrev y : Held
   y = turned x r
 
-  -- the others are as they were
-  all_fit : Fits h.pages h.mutators k y → (j : ℕ) → j < length (set h.workers k y) → Fits h.pages h.mutators j (get_or (set h.workers k y) j nobody)
-  all_fit fits j below = ⊎_elim
-      (λ (e : j ≡ k). subst (λ (z : Held). Fits h.pages h.mutators j z) (sym (ap (λ (i : ℕ). get_or (set h.workers k y) i nobody) e ∙ get_or-set_same h.workers k y nobody l))
-      (subst (λ (i : ℕ). Fits h.pages h.mutators i y) (sym e) fits))
-      (λ (d : j ≢ k). subst (λ (z : Held). Fits h.pages h.mutators j z) (sym (get_or-set_other h.workers k j y nobody d)) (st.fit j (let n = length-set h.workers k y in omega (arith, n, below))))
+  -- what is so of each worker, and of this one as it becomes, is so of each then
+  each_then : (P : ℕ → Held → Type 0) → P k y → ((j : ℕ) → j < length h.workers → P j (held_at h j))
+      → (j : ℕ) → j < length (set h.workers k y) → P j (get_or (set h.workers k y) j nobody)
+  each_then P now was j below = ⊎_elim
+      (λ (e : j ≡ k). subst (P j) (sym (ap (λ (i : ℕ). get_or (set h.workers k y) i nobody) e ∙ get_or-set_same h.workers k y nobody l)) (subst (λ (i : ℕ). P i y) (sym e) now))
+      (λ (d : j ≢ k). subst (P j) (sym (get_or-set_other h.workers k j y nobody d)) (was j (let n = length-set h.workers k y in omega (arith, n, below))))
       (cases_eq j k)
+
+  all_fit : Fits h.pages h.mutators k y → (j : ℕ) → j < length (set h.workers k y) → Fits h.pages h.mutators j (get_or (set h.workers k y) j nobody)
+  all_fit fits = each_then (Fits h.pages h.mutators) fits st.fit
+
+  -- no layout changes
+  all_laid_out : (j : ℕ) → j < length (set h.workers k y) → (get_or (set h.workers k y) j nobody).layout.checkpoints ≡ h.checkpoints
+  all_laid_out = each_then (λ (j : ℕ) (z : Held). z.layout.checkpoints ≡ h.checkpoints)
+      (ap (λ (n : Layout). n.checkpoints) (workers_go_on h.pages h.mutators k x r (subst (Fits h.pages h.mutators k) holds (st.fit k l))).layout
+      ∙ (ap (λ (z : Held). z.layout.checkpoints) (sym holds) ∙ st.laid_out k l)) st.laid_out
+
+  -- nor the length of the words
+  still_whole : whole_length (layout_of h) ≤ length (words_after q h.words)
+  still_whole = rw (length-words_after q h.words) st.whole
+
+  -- what is kept of checkpoints stands, where they can be begun
+  abbrev Saved : Plain → Type 0
+  Saved p' = StandIf h.checkpoints (moved h k x q) p'
 
   module _ (steps : StepsInTable (read h) p st.stands k x q) where
     -- the configuration after the step, as the heap then is
@@ -128,30 +158,30 @@ module _ (h : Heap) (p o : Plain) (k : ℕ) (x : Held) (q : Step) (st : WorkersS
     later = configuration_after (read h) steps.entry k (knows y)
 
     -- a configuration that stands, and its cycle, are the heap's
-    comes : (h' : Ghost) (p' o' : Plain) (w : StandsWith later p' h') → Cycle (era later) (memory later) (team later) h' o' → WorkersStand (moved h k x q) p' o'
-    comes h' p' o' w cycle =
+    comes : (h' : Ghost) (p' o' : Plain) (w : StandsWith later p' h') → Cycle (era later) (memory later) (team later) h' o' → Saved p' → WorkersStand (moved h k x q) p' o'
+    comes h' p' o' w cycle saved =
         let both : (d : Configuration) → later ≡ d → (s : Stands d p') × Cycle (era d) (memory d) (team d) s.ghost o' =
         λ d e. subst (λ (d : Configuration). (s : Stands d p') × Cycle (era d) (memory d) (team d) s.ghost o') e
         (w.stands, subst (λ (g : Ghost). Cycle (era later) (memory later) (team later) g o') (sym w.with_ghost) cycle) in
         let now = both (read (moved h k x q)) after in
-        record { stands = now.0; cycle = now.1; fit = all_fit steps.goes.fits }
+        record { stands = now.0; cycle = now.1; fit = all_fit steps.goes.fits; laid_out = all_laid_out; whole = still_whole; saving = saved }
 
     -- a step that is no flip leaves it so for this plain state
-    stays : (p' : Plain) (e : Option Entry) → steps.entry ≡ e → (g : Ghost) → LeavesConfiguration (read h) e k (knows y) p' st.stands.ghost g → WorkersStand (moved h k x q) p' o
-    stays p' e same g leads =
+    stays : (p' : Plain) (e : Option Entry) → steps.entry ≡ e → (g : Ghost) → LeavesConfiguration (read h) e k (knows y) p' st.stands.ghost g → Saved p' → WorkersStand (moved h k x q) p' o
+    stays p' e same g leads saved =
         let ours : LeavesConfiguration (read h) steps.entry k (knows y) p' st.stands.ghost g = subst (λ (f : Option Entry). LeavesConfiguration (read h) f k (knows y) p' st.stands.ghost g) (sym same) leads in
-        comes g p' o ours.standing (ours.cycle o st.cycle)
+        comes g p' o ours.standing (ours.cycle o st.cycle) saved
 
     -- by what it is to the plain machine
     stands_by : (t : Told) (e : Option Entry) → steps.entry ≡ e → (g : Ghost) → LeavesToPlain (read h) p st.stands.ghost k e y g t
-        → WorkersStand (moved h k x q) (after_told p k t) (at_flip p o t)
-    stands_by Silent e same g leads = stays p e same g leads
-    stands_by (Answers task outcome) e same g leads = stays (after_told p k (Answers task outcome)) e same g leads
-    stands_by (Marks asked) (Some (GateIs gate)) same g leads =
+        → Saved (after_told p k t) → WorkersStand (moved h k x q) (after_told p k t) (at_flip p o t)
+    stands_by Silent e same g leads saved = stays p e same g leads saved
+    stands_by (Answers task outcome) e same g leads saved = stays (after_told p k (Answers task outcome)) e same g leads saved
+    stands_by (Marks asked) (Some (GateIs gate)) same g leads saved =
         let ours : Flipped (read h) gate k (knows y) p g = leads in
         let cfg = ap (λ (f : Option Entry). configuration_after (read h) f k (knows y)) (sym same) in
-        comes g p p (subst (λ (d : Configuration). StandsWith d p g) cfg ours.standing) (subst (λ (d : Configuration). Cycle (era d) (memory d) (team d) g p) cfg ours.begins)
-    stands_by (Marks asked) _ same g leads = absurd leads
+        comes g p p (subst (λ (d : Configuration). StandsWith d p g) cfg ours.standing) (subst (λ (d : Configuration). Cycle (era d) (memory d) (team d) g p) cfg ours.begins) saved
+    stands_by (Marks asked) _ same g leads saved = absurd leads
 
     -- no page word's epoch falls
     ages_by : (t : Told) (e : Option Entry) → steps.entry ≡ e → (g : Ghost) → LeavesToPlain (read h) p st.stands.ghost k e y g t
@@ -216,22 +246,22 @@ module _ (h : Heap) (p o : Plain) (k : ℕ) (x : Held) (q : Step) (st : WorkersS
         let d = aged w.page in
         ((λ out. omega (arith, out.epoch, wins.before, b)), record { page = wins.page; epoch = omega (arith, wins.after, d) })
 
-    standing : WorkersStand (moved h k x q) (after_told p k (told x r)) (at_flip p o (told x r))
+    standing : Saved (after_told p k (told x r)) → WorkersStand (moved h k x q) (after_told p k (told x r)) (at_flip p o (told x r))
     standing = stands_by (told x r) steps.entry refl steps.goes.ghost_after steps.goes.leads
 
-    keeps : StepKeeps h p o k x q
-    keeps = record {
+    keeps : Saved (after_told p k (told x r)) → StepKeeps h p o k x q
+    keeps saved = record {
       place = steps.place;
       takes = steps.goes.takes;
       fits = steps.goes.fits;
       answered = steps.goes.answered;
-      stands = standing;
+      stands = standing saved;
       kept = λ w out. record { page = out.page; epoch = (let a = ages w.page in omega (arith, out.epoch, a)) };
       wins = wins_by (won x r) steps.goes.wins;
       full = steps.goes.full;
-      flips = flips_by (told x r) steps.goes.flip standing steps.goes.leads;
+      flips = flips_by (told x r) steps.goes.flip (standing saved) steps.goes.leads;
     }
 
 pub steps_keep : StepsKeep
 steps_keep h p o k x q st l holds asked =
-    keeps h p o k x q st l holds (kinds (read h) p st.stands k x (member h p o k x st l holds) q asked)
+    keeps h p o k x q st l holds (kinds (read h) p st.stands k x (member h p o k x st l holds) q asked) (saving_kept h p o k x q st l holds asked)

@@ -1,8 +1,12 @@
 pub mod Parts
+pub mod Guarded
+pub mod Checkpointing
+pub mod Fitting
 pub mod Answered
 pub mod GoingOn
 pub mod GoingBack
 pub mod Members
 pub mod Made
+pub mod CountedTurns
 pub mod ApartFromCount
 pub mod Sound

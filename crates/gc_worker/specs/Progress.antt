@@ -1,5 +1,6 @@
 -- What a step has brought after which the same machine is at work: less is left of it, but for an exchange that was lost, a header that
--- another worker keeps, and a worker that waits for others. A look after which the mutator looks again had nothing to do, or has done it.
+-- another worker keeps, a page that another worker is saving, a round that is over, and a worker that waits for others. A look after
+-- which the mutator looks again had nothing to do, or has done it.
 use Rattle.std.specs.Prelude.{◌≡◌, ◌≢◌, ℕ, ◌<◌, ⊤, length, Some, None}
 use Rattle.plain_state.specs.State.{Plain}
 use Rattle.atom_store.specs.declared.reply.Reply.{Reply}
@@ -9,7 +10,10 @@ use Rattle.atom_store.specs.declared.step.Step.TheVariants.{Load}
 use Rattle.atom_store.specs.declared.turn.Turn.TheVariants.{Finished}
 use Rattle.atom_store.specs.Step.{reply_of}
 use Rattle.heap_words.specs.Decoded.{BusyWord, decode}
-use Rattle.space_map.specs.Table.{HeapWord, place_of}
+use Rattle.space_map.specs.declared.save_word.SaveWord.TheVariants.{Saving}
+use Rattle.space_map.specs.SaveWord.{decode_save}
+use Rattle.space_map.specs.Table.{HeapWord, SaveOf, place_of, save_place_of}
+use Rattle.heap_state.specs.Saving.Words.{save_word_in}
 use Rattle.alloc_end.specs.Place as place
 use Rattle.fault_duty.specs.declared.round_end.RoundEnd.{RoundEnd}
 use Rattle.fault_duty.specs.Duty as duty
@@ -20,6 +24,12 @@ use Rattle.gate_core.specs.declared.passage.Passage.TheVariants.{Attach, Resume}
 use Rattle.gate_core.specs.declared.passed.Passed.TheVariants as passed
 use Rattle.gate_core.specs.Flip as flip
 use Rattle.gate_core.specs.Gate as gate
+use Rattle.gate_core.specs.declared.snap.snapped.Snapped.TheVariants as snapped
+use Rattle.gate_core.specs.Recall as recall
+use Rattle.gate_core.specs.Snap as snap
+use Rattle.page_saves.specs.declared.save_round_end.SaveRoundEnd.{SaveRoundEnd}
+use Rattle.page_saves.specs.Guard as guard
+use Rattle.page_saves.specs.SaveRound as save_round
 use Rattle.heap_state.specs.Memory.Table.{word_in}
 use Rattle.page_scan.specs.Left as scan_left
 use Rattle.page_slots.specs.Open as open_page
@@ -29,9 +39,9 @@ use Rattle.gc_worker.specs.Laws.Step.{Heap, WorkersStand, held_at}
 use Rattle.gc_worker.specs.Steps.Turned.{Answers, told, turned}
 use Rattle.gc_worker.specs.Steps.Wanted.{wanted}
 use Rattle.gc_worker.specs.declared.calls.did.Did.TheVariants.{Done}
-use Rattle.gc_worker.specs.declared.stage.back.Back.TheVariants.{ToScanner}
+use Rattle.gc_worker.specs.declared.stage.back.Back.TheVariants.{ToSnap, ToScanner}
 use Rattle.gc_worker.specs.declared.stage.Stage.{Stage}
-use Rattle.gc_worker.specs.declared.stage.Stage.TheVariants.{Looks, Passes, Flips, Forwards, Accesses, Places, Serves, Scans, Evacuates, Opens, Gone}
+use Rattle.gc_worker.specs.declared.stage.Stage.TheVariants.{Looks, Passes, Flips, Forwards, Accesses, Places, Serves, Scans, Evacuates, Opens, Recalls, Guards, Checkpoints, BeginsCheckpoint, Gone}
 use Rattle.gc_worker.specs.declared.task.Task.{Task}
 
 -- so many steps are left of the machine at work at a stage, as the machine itself counts them
@@ -46,6 +56,10 @@ left_at (Serves d back) = duty.left d
 left_at (Scans s back) = scan_left.left s
 left_at (Evacuates v s back) = evac_left.left v
 left_at (Opens o s back) = open_page.left o
+left_at (Recalls r after) = recall.left r
+left_at (Guards g write) = guard.left g
+left_at (Checkpoints r goal) = save_round.left r
+left_at (BeginsCheckpoint s) = snap.left s
 left_at Gone = 0
 
 -- the machine at work at one stage is at work at the other too, or one of its sort that does the same; a look at the gate is one of its own
@@ -60,6 +74,10 @@ IsSameMachine (Serves d back) (Serves next later) = ⊤
 IsSameMachine (Scans s back) (Scans next later) = ⊤
 IsSameMachine (Evacuates v s back) (Evacuates next t later) = ⊤
 IsSameMachine (Opens o s back) (Opens next t later) = ⊤
+IsSameMachine (Recalls r after) (Recalls next later) = ⊤
+IsSameMachine (Guards g write) (Guards next later) = ⊤
+IsSameMachine (Checkpoints r goal) (Checkpoints next later) = ⊤
+IsSameMachine (BeginsCheckpoint s) (BeginsCheckpoint next) = ⊤
 IsSameMachine stage next = ⊥
 
 -- who is about to come in, or to run on, may have to wait at the gate
@@ -68,12 +86,13 @@ MayWait Attach = ⊤
 MayWait (Resume epoch) = ⊤
 MayWait passage = ⊥
 
--- The worker waits for others: the gate doesn't let it in or run on yet, or mutators run or are behind while it is to flip; or it is a scanner,
--- whose round has come to its end.
+-- The worker waits for others: the gate doesn't let it in or run on yet, or mutators run or are behind while it is to flip or to begin a
+-- checkpoint; or it is a scanner, whose round has come to its end.
 abbrev pub IsWaiting : Stage → Reply → Type 0
 IsWaiting (Passes g after) reply = MayWait g.passage × ((word : ℕ) × (gate.told (gate.taken g reply) ≡ Finished (passed.NotYet word)))
 IsWaiting (Flips f) reply = (word : ℕ) × (flip.told (flip.taken f reply) ≡ Finished (flipped.NotYet word))
 IsWaiting (Serves d ToScanner) reply = (result : RoundEnd) × (duty.told (duty.taken d reply) ≡ Finished result)
+IsWaiting (BeginsCheckpoint s) reply = (word : ℕ) × (snap.told (snap.taken s reply) ≡ Finished (snapped.NotYet word))
 IsWaiting stage reply = ⊥
 
 -- the step of worker k loads the first word of a record whose header another worker keeps
@@ -85,18 +104,36 @@ pub record ReadsAnothers (h : Heap) (k : ℕ) (q : Step) : Type 0 where
   pub busy : decode (word_in h.pages h.words (HeapWord at)) ≡ BusyWord len worker
   pub other : worker ≢ k
 
+-- A round of a mutator has come to its end, and the next one begins: one of the duty, until the epoch is traced, before a checkpoint is
+-- begun; or one for a checkpoint that is in progress.
+abbrev pub IsRoundOver : Stage → Reply → Type 0
+IsRoundOver (Serves d ToSnap) reply = (result : RoundEnd) × (duty.told (duty.taken d reply) ≡ Finished result)
+IsRoundOver (Checkpoints r goal) reply = (result : SaveRoundEnd) × (save_round.told (save_round.taken r reply) ≡ Finished result)
+IsRoundOver stage reply = ⊥
+
+-- the step of worker k loads what is said of a page that another worker is saving
+pub record ReadsSaving (h : Heap) (k : ℕ) (q : Step) : Type 0 where
+  pub page : ℕ
+  pub loads : q ≡ Load (save_place_of h.pages (SaveOf page))
+  pub number : ℕ
+  pub worker : ℕ
+  pub saving : decode_save (save_word_in h.pages h.words (SaveOf page)) ≡ Some (Saving number worker)
+  pub other : worker ≢ k
+
 -- what a step of worker k, which holds x, has brought
 pub data Progress (h : Heap) (k : ℕ) (x : Held) (q : Step) : Type 0 where
   LessIsLeft : left_at (turned x (reply_of q h.words)).stage < left_at x.stage → Progress h k x q
   ExchangeWasLost : (word : ℕ) → reply_of q h.words ≡ Lost word → Progress h k x q
   AnotherCopies : ReadsAnothers h k q → Progress h k x q
+  AnotherSaves : ReadsSaving h k q → Progress h k x q
+  RoundIsOver : IsRoundOver x.stage (reply_of q h.words) → Progress h k x q
   OthersGoFirst : IsWaiting x.stage (reply_of q h.words) → Progress h k x q
   NothingIsAsked : x.stage ≡ Looks → x.task ≡ None → Progress h k x q
   TaskIsDone : x.stage ≡ Looks → (task : Task) → x.task ≡ Some task → told x (reply_of q h.words) ≡ Answers task Done → Progress h k x q
 
--- A step from a heap that stands, after which the same machine is at work, leaves it less to do; or its exchange was lost, or it read a
--- header that another worker keeps, or the worker waits for others. If a mutator looks at the gate and looks again, it has no task, or
--- one that the look itself has done.
+-- A step from a heap that stands, after which the same machine is at work, leaves it less to do; or its exchange was lost; or it read a
+-- header that another worker keeps, or SAVE of a page that another worker is saving; or a round is over; or the worker waits for others.
+-- If a mutator looks at the gate and looks again, it has no task, or one that the look itself has done.
 abbrev pub MachinesGoOn : Type 0
 MachinesGoOn = (h : Heap) (p o : Plain) (k : ℕ) (x : Held) (q : Step) → WorkersStand h p o → k < length h.workers → held_at h k ≡ x → wanted x ≡ Some q
     → IsSameMachine x.stage (turned x (reply_of q h.words)).stage → Progress h k x q

@@ -7,17 +7,19 @@ pub mod mixed_access;
 pub mod record_access;
 mod values;
 
-ghost use Rattle.std.specs.Prelude.{◌≡◌, ◌≢◌, ◌<◌, ℕ, IsTrue};
+ghost use Rattle.std.specs.Prelude.{◌≡◌, ◌≢◌, ◌^◌, ◌<◌, ℕ, IsTrue};
 ghost use Rattle.atom_store.specs.Step.{place_in};
 ghost use Rattle.heap_words.specs.Decoded.{decode};
+ghost use Rattle.space_map.specs.Spaces.{page_of};
 ghost use Rattle.space_map.specs.Table.{table_length};
-ghost use Rattle.gc_worker.specs.Steps.Access.{FitsRecordUse, IsHeapAddress, IsSoundAccess, AccessTakes, advances_at, at_stage, compared, goes_by, left, looked, read_header, role_of, taken, told, turn_by, wanted};
+ghost use Rattle.gc_worker.specs.Steps.Access.{FitsRecordUse, IsHeapAddress, IsSoundAccess, AccessTakes, advances_at, at_stage, compared, field_at, goes_by, left, looked, read_header, role_of, taken, told, turn_by, uses_field, wanted, writes_on};
 ghost use Rattle.heap_laws.specs.Fields.Effects.{FitsRole};
 
 use crate::access::access_stage::AccessStage;
 use crate::access::access_words::{held, on_board, using_board, using_field};
 use crate::access::accessed::Accessed;
-use crate::access::field_access::{FieldAccess, FieldExchange};
+use crate::access::board_access::BoardSwap;
+use crate::access::field_access::{FieldAccess, FieldExchange, FieldUse};
 use crate::access::record_access::RecordAccess;
 use atom_store::{Reply, Step, Turn};
 use heap_words::Word;
@@ -75,6 +77,22 @@ impl Access {
         }
     }
 
+    /// The page on which it writes a word next, if it does.
+    pub fn page_written(&self) -> Option<u32>
+        requires { IsSoundAccess self.now }
+        ensures { result ≡ writes_on self.now.spaces self.now.stage }
+    {
+        let spaces = self.spaces;
+        spaces.known();
+        match self.stage {
+            AccessStage::StoresField(f, _) | AccessStage::ExchangesField(f, _, _) => {
+                Some(spaces.page_of(f.at + f.word))
+            }
+            AccessStage::StoresBoard(..) | AccessStage::SwapsBoard(..) => Some(spaces.board_page()),
+            _ => None,
+        }
+    }
+
     /// Takes the reply to it.
     #[inline(always)]
     pub fn take(&mut self, reply: Reply) -> Turn<Accessed>
@@ -100,20 +118,17 @@ impl Access {
         ensures lowers { result ≡ Turn.More → IsTrue (advances_at self.old.stage (Reply.Value word)) → left self.new < left self.old }
     {
         let spaces = self.spaces;
+        spaces.known();
         match self.stage {
             AccessStage::LooksAtRecord(r) => {
                 self.look(spaces.page_of(r.at), word, AccessStage::LoadsHeader(r))
             }
             AccessStage::LoadsHeader(r) => self.read_header(r, word),
             AccessStage::LooksAtCount(m) => {
-                spaces.known();
                 self.look(spaces.page_of(m.at + 1), word, AccessStage::LoadsCount(m))
             }
             AccessStage::LoadsCount(m) => self.read_count(m, word),
-            AccessStage::LooksAtField(f, usage) => {
-                spaces.known();
-                self.look(spaces.page_of(f.at + f.word), word, using_field(f, usage))
-            }
+            AccessStage::LooksAtField(f, usage) => self.look_at_field(f, usage, word),
             AccessStage::LoadsField(f, into) => {
                 Turn::Finished(Accessed::Brings(into, held(f.role, word)))
             }
@@ -122,7 +137,7 @@ impl Access {
                 self.look(spaces.board_page(), word, using_board(b.word, b.usage))
             }
             AccessStage::LoadsBoard(_, into) => Turn::Finished(Accessed::Brings(into, word)),
-            AccessStage::LoadsForSwap(s) => self.go_to(AccessStage::SwapsBoard(s, word)),
+            AccessStage::LoadsForSwap(s) => self.swap(s, word),
             AccessStage::StoresField(..)
             | AccessStage::ExchangesField(..)
             | AccessStage::StoresBoard(..)
@@ -172,6 +187,26 @@ impl Access {
         } else {
             Turn::Finished(Accessed::Brings(e.into, Word::number(0).0))
         }
+    }
+
+    /// The word of a field's page was read. It stands apart, as does `swap`, also where it is inlined, so that the room of the stage that
+    /// it builds is cleared only here, and not at each step of an access.
+    #[inline(always)]
+    fn look_at_field(&mut self, f: FieldAccess, usage: FieldUse, word: u64) -> Turn<Accessed>
+        requires { field_at f < 2 ^ 32 }
+        ensures state { self.new ≡ goes_by self.old (looked (page_of (field_at f)) self.old.epoch word (uses_field f usage)) }
+        ensures tells { result ≡ turn_by (looked (page_of (field_at f)) self.old.epoch word (uses_field f usage)) }
+    {
+        let page = self.spaces.page_of(f.at + f.word);
+        self.look(page, word, using_field(f, usage))
+    }
+
+    #[inline(always)]
+    fn swap(&mut self, s: BoardSwap, old: u64) -> Turn<Accessed>
+        ensures state { self.new ≡ at_stage self.old (AccessStage.SwapsBoard s old) }
+        ensures tells { result ≡ Turn.More }
+    {
+        self.go_to(AccessStage::SwapsBoard(s, old))
     }
 
     /// A page's word was read: the access goes on there, if the page is open.

@@ -1,6 +1,6 @@
 //! What holds of a worker's steps. Each function here does nothing: its contract is what is proved.
 
-ghost use Rattle.gc_worker.specs.Laws.Step.{StepsKeep, FlipsAreWon, PlacesFit, RegistersLeadBack};
+ghost use Rattle.gc_worker.specs.Laws.Step.{SnapsAreWon, StepsKeep, CheckpointsAreKept, ClearsAreWon, FlipsAreWon, PlacesFit, RegistersLeadBack};
 ghost use Rattle.gc_worker.specs.Steps.HeldUp.{AccessesGoOn, LostSwapsLoadAgain, LostExchangesCompareAgain};
 ghost use Rattle.gc_worker.specs.Steps.AccessRows.{LostSwapIsTriedAgain, CountIsNoValue, CountsPageIsLookedAt, NextPageIsLookedAt, NoPointerIsStoredBehindFields, SamePageIsNotLookedAt, ClosedPageIsAFault, NoSuchValueFails, LostExchangeIsComparedAgain};
 ghost use Rattle.gc_worker.specs.Laws.Between.{HeapsOpen, ReadyingStands, TasksMayBegin, WorkersGoOn, WorkersWant, WhatStandsIsSo, AnswersLeaveTheOthers};
@@ -26,6 +26,17 @@ pub fn flips_are_won()
     ensures { FlipsAreWon }
 {}
 
+/// Nor is the exchange of SNAP by which a checkpoint is begun, nor that of the gate by which its request is cleared.
+pub fn checkpoints_are_begun()
+    ensures begun { SnapsAreWon }
+    ensures cleared { ClearsAreWon }
+{}
+
+/// The words of a heap that stands, in which checkpoints can be begun, say what the plain heap has kept at the last `snap`.
+pub fn checkpoints_are_kept()
+    ensures { CheckpointsAreKept }
+{}
+
 /// The place of a step is in the table, by what the worker holds alone.
 pub fn places_fit()
     ensures { PlacesFit }
@@ -36,7 +47,8 @@ pub fn registers_lead_back()
     ensures { RegistersLeadBack }
 {}
 
-/// A heap with its workers that stands for one plain state stands for each that it represents, with what a cycle keeps.
+/// A heap with its workers that stands for one plain state stands for each that it represents, with what a cycle keeps, if that one has
+/// kept the same checkpoint.
 pub fn what_is_represented_stands()
     ensures { RepresentedWorkersStand }
 {}
@@ -188,7 +200,7 @@ pub fn claims_are_for_records()
 {}
 
 /// If each mutator that asks for a flip has seen none since it began its instruction, or the space may still grow, so it is after each step;
-/// and it goes on with that instruction until it answers.
+/// and it goes on with that instruction until it answers, but for a checkpoint that has no number left, which it begins anew.
 pub fn flips_are_first()
     ensures first { FlipsAreFirst }
     ensures stay { FlipsStayFirst }

@@ -1,15 +1,20 @@
 pub mod after;
 pub mod back;
 pub mod forwarding_register;
+pub mod goal;
+pub mod write;
 
 use crate::access::Access;
 use crate::stage::after::After;
 use crate::stage::back::Back;
 use crate::stage::forwarding_register::ForwardingRegister;
+use crate::stage::goal::Goal;
+use crate::stage::write::Write;
 use alloc_end::Place;
 use fault_duty::Duty;
 use forwarding::Evac;
-use gate_core::{Flip, Gate};
+use gate_core::{Flip, Gate, Recall, Snap};
+use page_saves::{Guard, SaveRound};
 use page_scan::Scan;
 use page_slots::Open;
 
@@ -36,6 +41,14 @@ pub enum Stage {
     Evacuates(Evac, Scan, Back),
     /// Open the page that was scanned, and then go back.
     Opens(Open, Scan, Back),
+    /// Read which checkpoint is in progress, and then go on there.
+    Recalls(Recall, After),
+    /// Look whether a page is saved, and save it if not, and then write on it.
+    Guards(Guard, Write),
+    /// Make a round for the checkpoint that is in progress, for this.
+    Checkpoints(SaveRound, Goal),
+    /// Begin the checkpoint that it requested.
+    BeginsCheckpoint(Snap),
     /// Nothing more.
     Gone,
 }

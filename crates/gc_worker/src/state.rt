@@ -18,6 +18,10 @@ pub(crate) struct State {
     pub epoch: u32,
     /// The epoch at the look that began the instruction.
     pub begun: u32,
+    /// How many checkpoints were begun, as it has read when it began to run.
+    pub snap: u32,
+    /// The checkpoint that was in progress then, or 0.
+    pub running: u32,
     pub registers: [u64; REGISTERS],
     pub counter: u64,
     pub serial: u64,
@@ -55,6 +59,8 @@ impl Model for State {
       mutators = s.mutators;
       epoch = s.epoch;
       begun = s.begun;
+      snap = s.snap;
+      running = s.running;
       account = record { counter = s.counter; printed = s.printed.items; executed = 0; serial = s.serial; end = s.end };
       registers = s.registers;
       run = s.run;

@@ -2,6 +2,8 @@
 
 pub mod acting;
 pub mod allocating;
+pub mod checkpoints;
+pub mod guarding;
 pub mod instructions;
 pub mod looking;
 pub mod on_words;

@@ -4,6 +4,5 @@ pub mod Stored
 pub mod Cycle
 pub mod Shown
 pub mod Laws
-pub mod Accounts
 pub mod Effects
 pub mod SameWords

@@ -1,7 +1,7 @@
 pub mod Tables
 pub mod Rows
 pub mod Workers
-pub mod Frozen
+pub mod PassedRounds
 pub mod Stores
 pub mod Requests
 pub mod Pictures

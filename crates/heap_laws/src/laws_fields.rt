@@ -3,7 +3,7 @@
 ghost use Rattle.heap_laws.specs.Fields.Effects.{MutatorsAreShown, RegistersHold, HeadersSay, AccessesAreValues, BoardWordsAreValues};
 ghost use Rattle.heap_laws.specs.Fields.Words.{AccessesAreAllowed, WordsAreLoaded, BoardIsLoaded, HeadersAreRead, RegistersAreHeld, NumbersAreHeld};
 ghost use Rattle.heap_laws.specs.Fields.Held.{GoesOnSo};
-ghost use Rattle.heap_laws.specs.Fields.Stores.{MutatorsLearn, MutatorsStep, MutatorsStore, MutatorsStoreOnBoard, MutatorsSnap, SnapsAreTaken, MutatorsEnd, MutatorsFindNoRoom};
+ghost use Rattle.heap_laws.specs.Fields.Stores.{MutatorsLearn, MutatorsStep, MutatorsStore, MutatorsStoreOnBoard, MutatorsSnap, MutatorsEnd, MutatorsFindNoRoom};
 
 /// What a mutator loads leads into the epoch's space, to a record that nobody writes, and it may hold it in a register. Where
 /// a register leads, a record's own header stands, and an access to one of its words is what a load or store needs.
@@ -46,11 +46,9 @@ pub fn mutators_store_on_board()
     ensures { MutatorsStoreOnBoard }
 {}
 
-/// A checkpoint is begun, and no row changes: the plain heap keeps its board and its records. A mutator that is stopped for it does
-/// the same, and changes its account alone.
+/// A checkpoint is begun, and no row changes: the plain heap keeps its board and its records.
 pub fn mutators_snap()
-    ensures running { MutatorsSnap }
-    ensures stopped { SnapsAreTaken }
+    ensures { MutatorsSnap }
 {}
 
 /// A running mutator gets an end; and the end for want of room, where AREA shows too little of it and nothing is owed any more.

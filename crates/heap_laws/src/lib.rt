@@ -51,7 +51,7 @@ pub use laws_saving::{
     requests_are_spared, rounds_follow, rows_are_spared, savers_change, savers_forget,
     savers_learn, saves_are_read, saves_change_alone, saves_open, says_are_found, snappers_step,
     snaps_are_kept, stock_pages_are_marked, stores_are_spared, tracing_is_spared,
-    words_read_are_frozen, written_pages_are_open,
+    written_pages_are_open,
 };
 pub use laws_scanning::{
     claims_are_made_ready, fields_are_scanned, pages_are_claimed, pages_are_opened,

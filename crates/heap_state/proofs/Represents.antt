@@ -6,3 +6,4 @@ pub mod Dropped
 pub mod DroppedCycle
 pub mod Showing
 pub mod Represented
+pub mod Snapped

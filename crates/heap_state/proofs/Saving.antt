@@ -3,3 +3,4 @@ pub mod Standing
 pub mod Picture
 pub mod Out
 pub mod Broken
+pub mod Read

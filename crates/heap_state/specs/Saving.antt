@@ -4,3 +4,4 @@ pub mod Savers
 pub mod Parts
 pub mod Kept
 pub mod Written
+pub mod Said

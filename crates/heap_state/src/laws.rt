@@ -2,7 +2,7 @@
 
 ghost use Rattle.std.specs.Prelude.{ℕ};
 ghost use Rattle.heap_state.specs.Theorems.Rows.{ReadsRows, SpellsShared, StoresGate, StoresTraced, StoresArea, StoresSize, StoresPage, StoresCross, StoresHeapWord, StoresAnnounce, StoresBeside, StoresEntry, WritesTables, MemoryFollows};
-ghost use Rattle.heap_state.specs.Theorems.Saves.{WritesWholeTables};
+ghost use Rattle.heap_state.specs.Theorems.Saves.{WritesWholeTables, WordsReadAreFrozen, CheckpointsAreSaid};
 ghost use Rattle.heap_state.specs.Theorems.Workers.{ChangesAt, SumsByTerms, TeamsByWorkers, FramesOfWorkers};
 ghost use Rattle.heap_state.specs.Theorems.Standing.{StandingIsSound, RepresentedStands, RepresentedStandsInCycle, QuietStandsStill};
 ghost use Rattle.heap_state.specs.Theorems.Examples.{IsWorkedOut, IsWorkedOutFlipped, IsWorkedOutRequested, IsWorkedOutSaving, TellsBroken, TellsBrokenSaves};
@@ -28,6 +28,13 @@ pub fn rows_change_alone()
     ensures entry { StoresEntry }
     ensures written { WritesTables }
     ensures whole { WritesWholeTables }
+{}
+
+/// The words that are read of the last checkpoint are those of then. So, if what is kept of checkpoints stands and the heap of then
+/// shows what the plain heap has kept, the words of the table say that checkpoint.
+pub fn checkpoints_are_said()
+    ensures read { WordsReadAreFrozen }
+    ensures said { CheckpointsAreSaid }
 {}
 
 /// What the epoch sees of the table after the store of an area word, after that of the old space's size, and after a flip. Its

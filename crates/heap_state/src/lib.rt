@@ -7,8 +7,8 @@
 mod laws;
 
 pub use laws::{
-    broken_configurations_are_told, flipped_configuration_stands, memory_follows_table,
-    one_place_changes_alone, requested_configuration_stands, rows_are_read, rows_change_alone,
-    what_is_quiet_stands_still, what_is_represented_stands, what_stands_is_sound,
-    worked_configuration_stands,
+    broken_configurations_are_told, checkpoints_are_said, flipped_configuration_stands,
+    memory_follows_table, one_place_changes_alone, requested_configuration_stands, rows_are_read,
+    rows_change_alone, what_is_quiet_stands_still, what_is_represented_stands,
+    what_stands_is_sound, worked_configuration_stands,
 };

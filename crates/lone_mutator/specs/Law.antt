@@ -34,11 +34,12 @@ LowersWhereTold n before after x y (Answers task Done) = NobodyElseAnnounces aft
 LowersWhereTold n before after x y (Answers task (Trap end)) = ⊤
 LowersWhereTold n before after x y (Marks asked) = Lowers n before after x y
 
--- worker x is the only one of a configuration, a mutator without an end, and what it remembers is so
+-- worker x is the only one of a configuration, a mutator without an end and without checkpoints, and what it remembers is so
 pub record IsAlone (c : Configuration) (x : Held) : Type 0 where
   pub is : Is c 0 x
   pub one : length c.workers ≡ 1
   pub alone : c.mutators ≡ 1
+  pub no_checkpoints : x.layout.checkpoints ≡ false
   pub no_end : x.account.end ≡ None
   pub remembers : Remembers (table c) x
 

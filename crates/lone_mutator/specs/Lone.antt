@@ -19,9 +19,9 @@ use Rattle.gc_worker.specs.declared.access.access_stage.AccessStage.TheVariants.
 use Rattle.gc_worker.specs.declared.stage.after.After.{After}
 use Rattle.gc_worker.specs.declared.stage.after.After.TheVariants as afters
 use Rattle.gc_worker.specs.declared.stage.back.Back.{Back}
-use Rattle.gc_worker.specs.declared.stage.back.Back.TheVariants.{ToAccess, ToPlace, ToScanner}
+use Rattle.gc_worker.specs.declared.stage.back.Back.TheVariants.{ToAccess, ToPlace, ToSnap, ToScanner}
 use Rattle.gc_worker.specs.declared.stage.Stage.{Stage}
-use Rattle.gc_worker.specs.declared.stage.Stage.TheVariants.{Looks, Passes, Flips, Forwards, Accesses, Places, Serves, Scans, Evacuates, Opens, Gone}
+use Rattle.gc_worker.specs.declared.stage.Stage.TheVariants.{Looks, Passes, Flips, Forwards, Accesses, Places, Serves, Scans, Evacuates, Opens, Recalls, Guards, Checkpoints, BeginsCheckpoint, Gone}
 use Rattle.gc_worker.specs.Steps.Access.{board_at, field_at}
 use Rattle.gc_worker.specs.Workers.Begun.{IsPastLook}
 use Rattle.gc_worker.specs.Workers.Held.{Held}
@@ -71,6 +71,7 @@ IsLook stage = ⊥
 abbrev pub BackStands : Back → Type 0
 BackStands (ToAccess a) = IsLook a.stage
 BackStands ToPlace = ⊤
+BackStands ToSnap = ⊥
 BackStands ToScanner = ⊥
 
 -- where TRACED was read as of another epoch it is, and the area is as it was read
@@ -80,6 +81,7 @@ PlaceStands t p (place_stage.LoadsArea false size) = t.traced ≢ p.epoch + 1
 PlaceStands t p (place_stage.ExchangesArea f) = t.area (to_space p.epoch) ≡ f.area
 PlaceStands t p stage = ⊤
 
+-- nothing is done for checkpoints
 abbrev pub StageStands : Table → Held → Stage → Type 0
 StageStands t x Looks = ⊤
 StageStands t x (Passes g after) = PassageStands t x g.passage after × GateStands t g.stage
@@ -91,6 +93,10 @@ StageStands t x (Serves d back) = RoundStands (era_of t) (memory_of t) d × Back
 StageStands t x (Scans s back) = BackStands back
 StageStands t x (Evacuates v s back) = CopyStands t v v.stage × BackStands back
 StageStands t x (Opens o s back) = BackStands back
+StageStands t x (Recalls r after) = ⊥
+StageStands t x (Guards g write) = ⊥
+StageStands t x (Checkpoints r goal) = ⊥
+StageStands t x (BeginsCheckpoint s) = ⊥
 StageStands t x Gone = ⊤
 
 -- ---- what it announces
@@ -123,10 +129,11 @@ pub record Remembers (t : Table) (x : Held) : Type 0 where
   pub quiet : NobodyElseAnnounces t.announced (announces x.stage)
   pub stands : StageStands t x x.stage
 
--- one mutator without an end, and no other worker
+-- one mutator without an end, and no other worker, in a heap without checkpoints
 pub record IsLone (h : Heap) : Type 0 where
   pub one : length h.workers ≡ 1
   pub alone : h.mutators ≡ 1
+  pub no_checkpoints : h.checkpoints ≡ false
   pub no_end : (held_at h 0).account.end ≡ None
   pub remembers : Remembers (table (read h)) (held_at h 0)
 

@@ -14,9 +14,9 @@ use Rattle.page_scan.specs.Left as scan
 use Rattle.page_slots.specs.Open as open_page
 use Rattle.heap_state.specs.Memory.Table.{Table}
 use Rattle.gc_worker.specs.declared.stage.back.Back.{Back}
-use Rattle.gc_worker.specs.declared.stage.back.Back.TheVariants.{ToAccess, ToPlace, ToScanner}
+use Rattle.gc_worker.specs.declared.stage.back.Back.TheVariants.{ToAccess, ToPlace, ToSnap, ToScanner}
 use Rattle.gc_worker.specs.declared.stage.Stage.{Stage}
-use Rattle.gc_worker.specs.declared.stage.Stage.TheVariants.{Looks, Passes, Flips, Forwards, Accesses, Places, Serves, Scans, Evacuates, Opens, Gone}
+use Rattle.gc_worker.specs.declared.stage.Stage.TheVariants.{Looks, Passes, Flips, Forwards, Accesses, Places, Serves, Scans, Evacuates, Opens, Recalls, Guards, Checkpoints, BeginsCheckpoint, Gone}
 use Rattle.gc_worker.specs.Steps.Access as access
 use Rattle.gc_worker.specs.Workers.Held.{Held}
 use Rattle.lone_mutator.specs.Bound.{round_cost, growths, flips_cost, longest_tracing, most_pages, longest_placing, whole_cost}
@@ -50,10 +50,11 @@ place_left n size x p (place_stage.LoadsSize traced) = place.left_at most_pages 
 place_left n size x p (place_stage.LoadsArea traced read) = place.left_at most_pages (place_stage.LoadsArea traced read) + flip_left n size x
 place_left n size x p stage = place.left_at (place.pages_for (place.size_of p.header)) stage
 
--- what it goes back to after a round
+-- what it goes back to after a round; it never makes one for a checkpoint
 abbrev pub back_left : (n size : ℕ) → Held → Back → ℕ
 back_left n size x (ToAccess a) = access.left a
 back_left n size x ToPlace = longest_placing + flip_left n size x
+back_left n size x ToSnap = 0
 back_left n size x ToScanner = 0
 
 -- the registers from this one on
@@ -86,6 +87,10 @@ stage_left n size left due late x (Serves d back) = duty.left d + back_left n si
 stage_left n size left due late x (Scans s back) = scan.left s + 1 + round_cost n + back_left n size x back + left
 stage_left n size left due late x (Evacuates v s back) = copy_left v.stage + scan.left s + 1 + round_cost n + back_left n size x back + left
 stage_left n size left due late x (Opens o s back) = open_page.left o + round_cost n + back_left n size x back + left
+stage_left n size left due late x (Recalls r after) = 0
+stage_left n size left due late x (Guards g write) = 0
+stage_left n size left due late x (Checkpoints r goal) = 0
+stage_left n size left due late x (BeginsCheckpoint s) = 0
 stage_left n size left due late x Gone = 0
 
 -- ---- by what the table says

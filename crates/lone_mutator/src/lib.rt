@@ -1,4 +1,4 @@
-//! A mutator that has a heap to itself: none of its steps is in vain, and a core's run of it gets on and ends.
+//! A mutator that has a heap without checkpoints to itself: none of its steps is in vain, and a core's run of it gets on and ends.
 //!
 //! What it has still to pay before its instruction is done falls with each of its steps, and is below a bound of the pages that
 //! a space may have when an instruction begins. So in a core's run of it alone it has its end, or has executed an instruction for each time

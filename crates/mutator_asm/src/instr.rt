@@ -59,7 +59,7 @@ pub enum Instr {
     Swap(u8, Operand),
     /// `out ra`: prints the number in ra.
     Out(u8),
-    /// `snap`: the board and what it leads to are kept.
+    /// `snap`: marks a point of the order.
     Snap,
     /// `halt`: the mutator ends.
     Halt,

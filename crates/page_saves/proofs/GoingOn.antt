@@ -24,7 +24,8 @@ use Rattle.page_saves.specs.Save as save
 use Rattle.page_saves.specs.SaveRound.{SavingRound}
 use Rattle.page_saves.specs.SaveRound as round
 use Rattle.page_saves.specs.SaveState.{state_of, state_within}
-use Rattle.page_saves.specs.HeldUp.{MakesLookAgain, AnotherSaves, SaysNothing, IsOfLater, IsGuardHeldUp, IsSaveRoundHeldUp, SavesGoOn, GuardsGoOn, SaveRoundsGoOn}
+use Rattle.page_saves.specs.HeldUp.{MakesLookAgain, AnotherSaves, SaysNothing, IsOfLater, IsOwn, IsGuardHeldUp, IsSaveRoundHeldUp, SavesGoOn, GuardsGoOn, SaveRoundsGoOn}
+use Rattle.page_saves.proofs.RoundEnds.{within_copying, within_never_past}
 
 none : {A : Type 0} (o : Option A) → is_some o ≡ false → o ≡ None
 none None is = refl
@@ -54,35 +55,32 @@ saves_go_on s step met wants = saves step met s s.stage wants
 
 -- ---- the look before a write
 
--- which word makes the look look again, by what it says
-says_copying : (number : ℕ) (says : SaveWord) → state_within says ≡ Copying → number_of says ≡ number → (worker : ℕ) × (says ≡ save_word.Saving number worker)
-says_copying number (save_word.Saving found worker) is same = (worker, ap (λ (c : ℕ). save_word.Saving c worker) same)
-says_copying number save_word.Unsaved is same = cc
-says_copying number (save_word.Saved found) is same = cc
-says_copying number (save_word.New found) is same = cc
+-- a worker saves the page: another one, or this
+held_by_save : (number worker word other : ℕ) → decode_save word ≡ Some (save_word.Saving number other) → MakesLookAgain number worker word
+held_by_save number worker word other reads = by_test (nat_eq other worker) refl
+  where
+    by_test : (b : Bool) → nat_eq other worker ≡ b → MakesLookAgain number worker word
+    by_test true test = let same : other ≡ worker = grind (arith, nat_tests) in IsOwn (reads ∙ ap (λ (k : ℕ). Some (save_word.Saving number k)) same)
+    by_test false test = AnotherSaves other (grind (arith, nat_tests)) reads
 
-held_by_word : (number word : ℕ) (says : SaveWord) → decode_save word ≡ Some says → guard.goes_by (state_of says number) ≡ false → MakesLookAgain number word
-held_by_word number word says reads stays = by_tests (nat_lt (number_of says) number) (nat_eq (number_of says) number) (state_within says) refl refl refl stays
+-- which word makes the look look again, by what it says
+held_by_word : (number worker word : ℕ) (says : SaveWord) → decode_save word ≡ Some says → guard.goes_by (state_of says number) ≡ false
+    → MakesLookAgain number worker word
+held_by_word number worker word says reads stays = by_tests (nat_lt (number_of says) number) (nat_eq (number_of says) number) (state_within says) refl refl refl stays
   where
     by_tests : (less same : Bool) (within : SaveState) → nat_lt (number_of says) number ≡ less → nat_eq (number_of says) number ≡ same → state_within says ≡ within
-        → guard.goes_by (cond less Waits (cond same within Past)) ≡ false → MakesLookAgain number word
+        → guard.goes_by (cond less Waits (cond same within Past)) ≡ false → MakesLookAgain number worker word
     by_tests true same within a b c stays = absurd (cc)
     by_tests false false within a b c stays = IsOfLater says reads (grind (arith, nat_tests))
     by_tests false true Copying a b c stays =
-        let is = says_copying number says c (grind (arith, nat_tests)) in AnotherSaves is.0 (reads ∙ ap Some is.1)
+        let is = within_copying says number (grind (arith, nat_tests)) c in held_by_save number worker word is.0 (reads ∙ ap Some is.1)
     by_tests false true Waits a b c stays = absurd (cc)
     by_tests false true Kept a b c stays = absurd (cc)
-    by_tests false true Past a b c stays = IsOfLater says reads (absurd (never says c))
-      where
-        never : (says : SaveWord) → state_within says ≡ Past → ⊥
-        never save_word.Unsaved is = cc
-        never (save_word.Saving found worker) is = cc
-        never (save_word.Saved found) is = cc
-        never (save_word.New found) is = cc
+    by_tests false true Past a b c stays = absurd (within_never_past says c)
 
-held_by_look : (number word : ℕ) (o : Option SaveWord) → decode_save word ≡ o → guard.goes_on number o ≡ false → MakesLookAgain number word
-held_by_look number word (Some says) reads stays = held_by_word number word says reads stays
-held_by_look number word None reads stays = SaysNothing reads
+held_by_look : (number worker word : ℕ) (o : Option SaveWord) → decode_save word ≡ o → guard.goes_on number o ≡ false → MakesLookAgain number worker word
+held_by_look number worker word (Some says) reads stays = held_by_word number worker word says reads stays
+held_by_look number worker word None reads stays = SaysNothing reads
 
 -- only a lost exchange stops the look at its save
 lost_alone : (won : Bool) (word : ℕ) (g : Guarding) (s : PageSaving) → s.stage ≡ save_stage.Exchanges
@@ -107,7 +105,7 @@ module _ (step : Step) (met : List ℕ) (g : Guarding) where
   held_guard : (x : GuardStage) → guard.wanted_at g x ≡ Some step → guard.advances_at g x (reply_of step met) ≡ false → IsGuardHeldUp g x (reply_of step met)
   held_guard guard_stage.Looks wants =
       subst (λ (z : Step). guard.advances_at g guard_stage.Looks (reply_of z met) ≡ false → IsGuardHeldUp g guard_stage.Looks (reply_of z met)) (same_Some _ _ wants)
-      (λ stays. held_by_look g.number _ _ refl stays)
+      (λ stays. held_by_look g.number g.worker _ _ refl stays)
   held_guard (guard_stage.Saves s) wants = held_save s s.stage refl wants
   held_guard (guard_stage.Ended result) wants = absurd (cc)
 

@@ -1,4 +1,3 @@
-pub mod WholeRows
 pub mod Pages
 pub mod Lowering
 pub mod GoingOn

@@ -22,7 +22,7 @@ use Rattle.page_saves.specs.declared.save_round_stage.SaveRoundStage.{SaveRoundS
 use Rattle.page_saves.specs.declared.save_round_stage.SaveRoundStage.TheVariants.{LoadsGate, LoadsSnap, LoadsDone, LoadsGateAgain, LoadsPage, LoadsSave, Saves, ExchangesDone, Ended}
 use Rattle.page_saves.specs.declared.save_state.SaveState.{SaveState}
 use Rattle.page_saves.specs.declared.save_state.SaveState.TheVariants.{Waits, Copying, Kept, Past}
-use Rattle.page_saves.specs.RoundTheorems.{HasLoaded, HasEpoch, HasReadSnap, HasReadDone, HasReadAll, IsBegun, ByMutator, ByScanner, IsAtPages, RoundsReadFirst, round_after, word_of_row}
+use Rattle.page_saves.specs.RoundTheorems.{HasLoaded, HasEpoch, HasReadSnap, HasReadDone, HasReadAll, IsBegun, ByMutator, ByScanner, IsAtPages, NoneRunsIsShown, RoundsReadFirst, round_after, word_of_row}
 use Rattle.page_saves.specs.Save.{PageSaving}
 use Rattle.page_saves.specs.Save as save
 use Rattle.page_saves.specs.SaveRound
@@ -30,6 +30,7 @@ use Rattle.page_saves.specs.SaveRound.{SavingRound, wanted, at_stage, save_round
 use Rattle.page_saves.specs.SaveState.{state_of}
 use Rattle.space_map.specs.WholeTable.{WholeRow, Within, Behind, whole_place_of}
 use Rattle.page_saves.proofs.RoundEnds.{number_is}
+use Rattle.page_saves.proofs.Rounds.{none_runs}
 
 module _ (begun : SavingRound) (met : ℕ → List ℕ) where
   -- ---- one step more
@@ -215,6 +216,11 @@ module _ (begun : SavingRound) (met : ℕ → List ℕ) where
   holds new zero = begins new
   holds new (suc n) = let r : SavingRound = round_after begun met n in keeps n r r.stage refl (holds new n)
 
+  at_done_number : (n : ℕ) (r : SavingRound) (stage : SaveRoundStage) (number : ℕ) → stage ≡ LoadsDone → number ≡ r.number → HasReadAt n r stage
+      → HasReadSnap begun met n r.layout.pages r.epoch number r.caller
+  at_done_number n r LoadsDone number at same has = record { load = has.load; same = has.same ∙ sym same; earlier = has.earlier }
+  at_done_number n r _ number at same has = cc
+
   at_pages : (n : ℕ) (r : SavingRound) (stage : SaveRoundStage) → IsAtPages stage → HasReadAt n r stage → All n r
   at_pages n r (LoadsPage page busy) at has = has
   at_pages n r (LoadsSave page busy) at has = has
@@ -225,3 +231,15 @@ module _ (begun : SavingRound) (met : ℕ → List ℕ) where
 pub rounds_read_first : RoundsReadFirst
 rounds_read_first begun met n r new is at =
     at_pages begun met n r r.stage at (subst (HasReadBy begun met n) is (holds begun met new n))
+
+pub none_runs_is_shown : NoneRunsIsShown
+none_runs_is_shown begun met n r after number new is acts =
+    let finds = none_runs r r.stage (met n) after number acts in
+    let read : HasReadBy begun met n r = subst (HasReadBy begun met n) is (holds begun met new n) in
+    record {
+      last = finds.last;
+      begun_last = at_done_number begun met n r r.stage number finds.last finds.same read;
+      done_last = finds.read;
+      same = finds.same;
+      stays = finds.stays;
+    }

@@ -141,13 +141,13 @@ page_ends r page loaded busy result tells = by_test (nat_eq loaded (encode_page 
     by_test true test e = cc
     by_test false test e = (passed_ends r page loaded busy result e, grind (arith, nat_tests))
 
-within_copying : (says : SaveWord) (number : ℕ) → number_of says ≡ number → state_within says ≡ Copying → (worker : ℕ) × (says ≡ save_word.Saving number worker)
+pub within_copying : (says : SaveWord) (number : ℕ) → number_of says ≡ number → state_within says ≡ Copying → (worker : ℕ) × (says ≡ save_word.Saving number worker)
 within_copying (save_word.Saving found worker) number same is = (worker, ap (λ (c : ℕ). save_word.Saving c worker) same)
 within_copying save_word.Unsaved number same is = cc
 within_copying (save_word.Saved found) number same is = cc
 within_copying (save_word.New found) number same is = cc
 
-within_never_past : (says : SaveWord) → state_within says ≡ Past → ⊥
+pub within_never_past : (says : SaveWord) → state_within says ≡ Past → ⊥
 within_never_past save_word.Unsaved is = cc
 within_never_past (save_word.Saving found worker) is = cc
 within_never_past (save_word.Saved found) is = cc

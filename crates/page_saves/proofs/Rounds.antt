@@ -1,5 +1,6 @@
 -- What a save round's step does to the words, by what it then tells.
 use Rattle.std.proofs.Common.{◌≡◌, ℕ, ◌-◌, List, slice_index, arith, refl, sym, ap, ◌∙◌, subst}
+use Rattle.std.specs.Prelude.{⊤}
 use Rattle.atom_store.specs.declared.reply.Reply.{Reply}
 use Rattle.atom_store.specs.declared.reply.Reply.TheVariants as reply
 use Rattle.atom_store.specs.declared.step.Step.TheVariants.{Exchange}
@@ -14,17 +15,18 @@ use Rattle.space_map.specs.Spaces.{Layout}
 use Rattle.space_map.specs.Table.{Gate, SnapNumber, DoneNumber, Page, SaveOf}
 use Rattle.page_saves.specs.declared.save_end.SaveEnd.{SaveEnd}
 use Rattle.page_saves.specs.declared.save_end.SaveEnd.TheVariants as save_end
+use Rattle.page_saves.specs.declared.save_round_end.SaveRoundEnd.{SaveRoundEnd}
 use Rattle.page_saves.specs.declared.save_round_end.SaveRoundEnd.TheVariants.{NoneRuns, Saved, Marked, NothingNow}
 use Rattle.page_saves.specs.declared.save_round_stage.SaveRoundStage.{SaveRoundStage}
 use Rattle.page_saves.specs.declared.save_round_stage.SaveRoundStage.TheVariants.{LoadsGate, LoadsSnap, LoadsDone, LoadsGateAgain, LoadsPage, LoadsSave, Saves, ExchangesDone, Ended}
-use Rattle.page_saves.specs.RoundTheorems.{ShowsNoneRuns, SavesPage, MarksDone, ShowsNothingToSave, word_of_row}
+use Rattle.page_saves.specs.RoundTheorems.{SavesPage, MarksDone, ShowsNothingToSave, word_of_row}
 use Rattle.page_saves.specs.SaveRound
 use Rattle.page_saves.specs.SaveRound.{SavingRound, at_stage, told, taken_at, save_round_machine}
 use Rattle.page_saves.specs.SoundRound.{IsSoundSaveRound}
 use Rattle.space_map.specs.WholeTable.{Within, Behind, HoldsWhole, whole_place_of}
 use Rattle.page_saves.proofs.RoundEnds
 use Rattle.page_saves.proofs.Saving as saving
-use Rattle.page_saves.proofs.WholeRows.{whole_place_of_lt}
+use Rattle.space_map.proofs.WholeRows.{whole_place_of-lt}
 
 -- ---- nothing to do now
 
@@ -74,6 +76,34 @@ shows_nothing r ExchangesDone before after word acts =
     ((another.0, another.1), acts.makes ∙ words_after-lost p (r.number - 1) r.number word before lost)
 shows_nothing r (Ended result) before after word acts = absurd (no_step acts.has_step)
 
+-- ---- at the looks
+
+-- at these stages a round ends with a word alone
+abbrev TellsWord : SaveRoundStage → Type 0
+TellsWord LoadsDone = ⊥
+TellsWord (Saves s) = ⊥
+TellsWord ExchangesDone = ⊥
+TellsWord stage = ⊤
+
+word_told : (r : SavingRound) (stage : SaveRoundStage) (before after : List ℕ) (result : SaveRoundEnd) → TellsWord stage
+    → MakesStep save_round_machine (at_stage r stage) before after (Finished result) → (word : ℕ) × (result ≡ NothingNow word)
+word_told r LoadsGate before after result at acts =
+    let loaded : ℕ = word_of_row r (Within Gate) before in
+    let ends = RoundEnds.gate_ends (at_stage r LoadsGate) loaded result (decode_gate loaded) acts.tells in (loaded, ends.told_word)
+word_told r LoadsSnap before after result at acts =
+    absurd (RoundEnds.snap_never (at_stage r LoadsSnap) (SaveRound.number_in (word_of_row r (Within SnapNumber) before)) result acts.tells)
+word_told r LoadsGateAgain before after result at acts =
+    let loaded : ℕ = word_of_row r (Within Gate) before in
+    let ends = RoundEnds.gate_again_ends (at_stage r LoadsGateAgain) loaded result (decode_gate loaded) acts.tells in (loaded, ends.told_word)
+word_told r (LoadsPage page busy) before after result at acts =
+    let loaded : ℕ = word_of_row r (Within (Page page)) before in
+    let ends = RoundEnds.page_ends (at_stage r (LoadsPage page busy)) page loaded busy result acts.tells in (loaded, ends.0.told_word)
+word_told r (LoadsSave page busy) before after result at acts =
+    let loaded : ℕ = word_of_row r (Behind (SaveOf page)) before in
+    let ends = RoundEnds.look_ends (at_stage r (LoadsSave page busy)) page loaded busy result (decode_save loaded) refl acts.tells in (loaded, ends.told_word)
+word_told r (Ended last) before after result at acts = absurd (no_step acts.has_step)
+word_told r _ before after result at acts = elim at [ ]
+
 -- ---- no checkpoint runs
 
 not_none : (outcome : SaveEnd) (number : ℕ) → NoneRuns number ≡ SaveRound.save_comes_to outcome → ⊥
@@ -86,35 +116,25 @@ exchange_never_none r (reply.Lost lost) number tells = cc
 exchange_never_none r (reply.Value value) number tells = cc
 exchange_never_none r reply.Done number tells = cc
 
+-- the number that the round has is loaded as that of the checkpoint done last; no word changes
+pub record FindsSame (r : SavingRound) (before after : List ℕ) (number : ℕ) : Type 0 where
+  pub last : r.stage ≡ LoadsDone
+  pub read : number ≡ word_of_row r (Within DoneNumber) before
+  pub same : number ≡ r.number
+  pub stays : after ≡ before
+
 pub none_runs : (r : SavingRound) (stage : SaveRoundStage) (before after : List ℕ) (number : ℕ)
-    → MakesStep save_round_machine (at_stage r stage) before after (Finished (NoneRuns number)) → ShowsNoneRuns (at_stage r stage) before after number
-none_runs r LoadsGate before after number acts =
-    let loaded : ℕ = word_of_row r (Within Gate) before in
-    let ends = RoundEnds.gate_ends (at_stage r LoadsGate) loaded (NoneRuns number) (decode_gate loaded) acts.tells in
-    absurd (let e = ends.told_word in cc)
-none_runs r LoadsSnap before after number acts =
-    absurd (RoundEnds.snap_never (at_stage r LoadsSnap) (SaveRound.number_in (word_of_row r (Within SnapNumber) before)) (NoneRuns number) acts.tells)
+    → MakesStep save_round_machine (at_stage r stage) before after (Finished (NoneRuns number)) → FindsSame (at_stage r stage) before after number
 none_runs r LoadsDone before after number acts =
     let loaded : ℕ = word_of_row r (Within DoneNumber) before in
     let ends = RoundEnds.done_ends (at_stage r LoadsDone) (NoneRuns number) (SaveRound.number_in loaded) acts.tells in
     let same : number ≡ ends.number = let e = ends.told_number in cc in
     record { last = refl; read = same ∙ RoundEnds.number_is loaded ends.number ends.is; same = same ∙ ends.same; stays = acts.makes }
-none_runs r LoadsGateAgain before after number acts =
-    let loaded : ℕ = word_of_row r (Within Gate) before in
-    let ends = RoundEnds.gate_again_ends (at_stage r LoadsGateAgain) loaded (NoneRuns number) (decode_gate loaded) acts.tells in
-    absurd (let e = ends.told_word in cc)
-none_runs r (LoadsPage page busy) before after number acts =
-    let ends = RoundEnds.page_ends (at_stage r (LoadsPage page busy)) page (word_of_row r (Within (Page page)) before) busy (NoneRuns number) acts.tells in
-    absurd (let e = ends.0.told_word in cc)
-none_runs r (LoadsSave page busy) before after number acts =
-    let loaded : ℕ = word_of_row r (Behind (SaveOf page)) before in
-    let ends = RoundEnds.look_ends (at_stage r (LoadsSave page busy)) page loaded busy (NoneRuns number) (decode_save loaded) refl acts.tells in
-    absurd (let e = ends.told_word in cc)
 none_runs r (Saves s) before after number acts =
     let ends = RoundEnds.saving_ends r s before after (NoneRuns number) acts in absurd (not_none ends.outcome number ends.told_end)
 none_runs r ExchangesDone before after number acts =
     absurd (exchange_never_none r (reply_of (Exchange (whole_place_of r.layout.pages (Within DoneNumber)) (r.number - 1) r.number) before) number acts.tells)
-none_runs r (Ended result) before after number acts = absurd (no_step acts.has_step)
+none_runs r stage before after number acts = absurd (let e = (word_told r stage before after (NoneRuns number) tt acts).1 in cc)
 
 -- ---- a page is saved
 
@@ -130,26 +150,9 @@ exchange_never_saves r reply.Done tells = cc
 
 pub saves_page : (r : SavingRound) (stage : SaveRoundStage) (before after : List ℕ) → IsSoundSaveRound (at_stage r stage) → HoldsWhole r.layout before
     → MakesStep save_round_machine (at_stage r stage) before after (Finished Saved) → SavesPage (at_stage r stage) before after
-saves_page r LoadsGate before after sound whole acts =
-    let loaded : ℕ = word_of_row r (Within Gate) before in
-    let ends = RoundEnds.gate_ends (at_stage r LoadsGate) loaded Saved (decode_gate loaded) acts.tells in
-    absurd (let e = ends.told_word in cc)
-saves_page r LoadsSnap before after sound whole acts =
-    absurd (RoundEnds.snap_never (at_stage r LoadsSnap) (SaveRound.number_in (word_of_row r (Within SnapNumber) before)) Saved acts.tells)
 saves_page r LoadsDone before after sound whole acts =
     let ends = RoundEnds.done_ends (at_stage r LoadsDone) Saved (SaveRound.number_in (word_of_row r (Within DoneNumber) before)) acts.tells in
     absurd (let e = ends.told_number in cc)
-saves_page r LoadsGateAgain before after sound whole acts =
-    let loaded : ℕ = word_of_row r (Within Gate) before in
-    let ends = RoundEnds.gate_again_ends (at_stage r LoadsGateAgain) loaded Saved (decode_gate loaded) acts.tells in
-    absurd (let e = ends.told_word in cc)
-saves_page r (LoadsPage page busy) before after sound whole acts =
-    let ends = RoundEnds.page_ends (at_stage r (LoadsPage page busy)) page (word_of_row r (Within (Page page)) before) busy Saved acts.tells in
-    absurd (let e = ends.0.told_word in cc)
-saves_page r (LoadsSave page busy) before after sound whole acts =
-    let loaded : ℕ = word_of_row r (Behind (SaveOf page)) before in
-    let ends = RoundEnds.look_ends (at_stage r (LoadsSave page busy)) page loaded busy Saved (decode_save loaded) refl acts.tells in
-    absurd (let e = ends.told_word in cc)
 saves_page r (Saves s) before after sound whole acts =
     let own = sound.stage.1 in
     let ends = RoundEnds.saving_ends r s before after Saved acts in
@@ -164,7 +167,7 @@ saves_page r (Saves s) before after sound whole acts =
     }
 saves_page r ExchangesDone before after sound whole acts =
     absurd (exchange_never_saves r (reply_of (Exchange (whole_place_of r.layout.pages (Within DoneNumber)) (r.number - 1) r.number) before) acts.tells)
-saves_page r (Ended result) before after sound whole acts = absurd (no_step acts.has_step)
+saves_page r stage before after sound whole acts = absurd (let e = (word_told r stage before after Saved tt acts).1 in cc)
 
 -- ---- the checkpoint is done
 
@@ -174,36 +177,19 @@ not_marked (save_end.Taken lost) same = cc
 
 pub marks_done : (r : SavingRound) (stage : SaveRoundStage) (before after : List ℕ) → IsSoundSaveRound (at_stage r stage) → HoldsWhole r.layout before
     → MakesStep save_round_machine (at_stage r stage) before after (Finished Marked) → MarksDone (at_stage r stage) before after
-marks_done r LoadsGate before after sound whole acts =
-    let loaded : ℕ = word_of_row r (Within Gate) before in
-    let ends = RoundEnds.gate_ends (at_stage r LoadsGate) loaded Marked (decode_gate loaded) acts.tells in
-    absurd (let e = ends.told_word in cc)
-marks_done r LoadsSnap before after sound whole acts =
-    absurd (RoundEnds.snap_never (at_stage r LoadsSnap) (SaveRound.number_in (word_of_row r (Within SnapNumber) before)) Marked acts.tells)
 marks_done r LoadsDone before after sound whole acts =
     let ends = RoundEnds.done_ends (at_stage r LoadsDone) Marked (SaveRound.number_in (word_of_row r (Within DoneNumber) before)) acts.tells in
     absurd (let e = ends.told_number in cc)
-marks_done r LoadsGateAgain before after sound whole acts =
-    let loaded : ℕ = word_of_row r (Within Gate) before in
-    let ends = RoundEnds.gate_again_ends (at_stage r LoadsGateAgain) loaded Marked (decode_gate loaded) acts.tells in
-    absurd (let e = ends.told_word in cc)
-marks_done r (LoadsPage page busy) before after sound whole acts =
-    let ends = RoundEnds.page_ends (at_stage r (LoadsPage page busy)) page (word_of_row r (Within (Page page)) before) busy Marked acts.tells in
-    absurd (let e = ends.0.told_word in cc)
-marks_done r (LoadsSave page busy) before after sound whole acts =
-    let loaded : ℕ = word_of_row r (Behind (SaveOf page)) before in
-    let ends = RoundEnds.look_ends (at_stage r (LoadsSave page busy)) page loaded busy Marked (decode_save loaded) refl acts.tells in
-    absurd (let e = ends.told_word in cc)
 marks_done r (Saves s) before after sound whole acts =
     let ends = RoundEnds.saving_ends r s before after Marked acts in absurd (not_marked ends.outcome ends.told_end)
 marks_done r ExchangesDone before after sound whole acts =
     let p : ℕ = whole_place_of r.layout.pages (Within DoneNumber) in
     let won = RoundEnds.exchange_wins (at_stage r ExchangesDone) (reply_of (Exchange p (r.number - 1) r.number) before) acts.tells refl in
-    let inside = whole_place_of_lt r.layout (Within DoneNumber) sound.room tt in
+    let inside = whole_place_of-lt r.layout (Within DoneNumber) sound.room tt in
     record {
       last = refl;
       was = (won_exactly p (r.number - 1) r.number before).0 won;
       is = ap (λ ws. slice_index ws p) acts.makes ∙ slice_index-won p (r.number - 1) r.number before (omega (arith, inside, whole)) won;
       others = λ other apart. ap (λ ws. slice_index ws other) acts.makes ∙ slice_index-words_after (Exchange p (r.number - 1) r.number) before other apart;
     }
-marks_done r (Ended result) before after sound whole acts = absurd (no_step acts.has_step)
+marks_done r stage before after sound whole acts = absurd (let e = (word_told r stage before after Marked tt acts).1 in cc)

@@ -20,7 +20,7 @@ use Rattle.page_saves.specs.Save.{PageSaving, save_machine, told_at, next_stage,
 use Rattle.page_saves.specs.SoundSave.{IsSoundSave}
 use Rattle.page_saves.specs.Theorems.{BeginsSave, ShowsSaveTaken, EndsSave, place}
 use Rattle.space_map.specs.WholeTable.{Behind, HoldsWhole}
-use Rattle.page_saves.proofs.WholeRows.{whole_place_of_lt}
+use Rattle.space_map.proofs.WholeRows.{whole_place_of-lt}
 
 abbrev at : PageSaving → SaveStage → PageSaving
 at s stage = record s { stage = stage }
@@ -61,7 +61,7 @@ begins s before after sound whole acts =
     let new : ℕ = encode_save (save_word.Saving s.number s.worker) in
     let won : reply_of (Exchange p (encode_save s.found) new) before ≡ reply.Won = exchange_wins _ _ acts.tells in
     let was = (won_exactly p (encode_save s.found) new before).0 won in
-    let inside = whole_place_of_lt s.layout (Behind (SaveOf s.page)) sound.room sound.page in
+    let inside = whole_place_of-lt s.layout (Behind (SaveOf s.page)) sound.room sound.page in
     let number = sound.number in
     let worker = sound.worker in
     record {
@@ -96,7 +96,7 @@ ends s (StoresImage i value) before after sound whole acts = absurd (word_goes_o
 ends s StoresSaved before after sound whole acts =
     let p : ℕ = place s (Behind (SaveOf s.page)) in
     let new : ℕ = encode_save (save_word.Saved s.number) in
-    let inside = whole_place_of_lt s.layout (Behind (SaveOf s.page)) sound.room sound.page in
+    let inside = whole_place_of-lt s.layout (Behind (SaveOf s.page)) sound.room sound.page in
     record {
       last = refl;
       is = ap (λ ws. decode_save (slice_index ws p)) acts.makes

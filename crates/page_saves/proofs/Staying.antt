@@ -118,27 +118,34 @@ waits_is says number is = by_tests (nat_lt (number_of says) number) (nat_eq (num
     by_tests false true test e = absurd (within_never_waits says e)
     by_tests false false test e = absurd (cc)
 
--- ---- the look before a write
-
-by_looked : (g : Guarding) (stage : GuardStage) (word : ℕ) (says : SaveWord) (state : SaveState) → IsSoundGuard (record g { stage = stage }) → decode_save word ≡ Some says
-    → state_of says g.number ≡ state → FitsGuardStage g (guard.looked_by g says state)
-by_looked g stage word says Waits sound reads is = record {
+-- a save that begins is its worker's own
+begun_own : (layout : Layout) (page number worker word : ℕ) (says : SaveWord) → IsPageCount layout.pages → layout.checkpoints ≡ true → page ≤ board_page layout.pages
+    → number < 2 ^ 32 → worker ≤ LAST_WORKER → decode_save word ≡ Some says → state_of says number ≡ Waits
+    → IsOwnSave layout page number worker (save.begun layout page says number worker)
+begun_own layout page number worker word says pages room in_table number_fits worker_fits reads is = record {
   in_layout = refl;
   of_page = refl;
   for_number = refl;
   by_worker = refl;
   going = tt;
   sound = record {
-    pages = sound.pages;
-    room = sound.room;
-    page = sound.page;
+    pages = pages;
+    room = room;
+    page = in_table;
     found = SaveFits-decode_save word says reads;
-    earlier = waits_is says g.number is;
-    number = sound.number;
-    worker = sound.worker;
+    earlier = waits_is says number is;
+    number = number_fits;
+    worker = worker_fits;
     stage = tt;
   };
 }
+
+-- ---- the look before a write
+
+by_looked : (g : Guarding) (stage : GuardStage) (word : ℕ) (says : SaveWord) (state : SaveState) → IsSoundGuard (record g { stage = stage }) → decode_save word ≡ Some says
+    → state_of says g.number ≡ state → FitsGuardStage g (guard.looked_by g says state)
+by_looked g stage word says Waits sound reads is =
+    begun_own g.layout g.page g.number g.worker word says sound.pages sound.room sound.page sound.number sound.worker reads is
 by_looked g stage word says Copying sound reads is = tt
 by_looked g stage word says Kept sound reads is = tt
 by_looked g stage word says Past sound reads is = tt
@@ -260,26 +267,8 @@ by_page r page busy word fits = by_test (nat_eq word (encode_page (Open r.epoch)
 
 by_state : (r : SavingRound) (page : ℕ) (busy : Bool) (word : ℕ) (says : SaveWord) (state : SaveState) → IsReady r → IsRoundPage r page → decode_save word ≡ Some says
     → state_of says r.number ≡ state → FitsSaveRoundStage r (SaveRound.looked_by r page busy word says state)
-by_state r page busy word says Waits ready fits reads is = (
-  fits,
-  record {
-    in_layout = refl;
-    of_page = refl;
-    for_number = refl;
-    by_worker = refl;
-    going = tt;
-    sound = record {
-      pages = ready.pages;
-      room = ready.room;
-      page = fits.in_table;
-      found = SaveFits-decode_save word says reads;
-      earlier = waits_is says r.number is;
-      number = ready.number;
-      worker = ready.worker;
-      stage = tt;
-    };
-  },
-)
+by_state r page busy word says Waits ready fits reads is =
+    (fits, begun_own r.layout page r.number r.worker word says ready.pages ready.room fits.in_table ready.number ready.worker reads is)
 by_state r page busy word says Copying ready fits reads is = by_passed r page true word fits
 by_state r page busy word says Kept ready fits reads is = by_passed r page busy word fits
 by_state r page busy word says Past ready fits reads is = tt

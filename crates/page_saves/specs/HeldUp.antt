@@ -1,6 +1,6 @@
 -- What alone holds the machines up: nothing does a save, another worker's save a look before a write, and a round a word that can't
 -- be there.
-use Rattle.std.specs.Prelude.{◌≡◌, ℕ, ◌^◌, ◌<◌, ◌≤◌, true, false, List, Some, None}
+use Rattle.std.specs.Prelude.{◌≡◌, ◌≢◌, ℕ, ◌^◌, ◌<◌, ◌≤◌, true, false, List, Some, None}
 use Rattle.atom_store.specs.declared.reply.Reply.{Reply}
 use Rattle.atom_store.specs.declared.reply.Reply.TheVariants.{Value, Lost}
 use Rattle.atom_store.specs.declared.step.Step.{Step}
@@ -25,16 +25,17 @@ use Rattle.page_saves.specs.SaveRound as round
 abbrev pub SavesGoOn : Type 0
 SavesGoOn = (s : PageSaving) (step : Step) (met : List ℕ) → save.wanted s ≡ Some step → save.advances s (reply_of step met) ≡ true
 
--- the word makes a look before a write look again: another worker saves the page for this checkpoint, or the word can't be there,
--- since it says nothing or is of a later checkpoint
-pub data MakesLookAgain (number word : ℕ) : Type 0 where
-  AnotherSaves : (worker : ℕ) → decode_save word ≡ Some (Saving number worker) → MakesLookAgain number word
-  SaysNothing : decode_save word ≡ None → MakesLookAgain number word
-  IsOfLater : (says : SaveWord) → decode_save word ≡ Some says → number < number_of says → MakesLookAgain number word
+-- the word makes a worker's look before a write look again: another worker saves the page for this checkpoint, or the word can't be
+-- there, since it says nothing, is of a later checkpoint, or says that this worker saves the page, which only looks at it
+pub data MakesLookAgain (number worker word : ℕ) : Type 0 where
+  AnotherSaves : (other : ℕ) → other ≢ worker → decode_save word ≡ Some (Saving number other) → MakesLookAgain number worker word
+  SaysNothing : decode_save word ≡ None → MakesLookAgain number worker word
+  IsOfLater : (says : SaveWord) → decode_save word ≡ Some says → number < number_of says → MakesLookAgain number worker word
+  IsOwn : decode_save word ≡ Some (Saving number worker) → MakesLookAgain number worker word
 
 -- such a word, or a lost exchange: another worker saves the page then
 abbrev pub IsGuardHeldUp : Guarding → GuardStage → Reply → Type 0
-IsGuardHeldUp g guard_stage.Looks (Value word) = MakesLookAgain g.number word
+IsGuardHeldUp g guard_stage.Looks (Value word) = MakesLookAgain g.number g.worker word
 IsGuardHeldUp g (guard_stage.Saves s) (Lost word) = s.stage ≡ Exchanges
 IsGuardHeldUp g stage reply = ⊥
 

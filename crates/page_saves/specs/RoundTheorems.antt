@@ -32,17 +32,6 @@ word_of_row r row words = whole_word r.layout.pages row words
 
 -- ---- what a round tells
 
--- the number of the last checkpoint that is done is that of the last one begun, as it was read; no word changes
-pub record ShowsNoneRuns (r : SavingRound) (before after : List ℕ) (number : ℕ) : Type 0 where
-  pub last : r.stage ≡ LoadsDone
-  pub read : number ≡ word_of_row r (Within DoneNumber) before
-  pub same : number ≡ r.number
-  pub stays : after ≡ before
-
-abbrev pub NoneRunsIsShown : Type 0
-NoneRunsIsShown = (r : SavingRound) (before after : List ℕ) (number : ℕ)
-    → MakesStep save_round_machine r before after (Finished (NoneRuns number)) → ShowsNoneRuns r before after number
-
 -- a save of the round's own has just ended
 pub record SavesPage (r : SavingRound) (before after : List ℕ) : Type 0 where
   pub save : PageSaving
@@ -162,10 +151,23 @@ abbrev pub HasReadAll : (begun : SavingRound) (met : ℕ → List ℕ) (n : ℕ)
 HasReadAll begun met n pages epoch number Mutates = HasReadDone begun met n pages epoch number Mutates
 HasReadAll begun met n pages epoch number (Scans mutators) = HasReadGateAgain begun met n pages epoch number (Scans mutators)
 
+-- the round that is to make its step n has read the number of the checkpoint begun last, and loads it now as that of the one done
+-- last; no word changes
+pub record ShowsNoneRuns (begun : SavingRound) (met : ℕ → List ℕ) (n : ℕ) (r : SavingRound) (after : List ℕ) (number : ℕ) : Type 0 where
+  pub last : r.stage ≡ LoadsDone
+  pub begun_last : HasReadSnap begun met n r.layout.pages r.epoch number r.caller
+  pub done_last : number ≡ word_of_row r (Within DoneNumber) (met n)
+  pub same : number ≡ r.number
+  pub stays : after ≡ met n
+
 -- a round as it is made, for a mutator or for a scanner
 pub data IsBegun (r : SavingRound) : Type 0 where
   ByMutator : (layout : Layout) (epoch worker : ℕ) → r ≡ begun_by_mutator layout epoch worker → IsBegun r
   ByScanner : (layout : Layout) (mutators worker : ℕ) → r ≡ begun_by_scanner layout mutators worker → IsBegun r
+
+abbrev pub NoneRunsIsShown : Type 0
+NoneRunsIsShown = (begun : SavingRound) (met : ℕ → List ℕ) (n : ℕ) (r : SavingRound) (after : List ℕ) (number : ℕ) → IsBegun begun
+    → round_after begun met n ≡ r → MakesStep save_round_machine r (met n) after (Finished (NoneRuns number)) → ShowsNoneRuns begun met n r after number
 
 -- the round looks at pages, saves one, or is about to mark the checkpoint
 abbrev pub IsAtPages : SaveRoundStage → Type 0

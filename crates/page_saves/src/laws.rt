@@ -1,11 +1,7 @@
 //! What holds of the machines. Each function here does nothing: its contract is what is proved.
 
 ghost use Rattle.page_saves.specs.Rows.{PageIsSaved, LostSaveEnds, LaterSaveEnds, AnotherSavesFirst, NewPageIsWritten, PageIsSavedFirst, LostSaveIsLookedAt, NoSuchWordIsLookedAt, NoneIsLeft, FirstPageIsSaved, CheckpointIsMarked, LostMarkEnds, BusyPageForbidsMark, BusyLastPageForbidsMark, LaterCheckpointEnds, NoNumberIsReadAgain, ScannerLooksTwice, SecondLookEnds, LastScannerEnds, OtherSpaceIsSaved};
-ghost use Rattle.std.specs.Prelude.{◌≡◌, ◌<◌, ℕ, true};
 ghost use Rattle.atom_store.specs.declared.reply.Reply.{Reply};
-ghost use Rattle.space_map.specs.Spaces.{Layout};
-ghost use Rattle.space_map.specs.Table.{whole_length};
-ghost use Rattle.space_map.specs.WholeTable.{WholeRow, IsWholeRow, whole_place_of};
 ghost use Rattle.page_saves.specs.Guard.{Guarding};
 ghost use Rattle.page_saves.specs.Guard as guard;
 ghost use Rattle.page_saves.specs.Save.{PageSaving};
@@ -19,13 +15,7 @@ ghost use Rattle.page_saves.specs.HeldUp.{SavesGoOn, GuardsGoOn, SaveRoundsGoOn}
 ghost use Rattle.page_saves.specs.Theorems.{WonExchangesBegin, TakenSavesShowIt, SavedPagesSaySo, WonSavesCopy, EndedSavesCopied, GuardsEndOnKept};
 ghost use Rattle.page_saves.specs.RoundTheorems.{NoneRunsIsShown, SavedPagesAreOwn, MarkedCheckpointsAreDone, NothingToSaveIsShown, RoundsReadFirst, RoundsMarkWhatIsKept};
 
-/// No two rows of the whole table have one place.
-pub fn whole_rows_lie_apart()
-    ensures apart { (n : ℕ) (a b : WholeRow) → IsWholeRow n a → IsWholeRow n b → whole_place_of n a ≡ whole_place_of n b → a ≡ b }
-    ensures in_table { (l : Layout) (row : WholeRow) → l.checkpoints ≡ true → IsWholeRow l.pages row → whole_place_of l.pages row < whole_length l }
-{}
-
-/// A save exchanges what is said of its page, which was of no checkpoint or an earlier one. Where it loses that, the word shows
+/// A save exchanges what is said of its page, which was of no checkpoint or an earlier one. If it loses that, the word shows
 /// it. Else it copies each word of the page, and says then that the page is saved. One that ends so has won the exchange.
 pub fn saves_copy_pages()
     ensures begins { WonExchangesBegin }
@@ -35,7 +25,7 @@ pub fn saves_copy_pages()
     ensures copied { EndedSavesCopied }
 {}
 
-/// A look before a write ends only where the page was read to be saved for the checkpoint or new, or by a save of its own.
+/// A look before a write ends only if the page was read to be saved for the checkpoint or new, or by a save of its own.
 pub fn looks_end_on_kept_pages()
     ensures { GuardsEndOnKept }
 {}

@@ -29,7 +29,7 @@ pub use guard_stage::GuardStage;
 pub use laws::{
     looks_end_on_kept_pages, looks_go_on, machines_stay_sound, rows_are_worked_out,
     save_rounds_go_on, save_rounds_mark_what_is_kept, save_rounds_show_why, saves_copy_pages,
-    saves_go_on, whole_rows_lie_apart,
+    saves_go_on,
 };
 pub use may_write::MayWrite;
 pub use save::Save;

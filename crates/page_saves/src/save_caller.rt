@@ -1,5 +1,5 @@
 /// For whom a save round is made.
-#[derive(Clone, Copy, Debug, PartialEq, Eq)]
+#[derive(Clone, Copy)]
 pub enum SaveCaller {
     /// A mutator, which runs: neither the epoch nor the checkpoint changes meanwhile.
     Mutates,

@@ -5,7 +5,7 @@ ghost use Rattle.page_saves.specs.SaveState.{state_of};
 use space_map::SaveWord;
 
 /// What is said of a page, as one checkpoint sees it.
-#[derive(Clone, Copy, Debug, PartialEq, Eq)]
+#[derive(Clone, Copy)]
 pub enum SaveState {
     /// Nothing, or of an earlier checkpoint: the page isn't saved yet.
     Waits,

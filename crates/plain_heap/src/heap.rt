@@ -142,7 +142,7 @@ impl PlainHeap {
     }
 
     /// Begins a checkpoint, which keeps the board and the records. Once there have been the most, or
-    /// where memory is out, nothing changes.
+    /// if memory is out, nothing changes.
     pub fn snap(&mut self, alloc: Global) -> Result<(), NoMemory>
         ensures ok { OnOk result (self.new ≡ took self.old) }
         ensures err { OnErr result (self.new ≡ self.old) }

@@ -3,6 +3,7 @@ pub mod Rows
 pub mod AreaWords
 pub mod GateWords
 pub mod Narrowed
+pub mod StateWords
 pub mod PageWords
 pub mod SaveWords
 pub mod WholeRows

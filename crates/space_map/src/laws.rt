@@ -9,6 +9,7 @@ ghost use Rattle.space_map.specs.declared.save_word.SaveWord.{SaveWord};
 ghost use Rattle.space_map.specs.SaveWord.{SaveFits, decode_save, encode_save};
 ghost use Rattle.space_map.specs.Spaces.{Layout};
 ghost use Rattle.space_map.specs.Table.{Row, SaveRow, IsRow, IsSaveRow, place_of, save_place_of, table_length, whole_length};
+ghost use Rattle.space_map.specs.WholeTable.{WholeRow, IsWholeRow, whole_place_of};
 
 /// No two rows of the table have one place.
 pub fn rows_lie_apart()
@@ -17,6 +18,12 @@ pub fn rows_lie_apart()
     ensures saves_apart { (n : ℕ) (a b : SaveRow) → IsSaveRow n a → IsSaveRow n b → save_place_of n a ≡ save_place_of n b → a ≡ b }
     ensures saves_behind { (n : ℕ) (row : SaveRow) → table_length n ≤ save_place_of n row }
     ensures saves_in_table { (l : Layout) (row : SaveRow) → l.checkpoints ≡ true → IsSaveRow l.pages row → save_place_of l.pages row < whole_length l }
+{}
+
+/// No two rows of the whole table have one place.
+pub fn whole_rows_lie_apart()
+    ensures apart { (n : ℕ) (a b : WholeRow) → IsWholeRow n a → IsWholeRow n b → whole_place_of n a ≡ whole_place_of n b → a ≡ b }
+    ensures in_table { (l : Layout) (row : WholeRow) → l.checkpoints ≡ true → IsWholeRow l.pages row → whole_place_of l.pages row < whole_length l }
 {}
 
 /// Each area word says one thing, and each thing is said by one word.

@@ -20,7 +20,7 @@ pub use crossing::crossed;
 pub use gate_word::GateWord;
 pub use laws::{
     area_words_are_unambiguous, gate_words_are_unambiguous, page_words_are_unambiguous,
-    rows_lie_apart, save_words_are_unambiguous,
+    rows_lie_apart, save_words_are_unambiguous, whole_rows_lie_apart,
 };
 pub use page_word::PageWord;
 pub use save_word::SaveWord;

@@ -45,7 +45,7 @@ impl SaveWord {
         }
     }
 
-    /// What the word says of its page, where it is such a word at all.
+    /// What the word says of its page, if it is such a word at all.
     pub fn read(word: u64) -> Option<SaveWord>
         ensures decoded { result ≡ decode_save word }
         ensures one_spelling { IfSome result (λ save. encode_save save ≡ word) }
@@ -57,7 +57,7 @@ impl SaveWord {
         SaveWord::said(word & STATE_MASK, worker, number)
     }
 
-    /// The number of the checkpoint of which it speaks, or 0 where of none.
+    /// The number of the checkpoint of which it speaks, or 0 if of none.
     pub fn number(self) -> u32
         ensures { result ≡ number_of self }
     {

@@ -20,24 +20,28 @@ use Rattle.gate_core.specs.declared.flipped.Flipped.{Flipped}
 use Rattle.gate_core.specs.declared.flipped.Flipped.TheVariants as flipped
 use Rattle.gate_core.specs.declared.passage.Passage.TheVariants.{Park}
 use Rattle.gate_core.specs.Flip as flip
+use Rattle.gate_core.specs.declared.snap.snapped.Snapped.{Snapped}
+use Rattle.gate_core.specs.declared.snap.snapped.Snapped.TheVariants as snapped
+use Rattle.gate_core.specs.Snap as snap
 use Rattle.gc_worker.specs.declared.access.Access.{Access}
 use Rattle.gc_worker.specs.declared.access.accessed.Accessed.{Accessed}
 use Rattle.gc_worker.specs.declared.access.accessed.Accessed.TheVariants.{Faults, Brings, Stored, Fails}
 use Rattle.gc_worker.specs.declared.stage.after.After.TheVariants as afters
 use Rattle.gc_worker.specs.declared.stage.Stage.{Stage}
-use Rattle.gc_worker.specs.declared.stage.Stage.TheVariants.{Looks, Passes, Flips, Forwards, Accesses, Places, Serves, Scans, Evacuates, Opens, Gone}
+use Rattle.gc_worker.specs.declared.stage.Stage.TheVariants.{Looks, Passes, Flips, Forwards, Accesses, Places, Serves, Scans, Evacuates, Opens, Recalls, Guards, Checkpoints, BeginsCheckpoint, Gone}
 use Rattle.gc_worker.specs.declared.task.Task.{Task}
 use Rattle.gc_worker.specs.declared.task.Task.TheVariants.{Calls, Stops}
 use Rattle.gc_worker.specs.Steps.Access as access
 use Rattle.gc_worker.specs.Workers.Begun.{IsPastLook}
 use Rattle.gc_worker.specs.Workers.Counted.{counted}
 use Rattle.gc_worker.specs.Workers.Fits.{Fits, FitsTask}
-use Rattle.gc_worker.specs.Workers.Held.{Held, pages_needed, at_stage, making_for}
+use Rattle.gc_worker.specs.Workers.Held.{Held, pages_needed, at_stage, making_for, may_snap}
 use Rattle.gc_worker.specs.Laws.Step.{FlipsWhereTold}
 use Rattle.gc_worker.specs.declared.steps.allocating.Making.{Making}
 use Rattle.gc_worker.specs.Plain.Seen.{seen}
 use Rattle.gc_worker.specs.declared.calls.did.Did.{Did}
-use Rattle.gc_worker.specs.Steps.Turned.{Told, Silent, Answers, Marks, acted, acts, begins, end_by_shortage, ended, full_by, is_full, looked_by, passes, started, told, told_access, told_acted, told_action, told_at, told_effect, told_end, told_flip, told_full, told_gate, told_look, told_place, told_start, turned, turned_access, turned_at, turned_flip, turned_look, turned_place, with_record}
+use Rattle.gc_worker.specs.declared.calls.did.Did.TheVariants.{Done}
+use Rattle.gc_worker.specs.Steps.Turned.{Told, Silent, Answers, Marks, acted, acts, begins, begins_checkpoint, end_by_shortage, ended, full_by, is_full, looked_by, passes, started, told, told_access, told_acted, told_action, told_at, told_effect, told_end, told_flip, told_full, told_gate, told_look, told_place, told_snap, told_start, turned, turned_access, turned_at, turned_flip, turned_look, turned_place, turned_snap, went_on, with_record}
 use Rattle.gc_worker.proofs.Between.Pages.Claims.{flips_at}
 use Rattle.gc_worker.proofs.Workers.ApartFromCount.{counted_fit}
 
@@ -76,12 +80,16 @@ module _ (x : Held) where
 
   -- ---- a look
 
-  by_action : (task : Task) (act : Action) → Stays ⊥ x (acts (begins x) act) (told_action task act)
+  snap_stays : (task : Task) (b : Bool) (y : Held) → Stays ⊥ x (cond b y (went_on (begins x))) (cond b Silent (Answers task Done))
+  snap_stays task true y = tt
+  snap_stays task false y = (refl, λ past. absurd past)
+
+  by_action : (task : Task) (act : Action) → Stays ⊥ x (acts (begins x) act) (told_action x task act)
   by_action task (Sets d v) = (refl, λ past. absurd past)
   by_action task (Jumps target) = (refl, λ past. absurd past)
   by_action task (Links d target) = (refl, λ past. absurd past)
   by_action task (Prints n) = (refl, λ past. absurd past)
-  by_action task Snaps = (refl, λ past. absurd past)
+  by_action task Snaps = snap_stays task (may_snap x) _
   by_action task (Makes kind d n) = tt
   by_action task (Measures d i) = tt
   by_action task (Loads d i n) = tt
@@ -91,7 +99,7 @@ module _ (x : Held) where
   by_action task (Puts n v) = tt
   by_action task (Swaps d n v) = tt
 
-  by_result : (task : Task) (r : Result Action End) → Stays ⊥ x (acted (begins x) r) (told_acted task r)
+  by_result : (task : Task) (r : Result Action End) → Stays ⊥ x (acted (begins x) r) (told_acted x task r)
   by_result task (Ok act) = by_action task act
   by_result task (Err why) = (refl, λ past. absurd past)
 
@@ -145,6 +153,13 @@ module _ (x : Held) where
   place_stays p (Finished (Placed at)) = placed_stays p.run at (making_for x x.task)
   place_stays p (Finished (Full s)) = shortage_stays s s.traced
 
+  -- ---- a checkpoint that begins
+
+  begun_stays : (s : snap.Snapping) (turn : Turn Snapped) → Stays ⊤ x (turned_snap x s turn) (told_snap x.task turn)
+  begun_stays s More = tt
+  begun_stays s (Finished (snapped.Begun seen)) = effect_stays (begins_checkpoint x seen) refl refl x.task
+  begun_stays s (Finished (snapped.NotYet word)) = tt
+
   -- ---- each stage
 
   by_stage : (stage : Stage) (reply : Reply) → Stays (IsPastLook stage) x (turned_at x stage reply) (told_at x stage reply)
@@ -158,6 +173,10 @@ module _ (x : Held) where
   by_stage (Scans s back) reply = tt
   by_stage (Evacuates v s back) reply = tt
   by_stage (Opens o s back) reply = tt
+  by_stage (Recalls r after) reply = tt
+  by_stage (Guards g write) reply = tt
+  by_stage (Checkpoints r goal) reply = tt
+  by_stage (BeginsCheckpoint s) reply = begun_stays (snap.taken s reply) (snap.told (snap.taken s reply))
   by_stage Gone reply = tt
 
   pub answers_in_epoch : (reply : Reply) (task : Task) (outcome : Did) → told x reply ≡ Answers task outcome → (turned x reply).epoch ≡ x.epoch

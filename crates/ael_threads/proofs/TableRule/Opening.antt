@@ -3,11 +3,9 @@ use Rattle.std.proofs.Common.{◌≡◌, ◌≢◌, ℕ, zero, suc, ◌+◌, ◌
 use mathlib.Core.Option.{some, some-injective, some-ne-none}
 use lib.ListN.{get_elem?}
 use Rattle.atomic_table.specs.Table as table
-use Rattle.heap_laws.specs.Opening.{opening_entries}
-use Rattle.heap_state.specs.Memory.Entries.{written}
 use Rattle.space_map.specs.declared.spaces.TheConstants.{FEWEST_PAGES}
 use Rattle.space_map.specs.Spaces.{Layout, IsPageCount}
-use Rattle.gc_worker.specs.Laws.Between.{fresh_mutator, fresh_scanner, fresh_worker, fresh_workers}
+use Rattle.gc_worker.specs.Laws.Between.{fresh_mutator, fresh_scanner, fresh_worker, fresh_workers, opening_words}
 use Rattle.gc_worker.specs.Laws.Cycles.{IsInCall}
 use Rattle.gc_worker.specs.Workers.Held.{Held}
 use Rattle.gc_worker.specs.Steps.Stepped.{uncounted}
@@ -23,7 +21,7 @@ use Rattle.ael_threads.proofs.Lists.Elements.{not_empty, prefix_self}
 use Rattle.gc_worker.proofs.History.Opening.{opening_tallied}
 
 abbrev pub first_words : Plan → List ℕ
-first_words plan = written plan.spaces.pages (opening_entries plan.spaces.pages plan.least)
+first_words plan = opening_words plan.spaces plan.least
 
 -- the workers as they stand in the list
 abbrev first_workers : Plan → List Held
@@ -79,8 +77,9 @@ fresh_looks s mutators from zero m x is call = absurd (some-ne-none x (sym is))
 fresh_looks s mutators from (suc count) zero x is call = new_looks s mutators from (subst (λ (y : Held). IsInCall y.stage) (sym (some-injective (fresh_worker s mutators from) x is)) call)
 fresh_looks s mutators from (suc count) (suc m) x is call = fresh_looks s mutators (from + 1) count m x is call
 
-pub opens_kept : (plan : Plan) → IsPageCount plan.spaces.pages → FEWEST_PAGES ≤ plan.least → plan.least ≤ plan.spaces.pages → plan.mutators ≤ 16 → crew plan ≤ 24 → RuleHolds plan (table.opening {S = ℕ} (first_words plan) [] (first_view plan))
-opens_kept plan size fewest most few all = record {
+pub opens_kept : (plan : Plan) → plan.spaces.checkpoints ≡ false → IsPageCount plan.spaces.pages → FEWEST_PAGES ≤ plan.least → plan.least ≤ plan.spaces.pages → plan.mutators ≤ 16 → crew plan ≤ 24 → RuleHolds plan (table.opening {S = ℕ} (first_words plan) [] (first_view plan))
+opens_kept plan without size fewest most few all = record {
+  without = without;
   log = [];
   workers = first_workers plan;
   count = count_is plan.spaces plan.mutators 0 (crew plan);

@@ -8,6 +8,7 @@ use Rattle.atomic_table.specs.Table as table
 use Rattle.atom_store.specs.declared.reply.Reply.{Reply}
 use Rattle.atom_store.specs.declared.step.Step.{Step}
 use Rattle.atom_store.specs.Step.{words_after, reply_of}
+use Rattle.space_map.specs.Spaces.{Layout}
 use Rattle.plain_state.specs.declared.end.End.{End}
 use Rattle.plain_state.specs.State.{Mutator, Plain}
 use Rattle.gc_worker.specs.declared.stage.Stage.TheVariants.{Gone, Looks}
@@ -51,7 +52,7 @@ use Rattle.ael_threads.proofs.Lists.Elements.{each_map, prefix_more, prefix_self
 use Rattle.gc_worker.proofs.History.Steps.{step_tallied}
 use Rattle.ael_threads.proofs.TableRule.Flips.{flips_by}
 use Rattle.gc_worker.proofs.History.Extensions.{Agrees, after_more, calls_more, calls_other, flip_more, legal_more, seen_keeps}
-use Rattle.ael_threads.proofs.WorkerSeats.Shown.{alike_by, ends_with, full_by, lands_by, live_by, looks_run, mutator_at, runs_aside, shown_by, unended}
+use Rattle.ael_threads.proofs.WorkerSeats.Shown.{alike_by, ends_with, full_by, lands_by, live_by, looks_run, mutator_at, rests_look, runs_aside, shown_by, unended}
 use Rattle.gc_worker.proofs.History.Tallies.{tally_flip, tally_now}
 use Rattle.gc_worker.proofs.History.Tasks.{task_tallied}
 use Rattle.ael_threads.proofs.TableRule.Views.{all_fit, my_fit}
@@ -235,8 +236,12 @@ module _ (plan : Plan) (id : ℕ) (was : Hand) (x : Held) (others : List Hand) (
   as_plain : (w : Mutator) → slice_get p'.mutators m ≡ Some w → IsAsPlain heap' p' m (counted count' z) w
   as_plain w its = subst (λ (h : Held). IsAsPlain heap' p' m h w) (get_or-set_same workers1 m (turned y r) nobody inside1 ∙ becomes) (so'.mutators m w its)
 
+  goes : KeepsToTask x r
+  goes = workers_go_on n plan.mutators m x r follows.fits
+
+  -- who answers by an effect looks at the gate: it has begun no checkpoint
   looks : (task : Task) → t ≡ Answers task Done → z.stage ≡ Looks
-  looks task is = ((workers_go_on n plan.mutators m x r follows.fits).answers task Done is).after
+  looks task is = rests_look n plan.mutators m x.stage z fits_z (ap (λ (l : Layout). l.checkpoints) (goes.layout ∙ follows.laid_out) ∙ b.without) (goes.answers task Done is).after
 
   -- the plain mutator of who runs
   its_mutator : IsRunning z → (w : Mutator) × (slice_get p'.mutators m ≡ Some w)
@@ -259,9 +264,6 @@ module _ (plan : Plan) (id : ℕ) (was : Hand) (x : Held) (others : List Hand) (
 
   showed_at : (w : Mutator) → slice_get p.mutators m ≡ Some w → IsShown (plain_after_seen v).heap m x w
   showed_at w its = showed w (sym agreed.mutator ∙ its)
-
-  goes : KeepsToTask x r
-  goes = workers_go_on n plan.mutators m x r follows.fits
 
   -- who had its end keeps its registers
   stays_ended : (w : Mutator) (end : End) → slice_get p.mutators m ≡ Some w → w.end ≡ Some end → ShowsRegisters z.registers w
@@ -367,6 +369,7 @@ module _ (plan : Plan) (id : ℕ) (was : Hand) (x : Held) (others : List Hand) (
 
   kept' : RuleHolds plan (record { words = later; homes = s.homes; views = slice_set s.views id v' })
   kept' = record {
+    without = b.without;
     log = log';
     workers = workers2;
     count = count2;

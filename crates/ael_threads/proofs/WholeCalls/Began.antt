@@ -1,5 +1,5 @@
 -- Who is in a call has begun it by a look.
-use Rattle.std.proofs.Common.{◌≡◌, ℕ, None, refl, sym, ◌∙◌, ap, subst}
+use Rattle.std.proofs.Common.{◌≡◌, ℕ, Bool, true, false, cond, None, refl, sym, ◌∙◌, ap, subst}
 use Rattle.atom_store.specs.declared.reply.Reply.{Reply}
 use Rattle.atom_store.specs.declared.turn.Turn.{Turn}
 use Rattle.atom_store.specs.declared.turn.Turn.TheVariants.{Finished, More}
@@ -8,17 +8,22 @@ use Rattle.gate_core.specs.declared.passage.Passage.TheVariants.{Attach, Clear, 
 use Rattle.gate_core.specs.declared.passed.Passed.{Passed}
 use Rattle.gate_core.specs.declared.passed.Passed.TheVariants as passed
 use Rattle.gate_core.specs.Gate as gate
+use Rattle.gate_core.specs.Recall as recall
 use Rattle.gc_worker.specs.declared.stage.after.After.{After}
 use Rattle.gc_worker.specs.declared.stage.after.After.TheVariants as afters
 use Rattle.gc_worker.specs.declared.stage.back.Back.{Back}
-use Rattle.gc_worker.specs.declared.stage.back.Back.TheVariants.{ToAccess, ToPlace, ToScanner}
+use Rattle.gc_worker.specs.declared.stage.back.Back.TheVariants.{ToAccess, ToPlace, ToScanner, ToSnap}
+use Rattle.gc_worker.specs.declared.stage.goal.Goal.{Goal}
+use Rattle.gc_worker.specs.declared.stage.goal.Goal.TheVariants.{ForFlip, ForScanner, ForSnap}
+use Rattle.gc_worker.specs.declared.stage.write.Write.{Write}
+use Rattle.gc_worker.specs.declared.stage.write.Write.TheVariants.{OfAccess, OfPlace}
 use Rattle.gc_worker.specs.declared.calls.did.Did.{Did}
 use Rattle.gc_worker.specs.declared.stage.Stage.{Stage}
-use Rattle.gc_worker.specs.declared.stage.Stage.TheVariants.{Accesses, Evacuates, Flips, Forwards, Gone, Looks, Opens, Passes, Places, Scans, Serves}
+use Rattle.gc_worker.specs.declared.stage.Stage.TheVariants.{Accesses, BeginsCheckpoint, Checkpoints, Evacuates, Flips, Forwards, Gone, Guards, Looks, Opens, Passes, Places, Recalls, Scans, Serves}
 use Rattle.gc_worker.specs.declared.task.Task.{Task}
-use Rattle.gc_worker.specs.Workers.Begun.{IsPastAfter, IsPastBack, IsPastLook}
+use Rattle.gc_worker.specs.Workers.Begun.{IsPastAfter, IsPastBack, IsPastGoal, IsPastLook}
 use Rattle.gc_worker.specs.Laws.Cycles.{IsInCall, IsInPassage}
-use Rattle.gc_worker.specs.Workers.Fits.{Fits, FitsTask, FitsTaskAfter, FitsTaskBack, FitsTaskBefore}
+use Rattle.gc_worker.specs.Workers.Fits.{Fits, FitsTask, FitsTaskAfter, FitsTaskAsking, FitsTaskBack, FitsTaskBefore, FitsTaskFor, FitsTaskWrite}
 use Rattle.gc_worker.specs.Workers.Held.{Held}
 use Rattle.gc_worker.specs.Steps.Turned.{Answers, passed_by, told_at, turned, turned_at, turned_gate}
 use Rattle.gc_worker.specs.Laws.Between.{with_task}
@@ -29,6 +34,12 @@ module _ (x : Held) (none : x.task ≡ None) where
   none_after : (after : After) → FitsTaskAfter x after → IsPastAfter after → ⊥
   none_after afters.Looks f call = call
   none_after afters.Places f call = let some = f.executes.task_is in let never = sym none ∙ some in cc
+  none_after afters.Snaps f call = let some = f.task_is in let never = sym none ∙ some in cc
+
+  none_asking : (after : After) → FitsTaskAsking x after → IsPastAfter after → ⊥
+  none_asking afters.Looks f call = call
+  none_asking afters.Places f call = none_after afters.Places f call
+  none_asking afters.Snaps f call = none_after afters.Snaps f call
 
   none_before : (passage : Passage) (after : After) → FitsTaskBefore x passage after → IsInPassage passage after → ⊥
   none_before Look after f call = call
@@ -36,14 +47,24 @@ module _ (x : Held) (none : x.task ≡ None) where
   none_before Leave after f call = call
   none_before Clear after f call = call
   none_before Park after f call = none_after after f call
-  none_before Request after f call = let some = f.0.executes.task_is in let never = sym none ∙ some in cc
+  none_before Request after f call = none_asking after f call
   none_before (Resume epoch) after f call = none_after after f call
   none_before Forwarded after f call = none_after after f call
 
   none_back : (back : Back) → FitsTaskBack x back → IsPastBack back → ⊥
   none_back (ToAccess a) f call = let some = f.executes.task_is in let never = sym none ∙ some in cc
   none_back ToPlace f call = let some = f.executes.task_is in let never = sym none ∙ some in cc
+  none_back ToSnap f call = let some = f.0.task_is in let never = sym none ∙ some in cc
   none_back ToScanner f call = call
+
+  none_writing : (write : Write) → FitsTaskWrite x write → ⊥
+  none_writing (OfAccess a) f = let some = f.executes.task_is in let never = sym none ∙ some in cc
+  none_writing (OfPlace p) f = let some = f.0.executes.task_is in let never = sym none ∙ some in cc
+
+  none_for : (goal : Goal) → FitsTaskFor x goal → IsPastGoal goal → ⊥
+  none_for ForFlip f call = let some = f.executes.task_is in let never = sym none ∙ some in cc
+  none_for ForSnap f call = let some = f.task_is in let never = sym none ∙ some in cc
+  none_for ForScanner f call = call
 
   pub none_at : (stage : Stage) → FitsTask x stage → IsInCall stage → ⊥
   none_at Looks f call = call
@@ -56,6 +77,10 @@ module _ (x : Held) (none : x.task ≡ None) where
   none_at (Scans s back) f call = none_back back f call
   none_at (Evacuates v s back) f call = none_back back f call
   none_at (Opens o s back) f call = none_back back f call
+  none_at (Recalls r after) f call = none_after after f call
+  none_at (Guards g write) f call = none_writing write f
+  none_at (Checkpoints r goal) f call = none_for goal f call
+  none_at (BeginsCheckpoint s) f call = none_after afters.Snaps f tt
   none_at Gone f call = call
 
 -- nor has it begun a task that it is given
@@ -75,15 +100,24 @@ answers_in_call x reply task did (Serves d back) e past = past
 answers_in_call x reply task did (Scans s back) e past = past
 answers_in_call x reply task did (Evacuates v s back) e past = past
 answers_in_call x reply task did (Opens o s back) e past = past
+answers_in_call x reply task did (Recalls r after) e past = past
+answers_in_call x reply task did (Guards g write) e past = tt
+answers_in_call x reply task did (Checkpoints r goal) e past = past
+answers_in_call x reply task did (BeginsCheckpoint s) e past = tt
 answers_in_call x reply task did Gone e past = past
 
 -- ---- who is in a call was in it before, unless it looked
 
 module _ (x : Held) where
+  -- who comes to the heap is in none
+  comes_in : (r : recall.Recalling) (b : Bool) → IsInCall (cond b (Recalls r afters.Looks) Looks) → ⊥
+  comes_in r true call = call
+  comes_in r false call = call
+
   passed_in : (after : After) (passage : Passage) (result : Passed) → FitsTaskBefore x passage after → IsPastAfter after → (IsInCall x.stage → IsInPassage passage after)
       → IsInCall (passed_by x after passage result).stage → IsInPassage passage after
   passed_in after Look result task past own call = absurd task
-  passed_in after Attach (passed.Went word) task past own call = call
+  passed_in after Attach (passed.Went word) task past own call = comes_in (recall.begun x.layout) x.layout.checkpoints call
   passed_in after Attach (passed.NotYet word) task past own call = call
   passed_in after Leave (passed.Went word) task past own call = call
   passed_in after Leave (passed.NotYet word) task past own call = own call
@@ -109,6 +143,10 @@ module _ (x : Held) where
   in_call_at reply (Scans s back) is task past call = past
   in_call_at reply (Evacuates v s back) is task past call = past
   in_call_at reply (Opens o s back) is task past call = past
+  in_call_at reply (Recalls r after) is task past call = past
+  in_call_at reply (Guards g write) is task past call = tt
+  in_call_at reply (Checkpoints r goal) is task past call = past
+  in_call_at reply (BeginsCheckpoint s) is task past call = tt
   in_call_at reply Gone is task past call = past
 
 pub was_in_call : (n mutators m : ℕ) (x : Held) (reply : Reply) → Fits n mutators m x → IsPastLook x.stage → IsInCall (turned x reply).stage → IsInCall x.stage

@@ -5,10 +5,11 @@ use mathlib.Core.List.{IsPrefix}
 use Rattle.atomic_table.specs.Seated.{TableId}
 use Rattle.atom_store.specs.declared.reply.Reply.{Reply}
 use Rattle.plain_state.specs.State.{Mutator}
-use Rattle.space_map.specs.Spaces.{IsPageCount}
-use Rattle.space_map.specs.Table.{table_length}
+use Rattle.plain_state.specs.State as plain
+use Rattle.space_map.specs.Spaces.{Layout, IsPageCount, without_checkpoints}
+use Rattle.space_map.specs.Table.{whole_length}
 use Rattle.gc_worker.specs.declared.task.Task.{Task}
-use Rattle.gc_worker.specs.Laws.Between.{Begins, IsAsPlain, IsIdle, fresh_mutator, fresh_scanner, opening_heap, with_task}
+use Rattle.gc_worker.specs.Laws.Between.{Begins, IsAsPlain, IsIdle, fresh_mutator, fresh_scanner, fresh_worker, opening_heap, with_task}
 use Rattle.gc_worker.specs.Workers.Counted.{counted}
 use Rattle.gc_worker.specs.Workers.Fits.{Fits, MayBegin}
 use Rattle.gc_worker.specs.Workers.Held.{Held}
@@ -16,6 +17,7 @@ use Rattle.gc_worker.specs.Laws.Step.{Heap, held_at, nobody}
 use Rattle.gc_worker.specs.Steps.Stepped.{IsSound, uncounted}
 use Rattle.gc_worker.specs.Steps.Turned.{turned}
 use Rattle.gc_worker.proofs.Between.Beginning.{tasks_may_begin}
+use Rattle.gc_worker.proofs.Between.GoingOn.{workers_go_on}
 use Rattle.gc_worker.proofs.Between.Opening.{heaps_open, mutator_fits, scanner_fits}
 use Rattle.gc_worker.proofs.Between.Standing.{what_stands_is_so}
 use Rattle.gc_worker.proofs.Workers.ApartFromCount.{beginning, counted_fit}
@@ -30,6 +32,7 @@ use Rattle.ael_threads.specs.Seats.{Follows, Heads, FitsTable, IsMine, IsShown, 
 use Rattle.ael_threads.proofs.Lists.Reads.{get_of}
 use Rattle.gc_worker.proofs.History.Extensions.{seen_keeps}
 use Rattle.ael_threads.proofs.TableRule.Opening.{uncounted_first, worker_at}
+use Rattle.ael_threads.proofs.WholeCalls.Acts.{heads_fit}
 use Rattle.ael_threads.proofs.WorkerSeats.Shown.{shown_by}
 
 -- ---- its own worker
@@ -48,8 +51,9 @@ begins plan x now task (was ∷ others) is h idle may = subst (Follows plan was.
       let r = h.readies count in
       let s = tasks_may_begin plan.spaces.pages plan.mutators was.number (counted count x) task ((counted_fit plan.spaces.pages plan.mutators was.number count x).1 h.fits)
       (record { is_mutator = idle.is_mutator; no_end = idle.no_end; no_task = idle.no_task }) (beginning count x (Some task) may) in
-      record { same = s.same ∙ r.same; fits = λ f. s.fits (r.fits f) };
+      record { same = s.same ∙ r.same; saver = s.saver ∙ r.saver; layout = s.layout ∙ r.layout; fits = λ f. s.fits (r.fits f) };
   fits = (tasks_may_begin plan.spaces.pages plan.mutators was.number x task h.fits idle may).fits h.fits;
+  laid_out = h.laid_out;
 })
 
 -- and shows what it did
@@ -66,20 +70,28 @@ pub shows_of : (a b : Seated) → a ≡ b → ShowsSeen a.worker a.knows → Sho
 shows_of a b same h = subst (λ (z : Seated). ShowsSeen z.worker z.knows) same h
 
 -- as it stands after a step
-stays : (plan : Plan) (m : ℕ) (x : Held) → Fits plan.spaces.pages plan.mutators m x → Follows plan m x x
-stays plan m x f = record { begins = inl refl; readies = λ count. record { same = refl; fits = λ g. g }; fits = f }
+stays : (plan : Plan) (m : ℕ) (x : Held) → Fits plan.spaces.pages plan.mutators m x → x.layout ≡ plan.spaces → Follows plan m x x
+stays plan m x f layout = record { begins = inl refl; readies = λ count. record { same = refl; saver = refl; layout = refl; fits = λ g. g }; fits = f; laid_out = layout }
 
-pub moved_heads : (v : View) (m : ℕ) (x now : Held) (r : Reply) (w : View) → Moves v m x r w → now ≡ uncounted (turned x r) → Heads w.plan now w.hands
-moved_heads v m x now r w t e =
-    let f : Fits v.plan.spaces.pages v.plan.mutators m (uncounted (turned x r)) = (counted_fit v.plan.spaces.pages v.plan.mutators m 0 (turned x r)).1 t.fits in
-    subst (λ (z : Plan × (Held × List Hand)). Heads z.0 z.1.0 z.1.1) (λ i. (sym t.plan i, (sym e i, sym t.hands i))) (stays v.plan m (uncounted (turned x r)) f)
+-- its layout is the heap's
+laid_out : (plan : Plan) (x : Held) (hs : List Hand) → Heads plan x hs → x.layout ≡ plan.spaces
+laid_out plan x [] h = absurd h
+laid_out plan x (was ∷ others) h = h.laid_out
+
+pub moved_heads : (v : View) (x now : Held) (r : Reply) (w : View) → Heads v.plan x v.hands → Moves v (first_number v.hands) x r w → now ≡ uncounted (turned x r) → Heads w.plan now w.hands
+moved_heads v x now r w h t e =
+    let n = v.plan.spaces.pages in
+    let m = first_number v.hands in
+    let f : Fits n v.plan.mutators m (uncounted (turned x r)) = (counted_fit n v.plan.mutators m 0 (turned x r)).1 t.fits in
+    let layout : (turned x r).layout ≡ v.plan.spaces = (workers_go_on n v.plan.mutators m x r (heads_fit v.plan x v.hands h)).layout ∙ laid_out v.plan x v.hands h in
+    subst (λ (z : Plan × (Held × List Hand)). Heads z.0 z.1.0 z.1.1) (λ i. (sym t.plan i, (sym e i, sym t.hands i))) (stays v.plan m (uncounted (turned x r)) f layout)
 
 pub sound_by : (n mutators k : ℕ) (x : Held) → Fits n mutators k x → IsSound x
 sound_by n mutators k x f = subst (λ (j : ℕ). Fits x.layout.pages x.mutators j x) (sym f.number)
     (subst (λ (m : ℕ). Fits x.layout.pages m k x) (sym f.beside) (subst (λ (pages : ℕ). Fits pages mutators k x) (sym f.pages) f))
 
 pub still_live : (t u : TableId) (v w : View) → t ≡ u → w.plan ≡ v.plan → FitsTable u v → FitsTable t w
-still_live t u v w e f live = subst (λ (z : TableId × Plan). (0 < z.1.spaces.pages) × (z.0.words ≡ table_length z.1.spaces.pages)) (λ i. (sym e i, sym f i)) live
+still_live t u v w e f live = subst (λ (z : TableId × Plan). (0 < z.1.spaces.pages) × (z.0.words ≡ whole_length z.1.spaces)) (λ i. (sym e i, sym f i)) live
 
 -- ---- a new caller
 
@@ -90,29 +102,46 @@ first_fits plan k size few = by_side (nat_lt k plan.mutators) refl
     by_side true e = mutator_fits plan.spaces plan.mutators k size few e
     by_side false e = scanner_fits plan.spaces plan.mutators k size few e
 
-pub fresh_heads : (plan : Plan) (k : ℕ) (x : Held) (v : View) → IsPageCount plan.spaces.pages → k ≤ 23 → x ≡ first_held plan k → v ≡ view plan (hand k (first_held plan k) [] ∷ []) [] [] [] → Heads v.plan x v.hands
-fresh_heads plan k x v size few e is =
-    subst (λ (z : Held × View). Heads z.1.plan z.0 z.1.hands) (λ i. (sym e i, sym is i)) (stays plan k (first_held plan k) (first_fits plan k size few))
-
-first_end : (plan : Plan) (k : ℕ) → (first_held plan k).account.end ≡ None
-first_end plan k = by_side (nat_lt k plan.mutators)
+first_layout : (plan : Plan) (k : ℕ) → (first_held plan k).layout ≡ plan.spaces
+first_layout plan k = by_side (nat_lt k plan.mutators)
   where
-    by_side : (b : Bool) → (if b then fresh_mutator plan.spaces plan.mutators k else fresh_scanner plan.spaces plan.mutators k).account.end ≡ None
+    by_side : (b : Bool) → (if b then fresh_mutator plan.spaces plan.mutators k else fresh_scanner plan.spaces plan.mutators k).layout ≡ plan.spaces
     by_side true = refl
     by_side false = refl
+
+pub fresh_heads : (plan : Plan) (k : ℕ) (x : Held) (v : View) → IsPageCount plan.spaces.pages → k ≤ 23 → x ≡ first_held plan k → v ≡ view plan (hand k (first_held plan k) [] ∷ []) [] [] [] → Heads v.plan x v.hands
+fresh_heads plan k x v size few e is =
+    subst (λ (z : Held × View). Heads z.1.plan z.0 z.1.hands) (λ i. (sym e i, sym is i)) (stays plan k (first_held plan k) (first_fits plan k size few) (first_layout plan k))
+
+first_end : (l : Layout) (mutators k : ℕ) → (fresh_worker l mutators k).account.end ≡ None
+first_end l mutators k = by_side (nat_lt k mutators)
+  where
+    by_side : (b : Bool) → (if b then fresh_mutator l mutators k else fresh_scanner l mutators k).account.end ≡ None
+    by_side true = refl
+    by_side false = refl
+
+-- whatever its layout, it shows the same
+shown_same : (records : plain.Heap) (q : Mutator) (l s : Layout) (mutators k : ℕ) → IsShown records k (fresh_worker l mutators k) q → IsShown records k (fresh_worker s mutators k) q
+shown_same records q l s mutators k = by_side (nat_lt k mutators)
+  where
+    by_side : (b : Bool) → IsShown records k (if b then fresh_mutator l mutators k else fresh_scanner l mutators k) q → IsShown records k (if b then fresh_mutator s mutators k else fresh_scanner s mutators k) q
+    by_side true h = record { counter = h.counter; printed = h.printed; end = h.end; serial = h.serial; registers = h.registers }
+    by_side false h = record { counter = h.counter; printed = h.printed; end = h.end; serial = h.serial; registers = h.registers }
 
 -- what it shows is the opening's plain mutator
 fresh_shown : (plan : Plan) (k : ℕ) → IsPageCount plan.spaces.pages → plan.mutators ≤ 16 → crew plan ≤ 24 → k < crew plan → (q : Mutator) → slice_get (first_plain plan).mutators k ≡ Some q
     → IsShown (first_plain plan).heap k (first_held plan k) q
 fresh_shown plan k size few all below q its =
     let n = plan.spaces.pages in
-    let h : Heap = opening_heap plan.spaces n plan.mutators plan.scanners in
-    let so = what_stands_is_so h (first_plain plan) (first_plain plan) (heaps_open plan.spaces n plan.mutators plan.scanners size size.0 (omega arith) few all) in
+    let l : Layout = without_checkpoints n in
+    let first : ℕ → Held = fresh_worker l plan.mutators in
+    let h : Heap = opening_heap l n plan.mutators plan.scanners in
+    let so = what_stands_is_so h (first_plain plan) (first_plain plan) (heaps_open l n plan.mutators plan.scanners size size.0 (omega arith) few all) in
     let same : 0 + k ≡ k = omega arith in
-    let held : held_at h k ≡ counted 0 (first_held plan k) = get_of h.workers k (first_held plan (0 + k)) nobody (worker_at plan.spaces plan.mutators 0 (crew plan) k below) ∙ (ap (first_held plan) same ∙ sym (uncounted_first plan.spaces plan.mutators k)) in
-    subst (λ (x : Held). IsShown (first_plain plan).heap k x q) (uncounted_first plan.spaces plan.mutators k)
-    (let a : IsAsPlain h (first_plain plan) k (counted 0 (first_held plan k)) q = subst (λ (x : Held). IsAsPlain h (first_plain plan) k x q) held (so.mutators k q its) in
-    shown_by h (first_plain plan) k 0 (first_held plan k) q a (a.shows (sym a.account.end ∙ first_end plan k)))
+    let held : held_at h k ≡ counted 0 (first k) = get_of h.workers k (first (0 + k)) nobody (worker_at l plan.mutators 0 (crew plan) k below) ∙ (ap first same ∙ sym (uncounted_first l plan.mutators k)) in
+    let a : IsAsPlain h (first_plain plan) k (counted 0 (first k)) q = subst (λ (x : Held). IsAsPlain h (first_plain plan) k x q) held (so.mutators k q its) in
+    let shown = shown_by h (first_plain plan) k 0 (first k) q a (a.shows (sym a.account.end ∙ first_end l plan.mutators k)) in
+    shown_same (first_plain plan).heap q l plan.spaces plan.mutators k (subst (λ (x : Held). IsShown (first_plain plan).heap k x q) (uncounted_first l plan.mutators k) shown)
 
 pub fresh_shows : (plan : Plan) (k : ℕ) (x : Held) (v : View) → IsPageCount plan.spaces.pages → plan.mutators ≤ 16 → crew plan ≤ 24 → k < crew plan → x ≡ first_held plan k
     → v ≡ view plan (hand k (first_held plan k) [] ∷ []) [] [] [] → ShowsSeen x v

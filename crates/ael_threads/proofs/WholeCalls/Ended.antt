@@ -10,7 +10,7 @@ use Rattle.gate_core.specs.declared.passed.Passed.TheVariants as passed
 use Rattle.gate_core.specs.Gate as gate
 use Rattle.gc_worker.specs.declared.stage.after.After.{After}
 use Rattle.gc_worker.specs.declared.stage.Stage.{Stage}
-use Rattle.gc_worker.specs.declared.stage.Stage.TheVariants.{Accesses, Evacuates, Flips, Forwards, Gone, Looks, Opens, Passes, Places, Scans, Serves}
+use Rattle.gc_worker.specs.declared.stage.Stage.TheVariants.{Accesses, BeginsCheckpoint, Checkpoints, Evacuates, Flips, Forwards, Gone, Guards, Looks, Opens, Passes, Places, Recalls, Scans, Serves}
 use Rattle.gc_worker.specs.Laws.Cycles.{IsInCall, IsInPassage}
 use Rattle.gc_worker.specs.Steps.Turned.{passed_by, turned_at, turned_gate}
 use Rattle.gc_worker.specs.Workers.Fits.{FitsEnd, IsEndBefore}
@@ -39,6 +39,10 @@ ended_at P leaving gone (Serves d back) ended = absurd (cc)
 ended_at P leaving gone (Scans s back) ended = absurd (cc)
 ended_at P leaving gone (Evacuates v s back) ended = absurd (cc)
 ended_at P leaving gone (Opens o s back) ended = absurd (cc)
+ended_at P leaving gone (Recalls r after) ended = absurd (cc)
+ended_at P leaving gone (Guards g write) ended = absurd (cc)
+ended_at P leaving gone (Checkpoints r goal) ended = absurd (cc)
+ended_at P leaving gone (BeginsCheckpoint s) ended = absurd (cc)
 
 -- it is in no call
 pub ended_out : (stage : Stage) → FitsEnd stage true → IsInCall stage → ⊥

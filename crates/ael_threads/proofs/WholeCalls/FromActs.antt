@@ -144,14 +144,15 @@ way_more a b c task (stepped.Ended m end) u h no_effect no_end = absurd (no_end 
 
 -- ---- the step that answers
 
-ends_by : (n mutators m : ℕ) (was z : Held) (did : Did) → RestsAfter was z did → Fits n mutators m z → z.account.end ≡ end_by_did did
-ends_by n mutators m was z Done looks f = none_of z.account.end (subst (λ (stage : Stage). FitsEnd stage (is_some z.account.end)) looks f.end)
-ends_by n mutators m was z (Trap end) after f = ap (λ (a : Account). a.end) after.0
+module _ (b c : Seated) (task : Task) (r : Reply) (s : Stepped) (h : ActsBy b r s c) where
+  -- who executed its task runs
+  done_runs : (did : Did) → told b.worker r ≡ Answers task did → WasExecuted did → IsRunning (turned b.worker r)
+  done_runs Done is done = h.knows.runs task is
+  done_runs (Trap end) is done = absurd done
 
--- who executed its task runs
-done_runs : (n mutators m : ℕ) (was z : Held) (did : Did) → WasExecuted did → RestsAfter was z did → Fits n mutators m z → IsRunning z
-done_runs n mutators m was z Done done looks f = looks_run n mutators m z f looks
-done_runs n mutators m was z (Trap end) done after f = absurd done
+  ends_by : (did : Did) → told b.worker r ≡ Answers task did → (turned b.worker r).account.end ≡ end_by_did did
+  ends_by Done is = (h.knows.runs task is).0
+  ends_by (Trap end) is = ap (λ (a : Account). a.end) (h.goes_on.answers task (Trap end) is).after.0
 
 -- the last call of a history comes to what it may at that point
 comes_last : (a : Seated) (task : Task) (did : Did) (hands : List Hand) (later : List Entry) (h : Extends a.knows.plan hands a.knows.seen (call_by a task did) later)
@@ -182,8 +183,7 @@ calls a b c task r s did u h other is =
     let k = h.knows in
     let answer = h.goes_on.answers other did is in
     let same : other ≡ task = same_Some other task (sym answer.asked ∙ w.asks) in
-    let runs : WasExecuted did → IsRunning (turned b.worker r) =
-    (λ yes. done_runs b.knows.plan.spaces.pages b.knows.plan.mutators m b.worker (turned b.worker r) did yes answer.after k.fits) in
+    let runs : WasExecuted did → IsRunning (turned b.worker r) = done_runs b c other r s h did is in
     let answers : told b.worker r ≡ Answers task did = is ∙ (λ j. Answers (same j) did) in
     let call_is : worker_call m other did ≡ call_by a task did = (λ i. worker_call (w.rests.number i) (same i) did) in
     let pages : b.knows.plan.spaces.pages ≡ a.knows.plan.spaces.pages = ap (λ (p : Plan). p.spaces.pages) w.rests.plan in
@@ -194,7 +194,7 @@ calls a b c task r s did u h other is =
     let front : k.found.log ≡ a.knows.seen ++ history.between = found_at a b c task did r s h w.rests.number answers history in
     record {
       rests = ap (λ (x : Held). x.task) h.worker ∙ answer.rests;
-      ends = ap (λ (x : Held). x.account.end) h.worker ∙ ends_by b.knows.plan.spaces.pages b.knows.plan.mutators m b.worker (turned b.worker r) did answer.after k.fits;
+      ends = ap (λ (x : Held). x.account.end) h.worker ∙ ends_by b c other r s h did is;
       plan = k.plan ∙ w.rests.plan;
       claims = wins_more a b c w.rests.claims (wins_by b c r s h);
       hands = k.hands ∙ ((λ i. hand m (sym h.worker i) (own_after m (first_own b.knows.hands) (is i)) ∷ drop 1 b.knows.hands) ∙ (λ i. hand (w.rests.number i) c.worker (w.rests.own i ++ call_is i ∷ []) ∷ w.rests.others i));

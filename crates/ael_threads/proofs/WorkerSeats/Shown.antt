@@ -9,17 +9,19 @@ use Rattle.std.proofs.lemmas.Option.{same_Some, slice_get_within}
 use Rattle.heap_state.specs.Worker.{is_running}
 use Rattle.gc_worker.specs.declared.stage.Stage.{Stage}
 use Rattle.gc_worker.specs.declared.stage.back.Back.{Back}
-use Rattle.gc_worker.specs.declared.stage.back.Back.TheVariants.{ToAccess, ToPlace, ToScanner}
-use Rattle.gc_worker.specs.declared.stage.Stage.TheVariants.{Accesses, Evacuates, Flips, Forwards, Gone, Looks, Opens, Passes, Places, Scans, Serves}
+use Rattle.gc_worker.specs.declared.stage.back.Back.TheVariants.{ToAccess, ToPlace, ToScanner, ToSnap}
+use Rattle.gc_worker.specs.declared.stage.goal.Goal.{Goal}
+use Rattle.gc_worker.specs.declared.stage.goal.Goal.TheVariants.{ForFlip, ForScanner, ForSnap}
+use Rattle.gc_worker.specs.declared.stage.Stage.TheVariants.{Accesses, BeginsCheckpoint, Checkpoints, Evacuates, Flips, Forwards, Gone, Guards, Looks, Opens, Passes, Places, Recalls, Scans, Serves}
 use Rattle.gc_worker.specs.declared.task.Task.{Task}
 use Rattle.gc_worker.specs.declared.task.Task.TheVariants.{Calls, Stops}
 use Rattle.gc_worker.specs.Plain.Answer.{after_answer, after_told}
-use Rattle.gc_worker.specs.Laws.Between.{AreAlike, IsAsPlain, RegistersLand, ShowsRegisters}
+use Rattle.gc_worker.specs.Laws.Between.{AreAlike, IsAsPlain, RegistersLand, RestsAt, ShowsRegisters}
 use Rattle.gc_worker.specs.Workers.Counted.{counted}
-use Rattle.gc_worker.specs.Workers.Fits.{Fits, FitsEnd, IsOnSide, IsOnSideBack}
+use Rattle.gc_worker.specs.Workers.Fits.{Fits, FitsEnd, FitsStage, IsOnSide, IsOnSideBack, IsOnSideFor, IsOwnPassage}
 use Rattle.gc_worker.specs.Plain.Full.{FullByEnd, FullWhereTold}
 use Rattle.gc_worker.specs.Workers.Held.{Held}
-use Rattle.gc_worker.specs.Workers.Knows.{post_back, post_gone, post_in}
+use Rattle.gc_worker.specs.Workers.Knows.{post_back, post_for, post_gone, post_in}
 use Rattle.gc_worker.specs.Laws.Step.{Heap, WorkersStand}
 use Rattle.gc_worker.proofs.Between.Pages.Copied.{full_tells_live}
 use Rattle.gc_worker.specs.Steps.Stepped.{uncounted}
@@ -49,6 +51,15 @@ looks_run n mutators m z f looks = (
   ap (λ (stage : Stage). is_running (post_in z stage)) looks,
 )
 
+-- who rests looks at the gate where no checkpoint can be begun
+pub rests_look : (n mutators m : ℕ) (was : Stage) (z : Held) → Fits n mutators m z → z.layout.checkpoints ≡ false → RestsAt was z.stage → z.stage ≡ Looks
+rests_look n mutators m was z f without = by_stage z.stage f.stage
+  where
+    by_stage : (stage : Stage) → FitsStage z stage → RestsAt was stage → stage ≡ Looks
+    by_stage Looks fits rests = refl
+    by_stage (Passes g after) fits rests = absurd (let room : z.layout.checkpoints ≡ true = subst (IsOwnPassage z after) rests.1 fits.passage in let never = sym without ∙ room in cc)
+    by_stage _ fits rests = absurd rests
+
 -- a scanner never runs
 gone_stops : (b : Bool) → is_running (post_gone b) ≡ true → ⊥
 gone_stops true e = cc
@@ -57,7 +68,13 @@ gone_stops false e = cc
 back_runs : (back : Back) (b : Bool) → IsOnSideBack back b → is_running (post_back back) ≡ true → b ≡ true
 back_runs (ToAccess a) b side e = side
 back_runs ToPlace b side e = side
+back_runs ToSnap b side e = side
 back_runs ToScanner b side e = absurd (cc)
+
+goal_runs : (goal : Goal) (b : Bool) → IsOnSideFor goal b → is_running (post_for goal) ≡ true → b ≡ true
+goal_runs ForFlip b side e = side
+goal_runs ForSnap b side e = side
+goal_runs ForScanner b side e = absurd (cc)
 
 pub runs_aside : (n mutators m : ℕ) (z : Held) → Fits n mutators m z → is_running (post_in z z.stage) ≡ true → m < mutators
 runs_aside n mutators m z f runs =
@@ -77,6 +94,10 @@ runs_aside n mutators m z f runs =
     by_stage (Scans s back) side e = back_runs back (nat_lt z.number z.mutators) side e
     by_stage (Evacuates v s back) side e = back_runs back (nat_lt z.number z.mutators) side e
     by_stage (Opens o s back) side e = back_runs back (nat_lt z.number z.mutators) side e
+    by_stage (Recalls r after) side e = side
+    by_stage (Guards g write) side e = side
+    by_stage (Checkpoints r goal) side e = goal_runs goal (nat_lt z.number z.mutators) side e
+    by_stage (BeginsCheckpoint s) side e = side
     by_stage Gone side e = absurd (gone_stops (nat_lt z.number z.mutators) e)
 
 -- whatever its count is
@@ -91,6 +112,10 @@ counted_post count z (Serves d back) = refl
 counted_post count z (Scans s back) = refl
 counted_post count z (Evacuates v s back) = refl
 counted_post count z (Opens o s back) = refl
+counted_post count z (Recalls r after) = refl
+counted_post count z (Guards g write) = refl
+counted_post count z (Checkpoints r goal) = refl
+counted_post count z (BeginsCheckpoint s) = refl
 counted_post count z Gone = refl
 
 module _ (h : Heap) (p : Plain) (m count : ℕ) (z : Held) (q : Mutator) (a : IsAsPlain h p m (counted count z) q) (r : IsRunning z) where

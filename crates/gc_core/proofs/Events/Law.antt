@@ -1,5 +1,5 @@
 -- The law of an event, from the law of a worker's step.
-use Rattle.std.proofs.Common.{◌≡◌, ◌≢◌, ℕ, ◌+◌, ◌<◌, ◌≤◌, true, false, nat_lt, length, Option, Some, None, slice_get, get_or, refl, ap, sym, subst, ◌∙◌, arith, get_or-set_same, get_or-set_other, length-set, lt-ltb, ⊎_elim}
+use Rattle.std.proofs.Common.{◌≡◌, ◌≢◌, ℕ, ◌+◌, ◌<◌, ◌≤◌, Bool, true, false, nat_lt, length, Option, Some, None, slice_get, get_or, refl, ap, sym, subst, ◌∙◌, arith, get_or-set_same, get_or-set_other, length-set, lt-ltb, ⊎_elim}
 use Rattle.std.specs.Option.{is_some, option_map, option_to_list}
 use Rattle.std.proofs.lemmas.Bool.{cases_eq, cases_lt}
 use Rattle.std.proofs.lemmas.List.{get_or_past}
@@ -22,6 +22,7 @@ use Rattle.gc_worker.specs.Laws.Between.{ReadyingStands, TasksMayBegin, WorkersG
 use Rattle.gc_worker.specs.Workers.Fits.{Fits, IsOnSide}
 use Rattle.gc_worker.specs.Plain.Full.{FullByEnd, FullWhereTold}
 use Rattle.gc_worker.specs.Laws.Gone.{ScannersAreLast}
+use Rattle.gc_worker.specs.Laws.Represented.{HasKept}
 use Rattle.gc_worker.specs.Workers.Held.{Held}
 use Rattle.gc_worker.specs.Laws.Step.{Heap, nobody, held_at, read, moved, WorkersStand, StepKeeps, StepsKeep, FlipsWhereTold, epoch_of, at_flip}
 use Rattle.gc_worker.specs.declared.calls.did.Did.{Did}
@@ -35,7 +36,7 @@ use Rattle.gc_core.specs.Core.{CoreState}
 use Rattle.gc_core.specs.Event.{event_of, ready}
 use Rattle.gc_worker.specs.Steps.Stepped.{stepped_by}
 use Rattle.gc_worker.specs.Laws.Claims.{epoch_of_heap}
-use Rattle.gc_core.specs.Law.{AllHaveLeft, IsOnTask, IsScanner, IsSteady, IsForWant, IsTold, KeepsStory, EventsKeep, EventsMeet, plain_after, story_by}
+use Rattle.gc_core.specs.Law.{AllHaveLeft, IsLawful, IsOnTask, IsScanner, IsSteady, IsForWant, IsTold, KeepsStory, EventsKeep, EventsMeet, plain_after, story_by}
 use Rattle.gc_core.specs.Whole.{MissingWorkersAreIdle}
 use Rattle.gc_worker.proofs.Between.Last.{scanners_last_with, scanners_stay_last}
 use Rattle.gc_worker.proofs.Plain.Represented.{represented_workers}
@@ -295,6 +296,7 @@ module _ (law : StepsKeep) (goes : WorkersGoOn) (wants : WorkersWant) (so : What
           (λ (d : m ≢ w). other_task m (omega (arith, l, c)) d)
           (cases_eq m w);
       last = scanners_stay_last r.heap p story.flip w y q r.stands r.below r.holds asked ready_last;
+      none = ap (λ (h : Heap). h.checkpoints) r.is ∙ steady.none;
     }
 
     pub step_keeps : KeepsStory s w story
@@ -305,6 +307,13 @@ module _ (law : StepsKeep) (goes : WorkersGoOn) (wants : WorkersWant) (so : What
           stands = rw (event_is, stood.0, stood.1) keeps.stands;
           told = rw event_is (told_by t refl keeps.answered keeps.full keeps.flips);
         }
+
+-- ---- any plain state that is represented
+
+-- a lawful core stands for each
+pub represented_lawful : (s : CoreState) (p : Plain) (l : IsLawful s) → Represents (read s.heap) p → WorkersStand s.heap p l.flip
+represented_lawful s p l represents =
+    represented_workers s.heap l.plain p l.flip l.stands represents (subst (λ (b : Bool). HasKept b l.plain p) (sym l.steady.none) tt)
 
 -- ---- any event
 
@@ -342,7 +351,7 @@ module _ (law : StepsKeep) (readies : ReadyingStands) (tasks : TasksMayBegin) (g
   pub events_meet : EventsMeet
   events_meet s w p lawful represents =
       let story : Story = record { flip = lawful.flip; now = p } in
-      let stands = represented_workers s.heap lawful.plain p lawful.flip lawful.stands represents in
+      let stands = represented_lawful s p lawful represents in
       let k = events_keep s w story lawful.steady stands in
       let later = so (event_of s w).after (story_by s story (event_of s w).told).now (story_by s story (event_of s w).told).flip k.stands in
       record { represents = subst (Represents (read (event_of s w).after)) (story_now s story (event_of s w).told) later.sound.represents; told = k.told }

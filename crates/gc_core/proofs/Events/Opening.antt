@@ -67,6 +67,7 @@ module _ (opens : HeapsOpen) (code : List (List Instr)) (items : List Item) (con
     turns_fit = turns;
     on_task = λ m l. let e = mutator_there m l in record { counted = rw e (omega arith); within = rw e (omega arith); task = λ task t. none≢some (sym (ap (λ (h : Held). h.task) e) ∙ t) };
     last = scanners_begin_last (without_checkpoints config.limit) config.pages (length code) config.scanners;
+    none = refl;
   }
 
   pub opening_lawful : IsLawful (opening_core code config)

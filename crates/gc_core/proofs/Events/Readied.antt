@@ -15,7 +15,7 @@ use Rattle.atom_store.specs.declared.step.Step.{Step}
 use Rattle.atom_store.specs.Step.{words_after, reply_of}
 use Rattle.heap_state.specs.Worker.{Account}
 use Rattle.gc_worker.specs.declared.stage.Stage.{Stage}
-use Rattle.gc_worker.specs.declared.stage.Stage.TheVariants.{Looks, Passes, Flips, Forwards, Accesses, Places, Serves, Scans, Evacuates, Opens, Gone}
+use Rattle.gc_worker.specs.declared.stage.Stage.TheVariants.{Looks, Passes, Flips, Forwards, Accesses, Places, Serves, Scans, Evacuates, Opens, Recalls, Guards, Checkpoints, BeginsCheckpoint, Gone}
 use Rattle.gc_worker.specs.declared.task.Task.{Task}
 use Rattle.gc_worker.specs.Laws.Between.{ReadyingStands, TasksMayBegin, IsIdle, with_task, with_worker}
 use Rattle.gc_worker.specs.Laws.Between as between
@@ -51,6 +51,10 @@ module _ (code : List (List Instr)) (turns m : ℕ) (x : Held) where
   due_by (Scans y back) task e f = Rests (rw (e, f) refl)
   due_by (Evacuates v y back) task e f = Rests (rw (e, f) refl)
   due_by (Opens o y back) task e f = Rests (rw (e, f) refl)
+  due_by (Recalls r after) task e f = Rests (rw (e, f) refl)
+  due_by (Guards g write) task e f = Rests (rw (e, f) refl)
+  due_by (Checkpoints r goal) task e f = Rests (rw (e, f) refl)
+  due_by (BeginsCheckpoint y) task e f = Rests (rw (e, f) refl)
   due_by Gone task e f = Rests (rw (e, f) refl)
 
   pub due : Due code turns m x

@@ -7,7 +7,7 @@ use Rattle.mutator_asm.specs.declared.instr.Instr.{Instr}
 use Rattle.mutator_asm.specs.Program.{is_valid}
 use Rattle.heap_state.specs.Worker.{Account}
 use Rattle.gc_worker.specs.declared.stage.Stage.{Stage}
-use Rattle.gc_worker.specs.declared.stage.Stage.TheVariants.{Looks, Passes, Flips, Forwards, Accesses, Places, Serves, Scans, Evacuates, Opens, Gone}
+use Rattle.gc_worker.specs.declared.stage.Stage.TheVariants.{Looks, Passes, Flips, Forwards, Accesses, Places, Serves, Scans, Evacuates, Opens, Recalls, Guards, Checkpoints, BeginsCheckpoint, Gone}
 use Rattle.gc_worker.specs.declared.task.Task.{Task}
 use Rattle.gc_worker.specs.Laws.Between.{IsIdle}
 use Rattle.gc_worker.specs.Workers.Fits.{FitsCall, FitsEnd, IsOnSide}
@@ -36,6 +36,10 @@ at_look (Serves d back) task is = absurd (cc)
 at_look (Scans s back) task is = absurd (cc)
 at_look (Evacuates v s back) task is = absurd (cc)
 at_look (Opens o s back) task is = absurd (cc)
+at_look (Recalls r after) task is = absurd (cc)
+at_look (Guards g write) task is = absurd (cc)
+at_look (Checkpoints r goal) task is = absurd (cc)
+at_look (BeginsCheckpoint s) task is = absurd (cc)
 at_look Gone task is = absurd (cc)
 
 none_by : (o : Option End) → is_some o ≡ false → o ≡ None

@@ -14,7 +14,7 @@ use Rattle.forwarding.specs.Keeping as keeping
 use Rattle.forwarding.specs.Keeping.{kept_word, reserved_word}
 use Rattle.space_map.specs.Spaces.{Layout}
 use Rattle.gc_worker.specs.declared.stage.Stage.{Stage}
-use Rattle.gc_worker.specs.declared.stage.Stage.TheVariants.{Looks, Passes, Flips, Forwards, Accesses, Places, Serves, Scans, Evacuates, Opens, Gone}
+use Rattle.gc_worker.specs.declared.stage.Stage.TheVariants.{Looks, Passes, Flips, Forwards, Accesses, Places, Serves, Scans, Evacuates, Opens, Recalls, Guards, Checkpoints, BeginsCheckpoint, Gone}
 use Rattle.gc_worker.specs.Workers.Knows.{knows, copy_at, copy_in}
 use Rattle.gc_worker.specs.Steps.Stepped.{header_kept, place_kept}
 use Rattle.gc_worker.specs.Laws.Step.{nobody, held_at}
@@ -72,6 +72,10 @@ stage_kept (Serves d back) = refl
 stage_kept (Scans s back) = refl
 stage_kept (Evacuates v s back) = copy_kept v.layout v.addr v.epoch v.stage
 stage_kept (Opens o s back) = refl
+stage_kept (Recalls r after) = refl
+stage_kept (Guards g write) = refl
+stage_kept (Checkpoints r goal) = refl
+stage_kept (BeginsCheckpoint s) = refl
 stage_kept Gone = refl
 
 pub kept_told : (s : CoreState) (w : ℕ) → w < workers_of s

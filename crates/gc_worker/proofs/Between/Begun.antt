@@ -1,5 +1,5 @@
 -- When a mutator began its instruction: the epoch of that look is kept until it has answered.
-use Rattle.std.proofs.Common.{◌≡◌, ℕ, ◌+◌, ◌-◌, ◌⊎◌, inl, inr, Bool, true, false, cond, nat_lt, Option, Some, None, Result, Ok, Err, refl, sym, subst}
+use Rattle.std.proofs.Common.{◌≡◌, ℕ, ◌+◌, ◌-◌, ◌⊎◌, inl, inr, Bool, true, false, cond, nat_lt, Option, Some, None, Result, Ok, Err, refl, subst}
 use Rattle.std.specs.Prelude.{⊤}
 use Rattle.plain_state.specs.declared.end.End.TheVariants.{HeapFull}
 use Rattle.plain_state.specs.declared.end.End.{End}
@@ -26,8 +26,17 @@ use Rattle.gate_core.specs.declared.passage.Passage.{Passage}
 use Rattle.gate_core.specs.declared.passage.Passage.TheVariants.{Look, Attach, Park, Request, Resume, Forwarded, Leave, Clear}
 use Rattle.gate_core.specs.declared.passed.Passed.{Passed}
 use Rattle.gate_core.specs.declared.passed.Passed.TheVariants as passed
+use Rattle.gate_core.specs.declared.recall.recalled.Recalled.{Recalled}
+use Rattle.gate_core.specs.declared.snap.snapped.Snapped.{Snapped}
+use Rattle.gate_core.specs.declared.snap.snapped.Snapped.TheVariants as snapped
 use Rattle.gate_core.specs.Flip as flip
 use Rattle.gate_core.specs.Gate as gate
+use Rattle.gate_core.specs.Recall as recall
+use Rattle.gate_core.specs.Snap as snap
+use Rattle.page_saves.specs.declared.may_write.MayWrite.{MayWrite}
+use Rattle.page_saves.specs.declared.save_round_end.SaveRoundEnd.{SaveRoundEnd}
+use Rattle.page_saves.specs.Guard as guard
+use Rattle.page_saves.specs.SaveRound as save_round
 use Rattle.page_scan.specs.declared.scanned.Scanned.{Scanned}
 use Rattle.page_scan.specs.declared.scanned.Scanned.TheVariants as scanned
 use Rattle.page_scan.specs.Scanning as scan
@@ -43,19 +52,23 @@ use Rattle.gc_worker.specs.declared.access.accessed.Accessed.TheVariants.{Faults
 use Rattle.gc_worker.specs.declared.stage.after.After.{After}
 use Rattle.gc_worker.specs.declared.stage.after.After.TheVariants as afters
 use Rattle.gc_worker.specs.declared.stage.back.Back.{Back}
-use Rattle.gc_worker.specs.declared.stage.back.Back.TheVariants.{ToAccess, ToPlace, ToScanner}
+use Rattle.gc_worker.specs.declared.stage.back.Back.TheVariants.{ToAccess, ToPlace, ToSnap, ToScanner}
 use Rattle.gc_worker.specs.declared.stage.forwarding_register.ForwardingRegister.{ForwardingRegister}
+use Rattle.gc_worker.specs.declared.stage.goal.Goal.{Goal}
+use Rattle.gc_worker.specs.declared.stage.goal.Goal.TheVariants.{ForFlip, ForSnap, ForScanner}
+use Rattle.gc_worker.specs.declared.stage.write.Write.{Write}
 use Rattle.gc_worker.specs.declared.stage.Stage.{Stage}
-use Rattle.gc_worker.specs.declared.stage.Stage.TheVariants.{Looks, Passes, Flips, Forwards, Accesses, Places, Serves, Scans, Evacuates, Opens, Gone}
+use Rattle.gc_worker.specs.declared.stage.Stage.TheVariants.{Looks, Passes, Flips, Forwards, Accesses, Places, Serves, Scans, Evacuates, Opens, Recalls, Guards, Checkpoints, BeginsCheckpoint, Gone}
 use Rattle.gc_worker.specs.declared.task.Task.{Task}
 use Rattle.gc_worker.specs.declared.task.Task.TheVariants.{Calls, Stops}
 use Rattle.gc_worker.specs.Steps.Access as access
-use Rattle.gc_worker.specs.Workers.Begun.{IsPastAfter, IsPastBack, IsPastLook, BeginningsAreKept, FullIsFoundLater}
-use Rattle.gc_worker.specs.Workers.Fits.{FitsTask, FitsTaskBefore, MayBegin, MayStop}
-use Rattle.gc_worker.specs.Workers.Held.{Held, at_stage, making_for}
+use Rattle.gc_worker.specs.Laws.Between.{RestsAt}
+use Rattle.gc_worker.specs.Workers.Begun.{IsPastAfter, IsPastBack, IsPastGoal, IsPastLook, BeginningsAreKept, FullIsFoundLater}
+use Rattle.gc_worker.specs.Workers.Fits.{FitsTask, FitsTaskAsking, FitsTaskBefore, MayBegin, MayStop}
+use Rattle.gc_worker.specs.Workers.Held.{Held, at_stage, making_for, may_snap}
 use Rattle.gc_worker.specs.Plain.Seen.{Making, seen}
 use Rattle.gc_worker.specs.declared.calls.did.Did.TheVariants.{Done, Trap}
-use Rattle.gc_worker.specs.Steps.Turned.{Pointed, epoch_said, first_pointer, forwards_from, forwards_it, goes_back, goes_on, with_copy, Told, Silent, Answers, Marks, acted, acts, begins, end_by_shortage, ended, full_by, is_full, looked_by, passed_by, passes, served_by, started, told_acted, told_action, told_at, told_gate, told_look, told_start, turned_access, turned_at, turned_copy, turned_flip, turned_gate, turned_look, turned_opening, turned_place, turned_register, turned_round, turned_scan, with_evac, with_record}
+use Rattle.gc_worker.specs.Steps.Turned.{Answers, Marks, Pointed, Silent, Told, acted, acts, asks_flip, begins, checkpoints, end_by_shortage, ended, epoch_said, first_pointer, forwards_from, forwards_it, full_by, goes_back, goes_on, in_epoch, is_full, looked_by, of_round, passed_by, passes, recalled, rounded, runs_on, served_by, serves_snap, started, told_acted, told_action, told_at, told_gate, told_look, told_start, traced_by, turned_access, turned_at, turned_copy, turned_flip, turned_gate, turned_guard, turned_look, turned_opening, turned_place, turned_recall, turned_register, turned_round, turned_save_round, turned_scan, turned_snap, went_on, with_copy, with_evac, with_record}
 use Rattle.gc_worker.proofs.Stages.Look.Ends.{Stops as StopsRight, action_stops}
 
 -- ---- past the look
@@ -67,15 +80,25 @@ pasts P false s t left right = right
 goes_on_so : (x : Held) (after : After) → IsPastLook (goes_on x after) → IsPastAfter after
 goes_on_so x afters.Looks past = past
 goes_on_so x afters.Places past = tt
+goes_on_so x afters.Snaps past = tt
+
+runs_on_so : (x : Held) (after : After) → IsPastLook (runs_on x after) → IsPastAfter after
+runs_on_so x after past = pasts (IsPastAfter after) x.layout.checkpoints (Recalls (recall.begun x.layout) after) (goes_on x after) (λ p. p) (goes_on_so x after) past
 
 goes_back_so : (x : Held) (back : Back) → IsPastLook (goes_back x back) → IsPastBack back
 goes_back_so x (ToAccess a) past = tt
 goes_back_so x ToPlace past = tt
+goes_back_so x ToSnap past = tt
 goes_back_so x ToScanner past = past
 
 forwards_so : (x : Held) (after : After) (o : Option Pointed) → IsPastLook (forwards_it x after o) → IsPastAfter after
 forwards_so x after (Some p) past = past
 forwards_so x after None past = past
+
+-- either of two workers began in this epoch
+begun_if : (epoch : ℕ) (b : Bool) (y z : Held) → y.begun ≡ epoch → z.begun ≡ epoch → (cond b y z).begun ≡ epoch
+begun_if epoch true y z is other = is
+begun_if epoch false y z is other = other
 
 module _ (x : Held) where
   -- a worker that comes past the look from a stage at which this is so keeps the epoch in which it began
@@ -85,13 +108,13 @@ module _ (x : Held) where
   -- ---- at the gate
 
   passed_so : (after : After) (passage : Passage) (result : Passed) → (passage ≡ Request → IsPastAfter after) → (IsPastLook x.stage → IsPastAfter after) → Kept (IsPastAfter after) (passed_by x after passage result)
-  passed_so after Attach (passed.Went word) asks own past = absurd past
+  passed_so after Attach (passed.Went word) asks own past = absurd (runs_on_so (in_epoch x (epoch_said x.epoch word)) afters.Looks past)
   passed_so after Attach (passed.NotYet word) asks own past = (past, refl)
   passed_so after Park (passed.Went word) asks own past = (past, refl)
   passed_so after Park (passed.NotYet word) asks own past = (goes_on_so x after past, refl)
   passed_so after Request (passed.Went word) asks own past = (asks refl, refl)
   passed_so after Request (passed.NotYet word) asks own past = (past, refl)
-  passed_so after (Resume epoch) (passed.Went word) asks own past = (goes_on_so x after past, refl)
+  passed_so after (Resume epoch) (passed.Went word) asks own past = (runs_on_so x after past, refl)
   passed_so after (Resume epoch) (passed.NotYet word) asks own past =
       (pasts (IsPastAfter after) (nat_lt x.epoch (epoch_said x.epoch word)) (forwards_from x after 0) (passes x (Resume x.epoch) after) (forwards_so x after (first_pointer x.registers 8 0)) (λ p. p) past, refl)
   passed_so after Forwarded (passed.Went word) asks own past = (past, refl)
@@ -125,13 +148,9 @@ module _ (x : Held) where
   access_by a (Finished Stored) past = (tt, refl)
   access_by a (Finished (Fails why)) past = (tt, refl)
 
-  full_if : (b : Bool) (y z : Held) → y.begun ≡ x.begun → z.begun ≡ x.begun → (cond b y z).begun ≡ x.begun
-  full_if true y z is other = is
-  full_if false y z is other = other
-
   shortage_by : (s : Shortage) (traced : Bool) → (full_by x s traced).begun ≡ x.begun
   shortage_by s false = refl
-  shortage_by s true = full_if (is_full x s) (ended x (end_by_shortage s)) (at_stage x (passes x Request afters.Places)) refl refl
+  shortage_by s true = begun_if x.begun (is_full x s) (ended x (end_by_shortage s)) (at_stage x (asks_flip x)) refl refl
 
   placed_by : (run : Run) (at : ℕ) (made : Option Making) → (with_record x run at made).begun ≡ x.begun
   placed_by run at (Some m) = refl
@@ -144,11 +163,18 @@ module _ (x : Held) where
 
   -- ---- rounds and scans
 
+  traced_so : (d : duty.Round) (back : Back) → Kept (IsPastBack back) (traced_by (of_round x d) back)
+  traced_so d (ToAccess a) past = (tt, refl)
+  traced_so d ToPlace past = (tt, refl)
+  traced_so d ToSnap past = (tt, refl)
+  traced_so d ToScanner past =
+      (pasts ⊥ x.layout.checkpoints (checkpoints (of_round x d) ForScanner) (goes_back (of_round x d) ToScanner) (λ p. p) (λ p. p) past, refl)
+
   served_so : (d : duty.Round) (back : Back) (result : RoundEnd) → Kept (IsPastBack back) (served_by x d back result)
   served_so d back (ScanPage page) past = (past, refl)
   served_so d back (ScanInPlace page) past = (past, refl)
   served_so d back Marked past = (goes_back_so (record x { epoch = d.epoch }) back past, refl)
-  served_so d back Traced past = (goes_back_so (record x { epoch = d.epoch }) back past, refl)
+  served_so d back Traced past = traced_so d back past
   served_so d back (NothingNow word) past = (goes_back_so (record x { epoch = d.epoch }) back past, refl)
   served_so d back (AllLeft word) past = absurd past
 
@@ -169,6 +195,30 @@ module _ (x : Held) where
   opening_by o s back More past = (past, refl)
   opening_by o s back (Finished opened) past = (goes_back_so x back past, refl)
 
+  -- ---- checkpoints
+
+  recall_by : (r : recall.Recalling) (after : After) (turn : Turn Recalled) → Kept (IsPastAfter after) (turned_recall x r after turn)
+  recall_by r after More past = (past, refl)
+  recall_by r after (Finished result) past = (goes_on_so (recalled x result) after past, refl)
+
+  guard_by : (g : guard.Guarding) (write : Write) (turn : Turn MayWrite) → Kept ⊤ (turned_guard x g write turn)
+  guard_by g write More past = (tt, refl)
+  guard_by g write (Finished result) past = (tt, refl)
+
+  rounded_so : (goal : Goal) (result : SaveRoundEnd) → IsPastLook (rounded x goal result) → IsPastGoal goal
+  rounded_so ForFlip result past = tt
+  rounded_so ForSnap result past = tt
+  rounded_so ForScanner result past = past
+
+  save_round_by : (r : save_round.SavingRound) (goal : Goal) (turn : Turn SaveRoundEnd) → Kept (IsPastGoal goal) (turned_save_round x r goal turn)
+  save_round_by r goal More past = (past, refl)
+  save_round_by r goal (Finished result) past = (rounded_so goal result past, refl)
+
+  snap_by : (s : snap.Snapping) (turn : Turn Snapped) → Kept ⊤ (turned_snap x s turn)
+  snap_by s More past = (tt, refl)
+  snap_by s (Finished (snapped.Begun seen)) past = (tt, refl)
+  snap_by s (Finished (snapped.NotYet word)) past = (tt, refl)
+
   -- ---- a look
 
   abbrev Begins : Held → Type 0
@@ -179,7 +229,7 @@ module _ (x : Held) where
   by_action (Jumps target) = refl
   by_action (Links d target) = refl
   by_action (Prints n) = refl
-  by_action Snaps = refl
+  by_action Snaps = begun_if x.epoch (may_snap x) (at_stage (begins x) (serves_snap (begins x))) (went_on (begins x)) refl refl
   by_action (Makes kind d n) = refl
   by_action (Measures d i) = refl
   by_action (Loads d i n) = refl
@@ -218,9 +268,14 @@ module _ (x : Held) where
 
   -- ---- each stage
 
-  -- who requests a flip makes a record
+  -- who requests a flip makes a record, and who requests a checkpoint executes `snap`
+  asking : (after : After) → FitsTaskAsking x after → IsPastAfter after
+  asking afters.Looks task = task
+  asking afters.Places task = tt
+  asking afters.Snaps task = tt
+
   asks_for : (g : gate.Passing) (after : After) → FitsTaskBefore x g.passage after → g.passage ≡ Request → IsPastAfter after
-  asks_for g after task e = let t = subst (λ (p : Passage). FitsTaskBefore x p after) e task in subst IsPastAfter (sym t.1) tt
+  asks_for g after task e = asking after (subst (λ (p : Passage). FitsTaskBefore x p after) e task)
 
   by_stage : (stage : Stage) → x.stage ≡ stage → FitsTask x stage → (reply : Reply) → IsPastLook (turned_at x stage reply).stage
       → ((stage ≡ Looks) × ((turned_at x stage reply).begun ≡ x.epoch)) ⊎ (IsPastLook stage × ((turned_at x stage reply).begun ≡ x.begun))
@@ -234,10 +289,20 @@ module _ (x : Held) where
   by_stage (Scans s back) e task reply past = inr (scan_by (scan_taken.taken s reply) back (scan_taken.told (scan_taken.taken s reply).stage) past)
   by_stage (Evacuates v s back) e task reply past = inr (copy_by (evac_taken.taken v reply) s back (evac_taken.told (evac_taken.taken v reply).stage) past)
   by_stage (Opens o s back) e task reply past = inr (opening_by (open_page.taken o reply) s back (open_page.told (open_page.taken o reply)) past)
+  by_stage (Recalls r after) e task reply past = inr (recall_by (recall.taken r reply) after (recall.told (recall.taken r reply)) past)
+  by_stage (Guards g write) e task reply past = inr (guard_by (guard.taken g reply) write (guard.told (guard.taken g reply)) past)
+  by_stage (Checkpoints r goal) e task reply past = inr (save_round_by (save_round.taken r reply) goal (save_round.told (save_round.taken r reply)) past)
+  by_stage (BeginsCheckpoint s) e task reply past = inr (snap_by (snap.taken s reply) (snap.told (snap.taken s reply)) past)
   by_stage Gone e task reply past = absurd (subst IsPastLook e past)
 
 pub beginnings_are_kept : BeginningsAreKept
 beginnings_are_kept n mutators k x reply fits past = by_stage x x.stage refl fits.task reply past
+
+-- who rests after an effect is about to begin the next instruction
+pub rests_before : (was stage : Stage) → RestsAt was stage → IsPastLook stage → ⊥
+rests_before was Looks rests past = past
+rests_before was (Passes g after) rests past = subst IsPastAfter rests.2 past
+rests_before was stage rests past = rests
 
 -- ---- a look finds no full heap
 
@@ -247,22 +312,26 @@ NotFull (Answers task Done) = ⊤
 NotFull (Answers task (Trap end)) = MayStop end
 NotFull (Marks asked) = ⊤
 
-action_not_full : (task : Task) (act : Action) → NotFull (told_action task act)
-action_not_full task (Sets d v) = tt
-action_not_full task (Jumps target) = tt
-action_not_full task (Links d target) = tt
-action_not_full task (Prints n) = tt
-action_not_full task Snaps = tt
-action_not_full task act = tt
+done_not_full : (task : Task) (b : Bool) → NotFull (cond b Silent (Answers task Done))
+done_not_full task true = tt
+done_not_full task false = tt
 
-acted_not_full : (task : Task) (r : Result Action End) → StopsRight r → NotFull (told_acted task r)
-acted_not_full task (Ok act) stops = action_not_full task act
-acted_not_full task (Err why) stops = stops
+action_not_full : (x : Held) (task : Task) (act : Action) → NotFull (told_action x task act)
+action_not_full x task (Sets d v) = tt
+action_not_full x task (Jumps target) = tt
+action_not_full x task (Links d target) = tt
+action_not_full x task (Prints n) = tt
+action_not_full x task Snaps = done_not_full task (may_snap x)
+action_not_full x task act = tt
+
+acted_not_full : (x : Held) (task : Task) (r : Result Action End) → StopsRight r → NotFull (told_acted x task r)
+acted_not_full x task (Ok act) stops = action_not_full x task act
+acted_not_full x task (Err why) stops = stops
 
 module _ (x : Held) (fits : MayBegin x.account x.registers x.task) where
   start_not_full : (task : Option Task) → x.task ≡ task → NotFull (told_start x task)
   start_not_full None e = tt
-  start_not_full (Some (Calls instr)) e = acted_not_full (Calls instr) (action (seen x.account x.registers) instr) (action_stops (seen x.account x.registers) instr)
+  start_not_full (Some (Calls instr)) e = acted_not_full x (Calls instr) (action (seen x.account x.registers) instr) (action_stops (seen x.account x.registers) instr)
   start_not_full (Some (Stops why)) e = subst (MayBegin x.account x.registers) e fits
 
   request_not_full : (b : Bool) → NotFull (cond b Silent (told_start x x.task))
@@ -290,6 +359,10 @@ full_by_stage x reply task asked room live (Serves d back) fits e = absurd (let 
 full_by_stage x reply task asked room live (Scans s back) fits e = absurd (let e = e in cc)
 full_by_stage x reply task asked room live (Evacuates v s back) fits e = absurd (let e = e in cc)
 full_by_stage x reply task asked room live (Opens o s back) fits e = absurd (let e = e in cc)
+full_by_stage x reply task asked room live (BeginsCheckpoint s) fits e = tt
+full_by_stage x reply task asked room live (Recalls r after) fits e = absurd (let e = e in cc)
+full_by_stage x reply task asked room live (Guards g write) fits e = absurd (let e = e in cc)
+full_by_stage x reply task asked room live (Checkpoints r goal) fits e = absurd (let e = e in cc)
 full_by_stage x reply task asked room live Gone fits e = absurd (let e = e in cc)
 
 pub full_is_found_later : FullIsFoundLater

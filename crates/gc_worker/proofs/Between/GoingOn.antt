@@ -24,8 +24,17 @@ use Rattle.gate_core.specs.declared.passage.Passage.{Passage}
 use Rattle.gate_core.specs.declared.passage.Passage.TheVariants.{Look, Attach, Park, Request, Resume, Forwarded, Leave, Clear}
 use Rattle.gate_core.specs.declared.passed.Passed.{Passed}
 use Rattle.gate_core.specs.declared.passed.Passed.TheVariants as passed
+use Rattle.gate_core.specs.declared.recall.recalled.Recalled.{Recalled}
+use Rattle.gate_core.specs.declared.snap.snapped.Snapped.{Snapped}
+use Rattle.gate_core.specs.declared.snap.snapped.Snapped.TheVariants as snapped
 use Rattle.gate_core.specs.Flip as flip
 use Rattle.gate_core.specs.Gate as gate
+use Rattle.gate_core.specs.Recall as recall
+use Rattle.gate_core.specs.Snap as snap
+use Rattle.page_saves.specs.declared.may_write.MayWrite.{MayWrite}
+use Rattle.page_saves.specs.declared.save_round_end.SaveRoundEnd.{SaveRoundEnd}
+use Rattle.page_saves.specs.Guard as guard
+use Rattle.page_saves.specs.SaveRound as save_round
 use Rattle.page_scan.specs.declared.scanned.Scanned.{Scanned}
 use Rattle.page_scan.specs.declared.scanned.Scanned.TheVariants as scanned
 use Rattle.page_scan.specs.Scanning as scan
@@ -41,18 +50,22 @@ use Rattle.gc_worker.specs.declared.access.accessed.Accessed.TheVariants.{Faults
 use Rattle.gc_worker.specs.declared.stage.after.After.{After}
 use Rattle.gc_worker.specs.declared.stage.after.After.TheVariants as afters
 use Rattle.gc_worker.specs.declared.stage.back.Back.{Back}
+use Rattle.gc_worker.specs.declared.stage.back.Back.TheVariants.{ToAccess, ToPlace, ToSnap, ToScanner}
 use Rattle.gc_worker.specs.declared.stage.forwarding_register.ForwardingRegister.{ForwardingRegister}
+use Rattle.gc_worker.specs.declared.stage.goal.Goal.{Goal}
+use Rattle.gc_worker.specs.declared.stage.write.Write.{Write}
 use Rattle.gc_worker.specs.declared.stage.Stage.{Stage}
-use Rattle.gc_worker.specs.declared.stage.Stage.TheVariants.{Looks, Passes, Flips, Forwards, Accesses, Places, Serves, Scans, Evacuates, Opens, Gone}
+use Rattle.gc_worker.specs.declared.stage.Stage.TheVariants.{Looks, Passes, Flips, Forwards, Accesses, Places, Serves, Scans, Evacuates, Opens, Recalls, Guards, Checkpoints, BeginsCheckpoint, Gone}
 use Rattle.gc_worker.specs.declared.task.Task.{Task}
 use Rattle.gc_worker.specs.declared.task.Task.TheVariants.{Calls, Stops}
 use Rattle.gc_worker.specs.Steps.Access as access
-use Rattle.gc_worker.specs.Laws.Between.{IsAnswerOf, IsNoAnswer, WorkersGoOn}
+use Rattle.gc_worker.specs.Laws.Between.{IsAnswerOf, IsNoAnswer, RestsAt, WorkersGoOn}
 use Rattle.gc_worker.specs.Workers.Fits.{FitsEnd, FitsTask, IsEndBefore, IsMaking}
-use Rattle.gc_worker.specs.Workers.Held.{Held, at_stage, making_for}
+use Rattle.gc_worker.specs.Workers.Held.{Held, at_stage, making_for, may_snap}
 use Rattle.gc_worker.specs.Plain.Seen.{Making, seen}
 use Rattle.gc_worker.specs.declared.calls.did.Did.TheVariants.{Done, Trap}
-use Rattle.gc_worker.specs.Steps.Turned.{Told, Silent, Answers, Marks, acted, acts, begins, end_by_shortage, ended, full_by, is_full, looked_by, passed_by, passes, served_by, started, told, told_acted, told_action, told_at, told_access, told_effect, told_end, told_flip, told_full, told_gate, told_look, told_place, told_start, turned, turned_access, turned_at, turned_copy, turned_flip, turned_gate, turned_look, turned_opening, turned_place, turned_register, turned_round, turned_scan, with_evac, with_record}
+use Rattle.gc_worker.specs.Steps.Stepped.{IsBeginningCheckpoint}
+use Rattle.gc_worker.specs.Steps.Turned.{Answers, Marks, Silent, Told, acted, acts, asks_flip, begins, begins_checkpoint, end_by_shortage, ended, full_by, is_full, looked_by, of_round, passed_by, passes, served_by, serves_snap, started, told, told_access, told_acted, told_action, told_at, told_effect, told_end, told_flip, told_full, told_gate, told_look, told_place, told_snap, told_start, traced_by, turned, turned_access, turned_at, turned_copy, turned_flip, turned_gate, turned_guard, turned_look, turned_opening, turned_place, turned_recall, turned_register, turned_round, turned_save_round, turned_scan, turned_snap, went_on, with_evac, with_record}
 use Rattle.gc_worker.proofs.Plain.NewRecords.{made_is}
 
 -- ---- what becomes of the task
@@ -77,9 +90,9 @@ module _ (x : Held) where
   turns : (y : Held) (t : Told) → Same y → Comes x y t → Turns x y t
   turns y t same comes = record { comes = comes; number = same.0; layout = same.1; mutators = same.2 }
 
-  effect_by : (y : Held) → Same y → y.task ≡ None → y.stage ≡ Looks → (task : Option Task) → x.task ≡ task → Turns x y (told_effect task)
-  effect_by y same rests looks (Some task) asked = turns y (Answers task Done) same (record { asked = asked; rests = rests; after = looks })
-  effect_by y same rests looks None none = turns y Silent same (rests ∙ sym none)
+  effect_by : (y : Held) → Same y → y.task ≡ None → RestsAt x.stage y.stage → (task : Option Task) → x.task ≡ task → Turns x y (told_effect task)
+  effect_by y same rests after (Some task) asked = turns y (Answers task Done) same (record { asked = asked; rests = rests; after = after })
+  effect_by y same rests after None none = turns y Silent same (rests ∙ sym none)
 
   end_by : (why : End) (task : Option Task) → x.task ≡ task → Turns x (ended x why) (told_end task why)
   end_by why (Some task) asked = turns (ended x why) (Answers task (Trap why)) (refl, refl, refl) (record { asked = asked; rests = refl; after = (refl, refl) })
@@ -88,15 +101,20 @@ module _ (x : Held) where
   -- ---- a look
 
   module _ (task : Task) (asked : x.task ≡ Some task) where
-    at_once : (y : Held) → Same y → y.task ≡ None → y.stage ≡ Looks → Turns x y (Answers task Done)
-    at_once y same rests looks = turns y (Answers task Done) same (record { asked = asked; rests = rests; after = looks })
+    at_once : (y : Held) → Same y → y.task ≡ None → RestsAt x.stage y.stage → Turns x y (Answers task Done)
+    at_once y same rests after = turns y (Answers task Done) same (record { asked = asked; rests = rests; after = after })
 
-    by_action : (act : Action) → Turns x (acts (begins x) act) (told_action task act)
-    by_action (Sets d v) = at_once (acts (begins x) (Sets d v)) (refl, refl, refl) refl refl
-    by_action (Jumps target) = at_once (acts (begins x) (Jumps target)) (refl, refl, refl) refl refl
-    by_action (Links d target) = at_once (acts (begins x) (Links d target)) (refl, refl, refl) refl refl
-    by_action (Prints n) = at_once (acts (begins x) (Prints n)) (refl, refl, refl) refl refl
-    by_action Snaps = at_once (acts (begins x) Snaps) (refl, refl, refl) refl refl
+    -- a checkpoint is begun later, or cannot be begun
+    snap_if : (b : Bool) → Turns x (cond b (at_stage (begins x) (serves_snap (begins x))) (went_on (begins x))) (cond b Silent (Answers task Done))
+    snap_if true = turns (at_stage (begins x) (serves_snap (begins x))) Silent (refl, refl, refl) refl
+    snap_if false = at_once (went_on (begins x)) (refl, refl, refl) refl tt
+
+    by_action : (act : Action) → Turns x (acts (begins x) act) (told_action x task act)
+    by_action (Sets d v) = at_once (acts (begins x) (Sets d v)) (refl, refl, refl) refl tt
+    by_action (Jumps target) = at_once (acts (begins x) (Jumps target)) (refl, refl, refl) refl tt
+    by_action (Links d target) = at_once (acts (begins x) (Links d target)) (refl, refl, refl) refl tt
+    by_action (Prints n) = at_once (acts (begins x) (Prints n)) (refl, refl, refl) refl tt
+    by_action Snaps = snap_if (may_snap x)
     by_action (Makes kind d n) = turns (acts (begins x) (Makes kind d n)) Silent (refl, refl, refl) refl
     by_action (Measures d i) = turns (acts (begins x) (Measures d i)) Silent (refl, refl, refl) refl
     by_action (Loads d i n) = turns (acts (begins x) (Loads d i n)) Silent (refl, refl, refl) refl
@@ -109,7 +127,7 @@ module _ (x : Held) where
     stops_at : (why : End) → Turns x (ended (begins x) why) (Answers task (Trap why))
     stops_at why = turns (ended (begins x) why) (Answers task (Trap why)) (refl, refl, refl) (record { asked = asked; rests = refl; after = (refl, refl) })
 
-    by_result : (r : Result Action End) → Turns x (acted (begins x) r) (told_acted task r)
+    by_result : (r : Result Action End) → Turns x (acted (begins x) r) (told_acted x task r)
     by_result (Ok act) = by_action act
     by_result (Err why) = stops_at why
 
@@ -169,8 +187,8 @@ module _ (x : Held) where
   access_by : (a : Access) (turn : Turn Accessed) → Turns x (turned_access x a turn) (told_access x.task turn)
   access_by a More = turns (turned_access x a More) Silent (refl, refl, refl) refl
   access_by a (Finished (Faults page)) = turns (turned_access x a (Finished (Faults page))) Silent (refl, refl, refl) refl
-  access_by a (Finished (Brings into word)) = effect_by (turned_access x a (Finished (Brings into word))) (refl, refl, refl) refl refl x.task refl
-  access_by a (Finished Stored) = effect_by (turned_access x a (Finished Stored)) (refl, refl, refl) refl refl x.task refl
+  access_by a (Finished (Brings into word)) = effect_by (turned_access x a (Finished (Brings into word))) (refl, refl, refl) refl tt x.task refl
+  access_by a (Finished Stored) = effect_by (turned_access x a (Finished Stored)) (refl, refl, refl) refl tt x.task refl
   access_by a (Finished (Fails why)) = end_by why x.task refl
 
   full_if : (b : Bool) (why : End) (asks : Held) → Same asks → asks.task ≡ x.task → Turns x (cond b (ended x why) asks) (cond b (told_end x.task why) Silent)
@@ -179,11 +197,11 @@ module _ (x : Held) where
 
   shortage_by : (s : Shortage) (traced : Bool) → Turns x (full_by x s traced) (told_full x s traced)
   shortage_by s false = turns (full_by x s false) Silent (refl, refl, refl) refl
-  shortage_by s true = full_if (is_full x s) (end_by_shortage s) (at_stage x (passes x Request afters.Places)) (refl, refl, refl) refl
+  shortage_by s true = full_if (is_full x s) (end_by_shortage s) (at_stage x (asks_flip x)) (refl, refl, refl) refl
 
   module _ (making : IsMaking x.account x.registers x.task) where
     placed_by : (run : Run) (at : ℕ) (made : Option Making) → making_for x x.task ≡ made → Turns x (with_record x run at made) (told_effect x.task)
-    placed_by run at (Some m) is = effect_by (with_record x run at (Some m)) (refl, refl, refl) refl refl x.task refl
+    placed_by run at (Some m) is = effect_by (with_record x run at (Some m)) (refl, refl, refl) refl tt x.task refl
     placed_by run at None none = absurd (let e = sym none ∙ made_is x making in cc)
 
     place_by : (p : place.Placing) (turn : Turn Allocated) → Turns x (turned_place x p turn) (told_place x turn)
@@ -193,11 +211,17 @@ module _ (x : Held) where
 
   -- ---- rounds and scans
 
+  traced_so : (d : duty.Round) (back : Back) → Turns x (traced_by (of_round x d) back) Silent
+  traced_so d (ToAccess a) = turns (traced_by (of_round x d) (ToAccess a)) Silent (refl, refl, refl) refl
+  traced_so d ToPlace = turns (traced_by (of_round x d) ToPlace) Silent (refl, refl, refl) refl
+  traced_so d ToSnap = turns (traced_by (of_round x d) ToSnap) Silent (refl, refl, refl) refl
+  traced_so d ToScanner = turns (traced_by (of_round x d) ToScanner) Silent (refl, refl, refl) refl
+
   served_so : (d : duty.Round) (back : Back) (result : RoundEnd) → Turns x (served_by x d back result) Silent
   served_so d back (ScanPage page) = turns (served_by x d back (ScanPage page)) Silent (refl, refl, refl) refl
   served_so d back (ScanInPlace page) = turns (served_by x d back (ScanInPlace page)) Silent (refl, refl, refl) refl
   served_so d back Marked = turns (served_by x d back Marked) Silent (refl, refl, refl) refl
-  served_so d back Traced = turns (served_by x d back Traced) Silent (refl, refl, refl) refl
+  served_so d back Traced = traced_so d back
   served_so d back (NothingNow word) = turns (served_by x d back (NothingNow word)) Silent (refl, refl, refl) refl
   served_so d back (AllLeft word) = turns (served_by x d back (AllLeft word)) Silent (refl, refl, refl) refl
 
@@ -218,20 +242,43 @@ module _ (x : Held) where
   opening_by o s back More = turns (turned_opening x o s back More) Silent (refl, refl, refl) refl
   opening_by o s back (Finished opened) = turns (turned_opening x o s back (Finished opened)) Silent (refl, refl, refl) refl
 
+  -- ---- checkpoints
+
+  recall_by : (r : recall.Recalling) (after : After) (turn : Turn Recalled) → Turns x (turned_recall x r after turn) Silent
+  recall_by r after More = turns (turned_recall x r after More) Silent (refl, refl, refl) refl
+  recall_by r after (Finished result) = turns (turned_recall x r after (Finished result)) Silent (refl, refl, refl) refl
+
+  guard_by : (g : guard.Guarding) (write : Write) (turn : Turn MayWrite) → Turns x (turned_guard x g write turn) Silent
+  guard_by g write More = turns (turned_guard x g write More) Silent (refl, refl, refl) refl
+  guard_by g write (Finished result) = turns (turned_guard x g write (Finished result)) Silent (refl, refl, refl) refl
+
+  save_round_by : (r : save_round.SavingRound) (goal : Goal) (turn : Turn SaveRoundEnd) → Turns x (turned_save_round x r goal turn) Silent
+  save_round_by r goal More = turns (turned_save_round x r goal More) Silent (refl, refl, refl) refl
+  save_round_by r goal (Finished result) = turns (turned_save_round x r goal (Finished result)) Silent (refl, refl, refl) refl
+
+  snap_by : IsBeginningCheckpoint x.stage → (s : snap.Snapping) (turn : Turn Snapped) → Turns x (turned_snap x s turn) (told_snap x.task turn)
+  snap_by begins s More = turns (turned_snap x s More) Silent (refl, refl, refl) refl
+  snap_by begins s (Finished (snapped.Begun seen)) = effect_by (begins_checkpoint x seen) (refl, refl, refl) refl (begins, refl, refl) x.task refl
+  snap_by begins s (Finished (snapped.NotYet word)) = turns (turned_snap x s (Finished (snapped.NotYet word))) Silent (refl, refl, refl) refl
+
   -- ---- each stage
 
-  by_stage : (stage : Stage) → FitsTask x stage → (reply : Reply) → Turns x (turned_at x stage reply) (told_at x stage reply)
-  by_stage Looks task reply = look_by reply
-  by_stage (Passes g after) task reply = passing_by (gate.taken g reply) after (gate.told (gate.taken g reply))
-  by_stage (Flips f) task reply = flip_by (flip.taken f reply) (flip.told (flip.taken f reply))
-  by_stage (Forwards w) task reply = register_by (with_evac w (evac_taken.taken w.evac reply)) (evac_taken.told (evac_taken.taken w.evac reply).stage)
-  by_stage (Accesses a) task reply = access_by (access.taken a reply) (access.told a reply)
-  by_stage (Places p) task reply = place_by task.0 (place.taken p reply) (place.told (place.taken p reply))
-  by_stage (Serves d back) task reply = round_by (duty.taken d reply) back (duty.told (duty.taken d reply))
-  by_stage (Scans s back) task reply = scan_by (scan_taken.taken s reply) back (scan_taken.told (scan_taken.taken s reply).stage)
-  by_stage (Evacuates v s back) task reply = copy_by (evac_taken.taken v reply) s back (evac_taken.told (evac_taken.taken v reply).stage)
-  by_stage (Opens o s back) task reply = opening_by (open_page.taken o reply) s back (open_page.told (open_page.taken o reply))
-  by_stage Gone task reply = turns x Silent (refl, refl, refl) refl
+  by_stage : (stage : Stage) → x.stage ≡ stage → FitsTask x stage → (reply : Reply) → Turns x (turned_at x stage reply) (told_at x stage reply)
+  by_stage Looks e task reply = look_by reply
+  by_stage (Passes g after) e task reply = passing_by (gate.taken g reply) after (gate.told (gate.taken g reply))
+  by_stage (Flips f) e task reply = flip_by (flip.taken f reply) (flip.told (flip.taken f reply))
+  by_stage (Forwards w) e task reply = register_by (with_evac w (evac_taken.taken w.evac reply)) (evac_taken.told (evac_taken.taken w.evac reply).stage)
+  by_stage (Accesses a) e task reply = access_by (access.taken a reply) (access.told a reply)
+  by_stage (Places p) e task reply = place_by task.0 (place.taken p reply) (place.told (place.taken p reply))
+  by_stage (Serves d back) e task reply = round_by (duty.taken d reply) back (duty.told (duty.taken d reply))
+  by_stage (Scans s back) e task reply = scan_by (scan_taken.taken s reply) back (scan_taken.told (scan_taken.taken s reply).stage)
+  by_stage (Evacuates v s back) e task reply = copy_by (evac_taken.taken v reply) s back (evac_taken.told (evac_taken.taken v reply).stage)
+  by_stage (Opens o s back) e task reply = opening_by (open_page.taken o reply) s back (open_page.told (open_page.taken o reply))
+  by_stage (Recalls r after) e task reply = recall_by (recall.taken r reply) after (recall.told (recall.taken r reply))
+  by_stage (Guards g write) e task reply = guard_by (guard.taken g reply) write (guard.told (guard.taken g reply))
+  by_stage (Checkpoints r goal) e task reply = save_round_by (save_round.taken r reply) goal (save_round.told (save_round.taken r reply))
+  by_stage (BeginsCheckpoint s) e task reply = snap_by (subst IsBeginningCheckpoint (sym e) tt) (snap.taken s reply) (snap.told (snap.taken s reply))
+  by_stage Gone e task reply = turns x Silent (refl, refl, refl) refl
 
   -- ---- a mutator with an end
 
@@ -268,6 +315,10 @@ module _ (x : Held) where
   rests (Scans s back) end reply = absurd (cc)
   rests (Evacuates v s back) end reply = absurd (cc)
   rests (Opens o s back) end reply = absurd (cc)
+  rests (Recalls r after) end reply = absurd (cc)
+  rests (Guards g write) end reply = absurd (cc)
+  rests (Checkpoints r goal) end reply = absurd (cc)
+  rests (BeginsCheckpoint s) end reply = absurd (cc)
 
 -- ---- the law
 
@@ -278,7 +329,7 @@ kept_by x y (Marks asked) comes none = comes
 
 pub workers_go_on : WorkersGoOn
 workers_go_on n mutators k x reply fits =
-    let t = by_stage x x.stage fits.task reply in
+    let t = by_stage x x.stage refl fits.task reply in
     record {
       answers = λ task outcome e. subst (Comes x (turned x reply)) e t.comes;
       kept = kept_by x (turned x reply) (told x reply) t.comes;

@@ -1,5 +1,5 @@
 -- The step after which a worker is gone: a mutator's last exchange of the gate, or a scanner's look at one that all mutators have left.
-use Rattle.std.proofs.Common.{◌≡◌, ℕ, ◌+◌, ◌-◌, ◌⊎◌, Bool, true, false, cond, List, Option, Some, None, Result, Ok, Err, nat_lt, is_some, inl, inr, refl, sym, ap, subst, ◌∙◌, ltb-true, ltb-false}
+use Rattle.std.proofs.Common.{◌≡◌, ℕ, ◌+◌, ◌-◌, ◌==◌, ◌⊎◌, Bool, true, false, cond, List, Option, Some, None, Result, Ok, Err, nat_lt, is_some, inl, inr, refl, sym, ap, subst, ◌∙◌, ltb-true, ltb-false}
 use Rattle.std.specs.Prelude.{IsSome, ⊤}
 use Rattle.std.proofs.lemmas.Option.{same_Some}
 use Rattle.atom_store.specs.declared.reply.Reply.{Reply}
@@ -42,9 +42,19 @@ use Rattle.gate_core.specs.declared.passage.Passage.{Passage}
 use Rattle.gate_core.specs.declared.passage.Passage.TheVariants.{Look, Attach, Park, Request, Resume, Forwarded, Leave, Clear}
 use Rattle.gate_core.specs.declared.passed.Passed.{Passed}
 use Rattle.gate_core.specs.declared.passed.Passed.TheVariants as passed
+use Rattle.gate_core.specs.declared.recall.recalled.Recalled.{Recalled}
+use Rattle.gate_core.specs.declared.snap.snapped.Snapped.{Snapped}
+use Rattle.gate_core.specs.declared.snap.snapped.Snapped.TheVariants as snapped
 use Rattle.gate_core.specs.Flip as flip
 use Rattle.gate_core.specs.Gate as gate
+use Rattle.gate_core.specs.Recall as recall
+use Rattle.gate_core.specs.Snap as snap
 use Rattle.gate_core.specs.Soundness.{IsPassingGoing}
+use Rattle.page_saves.specs.declared.may_write.MayWrite.{MayWrite}
+use Rattle.page_saves.specs.declared.save_round_end.SaveRoundEnd.{SaveRoundEnd}
+use Rattle.page_saves.specs.declared.save_round_end.SaveRoundEnd.TheVariants as save_round_end
+use Rattle.page_saves.specs.Guard as guard
+use Rattle.page_saves.specs.SaveRound as save_round
 use Rattle.page_scan.specs.declared.scanned.Scanned.{Scanned}
 use Rattle.page_scan.specs.declared.scanned.Scanned.TheVariants as scanned
 use Rattle.page_scan.specs.Scanning as scan
@@ -60,18 +70,22 @@ use Rattle.gc_worker.specs.declared.access.accessed.Accessed.TheVariants.{Faults
 use Rattle.gc_worker.specs.declared.stage.after.After.{After}
 use Rattle.gc_worker.specs.declared.stage.after.After.TheVariants as afters
 use Rattle.gc_worker.specs.declared.stage.back.Back.{Back}
-use Rattle.gc_worker.specs.declared.stage.back.Back.TheVariants.{ToAccess, ToPlace, ToScanner}
+use Rattle.gc_worker.specs.declared.stage.back.Back.TheVariants.{ToAccess, ToPlace, ToSnap, ToScanner}
 use Rattle.gc_worker.specs.declared.stage.forwarding_register.ForwardingRegister.{ForwardingRegister}
+use Rattle.gc_worker.specs.declared.stage.goal.Goal.{Goal}
+use Rattle.gc_worker.specs.declared.stage.goal.Goal.TheVariants.{ForFlip, ForSnap, ForScanner}
+use Rattle.gc_worker.specs.declared.stage.write.Write.{Write}
+use Rattle.gc_worker.specs.declared.stage.write.Write.TheVariants.{OfAccess, OfPlace}
 use Rattle.gc_worker.specs.declared.stage.Stage.{Stage}
-use Rattle.gc_worker.specs.declared.stage.Stage.TheVariants.{Looks, Passes, Flips, Forwards, Accesses, Places, Serves, Scans, Evacuates, Opens, Gone}
+use Rattle.gc_worker.specs.declared.stage.Stage.TheVariants.{Looks, Passes, Flips, Forwards, Accesses, Places, Serves, Scans, Evacuates, Opens, Recalls, Guards, Checkpoints, BeginsCheckpoint, Gone}
 use Rattle.gc_worker.specs.declared.task.Task.{Task}
 use Rattle.gc_worker.specs.declared.task.Task.TheVariants.{Calls, Stops}
 use Rattle.gc_worker.specs.Steps.Access as access
 use Rattle.gc_worker.specs.Workers.Fits.{FitsStage, IsCallerOf, IsOnSide, IsOnSideBack}
 use Rattle.gc_worker.specs.Laws.Gone.{HasLeft, SawAllLeave, WhoIsGoneSawWhy}
-use Rattle.gc_worker.specs.Workers.Held.{Held, at_stage, header_for, making_for}
+use Rattle.gc_worker.specs.Workers.Held.{Held, at_stage, fields_for, header_for, making_for, may_snap, run_held}
 use Rattle.gc_worker.specs.Plain.Seen.{Making, seen}
-use Rattle.gc_worker.specs.Steps.Turned.{Pointed, acted, acts, begins, end_by_shortage, ended, epoch_said, first_pointer, forwards_from, forwards_it, full_by, goes_back, goes_on, is_full, looked_by, passed_by, passes, places, served_by, started, turned_access, turned_at, turned_copy, turned_flip, turned_gate, turned_look, turned_opening, turned_place, turned_register, turned_round, turned_scan, with_copy, with_evac, with_record}
+use Rattle.gc_worker.specs.Steps.Turned.{Pointed, acted, acts, after_request, asks_flip, begins, checkpoints, end_by_shortage, ended, epoch_said, first_pointer, forwards_from, forwards_it, full_by, goes_back, goes_on, guards, guards_access, guards_place, in_epoch, is_full, looked_by, of_round, passed_by, passes, places, recalled, rounded, rounded_by, runs_on, served_by, serves_snap, started, traced_by, turned_access, turned_at, turned_copy, turned_flip, turned_gate, turned_guard, turned_look, turned_opening, turned_place, turned_recall, turned_register, turned_round, turned_save_round, turned_scan, turned_snap, went_on, with_copy, with_evac, with_record, writes}
 use Rattle.gc_worker.specs.Steps.Wanted.{wanted_at}
 
 -- any stage but the last
@@ -88,18 +102,68 @@ either : (b : Bool) (s t : Stage) → IsHere s → IsHere t → IsHere (cond b s
 either true s t here other = here
 either false s t here other = other
 
+guarding : (y : Held) (write : Write) (page : Option ℕ) (stage : Stage) → IsHere stage → IsHere (guards y write page stage)
+guarding y write (Some page) stage here = either (y.running == 0) stage (Guards (guard.begun y.layout page y.running y.number) write) here tt
+guarding y write None stage here = here
+
+guarding_access : (y : Held) (a : Access) → IsHere (guards_access y a)
+guarding_access y a = guarding y (OfAccess a) (access.writes_on a.spaces a.stage) (Accesses a) tt
+
+guarding_place : (y : Held) (p : place.Placing) → IsHere (guards_place y p)
+guarding_place y p = guarding y (OfPlace p) (place.writes_on p p.stage) (Places p) tt
+
 placing : (y : Held) (o : Option Header) → IsHere (places y o)
-placing y (Some header) = tt
+placing y (Some header) = guarding_place y (place.begun y.layout (run_held y) header y.epoch (fields_for y) y.snap)
 placing y None = tt
 
 going_on : (y : Held) (after : After) → IsHere (goes_on y after)
 going_on y afters.Looks = tt
 going_on y afters.Places = placing y (header_for y)
+going_on y afters.Snaps = either (may_snap y) (serves_snap y) Looks tt tt
+
+running_on : (y : Held) (after : After) → IsHere (runs_on y after)
+running_on y after = either y.layout.checkpoints (Recalls (recall.begun y.layout) after) (goes_on y after) tt (going_on y after)
+
+asking : (y : Held) (after : After) → IsHere (after_request y after)
+asking y afters.Looks = tt
+asking y afters.Places = tt
+asking y afters.Snaps = tt
+
+checkpointing : (y : Held) (goal : Goal) → IsHere (checkpoints y goal)
+checkpointing y ForFlip = tt
+checkpointing y ForSnap = tt
+checkpointing y ForScanner = tt
 
 going_back : (y : Held) (back : Back) → IsHere (goes_back y back)
 going_back y (ToAccess a) = tt
 going_back y ToPlace = placing y (header_for y)
+going_back y ToSnap = tt
 going_back y ToScanner = tt
+
+tracing : (y : Held) (back : Back) → IsHere (traced_by y back).stage
+tracing y (ToAccess a) = tt
+tracing y ToPlace = placing y (header_for y)
+tracing y ToSnap = tt
+tracing y ToScanner = either y.layout.checkpoints (checkpoints y ForScanner) (goes_back y ToScanner) tt tt
+
+writing : (write : Write) → IsHere (writes write)
+writing (OfAccess a) = tt
+writing (OfPlace p) = tt
+
+rounding_by : (y : Held) (goal : Goal) (result : SaveRoundEnd) → IsHere (rounded_by y goal result)
+rounding_by y goal (save_round_end.NoneRuns number) = tt
+rounding_by y goal save_round_end.Saved = checkpointing y goal
+rounding_by y goal save_round_end.Marked = checkpointing y goal
+rounding_by y goal (save_round_end.NothingNow word) = checkpointing y goal
+
+rounding : (y : Held) (goal : Goal) (result : SaveRoundEnd) → IsHere (rounded y goal result)
+rounding y ForFlip result = rounding_by y ForFlip result
+rounding y ForSnap result = rounding_by y ForSnap result
+rounding y ForScanner result = tt
+
+either_here : (b : Bool) (y z : Held) → IsHere y.stage → IsHere z.stage → IsHere (cond b y z).stage
+either_here true y z is other = is
+either_here false y z is other = other
 
 forwarding : (y : Held) (after : After) (o : Option Pointed) → IsHere (forwards_it y after o)
 forwarding y after (Some p) = tt
@@ -113,7 +177,7 @@ module _ (x : Held) (here : IsHere x.stage) where
   acts_here y (Jumps target) = tt
   acts_here y (Links d target) = tt
   acts_here y (Prints n) = tt
-  acts_here y Snaps = tt
+  acts_here y Snaps = either_here (may_snap y) (at_stage y (serves_snap y)) (went_on y) tt tt
   acts_here y (Makes kind d n) = placing y (header_for y)
   acts_here y (Measures d i) = tt
   acts_here y (Loads d i n) = tt
@@ -132,12 +196,8 @@ module _ (x : Held) (here : IsHere x.stage) where
   started_here (Some (Calls instr)) = acted_here (begins x) (action (seen x.account x.registers) instr)
   started_here (Some (Stops end)) = tt
 
-  requested_here : (b : Bool) (y z : Held) → IsHere y.stage → IsHere z.stage → IsHere (cond b y z).stage
-  requested_here true y z is other = is
-  requested_here false y z is other = other
-
   looked_here : (o : Option GateWord) → IsHere (looked_by x o).stage
-  looked_here (Some read) = requested_here read.request (at_stage x (passes x Park afters.Looks)) (started x x.task) tt (started_here x.task)
+  looked_here (Some read) = either_here read.request (at_stage x (passes x Park afters.Looks)) (started x x.task) tt (started_here x.task)
   looked_here None = here
 
   look_here : (reply : Reply) → IsHere (turned_look x reply).stage
@@ -152,13 +212,14 @@ module _ (x : Held) (here : IsHere x.stage) where
   PassedLeave passage result = (passage ≡ Leave) × (word : ℕ) × (result ≡ passed.Went word)
 
   passed_here : (after : After) (passage : Passage) (result : Passed) → (passed_by x after passage result).stage ≡ Gone → PassedLeave passage result
-  passed_here after Attach (passed.Went word) gone = not_gone Looks tt gone
+  passed_here after Attach (passed.Went word) gone =
+      not_gone (passed_by x after Attach (passed.Went word)).stage (running_on (in_epoch x (epoch_said x.epoch word)) afters.Looks) gone
   passed_here after Attach (passed.NotYet word) gone = not_gone (passes x Attach after) tt gone
   passed_here after Park (passed.Went word) gone = not_gone (passes x (Resume x.epoch) after) tt gone
   passed_here after Park (passed.NotYet word) gone = not_gone (goes_on x after) (going_on x after) gone
-  passed_here after Request (passed.Went word) gone = not_gone (passed_by x after Request (passed.Went word)).stage tt gone
+  passed_here after Request (passed.Went word) gone = not_gone (after_request x after) (asking x after) gone
   passed_here after Request (passed.NotYet word) gone = not_gone (passes x Park after) tt gone
-  passed_here after (Resume epoch) (passed.Went word) gone = not_gone (goes_on x after) (going_on x after) gone
+  passed_here after (Resume epoch) (passed.Went word) gone = not_gone (runs_on x after) (running_on x after) gone
   passed_here after (Resume epoch) (passed.NotYet word) gone =
       not_gone (passed_by x after (Resume epoch) (passed.NotYet word)).stage
       (either (nat_lt x.epoch (epoch_said x.epoch word)) (forwards_from x after 0) (passes x (Resume x.epoch) after) (forwarding x after (first_pointer x.registers 8 0)) tt) gone
@@ -183,7 +244,7 @@ module _ (x : Held) (here : IsHere x.stage) where
   -- ---- an access, an allocation
 
   access_here : (a : Access) (turn : Turn Accessed) → IsHere (turned_access x a turn).stage
-  access_here a More = tt
+  access_here a More = guarding_access x a
   access_here a (Finished (Faults page)) = tt
   access_here a (Finished (Brings into word)) = tt
   access_here a (Finished Stored) = tt
@@ -191,14 +252,14 @@ module _ (x : Held) (here : IsHere x.stage) where
 
   full_here : (s : Shortage) (traced : Bool) → IsHere (full_by x s traced).stage
   full_here s false = tt
-  full_here s true = requested_here (is_full x s) (ended x (end_by_shortage s)) (at_stage x (passes x Request afters.Places)) tt tt
+  full_here s true = either_here (is_full x s) (ended x (end_by_shortage s)) (at_stage x (asks_flip x)) tt (either x.layout.checkpoints (checkpoints x ForFlip) (passes x Request afters.Places) tt tt)
 
   record_here : (run : Run) (at : ℕ) (made : Option Making) → IsHere (with_record x run at made).stage
   record_here run at (Some m) = tt
   record_here run at None = here
 
   place_here : (p : place.Placing) (turn : Turn Allocated) → IsHere (turned_place x p turn).stage
-  place_here p More = tt
+  place_here p More = guarding_place x p
   place_here p (Finished (Placed at)) = record_here p.run at (making_for x x.task)
   place_here p (Finished (Full s)) = full_here s s.traced
 
@@ -208,7 +269,7 @@ module _ (x : Held) (here : IsHere x.stage) where
   served_here d back (ScanPage page) gone = not_gone (served_by x d back (ScanPage page)).stage tt gone
   served_here d back (ScanInPlace page) gone = not_gone (served_by x d back (ScanInPlace page)).stage tt gone
   served_here d back Marked gone = not_gone (served_by x d back Marked).stage (going_back (record x { epoch = d.epoch }) back) gone
-  served_here d back Traced gone = not_gone (served_by x d back Traced).stage (going_back (record x { epoch = d.epoch }) back) gone
+  served_here d back Traced gone = not_gone (served_by x d back Traced).stage (tracing (of_round x d) back) gone
   served_here d back (NothingNow word) gone = not_gone (served_by x d back (NothingNow word)).stage (going_back (record x { epoch = d.epoch }) back) gone
   served_here d back (AllLeft word) gone = (word, refl)
 
@@ -224,6 +285,25 @@ module _ (x : Held) (here : IsHere x.stage) where
   opening_here : (o : open_page.Opening) (s : scan.Scanning) (back : Back) (turn : Turn Opened) → IsHere (turned_opening x o s back turn).stage
   opening_here o s back More = tt
   opening_here o s back (Finished opened) = going_back x back
+
+  -- ---- checkpoints
+
+  recall_here : (r : recall.Recalling) (after : After) (turn : Turn Recalled) → IsHere (turned_recall x r after turn).stage
+  recall_here r after More = tt
+  recall_here r after (Finished result) = going_on (recalled x result) after
+
+  guard_here : (g : guard.Guarding) (write : Write) (turn : Turn MayWrite) → IsHere (turned_guard x g write turn).stage
+  guard_here g write More = tt
+  guard_here g write (Finished result) = writing write
+
+  save_round_here : (r : save_round.SavingRound) (goal : Goal) (turn : Turn SaveRoundEnd) → IsHere (turned_save_round x r goal turn).stage
+  save_round_here r goal More = tt
+  save_round_here r goal (Finished result) = rounding x goal result
+
+  snap_here : (s : snap.Snapping) (turn : Turn Snapped) → IsHere (turned_snap x s turn).stage
+  snap_here s More = tt
+  snap_here s (Finished (snapped.Begun seen)) = tt
+  snap_here s (Finished (snapped.NotYet word)) = tt
 
 -- ---- the last passage
 
@@ -282,6 +362,7 @@ module _ (x : Held) (q : Step) (words : List ℕ) (here : IsHere x.stage) where
   scans_for : (back : Back) (caller : Caller) (mutators : ℕ) (b : Bool) → caller ≡ ScansFor mutators → IsCallerOf x back caller → IsOnSideBack back b → (b ≡ false) × (mutators ≡ x.mutators)
   scans_for (ToAccess a) caller mutators b is own side = absurd (subst (IsCallerOf x (ToAccess a)) is own)
   scans_for ToPlace caller mutators b is own side = absurd (subst (IsCallerOf x ToPlace) is own)
+  scans_for ToSnap caller mutators b is own side = absurd (subst (IsCallerOf x ToSnap) is own)
   scans_for ToScanner caller mutators b is own side = (side, subst (IsCallerOf x ToScanner) is own)
 
   by_round : (d : duty.Round) (back : Back) (turn : Turn RoundEnd) → duty.told (duty.taken d r) ≡ turn → FitsStage x (Serves d back)
@@ -324,6 +405,14 @@ module _ (x : Held) (q : Step) (words : List ℕ) (here : IsHere x.stage) where
       not_gone (turned_at x (Evacuates v s back) r).stage (copy_here x here (evac_taken.taken v r) s back (evac_taken.told (evac_taken.taken v r).stage)) gone
   by_stage (Opens o s back) b ended is fits side asked gone =
       not_gone (turned_at x (Opens o s back) r).stage (opening_here x here (open_page.taken o r) s back (open_page.told (open_page.taken o r))) gone
+  by_stage (Recalls z after) b ended is fits side asked gone =
+      not_gone (turned_at x (Recalls z after) r).stage (recall_here x here (recall.taken z r) after (recall.told (recall.taken z r))) gone
+  by_stage (Guards g write) b ended is fits side asked gone =
+      not_gone (turned_at x (Guards g write) r).stage (guard_here x here (guard.taken g r) write (guard.told (guard.taken g r))) gone
+  by_stage (Checkpoints z goal) b ended is fits side asked gone =
+      not_gone (turned_at x (Checkpoints z goal) r).stage (save_round_here x here (save_round.taken z r) goal (save_round.told (save_round.taken z r))) gone
+  by_stage (BeginsCheckpoint s) b ended is fits side asked gone =
+      not_gone (turned_at x (BeginsCheckpoint s) r).stage (snap_here x here (snap.taken s r) (snap.told (snap.taken s r))) gone
   by_stage Gone b ended is fits side asked gone = absurd (cc)
 
 -- who wants a step is here
@@ -339,6 +428,10 @@ wants_here x q (Serves d back) asked = tt
 wants_here x q (Scans s back) asked = tt
 wants_here x q (Evacuates v s back) asked = tt
 wants_here x q (Opens o s back) asked = tt
+wants_here x q (Recalls r after) asked = tt
+wants_here x q (Guards g write) asked = tt
+wants_here x q (Checkpoints r goal) asked = tt
+wants_here x q (BeginsCheckpoint s) asked = tt
 
 pub who_is_gone_saw_why : WhoIsGoneSawWhy
 who_is_gone_saw_why n mutators k x q words f asked gone =

@@ -20,15 +20,17 @@ use Rattle.heap_state.specs.Worker as workers
 use Rattle.heap_state.proofs.Table.Places.{word_in-row}
 use Rattle.heap_laws.proofs.Gate.Counts.{ones}
 use Rattle.gc_worker.specs.declared.stage.back.Back.{Back}
-use Rattle.gc_worker.specs.declared.stage.back.Back.TheVariants.{ToAccess, ToPlace, ToScanner}
+use Rattle.gc_worker.specs.declared.stage.back.Back.TheVariants.{ToAccess, ToPlace, ToSnap, ToScanner}
+use Rattle.gc_worker.specs.declared.stage.goal.Goal.{Goal}
+use Rattle.gc_worker.specs.declared.stage.goal.Goal.TheVariants.{ForFlip, ForSnap, ForScanner}
 use Rattle.gc_worker.specs.declared.stage.Stage.{Stage}
-use Rattle.gc_worker.specs.declared.stage.Stage.TheVariants.{Looks, Passes, Flips, Forwards, Accesses, Places, Serves, Scans, Evacuates, Opens, Gone}
+use Rattle.gc_worker.specs.declared.stage.Stage.TheVariants.{Looks, Passes, Flips, Forwards, Accesses, Places, Serves, Scans, Evacuates, Opens, Recalls, Guards, Checkpoints, BeginsCheckpoint, Gone}
 use Rattle.gc_worker.specs.Laws.Between.{fresh_mutator, fresh_scanner, opening_heap, with_worker}
 use Rattle.gc_worker.specs.Workers.Fits.{Fits}
 use Rattle.gc_worker.specs.Laws.Gone.{HasLeft, SawAllLeave, ScannersAreLast, ScannersBeginLast, ScannersStayLast}
 use Rattle.gc_worker.specs.Steps.Goes.{Is}
 use Rattle.gc_worker.specs.Workers.Held.{Held}
-use Rattle.gc_worker.specs.Workers.Knows.{knows, post_before, post_back, post_in}
+use Rattle.gc_worker.specs.Workers.Knows.{knows, post_before, post_back, post_for, post_in}
 use Rattle.gc_worker.specs.Laws.Step.{Heap, WorkersStand, held_at, moved, nobody, read}
 use Rattle.gc_worker.specs.Steps.Turned.{turned}
 use Rattle.gc_worker.specs.Steps.Wanted.{wanted, wanted_at}
@@ -72,7 +74,13 @@ before_gone Clear e = cc
 back_gone : (back : Back) → is_gone (post_back back) ≡ true → ⊥
 back_gone (ToAccess a) e = cc
 back_gone ToPlace e = cc
+back_gone ToSnap e = cc
 back_gone ToScanner e = cc
+
+goal_gone : (goal : Goal) → is_gone (post_for goal) ≡ true → ⊥
+goal_gone ForFlip e = cc
+goal_gone ForSnap e = cc
+goal_gone ForScanner e = cc
 
 -- who counts as gone is
 gone_stage : (x : Held) (stage : Stage) → is_gone (post_in x stage) ≡ true → stage ≡ Gone
@@ -87,6 +95,10 @@ gone_stage x (Serves d back) e = absurd (back_gone back e)
 gone_stage x (Scans s back) e = absurd (back_gone back e)
 gone_stage x (Evacuates v s back) e = absurd (back_gone back e)
 gone_stage x (Opens o s back) e = absurd (back_gone back e)
+gone_stage x (Recalls r after) e = absurd (cc)
+gone_stage x (Guards g write) e = absurd (cc)
+gone_stage x (Checkpoints r goal) e = absurd (goal_gone goal e)
+gone_stage x (BeginsCheckpoint s) e = absurd (cc)
 
 no_mutator : (post : Post) → is_mutator post ≡ false → is_gone post ≡ false
 no_mutator workers.Scanner e = refl

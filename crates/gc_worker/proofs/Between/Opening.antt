@@ -1,23 +1,34 @@
 -- A new heap with its workers stands, and each worker is sound.
-use Rattle.std.proofs.Common.{◌≡◌, ℕ, zero, suc, ◌+◌, ◌<◌, ◌≤◌, Bool, true, false, cond, nat_lt, ◌∷◌, ◌++◌, length, map, replicate, get_or, slice_index, refl, sym, ap, subst, ◌∙◌, arith, ⊎_elim, lt-ltb, le-ltb}
+use Rattle.std.proofs.Common.{◌≡◌, ℕ, zero, suc, ◌+◌, ◌<◌, ◌≤◌, Bool, true, false, cond, nat_lt, List, ◌∷◌, ◌++◌, length, map, replicate, get_or, slice_index, refl, sym, ap, subst, ◌∙◌, arith, ⊎_elim, lt-ltb, le-ltb}
 use Rattle.std.proofs.lemmas.Bool.{cases_lt}
 use Rattle.std.proofs.lemmas.List.{get_or-replicate, get_or_past, length-replicate}
 use Rattle.heap_words.specs.Decoded.{decode}
 use Rattle.plain_state.specs.declared.sizes.TheConstants.{REGISTERS}
 use Rattle.space_map.specs.Spaces.{Layout, IsPageCount}
-use Rattle.heap_state.specs.Configuration.{Configuration, Stands, era, memory, team}
+use Rattle.space_map.specs.Table.{whole_length}
+use Rattle.heap_state.specs.Configuration.{Configuration, Stands, table, era, memory, team}
 use Rattle.heap_state.specs.Cycles.Cycle.{Cycle}
-use Rattle.heap_state.specs.Worker.{Worker, Outside, Scanner}
+use Rattle.heap_state.specs.Memory.Entries.{EachFits, table_with}
+use Rattle.heap_state.specs.Memory.Table.{IsFormed, table_of}
+use Rattle.heap_state.specs.Saving.Words.{Saves}
+use Rattle.heap_state.specs.Saving.Written.{blank_saves}
+use Rattle.heap_state.specs.Theorems.Rows.{Written}
+use Rattle.heap_state.specs.Theorems.Saves.{WrittenWhole}
+use Rattle.heap_state.specs.Worker.{Outside, Scanner}
 use Rattle.heap_state.specs.Worker as workers
-use Rattle.heap_laws.specs.Opening.{opening_plain}
+use Rattle.heap_state.proofs.Table.Writing.{writes_whole_tables}
+use Rattle.heap_laws.specs.Opening.{opening_entries, opening_plain}
 use Rattle.heap_laws.specs.Opening as laws
 use Rattle.heap_laws.proofs.Frames.Values.{zero_word}
-use Rattle.heap_laws.proofs.Opening.Heap.{opening_stands}
-use Rattle.gc_worker.specs.Laws.Between.{HeapsOpen, fresh_mutator, fresh_scanner, fresh_worker, fresh_workers, opening_heap}
+use Rattle.heap_laws.specs.Saving.Rows.{KnowsNothing, NoneWasBegun, nothing_frozen}
+use Rattle.heap_laws.proofs.Opening.Heap.{opening_stands, opening_written}
+use Rattle.heap_laws.proofs.Saving.Workers.{saves_open}
+use Rattle.gc_worker.specs.Laws.Between.{HeapsOpen, fresh_mutator, fresh_scanner, fresh_worker, fresh_workers, opening_heap, opening_words}
 use Rattle.gc_worker.specs.Workers.Fits.{Fits}
 use Rattle.gc_worker.specs.Workers.Held.{Held}
 use Rattle.gc_worker.specs.Workers.Knows.{knows}
-use Rattle.gc_worker.specs.Laws.Step.{read, nobody}
+use Rattle.gc_worker.specs.Workers.Saves.{saver_of}
+use Rattle.gc_worker.specs.Laws.Step.{Heap, StandIf, held_at, nobody, read, saves_in}
 use Rattle.gc_worker.specs.Plain.Seen.{IsValueAs, IsValueWord}
 use Rattle.gc_worker.proofs.Workers.Parts.{new_worker}
 
@@ -42,7 +53,7 @@ module _ (s : Layout) (mutators k : ℕ) where
   module _ (size : IsPageCount s.pages) (few : k ≤ 23) where
     pub mutator_fits : nat_lt k mutators ≡ true → Fits s.pages mutators k (fresh_mutator s mutators k)
     mutator_fits side = record {
-      worker = new_worker s.pages mutators k size few is_value;
+      worker = new_worker s mutators k size few is_value;
       end = refl;
       side = side;
       task = tt;
@@ -51,7 +62,7 @@ module _ (s : Layout) (mutators k : ℕ) where
 
     pub scanner_fits : nat_lt k mutators ≡ false → Fits s.pages mutators k (fresh_scanner s mutators k)
     scanner_fits side = record {
-      worker = new_worker s.pages mutators k size few is_value;
+      worker = new_worker s mutators k size few is_value;
       end = refl;
       side = side;
       task = refl;
@@ -109,25 +120,121 @@ module _ (s : Layout) (mutators : ℕ) where
   is_there from (suc count) zero k l at = ap (fresh_worker s mutators) (let same : from ≡ k = omega (arith, at) in same)
   is_there from (suc count) (suc j) k l at = is_there (from + 1) count j k (omega (arith, l)) (omega (arith, at))
 
+-- ---- the words
+
+entries_fit : (n least : ℕ) → IsPageCount n → 4 ≤ least → least ≤ n → EachFits n (opening_entries n least)
+entries_fit n least size some short = (
+  tt,
+  (
+    (omega arith, record { front_fits = omega arith; low_fits = omega (arith, size, short); owed_fits = omega arith }),
+    ((omega arith, record { front_fits = omega arith; low_fits = omega (arith, size, short); owed_fits = omega arith }), ((omega arith, some, short), ((omega arith, some, short), ((omega arith, omega arith), tt)))),
+  ),
+)
+
+-- a layout of so many pages a space, with room for checkpoints or without
+abbrev pub layout : ℕ → Bool → Layout
+layout n room = record { pages = n; checkpoints = room }
+
+-- words of the whole length that say what is said at first
+pub record AreOpening (n least : ℕ) (room : Bool) (words : List ℕ) : Type 0 where
+  pub formed : IsFormed n words
+  pub says : table_of n words ≡ table_with n (opening_entries n least)
+  pub whole : whole_length (layout n room) ≤ length words
+
+module _ (n least : ℕ) (size : IsPageCount n) (some : 4 ≤ least) (short : least ≤ n) where
+  opened : Written n (opening_entries n least)
+  opened = opening_written n least size some short
+
+  opened_whole : WrittenWhole n (opening_entries n least)
+  opened_whole = writes_whole_tables n (opening_entries n least) (entries_fit n least size some short) (record { first = (least, (3, omega arith, refl)); second = (least, (4, omega arith, refl)) })
+
+  pub are_opening : (room : Bool) → AreOpening n least room (opening_words (layout n room) least)
+  are_opening true = record { formed = opened_whole.formed; says = opened_whole.says; whole = opened_whole.saves_formed.whole }
+  are_opening false = record { formed = opened.formed; says = opened.says; whole = opened.formed.whole }
+
 -- ---- the heap
 
-module _ (s : Layout) (least mutators scanners : ℕ) (size : IsPageCount s.pages) (fewest : 4 ≤ least) (most : least ≤ s.pages) (all : mutators + scanners ≤ 24) where
-  as_read : laws.opening_configuration s.pages least mutators scanners ≡ read (opening_heap s least mutators scanners)
-  as_read = λ i. record (laws.opening_configuration s.pages least mutators scanners) { workers = sym (known s mutators 0 mutators scanners (mutators + scanners) (omega arith) refl) i }
+module _ (n : ℕ) (room : Bool) (least mutators scanners : ℕ) (size : IsPageCount n) (fewest : 4 ≤ least) (most : least ≤ n) (all : mutators + scanners ≤ 24) where
+  abbrev s : Layout
+  s = layout n room
 
-  fits : (k : ℕ) → k < length (fresh_workers s mutators 0 (mutators + scanners)) → Fits s.pages mutators k (get_or (fresh_workers s mutators 0 (mutators + scanners)) k nobody)
+  abbrev h : Heap
+  h = opening_heap s least mutators scanners
+
+  words : AreOpening n least room h.words
+  words = are_opening n least size fewest most room
+
+  in_team : (k : ℕ) → k < length h.workers → k < mutators + scanners
+  in_team k l = let e = many s mutators 0 (mutators + scanners) in omega (arith, l, e)
+
+  there : (k : ℕ) → k < length h.workers → held_at h k ≡ fresh_worker s mutators k
+  there k l = is_there s mutators 0 (mutators + scanners) k k (in_team k l) (omega arith)
+
+  -- what is so of a new mutator and of a new scanner is so of each
+  each_fresh : (P : Held → Type 0) (k : ℕ) → k < length h.workers → P (fresh_mutator s mutators k) → P (fresh_scanner s mutators k) → P (held_at h k)
+  each_fresh P k l mutator scanner = subst P (sym (there k l)) (by_kind (nat_lt k mutators))
+    where
+      by_kind : (b : Bool) → P (cond b (fresh_mutator s mutators k) (fresh_scanner s mutators k))
+      by_kind true = mutator
+      by_kind false = scanner
+
+  fits : (k : ℕ) → k < length h.workers → Fits n mutators k (held_at h k)
   fits k l =
-      let below : k < mutators + scanners = (let e = many s mutators 0 (mutators + scanners) in omega (arith, l, e)) in
-      subst (λ (x : Held). Fits s.pages mutators k x) (sym (is_there s mutators 0 (mutators + scanners) k k below (omega arith)))
-      (fresh_fits s mutators k size (omega (arith, below, all)))
+      let below = in_team k l in
+      subst (λ (x : Held). Fits n mutators k x) (sym (there k l)) (fresh_fits s mutators k size (omega (arith, below, all)))
+
+  -- with its words the opening of the laws is this heap
+  abbrev with_words : Configuration
+  with_words = record (laws.opening_configuration n least mutators scanners) { words = h.words }
+
+  as_read : with_words ≡ read h
+  as_read = λ i. record with_words { workers = sym (known s mutators 0 mutators scanners (mutators + scanners) (omega arith) refl) i }
 
   abbrev Begins : Configuration → Type 0
   Begins c = (st : Stands c (opening_plain mutators)) × Cycle (era c) (memory c) (team c) st.ghost (opening_plain mutators)
 
-  begins : mutators ≤ 16 → Begins (read (opening_heap s least mutators scanners))
-  begins few = let o = opening_stands s.pages least mutators scanners size fewest most few all in subst Begins as_read (o.stands, o.cycle)
+  begins : mutators ≤ 16 → Begins (read h)
+  begins few =
+      let o = opening_stands n least mutators scanners size fewest most few all in
+      let same = words.says ∙ sym (opened n least size fewest most).says in
+      let st : Stands with_words (opening_plain mutators) =
+      record { size = size; formed = words.formed; ghost = o.stands.ghost; invariant = rw same o.stands.invariant; shown = rw same o.stands.shown } in
+      subst Begins as_read (st, rw same o.cycle)
+
+-- ---- checkpoints
+
+module _ (n least mutators scanners : ℕ) (size : IsPageCount n) (fewest : 4 ≤ least) (most : least ≤ n) (all : mutators + scanners ≤ 24) where
+  abbrev whole : Heap
+  whole = opening_heap (layout n true) least mutators scanners
+
+  says_nothing : saves_in whole ≡ blank_saves
+  says_nothing = (opened_whole n least size fewest most).saves
+
+  none_begun : NoneWasBegun (saves_in whole) nothing_frozen
+  none_begun = subst (λ (v : Saves). NoneWasBegun v nothing_frozen) (sym says_nothing) (record { snap = refl; done = refl; save = λ page. refl; held = λ page. refl })
+
+  knows_nothing : (k : ℕ) → k < length whole.workers → KnowsNothing (saver_of (held_at whole k))
+  knows_nothing k l = each_fresh n true least mutators scanners size fewest most all (λ (x : Held). KnowsNothing (saver_of x)) k l
+      (record { recalled = refl; settled = refl; still = refl; guarded = refl; marked = refl; save = refl; reads = refl; round = refl })
+      (record { recalled = refl; settled = refl; still = refl; guarded = refl; marked = refl; save = refl; reads = refl; round = refl })
+
+  saving : (room : Bool) → StandIf room (opening_heap (layout n room) least mutators scanners) (opening_plain mutators)
+  saving false = tt
+  saving true = record {
+    formed = (opened_whole n least size fewest most).saves_formed;
+    frozen = nothing_frozen;
+    stands = saves_open (table (read whole)) (saves_in whole) nothing_frozen (length whole.workers) (λ k. saver_of (held_at whole k)) none_begun knows_nothing;
+    shows = record { number = none_begun.snap; keeps = λ some. absurd (let none = none_begun.snap in omega (arith, some, none)) };
+  }
 
 pub heaps_open : HeapsOpen
 heaps_open s least mutators scanners size fewest most few all =
-    let b = begins s least mutators scanners size fewest most all few in
-    record { stands = b.0; cycle = b.1; fit = fits s least mutators scanners size fewest most all }
+    let b = begins s.pages s.checkpoints least mutators scanners size fewest most all few in
+    record {
+      stands = b.0;
+      cycle = b.1;
+      fit = fits s.pages s.checkpoints least mutators scanners size fewest most all;
+      laid_out = λ k l. each_fresh s.pages s.checkpoints least mutators scanners size fewest most all (λ (x : Held). x.layout.checkpoints ≡ s.checkpoints) k l refl refl;
+      whole = (are_opening s.pages least size fewest most s.checkpoints).whole;
+      saving = saving s.pages least mutators scanners size fewest most all s.checkpoints;
+    }

@@ -26,9 +26,9 @@ use Rattle.heap_laws.proofs.Fields.SameWords.{same_words}
 use Rattle.heap_laws.proofs.Fields.Shown.{headers_are_read, registers_are_held}
 use Rattle.heap_laws.proofs.Frames.Values.{value_from_pointer}
 use Rattle.heap_laws.proofs.Lifting.Configurations.{ready}
-use Rattle.gc_worker.specs.declared.stage.back.Back.TheVariants.{ToAccess, ToPlace, ToScanner}
+use Rattle.gc_worker.specs.declared.stage.back.Back.TheVariants.{ToAccess, ToPlace, ToSnap, ToScanner}
 use Rattle.gc_worker.specs.declared.stage.Stage.{Stage}
-use Rattle.gc_worker.specs.declared.stage.Stage.TheVariants.{Looks, Passes, Flips, Forwards, Accesses, Places, Serves, Scans, Evacuates, Opens, Gone}
+use Rattle.gc_worker.specs.declared.stage.Stage.TheVariants.{Looks, Passes, Flips, Forwards, Accesses, Places, Serves, Scans, Evacuates, Opens, Recalls, Guards, Checkpoints, BeginsCheckpoint, Gone}
 use Rattle.gc_worker.specs.Laws.Between.{ShowsRegisters, RegistersLand, AreAlike, IsAsPlain, WhatStandsIsSo}
 use Rattle.gc_worker.specs.Workers.Fits.{FitsStage}
 use Rattle.gc_worker.specs.Steps.Goes.{Is}
@@ -61,6 +61,7 @@ round_epoch own d (duty_stage.Ended result) e = e
 own_epoch : (x : Held) (stage : Stage) → FitsStage x stage → is_running (post_in x stage) ≡ true → epoch_in x.epoch stage ≡ x.epoch
 own_epoch x (Serves d (ToAccess a)) fits runs = round_epoch x.epoch d d.stage fits.0.epoch
 own_epoch x (Serves d ToPlace) fits runs = round_epoch x.epoch d d.stage fits.0.epoch
+own_epoch x (Serves d ToSnap) fits runs = round_epoch x.epoch d d.stage fits.0.epoch
 own_epoch x (Serves d ToScanner) fits runs = absurd (cc)
 own_epoch x Looks fits runs = refl
 own_epoch x (Passes g after) fits runs = refl
@@ -71,6 +72,10 @@ own_epoch x (Places z) fits runs = refl
 own_epoch x (Scans z back) fits runs = refl
 own_epoch x (Evacuates v z back) fits runs = refl
 own_epoch x (Opens o z back) fits runs = refl
+own_epoch x (Recalls r after) fits runs = refl
+own_epoch x (Guards z write) fits runs = refl
+own_epoch x (Checkpoints r goal) fits runs = refl
+own_epoch x (BeginsCheckpoint z) fits runs = refl
 own_epoch x Gone fits runs = refl
 
 -- the mutators come first

@@ -9,7 +9,7 @@ pub workers_want : WorkersWant
 workers_want n mutators k x f = (
   λ none. ⊎_elim
       (λ (gone : x.stage ≡ Gone). gone)
-      (λ (row : IsOnRow n (wanted x)). absurd (let e = sym row.is ∙ none in cc))
+      (λ (row : IsOnRow x.layout (wanted x)). absurd (let e = sym row.is ∙ none in cc))
       (rows_fit n mutators k x f x.stage f.stage),
   λ gone. ap (wanted_at x) gone,
 )

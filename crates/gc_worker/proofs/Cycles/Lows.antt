@@ -18,10 +18,11 @@ use Rattle.space_map.specs.AreaWord.{AreaFits, decode_area, encode_area}
 use Rattle.space_map.specs.GateWord.{decode_gate}
 use Rattle.space_map.specs.Spaces.{to_space}
 use Rattle.space_map.specs.Table.{Row, Gate, Area, Size, place_of, table_length}
+use Rattle.space_map.specs.WholeTable.{WholeRow, whole_place_of}
 use Rattle.space_map.proofs.AreaWords.{decode_area-encode_area}
 use Rattle.alloc_end.specs.declared.fitting.Fitting.{Fitting}
 use Rattle.alloc_end.specs.declared.place_stage.PlaceStage.{PlaceStage}
-use Rattle.alloc_end.specs.declared.place_stage.PlaceStage.TheVariants.{ExchangesArea, StoresNew}
+use Rattle.alloc_end.specs.declared.place_stage.PlaceStage.TheVariants.{ExchangesArea}
 use Rattle.alloc_end.specs.Place.{Placing, words_for, kept_room, area_after}
 use Rattle.alloc_end.specs.Place as place
 use Rattle.alloc_end.specs.Soundness.{AreaHoldsClaim}
@@ -39,7 +40,12 @@ use Rattle.gate_core.specs.declared.reset.Reset as resets
 use Rattle.gate_core.specs.Flip.{Flipping, area_reset}
 use Rattle.gate_core.specs.Flip as flip
 use Rattle.gate_core.specs.Gate as gate
-use Rattle.gate_core.proofs.RowsFit.{passage_writes}
+use Rattle.gate_core.specs.Recall as recall
+use Rattle.gate_core.specs.Snap as snap
+use Rattle.page_saves.specs.Guard as guard
+use Rattle.page_saves.specs.SaveRound as save_round
+use Rattle.page_saves.proofs.RowsFit.{guard_by_rows, guard_writes, round_by_rows, round_writes}
+use Rattle.gate_core.proofs.RowsFit.{passage_writes, recall_writes, snap_writes}
 use Rattle.page_scan.specs.Scanning as scan
 use Rattle.page_scan.proofs.RowsFit as scan_rows
 use Rattle.page_slots.specs.Open as open_page
@@ -52,7 +58,7 @@ use Rattle.heap_state.proofs.Table.Places.{word_in-row, word_in-same, word_in-ot
 use Rattle.gc_worker.specs.Laws.Cycles.{words_claimed, claimed_at, claimed_by_placing, low_said, low_at, low_of, size_of as size_in_use, LowGoes, LowFallsByClaims}
 use Rattle.gc_worker.specs.Steps.Access as access
 use Rattle.gc_worker.specs.declared.stage.Stage.{Stage}
-use Rattle.gc_worker.specs.declared.stage.Stage.TheVariants.{Looks, Passes, Flips, Forwards, Accesses, Places, Serves, Scans, Evacuates, Opens, Gone}
+use Rattle.gc_worker.specs.declared.stage.Stage.TheVariants.{Looks, Passes, Flips, Forwards, Accesses, Places, Serves, Scans, Evacuates, Opens, Recalls, Guards, Checkpoints, BeginsCheckpoint, Gone}
 use Rattle.gc_worker.specs.Steps.Goes.{Is}
 use Rattle.gc_worker.specs.Workers.Held.{Held, at_stage}
 use Rattle.gc_worker.specs.Laws.Step.{Heap, FlipsWhereTold, WorkersStand, read, held_at, epoch_of}
@@ -61,10 +67,9 @@ use Rattle.gc_worker.specs.Steps.Wanted.{wanted, wanted_at}
 use Rattle.gc_worker.proofs.Stages.Access.RowsFit as access_rows
 use Rattle.gc_worker.proofs.Words.Areas.{area_says, is_space}
 use Rattle.gc_worker.proofs.Between.Pages.Claims.{NoMark, flips_at}
-use Rattle.gc_worker.proofs.Between.Pages.Written.{IsNoArea, IsNoSize, area_stays, size_stays}
+use Rattle.gc_worker.proofs.Between.Pages.Written.{Elsewhere, IsNoArea, IsNoSize, area_stays, size_stays, whole_area_stays}
 use Rattle.gc_worker.proofs.Words.Eras.{old_span_is}
 use Rattle.gc_worker.proofs.Words.Sizes.{size_now}
-use Rattle.gc_worker.proofs.Words.TableRows.{in_each_table, never_marks}
 use Rattle.gc_worker.proofs.Stages.Gate.Words.{gate_says}
 use Rattle.gc_worker.proofs.Workers.Members.{member}
 use Rattle.gc_worker.proofs.StepKeeps.{steps_keep}
@@ -117,6 +122,14 @@ beside n words space m (Some on) q writes asked =
     subst (λ (z : Step). low_at n (words_after z words) space ≡ low_at n words space) (same_Some (step_at (place_of m) on) q asked)
     (ap (λ (w : ℕ). low_said (decode_area w)) (area_stays n m words on space writes))
 
+-- the same of a step on the whole table
+beside_whole : (n : ℕ) (words : List ℕ) (space m : ℕ) (o : Option (StepOn WholeRow)) (q : Step) → WritesOnly (Elsewhere IsNoArea) o → option_map (step_at (whole_place_of m)) o ≡ Some q
+    → low_at n (words_after q words) space ≡ low_at n words space
+beside_whole n words space m None q writes asked = absurd (cc)
+beside_whole n words space m (Some on) q writes asked =
+    subst (λ (z : Step). low_at n (words_after z words) space ≡ low_at n words space) (same_Some (step_at (whole_place_of m) on) q asked)
+    (ap (λ (w : ℕ). low_said (decode_area w)) (whole_area_stays n m words on space writes))
+
 -- the size of a space stays at a step that writes no size
 pub size_beside : (n : ℕ) (words : List ℕ) (space : ℕ) → space < 2 → (m : ℕ) (o : Option (StepOn Row)) (q : Step) → WritesOnly IsNoSize o → option_map (step_at (place_of m)) o ≡ Some q
     → word_in n (words_after q words) (Size space) ≡ word_in n words (Size space)
@@ -158,6 +171,11 @@ module _ (h : Heap) (p o : Plain) (k : ℕ) (x : Held) (st : WorkersStand h p o)
 
   quiet : (stage : Stage) (q : Step) (m : ℕ) (o : Option (StepOn Row)) → claimed_at stage (reply_of q words) ≡ 0 → WritesOnly IsNoArea o → option_map (step_at (place_of m)) o ≡ Some q → Lows stage q
   quiet stage q m o none writes asked = stays stage q none (beside n words here m o q writes asked)
+
+  -- the same of a step on the whole table
+  quiet_on_whole : (stage : Stage) (q : Step) (m : ℕ) (o : Option (StepOn WholeRow)) → claimed_at stage (reply_of q words) ≡ 0 → WritesOnly (Elsewhere IsNoArea) o
+      → option_map (step_at (whole_place_of m)) o ≡ Some q → Lows stage q
+  quiet_on_whole stage q m o none writes asked = stays stage q none (beside_whole n words here m o q writes asked)
 
   -- ---- a claim for a record
 
@@ -251,8 +269,7 @@ module _ (h : Heap) (p o : Plain) (k : ℕ) (x : Held) (st : WorkersStand h p o)
 
   places : (z : Placing) (stage : PlaceStage) (q : Step) → Is c k (at_stage x (Places (record z { stage = stage }))) → place.wanted_at z stage ≡ Some q → Lows (Places (record z { stage = stage })) q
   places z (ExchangesArea f) q is asked = subst (Lows (Places (record z { stage = ExchangesArea f }))) (same_Some _ q asked) (claims_low z f is)
-  places z (StoresNew pages) q is asked = absurd (never_marks z.snap is.fits.stage.snap is.fits.stage.sound.stage.1)
-  places z stage q is asked = quiet (Places (record z { stage = stage })) q z.layout.pages (in_each_table (place.wants_at z stage)) refl tt asked
+  places z stage q is asked = quiet_on_whole (Places (record z { stage = stage })) q z.layout.pages (place.wants_at z stage) refl tt asked
 
   by_stage : (stage : Stage) (q : Step) → Is c k (at_stage x stage) → wanted_at x stage ≡ Some q → Lows stage q
   by_stage Looks q is asked = quiet Looks q x.layout.pages (Some (on.Load Gate)) refl tt asked
@@ -270,6 +287,14 @@ module _ (h : Heap) (p o : Plain) (k : ℕ) (x : Held) (st : WorkersStand h p o)
       let copy = is.fits.stage.0 in
       stays (Evacuates v s back) q refl (copies v v.stage q (ap (λ l. l.pages) copy.layout ∙ is.fits.pages) copy.sound.fits asked)
   by_stage (Opens s z back) q is asked = quiet (Opens s z back) q s.layout.pages (open_page.wants_at s s.stage) refl (opening_writes IsNoArea (λ page. tt) s s.stage) asked
+  by_stage (Recalls r after) q is asked = quiet (Recalls r after) q r.layout.pages (recall.wants_at r.stage) refl (recall_writes IsNoArea r.stage) asked
+  by_stage (Guards g write) q is asked =
+      quiet_on_whole (Guards g write) q g.layout.pages (guard.wants_at g g.stage) refl (guard_writes (Elsewhere IsNoArea) tt (λ page. tt) (λ addr. tt) g g.stage)
+      (sym (guard_by_rows g g.stage is.fits.stage.sound.stage) ∙ asked)
+  by_stage (Checkpoints r goal) q is asked =
+      quiet_on_whole (Checkpoints r goal) q r.layout.pages (save_round.wants_at r r.stage) refl (round_writes (Elsewhere IsNoArea) tt (λ page. tt) (λ addr. tt) r r.stage)
+      (sym (round_by_rows r r.stage is.fits.stage.sound.stage) ∙ asked)
+  by_stage (BeginsCheckpoint s) q is asked = quiet (BeginsCheckpoint s) q s.layout.pages (snap.wants_at s s.stage) refl (snap_writes IsNoArea tt s s.stage) asked
   by_stage Gone q is asked = absurd (let e = asked in cc)
 
   -- ---- a flip

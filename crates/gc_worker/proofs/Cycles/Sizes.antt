@@ -1,6 +1,6 @@
 -- Within an epoch the pages in use of its space stay; the space that is flipped into has as many, or twice as many, as far as there are so many.
 -- The other space gets no size but one that is no smaller.
-use Rattle.std.proofs.Common.{◌≡◌, ◌≢◌, ℕ, Bool, false, ◌+◌, ◌*◌, ◌<◌, ◌≤◌, ◌⊎◌, true, inl, inr, min, List, length, Option, Some, refl, ap, sym, subst, ◌∙◌, arith}
+use Rattle.std.proofs.Common.{◌≡◌, ◌≢◌, ℕ, Bool, false, ◌+◌, ◌*◌, ◌<◌, ◌≤◌, ◌⊎◌, true, inl, inr, min, List, length, Option, Some, None, refl, ap, sym, subst, ◌∙◌, arith}
 use Rattle.std.specs.Prelude.{option_map}
 use Rattle.std.proofs.lemmas.Option.{same_Some}
 use Rattle.plain_state.specs.State.{Plain}
@@ -12,8 +12,9 @@ use Rattle.atom_store.specs.StepOn.{StepOn, WritesOnly, step_at}
 use Rattle.atom_store.specs.StepOn as on
 use Rattle.space_map.specs.Spaces.{to_space}
 use Rattle.space_map.specs.Table.{Row, Gate, Size, place_of}
+use Rattle.space_map.specs.WholeTable.{WholeRow, whole_place_of}
 use Rattle.alloc_end.specs.declared.place_stage.PlaceStage.{PlaceStage}
-use Rattle.alloc_end.specs.declared.place_stage.PlaceStage.TheVariants.{ExchangesArea, StoresNew}
+use Rattle.alloc_end.specs.declared.place_stage.PlaceStage.TheVariants.{ExchangesArea}
 use Rattle.alloc_end.specs.Place.{Placing}
 use Rattle.alloc_end.specs.Place as place
 use Rattle.fault_duty.specs.Duty as duty
@@ -28,7 +29,12 @@ use Rattle.gate_core.specs.declared.reset.Reset as resets
 use Rattle.gate_core.specs.Flip.{Flipping, next_size}
 use Rattle.gate_core.specs.Flip as flip
 use Rattle.gate_core.specs.Gate as gate
-use Rattle.gate_core.proofs.RowsFit.{passage_writes}
+use Rattle.gate_core.specs.Recall as recall
+use Rattle.gate_core.specs.Snap as snap
+use Rattle.page_saves.specs.Guard as guard
+use Rattle.page_saves.specs.SaveRound as save_round
+use Rattle.page_saves.proofs.RowsFit.{guard_by_rows, guard_writes, round_by_rows, round_writes}
+use Rattle.gate_core.proofs.RowsFit.{passage_writes, recall_writes, snap_writes}
 use Rattle.page_scan.specs.Scanning as scan
 use Rattle.page_scan.proofs.RowsFit as scan_rows
 use Rattle.page_slots.specs.Open as open_page
@@ -42,7 +48,7 @@ use Rattle.heap_state.proofs.Table.Places.{word_in-other, word_in-same}
 use Rattle.gc_worker.specs.Laws.Cycles.{Grows, SeenFlipsDouble, SizeGoes, SizesAreWithin, SizesHold, SizesHoldAt, SizesStay, size_of}
 use Rattle.gc_worker.specs.Steps.Access as access
 use Rattle.gc_worker.specs.declared.stage.Stage.{Stage}
-use Rattle.gc_worker.specs.declared.stage.Stage.TheVariants.{Looks, Passes, Flips, Forwards, Accesses, Places, Serves, Scans, Evacuates, Opens, Gone}
+use Rattle.gc_worker.specs.declared.stage.Stage.TheVariants.{Looks, Passes, Flips, Forwards, Accesses, Places, Serves, Scans, Evacuates, Opens, Recalls, Guards, Checkpoints, BeginsCheckpoint, Gone}
 use Rattle.gc_worker.specs.Steps.Goes.{Is}
 use Rattle.gc_worker.specs.Workers.Held.{Held, at_stage, has_seen_flip}
 use Rattle.gc_worker.specs.Laws.Step.{Heap, FlipsOnce, FlipsWhereTold, WorkersStand, read, held_at, epoch_of}
@@ -52,9 +58,8 @@ use Rattle.gc_worker.proofs.Stages.Access.RowsFit as access_rows
 use Rattle.gc_worker.proofs.Words.Areas.{is_space}
 use Rattle.gc_worker.proofs.Words.Eras.{old_span_is, span_is}
 use Rattle.gc_worker.proofs.Words.Sizes.{next_grows, size_now, size_within}
-use Rattle.gc_worker.proofs.Words.TableRows.{in_each_table, never_marks}
 use Rattle.gc_worker.proofs.Between.Pages.Claims.{flips_at}
-use Rattle.gc_worker.proofs.Between.Pages.Written.{IsNoSize}
+use Rattle.gc_worker.proofs.Between.Pages.Written.{Elsewhere, IsNoSize, whole_size_stays}
 use Rattle.gc_worker.proofs.Cycles.Lows.{exchanges_at, of_now, size_beside}
 use Rattle.gc_worker.proofs.Workers.Members.{member}
 use Rattle.gc_worker.proofs.StepKeeps.{steps_keep}
@@ -127,6 +132,11 @@ module _ (h : Heap) (p o : Plain) (k : ℕ) (x : Held) (st : WorkersStand h p o)
     beside : (m : ℕ) (o : Option (StepOn Row)) (q : Step) → WritesOnly IsNoSize o → option_map (step_at (place_of m)) o ≡ Some q → Leaves q
     beside m o q writes asked = subst Left (sym (size_beside n words space small m o q writes asked)) same
 
+    -- the same of a step on the whole table
+    beside_whole : (m : ℕ) (o : Option (StepOn WholeRow)) (q : Step) → WritesOnly (Elsewhere IsNoSize) o → option_map (step_at (whole_place_of m)) o ≡ Some q → Leaves q
+    beside_whole m None q writes asked = absurd (cc)
+    beside_whole m (Some on) q writes asked = subst Leaves (same_Some (step_at (whole_place_of m) on) q asked) (subst Left (sym (whole_size_stays n m words on space small writes)) same)
+
     -- ---- the machines
 
     copies : (v : Evacuation) (stage : EvacStage) (q : Step) → evac.wanted_at v.layout v.addr v.epoch v.worker stage ≡ Some q → Leaves q
@@ -134,9 +144,8 @@ module _ (h : Heap) (p o : Plain) (k : ℕ) (x : Held) (st : WorkersStand h p o)
     copies v stage q asked = beside v.layout.pages (evac.wants_at v.layout v.addr v.epoch v.worker stage) q tt asked
 
     places : (z : Placing) (stage : PlaceStage) (q : Step) → Is c k (at_stage x (Places (record z { stage = stage }))) → place.wanted_at z stage ≡ Some q → Leaves q
-    places z (StoresNew new) q is asked = absurd (never_marks z.snap is.fits.stage.snap is.fits.stage.sound.stage.1)
-    places z (ExchangesArea f) q is asked = beside z.layout.pages (in_each_table (place.wants_at z (ExchangesArea f))) q (is_space z.epoch) asked
-    places z stage q is asked = beside z.layout.pages (in_each_table (place.wants_at z stage)) q tt asked
+    places z (ExchangesArea f) q is asked = beside_whole z.layout.pages (place.wants_at z (ExchangesArea f)) q (is_space z.epoch) asked
+    places z stage q is asked = beside_whole z.layout.pages (place.wants_at z stage) q tt asked
 
     flips : (f : Flipping) (stage : FlipStage) (q : Step) → Is c k (at_stage x (Flips (record f { stage = stage }))) → flip.wanted_at f stage ≡ Some q → Leaves q
     flips f (flip_stage.StoresSize r) q is asked = subst Leaves (same_Some _ q asked) (stored f r is)
@@ -157,6 +166,12 @@ module _ (h : Heap) (p o : Plain) (k : ℕ) (x : Held) (st : WorkersStand h p o)
     by_stage (Scans s back) q is asked = beside s.layout.pages (scan.wants_at s.page s.epoch s.stage) q (scan_rows.writes IsNoSize (λ addr. tt) s.page s.epoch s.stage) asked
     by_stage (Evacuates v s back) q is asked = copies v v.stage q asked
     by_stage (Opens s z back) q is asked = beside s.layout.pages (open_page.wants_at s s.stage) q (opening_writes IsNoSize (λ page. tt) s s.stage) asked
+    by_stage (Recalls r after) q is asked = beside r.layout.pages (recall.wants_at r.stage) q (recall_writes IsNoSize r.stage) asked
+    by_stage (Guards g write) q is asked =
+        beside_whole g.layout.pages (guard.wants_at g g.stage) q (guard_writes (Elsewhere IsNoSize) tt (λ page. tt) (λ addr. tt) g g.stage) (sym (guard_by_rows g g.stage is.fits.stage.sound.stage) ∙ asked)
+    by_stage (Checkpoints r goal) q is asked =
+        beside_whole r.layout.pages (save_round.wants_at r r.stage) q (round_writes (Elsewhere IsNoSize) tt (λ page. tt) (λ addr. tt) r r.stage) (sym (round_by_rows r r.stage is.fits.stage.sound.stage) ∙ asked)
+    by_stage (BeginsCheckpoint s) q is asked = beside s.layout.pages (snap.wants_at s s.stage) q (snap_writes IsNoSize tt s s.stage) asked
     by_stage Gone q is asked = absurd (let e = asked in cc)
 
   this_stays : (q : Step) → Is c k x → wanted x ≡ Some q → word_in n (words_after q words) (Size here) ≡ word_in n words (Size here)

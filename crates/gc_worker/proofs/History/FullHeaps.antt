@@ -9,7 +9,7 @@ use Rattle.gate_core.specs.declared.passage.Passage.{Passage}
 use Rattle.gate_core.specs.declared.passage.Passage.TheVariants.{Look, Attach, Park, Request, Resume, Forwarded, Leave, Clear}
 use Rattle.gc_worker.specs.declared.stage.after.After.{After}
 use Rattle.gc_worker.specs.declared.stage.Stage.{Stage}
-use Rattle.gc_worker.specs.declared.stage.Stage.TheVariants.{Looks, Passes, Flips, Forwards, Accesses, Places, Serves, Scans, Evacuates, Opens, Gone}
+use Rattle.gc_worker.specs.declared.stage.Stage.TheVariants.{Looks, Passes, Flips, Forwards, Accesses, Places, Serves, Scans, Evacuates, Opens, Recalls, Guards, Checkpoints, BeginsCheckpoint, Gone}
 use Rattle.gc_worker.specs.declared.task.Task.{Task}
 use Rattle.gc_worker.specs.declared.task.Task.TheVariants.{Calls, Stops}
 use Rattle.gc_worker.specs.Plain.Answer.{ComesTo}
@@ -47,6 +47,10 @@ past_look (Serves d back) call = call
 past_look (Scans s back) call = call
 past_look (Evacuates v s back) call = call
 past_look (Opens o s back) call = call
+past_look (Recalls r after) call = call
+past_look (Guards g write) call = tt
+past_look (Checkpoints r goal) call = call
+past_look (BeginsCheckpoint s) call = tt
 past_look Gone call = absurd call
 
 -- ---- a full heap is found by an instruction
@@ -82,4 +86,8 @@ module _ (n mutators k : ℕ) (y : Held) (reply : Reply) (fits : Fits n mutators
       by_stage (Scans s back) at fit tells = absurd (cc)
       by_stage (Evacuates v s back) at fit tells = absurd (cc)
       by_stage (Opens o s back) at fit tells = absurd (cc)
+      by_stage (Recalls r after) at fit tells = absurd (cc)
+      by_stage (Guards g write) at fit tells = absurd (cc)
+      by_stage (Checkpoints r goal) at fit tells = absurd (cc)
+      by_stage (BeginsCheckpoint s) at fit tells = by_task fit.instr fit.task_is
       by_stage Gone at fit tells = absurd (cc)

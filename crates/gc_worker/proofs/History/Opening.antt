@@ -9,14 +9,13 @@ use Rattle.heap_state.specs.Functions.{put}
 use Rattle.space_map.specs.Table.{Size}
 use Rattle.heap_state.specs.Memory.Table.{Table, table_of, word_in}
 use Rattle.heap_laws.specs.Opening.{opening_entries, opening_plain}
-use Rattle.heap_laws.proofs.Opening.Heap.{opening_written}
 use Rattle.gc_worker.specs.Laws.Between.{fresh_mutator, fresh_scanner, fresh_worker, opening_heap}
 use Rattle.gc_worker.specs.Laws.Cycles.{IsFirst, low_at, low_of, low_said, size_of}
 use Rattle.gc_worker.specs.Workers.Held.{Held}
 use Rattle.gc_worker.specs.Laws.Step.{Heap, WorkersStand, epoch_of, held_at, read}
 use Rattle.gc_worker.specs.Steps.Turned.{epoch_in_gate}
 use Rattle.gc_worker.proofs.Words.Areas.{area_says, is_space}
-use Rattle.gc_worker.proofs.Between.Opening.{heaps_open, is_there, many}
+use Rattle.gc_worker.proofs.Between.Opening.{are_opening, heaps_open, is_there, many}
 use Rattle.gc_worker.proofs.Stages.Gate.Words.{gate_says}
 use Rattle.gc_worker.specs.History.Tally.{IsTallied, first_tally}
 
@@ -43,7 +42,7 @@ module _ (s : Layout) (least mutators scanners : ℕ) (size : IsPageCount s.page
   stands = heaps_open s least mutators scanners size fewest most few all
 
   says : table (read h) ≡ table_with n (opening_entries n least)
-  says = (opening_written n least size fewest most).says
+  says = (are_opening n least size fewest most s.checkpoints).says
 
   epoch : epoch_of n h.words ≡ 0
   epoch = ap (epoch_in_gate 0) (gate_says (read h) (opening_plain mutators) stands.stands) ∙ ap (λ (t : Table). t.gate.epoch) says

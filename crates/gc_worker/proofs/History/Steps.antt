@@ -21,7 +21,7 @@ use Rattle.gc_worker.specs.declared.task.Task.{Task}
 use Rattle.gc_worker.specs.Plain.Answer.{ComesTo, IsAnswered}
 use Rattle.gc_worker.specs.Workers.Begun.{IsPastLook}
 use Rattle.gc_worker.specs.Laws.Between.{KeepsToTask, IsAsPlain, IsNoAnswer, IsSo}
-use Rattle.gc_worker.specs.Laws.Cycles.{Grows, IsFirst, IsInCall, LowGoes, SetsAside, SizeGoes, words_claimed, low_at, low_of, low_said, set_aside, size_of}
+use Rattle.gc_worker.specs.Laws.Cycles.{BeginsAnew, Grows, IsFirst, IsInCall, LowGoes, SetsAside, SizeGoes, StaysInCall, words_claimed, low_at, low_of, low_said, set_aside, size_of, snaps_at}
 use Rattle.gc_worker.specs.Workers.Fits.{Fits, FitsEnd, FitsTask, IsMaking, IsOnSide}
 use Rattle.gc_worker.specs.Plain.Full.{FindsNoRoom, FullWhereTold}
 use Rattle.gc_worker.specs.Workers.Held.{Held}
@@ -30,7 +30,7 @@ use Rattle.gc_worker.specs.Laws.Step.{FlipsOnce, FlipsWhereTold, Heap, StepKeeps
 use Rattle.gc_worker.specs.declared.calls.did.Did.TheVariants.{Done, Trap}
 use Rattle.gc_worker.specs.Steps.Turned.{Told, Silent, Answers, Marks, epoch_in_gate, told, turned}
 use Rattle.gc_worker.specs.Steps.Wanted.{wanted}
-use Rattle.gc_worker.proofs.Between.Begun.{beginnings_are_kept, full_is_found_later}
+use Rattle.gc_worker.proofs.Between.Begun.{beginnings_are_kept, full_is_found_later, rests_before}
 use Rattle.gc_worker.proofs.Between.Pages.Claims.{flips_at}
 use Rattle.gc_worker.proofs.Between.Pages.Copied.{full_tells_live}
 use Rattle.gc_worker.proofs.Between.GoingOn.{workers_go_on}
@@ -259,7 +259,7 @@ module _ (h : Heap) (k : ℕ) (y : Held) (q : Step) (below : k < length h.worker
   since_after : (u : Told) → told y reply ≡ u → (m : ℕ) → m < h.mutators → (held_at after m).account.end ≡ None → IsPastLook (held_at after m).stage
       → (held_at after m).begun < (then_by u).flips → (then_by u).since m ≡ true
   since_after Silent e = all_since t.since (λ m other. refl) own_since
-  since_after (Answers task Done) e = all_since since_call beside_call (λ few none past early. absurd (subst IsPastLook (goes.answers task Done e).after past))
+  since_after (Answers task Done) e = all_since since_call beside_call (λ few none past early. absurd (rests_before y.stage z.stage (goes.answers task Done e).after past))
   since_after (Answers task (Trap end)) e = all_since since_call beside_call
       (λ few none past early. absurd (let ended : None ≡ Some end = sym none ∙ ap (λ (a : Account). a.end) (goes.answers task (Trap end) e).after.0 in cc))
   since_after (Marks asked) e = λ m few none past early. refl
@@ -269,22 +269,25 @@ module _ (h : Heap) (k : ℕ) (y : Held) (q : Step) (below : k < length h.worker
   first_after : (m : ℕ) → m < length after.workers → IsFirst n words' (held_at after m)
   first_after m inside = flips_stay_first h p o k y q st below holds want c.first m (let many = length-set h.workers k z in omega (arith, many, inside))
 
-  -- worker m, where it holds x, is in its call, and has seen a flip
+  -- worker m, where it holds x, is in its call, which begins no checkpoint, and has seen a flip
   abbrev HasSeen : ℕ → Held → Type 0
-  HasSeen flips x = IsInCall x.stage × (x.begun < flips)
+  HasSeen flips x = IsInCall x.stage × (x.begun < flips) × (snaps_at x.stage ≡ false)
 
   -- its own step, where it doesn't answer
-  own_call : (flips : ℕ) → IsNoAnswer (told y reply) → IsInCall y.stage → y.begun < flips → HasSeen flips z
-  own_call flips none call early = (on, omega (arith, early, kept))
+  own_call : (flips : ℕ) → IsNoAnswer (told y reply) → IsInCall y.stage → y.begun < flips → snaps_at y.stage ≡ false → HasSeen flips z
+  own_call flips none call early no_snap = (goes_on.0, omega (arith, early, kept), goes_on.1 no_snap)
     where
-      on : IsInCall z.stage
-      on = calls_go_on n h.mutators k y reply fits law.fits call none
+      goes_on : StaysInCall y.stage z.stage
+      goes_on = ⊎_elim
+          (λ (stays : StaysInCall y.stage z.stage). stays)
+          (λ (anew : BeginsAnew y.stage z). absurd (let never = sym no_snap ∙ anew.0 in cc))
+          (calls_go_on n h.mutators k y reply fits law.fits call none)
 
       kept : z.begun ≡ y.begun
       kept = ⊎_elim
           (λ (looks : (y.stage ≡ Looks) × (z.begun ≡ y.epoch)). absurd (subst IsInCall looks.0 call))
           (λ (goes_on : IsPastLook y.stage × (z.begun ≡ y.begun)). goes_on.1)
-          (beginnings_are_kept n h.mutators k y reply fits (past_look z.stage on))
+          (beginnings_are_kept n h.mutators k y reply fits (past_look z.stage goes_on.0))
 
   -- the others are where they were
   other_call : (u : Told) (m : ℕ) → m ≢ k → t.asked m ≡ true → HasSeen (then_by u).flips (held_at after m)
@@ -292,7 +295,7 @@ module _ (h : Heap) (k : ℕ) (y : Held) (q : Step) (below : k < length h.worker
       let was = c.call m has in
       let up = more_flips u in
       let early = was.1 in
-      subst (HasSeen (then_by u).flips) (sym (other_holds m other)) (was.0, omega (arith, early, up))
+      subst (HasSeen (then_by u).flips) (sym (other_holds m other)) (was.0, omega (arith, early, up), was.2)
 
   -- with what is so of worker k itself
   all_call : (u : Told) (has : ℕ → Bool) → ((m : ℕ) → m ≢ k → has m ≡ t.asked m) → (has k ≡ true → HasSeen (then_by u).flips z) → (m : ℕ) → has m ≡ true
@@ -333,7 +336,7 @@ module _ (h : Heap) (k : ℕ) (y : Held) (q : Step) (below : k < length h.worker
     flipper_seen : HasSeen (t.flips + 1) z
     flipper_seen =
         let was = subst (IsBegun t.flips k) holds (c.begun k) is_mutator unended (past_look y.stage in_call) in
-        own_call (t.flips + 1) (subst IsNoAnswer (sym e) tt) in_call (omega (arith, was))
+        own_call (t.flips + 1) (subst IsNoAnswer (sym e) tt) in_call (omega (arith, was)) (ap snaps_at at_flip.1)
 
     -- it has asked for none, or the space may still grow
     pub none_asked : (t.asked k ≡ false) ⊎ (size_of n h.words < n)
@@ -351,7 +354,7 @@ module _ (h : Heap) (k : ℕ) (y : Held) (q : Step) (below : k < length h.worker
             omega (arith, seen, own, epoch, flips))
 
   call_after : (u : Told) → told y reply ≡ u → (m : ℕ) → (then_by u).asked m ≡ true → HasSeen (then_by u).flips (held_at after m)
-  call_after Silent e = all_call Silent t.asked (λ m other. refl) (λ has. let was = its_call has in own_call t.flips (subst IsNoAnswer (sym e) tt) was.0 was.1)
+  call_after Silent e = all_call Silent t.asked (λ m other. refl) (λ has. let was = its_call has in own_call t.flips (subst IsNoAnswer (sym e) tt) was.0 was.1 was.2)
   call_after (Answers task outcome) e = all_call (Answers task outcome) (then_by (Answers task outcome)).asked (λ m other. ap (λ (s : Bool). cond s false (t.asked m)) (ne_eqb m k other))
       (λ has. absurd (let not : cond (k == k) false (t.asked k) ≡ false = ap (λ (s : Bool). cond s false (t.asked k)) (eq-eqb k k refl) in let never = sym not ∙ has in cc))
   call_after (Marks asked) e = all_call (Marks asked) (then_by (Marks asked)).asked (λ m other. ap (λ (s : Bool). cond s true (t.asked m)) (ne_eqb m k other)) (λ has. flipper_seen asked e)

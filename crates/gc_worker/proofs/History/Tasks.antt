@@ -1,16 +1,21 @@
 -- A worker that is given a task leaves what is counted.
-use Rattle.std.proofs.Common.{◌≡◌, ◌≢◌, ℕ, ◌<◌, ◌≤◌, inl, inr, List, [], length, true, Some, None, refl, sym, ap, subst, ◌∙◌, arith, ⊎_elim, append-nil, get_or-set_same, get_or-set_other, length-set}
+use Rattle.std.proofs.Common.{◌≡◌, ◌≢◌, ℕ, ◌<◌, ◌≤◌, inl, inr, List, [], length, true, false, Some, None, refl, sym, ap, subst, ◌∙◌, arith, ⊎_elim, append-nil, get_or-set_same, get_or-set_other, length-set}
 use Rattle.std.proofs.lemmas.Bool.{cases_eq}
 use Rattle.heap_state.specs.Functions.{sum_below}
 use Rattle.heap_state.proofs.Puts.{sum_below-same}
 use Rattle.gate_core.specs.declared.passage.Passage.{Passage}
 use Rattle.gate_core.specs.declared.passage.Passage.TheVariants.{Look, Attach, Park, Request, Resume, Forwarded, Leave, Clear}
+use Rattle.page_saves.specs.SaveRound.{SavingRound}
+use Rattle.gc_worker.specs.declared.stage.after.After.{After}
+use Rattle.gc_worker.specs.declared.stage.after.After.TheVariants as afters
+use Rattle.gc_worker.specs.declared.stage.goal.Goal.{Goal}
+use Rattle.gc_worker.specs.declared.stage.goal.Goal.TheVariants.{ForFlip, ForSnap, ForScanner}
 use Rattle.gc_worker.specs.declared.stage.Stage.{Stage}
-use Rattle.gc_worker.specs.declared.stage.Stage.TheVariants.{Looks, Passes, Flips, Forwards, Accesses, Places, Serves, Scans, Evacuates, Opens, Gone}
+use Rattle.gc_worker.specs.declared.stage.Stage.TheVariants.{Looks, Passes, Flips, Forwards, Accesses, Places, Serves, Scans, Evacuates, Opens, Recalls, Guards, Checkpoints, BeginsCheckpoint, Gone}
 use Rattle.gc_worker.specs.declared.task.Task.{Task}
 use Rattle.gc_worker.specs.Workers.Begun.{IsPastLook}
 use Rattle.gc_worker.specs.Laws.Between.{Begins, with_task, with_worker}
-use Rattle.gc_worker.specs.Laws.Cycles.{IsFirst, IsFirstAt, IsFirstBy, IsInCall, set_aside, set_aside_at, size_of}
+use Rattle.gc_worker.specs.Laws.Cycles.{IsFirst, IsFirstAt, IsFirstBy, IsInCall, set_aside, set_aside_at, size_of, snaps_at}
 use Rattle.gc_worker.specs.Workers.Held.{Held}
 use Rattle.gc_worker.specs.Laws.Step.{Heap, held_at, nobody}
 use Rattle.heap_state.specs.Worker.{Account}
@@ -26,18 +31,28 @@ record IsBut (was now : Held) : Type 0 where
   begun : now.begun ≡ was.begun
   task : (task : Task) → was.task ≡ Some task → now.task ≡ Some task
 
-first_passage : (n size : ℕ) (x : Held) (task : Task) (passage : Passage) → IsFirstBy n size x passage → IsFirstBy n size (with_task x task) passage
-first_passage n size x task Request f = f
-first_passage n size x task Look f = tt
-first_passage n size x task Attach f = tt
-first_passage n size x task Park f = tt
-first_passage n size x task (Resume epoch) f = tt
-first_passage n size x task Forwarded f = tt
-first_passage n size x task Leave f = tt
-first_passage n size x task Clear f = tt
+first_request : (n size : ℕ) (x : Held) (task : Task) (after : After) → IsFirstBy n size x Request after → IsFirstBy n size (with_task x task) Request after
+first_request n size x task afters.Places f = f
+first_request n size x task afters.Looks f = tt
+first_request n size x task afters.Snaps f = tt
+
+first_passage : (n size : ℕ) (x : Held) (task : Task) (passage : Passage) (after : After) → IsFirstBy n size x passage after → IsFirstBy n size (with_task x task) passage after
+first_passage n size x task Request after f = first_request n size x task after f
+first_passage n size x task Look after f = tt
+first_passage n size x task Attach after f = tt
+first_passage n size x task Park after f = tt
+first_passage n size x task (Resume epoch) after f = tt
+first_passage n size x task Forwarded after f = tt
+first_passage n size x task Leave after f = tt
+first_passage n size x task Clear after f = tt
+
+first_round : (n size : ℕ) (x : Held) (task : Task) (r : SavingRound) (goal : Goal) → IsFirstAt n size x (Checkpoints r goal) → IsFirstAt n size (with_task x task) (Checkpoints r goal)
+first_round n size x task r ForFlip f = f
+first_round n size x task r ForSnap f = tt
+first_round n size x task r ForScanner f = tt
 
 first_given : (n size : ℕ) (x : Held) (task : Task) (stage : Stage) → IsFirstAt n size x stage → IsFirstAt n size (with_task x task) stage
-first_given n size x task (Passes g after) f = first_passage n size x task g.passage f
+first_given n size x task (Passes g after) f = first_passage n size x task g.passage after f
 first_given n size x task (Flips g) f = f
 first_given n size x task Looks f = tt
 first_given n size x task (Forwards w) f = tt
@@ -47,6 +62,10 @@ first_given n size x task (Serves d back) f = tt
 first_given n size x task (Scans s back) f = tt
 first_given n size x task (Evacuates v s back) f = tt
 first_given n size x task (Opens o s back) f = tt
+first_given n size x task (Recalls r after) f = tt
+first_given n size x task (Guards g write) f = tt
+first_given n size x task (Checkpoints r goal) f = first_round n size x task r goal f
+first_given n size x task (BeginsCheckpoint s) f = tt
 first_given n size x task Gone f = tt
 
 is_but : (was now : Held) → Begins was now → IsBut was now
@@ -95,11 +114,11 @@ module _ (h : Heap) (k : ℕ) (now : Held) (below : k < length h.workers) (begin
       let same = all_but m in
       subst (λ (begun : ℕ). begun ≤ t.flips) (sym same.begun) (b.counts.begun m few (ap (λ (a : Account). a.end) (sym same.account) ∙ none) (subst IsPastLook same.stage past))
 
-  call : (m : ℕ) → t.asked m ≡ true → IsInCall (held_at after m).stage × ((held_at after m).begun < t.flips)
+  call : (m : ℕ) → t.asked m ≡ true → IsInCall (held_at after m).stage × ((held_at after m).begun < t.flips) × (snaps_at (held_at after m).stage ≡ false)
   call m has =
       let same = all_but m in
       let was = b.counts.call m has in
-      (subst IsInCall (sym same.stage) was.0, subst (λ (begun : ℕ). begun < t.flips) (sym same.begun) was.1)
+      (subst IsInCall (sym same.stage) was.0, subst (λ (begun : ℕ). begun < t.flips) (sym same.begun) was.1, ap snaps_at same.stage ∙ was.2)
 
   pub task_tallied : IsTallied least after first log
   task_tallied = record {

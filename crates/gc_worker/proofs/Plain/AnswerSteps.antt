@@ -6,7 +6,7 @@ use Rattle.atom_store.specs.declared.reply.Reply.{Reply}
 use Rattle.heap_state.specs.Configuration.{Configuration, Stands, era, memory, team}
 use Rattle.heap_state.specs.Memory.Entries.{IsWholeRow, Entry, row_of}
 use Rattle.heap_state.specs.Invariant.Ghost.{Ghost}
-use Rattle.heap_state.specs.Worker.{Account, Worker, is_running}
+use Rattle.heap_state.specs.Worker.{Account, Worker, is_mutator, is_running}
 use Rattle.heap_laws.specs.Fields.Effects.{IsLikePlain, RegisterHolds}
 use Rattle.heap_laws.specs.Fields.Held.{MutatorGoesOn, MayHold, going_on}
 use Rattle.heap_laws.specs.Fields.Stores.{IsAs}
@@ -63,24 +63,28 @@ module _ (c : Configuration) (p : Plain) (s : Stands c p) (k : ℕ) (x : Held) w
     pub no_end : q.end ≡ None
     pub same : IsAs s.ghost p.heap k (knows x) q
 
-  module _ (is : Is c k x) (running : is_running (post_in x x.stage) ≡ true) (unended : x.account.end ≡ None) where
-    abbrev w : Worker
-    w = (team c).worker k
+  abbrev w : Worker
+  w = (team c).worker k
 
+  its : Is c k x → x.account.end ≡ None → (q : Mutator) → IsLikePlain (era c) (memory c) (team c) s.ghost p k q → IsIts q
+  its is unended q m = record {
+    is = m.is;
+    no_end = sym m.same.account.end ∙ (ap (λ (v : Worker). v.account.end) is.as_known ∙ unended);
+    same = subst (λ (v : Worker). IsAs s.ghost p.heap k v q) is.as_known m.same;
+  }
+
+  -- a mutator has one, whether it runs or not
+  pub own_mutator : Is c k x → x.account.end ≡ None → is_mutator (post_in x x.stage) ≡ true → (q : Mutator) × IsIts q
+  own_mutator is unended mutator =
+      let m = mutators_are_shown (era c) (memory c) (team c) s.ghost p k (prepared c p s k x is) s.shown (ap (λ (v : Worker). is_mutator v.post) is.as_known ∙ mutator) in
+      (m.0, its is unended m.0 m.1)
+
+  module _ (is : Is c k x) (running : is_running (post_in x x.stage) ≡ true) (unended : x.account.end ≡ None) where
     as_running : is_running w.post ≡ true
     as_running = ap (λ (v : Worker). is_running v.post) is.as_known ∙ running
 
-    its : (q : Mutator) → IsLikePlain (era c) (memory c) (team c) s.ghost p k q → IsIts q
-    its q m = record {
-      is = m.is;
-      no_end = sym m.same.account.end ∙ (ap (λ (v : Worker). v.account.end) is.as_known ∙ unended);
-      same = subst (λ (v : Worker). IsAs s.ghost p.heap k v q) is.as_known m.same;
-    }
-
     pub its_mutator : (q : Mutator) × IsIts q
-    its_mutator =
-        let m = mutators_are_shown (era c) (memory c) (team c) s.ghost p k (prepared c p s k x is) s.shown (runs w.post as_running).mutator in
-        (m.0, its m.0 m.1)
+    its_mutator = own_mutator is unended (runs (post_in x x.stage) running).mutator
 
     -- its registers hold what those of the plain mutator have
     pub holds : (q : Mutator) → IsIts q → (j : ℕ) → j < 8

@@ -35,6 +35,16 @@ use Rattle.gc_worker.proofs.Plain.AnswerSteps.{LawTo, IsIts, answers, may_hold, 
 use Rattle.gc_worker.proofs.Workers.Answered.{values_set, settled_fits}
 use Rattle.gc_worker.proofs.Words.RowSteps.{prepared}
 
+-- a call that comes to its effect, of a mutator that runs or not
+pub call_answers : (c : Configuration) (p : Plain) (s : Stands c p) (k : ℕ) (x : Held) (is : Is c k x) (q : Mutator) (its : IsIts c p s k x q) (e : Option Entry) (reply : Reply) (z : Held) (instr : Instr) (after : plain.After)
+    → x.task ≡ Some (Calls instr) → turned x reply ≡ z → told x reply ≡ told_effect x.task → won x reply ≡ None
+    → call k p.heap q instr ≡ Ok after → LawTo c p s k x e (knows z) s.ghost (record { heap = after.heap; mutators = slice_set p.mutators k after.mutator })
+    → Takes x reply → Fits c.pages c.mutators k z → Goes c p s k e x reply
+call_answers c p s k x is q its e reply z instr after task same tells none calls law takes fits =
+    answers c p s k x e reply z s.ghost q (Calls instr) Done same (tells ∙ ap told_effect task) none is.below its.is its.no_end
+    (subst (λ (r : Result plain.After End). IsOk r) (sym calls) refl)
+    (subst (λ (r : Result plain.After End). LawTo c p s k x e (knows z) s.ghost (settled p k q r)) (sym calls) law) tt takes fits
+
 module _ (c : Configuration) (p : Plain) (s : Stands c p) (k : ℕ) (x : Held) (is : Is c k x) (running : is_running (post_in x x.stage) ≡ true) (unended : x.account.end ≡ None) where
   -- ---- the mutator, one instruction further on
 
@@ -96,10 +106,7 @@ module _ (c : Configuration) (p : Plain) (s : Stands c p) (k : ℕ) (x : Held) (
     pub effect : (e : Option Entry) (reply : Reply) (z : Held) (instr : Instr) (after : plain.After) → x.task ≡ Some (Calls instr) → turned x reply ≡ z → told x reply ≡ told_effect x.task → won x reply ≡ None
         → call k p.heap q instr ≡ Ok after → LawTo c p s k x e (knows z) s.ghost (record { heap = after.heap; mutators = slice_set p.mutators k after.mutator })
         → Takes x reply → Fits c.pages c.mutators k z → Goes c p s k e x reply
-    effect e reply z instr after task same tells none calls law takes fits =
-        answers c p s k x e reply z s.ghost q (Calls instr) Done same (tells ∙ ap told_effect task) none is.below its.is its.no_end
-        (subst (λ (r : Result plain.After End). IsOk r) (sym calls) refl)
-        (subst (λ (r : Result plain.After End). LawTo c p s k x e (knows z) s.ghost (settled p k q r)) (sym calls) law) tt takes fits
+    effect = call_answers c p s k x is q its
 
     pub ends : (reply : Reply) (instr : Instr) (why : End) → x.task ≡ Some (Calls instr) → turned x reply ≡ ended x why → told x reply ≡ told_end x.task why → won x reply ≡ None
         → MayEnd k p.heap q instr why → FullByEnd c.pages c.words x why → knows (ended x why) ≡ stores.with_end (knows x) why → Takes x reply → Fits c.pages c.mutators k (ended x why) → Goes c p s k None x reply

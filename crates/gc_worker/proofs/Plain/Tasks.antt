@@ -18,17 +18,19 @@ use Rattle.plain_heap.specs.declared.action.Action.{Action}
 use Rattle.plain_heap.specs.declared.action.Action.TheVariants.{Makes}
 use Rattle.plain_heap.specs.Action.{◌>>=◌, action, allocates, length_of, mixed_length, operand, register, as_number}
 use Rattle.heap_state.specs.Worker.{Account}
+use Rattle.gc_worker.proofs.Plain.OnlySnap.{snap_acts, snaps_alone}
 use Rattle.gc_worker.proofs.Plain.RecordsMade.{makes_of, made_of}
 use Rattle.gc_worker.specs.declared.stage.after.After.{After}
 use Rattle.gc_worker.specs.declared.stage.after.After.TheVariants as afters
 use Rattle.gc_worker.specs.declared.task.Task.{Task}
 use Rattle.gc_worker.specs.declared.task.Task.TheVariants.{Calls, Stops}
-use Rattle.gc_worker.specs.Workers.Fits.{FitsCall, MayBegin, IsMaking}
+use Rattle.gc_worker.specs.Workers.Fits.{FitsCall, MayBegin, IsMaking, IsSnapping}
 use Rattle.gc_worker.specs.Plain.Seen.{Making, making_in, mixed_made, seen, seen_as, value_seen}
 
 abbrev TaskAfter : Account → List ℕ → Option Task → After → Type 0
 TaskAfter account registers task afters.Looks = MayBegin account registers task
 TaskAfter account registers task afters.Places = IsMaking account registers task
+TaskAfter account registers task afters.Snaps = IsSnapping account registers task
 
 -- ---- the record that an instruction makes
 
@@ -108,6 +110,15 @@ module _ (account : Account) (registers : List ℕ) (r a b : ℕ) (new : ℕ) (i
     };
   }
 
+  snaps_still : (task : Option Task) → IsSnapping account registers task → IsSnapping account (slice_set registers r new) task
+  snaps_still task snapping = record {
+    instr = snapping.instr;
+    task_is = snapping.task_is;
+    call = call_stays snapping.instr snapping.call;
+    acts = snap_acts after snapping.instr (snaps_alone before snapping.instr snapping.acts);
+  }
+
   pub task_stays : (x : After) (task : Option Task) → TaskAfter account registers task x → TaskAfter account (slice_set registers r new) task x
   task_stays afters.Looks task may = begins_still task may
   task_stays afters.Places task making = makes_still task making
+  task_stays afters.Snaps task snapping = snaps_still task snapping

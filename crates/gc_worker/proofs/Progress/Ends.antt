@@ -1,5 +1,5 @@
 -- A machine that has come to its end: another one is at work then, but for a worker that waits for others.
-use Rattle.std.proofs.Common.{◌≡◌, ℕ, ◌+◌, ◌-◌, Bool, true, false, cond, Option, Some, None, refl, sym, ap, subst, ◌∙◌, arith}
+use Rattle.std.proofs.Common.{◌≡◌, ℕ, ◌+◌, ◌-◌, ◌==◌, Bool, true, false, cond, Option, Some, None, refl, sym, ap, subst, ◌∙◌, arith}
 use Rattle.std.specs.Prelude.{⊤}
 use Rattle.atom_store.specs.declared.reply.Reply.{Reply}
 use Rattle.atom_store.specs.declared.reply.Reply.TheVariants.{Value, Done, Won, Lost}
@@ -27,6 +27,11 @@ use Rattle.gate_core.specs.declared.passed.Passed.TheVariants as passed
 use Rattle.gate_core.specs.Flip as flip
 use Rattle.gate_core.specs.Gate as gate
 use Rattle.gate_core.specs.Soundness.{IsPassingGoing}
+use Rattle.gate_core.specs.declared.snap.snapped.Snapped.{Snapped}
+use Rattle.gate_core.specs.declared.snap.snapped.Snapped.TheVariants as snapped
+use Rattle.gate_core.specs.Recall as recall
+use Rattle.gate_core.specs.Snap as snap
+use Rattle.page_saves.specs.Guard as guard
 use Rattle.page_scan.specs.declared.scanned.Scanned.{Scanned}
 use Rattle.page_scan.specs.declared.scanned.Scanned.TheVariants as scanned
 use Rattle.page_scan.specs.Scanning as scan
@@ -37,26 +42,58 @@ use Rattle.gc_worker.specs.declared.access.accessed.Accessed.TheVariants.{Faults
 use Rattle.gc_worker.specs.declared.stage.after.After.{After}
 use Rattle.gc_worker.specs.declared.stage.after.After.TheVariants as afters
 use Rattle.gc_worker.specs.declared.stage.back.Back.{Back}
-use Rattle.gc_worker.specs.declared.stage.back.Back.TheVariants.{ToAccess, ToPlace, ToScanner}
+use Rattle.gc_worker.specs.declared.stage.back.Back.TheVariants.{ToAccess, ToPlace, ToSnap, ToScanner}
+use Rattle.gc_worker.specs.declared.stage.goal.Goal.TheVariants.{ForFlip}
+use Rattle.gc_worker.specs.declared.stage.write.Write.{Write}
+use Rattle.gc_worker.specs.declared.stage.write.Write.TheVariants.{OfAccess, OfPlace}
 use Rattle.gc_worker.specs.declared.stage.forwarding_register.ForwardingRegister.{ForwardingRegister}
-use Rattle.gc_worker.specs.declared.stage.Stage.TheVariants.{Passes, Flips, Forwards, Accesses, Places, Serves, Scans, Opens}
+use Rattle.gc_worker.specs.declared.stage.Stage.{Stage}
+use Rattle.gc_worker.specs.declared.stage.Stage.TheVariants.{Looks, Passes, Flips, Forwards, Accesses, Places, Serves, Scans, Opens, Recalls, Guards, BeginsCheckpoint}
 use Rattle.gc_worker.specs.Workers.Fits.{IsMaking}
-use Rattle.gc_worker.specs.Workers.Held.{Held, at_stage, header_for, making_for}
+use Rattle.gc_worker.specs.Workers.Held.{Held, at_stage, fields_for, header_for, making_for, may_snap, run_held}
 use Rattle.gc_worker.specs.Progress.{IsSameMachine, MayWait}
 use Rattle.gc_worker.specs.Plain.Seen.{Making}
-use Rattle.gc_worker.specs.Steps.Turned.{Pointed, accessed_by, end_by_shortage, ended, first_pointer, flipped_by, forwarded_to, forwards_it, full_by, goes_back, goes_on, is_full, passed_by, passes, places, scanned_by, served_by, with_copy, with_record, allocated_by}
+use Rattle.gc_worker.specs.Steps.Turned.{Pointed, accessed_by, allocated_by, after_request, asks_flip, checkpoints, end_by_shortage, ended, epoch_said, first_pointer, flipped_by, forwarded_to, forwards_it, full_by, goes_back, goes_on, guards, in_epoch, is_full, passed_by, passes, places, runs_on, scanned_by, served_by, serves_snap, snapped_by, traced_by, with_copy, with_record, writes}
 use Rattle.gc_worker.proofs.Plain.NewRecords.{made_is}
 use Rattle.gc_worker.proofs.Words.Pointers.{FirstPointer, There, Nowhere, found}
 
+-- ---- where a mutator goes on
+
+module _ (P : Stage → Type 0) where
+  -- what is so of this stage, and of a look before a write, is so of whichever comes
+  pub either_so : (b : Bool) (s t : Stage) → P s → P t → P (cond b s t)
+  either_so true s t is other = is
+  either_so false s t is other = other
+
+  pub guards_so : (y : Held) (write : Write) (page : Option ℕ) (stage : Stage) → P stage → ((g : guard.Guarding) → P (Guards g write)) → P (guards y write page stage)
+  guards_so y write None stage is looks = is
+  guards_so y write (Some page) stage is looks = let g = guard.begun y.layout page y.running y.number in either_so (y.running == 0) stage (Guards g write) is (looks g)
+
+  module _ (y : Held) (places_is : (p : place.Placing) → P (Places p)) (guards_is : (g : guard.Guarding) (write : Write) → P (Guards g write)) where
+    pub places_so : (o : Option Header) → P Looks → P (places y o)
+    places_so (Some header) looks =
+        let p = place.begun y.layout (run_held y) header y.epoch (fields_for y) y.snap in
+        guards_so y (OfPlace p) (place.writes_on p p.stage) (Places p) (places_is p) (λ g. guards_is g (OfPlace p))
+    places_so None looks = looks
+
+    pub goes_on_so : (after : After) → P Looks → P (serves_snap y) → P (goes_on y after)
+    goes_on_so afters.Looks looks serves = looks
+    goes_on_so afters.Places looks serves = places_so (header_for y) looks
+    goes_on_so afters.Snaps looks serves = either_so (may_snap y) (serves_snap y) Looks serves looks
+
 -- ---- passages
 
-no_pass : (g : gate.Passing) (after : After) (y : Held) (o : Option Header) → IsSameMachine (Passes g after) (places y o) → ⊥
-no_pass g after y (Some header) same = same
-no_pass g after y None same = same
-
 no_passing_on : (g : gate.Passing) (before : After) (y : Held) (after : After) → IsSameMachine (Passes g before) (goes_on y after) → ⊥
-no_passing_on g before y afters.Looks same = same
-no_passing_on g before y afters.Places same = no_pass g before y (header_for y) same
+no_passing_on g before y after = goes_on_so (λ (t : Stage). IsSameMachine (Passes g before) t → ⊥) y (λ p same. same) (λ v write same. same) after (λ same. same) (λ same. same)
+
+no_running_on : (g : gate.Passing) (before : After) (y : Held) (after : After) → IsSameMachine (Passes g before) (runs_on y after) → ⊥
+no_running_on g before y after =
+    either_so (λ (t : Stage). IsSameMachine (Passes g before) t → ⊥) y.layout.checkpoints (Recalls (recall.begun y.layout) after) (goes_on y after) (λ same. same) (no_passing_on g before y after)
+
+no_asking : (g : gate.Passing) (before : After) (y : Held) (after : After) → IsSameMachine (Passes g before) (after_request y after) → ⊥
+no_asking g before y afters.Looks same = same
+no_asking g before y afters.Places same = same
+no_asking g before y afters.Snaps same = same
 
 -- who leaves, clears a request or says that its registers are forwarded is let through by any gate
 always_passes : (passage : Passage) → ((read : GateWord) → gate.allows passage read ≡ true) → ((word : ℕ) (read : GateWord) → gate.allowed passage word read ≡ gate_stage.Exchanges read) → (stage : GateStage) (reply : Reply)
@@ -87,10 +124,10 @@ passages_end x g before after reply Park (passed.NotYet word) is look going ends
 passages_end x g before after reply Request (passed.NotYet word) is look going ends same = absurd (let e = sym is ∙ sym same in cc)
 passages_end x g before after reply Forwarded (passed.NotYet word) is look going ends same = absurd (always_passes Forwarded (λ read. refl) (λ loaded read. refl) g.stage reply going word ends)
 passages_end x g before after reply Leave (passed.NotYet word) is look going ends same = absurd (always_passes Leave (λ read. refl) (λ loaded read. refl) g.stage reply going word ends)
-passages_end x g before after reply Attach (passed.Went word) is look going ends same = absurd same
+passages_end x g before after reply Attach (passed.Went word) is look going ends same = absurd (no_running_on g before (in_epoch x (epoch_said x.epoch word)) afters.Looks same)
 passages_end x g before after reply Park (passed.Went word) is look going ends same = absurd (let e = sym is ∙ sym same in cc)
-passages_end x g before after reply Request (passed.Went word) is look going ends same = absurd same
-passages_end x g before after reply (Resume epoch) (passed.Went word) is look going ends same = absurd (no_passing_on g before x after same)
+passages_end x g before after reply Request (passed.Went word) is look going ends same = absurd (no_asking g before x after same)
+passages_end x g before after reply (Resume epoch) (passed.Went word) is look going ends same = absurd (no_running_on g before x after same)
 passages_end x g before after reply Forwarded (passed.Went word) is look going ends same = absurd (let e = sym is ∙ sym same in cc)
 passages_end x g before after reply Leave (passed.Went word) is look going ends same = absurd same
 passages_end x g before after reply Look result is look going ends same = absurd (look refl)
@@ -102,6 +139,19 @@ passages_end x g before after reply Clear (passed.NotYet word) is look going end
 pub flips_end : (x : Held) (f was : flip.Flipping) (result : Flipped) → IsSameMachine (Flips was) (flipped_by x f result).stage → (word : ℕ) × (result ≡ flipped.NotYet word)
 flips_end x f was (flipped.NotYet word) same = (word, refl)
 flips_end x f was (flipped.Went asked) same = absurd same
+
+-- ---- checkpoints
+
+pub recalls_end : (r : recall.Recalling) (before : After) (y : Held) (after : After) → IsSameMachine (Recalls r before) (goes_on y after) → ⊥
+recalls_end r before y after = goes_on_so (λ (t : Stage). IsSameMachine (Recalls r before) t → ⊥) y (λ p same. same) (λ v write same. same) after (λ same. same) (λ same. same)
+
+pub guards_end : (g : guard.Guarding) (before after : Write) → IsSameMachine (Guards g before) (writes after) → ⊥
+guards_end g before (OfAccess a) same = same
+guards_end g before (OfPlace p) same = same
+
+pub snaps_end : (x : Held) (was : snap.Snapping) (result : Snapped) → IsSameMachine (BeginsCheckpoint was) (snapped_by x result).stage → (word : ℕ) × (result ≡ snapped.NotYet word)
+snaps_end x was (snapped.NotYet word) same = (word, refl)
+snaps_end x was (snapped.Begun seen) same = absurd same
 
 -- ---- registers: the next one is forwarded
 
@@ -123,9 +173,10 @@ accesses_end x was a (Brings into word) same = same
 accesses_end x was a Stored same = same
 accesses_end x was a (Fails why) same = same
 
-no_placing : (x : Held) (was : place.Placing) (s : Shortage) (b : Bool) → IsSameMachine (Places was) (cond b (ended x (end_by_shortage s)) (at_stage x (passes x Request afters.Places))).stage → ⊥
+no_placing : (x : Held) (was : place.Placing) (s : Shortage) (b : Bool) → IsSameMachine (Places was) (cond b (ended x (end_by_shortage s)) (at_stage x (asks_flip x))).stage → ⊥
 no_placing x was s true same = same
-no_placing x was s false same = same
+no_placing x was s false same =
+    either_so (λ (t : Stage). IsSameMachine (Places was) t → ⊥) x.layout.checkpoints (checkpoints x ForFlip) (passes x Request afters.Places) (λ same. same) (λ same. same) same
 
 short_end : (x : Held) (was : place.Placing) (s : Shortage) (traced : Bool) → IsSameMachine (Places was) (full_by x s traced).stage → ⊥
 short_end x was s false same = same
@@ -141,26 +192,33 @@ allocations_end x was p (Full s) making same = short_end x was s s.traced same
 
 -- ---- rounds, scans
 
-no_round : (y : Held) (was : duty.Round) (back : Back) (o : Option Header) → IsSameMachine (Serves was back) (places y o) → ⊥
-no_round y was back (Some header) same = same
-no_round y was back None same = same
+-- a scanner, and who begins a checkpoint, make another round at once
+abbrev pub RoundsAgain : Back → Type 0
+RoundsAgain ToScanner = ⊤
+RoundsAgain ToSnap = ⊤
+RoundsAgain (ToAccess a) = ⊥
+RoundsAgain ToPlace = ⊥
 
--- only a scanner makes another round at once
-abbrev pub IsOfScanner : Back → Type 0
-IsOfScanner ToScanner = ⊤
-IsOfScanner (ToAccess a) = ⊥
-IsOfScanner ToPlace = ⊥
+no_round : (y : Held) (was : duty.Round) (o : Option Header) → IsSameMachine (Serves was ToPlace) (places y o) → ⊥
+no_round y was o = places_so (λ (t : Stage). IsSameMachine (Serves was ToPlace) t → ⊥) y (λ p same. same) (λ v write same. same) o (λ same. same)
 
-round_back : (y : Held) (was : duty.Round) (back : Back) → IsSameMachine (Serves was back) (goes_back y back) → IsOfScanner back
+round_back : (y : Held) (was : duty.Round) (back : Back) → IsSameMachine (Serves was back) (goes_back y back) → RoundsAgain back
 round_back y was (ToAccess a) same = same
-round_back y was ToPlace same = absurd (no_round y was ToPlace (header_for y) same)
+round_back y was ToPlace same = absurd (no_round y was (header_for y) same)
+round_back y was ToSnap same = tt
 round_back y was ToScanner same = tt
 
-pub rounds_end : (x : Held) (was d : duty.Round) (back : Back) (result : RoundEnd) → IsSameMachine (Serves was back) (served_by x d back result).stage → IsOfScanner back
+traced_back : (y : Held) (was : duty.Round) (back : Back) → IsSameMachine (Serves was back) (traced_by y back).stage → RoundsAgain back
+traced_back y was (ToAccess a) same = same
+traced_back y was ToPlace same = absurd (no_round y was (header_for y) same)
+traced_back y was ToSnap same = tt
+traced_back y was ToScanner same = tt
+
+pub rounds_end : (x : Held) (was d : duty.Round) (back : Back) (result : RoundEnd) → IsSameMachine (Serves was back) (served_by x d back result).stage → RoundsAgain back
 rounds_end x was d back (ScanPage page) same = absurd same
 rounds_end x was d back (ScanInPlace page) same = absurd same
 rounds_end x was d back Marked same = round_back (record x { epoch = d.epoch }) was back same
-rounds_end x was d back Traced same = round_back (record x { epoch = d.epoch }) was back same
+rounds_end x was d back Traced same = traced_back (record x { epoch = d.epoch }) was back same
 rounds_end x was d back (NothingNow word) same = round_back (record x { epoch = d.epoch }) was back same
 rounds_end x was d back (AllLeft word) same = absurd same
 
@@ -170,11 +228,9 @@ scans_end x was s back (scanned.Ended at_front) same = same
 
 opening_back : (y : Held) (was : open_page.Opening) (s : scan.Scanning) (back : Back) → IsSameMachine (Opens was s back) (goes_back y back) → ⊥
 opening_back y was s (ToAccess a) same = same
-opening_back y was s ToPlace same = no_opening (header_for y) same
-  where
-    no_opening : (o : Option Header) → IsSameMachine (Opens was s ToPlace) (places y o) → ⊥
-    no_opening (Some header) same = same
-    no_opening None same = same
+opening_back y was s ToPlace same =
+    places_so (λ (t : Stage). IsSameMachine (Opens was s ToPlace) t → ⊥) y (λ p same. same) (λ v write same. same) (header_for y) (λ same. same) same
+opening_back y was s ToSnap same = same
 opening_back y was s ToScanner same = same
 
 pub openings_end : (x : Held) (was : open_page.Opening) (s : scan.Scanning) (back : Back) → IsSameMachine (Opens was s back) (goes_back x back) → ⊥

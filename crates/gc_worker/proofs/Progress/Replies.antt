@@ -71,11 +71,11 @@ pub data TakesOn (advances : Reply → Bool) (r : Reply) (kept : Type 0) : Type 
   Loses : (word : ℕ) → r ≡ Lost word → TakesOn advances r kept
   Waits : kept → TakesOn advances r kept
 
-won_or_lost : (advances : Reply → Bool) (kept : Type 0) (b : Bool) (word : ℕ) → advances Won ≡ true → TakesOn advances (cond b Won (Lost word)) kept
+pub won_or_lost : (advances : Reply → Bool) (kept : Type 0) (b : Bool) (word : ℕ) → advances Won ≡ true → TakesOn advances (cond b Won (Lost word)) kept
 won_or_lost advances kept true word won = Advances won
 won_or_lost advances kept false word won = Loses word refl
 
-either_way : (advances : Reply → Bool) (kept : Type 0) (b : Bool) (word : ℕ) → advances Won ≡ true → advances (Lost word) ≡ true → TakesOn advances (cond b Won (Lost word)) kept
+pub either_way : (advances : Reply → Bool) (kept : Type 0) (b : Bool) (word : ℕ) → advances Won ≡ true → advances (Lost word) ≡ true → TakesOn advances (cond b Won (Lost word)) kept
 either_way advances kept true word won lost = Advances won
 either_way advances kept false word won lost = Advances lost
 

@@ -17,7 +17,7 @@ use Rattle.heap_state.specs.Worker.{Worker}
 use Rattle.heap_laws.specs.Scanning.Claims.{ends_scan}
 use Rattle.heap_laws.proofs.Scanning.Opened as opened
 use Rattle.gc_worker.specs.declared.stage.back.Back.{Back}
-use Rattle.gc_worker.specs.declared.stage.back.Back.TheVariants.{ToAccess, ToPlace, ToScanner}
+use Rattle.gc_worker.specs.declared.stage.back.Back.TheVariants.{ToAccess, ToPlace, ToSnap, ToScanner}
 use Rattle.gc_worker.specs.declared.stage.Stage.TheVariants.{Opens}
 use Rattle.gc_worker.specs.Workers.Fits.{HasEnded}
 use Rattle.gc_worker.specs.Steps.Goes.{Is, Goes, StepsSo}
@@ -30,7 +30,7 @@ use Rattle.gc_worker.proofs.Stages.Gate.Words.{wants}
 use Rattle.gc_worker.proofs.Words.RowSteps.{Law, quiet, stores, row_fits, prepared}
 
 -- a scan that has ended has nothing left to pass
-has_ended : (s : Scanning) (stage : ScanStage) → HasEnded stage → (scan_of s stage).ended ≡ true
+pub has_ended : (s : Scanning) (stage : ScanStage) → HasEnded stage → (scan_of s stage).ended ≡ true
 has_ended s (scan_stage.Ended ending) h = refl
 has_ended s scan_stage.LoadsCross h = absurd h
 has_ended s (scan_stage.LoadsFirst at) h = absurd h
@@ -61,6 +61,7 @@ module _ (c : Configuration) (p : Plain) (s : Stands c p) (k : ℕ) (y : Held) (
   knows_back : (b : Back) → knows (back_from x b) ≡ ends_scan (knows (record x { stage = Opens (record o { stage = StoresOpen }) scan b }))
   knows_back (ToAccess a) = refl
   knows_back ToPlace = places_known x (header_for x)
+  knows_back ToSnap = refl
   knows_back ToScanner = refl
 
   module _ (is : Is c k x) where

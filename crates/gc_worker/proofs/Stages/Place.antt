@@ -1,4 +1,5 @@
 pub mod Claiming
+pub mod Marking
 pub mod Readying
 pub mod Acts
 pub mod Counting

@@ -1,5 +1,6 @@
 pub mod Words
 pub mod Going
+pub mod Traced
 pub mod Beginning
 pub mod Claiming
 pub mod Wanting

@@ -13,17 +13,22 @@ use Rattle.gc_worker.specs.declared.access.record_access.RecordAccess.{RecordAcc
 use Rattle.gc_worker.specs.Steps.Access.{GoesTo, by_kind, read_header}
 use Rattle.gc_worker.specs.Plain.Seen.{IsValueAs, IsValueWord, by_address, making_in, seen, seen_as, value_seen, word_for}
 use Rattle.heap_state.specs.Worker.{Account}
-use Rattle.plain_heap.specs.Action.{register}
+use Rattle.plain_heap.specs.Action.{action, register}
+use Rattle.mutator_asm.specs.declared.instr.Instr.{Instr}
 use Rattle.gc_worker.specs.Workers.Fits.{FitsStage, IsMaking}
 use Rattle.gc_worker.specs.Workers.Held.{Held, at_stage}
 use Rattle.gc_worker.specs.declared.stage.Stage.{Stage}
-use Rattle.gc_worker.specs.declared.stage.Stage.TheVariants.{Forwards, Serves}
-use Rattle.gc_worker.specs.Steps.Turned.{Pointed, back_from, first_pointer, forwarded_to, forwards_from, forwards_it, places, scans, served_by, turned, turned_at, turned_register, turned_round, with_evac}
-use Rattle.gc_worker.specs.Steps.Stepped.{served_in, uncounted}
+use Rattle.gc_worker.specs.declared.stage.Stage.TheVariants.{Forwards, Recalls, Serves}
+use Rattle.gc_worker.specs.Steps.Turned.{Pointed, back_from, begins, first_pointer, forwarded_to, forwards_from, forwards_it, goes_on, recalled, scans, served_by, told_acted, told_start, traced_by, turned, turned_at, turned_recall, turned_register, turned_round, with_evac}
+use Rattle.gc_worker.specs.Steps.Stepped.{instr_due, seen_by, served_in, uncounted}
 use Rattle.gc_worker.specs.declared.stage.after.After.{After}
+use Rattle.gc_worker.specs.declared.stage.after.After.TheVariants as afters
 use Rattle.gc_worker.specs.declared.stage.forwarding_register.ForwardingRegister.{ForwardingRegister}
 use Rattle.gc_worker.specs.declared.stage.back.Back.{Back}
-use Rattle.gc_worker.specs.declared.stage.back.Back.TheVariants.{ToAccess, ToPlace, ToScanner}
+use Rattle.gc_worker.specs.declared.stage.back.Back.TheVariants.{ToAccess, ToPlace, ToSnap, ToScanner}
+use Rattle.gate_core.specs.declared.recall.recalled.Recalled.{Recalled}
+use Rattle.gate_core.specs.Recall.{Recalling}
+use Rattle.gate_core.specs.Recall as recall
 use Rattle.fault_duty.specs.Duty.{Round}
 use Rattle.fault_duty.specs.Duty as duty
 use Rattle.forwarding.specs.declared.to.To.{To}
@@ -33,6 +38,7 @@ use Rattle.atom_store.specs.declared.turn.Turn.TheVariants.{Finished}
 use Rattle.fault_duty.specs.declared.round_end.RoundEnd.{RoundEnd}
 use Rattle.fault_duty.specs.declared.round_end.RoundEnd.TheVariants.{ScanPage, ScanInPlace, Marked, Traced, AllLeft, NothingNow}
 use Rattle.gc_worker.specs.declared.task.Task.{Task}
+use Rattle.gc_worker.specs.declared.task.Task.TheVariants.{Calls}
 use Rattle.plain_state.specs.declared.value.Value.TheVariants.{Number, Reference}
 
 -- ---- values
@@ -180,18 +186,36 @@ register_turned x w reply to at ends =
     ap (λ (s : Stage). turned_at x s reply) at
     ∙ ap (turned_register x (with_evac w (evac_taken.taken w.evac reply))) ends
 
+-- ---- what is read of checkpoints
+
+-- it goes on there whatever its stage was before
+pub goes_on_anywhere : (x : Held) (was : Stage) (after : After) → at_stage x (goes_on (at_stage x was) after) ≡ at_stage x (goes_on x after)
+goes_on_anywhere x was afters.Looks = refl
+goes_on_anywhere x was afters.Places = refl
+goes_on_anywhere x was afters.Snaps = refl
+
+-- the worker after the last step of the reading
+pub recall_turned : (x : Held) (r done : Recalling) (after : After) (reply : Reply) (result : Recalled) → x.stage ≡ Recalls r after → done ≡ recall.taken r reply
+    → recall.told done ≡ Finished result → turned x reply ≡ at_stage (recalled x result) (goes_on (recalled x result) after)
+recall_turned x r done after reply result at steps ends =
+    ap (λ (s : Stage). turned_at x s reply) at
+    ∙ ap (λ (n : Recalling). turned_recall x n after (recall.told n)) (sym steps)
+    ∙ ap (turned_recall x done after) ends
+
+-- ---- the beginning of an instruction
+
+-- it tells the same in whatever epoch the instruction began
+pub call_told : (x : Held) (instr : Instr) → x.task ≡ Some (Calls instr)
+    → told_acted (begins x) (Calls instr) (action (seen_by (begins x)) (instr_due x.task)) ≡ told_start x x.task
+call_told x instr is =
+    let P : Option Task → Type 0 = λ task. told_acted (begins x) (Calls instr) (action (seen_by x) (instr_due task)) ≡ told_start x task in
+    subst P (sym is) refl
+
 -- ---- who makes a record
 
 -- the serial of the record fits a header
 pub serial_fits : (account : Account) (registers : List ℕ) (task : Option Task) → IsMaking account registers task → account.serial + 1 < 2 ^ 40
 serial_fits account registers task m = m.executes.call.serial m.making (ap making_in m.executes.acts)
-
--- ---- allocations
-
--- an allocation fits a worker whatever its stage was before
-pub placing_fits : (x : Held) (was : Stage) (header : Option Header) → FitsStage (at_stage x was) (places x header) → FitsStage x (places x header)
-placing_fits x was (Some header) fits = record { layout = fits.layout; epoch = fits.epoch; fields = fits.fields; snap = fits.snap; going = fits.going; rest = fits.rest; sound = fits.sound }
-placing_fits x was None fits = fits
 
 -- ---- rounds
 
@@ -200,7 +224,7 @@ served_alike : (x : Held) (d : Round) (epoch : ℕ) (back : Back) (end : RoundEn
 served_alike x d epoch back (ScanPage page) is = ap (λ (e : ℕ). scans (record x { epoch = e }) page false back) is
 served_alike x d epoch back (ScanInPlace page) is = ap (λ (e : ℕ). scans (record x { epoch = e }) page true back) is
 served_alike x d epoch back Marked is = ap (λ (e : ℕ). back_from (record x { epoch = e }) back) is
-served_alike x d epoch back Traced is = ap (λ (e : ℕ). back_from (record x { epoch = e }) back) is
+served_alike x d epoch back Traced is = ap (λ (e : ℕ). traced_by (record x { epoch = e }) back) is
 served_alike x d epoch back (NothingNow word) is = ap (λ (e : ℕ). back_from (record x { epoch = e }) back) is
 served_alike x d epoch back (AllLeft word) is = refl
 
@@ -210,12 +234,15 @@ served_anywhere x was epoch back (ScanPage page) = refl
 served_anywhere x was epoch back (ScanInPlace page) = refl
 served_anywhere x was epoch (ToAccess access) Marked = refl
 served_anywhere x was epoch ToPlace Marked = refl
+served_anywhere x was epoch ToSnap Marked = refl
 served_anywhere x was epoch ToScanner Marked = refl
 served_anywhere x was epoch (ToAccess access) Traced = refl
 served_anywhere x was epoch ToPlace Traced = refl
+served_anywhere x was epoch ToSnap Traced = refl
 served_anywhere x was epoch ToScanner Traced = refl
 served_anywhere x was epoch (ToAccess access) (NothingNow word) = refl
 served_anywhere x was epoch ToPlace (NothingNow word) = refl
+served_anywhere x was epoch ToSnap (NothingNow word) = refl
 served_anywhere x was epoch ToScanner (NothingNow word) = refl
 served_anywhere x was epoch back (AllLeft word) = refl
 
@@ -235,12 +262,15 @@ served_uncounted x d back (ScanPage page) = refl
 served_uncounted x d back (ScanInPlace page) = refl
 served_uncounted x d (ToAccess access) Marked = refl
 served_uncounted x d ToPlace Marked = refl
+served_uncounted x d ToSnap Marked = refl
 served_uncounted x d ToScanner Marked = refl
 served_uncounted x d (ToAccess access) Traced = refl
 served_uncounted x d ToPlace Traced = refl
+served_uncounted x d ToSnap Traced = refl
 served_uncounted x d ToScanner Traced = refl
 served_uncounted x d (ToAccess access) (NothingNow word) = refl
 served_uncounted x d ToPlace (NothingNow word) = refl
+served_uncounted x d ToSnap (NothingNow word) = refl
 served_uncounted x d ToScanner (NothingNow word) = refl
 served_uncounted x d back (AllLeft word) = refl
 

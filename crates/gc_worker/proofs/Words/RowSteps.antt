@@ -1,25 +1,27 @@
 -- From rows of the table to the words of a step, once for each sort of step; and the laws of the heap for steps that are none of the
 -- plain machine. No kind speaks of places.
-use Rattle.std.proofs.Common.{◌≡◌, ◌≢◌, ℕ, ◌<◌, ◌==◌, true, false, refl, length, Option, None, Some, subst, slice_index, arith, sym, ◌∙◌, ⊎_elim}
+use Rattle.std.proofs.Common.{◌≡◌, ◌≢◌, ℕ, ◌+◌, ◌*◌, ◌<◌, ◌≤◌, ◌==◌, true, false, refl, length, Option, None, Some, subst, slice_index, arith, sym, ◌∙◌, ⊎_elim}
 use Rattle.std.proofs.lemmas.Bool.{eq-eqb, ne_eqb, cases_eq}
 use Rattle.plain_state.specs.State.{Plain}
 use Rattle.atom_store.specs.declared.step.Step.TheVariants.{Load, Store, Exchange}
 use Rattle.atom_store.specs.declared.reply.Reply.{Reply}
 use Rattle.atom_store.specs.declared.reply.Reply.TheVariants.{Value, Done, Won, Lost}
-use Rattle.space_map.specs.Table.{Row, IsRow, place_of}
+use Rattle.space_map.specs.Spaces.{page_of}
+use Rattle.space_map.specs.Table.{Row, IsRow, place_of, whole_length}
 use Rattle.space_map.proofs.Rows.{place_of-lt}
+use Rattle.space_map.proofs.WholeRows.{whole_place_of-lt}
 use Rattle.heap_state.specs.Configuration.{Configuration, Stands, era, memory, team}
 use Rattle.heap_state.specs.Memory.Entries.{WholeRow, Within, Behind, whole_place_of, IsWholeRow, word_in_whole, Entry, row_of, word_of}
 use Rattle.heap_state.specs.Invariant.Ghost.{Ghost}
 use Rattle.heap_state.specs.Memory.Table.{word_in}
 use Rattle.heap_state.specs.Worker.{Worker}
 use Rattle.heap_laws.specs.Composing.{IsAtMost}
-use Rattle.heap_laws.specs.Steps.{Ready}
+use Rattle.heap_laws.specs.Steps.{Ready, IsBeside}
 use Rattle.heap_laws.specs.Steps as law
 use Rattle.heap_laws.proofs.Copying.Laws.{nothing_else_changes}
 use Rattle.heap_laws.proofs.Lifting.Configurations.{ready}
 use Rattle.heap_laws.proofs.Lifting.Laws.{steps_are_lifted}
-use Rattle.heap_laws.proofs.Steps.Composing.{steps_forget}
+use Rattle.heap_laws.proofs.Steps.Composing.{steps_forget, steps_write_beside}
 use Rattle.heap_state.proofs.Table.Places.{word_in-row}
 use Rattle.heap_state.proofs.Table.Stores.{entry_has_row}
 use Rattle.gc_worker.specs.Workers.Fits.{Fits, Takes}
@@ -27,6 +29,7 @@ use Rattle.gc_worker.specs.Steps.Goes.{Is, Goes, StepsInTable, Wins}
 use Rattle.gc_worker.specs.Workers.Held.{Held}
 use Rattle.gc_worker.specs.Workers.Knows.{knows}
 use Rattle.gc_worker.specs.Steps.Turned.{Silent, PageWon, turned, told, won}
+use Rattle.gc_worker.proofs.Words.Eras.{board_is}
 
 -- the row is one of the table, not one of those behind it
 abbrev pub IsInTable : ℕ → WholeRow → Type 0
@@ -129,6 +132,54 @@ module _ (c : Configuration) (p : Plain) (s : Stands c p) (k : ℕ) (x : Held) w
     pub nothing : (w : Worker) → knows x ≡ w → Law None w s.ghost
     nothing w same = subst (λ (v : Worker). Law None v s.ghost) (is.as_known ∙ same) (nothing_else_changes (era c) (memory c) (team c) s.ghost k prepared)
 
+    -- the same if a row beside the table is written
+    pub nothing_beside : (e : Entry) (w : Worker) → IsBeside (era c) e → knows x ≡ w → Law (Some e) w s.ghost
+    nothing_beside e w beside same = steps_write_beside (era c) (memory c) (team c) s.ghost k e w s.ghost beside (nothing w same)
+
     -- or it knows less
     pub less : (w : Worker) → IsAtMost w (knows x) → Law None w s.ghost
     less w most = steps_forget (era c) (memory c) (team c) s.ghost k None (knows x) w s.ghost (nothing (knows x) refl) most
+
+  -- ---- rows of the whole table, if there is room for checkpoints
+
+  -- the reply takes the worker on, and teaches it nothing
+  pub record TeachesNothing (reply : Reply) : Type 0 where
+    pub same : knows x ≡ knows (turned x reply)
+    pub silent : told x reply ≡ Silent
+    pub none : won x reply ≡ None
+    pub takes : Takes x reply
+    pub fits : Fits c.pages c.mutators k (turned x reply)
+
+  module _ (is : Is c k x) where
+    pub untaught : (reply : Reply) → TeachesNothing reply → Goes c p s k None x reply
+    untaught reply t = becomes None reply (turned x reply) s.ghost refl is.below (nothing is (knows (turned x reply)) t.same) t.silent t.none t.takes t.fits
+
+    pub untaught_beside : (e : Entry) (reply : Reply) → IsBeside (era c) e → TeachesNothing reply → Goes c p s k (Some e) x reply
+    untaught_beside e reply beside t =
+        becomes (Some e) reply (turned x reply) s.ghost refl is.below (nothing_beside is e (knows (turned x reply)) beside t.same) t.silent t.none t.takes t.fits
+
+    module _ (room : x.layout.checkpoints ≡ true) where
+      stands : (row : WholeRow) → IsWholeRow c.pages row → whole_place_of c.pages row < length c.words
+      stands row fits =
+          let own = subst (λ (n : ℕ). IsWholeRow n row → whole_place_of n row < whole_length x.layout) is.fits.pages (whole_place_of-lt x.layout row room) fits in
+          let whole = is.whole in
+          omega (arith, own, whole)
+
+      pub loads_whole : (row : WholeRow) → IsWholeRow c.pages row → Goes c p s k None x (Value (word_in_whole c.pages c.words row))
+          → StepsInTable c p s k x (Load (whole_place_of c.pages row))
+      loads_whole row fits g = record { place = stands row fits; entry = None; writes = refl; goes = rw (reads_any row fits) g }
+
+      pub stores_whole : (e : Entry) → IsWholeRow c.pages (row_of e) → Goes c p s k (Some e) x Done → StepsInTable c p s k x (Store (whole_place_of c.pages (row_of e)) (word_of e))
+      stores_whole e fits g = stores_there e (stands (row_of e) fits) g
+
+      pub exchanges_whole : (e : Entry) (old : ℕ) → IsWholeRow c.pages (row_of e)
+          → (word_in_whole c.pages c.words (row_of e) ≡ old → Goes c p s k (Some e) x Won) → (word_in_whole c.pages c.words (row_of e) ≢ old → Goes c p s k None x (Lost (word_in_whole c.pages c.words (row_of e))))
+          → StepsInTable c p s k x (Exchange (whole_place_of c.pages (row_of e)) old (word_of e))
+      exchanges_whole e old fits = exchanges_there e old fits (stands (row_of e) fits)
+
+-- pages and words of the table are those of the epoch, up to the board
+pub page_in_era : (c : Configuration) (page : ℕ) → page ≤ 2 * c.pages → page ≤ page_of (era c).board
+page_in_era c page low = let b = board_is c in omega (arith, low, b)
+
+pub word_in_era : (c : Configuration) (addr : ℕ) → addr ≤ 128 * c.pages + 63 → addr < (era c).board + 64
+word_in_era c addr low = let b = board_is c in omega (arith, low, b)

@@ -1,15 +1,10 @@
 -- A worker with another count of its instructions wants, tells and becomes the same, and is as sound.
 use Rattle.std.proofs.Common.{◌≡◌, ℕ, ◌+◌, Bool, true, false, cond, Option, Some, None, Result, Ok, Err, refl, ap, sym, ◌∙◌}
-use Rattle.std.specs.Option.{option_and_then}
 use Rattle.plain_state.specs.declared.end.End.{End}
-use Rattle.plain_state.specs.State.{Mutator}
 use Rattle.mutator_asm.specs.declared.instr.Instr.{Instr}
-use Rattle.mutator_asm.specs.declared.instr.Instr.TheVariants as instrs
-use Rattle.mutator_asm.specs.declared.operand.Operand.TheVariants as operands
 use Rattle.plain_heap.specs.declared.action.Action.{Action}
 use Rattle.plain_heap.specs.declared.action.Action.TheVariants.{Sets, Jumps, Links, Prints, Makes, Measures, Loads, Stores, Exchanges, Gets, Puts, Swaps, Snaps}
 use Rattle.plain_heap.specs.Action.{action}
-use Rattle.record_layout.specs.declared.header.Header.{Header}
 use Rattle.space_map.specs.declared.gate_word.GateWord.{GateWord}
 use Rattle.space_map.specs.GateWord.{decode_gate}
 use Rattle.atom_store.specs.declared.reply.Reply.{Reply}
@@ -20,231 +15,61 @@ use Rattle.alloc_end.specs.declared.allocated.Allocated.{Allocated}
 use Rattle.alloc_end.specs.declared.allocated.Allocated.TheVariants.{Placed, Full}
 use Rattle.alloc_end.specs.declared.shortage.Shortage.{Shortage}
 use Rattle.alloc_end.specs.Place as place
-use Rattle.fault_duty.specs.declared.round_end.RoundEnd.{RoundEnd}
-use Rattle.fault_duty.specs.declared.round_end.RoundEnd.TheVariants.{ScanPage, ScanInPlace, Marked, Traced, AllLeft, NothingNow}
 use Rattle.fault_duty.specs.Duty as duty
 use Rattle.forwarding.specs.declared.to.To.{To}
 use Rattle.forwarding.specs.Evacuation as evac
 use Rattle.forwarding.specs.Taken as evac_taken
 use Rattle.gate_core.specs.declared.flipped.Flipped.{Flipped}
-use Rattle.gate_core.specs.declared.flipped.Flipped.TheVariants as flipped
 use Rattle.gate_core.specs.declared.passage.Passage.{Passage}
 use Rattle.gate_core.specs.declared.passage.Passage.TheVariants.{Look, Attach, Park, Request, Resume, Forwarded, Leave, Clear}
-use Rattle.gate_core.specs.declared.passed.Passed.{Passed}
-use Rattle.gate_core.specs.declared.passed.Passed.TheVariants as passed
 use Rattle.gate_core.specs.Gate as gate
 use Rattle.gate_core.specs.Flip as flip
-use Rattle.page_scan.specs.declared.scanned.Scanned.{Scanned}
-use Rattle.page_scan.specs.declared.scanned.Scanned.TheVariants as scanned
+use Rattle.gate_core.specs.Recall as recall
+use Rattle.gate_core.specs.Snap as snap
+use Rattle.page_saves.specs.Guard as guard
+use Rattle.page_saves.specs.SaveRound as save_round
 use Rattle.page_scan.specs.Scanning as scan
 use Rattle.page_scan.specs.Taken as scan_taken
-use Rattle.page_slots.specs.declared.opened.Opened.{Opened}
 use Rattle.page_slots.specs.Open as open_page
-use Rattle.gc_worker.specs.declared.access.Access.{Access}
-use Rattle.gc_worker.specs.declared.access.accessed.Accessed.{Accessed}
-use Rattle.gc_worker.specs.declared.access.accessed.Accessed.TheVariants.{Faults, Brings, Stored, Fails}
 use Rattle.gc_worker.specs.declared.access.access_stage.AccessStage.{AccessStage}
 use Rattle.gc_worker.specs.declared.stage.after.After.{After}
 use Rattle.gc_worker.specs.declared.stage.after.After.TheVariants as afters
 use Rattle.gc_worker.specs.declared.stage.back.Back.{Back}
-use Rattle.gc_worker.specs.declared.stage.back.Back.TheVariants.{ToAccess, ToPlace, ToScanner}
+use Rattle.gc_worker.specs.declared.stage.back.Back.TheVariants.{ToAccess, ToPlace, ToSnap, ToScanner}
+use Rattle.gc_worker.specs.declared.stage.goal.Goal.{Goal}
+use Rattle.gc_worker.specs.declared.stage.goal.Goal.TheVariants.{ForFlip, ForSnap, ForScanner}
+use Rattle.gc_worker.specs.declared.stage.write.Write.{Write}
+use Rattle.gc_worker.specs.declared.stage.write.Write.TheVariants.{OfAccess, OfPlace}
 use Rattle.gc_worker.specs.declared.stage.Stage.{Stage}
-use Rattle.gc_worker.specs.declared.stage.Stage.TheVariants.{Looks, Passes, Flips, Forwards, Accesses, Places, Serves, Scans, Evacuates, Opens, Gone}
+use Rattle.gc_worker.specs.declared.stage.Stage.TheVariants.{Looks, Passes, Flips, Forwards, Accesses, Places, Serves, Scans, Evacuates, Opens, Recalls, Guards, Checkpoints, BeginsCheckpoint, Gone}
+use Rattle.gc_worker.specs.declared.calls.did.Did.TheVariants.{Done}
 use Rattle.gc_worker.specs.declared.task.Task.{Task}
 use Rattle.gc_worker.specs.declared.task.Task.TheVariants.{Calls, Stops}
 use Rattle.gc_worker.specs.Steps.Access as access
 use Rattle.gc_worker.specs.Workers.Counted.{counted, count_after, CountsAreApart, CountedFit}
-use Rattle.gc_worker.specs.Workers.Fits.{Fits, FitsCall, FitsCopy, FitsRound, FitsScan, FitsStage, FitsTask, FitsTaskAfter, FitsTaskBack, FitsTaskBefore, ExecutesAction, IsAccessing, IsMaking, MayBegin}
-use Rattle.gc_worker.specs.Workers.Held.{Held, has_seen_flip, pages_needed, at_stage, header_for, header_of, fields_made, fields_for, making_for, pages_asked, run_held}
-use Rattle.gc_worker.specs.Plain.Seen.{Making, making_in, seen}
-use Rattle.gc_worker.specs.Steps.Turned.{Told, Silent, acted, begins, end_by_shortage, ended, full_by, goes_back, goes_on, is_full, loads, looked_by, of_round, passed_by, passes, places, started, told_access, told_acted, told_at, told_effect, told_end, told_flip, told_full, told_gate, told_place, told_start, turned_access, turned_at, turned_copy, turned_flip, turned_gate, turned_opening, turned_place, turned_register, turned_round, turned_scan, went_on, with_evac, with_record}
+use Rattle.gc_worker.specs.Workers.Fits.{ExecutesAction, Fits, FitsCall, FitsCopy, FitsPlace, FitsRound, FitsScan, FitsStage, FitsTask, FitsTaskAfter, FitsTaskAsking, FitsTaskBack, FitsTaskBefore, FitsTaskFor, FitsTaskWrite, FitsWrite, IsAccessing, IsMaking, IsRoundFor, IsRoundOfMutator, MayBegin}
+use Rattle.gc_worker.specs.Workers.Held.{Held, at_stage, may_snap}
+use Rattle.gc_worker.specs.Plain.Seen.{making_in, seen}
+use Rattle.gc_worker.specs.Steps.Turned.{Answers, Silent, Told, acted, begins, looked_by, passes, serves_snap, started, told_acted, told_at, told_full, told_gate, told_place, told_start, turned_at, turned_flip, turned_register, went_on, with_evac}
 use Rattle.gc_worker.specs.Steps.Wanted.{wanted_at}
-use Rattle.gc_worker.proofs.Plain.NewRecords.{made, made_is}
-
--- no action depends on the count
-same_action : (m : Mutator) (count : ℕ) (i : Instr) → action (record m { executed = count }) i ≡ action m i
-unfolding action
-same_action m count (instrs.Li d a) = refl
-same_action m count (instrs.Mov d a) = refl
-same_action m count (instrs.Add d a b) = refl
-same_action m count (instrs.Sub d a b) = refl
-same_action m count (instrs.Mul d a b) = refl
-same_action m count (instrs.Div d a b) = refl
-same_action m count (instrs.Rem d a b) = refl
-same_action m count (instrs.Lt d a b) = refl
-same_action m count (instrs.Eq d a b) = refl
-same_action m count (instrs.Jmp t) = refl
-same_action m count (instrs.Jz a t) = refl
-same_action m count (instrs.Jal d t) = refl
-same_action m count (instrs.Jr a) = refl
-same_action m count (instrs.New d (operands.Reg r)) = refl
-same_action m count (instrs.New d (operands.Number n)) = refl
-same_action m count (instrs.Raw d (operands.Reg r)) = refl
-same_action m count (instrs.Raw d (operands.Number n)) = refl
-same_action m count (instrs.Mix d (operands.Reg f) (operands.Reg r)) = refl
-same_action m count (instrs.Mix d (operands.Reg f) (operands.Number n)) = refl
-same_action m count (instrs.Mix d (operands.Number n) (operands.Reg r)) = refl
-same_action m count (instrs.Mix d (operands.Number n) (operands.Number o)) = refl
-same_action m count (instrs.Ld d a (operands.Reg r)) = refl
-same_action m count (instrs.Ld d a (operands.Number n)) = refl
-same_action m count (instrs.St a (operands.Reg r) b) = refl
-same_action m count (instrs.St a (operands.Number n) b) = refl
-same_action m count (instrs.Cas d a (operands.Reg r) b c) = refl
-same_action m count (instrs.Cas d a (operands.Number n) b c) = refl
-same_action m count (instrs.Len d a) = refl
-same_action m count (instrs.Isp d a) = refl
-same_action m count (instrs.Get d (operands.Reg r)) = refl
-same_action m count (instrs.Get d (operands.Number n)) = refl
-same_action m count (instrs.Put (operands.Reg r) a) = refl
-same_action m count (instrs.Put (operands.Number n) a) = refl
-same_action m count (instrs.Swap d (operands.Reg r)) = refl
-same_action m count (instrs.Swap d (operands.Number n)) = refl
-same_action m count (instrs.Out a) = refl
-same_action m count instrs.Snap = refl
-same_action m count instrs.Halt = refl
-
-module _ (count : ℕ) (x : Held) where
-  abbrev y : Held
-  y = counted count x
-
-  same_acts : (instr : Instr) → action (seen y.account y.registers) instr ≡ action (seen x.account x.registers) instr
-  same_acts instr = same_action (seen x.account x.registers) count instr
-
-  same_making : (task : Option Task) → making_for y task ≡ making_for x task
-  same_making None = refl
-  same_making (Some (Stops end)) = refl
-  same_making (Some (Calls instr)) = ap making_in (same_acts instr)
-
-  same_header : header_for y ≡ header_for x
-  same_header = ap (λ (m : Option Making). option_and_then (header_of x) m) (same_making x.task)
-
-  same_asked : pages_needed y ≡ pages_needed x
-  same_asked = ap pages_asked same_header
-
-  -- ---- where it goes on
-
-  same_fields : fields_for y ≡ fields_for x
-  same_fields = ap fields_made (same_making x.task)
-
-  same_places : (header : Option Header) → places y header ≡ places x header
-  same_places None = refl
-  same_places (Some header) = ap (λ (n : ℕ). Places (place.begun x.layout (run_held x) header x.epoch n 0)) same_fields
-
-  placing : places y (header_for y) ≡ places x (header_for x)
-  placing = same_places (header_for y) ∙ ap (places x) same_header
-
-  going_on : (after : After) → goes_on y after ≡ goes_on x after
-  going_on afters.Looks = refl
-  going_on afters.Places = placing
-
-  going_back : (back : Back) → goes_back y back ≡ goes_back x back
-  going_back (ToAccess a) = refl
-  going_back ToPlace = placing
-  going_back ToScanner = refl
-
-  -- ---- what it becomes
-
-  abbrev At : Stage → Held
-  At stage = counted count (at_stage x stage)
-
-  passing : (after : After) (passage : Passage) (result : Passed) → passed_by y after passage result ≡ counted count (passed_by x after passage result)
-  passing after Attach (passed.Went word) = refl
-  passing after Attach (passed.NotYet word) = refl
-  passing after Park (passed.Went word) = refl
-  passing after Park (passed.NotYet word) = ap At (going_on after)
-  passing after Request (passed.Went word) = ap (λ (asked : ℕ). At (Flips (flip.begun x.layout x.epoch asked (has_seen_flip x)))) same_asked
-  passing after Request (passed.NotYet word) = refl
-  passing after (Resume epoch) (passed.Went word) = ap At (going_on after)
-  passing after (Resume epoch) (passed.NotYet word) = refl
-  passing after Forwarded (passed.Went word) = refl
-  passing after Forwarded (passed.NotYet word) = refl
-  passing after Leave (passed.Went word) = refl
-  passing after Leave (passed.NotYet word) = refl
-  passing after Look result = refl
-  passing after Clear (passed.Went word) = refl
-  passing after Clear (passed.NotYet word) = refl
-
-  gating : (g : gate.Passing) (after : After) (t : Turn Passed) → turned_gate y g after t ≡ counted count (turned_gate x g after t)
-  gating g after More = refl
-  gating g after (Finished result) = passing after g.passage result
-
-  flipping : (f : flip.Flipping) (t : Turn Flipped) → turned_flip y f t ≡ counted count (turned_flip x f t)
-  flipping f More = refl
-  flipping f (Finished (flipped.Went asked)) = refl
-  flipping f (Finished (flipped.NotYet word)) = refl
-
-  flip_count : (t : Turn Flipped) → count_after count (told_flip t) ≡ count
-  flip_count More = refl
-  flip_count (Finished (flipped.Went asked)) = refl
-  flip_count (Finished (flipped.NotYet word)) = refl
-
-  scanning : (s : scan.Scanning) (back : Back) (t : Turn Scanned) → turned_scan y s back t ≡ counted count (turned_scan x s back t)
-  scanning s back More = refl
-  scanning s back (Finished (scanned.Ask old)) = refl
-  scanning s back (Finished (scanned.Ended at_front)) = refl
-
-  copying : (v : evac.Evacuation) (s : scan.Scanning) (back : Back) (t : Turn To) → turned_copy y v s back t ≡ counted count (turned_copy x v s back t)
-  copying v s back More = refl
-  copying v s back (Finished to) = refl
-
-  opening : (o : open_page.Opening) (s : scan.Scanning) (back : Back) (t : Turn Opened) → turned_opening y o s back t ≡ counted count (turned_opening x o s back t)
-  opening o s back More = refl
-  opening o s back (Finished opened) = ap At (going_back back)
-
-  -- an end is no instruction more
-  end_count : (task : Option Task) (end : End) → count_after count (told_end task end) ≡ count
-  end_count None end = refl
-  end_count (Some task) end = refl
-
-  -- an effect is one
-  effect_count : (task : Option Task) (instr : Instr) → task ≡ Some (Calls instr) → count_after count (told_effect task) ≡ count + 1
-  effect_count task instr is = ap (λ (t : Option Task). count_after count (told_effect t)) is
-
-  accessing : (a : Access) (instr : Instr) → x.task ≡ Some (Calls instr) → (t : Turn Accessed) → turned_access y a t ≡ counted (count_after count (told_access x.task t)) (turned_access x a t)
-  accessing a instr is More = refl
-  accessing a instr is (Finished (Faults page)) = refl
-  accessing a instr is (Finished (Brings into word)) = ap (λ (n : ℕ). counted n (loads x into word)) (sym (effect_count x.task instr is))
-  accessing a instr is (Finished Stored) = ap (λ (n : ℕ). counted n (went_on x)) (sym (effect_count x.task instr is))
-  accessing a instr is (Finished (Fails why)) = ap (λ (n : ℕ). counted n (ended x why)) (sym (end_count x.task why))
-
-  short_of : (s : Shortage) (full : Bool) → cond full (ended y (end_by_shortage s)) (counted count (at_stage x (passes x Request afters.Places)))
-      ≡ counted (count_after count (cond full (told_end x.task (end_by_shortage s)) Silent)) (cond full (ended x (end_by_shortage s)) (at_stage x (passes x Request afters.Places)))
-  short_of s true = ap (λ (n : ℕ). counted n (ended x (end_by_shortage s))) (sym (end_count x.task (end_by_shortage s)))
-  short_of s false = refl
-
-  filling : (s : Shortage) (traced : Bool) → full_by y s traced ≡ counted (count_after count (told_full x s traced)) (full_by x s traced)
-  filling s false = refl
-  filling s true = short_of s (is_full x s)
-
-  placed : (p : place.Placing) (making : IsMaking x.account x.registers x.task) (t : Turn Allocated)
-      → turned_place y p t ≡ counted (count_after count (told_place x t)) (turned_place x p t)
-  placed p making More = refl
-  placed p making (Finished (Full s)) = filling s s.traced
-  placed p making (Finished (Placed at)) =
-      ap (with_record y p.run at) (same_making x.task ∙ made_is x making)
-      ∙ (ap (λ (n : ℕ). counted n (with_record x p.run at (Some (made x making)))) (sym (effect_count x.task making.executes.instr making.executes.task_is))
-      ∙ ap (λ (m : Option Making). counted (count_after count (told_effect x.task)) (with_record x p.run at m)) (sym (made_is x making)))
-
--- after a round it goes on in the round's epoch
-serving : (count : ℕ) (x : Held) (d : duty.Round) (back : Back) (t : Turn RoundEnd) → turned_round (counted count x) d back t ≡ counted count (turned_round x d back t)
-serving count x d back More = refl
-serving count x d back (Finished (ScanPage page)) = refl
-serving count x d back (Finished (ScanInPlace page)) = refl
-serving count x d back (Finished Marked) = ap (λ (stage : Stage). counted count (at_stage (of_round x d) stage)) (going_back count (of_round x d) back)
-serving count x d back (Finished Traced) = ap (λ (stage : Stage). counted count (at_stage (of_round x d) stage)) (going_back count (of_round x d) back)
-serving count x d back (Finished (NothingNow word)) = ap (λ (stage : Stage). counted count (at_stage (of_round x d) stage)) (going_back count (of_round x d) back)
-serving count x d back (Finished (AllLeft word)) = refl
+use Rattle.gc_worker.proofs.Workers.CountedTurns.{accessing, copying, flip_count, flipping, gating, guarding, opening, placed, placing, recalling, same_acts, same_asked, same_fields, same_header, saving_round, scanning, serving, snapping}
 
 -- ---- a look
 
 module _ (count : ℕ) (x : Held) where
-  acting : (instr : Instr) (o : Result Action End) → acted (begins (counted count x)) o ≡ counted (count_after count (told_acted (Calls instr) o)) (acted (begins x) o)
+  -- a checkpoint is begun later, or cannot be begun
+  snapping_by : (task : Task) (b : Bool) → cond b (counted count (at_stage (begins x) (serves_snap (begins x)))) (counted (count + 1) (went_on (begins x)))
+      ≡ counted (count_after count (cond b Silent (Answers task Done))) (cond b (at_stage (begins x) (serves_snap (begins x))) (went_on (begins x)))
+  snapping_by task true = refl
+  snapping_by task false = refl
+
+  acting : (instr : Instr) (o : Result Action End) → acted (begins (counted count x)) o ≡ counted (count_after count (told_acted x (Calls instr) o)) (acted (begins x) o)
   acting instr (Err why) = refl
   acting instr (Ok (Sets d v)) = refl
   acting instr (Ok (Jumps target)) = refl
   acting instr (Ok (Links d target)) = refl
   acting instr (Ok (Prints n)) = refl
-  acting instr (Ok Snaps) = refl
+  acting instr (Ok Snaps) = snapping_by (Calls instr) (may_snap x)
   acting instr (Ok (Makes kind d n)) = ap (λ (stage : Stage). counted count (at_stage (begins x) stage)) (placing count (begins x))
   acting instr (Ok (Measures d i)) = refl
   acting instr (Ok (Loads d i n)) = refl
@@ -268,10 +93,19 @@ module _ (count : ℕ) (x : Held) where
   looking None = refl
   looking (Some g) = requested g.request (passes x Park afters.Looks)
 
+  acting_tells : (task : Task) (o : Result Action End) → told_acted (counted count x) task o ≡ told_acted x task o
+  acting_tells task (Err why) = refl
+  acting_tells task (Ok (Sets d v)) = refl
+  acting_tells task (Ok (Jumps target)) = refl
+  acting_tells task (Ok (Links d target)) = refl
+  acting_tells task (Ok (Prints n)) = refl
+  acting_tells task (Ok Snaps) = refl
+  acting_tells task (Ok act) = refl
+
   starting_tells : (task : Option Task) → told_start (counted count x) task ≡ told_start x task
   starting_tells None = refl
   starting_tells (Some (Stops end)) = refl
-  starting_tells (Some (Calls instr)) = ap (told_acted (Calls instr)) (same_acts count x instr)
+  starting_tells (Some (Calls instr)) = ap (told_acted (counted count x) (Calls instr)) (same_acts count x instr) ∙ acting_tells (Calls instr) (action (seen x.account x.registers) instr)
 
   looking_tells : (g : Option GateWord) → told_gate (counted count x) g ≡ told_gate x g
   looking_tells None = refl
@@ -299,6 +133,10 @@ module _ (count : ℕ) (x : Held) where
   turns_at (Scans s back) reply task = scanning count x (scan_taken.taken s reply) back (scan_taken.told (scan_taken.taken s reply).stage)
   turns_at (Evacuates v s back) reply task = copying count x (evac_taken.taken v reply) s back (evac_taken.told (evac_taken.taken v reply).stage)
   turns_at (Opens o s back) reply task = opening count x (open_page.taken o reply) s back (open_page.told (open_page.taken o reply))
+  turns_at (Recalls r after) reply task = recalling count x (recall.taken r reply) after (recall.told (recall.taken r reply))
+  turns_at (Guards g write) reply task = guarding count x (guard.taken g reply) write (guard.told (guard.taken g reply))
+  turns_at (Checkpoints r goal) reply task = saving_round count x (save_round.taken r reply) goal (save_round.told (save_round.taken r reply))
+  turns_at (BeginsCheckpoint s) reply task = snapping count x (snap.taken s reply) task.instr task.task_is (snap.told (snap.taken s reply))
   turns_at Gone reply task = refl
 
   tells_at : (stage : Stage) (reply : Reply) → told_at (counted count x) stage reply ≡ told_at x stage reply
@@ -324,6 +162,10 @@ module _ (count : ℕ) (x : Held) where
   tells_at (Scans s back) reply = refl
   tells_at (Evacuates v s back) reply = refl
   tells_at (Opens o s back) reply = refl
+  tells_at (Recalls r after) reply = refl
+  tells_at (Guards g write) reply = refl
+  tells_at (Checkpoints r goal) reply = refl
+  tells_at (BeginsCheckpoint s) reply = refl
   tells_at Gone reply = refl
 
   wants_at : (stage : Stage) → wanted_at (counted count x) stage ≡ wanted_at x stage
@@ -337,6 +179,10 @@ module _ (count : ℕ) (x : Held) where
   wants_at (Scans s back) = refl
   wants_at (Evacuates v s back) = refl
   wants_at (Opens o s back) = refl
+  wants_at (Recalls r after) = refl
+  wants_at (Guards g write) = refl
+  wants_at (Checkpoints r goal) = refl
+  wants_at (BeginsCheckpoint s) = refl
   wants_at Gone = refl
 
 pub counts_are_apart : CountsAreApart
@@ -372,21 +218,37 @@ module _ (count : ℕ) (x : Held) where
   task_after : (after : After) → FitsTaskAfter x after → FitsTaskAfter z after
   task_after afters.Looks task = beginning x.task task
   task_after afters.Places task = making task
+  task_after afters.Snaps task = executing _ task
+
+  task_asking : (after : After) → FitsTaskAsking x after → FitsTaskAsking z after
+  task_asking afters.Looks task = task
+  task_asking afters.Places task = making task
+  task_asking afters.Snaps task = executing _ task
 
   task_back : (back : Back) → FitsTaskBack x back → FitsTaskBack z back
   task_back (ToAccess a) task = accesses a.stage task
   task_back ToPlace task = making task
+  task_back ToSnap task = (executing _ task.0, task.1)
   task_back ToScanner task = task
 
   task_before : (passage : Passage) (after : After) → FitsTaskBefore x passage after → FitsTaskBefore z passage after
   task_before Leave after task = task
-  task_before Request after task = (making task.0, task.1)
+  task_before Request after task = task_asking after task
   task_before Attach after task = beginning x.task task
   task_before Park after task = task_after after task
   task_before (Resume epoch) after task = task_after after task
   task_before Forwarded after task = task_after after task
   task_before Clear after task = (beginning x.task task.0, task.1)
   task_before Look after task = task
+
+  task_write : (write : Write) → FitsTaskWrite x write → FitsTaskWrite z write
+  task_write (OfAccess a) task = accesses a.stage task
+  task_write (OfPlace p) task = (making task.0, same_header count x ∙ task.1)
+
+  task_for : (goal : Goal) → FitsTaskFor x goal → FitsTaskFor z goal
+  task_for ForFlip task = making task
+  task_for ForSnap task = executing _ task
+  task_for ForScanner task = task
 
   fits_task : (stage : Stage) → FitsTask x stage → FitsTask z stage
   fits_task Looks task = beginning x.task task
@@ -399,6 +261,10 @@ module _ (count : ℕ) (x : Held) where
   fits_task (Scans s back) task = task_back back task
   fits_task (Evacuates v s back) task = task_back back task
   fits_task (Opens o s back) task = task_back back task
+  fits_task (Recalls r after) task = task_after after task
+  fits_task (Guards g write) task = task_write write task
+  fits_task (Checkpoints r goal) task = task_for goal task
+  fits_task (BeginsCheckpoint s) task = executing _ task
   fits_task Gone task = task
 
   fits_copy : (epoch : ℕ) (v : evac.Evacuation) → FitsCopy x epoch v → FitsCopy z epoch v
@@ -410,17 +276,36 @@ module _ (count : ℕ) (x : Held) where
   fits_scan : (s : scan.Scanning) → FitsScan x s → FitsScan z s
   fits_scan s f = record { layout = f.layout; epoch = f.epoch; sound = f.sound }
 
+  fits_place : (p : place.Placing) → FitsPlace x p → FitsPlace z p
+  fits_place p f = record { layout = f.layout; epoch = f.epoch; fields = f.fields ∙ sym (same_fields count x); snap = f.snap; going = f.going; rest = f.rest; sound = f.sound }
+
+  fits_write : (write : Write) (page : ℕ) → FitsWrite x write page → FitsWrite z write page
+  fits_write (OfAccess a) page f = f
+  fits_write (OfPlace p) page f = (fits_place p f.0, f.1)
+
+  round_of_mutator : (r : save_round.SavingRound) → IsRoundOfMutator x r → IsRoundOfMutator z r
+  round_of_mutator r f = record { caller = f.caller; epoch = f.epoch; number = f.number }
+
+  round_for : (goal : Goal) (r : save_round.SavingRound) → IsRoundFor x goal r → IsRoundFor z goal r
+  round_for ForFlip r f = (round_of_mutator r f.0, f.1)
+  round_for ForSnap r f = (round_of_mutator r f.0, f.1)
+  round_for ForScanner r f = record { caller = f.caller; no_run = f.no_run }
+
   fits_stage : (stage : Stage) → FitsStage x stage → FitsStage z stage
   fits_stage Looks f = tt
   fits_stage (Passes g after) f = record { layout = f.layout; passage = f.passage; going = f.going; sound = f.sound }
   fits_stage (Flips g) f = record { layout = f.layout; epoch = f.epoch; seen = f.seen; going = f.going; sound = f.sound }
   fits_stage (Forwards w) f = record { register = f.register; copy = fits_copy (x.epoch + 1) w.evac f.copy }
   fits_stage (Accesses a) f = f
-  fits_stage (Places p) f = record { layout = f.layout; epoch = f.epoch; fields = f.fields ∙ sym (same_fields count x); snap = f.snap; going = f.going; rest = f.rest; sound = f.sound }
+  fits_stage (Places p) f = fits_place p f
   fits_stage (Serves d back) f = (fits_round d back f.0, f.1)
   fits_stage (Scans s back) f = (fits_scan s f.0, f.1, f.2)
   fits_stage (Evacuates v s back) f = (fits_copy x.epoch v f.0, fits_scan s f.1, f.2, f.3)
   fits_stage (Opens o s back) f = (record { layout = f.0.layout; epoch = f.0.epoch; page = f.0.page; going = f.0.going; sound = f.0.sound }, fits_scan s f.1, f.2, f.3)
+  fits_stage (Recalls r after) f = record { room = f.room; layout = f.layout; going = f.going; sound = f.sound }
+  fits_stage (Guards g write) f = record { room = f.room; layout = f.layout; worker = f.worker; number = f.number; runs = f.runs; going = f.going; sound = f.sound; write = fits_write write g.page f.write }
+  fits_stage (Checkpoints r goal) f = record { room = f.room; layout = f.layout; worker = f.worker; caller = round_for goal r f.caller; going = f.going; sound = f.sound }
+  fits_stage (BeginsCheckpoint s) f = record { layout = f.layout; number = f.number; may = f.may; going = f.going; sound = f.sound }
   fits_stage Gone f = tt
 
   fits_so : (n mutators k : ℕ) → Fits n mutators k x → Fits n mutators k z

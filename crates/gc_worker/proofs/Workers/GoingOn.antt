@@ -9,15 +9,17 @@ use Rattle.alloc_end.specs.declared.place_stage.PlaceStage.TheVariants.{LoadsTra
 use Rattle.alloc_end.specs.declared.run.Run.{Run}
 use Rattle.alloc_end.specs.Place as place
 use Rattle.alloc_end.specs.Soundness.{RunLiesInSpaces, HoldsFields, IsPlacingGoing, FitsPlaceStage}
+use Rattle.gate_core.specs.Recall as recall
 use Rattle.record_layout.specs.declared.header.Header.{Header}
 use Rattle.gc_worker.specs.declared.stage.after.After.{After}
 use Rattle.gc_worker.specs.declared.stage.after.After.TheVariants as afters
-use Rattle.gc_worker.specs.declared.stage.Stage.TheVariants.{Looks, Places}
-use Rattle.gc_worker.specs.Workers.Fits.{Fits, FitsRun, FitsTaskAfter, IsMaking, LeavesShortRun}
-use Rattle.gc_worker.specs.Workers.Held.{Held, at_stage, header_for, run_held, run_in, fields_for}
+use Rattle.gc_worker.specs.declared.stage.Stage.TheVariants.{Looks, Places, Recalls}
+use Rattle.gc_worker.specs.Workers.Fits.{Fits, FitsRun, FitsTaskAfter, IsMaking, IsSnapping, LeavesShortRun, MayBegin}
+use Rattle.gc_worker.specs.Workers.Held.{Held, at_stage, header_for, run_held, run_in, fields_for, may_snap}
 use Rattle.gc_worker.specs.Workers.Knows.{knows, known_at, counted_in, kind_with, own_stock, stock_of}
-use Rattle.gc_worker.specs.Steps.Turned.{places, goes_on}
+use Rattle.gc_worker.specs.Steps.Turned.{places, goes_on, runs_on, serves_snap}
 use Rattle.gc_worker.proofs.Workers.Parts.{refit, page_count}
+use Rattle.gc_worker.proofs.Workers.Guarded.{guards_place_fits, guards_place_known}
 use Rattle.gc_worker.proofs.Plain.NewRecords.{header_is, header_made, holds_fields, makes_header}
 use Rattle.heap_laws.specs.Allocation.Records.{stored_ahead}
 
@@ -46,7 +48,7 @@ first_at kind b = cond b (place.stores_first kind) LoadsTraced
 
 module _ (x : Held) (header : Header) where
   abbrev begun_at : PlaceStage → place.Placing
-  begun_at stage = record { layout = x.layout; run = run_held x; header = header; fields = fields_for x; epoch = x.epoch; snap = 0; stage = stage }
+  begun_at stage = record { layout = x.layout; run = run_held x; header = header; fields = fields_for x; epoch = x.epoch; snap = x.snap; stage = stage }
 
   -- a run that isn't there has no room
   held : (run : Option Run) → nat_le ((run_in run).at + place.size_of header) (run_in run).end ≡ true → Some (stock_of x.epoch (run_in run)) ≡ own_stock x.epoch run
@@ -67,9 +69,9 @@ module _ (x : Held) (header : Header) where
   known_by kind is false room = refl
 
   stage_by : HoldsFields header (fields_for x) → (b : Bool) → nat_le ((run_held x).at + place.size_of header) (run_held x).end ≡ b
-      → FitsPlaceStage x.layout.pages (place.pages_for (place.size_of header)) 0 (run_held x) header (first_at header.kind b)
+      → FitsPlaceStage x.layout.pages (place.pages_for (place.size_of header)) x.snap (run_held x) header (first_at header.kind b)
   stage_by holds true is =
-      first_fits x.layout.pages (place.pages_for (place.size_of header)) 0 (fields_for x) (run_held x) header header.kind refl holds
+      first_fits x.layout.pages (place.pages_for (place.size_of header)) x.snap (fields_for x) (run_held x) header header.kind refl holds
       (leb-true ((run_held x).at + place.size_of header) (run_held x).end is)
   stage_by holds false is = tt
 
@@ -85,11 +87,27 @@ is_short n None fits = omega arith
 
 pub places_known : (x : Held) (header : Option Header) → knows (at_stage x (places x header)) ≡ known_at x Looks
 places_known x None = refl
-places_known x (Some header) = known_by x header header.kind refl (nat_le ((run_held x).at + place.size_of header) (run_held x).end) refl
+places_known x (Some header) =
+    guards_place_known x (place.begun x.layout (run_held x) header x.epoch (fields_for x) x.snap)
+    ∙ known_by x header header.kind refl (nat_le ((run_held x).at + place.size_of header) (run_held x).end) refl
+
+-- who begins a checkpoint makes rounds first, if it can begin one
+snaps_known : (x : Held) (b : Bool) → known_at x (cond b (serves_snap x) Looks) ≡ known_at x Looks
+snaps_known x true = refl
+snaps_known x false = refl
 
 pub goes_on_known : (x : Held) (after : After) → knows (at_stage x (goes_on x after)) ≡ known_at x Looks
 goes_on_known x afters.Looks = refl
 goes_on_known x afters.Places = places_known x (header_for x)
+goes_on_known x afters.Snaps = snaps_known x (may_snap x)
+
+-- one that begins to run reads first which checkpoint is in progress
+runs_on_known_by : (x : Held) (after : After) (b : Bool) → known_at x (cond b (Recalls (recall.begun x.layout) after) (goes_on x after)) ≡ known_at x Looks
+runs_on_known_by x after true = refl
+runs_on_known_by x after false = goes_on_known x after
+
+pub runs_on_known : (x : Held) (after : After) → knows (at_stage x (runs_on x after)) ≡ known_at x Looks
+runs_on_known x after = runs_on_known_by x after x.layout.checkpoints
 
 module _ (n mutators k : ℕ) (x : Held) (f : Fits n mutators k x) (unended : is_some x.account.end ≡ false) (mutator : nat_lt x.number x.mutators ≡ true) where
   going_by : (header : Header) (b : Bool) → IsPlacingGoing (first_at header.kind b)
@@ -105,8 +123,10 @@ module _ (n mutators k : ℕ) (x : Held) (f : Fits n mutators k x) (unended : is
   holds making header is =
       subst (λ (h : Header). HoldsFields h (fields_for x)) (same_Some (header_made x making) header (sym (header_is x making) ∙ is)) (holds_fields x making)
 
-  places_by : (making : IsMaking x.account x.registers x.task) (header : Option Header) → header_for x ≡ header → Fits n mutators k (at_stage x (places x header))
-  places_by making (Some header) is = refit n mutators k x f (Places (place.begun x.layout (run_held x) header x.epoch (fields_for x) 0)) unended mutator (making, is) (record {
+  -- a record is allocated in the run, or in pages that are claimed
+  allocates_fit : (making : IsMaking x.account x.registers x.task) (header : Header) → header_for x ≡ Some header
+      → Fits n mutators k (at_stage x (Places (place.begun x.layout (run_held x) header x.epoch (fields_for x) x.snap)))
+  allocates_fit making header is = refit n mutators k x f (Places (place.begun x.layout (run_held x) header x.epoch (fields_for x) x.snap)) unended mutator (making, is) (record {
     layout = refl;
     epoch = refl;
     fields = refl;
@@ -118,16 +138,48 @@ module _ (n mutators k : ℕ) (x : Held) (f : Fits n mutators k x) (unended : is
       run = subst (λ (m : ℕ). RunLiesInSpaces m (run_held x)) (sym f.pages) (is_run n x.run f.run);
       fields = holds making header is;
       epoch = f.epoch;
-      snap = omega arith;
-      room = λ none. refl;
+      snap = f.numbers.snap_fits;
+      room = λ none. (f.numbers.none none).0;
       stage = stage_by x header (holds making header is) (nat_le ((run_held x).at + place.size_of header) (run_held x).end) refl;
     };
   })
+
+  places_by : (making : IsMaking x.account x.registers x.task) (header : Option Header) → header_for x ≡ header → Fits n mutators k (at_stage x (places x header))
+  places_by making (Some header) is =
+      guards_place_fits n mutators k x (place.begun x.layout (run_held x) header x.epoch (fields_for x) x.snap) (allocates_fit making header is)
   places_by making None is = absurd (makes_header n mutators k x f making is)
 
   pub places_fit : IsMaking x.account x.registers x.task → Fits n mutators k (at_stage x (places x (header_for x)))
   places_fit making = places_by making (header_for x) refl
 
+  -- the rounds of who begins a checkpoint
+  pub snaps_fit : IsSnapping x.account x.registers x.task → may_snap x ≡ true → Fits n mutators k (at_stage x (serves_snap x))
+  snaps_fit task may = refit n mutators k x f (serves_snap x) unended mutator (task, may) (
+    record {
+      layout = refl;
+      worker = refl;
+      caller = tt;
+      epoch = refl;
+      going = tt;
+      sound = record { pages = page_count n mutators k x f; caller = tt; epoch = f.epoch; worker = let a = f.few in let b = f.number in omega (arith, a, b); stage = tt };
+    },
+    tt,
+  )
+
+  -- if there is no number for one more, it looks at the gate with its task
+  snaps_by : (b : Bool) → may_snap x ≡ b → IsSnapping x.account x.registers x.task → Fits n mutators k (at_stage x (cond b (serves_snap x) Looks))
+  snaps_by true may task = snaps_fit task may
+  snaps_by false may task = refit n mutators k x f Looks unended mutator (subst (MayBegin x.account x.registers) (sym task.task_is) task.call) tt
+
   pub goes_on_fits : (after : After) → FitsTaskAfter x after → Fits n mutators k (at_stage x (goes_on x after))
   goes_on_fits afters.Looks task = refit n mutators k x f Looks unended mutator task tt
   goes_on_fits afters.Places making = places_fit making
+  goes_on_fits afters.Snaps task = snaps_by (may_snap x) refl task
+
+  recalls_by : (after : After) (b : Bool) → x.layout.checkpoints ≡ b → FitsTaskAfter x after → Fits n mutators k (at_stage x (cond b (Recalls (recall.begun x.layout) after) (goes_on x after)))
+  recalls_by after true room task = refit n mutators k x f (Recalls (recall.begun x.layout) after) unended mutator task
+      (record { room = room; layout = refl; going = tt; sound = record { pages = page_count n mutators k x f; stage = tt } })
+  recalls_by after false room task = goes_on_fits after task
+
+  pub runs_on_fits : (after : After) → FitsTaskAfter x after → Fits n mutators k (at_stage x (runs_on x after))
+  runs_on_fits after task = recalls_by after x.layout.checkpoints refl task

@@ -1,25 +1,31 @@
 -- What a worker keeps of itself, from one stage to the next.
-use Rattle.std.proofs.Common.{◌≡◌, ℕ, ◌<◌, ◌≤◌, ◌^◌, true, List, [], length, replicate, Option, None, is_some, nat_lt, refl, sym, subst, arith}
+use Rattle.std.proofs.Common.{◌≡◌, ℕ, ◌+◌, ◌<◌, ◌≤◌, ◌^◌, Bool, true, false, List, [], length, replicate, Option, None, is_some, nat_lt, refl, sym, subst, arith}
+use Rattle.std.specs.Prelude.{◌&&◌}
+use Rattle.std.proofs.lemmas.Bool.{ltb-true}
 use Rattle.plain_state.specs.declared.sizes.TheConstants.{REGISTERS, MOST_PRINTED}
 use Rattle.space_map.specs.declared.spaces.TheConstants.{LAST_WORKER}
-use Rattle.space_map.specs.Spaces.{IsPageCount}
+use Rattle.space_map.specs.Spaces.{Layout, IsPageCount}
 use Rattle.alloc_end.specs.declared.run.Run.{Run}
 use Rattle.gate_core.specs.declared.passage.Passage.{Passage}
+use Rattle.gate_core.specs.Snap as snap
 use Rattle.gc_worker.specs.declared.stage.after.After.{After}
 use Rattle.gc_worker.specs.declared.stage.Stage.{Stage}
-use Rattle.gc_worker.specs.Workers.Fits.{IsWorkerOf, AreValues, Fits, FitsRun, FitsStage, FitsEnd, FitsTask, FitsTaskBefore, IsOnSide, IsOwnPassage, IsEndBefore}
-use Rattle.gc_worker.specs.Workers.Held.{Held, at_stage}
+use Rattle.gc_worker.specs.declared.stage.Stage.TheVariants.{BeginsCheckpoint}
+use Rattle.gc_worker.specs.Workers.Fits.{IsWorkerOf, AreValues, Fits, FitsRun, FitsStage, FitsEnd, FitsTask, FitsTaskBefore, IsOnSide, IsOwnPassage, IsEndBefore, IsSnapping}
+use Rattle.gc_worker.specs.Workers.Held.{Held, at_stage, may_snap}
 use Rattle.gc_worker.specs.Steps.Turned.{passes, in_epoch}
 
 -- The parts of a worker are spelled here alone: of a new one, and of one of which some are others now.
-pub new_worker : (n mutators k : ℕ) → IsPageCount n → k ≤ LAST_WORKER → AreValues (replicate REGISTERS 0) → IsWorkerOf n mutators k k n mutators 0 (replicate REGISTERS 0) [] None
-new_worker n mutators k size few values = record {
+pub new_worker : (layout : Layout) (mutators k : ℕ) → IsPageCount layout.pages → k ≤ LAST_WORKER → AreValues (replicate REGISTERS 0)
+    → IsWorkerOf layout.pages mutators k k layout mutators 0 0 0 (replicate REGISTERS 0) [] None
+new_worker layout mutators k size few values = record {
   number = refl;
   few = few;
   pages = refl;
   counted = size;
   beside = refl;
   epoch = omega arith;
+  numbers = record { snap_fits = omega arith; running_fits = omega arith; none = λ _. (refl, refl) };
   eight = refl;
   registers = values;
   few_printed = omega arith;
@@ -27,9 +33,10 @@ new_worker n mutators k size few values = record {
 }
 
 -- with another epoch, registers, printed numbers or run
-pub with_parts : {n mutators k own size others now : ℕ} {words printed : List ℕ} {own_run : Option Run} → IsWorkerOf n mutators k own size others now words printed own_run
+pub with_parts : {n mutators k own others now snap running : ℕ} {layout : Layout} {words printed : List ℕ} {own_run : Option Run}
+    → IsWorkerOf n mutators k own layout others now snap running words printed own_run
     → {epoch : ℕ} {registers numbers : List ℕ} {run : Option Run} → epoch < 2 ^ 32 → length registers ≡ REGISTERS → AreValues registers → length numbers ≤ MOST_PRINTED → FitsRun n run
-    → IsWorkerOf n mutators k own size others epoch registers numbers run
+    → IsWorkerOf n mutators k own layout others epoch snap running registers numbers run
 with_parts w short eight values few run = record {
   number = w.number;
   few = w.few;
@@ -37,11 +44,22 @@ with_parts w short eight values few run = record {
   counted = w.counted;
   beside = w.beside;
   epoch = short;
+  numbers = w.numbers;
   eight = eight;
   registers = values;
   few_printed = few;
   run = run;
 }
+
+-- there is a number for one more checkpoint
+pub next_number : (room : Bool) (last : ℕ) → room && nat_lt (last + 1) (2 ^ 32) ≡ true → last + 1 < 2 ^ 32
+next_number true last is = ltb-true (last + 1) (2 ^ 32) is
+next_number false last is = absurd (cc)
+
+-- and room for it
+pub has_room : (room : Bool) (last : ℕ) → room && nat_lt (last + 1) (2 ^ 32) ≡ true → room ≡ true
+has_room true last is = refl
+has_room false last is = absurd (cc)
 
 module _ (n mutators k : ℕ) (x : Held) (f : Fits n mutators k x) where
   -- a worker at another stage
@@ -71,7 +89,14 @@ module _ (n mutators k : ℕ) (x : Held) (f : Fits n mutators k x) where
 
   -- before a passage
   pub before_passage : (passage : Passage) (after : After) → IsEndBefore passage (is_some x.account.end) → nat_lt x.number x.mutators ≡ true
-      → FitsTaskBefore x passage after → IsOwnPassage x.epoch passage → Fits n mutators k (at_stage x (passes x passage after))
+      → FitsTaskBefore x passage after → IsOwnPassage x after passage → Fits n mutators k (at_stage x (passes x passage after))
   before_passage passage after end side task own =
       refit (passes x passage after) end side task
       (record { layout = refl; passage = own; going = tt; sound = record { pages = page_count; stage = tt } })
+
+  -- before a checkpoint is begun
+  pub before_snap : is_some x.account.end ≡ false → nat_lt x.number x.mutators ≡ true → IsSnapping x.account x.registers x.task → may_snap x ≡ true
+      → Fits n mutators k (at_stage x (BeginsCheckpoint (snap.begun x.layout x.snap)))
+  before_snap end side task may =
+      refit (BeginsCheckpoint (snap.begun x.layout x.snap)) end side task
+      (record { layout = refl; number = refl; may = may; going = tt; sound = record { pages = page_count; number = next_number x.layout.checkpoints x.snap may; stage = tt } })

@@ -15,7 +15,7 @@ use Rattle.gc_worker.specs.declared.calls.entry.Entry.TheVariants.{Made, Exchang
 use Rattle.gc_worker.specs.declared.task.Task.{Task}
 use Rattle.gc_worker.specs.declared.task.Task.TheVariants.{Calls, Stops}
 use Rattle.gc_worker.specs.Workers.Begun.{IsPastLook}
-use Rattle.gc_worker.specs.Laws.Cycles.{Grows, IsFirst, IsInCall, low_of, set_aside, size_of}
+use Rattle.gc_worker.specs.Laws.Cycles.{Grows, IsFirst, IsInCall, low_of, set_aside, size_of, snaps_at}
 use Rattle.gc_worker.specs.Workers.Held.{Held}
 use Rattle.gc_worker.specs.History.Legal.{after_call}
 use Rattle.gc_worker.specs.Laws.Step.{Heap, epoch_of, held_at, nobody}
@@ -161,7 +161,8 @@ aside_in h = sum_below (length h.workers) (λ k. set_aside (held_at h k))
 -- What was claimed since the last flip is all that LOW has fallen, and no more than the pages of records made since then and those set
 -- aside. Where all mutators have a flip since their last call none was made. The gate's epoch is the number of flips; no instruction began in a
 -- later one, and a mutator whose instruction began in an earlier one has a flip since its last call. Who asks for a flip has seen none
--- since it began its instruction, or the space may still grow; who has asked for one is still in its call, and has seen one.
+-- since it began its instruction, or the space may still grow; who has asked for one is still in its call, which begins no
+-- checkpoint, and has seen one.
 pub record FitsTally (h : Heap) (z : Sizes) (t : Tally) : Type 0 where
   pub limit : z.limit ≡ h.pages
   pub size : size_of h.pages h.words ≡ size_now z t
@@ -174,7 +175,7 @@ pub record FitsTally (h : Heap) (z : Sizes) (t : Tally) : Type 0 where
   pub begun : (m : ℕ) → m < h.mutators → (held_at h m).account.end ≡ None → IsPastLook (held_at h m).stage → (held_at h m).begun ≤ t.flips
   pub since : (m : ℕ) → m < h.mutators → (held_at h m).account.end ≡ None → IsPastLook (held_at h m).stage → (held_at h m).begun < t.flips → t.since m ≡ true
   pub first : (m : ℕ) → m < length h.workers → IsFirst h.pages h.words (held_at h m)
-  pub call : (m : ℕ) → t.asked m ≡ true → IsInCall (held_at h m).stage × ((held_at h m).begun < t.flips)
+  pub call : (m : ℕ) → t.asked m ≡ true → IsInCall (held_at h m).stage × ((held_at h m).begun < t.flips) × (snaps_at (held_at h m).stage ≡ false)
 
 -- what a history tells of its cycles, from what is counted before it, when so many pages were in use
 pub record IsTallied (least : ℕ) (h : Heap) (first : Tally) (log : List Entry) : Type 0 where

@@ -13,24 +13,28 @@ use Rattle.space_map.specs.Table.{HeapWord, table_length}
 use Rattle.atom_store.specs.declared.reply.Reply.{Reply}
 use Rattle.fault_duty.specs.declared.caller.Caller.TheVariants as callers
 use Rattle.fault_duty.specs.Duty as duty
-use Rattle.gate_core.specs.declared.passage.Passage.TheVariants.{Attach}
+use Rattle.gate_core.specs.declared.passage.Passage.TheVariants.{Attach, Clear}
 use Rattle.heap_state.specs.Memory.Entries.{written}
 use Rattle.heap_state.specs.Memory.Table.{word_in}
+use Rattle.heap_state.specs.Saving.Written.{written_whole}
 use Rattle.heap_state.specs.Theorems.Standing.{IsSound}
 use Rattle.heap_state.specs.Meaning.Values.{Accounts}
 use Rattle.heap_state.specs.Worker.{is_running}
 use Rattle.heap_laws.specs.Opening.{opening_entries, opening_plain}
 use Rattle.gc_worker.specs.declared.stage.after.After.TheVariants as afters
 use Rattle.gc_worker.specs.declared.stage.back.Back.TheVariants.{ToScanner}
-use Rattle.gc_worker.specs.declared.stage.Stage.TheVariants.{Looks, Serves, Gone}
+use Rattle.gc_worker.specs.declared.stage.Stage.{Stage}
+use Rattle.gc_worker.specs.declared.stage.Stage.TheVariants.{Looks, Passes, Serves, Gone}
 use Rattle.gc_worker.specs.declared.task.Task.{Task}
 use Rattle.gc_worker.specs.Plain.Answer.{after_told}
 use Rattle.gc_worker.specs.Workers.Fits.{Fits, MayBegin}
 use Rattle.gc_worker.specs.Workers.Held.{Held}
 use Rattle.gc_worker.specs.Workers.Knows.{knows, post_in}
+use Rattle.gc_worker.specs.Workers.Saves.{saver_of}
 use Rattle.gc_worker.specs.Laws.Step.{Heap, read, held_at, WorkersStand, epoch_of}
 use Rattle.gc_worker.specs.declared.calls.did.Did.{Did}
 use Rattle.gc_worker.specs.declared.calls.did.Did.TheVariants.{Done, Trap}
+use Rattle.gc_worker.specs.Steps.Stepped.{IsBeginningCheckpoint}
 use Rattle.gc_worker.specs.Steps.Turned.{Told, Silent, Answers, Marks, passes, turned, told}
 use Rattle.gc_worker.specs.Steps.Wanted.{wanted}
 
@@ -44,6 +48,8 @@ fresh layout mutators k = record {
   mutators = mutators;
   epoch = 0;
   begun = 0;
+  snap = 0;
+  running = 0;
   account = record { counter = 0; printed = []; executed = 0; serial = 0; end = None };
   registers = replicate REGISTERS 0;
   run = None;
@@ -65,11 +71,16 @@ unfoldable pub fresh_workers : Layout → (mutators from count : ℕ) → List H
 fresh_workers layout mutators from zero = []
 fresh_workers layout mutators from (suc count) = fresh_worker layout mutators from ∷ fresh_workers layout mutators (from + 1) count
 
--- at first so many pages of each space are in use
+-- at first so many pages of each space are in use, and nothing is said of checkpoints
+abbrev pub opening_words : Layout → (least : ℕ) → List ℕ
+opening_words layout least =
+    if layout.checkpoints then written_whole layout.pages (opening_entries layout.pages least) else written layout.pages (opening_entries layout.pages least)
+
 abbrev pub opening_heap : Layout → (least mutators scanners : ℕ) → Heap
 opening_heap layout least mutators scanners = record {
   pages = layout.pages;
-  words = written layout.pages (opening_entries layout.pages least);
+  checkpoints = layout.checkpoints;
+  words = opening_words layout least;
   mutators = mutators;
   workers = fresh_workers layout mutators 0 (mutators + scanners);
 }
@@ -84,6 +95,8 @@ HeapsOpen = (layout : Layout) (least mutators scanners : ℕ) → IsPageCount la
 -- to the proofs of the heap it is the same, and it is still sound
 pub record Readies (n mutators k : ℕ) (was now : Held) : Type 0 where
   pub same : knows now ≡ knows was
+  pub saver : saver_of now ≡ saver_of was
+  pub layout : now.layout ≡ was.layout
   pub fits : Fits n mutators k was → Fits n mutators k now
 
 abbrev pub with_worker : Heap → (k : ℕ) → Held → Heap
@@ -118,9 +131,15 @@ IsNoAnswer Silent = ⊤
 IsNoAnswer (Answers task outcome) = ⊥
 IsNoAnswer (Marks asked) = ⊤
 
--- after its effect a mutator looks at the gate again; with an end its registers stay
+-- it looks at the gate; or it has begun a checkpoint, and clears the request next
+abbrev pub RestsAt : (was now : Stage) → Type 0
+RestsAt was Looks = ⊤
+RestsAt was (Passes g after) = IsBeginningCheckpoint was × (g.passage ≡ Clear) × (after ≡ afters.Looks)
+RestsAt was now = ⊥
+
+-- after its effect a mutator rests there; with an end its registers stay
 abbrev pub RestsAfter : (was now : Held) → Did → Type 0
-RestsAfter was now Done = now.stage ≡ Looks
+RestsAfter was now Done = RestsAt was.stage now.stage
 RestsAfter was now (Trap end) = (now.account ≡ record was.account { end = Some end }) × (now.registers ≡ was.registers)
 
 -- the task is answered: it was the one begun, and now there is none

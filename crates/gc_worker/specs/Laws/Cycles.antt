@@ -1,5 +1,5 @@
 -- The words that allocations claim within an epoch, for which records they do, and which instruction asks for a flip.
-use Rattle.std.specs.Prelude.{◌≡◌, ℕ, ◌+◌, ◌*◌, ◌<◌, ◌≤◌, ◌⊎◌, ⊤, true, min, List, length, Option, Some, None, slice_get}
+use Rattle.std.specs.Prelude.{◌≡◌, ℕ, ◌+◌, ◌*◌, ◌<◌, ◌≤◌, ◌⊎◌, ⊤, Bool, true, false, min, List, length, Option, Some, None, slice_get}
 use Rattle.std.specs.Option.{option_map}
 use Rattle.plain_state.specs.State.{Mutator, Plain}
 use Rattle.mutator_asm.specs.declared.instr.Instr.{Instr}
@@ -20,13 +20,19 @@ use Rattle.gate_core.specs.declared.passage.Passage.{Passage}
 use Rattle.gate_core.specs.declared.passage.Passage.TheVariants.{Look, Attach, Park, Request, Resume, Forwarded, Leave, Clear}
 use Rattle.heap_state.specs.Memory.Table.{word_in}
 use Rattle.gc_worker.specs.declared.stage.after.After.{After}
+use Rattle.gc_worker.specs.declared.stage.after.After.TheVariants as afters
+use Rattle.gc_worker.specs.declared.stage.back.Back.{Back}
+use Rattle.gc_worker.specs.declared.stage.back.Back.TheVariants.{ToAccess, ToPlace, ToSnap, ToScanner}
+use Rattle.gc_worker.specs.declared.stage.goal.Goal.{Goal}
+use Rattle.gc_worker.specs.declared.stage.goal.Goal.TheVariants.{ForFlip, ForSnap, ForScanner}
+use Rattle.gc_worker.specs.declared.stage.write.Write.TheVariants.{OfPlace}
 use Rattle.gc_worker.specs.declared.stage.Stage.{Stage}
-use Rattle.gc_worker.specs.declared.stage.Stage.TheVariants.{Looks, Passes, Flips, Forwards, Accesses, Places, Serves, Scans, Evacuates, Opens, Gone}
+use Rattle.gc_worker.specs.declared.stage.Stage.TheVariants.{Looks, Passes, Flips, Forwards, Accesses, Places, Serves, Scans, Evacuates, Opens, Recalls, Guards, Checkpoints, BeginsCheckpoint, Gone}
 use Rattle.gc_worker.specs.declared.task.Task.TheVariants.{Calls}
-use Rattle.gc_worker.specs.Workers.Begun.{IsPastAfter, IsPastBack}
+use Rattle.gc_worker.specs.Workers.Begun.{IsPastAfter, IsPastBack, IsPastGoal}
 use Rattle.gc_worker.specs.Laws.Between.{IsNoAnswer}
 use Rattle.gc_worker.specs.Workers.Fits.{Fits}
-use Rattle.gc_worker.specs.Workers.Held.{Held, has_seen_flip, pages_needed}
+use Rattle.gc_worker.specs.Workers.Held.{Held, has_seen_flip, may_snap, pages_needed}
 use Rattle.gc_worker.specs.Laws.Step.{Heap, WorkersStand, held_at, epoch_of, moved}
 use Rattle.gc_worker.specs.declared.calls.did.Did.TheVariants.{Done, Trap}
 use Rattle.gc_worker.specs.Steps.Turned.{Told, Silent, Answers, Marks, turned, told}
@@ -84,6 +90,7 @@ set_aside_by p stage = 0
 
 abbrev pub set_aside_at : Stage → ℕ
 set_aside_at (Places p) = set_aside_by p p.stage
+set_aside_at (Guards g (OfPlace p)) = set_aside_by p p.stage
 set_aside_at stage = 0
 
 -- the words of the pages that a record needs for which room was found, and which doesn't stand yet
@@ -161,13 +168,14 @@ SizesHold = (h : Heap) (p o : Plain) (k : ℕ) (x : Held) (q : Step) → Workers
 abbrev pub MayAsk : (n size : ℕ) → Held → Type 0
 MayAsk n size x = (x.epoch ≤ x.begun) ⊎ (size < n)
 
-abbrev pub IsFirstBy : (n size : ℕ) → Held → Passage → Type 0
-IsFirstBy n size x Request = MayAsk n size x
-IsFirstBy n size x passage = ⊤
+abbrev pub IsFirstBy : (n size : ℕ) → Held → Passage → After → Type 0
+IsFirstBy n size x Request afters.Places = MayAsk n size x
+IsFirstBy n size x passage after = ⊤
 
 abbrev pub IsFirstAt : (n size : ℕ) → Held → Stage → Type 0
-IsFirstAt n size x (Passes g after) = IsFirstBy n size x g.passage
+IsFirstAt n size x (Passes g after) = IsFirstBy n size x g.passage after
 IsFirstAt n size x (Flips f) = MayAsk n size x
+IsFirstAt n size x (Checkpoints r ForFlip) = MayAsk n size x
 IsFirstAt n size x stage = ⊤
 
 -- a mutator that asks for a flip of a space with all its pages in use has seen none since it began its instruction
@@ -208,8 +216,52 @@ IsInCall (Serves d back) = IsPastBack back
 IsInCall (Scans s back) = IsPastBack back
 IsInCall (Evacuates v s back) = IsPastBack back
 IsInCall (Opens o s back) = IsPastBack back
+IsInCall (Recalls r after) = IsPastAfter after
+IsInCall (Guards g write) = ⊤
+IsInCall (Checkpoints r goal) = IsPastGoal goal
+IsInCall (BeginsCheckpoint s) = ⊤
 IsInCall Gone = ⊥
 
--- it is in its call until it answers
+-- ---- which instruction it is
+
+abbrev pub snaps_after : After → Bool
+snaps_after afters.Looks = false
+snaps_after afters.Places = false
+snaps_after afters.Snaps = true
+
+abbrev pub snaps_back : Back → Bool
+snaps_back (ToAccess a) = false
+snaps_back ToPlace = false
+snaps_back ToSnap = true
+snaps_back ToScanner = false
+
+abbrev pub snaps_for : Goal → Bool
+snaps_for ForFlip = false
+snaps_for ForSnap = true
+snaps_for ForScanner = false
+
+-- at this stage it is on its way to begin a checkpoint
+abbrev pub snaps_at : Stage → Bool
+snaps_at (Passes g after) = snaps_after after
+snaps_at (Forwards w) = snaps_after w.after
+snaps_at (Serves d back) = snaps_back back
+snaps_at (Scans s back) = snaps_back back
+snaps_at (Evacuates v s back) = snaps_back back
+snaps_at (Opens o s back) = snaps_back back
+snaps_at (Recalls r after) = snaps_after after
+snaps_at (Checkpoints r goal) = snaps_for goal
+snaps_at (BeginsCheckpoint s) = true
+snaps_at stage = false
+
+-- it is in its call, and if that begins no checkpoint, none that does
+abbrev pub StaysInCall : (was now : Stage) → Type 0
+StaysInCall was now = IsInCall now × (snaps_at was ≡ false → snaps_at now ≡ false)
+
+-- one that was to begin a checkpoint looks at the gate again, since there is no number for one more
+abbrev pub BeginsAnew : (was : Stage) → (now : Held) → Type 0
+BeginsAnew was now = (snaps_at was ≡ true) × (now.stage ≡ Looks) × (may_snap now ≡ false)
+
+-- It is in its call until it answers. Only if there is no number left for a checkpoint does it begin its instruction anew.
 abbrev pub CallsGoOn : Type 0
-CallsGoOn = (n mutators k : ℕ) (x : Held) (reply : Reply) → Fits n mutators k x → Fits n mutators k (turned x reply) → IsInCall x.stage → IsNoAnswer (told x reply) → IsInCall (turned x reply).stage
+CallsGoOn = (n mutators k : ℕ) (x : Held) (reply : Reply) → Fits n mutators k x → Fits n mutators k (turned x reply) → IsInCall x.stage → IsNoAnswer (told x reply)
+    → StaysInCall x.stage (turned x reply).stage ⊎ BeginsAnew x.stage (turned x reply)

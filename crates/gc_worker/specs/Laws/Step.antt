@@ -1,5 +1,5 @@
 -- The law of a step, over the words, what all workers hold, and the plain state: in these alone a caller that steps one worker speaks.
-use Rattle.std.specs.Prelude.{◌≡◌, ℕ, ◌+◌, ◌*◌, ◌<◌, ◌≤◌, ⊤, List, [], length, map, Option, Some, None, slice_index_or, slice_set}
+use Rattle.std.specs.Prelude.{◌≡◌, ℕ, ◌+◌, ◌*◌, ◌<◌, ◌≤◌, ⊤, Bool, true, false, List, [], length, map, Option, Some, None, slice_index_or, slice_set}
 use Rattle.plain_state.specs.State.{Plain}
 use Rattle.atom_store.specs.declared.step.Step.{Step}
 use Rattle.atom_store.specs.Step.{place_in, words_after, reply_of}
@@ -9,25 +9,40 @@ use Rattle.atom_store.specs.declared.reply.Reply.TheVariants.{Won}
 use Rattle.gate_core.specs.declared.flip_stage.FlipStage.TheVariants.{Exchanges}
 use Rattle.gate_core.specs.declared.reset.Reset.{Reset}
 use Rattle.gate_core.specs.Flip.{Flipping}
-use Rattle.heap_state.specs.Configuration.{Configuration, Stands, era, memory, team}
+use Rattle.heap_state.specs.Configuration.{Configuration, Stands, era, memory, table, team}
 use Rattle.heap_state.specs.Cycles.Cycle.{Cycle}
 use Rattle.heap_state.specs.Memory.Table.{word_in, page_word_in}
-use Rattle.space_map.specs.Spaces.{IsInSpace, to_space, without_checkpoints}
+use Rattle.space_map.specs.Spaces.{Layout, IsInSpace, to_space, without_checkpoints}
+use Rattle.space_map.specs.declared.gate_word.GateWord.{GateWord}
+use Rattle.gate_core.specs.declared.gate_stage.GateStage.TheVariants as gate_stage
+use Rattle.gate_core.specs.declared.passage.Passage.TheVariants.{Clear}
+use Rattle.gate_core.specs.declared.snap.snap_stage.SnapStage.TheVariants.{ExchangesSnap}
+use Rattle.gate_core.specs.Gate.{Passing}
+use Rattle.gate_core.specs.Snap.{Snapping}
+use Rattle.heap_state.specs.Saving.Frozen.{Frozen}
+use Rattle.heap_state.specs.Saving.Kept.{ShowsSnapped}
+use Rattle.heap_state.specs.Saving.Parts.{SavingStands}
+use Rattle.heap_state.specs.Saving.Said.{SaysCheckpoint}
+use Rattle.heap_state.specs.Saving.Words.{Saves, AreFormedSaves, saves_of}
+use Rattle.gc_worker.specs.declared.stage.after.After.{After}
 use Rattle.gc_worker.specs.declared.stage.forwarding_register.ForwardingRegister.{ForwardingRegister}
-use Rattle.gc_worker.specs.declared.stage.Stage.TheVariants.{Flips, Forwards, Gone}
+use Rattle.gc_worker.specs.declared.stage.Stage.TheVariants.{Passes, Flips, Forwards, BeginsCheckpoint, Gone}
 use Rattle.gc_worker.specs.Workers.Fits.{Fits, Takes}
 use Rattle.gc_worker.specs.Plain.Answer.{IsAnswered, after_told}
 use Rattle.gc_worker.specs.Plain.Full.{FullWhereTold}
 use Rattle.gc_worker.specs.Workers.Held.{Held, pages_needed}
 use Rattle.gc_worker.specs.Workers.Knows.{knows}
+use Rattle.gc_worker.specs.Workers.Saves.{saver_of}
 use Rattle.gc_worker.specs.Steps.Turned.{Told, Silent, Answers, Marks, PageWon, epoch_said, turned, told, won}
 use Rattle.gc_worker.specs.Steps.Wanted.{wanted}
 
 -- ---- a heap with its workers
 
--- the pages of a space, the words of the table, the number of mutators, and what each worker holds: the mutators first
+-- the pages of a space, whether checkpoints can be begun, the words of the table, the number of mutators, and what each worker holds:
+-- the mutators first
 pub record Heap : Type 0 where
   pub pages : ℕ
+  pub checkpoints : Bool
   pub words : List ℕ
   pub mutators : ℕ
   pub workers : List Held
@@ -43,6 +58,8 @@ nobody = record {
   mutators = 0;
   epoch = 0;
   begun = 0;
+  snap = 0;
+  running = 0;
   account = record { counter = 0; printed = []; executed = 0; serial = 0; end = None };
   registers = [];
   run = None;
@@ -53,11 +70,34 @@ nobody = record {
 abbrev pub held_at : Heap → ℕ → Held
 held_at h k = slice_index_or h.workers k nobody
 
--- The heap stands for the plain state p, and keeps what a cycle keeps that began at o. Each worker is sound, and at its own number.
+abbrev pub layout_of : Heap → Layout
+layout_of h = record { pages = h.pages; checkpoints = h.checkpoints }
+
+-- what the words say of checkpoints
+abbrev pub saves_in : Heap → Saves
+saves_in h = saves_of h.pages h.words
+
+-- The words of checkpoints can be read, and what is kept of the last one stands for what the plain heap has kept of it.
+pub record CheckpointsStand (h : Heap) (p : Plain) : Type 0 where
+  pub formed : AreFormedSaves h.pages h.words
+  pub frozen : Frozen
+  pub stands : SavingStands (table (read h)) (saves_in h) frozen (length h.workers) (λ k. saver_of (held_at h k))
+  pub shows : ShowsSnapped h.pages (saves_in h) frozen p.heap
+
+-- if they can be begun
+abbrev pub StandIf : (checkpoints : Bool) → Heap → Plain → Type 0
+StandIf true h p = CheckpointsStand h p
+StandIf false h p = ⊤
+
+-- The heap stands for the plain state p, and keeps what a cycle keeps that began at o. Each worker is sound, and at its own number; it
+-- has the layout of the heap, whose table is whole. What is kept of checkpoints stands too, if they can be begun.
 pub record WorkersStand (h : Heap) (p o : Plain) : Type 0 where
   pub stands : Stands (read h) p
   pub cycle : Cycle (era (read h)) (memory (read h)) (team (read h)) stands.ghost o
   pub fit : (k : ℕ) → k < length h.workers → Fits h.pages h.mutators k (held_at h k)
+  pub laid_out : (k : ℕ) → k < length h.workers → (held_at h k).layout.checkpoints ≡ h.checkpoints
+  pub whole : whole_length (layout_of h) ≤ length h.words
+  pub saving : StandIf h.checkpoints h p
 
 -- ---- a step
 
@@ -122,6 +162,20 @@ StepsKeep = (h : Heap) (p o : Plain) (k : ℕ) (x : Held) (q : Step) → Workers
 abbrev pub FlipsAreWon : Type 0
 FlipsAreWon = (h : Heap) (p o : Plain) (k : ℕ) (x : Held) (f : Flipping) (r : Reset) (q : Step) → WorkersStand h p o → k < length h.workers → held_at h k ≡ x
     → x.stage ≡ Flips (record f { stage = Exchanges r }) → wanted x ≡ Some q → reply_of q h.words ≡ Won
+
+-- nor that by which a checkpoint is begun
+abbrev pub SnapsAreWon : Type 0
+SnapsAreWon = (h : Heap) (p o : Plain) (k : ℕ) (x : Held) (s : Snapping) (gate : GateWord) (q : Step) → WorkersStand h p o → k < length h.workers → held_at h k ≡ x
+    → x.stage ≡ BeginsCheckpoint (record s { stage = ExchangesSnap gate }) → wanted x ≡ Some q → reply_of q h.words ≡ Won
+
+-- nor that by which its request is cleared
+abbrev pub ClearsAreWon : Type 0
+ClearsAreWon = (h : Heap) (p o : Plain) (k : ℕ) (x : Held) (g : Passing) (after : After) (gate : GateWord) (q : Step) → WorkersStand h p o → k < length h.workers → held_at h k ≡ x
+    → x.stage ≡ Passes (record g { passage = Clear; stage = gate_stage.Exchanges gate }) after → wanted x ≡ Some q → reply_of q h.words ≡ Won
+
+-- The words say what the plain heap has kept at the last `snap`, whatever the workers are about to do.
+abbrev pub CheckpointsAreKept : Type 0
+CheckpointsAreKept = (h : Heap) (p o : Plain) → WorkersStand h p o → h.checkpoints ≡ true → SaysCheckpoint h.pages h.words p.heap.snaps p.heap.snapped
 
 -- The place of a step is in the table by what the worker holds alone: a caller asks for it before it knows any word.
 abbrev pub PlacesFit : Type 0

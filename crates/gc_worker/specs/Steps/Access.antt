@@ -107,6 +107,14 @@ page_step l page = step_at (place_of l.pages) (Load (Page page))
 abbrev pub wanted : Access → Step
 wanted a = wanted_at a.spaces a.stage
 
+-- the page on which it writes a word next
+abbrev pub writes_on : Layout → AccessStage → Option ℕ
+writes_on l (StoresField f new) = Some (page_of (field_at f))
+writes_on l (ExchangesField f e old) = Some (page_of (field_at f))
+writes_on l (StoresBoard word new) = Some (board_page l.pages)
+writes_on l (SwapsBoard s old) = Some (board_page l.pages)
+writes_on l stage = None
+
 -- ---- what a reply makes of it
 
 -- it goes on at a stage, or comes to this

@@ -1,12 +1,14 @@
 -- What a kind of step owes: what the laws of the heap say of it, of what the worker holds, the reply and the words.
-use Rattle.std.specs.Prelude.{◌≡◌, ℕ, ◌*◌, ◌<◌, ◌≤◌, ⊤, length, Option, Some, None}
+use Rattle.std.specs.Prelude.{◌≡◌, ℕ, ◌*◌, ◌<◌, ◌≤◌, ⊤, true, length, Option, Some, None}
 use Rattle.plain_state.specs.State.{Plain}
 use Rattle.atom_store.specs.declared.reply.Reply.{Reply}
 use Rattle.atom_store.specs.declared.step.Step.{Step}
 use Rattle.atom_store.specs.Step.{place_in, words_after, reply_of}
 use Rattle.space_map.specs.PageWord.{age_of}
+use Rattle.space_map.specs.Table.{SnapNumber, whole_length}
 use Rattle.heap_state.specs.Configuration.{Configuration, Stands, table, team}
 use Rattle.heap_state.specs.Memory.Entries.{Entry, GateIs}
+use Rattle.heap_state.specs.Memory.Table.{word_in}
 use Rattle.heap_state.specs.Invariant.Ghost.{Ghost}
 use Rattle.heap_laws.specs.Lifting.{LeavesConfiguration, Flipped, configuration_after}
 use Rattle.heap_laws.specs.Lifting.{words_after_row}
@@ -15,14 +17,17 @@ use Rattle.gc_worker.specs.Workers.Fits.{Fits, Takes}
 use Rattle.gc_worker.specs.Plain.Full.{FullWhereTold}
 use Rattle.gc_worker.specs.Workers.Held.{Held, pages_needed}
 use Rattle.gc_worker.specs.Workers.Knows.{knows}
+use Rattle.gc_worker.specs.Workers.Saves.{saver_of}
 use Rattle.gc_worker.specs.Steps.Wanted.{wanted}
 use Rattle.gc_worker.specs.Steps.Turned.{Told, Silent, Answers, Marks, PageWon, turned, told, won}
 
--- worker k of a configuration that stands holds this
+-- worker k of a configuration that stands holds this; its table is whole, and SNAP is as it has read it while it runs
 pub record Is (c : Configuration) (k : ℕ) (x : Held) : Type 0 where
   pub below : k < length c.workers
   pub as_known : (team c).worker k ≡ knows x
   pub fits : Fits c.pages c.mutators k x
+  pub whole : whole_length x.layout ≤ length c.words
+  pub recalls : (saver_of x).recalled ≡ true → word_in c.pages c.words SnapNumber ≡ (saver_of x).snap
 
 -- What a step leaves that writes this row, or none, by what it is to the plain machine: the same plain state; that after an
 -- instruction; or a flip.

@@ -8,7 +8,7 @@ use Rattle.plain_state.specs.State.{Mutator}
 use Rattle.mutator_asm.specs.declared.instr.Instr.{Instr}
 use Rattle.mutator_asm.specs.declared.instr.Instr.TheVariants.{Halt}
 use Rattle.gc_worker.specs.declared.stage.Stage.{Stage}
-use Rattle.gc_worker.specs.declared.stage.Stage.TheVariants.{Looks, Passes, Flips, Forwards, Accesses, Places, Serves, Scans, Evacuates, Opens, Gone}
+use Rattle.gc_worker.specs.declared.stage.Stage.TheVariants.{Looks, Passes, Flips, Forwards, Accesses, Places, Serves, Scans, Evacuates, Opens, Recalls, Guards, Checkpoints, BeginsCheckpoint, Gone}
 use Rattle.gc_worker.specs.declared.calls.did.Did.TheVariants.{Done, Trap}
 use Rattle.gc_worker.specs.declared.task.due.Due.{Due}
 use Rattle.gc_worker.specs.declared.task.due.Due.TheVariants as due
@@ -123,6 +123,22 @@ abbrev pub IsOpening : Stage → Type 0
 IsOpening (Opens o s back) = ⊤
 IsOpening _ = ⊥
 
+abbrev pub IsRecalling : Stage → Type 0
+IsRecalling (Recalls r after) = ⊤
+IsRecalling _ = ⊥
+
+abbrev pub IsGuarding : Stage → Type 0
+IsGuarding (Guards g write) = ⊤
+IsGuarding _ = ⊥
+
+abbrev pub IsCheckpointing : Stage → Type 0
+IsCheckpointing (Checkpoints r goal) = ⊤
+IsCheckpointing _ = ⊥
+
+abbrev pub IsBeginningCheckpoint : Stage → Type 0
+IsBeginningCheckpoint (BeginsCheckpoint s) = ⊤
+IsBeginningCheckpoint _ = ⊥
+
 -- a register and where it leads
 abbrev pub pointed : ℕ × ℕ → turned.Pointed
 pointed p = record { register = p.0; addr = p.1 }
@@ -137,7 +153,7 @@ abbrev pub served_in : Held → (epoch : ℕ) → Back → RoundEnd → Held
 served_in x epoch back (ScanPage page) = turned.scans (record x { epoch = epoch }) page false back
 served_in x epoch back (ScanInPlace page) = turned.scans (record x { epoch = epoch }) page true back
 served_in x epoch back Marked = turned.back_from (record x { epoch = epoch }) back
-served_in x epoch back Traced = turned.back_from (record x { epoch = epoch }) back
+served_in x epoch back Traced = turned.traced_by (record x { epoch = epoch }) back
 served_in x epoch back (NothingNow word) = turned.back_from (record x { epoch = epoch }) back
 served_in x epoch back (AllLeft word) = at_stage x Gone
 

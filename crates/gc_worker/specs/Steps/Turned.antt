@@ -30,6 +30,16 @@ use Rattle.gate_core.specs.declared.passed.Passed.{Passed}
 use Rattle.gate_core.specs.declared.passed.Passed.TheVariants as passed
 use Rattle.gate_core.specs.Gate as gate
 use Rattle.gate_core.specs.Flip as flip
+use Rattle.gate_core.specs.declared.recall.recalled.Recalled.{Recalled}
+use Rattle.gate_core.specs.declared.snap.snapped.Snapped.{Snapped}
+use Rattle.gate_core.specs.declared.snap.snapped.Snapped.TheVariants as snapped
+use Rattle.gate_core.specs.Recall as recall
+use Rattle.gate_core.specs.Snap as snap
+use Rattle.page_saves.specs.declared.may_write.MayWrite.{MayWrite}
+use Rattle.page_saves.specs.declared.save_round_end.SaveRoundEnd.{SaveRoundEnd}
+use Rattle.page_saves.specs.declared.save_round_end.SaveRoundEnd.TheVariants as save_round_end
+use Rattle.page_saves.specs.Guard as guard
+use Rattle.page_saves.specs.SaveRound as save_round
 use Rattle.page_scan.specs.declared.scanned.Scanned.{Scanned}
 use Rattle.page_scan.specs.declared.scanned.Scanned.TheVariants as scanned
 use Rattle.page_scan.specs.Scanning as scan
@@ -44,10 +54,14 @@ use Rattle.fault_duty.specs.declared.duty_stage.DutyStage.TheVariants as duty_st
 use Rattle.gc_worker.specs.declared.stage.after.After.{After}
 use Rattle.gc_worker.specs.declared.stage.after.After.TheVariants as afters
 use Rattle.gc_worker.specs.declared.stage.back.Back.{Back}
-use Rattle.gc_worker.specs.declared.stage.back.Back.TheVariants.{ToAccess, ToPlace, ToScanner}
+use Rattle.gc_worker.specs.declared.stage.back.Back.TheVariants.{ToAccess, ToPlace, ToSnap, ToScanner}
 use Rattle.gc_worker.specs.declared.stage.forwarding_register.ForwardingRegister.{ForwardingRegister}
+use Rattle.gc_worker.specs.declared.stage.goal.Goal.{Goal}
+use Rattle.gc_worker.specs.declared.stage.goal.Goal.TheVariants.{ForFlip, ForSnap, ForScanner}
+use Rattle.gc_worker.specs.declared.stage.write.Write.{Write}
+use Rattle.gc_worker.specs.declared.stage.write.Write.TheVariants.{OfAccess, OfPlace}
 use Rattle.gc_worker.specs.declared.stage.Stage.{Stage}
-use Rattle.gc_worker.specs.declared.stage.Stage.TheVariants.{Looks, Passes, Flips, Forwards, Accesses, Places, Serves, Scans, Evacuates, Opens, Gone}
+use Rattle.gc_worker.specs.declared.stage.Stage.TheVariants.{Looks, Passes, Flips, Forwards, Accesses, Places, Serves, Scans, Evacuates, Opens, Recalls, Guards, Checkpoints, BeginsCheckpoint, Gone}
 use Rattle.gc_worker.specs.declared.task.Task.{Task}
 use Rattle.gc_worker.specs.declared.access.Access.{Access}
 use Rattle.gc_worker.specs.declared.access.access_stage.AccessStage.{AccessStage}
@@ -57,7 +71,7 @@ use Rattle.gc_worker.specs.declared.calls.did.Did.{Did}
 use Rattle.gc_worker.specs.declared.calls.did.Did.TheVariants.{Done, Trap}
 use Rattle.gc_worker.specs.declared.task.Task.TheVariants.{Calls, Stops}
 use Rattle.gc_worker.specs.Steps.Access as access
-use Rattle.gc_worker.specs.Workers.Held.{Held, at_stage, has_seen_flip, making_for, header_for, fields_for, pages_needed, run_held}
+use Rattle.gc_worker.specs.Workers.Held.{Held, at_stage, has_seen_flip, making_for, header_for, fields_for, pages_needed, run_held, may_snap}
 use Rattle.gc_worker.specs.Plain.Seen.{Making, seen, word_for}
 use Rattle.plain_heap.specs.declared.action.Action.{Action}
 use Rattle.plain_heap.specs.declared.action.Action.TheVariants.{Sets, Jumps, Links, Prints, Makes, Snaps}
@@ -70,20 +84,50 @@ use Rattle.alloc_end.specs.declared.run.Run.{Run}
 abbrev pub passes : Held → Passage → After → Stage
 passes x passage after = Passes (gate.begun x.layout passage) after
 
+-- ---- before a word is written on an open page
+
+-- while a checkpoint is in progress it looks first whether the page is saved
+abbrev pub guards : Held → Write → Option ℕ → Stage → Stage
+guards x write (Some page) stage = if x.running == 0 then stage else Guards (guard.begun x.layout page x.running x.number) write
+guards x write None stage = stage
+
+abbrev pub guards_access : Held → Access → Stage
+guards_access x a = guards x (OfAccess a) (access.writes_on a.spaces a.stage) (Accesses a)
+
+abbrev pub guards_place : Held → place.Placing → Stage
+guards_place x p = guards x (OfPlace p) (place.writes_on p p.stage) (Places p)
+
+-- then it writes
+abbrev pub writes : Write → Stage
+writes (OfAccess a) = Accesses a
+writes (OfPlace p) = Places p
+
+-- ---- where it goes on
+
 -- the allocation of the record that the task asks for
 abbrev pub places : Held → Option Header → Stage
-places x (Some header) = Places (place.begun x.layout (run_held x) header x.epoch (fields_for x) 0)
+places x (Some header) = guards_place x (place.begun x.layout (run_held x) header x.epoch (fields_for x) x.snap)
 places x None = Looks
 
--- a mutator that stopped goes on there
+-- the rounds of who begins a checkpoint: first those of the duty, until the epoch is traced
+abbrev pub serves_snap : Held → Stage
+serves_snap x = Serves (duty.begun x.layout callers.Allocates x.epoch x.number) ToSnap
+
+-- a mutator that stopped goes on there; if there is no number for one more checkpoint, the instruction begins anew
 abbrev pub goes_on : Held → After → Stage
 goes_on x afters.Looks = Looks
 goes_on x afters.Places = places x (header_for x)
+goes_on x afters.Snaps = if may_snap x then serves_snap x else Looks
+
+-- one that begins to run reads first which checkpoint is in progress
+abbrev pub runs_on : Held → After → Stage
+runs_on x after = if x.layout.checkpoints then Recalls (recall.begun x.layout) after else goes_on x after
 
 -- after a round a worker goes on there
 abbrev pub goes_back : Held → Back → Stage
 goes_back x (ToAccess access) = Accesses access
 goes_back x ToPlace = places x (header_for x)
+goes_back x ToSnap = serves_snap x
 goes_back x ToScanner = Serves (duty.begun x.layout (callers.Scans x.mutators) 0 x.number) ToScanner
 
 -- a pointer in a register
@@ -125,7 +169,7 @@ abbrev pub in_epoch : Held → ℕ → Held
 in_epoch x epoch = record x { epoch = epoch; run = None }
 
 abbrev pub attached : Held → ℕ → Held
-attached x word = at_stage (in_epoch x (epoch_said x.epoch word)) Looks
+attached x word = let y = in_epoch x (epoch_said x.epoch word) in at_stage y (runs_on y afters.Looks)
 
 -- a stopped mutator meets a gate that lets it not run on: one of a later epoch makes it forward its registers
 abbrev pub stopped : Held → After → ℕ → Held
@@ -136,15 +180,20 @@ abbrev pub forwarded_all : Held → After → ℕ → Held
 forwarded_all x after word =
     at_stage (in_epoch x (epoch_said x.epoch word)) (passes x (Resume (epoch_said x.epoch word)) after)
 
+-- the request is its own: it flips, or begins a checkpoint
+abbrev pub after_request : Held → After → Stage
+after_request x afters.Snaps = BeginsCheckpoint (snap.begun x.layout x.snap)
+after_request x after = Flips (flip.begun x.layout x.epoch (pages_needed x) (has_seen_flip x))
+
 -- what a passage comes to
 abbrev pub passed_by : Held → After → Passage → Passed → Held
 passed_by x after Attach (passed.Went word) = attached x word
 passed_by x after Attach (passed.NotYet word) = at_stage x (passes x Attach after)
 passed_by x after Park (passed.Went word) = at_stage x (passes x (Resume x.epoch) after)
 passed_by x after Park (passed.NotYet word) = at_stage x (goes_on x after)
-passed_by x after Request (passed.Went word) = at_stage x (Flips (flip.begun x.layout x.epoch (pages_needed x) (has_seen_flip x)))
+passed_by x after Request (passed.Went word) = at_stage x (after_request x after)
 passed_by x after Request (passed.NotYet word) = at_stage x (passes x Park after)
-passed_by x after (Resume epoch) (passed.Went word) = at_stage x (goes_on x after)
+passed_by x after (Resume epoch) (passed.Went word) = at_stage x (runs_on x after)
 passed_by x after (Resume epoch) (passed.NotYet word) = stopped x after word
 passed_by x after Forwarded (passed.Went word) = forwarded_all x after word
 passed_by x after Forwarded (passed.NotYet word) = x
@@ -157,6 +206,16 @@ passed_by x after Clear (passed.NotYet word) = x
 abbrev pub turned_gate : Held → gate.Passing → After → Turn Passed → Held
 turned_gate x g after More = at_stage x (Passes g after)
 turned_gate x g after (Finished result) = passed_by x after g.passage result
+
+-- ---- what is read of checkpoints
+
+-- how many were begun, and which one is in progress
+abbrev pub recalled : Held → Recalled → Held
+recalled x r = record x { snap = r.number; running = r.running }
+
+abbrev pub turned_recall : Held → recall.Recalling → After → Turn Recalled → Held
+turned_recall x r after More = at_stage x (Recalls r after)
+turned_recall x r after (Finished result) = let y = recalled x result in at_stage y (goes_on y after)
 
 -- ---- an instruction's effect
 
@@ -201,13 +260,17 @@ abbrev pub accesses : Held → Option AccessStage → Held
 accesses x (Some stage) = at_stage x (Accesses (record { spaces = x.layout; epoch = x.epoch; stage = stage }))
 accesses x None = x
 
+-- a checkpoint begins, if it can: else it is a step without effect on the words
+abbrev pub snaps : Held → Held
+snaps x = if may_snap x then at_stage x (serves_snap x) else went_on x
+
 -- by the instruction's action
 abbrev pub acts : Held → Action → Held
 acts x (Sets d v) = loads x d (word_for v)
 acts x (Jumps target) = jumped x target
 acts x (Links d target) = jumped (with_register_word x d (number_word (next_of x))) target
 acts x (Prints n) = prints x n
-acts x Snaps = went_on x
+acts x Snaps = snaps x
 acts x (Makes kind d n) = at_stage x (places x (header_for x))
 acts x act = accesses x (access.begun act)
 
@@ -241,6 +304,20 @@ abbrev pub turned_flip : Held → flip.Flipping → Turn Flipped → Held
 turned_flip x f More = at_stage x (Flips f)
 turned_flip x f (Finished result) = flipped_by x f result
 
+-- ---- the beginning of a checkpoint
+
+-- it is begun: the mutator goes on, and clears the request, from the gate that it has seen
+abbrev pub begins_checkpoint : Held → GateWord → Held
+begins_checkpoint x seen = at_stage (went_on x) (Passes (gate.clear_begun x.layout seen) afters.Looks)
+
+abbrev pub snapped_by : Held → Snapped → Held
+snapped_by x (snapped.Begun seen) = begins_checkpoint x seen
+snapped_by x (snapped.NotYet word) = at_stage x (BeginsCheckpoint (snap.begun x.layout x.snap))
+
+abbrev pub turned_snap : Held → snap.Snapping → Turn Snapped → Held
+turned_snap x s More = at_stage x (BeginsCheckpoint s)
+turned_snap x s (Finished result) = snapped_by x result
+
 -- ---- registers
 
 -- the register gets the copy's address, and the next ones are forwarded
@@ -265,9 +342,18 @@ is_full x s = (has_seen_flip x && (s.size == x.layout.pages)) || (x.epoch == 2 ^
 abbrev pub end_by_shortage : Shortage → End
 end_by_shortage s = HeapFull s.asked s.room s.live
 
+-- a round for the checkpoint in progress
+abbrev pub checkpoints : Held → Goal → Stage
+checkpoints x ForScanner = Checkpoints (save_round.begun_by_scanner x.layout x.mutators x.number) ForScanner
+checkpoints x goal = Checkpoints (save_round.begun_by_mutator x.layout x.epoch x.number) goal
+
+-- a flip is asked for, but not while a checkpoint is in progress
+abbrev pub asks_flip : Held → Stage
+asks_flip x = if x.layout.checkpoints then checkpoints x ForFlip else passes x Request afters.Places
+
 abbrev pub full_by : Held → Shortage → (traced : Bool) → Held
 full_by x s false = at_stage x (Serves (duty.begun x.layout callers.Allocates x.epoch x.number) ToPlace)
-full_by x s true = if is_full x s then ended x (end_by_shortage s) else at_stage x (passes x Request afters.Places)
+full_by x s true = if is_full x s then ended x (end_by_shortage s) else at_stage x (asks_flip x)
 
 -- the record stands, and the register that the task names leads to it
 abbrev pub with_record : Held → Run → (at : ℕ) → Option Making → Held
@@ -281,7 +367,7 @@ allocated_by x p (Placed at) = with_record x p.run at (making_for x x.task)
 allocated_by x p (Full s) = full_by x s s.traced
 
 abbrev pub turned_place : Held → place.Placing → Turn Allocated → Held
-turned_place x p More = at_stage x (Places p)
+turned_place x p More = at_stage x (guards_place x p)
 turned_place x p (Finished result) = allocated_by x p result
 
 -- ---- accesses
@@ -294,8 +380,36 @@ accessed_by x a Stored = went_on x
 accessed_by x a (Fails why) = ended x why
 
 abbrev pub turned_access : Held → Access → Turn Accessed → Held
-turned_access x a More = at_stage x (Accesses a)
+turned_access x a More = at_stage x (guards_access x a)
 turned_access x a (Finished result) = accessed_by x a result
+
+-- ---- looks before a write, and rounds for a checkpoint
+
+abbrev pub turned_guard : Held → guard.Guarding → Write → Turn MayWrite → Held
+turned_guard x g write More = at_stage x (Guards g write)
+turned_guard x g write (Finished result) = at_stage x (writes write)
+
+-- what it asks for once no checkpoint is in progress
+abbrev pub after_goal : Goal → After
+after_goal ForFlip = afters.Places
+after_goal ForSnap = afters.Snaps
+after_goal ForScanner = afters.Looks
+
+-- what a mutator's round comes to: it asks, or makes another round
+abbrev pub rounded_by : Held → Goal → SaveRoundEnd → Stage
+rounded_by x goal (save_round_end.NoneRuns number) = passes x Request (after_goal goal)
+rounded_by x goal save_round_end.Saved = checkpoints x goal
+rounded_by x goal save_round_end.Marked = checkpoints x goal
+rounded_by x goal (save_round_end.NothingNow word) = checkpoints x goal
+
+-- a scanner goes on with its duty
+abbrev pub rounded : Held → Goal → SaveRoundEnd → Stage
+rounded x ForScanner result = goes_back x ToScanner
+rounded x goal result = rounded_by x goal result
+
+abbrev pub turned_save_round : Held → save_round.SavingRound → Goal → Turn SaveRoundEnd → Held
+turned_save_round x r goal More = at_stage x (Checkpoints r goal)
+turned_save_round x r goal (Finished result) = at_stage x (rounded x goal result)
 
 -- ---- rounds
 
@@ -308,12 +422,18 @@ scans x page in_place back = at_stage x (Scans (scan.begun x.layout page x.epoch
 abbrev pub back_from : Held → Back → Held
 back_from x back = at_stage x (goes_back x back)
 
+-- its epoch was found traced: who begins a checkpoint goes on, and a scanner helps with one
+abbrev pub traced_by : Held → Back → Held
+traced_by x ToSnap = at_stage x (checkpoints x ForSnap)
+traced_by x ToScanner = at_stage x (if x.layout.checkpoints then checkpoints x ForScanner else goes_back x ToScanner)
+traced_by x back = back_from x back
+
 -- what a round comes to
 abbrev pub served_by : Held → duty.Round → Back → RoundEnd → Held
 served_by x d back (ScanPage page) = scans (of_round x d) page false back
 served_by x d back (ScanInPlace page) = scans (of_round x d) page true back
 served_by x d back Marked = back_from (of_round x d) back
-served_by x d back Traced = back_from (of_round x d) back
+served_by x d back Traced = traced_by (of_round x d) back
 served_by x d back (NothingNow word) = back_from (of_round x d) back
 served_by x d back (AllLeft word) = at_stage x Gone
 
@@ -355,6 +475,10 @@ turned_at x (Serves d back) reply = turned_round x (duty.taken d reply) back (du
 turned_at x (Scans s back) reply = turned_scan x (scan_taken.taken s reply) back (scan_taken.told (scan_taken.taken s reply).stage)
 turned_at x (Evacuates v s back) reply = turned_copy x (evac_taken.taken v reply) s back (evac_taken.told (evac_taken.taken v reply).stage)
 turned_at x (Opens o s back) reply = turned_opening x (open_page.taken o reply) s back (open_page.told (open_page.taken o reply))
+turned_at x (Recalls r after) reply = turned_recall x (recall.taken r reply) after (recall.told (recall.taken r reply))
+turned_at x (Guards g write) reply = turned_guard x (guard.taken g reply) write (guard.told (guard.taken g reply))
+turned_at x (Checkpoints r goal) reply = turned_save_round x (save_round.taken r reply) goal (save_round.told (save_round.taken r reply))
+turned_at x (BeginsCheckpoint s) reply = turned_snap x (snap.taken s reply) (snap.told (snap.taken s reply))
 turned_at x Gone reply = x
 
 -- the worker after a reply to its step
@@ -399,22 +523,27 @@ told_access task (Finished Stored) = told_effect task
 told_access task (Finished (Fails why)) = told_end task why
 told_access task More = Silent
 
--- an action that the registers alone decide is the effect
-abbrev pub told_action : Task → Action → Told
-told_action task (Sets d v) = Answers task Done
-told_action task (Jumps target) = Answers task Done
-told_action task (Links d target) = Answers task Done
-told_action task (Prints n) = Answers task Done
-told_action task Snaps = Answers task Done
-told_action task act = Silent
+abbrev pub told_snap : Option Task → Turn Snapped → Told
+told_snap task (Finished (snapped.Begun seen)) = told_effect task
+told_snap task (Finished (snapped.NotYet word)) = Silent
+told_snap task More = Silent
 
-abbrev pub told_acted : Task → Result Action End → Told
-told_acted task (Ok act) = told_action task act
-told_acted task (Err why) = Answers task (Trap why)
+-- an action that the registers alone decide is the effect
+abbrev pub told_action : Held → Task → Action → Told
+told_action x task (Sets d v) = Answers task Done
+told_action x task (Jumps target) = Answers task Done
+told_action x task (Links d target) = Answers task Done
+told_action x task (Prints n) = Answers task Done
+told_action x task Snaps = if may_snap x then Silent else Answers task Done
+told_action x task act = Silent
+
+abbrev pub told_acted : Held → Task → Result Action End → Told
+told_acted x task (Ok act) = told_action x task act
+told_acted x task (Err why) = Answers task (Trap why)
 
 abbrev pub told_start : Held → Option Task → Told
 told_start x None = Silent
-told_start x (Some (Calls instr)) = told_acted (Calls instr) (action (seen x.account x.registers) instr)
+told_start x (Some (Calls instr)) = told_acted x (Calls instr) (action (seen x.account x.registers) instr)
 told_start x (Some (Stops end)) = Answers (Stops end) (Trap end)
 
 abbrev pub told_gate : Held → Option GateWord → Told
@@ -430,6 +559,7 @@ told_at x Looks reply = told_look x reply
 told_at x (Flips f) reply = told_flip (flip.told (flip.taken f reply))
 told_at x (Accesses a) reply = told_access x.task (access.told a reply)
 told_at x (Places p) reply = told_place x (place.told (place.taken p reply))
+told_at x (BeginsCheckpoint s) reply = told_snap x.task (snap.told (snap.taken s reply))
 told_at x stage reply = Silent
 
 abbrev pub told : Held → Reply → Told

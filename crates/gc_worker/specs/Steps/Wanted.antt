@@ -8,10 +8,14 @@ use Rattle.fault_duty.specs.Duty as duty
 use Rattle.forwarding.specs.Evacuation as evac
 use Rattle.gate_core.specs.Gate as gate
 use Rattle.gate_core.specs.Flip as flip
+use Rattle.gate_core.specs.Recall as recall
+use Rattle.gate_core.specs.Snap as snap
+use Rattle.page_saves.specs.Guard as guard
+use Rattle.page_saves.specs.SaveRound as save_round
 use Rattle.page_scan.specs.Scanning as scan
 use Rattle.page_slots.specs.Open as open_page
 use Rattle.gc_worker.specs.declared.stage.Stage.{Stage}
-use Rattle.gc_worker.specs.declared.stage.Stage.TheVariants.{Looks, Passes, Flips, Forwards, Accesses, Places, Serves, Scans, Evacuates, Opens, Gone}
+use Rattle.gc_worker.specs.declared.stage.Stage.TheVariants.{Looks, Passes, Flips, Forwards, Accesses, Places, Serves, Scans, Evacuates, Opens, Recalls, Guards, Checkpoints, BeginsCheckpoint, Gone}
 use Rattle.gc_worker.specs.Steps.Access as access
 use Rattle.gc_worker.specs.Workers.Held.{Held}
 
@@ -26,6 +30,10 @@ wanted_at x (Serves d back) = duty.wanted d
 wanted_at x (Scans s back) = scan.wanted s
 wanted_at x (Evacuates v s back) = evac.wanted v
 wanted_at x (Opens o s back) = open_page.wanted o
+wanted_at x (Recalls r after) = recall.wanted r
+wanted_at x (Guards g write) = guard.wanted g
+wanted_at x (Checkpoints r goal) = save_round.wanted r
+wanted_at x (BeginsCheckpoint s) = snap.wanted s
 wanted_at x Gone = None
 
 -- the next step; a worker that is gone has none

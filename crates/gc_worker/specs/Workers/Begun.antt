@@ -5,9 +5,11 @@ use Rattle.atom_store.specs.declared.reply.Reply.{Reply}
 use Rattle.gc_worker.specs.declared.stage.after.After.{After}
 use Rattle.gc_worker.specs.declared.stage.after.After.TheVariants as afters
 use Rattle.gc_worker.specs.declared.stage.back.Back.{Back}
-use Rattle.gc_worker.specs.declared.stage.back.Back.TheVariants.{ToAccess, ToPlace, ToScanner}
+use Rattle.gc_worker.specs.declared.stage.back.Back.TheVariants.{ToAccess, ToPlace, ToSnap, ToScanner}
+use Rattle.gc_worker.specs.declared.stage.goal.Goal.{Goal}
+use Rattle.gc_worker.specs.declared.stage.goal.Goal.TheVariants.{ForFlip, ForSnap, ForScanner}
 use Rattle.gc_worker.specs.declared.stage.Stage.{Stage}
-use Rattle.gc_worker.specs.declared.stage.Stage.TheVariants.{Looks, Passes, Flips, Forwards, Accesses, Places, Serves, Scans, Evacuates, Opens, Gone}
+use Rattle.gc_worker.specs.declared.stage.Stage.TheVariants.{Looks, Passes, Flips, Forwards, Accesses, Places, Serves, Scans, Evacuates, Opens, Recalls, Guards, Checkpoints, BeginsCheckpoint, Gone}
 use Rattle.gc_worker.specs.declared.task.Task.{Task}
 use Rattle.gc_worker.specs.Workers.Fits.{Fits}
 use Rattle.gc_worker.specs.Workers.Held.{Held}
@@ -17,11 +19,18 @@ use Rattle.gc_worker.specs.Steps.Turned.{Answers, turned, told}
 abbrev pub IsPastAfter : After → Type 0
 IsPastAfter afters.Looks = ⊥
 IsPastAfter afters.Places = ⊤
+IsPastAfter afters.Snaps = ⊤
 
 abbrev pub IsPastBack : Back → Type 0
 IsPastBack (ToAccess a) = ⊤
 IsPastBack ToPlace = ⊤
+IsPastBack ToSnap = ⊤
 IsPastBack ToScanner = ⊥
+
+abbrev pub IsPastGoal : Goal → Type 0
+IsPastGoal ForFlip = ⊤
+IsPastGoal ForSnap = ⊤
+IsPastGoal ForScanner = ⊥
 
 -- a mutator at this stage has begun an instruction by a look, and goes on with it
 abbrev pub IsPastLook : Stage → Type 0
@@ -35,6 +44,10 @@ IsPastLook (Serves d back) = IsPastBack back
 IsPastLook (Scans s back) = IsPastBack back
 IsPastLook (Evacuates v s back) = IsPastBack back
 IsPastLook (Opens o s back) = IsPastBack back
+IsPastLook (Recalls r after) = IsPastAfter after
+IsPastLook (Guards g write) = ⊤
+IsPastLook (Checkpoints r goal) = IsPastGoal goal
+IsPastLook (BeginsCheckpoint s) = ⊤
 IsPastLook Gone = ⊥
 
 -- it began at this look, in its epoch; or earlier, and the epoch in which it began is kept

@@ -1,6 +1,7 @@
 -- What a worker keeps of itself: each machine is sound, and its layout, its worker and its epoch are the worker's own.
 use Rattle.std.specs.Prelude.{◌≡◌, ℕ, ◌+◌, ◌^◌, ◌<◌, ◌≤◌, ◌⊎◌, ⊤, Bool, true, false, List, length, Option, Some, None, Ok, is_some, nat_lt, slice_index, IsTrue}
 use Rattle.atom_store.specs.declared.reply.Reply.{Reply}
+use Rattle.atom_store.specs.declared.reply.Reply.TheVariants.{Value}
 use Rattle.space_map.specs.declared.spaces.TheConstants.{LAST_WORKER, PAGE_WORDS}
 use Rattle.space_map.specs.Spaces.{Layout, IsPageCount, board_page, first_word, space_start, to_space}
 use Rattle.alloc_end.specs.declared.run.Run.{Run}
@@ -20,7 +21,16 @@ use Rattle.gate_core.specs.declared.passage.Passage.{Passage}
 use Rattle.gate_core.specs.declared.passage.Passage.TheVariants as passages
 use Rattle.gate_core.specs.Gate as gate
 use Rattle.gate_core.specs.Flip as flip
-use Rattle.gate_core.specs.Soundness.{IsPassingGoing, IsSoundPassing, IsFlippingGoing, IsSoundFlipping}
+use Rattle.gate_core.specs.Soundness.{IsPassingGoing, IsSoundPassing, IsFlippingGoing, IsSoundFlipping, IsRecallGoing, IsSoundRecalling, IsSnappingGoing, IsSoundSnapping}
+use Rattle.gate_core.specs.Recall as recall
+use Rattle.gate_core.specs.Snap as snap
+use Rattle.page_saves.specs.declared.save_caller.SaveCaller.TheVariants.{Mutates, Scans as ForScans}
+use Rattle.page_saves.specs.declared.save_round_stage.SaveRoundStage.{SaveRoundStage}
+use Rattle.page_saves.specs.declared.save_round_stage.SaveRoundStage.TheVariants as save_round_stage
+use Rattle.page_saves.specs.Guard as guard
+use Rattle.page_saves.specs.SaveRound as save_round
+use Rattle.page_saves.specs.SoundGuard.{IsGuardGoing, IsSoundGuard}
+use Rattle.page_saves.specs.SoundRound.{IsSaveRoundGoing, IsSoundSaveRound}
 use Rattle.page_scan.specs.declared.scan_stage.ScanStage.{ScanStage}
 use Rattle.page_scan.specs.declared.scan_stage.ScanStage.TheVariants as scan_stage
 use Rattle.page_scan.specs.Scanning as scan
@@ -32,10 +42,14 @@ use Rattle.gc_worker.specs.declared.access.Access.{Access}
 use Rattle.gc_worker.specs.declared.access.access_stage.AccessStage.{AccessStage}
 use Rattle.heap_state.specs.Worker.{Account}
 use Rattle.gc_worker.specs.declared.stage.back.Back.{Back}
-use Rattle.gc_worker.specs.declared.stage.back.Back.TheVariants.{ToAccess, ToPlace, ToScanner}
+use Rattle.gc_worker.specs.declared.stage.back.Back.TheVariants.{ToAccess, ToPlace, ToSnap, ToScanner}
 use Rattle.gc_worker.specs.declared.stage.forwarding_register.ForwardingRegister.{ForwardingRegister}
+use Rattle.gc_worker.specs.declared.stage.goal.Goal.{Goal}
+use Rattle.gc_worker.specs.declared.stage.goal.Goal.TheVariants.{ForFlip, ForSnap, ForScanner}
+use Rattle.gc_worker.specs.declared.stage.write.Write.{Write}
+use Rattle.gc_worker.specs.declared.stage.write.Write.TheVariants.{OfAccess, OfPlace}
 use Rattle.gc_worker.specs.declared.stage.Stage.{Stage}
-use Rattle.gc_worker.specs.declared.stage.Stage.TheVariants.{Looks, Passes, Flips, Forwards, Accesses, Places, Serves, Scans, Evacuates, Opens, Gone}
+use Rattle.gc_worker.specs.declared.stage.Stage.TheVariants.{Looks, Passes, Flips, Forwards, Accesses, Places, Serves, Scans, Evacuates, Opens, Recalls, Guards, Checkpoints, BeginsCheckpoint, Gone}
 use Rattle.gc_worker.specs.declared.stage.after.After.{After}
 use Rattle.gc_worker.specs.declared.stage.after.After.TheVariants as afters
 use Rattle.gc_worker.specs.declared.task.Task.{Task}
@@ -43,32 +57,38 @@ use Rattle.gc_worker.specs.declared.task.Task.TheVariants.{Calls, Stops}
 use Rattle.gc_worker.specs.Steps.Access.{IsSoundAccess, IsAccessOf}
 use Rattle.gc_worker.specs.Steps.Access as access
 use Rattle.gc_worker.specs.Plain.Seen.{IsValueWord, Making, making_in, seen}
-use Rattle.gc_worker.specs.Workers.Held.{Held, has_seen_flip, pages_needed, header_for, fields_for}
+use Rattle.gc_worker.specs.Workers.Held.{Held, may_snap, has_seen_flip, pages_needed, header_for, fields_for}
 use Rattle.plain_state.specs.declared.end.End.{End}
 use Rattle.plain_state.specs.declared.end.End.TheVariants.{HeapFull}
 use Rattle.plain_state.specs.declared.sizes.TheConstants.{REGISTERS, MOST_PRINTED}
 use Rattle.mutator_asm.specs.declared.instr.Instr.{Instr}
 use Rattle.mutator_asm.specs.Program.{is_valid}
 use Rattle.plain_heap.specs.declared.action.Action.{Action}
-use Rattle.plain_heap.specs.declared.action.Action.TheVariants.{Makes}
+use Rattle.plain_heap.specs.declared.action.Action.TheVariants.{Makes, Snaps}
 use Rattle.plain_heap.specs.Action.{action}
 
 -- ---- what each machine is to its worker
 
--- who resumes does so in its own epoch, and who requests a flip is not of the last one; no worker clears a request yet
-abbrev pub IsOwnPassage : (epoch : ℕ) → Passage → Type 0
-IsOwnPassage epoch (passages.Resume own) = own ≡ epoch
-IsOwnPassage epoch passages.Look = ⊥
-IsOwnPassage epoch passages.Attach = ⊤
-IsOwnPassage epoch passages.Park = ⊤
-IsOwnPassage epoch passages.Request = epoch + 1 < 2 ^ 32
-IsOwnPassage epoch passages.Forwarded = ⊤
-IsOwnPassage epoch passages.Leave = ⊤
-IsOwnPassage epoch passages.Clear = ⊥
+-- a flip is requested in an epoch that is not the last one, and a checkpoint if one can be begun
+abbrev pub MayRequest : Held → After → Type 0
+MayRequest x afters.Looks = ⊥
+MayRequest x afters.Places = x.epoch + 1 < 2 ^ 32
+MayRequest x afters.Snaps = may_snap x ≡ true
 
-pub record FitsGate (x : Held) (g : gate.Passing) : Type 0 where
+-- who resumes does so in its own epoch, and only who has begun a checkpoint clears the request
+abbrev pub IsOwnPassage : Held → After → Passage → Type 0
+IsOwnPassage x after (passages.Resume own) = own ≡ x.epoch
+IsOwnPassage x after passages.Look = ⊥
+IsOwnPassage x after passages.Attach = ⊤
+IsOwnPassage x after passages.Park = ⊤
+IsOwnPassage x after passages.Request = MayRequest x after
+IsOwnPassage x after passages.Forwarded = ⊤
+IsOwnPassage x after passages.Leave = ⊤
+IsOwnPassage x after passages.Clear = x.layout.checkpoints ≡ true
+
+pub record FitsGate (x : Held) (g : gate.Passing) (after : After) : Type 0 where
   pub layout : g.layout ≡ x.layout
-  pub passage : IsOwnPassage x.epoch g.passage
+  pub passage : IsOwnPassage x after g.passage
   pub going : IsPassingGoing g.stage
   pub sound : IsSoundPassing g
 
@@ -98,12 +118,12 @@ LeavesShortRun run header StoresCount = run.end < run.at + place.size_of header 
 LeavesShortRun run header StoresHeader = run.end < run.at + place.size_of header + PAGE_WORDS
 LeavesShortRun run header stage = ⊤
 
--- no worker begins checkpoints yet, so none was begun that an allocation would know of
+-- new pages are marked as the worker knows of checkpoints
 pub record FitsPlace (x : Held) (p : place.Placing) : Type 0 where
   pub layout : p.layout ≡ x.layout
   pub epoch : p.epoch ≡ x.epoch
   pub fields : p.fields ≡ fields_for x
-  pub snap : p.snap ≡ 0
+  pub snap : p.snap ≡ x.snap
   pub going : IsPlacingGoing p.stage
   pub rest : LeavesShortRun p.run p.header p.stage
   pub sound : IsSoundPlacing p
@@ -120,6 +140,9 @@ IsCallerOf x (ToAccess a) (callers.Scans mutators) = ⊥
 IsCallerOf x ToPlace callers.Allocates = ⊤
 IsCallerOf x ToPlace (callers.Faulted page) = ⊥
 IsCallerOf x ToPlace (callers.Scans mutators) = ⊥
+IsCallerOf x ToSnap callers.Allocates = ⊤
+IsCallerOf x ToSnap (callers.Faulted page) = ⊥
+IsCallerOf x ToSnap (callers.Scans mutators) = ⊥
 IsCallerOf x ToScanner (callers.Scans mutators) = mutators ≡ x.mutators
 IsCallerOf x ToScanner (callers.Faulted page) = ⊥
 IsCallerOf x ToScanner callers.Allocates = ⊥
@@ -128,6 +151,7 @@ IsCallerOf x ToScanner callers.Allocates = ⊥
 abbrev pub IsEpochOf : Held → Back → (epoch : ℕ) → Type 0
 IsEpochOf x (ToAccess a) epoch = epoch ≡ x.epoch
 IsEpochOf x ToPlace epoch = epoch ≡ x.epoch
+IsEpochOf x ToSnap epoch = epoch ≡ x.epoch
 IsEpochOf x ToScanner epoch = ⊤
 
 pub record FitsRound (x : Held) (d : duty.Round) (back : Back) : Type 0 where
@@ -144,10 +168,11 @@ pub record FitsAccess (l : Layout) (e : ℕ) (a : Access) : Type 0 where
   pub epoch : a.epoch ≡ e
   pub sound : IsSoundAccess a
 
--- what it goes back to is its own; a scanner has no run
+-- what it goes back to is its own, and an access looks again before it writes; a scanner has no run
 abbrev pub FitsBack : Held → Back → Type 0
-FitsBack x (ToAccess a) = FitsAccess x.layout x.epoch a
+FitsBack x (ToAccess a) = FitsAccess x.layout x.epoch a × (access.writes_on a.spaces a.stage ≡ None)
 FitsBack x ToPlace = ⊤
+FitsBack x ToSnap = ⊤
 FitsBack x ToScanner = x.run ≡ None
 
 pub record FitsScan (x : Held) (s : scan.Scanning) : Type 0 where
@@ -175,11 +200,73 @@ pub record FitsOpening (x : Held) (o : open_page.Opening) (s : scan.Scanning) : 
   pub going : IsOpeningGoing o.stage
   pub sound : IsSoundOpening o
 
+-- ---- checkpoints
+
+pub record FitsRecall (x : Held) (r : recall.Recalling) : Type 0 where
+  pub room : x.layout.checkpoints ≡ true
+  pub layout : r.layout ≡ x.layout
+  pub going : IsRecallGoing r.stage
+  pub sound : IsSoundRecalling r
+
+-- what is written next is the worker's own, and on this page
+abbrev pub FitsWrite : Held → Write → (page : ℕ) → Type 0
+FitsWrite x (OfAccess a) page = FitsAccess x.layout x.epoch a × (access.writes_on a.spaces a.stage ≡ Some page)
+FitsWrite x (OfPlace p) page = FitsPlace x p × (place.writes_on p p.stage ≡ Some page)
+
+-- the look is for the checkpoint that was in progress when the worker began to run
+pub record FitsGuard (x : Held) (g : guard.Guarding) (w : Write) : Type 0 where
+  pub room : x.layout.checkpoints ≡ true
+  pub layout : g.layout ≡ x.layout
+  pub worker : g.worker ≡ x.number
+  pub number : g.number ≡ x.running
+  pub runs : 0 < x.running
+  pub going : IsGuardGoing g.stage
+  pub sound : IsSoundGuard g
+  pub write : FitsWrite x w g.page
+
+-- a mutator's round doesn't look at the gate, and once it has read SNAP it has read what the mutator read when it began to run
+abbrev pub HasReadNumber : Held → SaveRoundStage → (number : ℕ) → Type 0
+HasReadNumber x save_round_stage.LoadsGate number = ⊥
+HasReadNumber x save_round_stage.LoadsGateAgain number = ⊥
+HasReadNumber x save_round_stage.LoadsSnap number = ⊤
+HasReadNumber x stage number = number ≡ x.snap
+
+-- a mutator's round is of its own epoch
+pub record IsRoundOfMutator (x : Held) (r : save_round.SavingRound) : Type 0 where
+  pub caller : r.caller ≡ Mutates
+  pub epoch : r.epoch ≡ x.epoch
+  pub number : HasReadNumber x r.stage r.number
+
+-- a scanner has no run
+pub record IsRoundOfScanner (x : Held) (r : save_round.SavingRound) : Type 0 where
+  pub caller : r.caller ≡ ForScans x.mutators
+  pub no_run : x.run ≡ None
+
+abbrev pub IsRoundFor : Held → Goal → save_round.SavingRound → Type 0
+IsRoundFor x ForFlip r = IsRoundOfMutator x r × (x.epoch + 1 < 2 ^ 32)
+IsRoundFor x ForSnap r = IsRoundOfMutator x r × (may_snap x ≡ true)
+IsRoundFor x ForScanner r = IsRoundOfScanner x r
+
+pub record FitsCheckpoint (x : Held) (r : save_round.SavingRound) (goal : Goal) : Type 0 where
+  pub room : x.layout.checkpoints ≡ true
+  pub layout : r.layout ≡ x.layout
+  pub worker : r.worker ≡ x.number
+  pub caller : IsRoundFor x goal r
+  pub going : IsSaveRoundGoing r.stage
+  pub sound : IsSoundSaveRound r
+
+pub record FitsSnap (x : Held) (s : snap.Snapping) : Type 0 where
+  pub layout : s.layout ≡ x.layout
+  pub number : s.number ≡ x.snap
+  pub may : may_snap x ≡ true
+  pub going : IsSnappingGoing s.stage
+  pub sound : IsSoundSnapping s
+
 -- ---- the worker
 
 abbrev pub FitsStage : Held → Stage → Type 0
 FitsStage x Looks = ⊤
-FitsStage x (Passes g after) = FitsGate x g
+FitsStage x (Passes g after) = FitsGate x g after
 FitsStage x (Flips f) = FitsFlip x f
 FitsStage x (Forwards w) = FitsRegister x w
 FitsStage x (Accesses a) = FitsAccess x.layout x.epoch a
@@ -188,6 +275,10 @@ FitsStage x (Serves d back) = FitsRound x d back × FitsBack x back
 FitsStage x (Scans s back) = FitsScan x s × ScanHasStep s.stage × FitsBack x back
 FitsStage x (Evacuates v s back) = FitsCopy x x.epoch v × FitsScan x s × HasAsked v s.stage × FitsBack x back
 FitsStage x (Opens o s back) = FitsOpening x o s × FitsScan x s × HasEnded s.stage × FitsBack x back
+FitsStage x (Recalls r after) = FitsRecall x r
+FitsStage x (Guards g write) = FitsGuard x g write
+FitsStage x (Checkpoints r goal) = FitsCheckpoint x r goal
+FitsStage x (BeginsCheckpoint s) = FitsSnap x s
 FitsStage x Gone = ⊤
 
 -- who leaves has an end, and nobody else has who hasn't left
@@ -235,6 +326,10 @@ pub record IsMaking (account : Account) (registers : List ℕ) (task : Option Ta
   pub making : Making
   pub executes : ExecutesAction account registers task (Makes making.kind making.into making.len)
 
+-- it executes `snap`
+abbrev pub IsSnapping : Account → (registers : List ℕ) → Option Task → Type 0
+IsSnapping account registers task = ExecutesAction account registers task Snaps
+
 -- it executes one whose access is at this stage
 pub record IsAccessing (account : Account) (registers : List ℕ) (task : Option Task) (stage : AccessStage) : Type 0 where
   pub act : Action
@@ -244,21 +339,37 @@ pub record IsAccessing (account : Account) (registers : List ℕ) (task : Option
 abbrev pub FitsTaskAfter : Held → After → Type 0
 FitsTaskAfter x afters.Looks = MayBegin x.account x.registers x.task
 FitsTaskAfter x afters.Places = IsMaking x.account x.registers x.task
+FitsTaskAfter x afters.Snaps = IsSnapping x.account x.registers x.task
 
 abbrev pub FitsTaskBack : Held → Back → Type 0
 FitsTaskBack x (ToAccess a) = IsAccessing x.account x.registers x.task a.stage
 FitsTaskBack x ToPlace = IsMaking x.account x.registers x.task
+FitsTaskBack x ToSnap = IsSnapping x.account x.registers x.task × (may_snap x ≡ true)
 FitsTaskBack x ToScanner = x.task ≡ None
+
+-- only an allocation and `snap` request anything
+abbrev pub FitsTaskAsking : Held → After → Type 0
+FitsTaskAsking x afters.Looks = ⊥
+FitsTaskAsking x after = FitsTaskAfter x after
 
 abbrev pub FitsTaskBefore : Held → Passage → After → Type 0
 FitsTaskBefore x passages.Leave after = x.task ≡ None
-FitsTaskBefore x passages.Request after = IsMaking x.account x.registers x.task × (after ≡ afters.Places)
+FitsTaskBefore x passages.Request after = FitsTaskAsking x after
 FitsTaskBefore x passages.Attach after = MayBegin x.account x.registers x.task
 FitsTaskBefore x passages.Park after = FitsTaskAfter x after
 FitsTaskBefore x (passages.Resume epoch) after = FitsTaskAfter x after
 FitsTaskBefore x passages.Forwarded after = FitsTaskAfter x after
 FitsTaskBefore x passages.Look after = ⊥
 FitsTaskBefore x passages.Clear after = MayBegin x.account x.registers x.task × (after ≡ afters.Looks)
+
+abbrev pub FitsTaskWrite : Held → Write → Type 0
+FitsTaskWrite x (OfAccess a) = IsAccessing x.account x.registers x.task a.stage
+FitsTaskWrite x (OfPlace p) = IsMaking x.account x.registers x.task × (header_for x ≡ Some p.header)
+
+abbrev pub FitsTaskFor : Held → Goal → Type 0
+FitsTaskFor x ForFlip = IsMaking x.account x.registers x.task
+FitsTaskFor x ForSnap = IsSnapping x.account x.registers x.task
+FitsTaskFor x ForScanner = x.task ≡ None
 
 -- its task is the one that brought it to the stage; at a look it may have one or none
 abbrev pub FitsTask : Held → Stage → Type 0
@@ -272,6 +383,10 @@ FitsTask x (Serves d back) = FitsTaskBack x back
 FitsTask x (Scans s back) = FitsTaskBack x back
 FitsTask x (Evacuates v s back) = FitsTaskBack x back
 FitsTask x (Opens o s back) = FitsTaskBack x back
+FitsTask x (Recalls r after) = FitsTaskAfter x after
+FitsTask x (Guards g write) = FitsTaskWrite x write
+FitsTask x (Checkpoints r goal) = FitsTaskFor x goal
+FitsTask x (BeginsCheckpoint s) = IsSnapping x.account x.registers x.task
 FitsTask x Gone = x.task ≡ None
 
 -- ---- the side
@@ -279,7 +394,12 @@ FitsTask x Gone = x.task ≡ None
 abbrev pub IsOnSideBack : Back → (is_mutator : Bool) → Type 0
 IsOnSideBack (ToAccess a) is_mutator = is_mutator ≡ true
 IsOnSideBack ToPlace is_mutator = is_mutator ≡ true
+IsOnSideBack ToSnap is_mutator = is_mutator ≡ true
 IsOnSideBack ToScanner is_mutator = is_mutator ≡ false
+
+abbrev pub IsOnSideFor : Goal → (is_mutator : Bool) → Type 0
+IsOnSideFor ForScanner is_mutator = is_mutator ≡ false
+IsOnSideFor goal is_mutator = is_mutator ≡ true
 
 -- a mutator that is gone has its end
 abbrev pub IsGoneBy : (is_mutator ended : Bool) → Type 0
@@ -292,6 +412,7 @@ IsOnSide (Serves d back) is_mutator ended = IsOnSideBack back is_mutator
 IsOnSide (Scans s back) is_mutator ended = IsOnSideBack back is_mutator
 IsOnSide (Evacuates v s back) is_mutator ended = IsOnSideBack back is_mutator
 IsOnSide (Opens o s back) is_mutator ended = IsOnSideBack back is_mutator
+IsOnSide (Checkpoints r goal) is_mutator ended = IsOnSideFor goal is_mutator
 IsOnSide Gone is_mutator ended = IsGoneBy is_mutator ended
 IsOnSide stage is_mutator ended = is_mutator ≡ true
 
@@ -305,14 +426,21 @@ FitsRun n (Some run) = RunLiesInSpaces n run × (run.end < run.at + PAGE_WORDS)
 abbrev pub AreValues : List ℕ → Type 0
 AreValues registers = (r : ℕ) → r < REGISTERS → IsValueWord (slice_index registers r)
 
+-- numbers of checkpoints, all 0 if there is no room for any
+pub record AreNumbers (checkpoints : Bool) (snap running : ℕ) : Type 0 where
+  pub snap_fits : snap < 2 ^ 32
+  pub running_fits : running < 2 ^ 32
+  pub none : checkpoints ≡ false → (snap ≡ 0) × (running ≡ 0)
+
 -- What a worker is at any stage, by its parts: worker k of a heap with n pages a space and so many mutators.
-pub record IsWorkerOf (n mutators k : ℕ) (own size others now : ℕ) (words printed : List ℕ) (own_run : Option Run) : Type 0 where
+pub record IsWorkerOf (n mutators k : ℕ) (own : ℕ) (layout : Layout) (others now snap running : ℕ) (words printed : List ℕ) (own_run : Option Run) : Type 0 where
   pub number : own ≡ k
   pub few : k ≤ LAST_WORKER
-  pub pages : size ≡ n
+  pub pages : layout.pages ≡ n
   pub counted : IsPageCount n
   pub beside : others ≡ mutators
   pub epoch : now < 2 ^ 32
+  pub numbers : AreNumbers layout.checkpoints snap running
   pub eight : length words ≡ REGISTERS
   pub registers : AreValues words
   pub few_printed : length printed ≤ MOST_PRINTED
@@ -320,7 +448,7 @@ pub record IsWorkerOf (n mutators k : ℕ) (own size others now : ℕ) (words pr
 
 -- It names the parts alone: so it is one and the same of a worker with another stage, task or account, but for the numbers printed.
 abbrev pub IsWorker : (n mutators k : ℕ) → Held → Type 0
-IsWorker n mutators k x = IsWorkerOf n mutators k x.number x.layout.pages x.mutators x.epoch x.registers x.account.printed x.run
+IsWorker n mutators k x = IsWorkerOf n mutators k x.number x.layout x.mutators x.epoch x.snap x.running x.registers x.account.printed x.run
 
 -- it is such a worker, and sound at its stage
 pub record Fits (n mutators k : ℕ) (x : Held) : Type 0 where
@@ -331,20 +459,30 @@ pub record Fits (n mutators k : ℕ) (x : Held) : Type 0 where
   pub task : FitsTask x x.stage
   pub stage : FitsStage x x.stage
 
+-- a mutator's round reads in SNAP what the mutator read when it began to run
+abbrev pub ReadsSame : Held → Goal → SaveRoundStage → Reply → Type 0
+ReadsSame x ForScanner stage reply = ⊤
+ReadsSame x goal save_round_stage.LoadsSnap (Value word) = word ≡ x.snap
+ReadsSame x goal stage reply = ⊤
+
 -- the machine at a stage may take the reply
-abbrev pub TakesAt : Stage → Reply → Type 0
-TakesAt Looks reply = ⊤
-TakesAt (Passes g after) reply = IsSoundPassing (gate.taken g reply)
-TakesAt (Flips f) reply = IsSoundFlipping (flip.taken f reply)
-TakesAt (Forwards w) reply = evac_sound.IsSound (evac_taken.taken w.evac reply)
-TakesAt (Accesses a) reply = access.AccessTakes a.stage reply
-TakesAt (Places p) reply = IsSoundPlacing (place.taken p reply)
-TakesAt (Serves d back) reply = IsSoundRound (duty.taken d reply)
-TakesAt (Scans s back) reply = scan_sound.IsSound (scan_taken.taken s reply)
-TakesAt (Evacuates v s back) reply = evac_sound.IsSound (evac_taken.taken v reply)
-TakesAt (Opens o s back) reply = IsSoundOpening (open_page.taken o reply)
-TakesAt Gone reply = ⊤
+abbrev pub TakesAt : Held → Stage → Reply → Type 0
+TakesAt x Looks reply = ⊤
+TakesAt x (Passes g after) reply = IsSoundPassing (gate.taken g reply)
+TakesAt x (Flips f) reply = IsSoundFlipping (flip.taken f reply)
+TakesAt x (Forwards w) reply = evac_sound.IsSound (evac_taken.taken w.evac reply)
+TakesAt x (Accesses a) reply = access.AccessTakes a.stage reply
+TakesAt x (Places p) reply = IsSoundPlacing (place.taken p reply)
+TakesAt x (Serves d back) reply = IsSoundRound (duty.taken d reply)
+TakesAt x (Scans s back) reply = scan_sound.IsSound (scan_taken.taken s reply)
+TakesAt x (Evacuates v s back) reply = evac_sound.IsSound (evac_taken.taken v reply)
+TakesAt x (Opens o s back) reply = IsSoundOpening (open_page.taken o reply)
+TakesAt x (Recalls r after) reply = ⊤
+TakesAt x (Guards g write) reply = ⊤
+TakesAt x (Checkpoints r goal) reply = ReadsSame x goal r.stage reply
+TakesAt x (BeginsCheckpoint s) reply = ⊤
+TakesAt x Gone reply = ⊤
 
 -- what a worker asks of a reply
 abbrev pub Takes : Held → Reply → Type 0
-Takes x reply = TakesAt x.stage reply
+Takes x reply = TakesAt x x.stage reply

@@ -1,5 +1,5 @@
 -- What a worker holds between two steps, and what its task asks for.
-use Rattle.std.specs.Prelude.{ℕ, ◌+◌, Bool, List, Option, Some, None, nat_lt}
+use Rattle.std.specs.Prelude.{ℕ, ◌+◌, ◌^◌, ◌&&◌, Bool, List, Option, Some, None, nat_lt}
 use Rattle.std.specs.Option.{option_and_then}
 use Rattle.heap_words.specs.Decoded.{HeaderWord}
 use Rattle.plain_state.specs.declared.kind.Kind.{Kind}
@@ -18,14 +18,16 @@ use Rattle.gc_worker.specs.declared.task.Task.{Task}
 use Rattle.gc_worker.specs.declared.task.Task.TheVariants.{Calls, Stops}
 
 -- A worker: its number, the layout of the heap and the number of mutators, which never change; its epoch, and that at the look which
--- began its instruction; its account, its eight registers, and its run; the task that it was given and has not answered; and
--- what it is about to do.
+-- began its instruction; how many checkpoints were begun when it began to run, and the one that was in progress then, or 0; its account,
+-- its eight registers, and its run; the task that it was given and has not answered; and what it is about to do.
 pub record Held : Type 0 where
   pub number : ℕ
   pub layout : Layout
   pub mutators : ℕ
   pub epoch : ℕ
   pub begun : ℕ
+  pub snap : ℕ
+  pub running : ℕ
   pub account : Account
   pub registers : List ℕ
   pub run : Option Run
@@ -86,3 +88,9 @@ run_in None = record { at = 0; end = 0 }
 
 abbrev pub run_held : Held → Run
 run_held x = run_in x.run
+
+-- ---- checkpoints
+
+-- checkpoints can be begun, and there is a number for one more
+abbrev pub may_snap : Held → Bool
+may_snap x = x.layout.checkpoints && nat_lt (x.snap + 1) (2 ^ 32)

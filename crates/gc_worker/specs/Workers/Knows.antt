@@ -40,18 +40,23 @@ use Rattle.page_slots.specs.declared.claim_stage.ClaimStage.TheVariants as claim
 use Rattle.page_slots.specs.Claim.{Claiming}
 use Rattle.heap_laws.specs.Allocation.Records.{stored_ahead}
 use Rattle.heap_laws.specs.Copying.{begun}
-use Rattle.heap_state.specs.Worker.{Worker, Post, Outside, Running, Stopped, Flipping, Snapping, Passage, Enter, Park, Request, Clear, Forwarded, Resume, Leave, GateStep, Reset, Stock, SeenHeader, SeenRecord, Role, FieldRole, NumberRole, UnknownRole, Origin, Register, Scanned, Quest, Copy, Scan, Round, Claim, Look, LastLook}
+use Rattle.heap_state.specs.Worker.{Worker, Post, Outside, Running, Stopped, Flipping, Snapping, Passage, Enter, Park, Request, RequestSnap, Clear, Forwarded, Resume, Leave, GateStep, Reset, Stock, SeenHeader, SeenRecord, Role, FieldRole, NumberRole, UnknownRole, Origin, Register, Scanned, Quest, Copy, Scan, Round, Claim, Look, LastLook}
 use Rattle.heap_state.specs.Worker as workers
 use Rattle.heap_state.specs.Worker.{Access}
 use Rattle.gc_worker.specs.declared.access.access_stage.AccessStage.{AccessStage}
 use Rattle.gc_worker.specs.declared.access.access_stage.AccessStage.TheVariants.{LooksAtRecord, LoadsHeader, LooksAtCount, LoadsCount, LooksAtField, LoadsField, StoresField, LoadsForCas, ExchangesField, LooksAtBoard, LoadsBoard, StoresBoard, LoadsForSwap, SwapsBoard}
 use Rattle.gc_worker.specs.declared.stage.back.Back.{Back}
-use Rattle.gc_worker.specs.declared.stage.back.Back.TheVariants.{ToAccess, ToPlace, ToScanner}
+use Rattle.gc_worker.specs.declared.stage.back.Back.TheVariants.{ToAccess, ToPlace, ToSnap, ToScanner}
 use Rattle.gc_worker.specs.declared.access.field_access.FieldAccess.{FieldAccess}
 use Rattle.gc_worker.specs.declared.access.mixed_access.MixedAccess.{MixedAccess}
 use Rattle.gc_worker.specs.Steps.Access.{role_of, count_at, field_at, read_before}
+use Rattle.gc_worker.specs.declared.stage.after.After.{After}
+use Rattle.gc_worker.specs.declared.stage.after.After.TheVariants as afters
+use Rattle.gc_worker.specs.declared.stage.goal.Goal.{Goal}
+use Rattle.gc_worker.specs.declared.stage.goal.Goal.TheVariants.{ForFlip, ForSnap, ForScanner}
+use Rattle.gc_worker.specs.declared.stage.write.Write.TheVariants.{OfAccess, OfPlace}
 use Rattle.gc_worker.specs.declared.stage.Stage.{Stage}
-use Rattle.gc_worker.specs.declared.stage.Stage.TheVariants.{Looks, Passes, Flips, Forwards, Accesses, Places, Serves, Scans, Evacuates, Opens, Gone}
+use Rattle.gc_worker.specs.declared.stage.Stage.TheVariants.{Looks, Passes, Flips, Forwards, Accesses, Places, Serves, Scans, Evacuates, Opens, Recalls, Guards, Checkpoints, BeginsCheckpoint, Gone}
 use Rattle.gc_worker.specs.Workers.Held.{Held, pages_needed}
 
 -- ---- at the gate
@@ -70,7 +75,13 @@ post_before passages.Clear = Snapping
 abbrev pub post_back : Back → Post
 post_back (ToAccess a) = Running
 post_back ToPlace = Running
+post_back ToSnap = Running
 post_back ToScanner = workers.Scanner
+
+abbrev pub post_for : Goal → Post
+post_for ForFlip = Running
+post_for ForSnap = Running
+post_for ForScanner = workers.Scanner
 
 -- a mutator that is gone, or a scanner
 abbrev pub post_gone : (is_mutator : Bool) → Post
@@ -88,30 +99,39 @@ post_in x (Serves d back) = post_back back
 post_in x (Scans s back) = post_back back
 post_in x (Evacuates v s back) = post_back back
 post_in x (Opens o s back) = post_back back
+post_in x (Recalls r after) = Running
+post_in x (Guards g write) = Running
+post_in x (Checkpoints r goal) = post_for goal
+post_in x (BeginsCheckpoint s) = Snapping
 post_in x Gone = post_gone (nat_lt x.number x.mutators)
 
+-- what is requested: a checkpoint, or a flip
+abbrev pub request_for : (asked : ℕ) → After → Passage
+request_for asked afters.Snaps = RequestSnap
+request_for asked after = Request asked
+
 -- the passage, where it isn't a look
-abbrev pub passage_in : (asked : ℕ) → gate_passage.Passage → Option Passage
-passage_in asked passages.Look = None
-passage_in asked passages.Attach = Some Enter
-passage_in asked passages.Park = Some Park
-passage_in asked passages.Request = Some (Request asked)
-passage_in asked (passages.Resume epoch) = Some Resume
-passage_in asked passages.Forwarded = Some Forwarded
-passage_in asked passages.Leave = Some Leave
-passage_in asked passages.Clear = Some Clear
+abbrev pub passage_in : (asked : ℕ) → After → gate_passage.Passage → Option Passage
+passage_in asked after passages.Look = None
+passage_in asked after passages.Attach = Some Enter
+passage_in asked after passages.Park = Some Park
+passage_in asked after passages.Request = Some (request_for asked after)
+passage_in asked after (passages.Resume epoch) = Some Resume
+passage_in asked after passages.Forwarded = Some Forwarded
+passage_in asked after passages.Leave = Some Leave
+passage_in asked after passages.Clear = Some Clear
 
 abbrev pub step_from : Rattle.space_map.specs.declared.gate_word.GateWord.GateWord → Option Passage → Option GateStep
 step_from read None = None
 step_from read (Some passage) = Some (record { read = read; passage = passage })
 
-abbrev pub gate_step_at : (asked : ℕ) → gate_passage.Passage → GateStage → Option GateStep
-gate_step_at asked passage (gate_stage.Exchanges read) = step_from read (passage_in asked passage)
-gate_step_at asked passage gate_stage.Loads = None
-gate_step_at asked passage (gate_stage.Ended result) = None
+abbrev pub gate_step_at : (asked : ℕ) → After → gate_passage.Passage → GateStage → Option GateStep
+gate_step_at asked after passage (gate_stage.Exchanges read) = step_from read (passage_in asked after passage)
+gate_step_at asked after passage gate_stage.Loads = None
+gate_step_at asked after passage (gate_stage.Ended result) = None
 
 abbrev pub gate_step_in : Held → Stage → Option GateStep
-gate_step_in x (Passes g after) = gate_step_at (pages_needed x) g.passage g.stage
+gate_step_in x (Passes g after) = gate_step_at (pages_needed x) after g.passage g.stage
 gate_step_in x stage = None
 
 -- the flip so far
@@ -195,6 +215,7 @@ stock_at x p (place_stage.Ended result) = own_stock x.epoch x.run
 
 abbrev pub stock_in : Held → Stage → Option Stock
 stock_in x (Places p) = stock_at x p p.stage
+stock_in x (Guards g (OfPlace p)) = stock_at x p p.stage
 stock_in x stage = own_stock x.epoch x.run
 
 -- TRACED was read as that of this epoch
@@ -209,10 +230,18 @@ traced_before passages.Request = true
 traced_before passages.Clear = true
 traced_before passage = false
 
+-- who is to request anything has seen its epoch traced
+abbrev pub traced_for : Goal → Bool
+traced_for ForFlip = true
+traced_for ForSnap = true
+traced_for ForScanner = false
+
 abbrev pub traced_seen_in : Stage → Bool
 traced_seen_in (Passes g after) = traced_before g.passage
 traced_seen_in (Flips f) = true
 traced_seen_in (Places p) = traced_at p.stage
+traced_seen_in (Checkpoints r goal) = traced_for goal
+traced_seen_in (BeginsCheckpoint s) = true
 traced_seen_in stage = false
 
 -- SIZE as an allocation has read it
@@ -263,10 +292,12 @@ opened_at l (LooksAtBoard b) = None
 abbrev pub access_back : Back → Option Access
 access_back (ToAccess a) = access_at a.stage
 access_back ToPlace = None
+access_back ToSnap = None
 access_back ToScanner = None
 
 abbrev pub access_in : Stage → Option Access
 access_in (Accesses a) = access_at a.stage
+access_in (Guards g (OfAccess a)) = access_at a.stage
 access_in (Serves d back) = access_back back
 access_in (Scans s back) = access_back back
 access_in (Evacuates v s back) = access_back back
@@ -276,10 +307,12 @@ access_in stage = None
 abbrev pub opened_back : Layout → Back → Option ℕ
 opened_back l (ToAccess a) = opened_at l a.stage
 opened_back l ToPlace = None
+opened_back l ToSnap = None
 opened_back l ToScanner = None
 
 abbrev pub opened_in : Layout → Stage → Option ℕ
 opened_in l (Accesses a) = opened_at l a.stage
+opened_in l (Guards g (OfAccess a)) = opened_at l a.stage
 opened_in l (Serves d back) = opened_back l back
 opened_in l (Scans s back) = opened_back l back
 opened_in l (Evacuates v s back) = opened_back l back

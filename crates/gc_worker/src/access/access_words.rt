@@ -1,12 +1,12 @@
 //! What an access makes of the words that it reads, and where it goes on.
 
 ghost use Rattle.std.specs.Prelude.{◌≡◌, ◌+◌, ◌^◌, ◌<◌, ℕ};
-ghost use Rattle.std.specs.Result.{result_map_both};
 ghost use Rattle.heap_words.specs.Word.{number_word};
 ghost use Rattle.plain_state.specs.declared.sizes.TheConstants.{BOARD_WORDS};
 ghost use Rattle.plain_heap.specs.Call.{may_hold};
 ghost use Rattle.heap_laws.specs.Fields.Effects.{FitsRole, word_held};
 ghost use Rattle.gc_worker.specs.Steps.Access as access;
+ghost use Rattle.gc_worker.specs.Steps.StoredWord as stored;
 ghost use Rattle.gc_worker.specs.Plain.Seen.{IsValueWord, value_seen};
 
 use crate::access::access_stage::AccessStage;
@@ -62,15 +62,27 @@ pub fn held(role: Role, word: u64) -> u64
     }
 }
 
-/// What stands in a record for a register's word, else the end for a pointer that it may not hold.
+/// What stands in a record for a register's word, but for a pointer that it may not hold.
 #[tactic(auto, using(crate::proofs::Words::Read::word_of_value_seen))]
-pub fn stored(role: Role, new: u64) -> Result<u64, End>
+pub fn stored(role: Role, new: u64) -> Option<u64>
     requires { IsValueWord new }
-    ensures { (x : ℕ) → result ≡ result_map_both (access.word_as role) (λ why. why) (may_hold (access.kind_of role) x (value_seen new)) }
+    ensures { (x : ℕ) → result ≡ stored.word_if_held role (may_hold (access.kind_of role) x (value_seen new)) }
 {
     match role {
-        Role::Field => Ok(new),
-        Role::Number => Word(new).as_number().ok_or(End::IntoRaw),
+        Role::Field => Some(new),
+        Role::Number => Word(new).as_number(),
+    }
+}
+
+/// An access goes on, or ends since a number may not be replaced by a pointer.
+#[inline(always)]
+pub fn goes_on_if(goes: bool) -> Turn<Accessed>
+    ensures { result ≡ stored.goes_on_if goes }
+{
+    if goes {
+        Turn::More
+    } else {
+        Turn::Finished(Accessed::Fails(End::IntoRaw))
     }
 }
 

@@ -4,12 +4,15 @@ ghost use Rattle.std.specs.Prelude.{◌≡◌, ◌+◌, ◌^◌, ◌<◌, ◌≤
 ghost use Rattle.heap_words.specs.Decoded.{decode, number_in};
 ghost use Rattle.plain_heap.specs.Action.{in_record};
 ghost use Rattle.gc_worker.specs.Steps.Access.{FitsMixedUse, FitsRecordUse, IsHeapAddress, at_stage, by_kind, counted_by, counting, field_at, field_of, goes_by, goes_to_field, kind_of, loading, may_store, read_count, storing, turn_by, used_by, valued};
+ghost use Rattle.gc_worker.specs.Steps.StoredWord.{goes_on_if};
 ghost use Rattle.plain_heap.specs.Call.{may_hold};
 ghost use Rattle.gc_worker.specs.Plain.Seen.{IsValueWord, value_seen};
 
 use crate::access::Access;
 use crate::access::access_stage::AccessStage;
-use crate::access::access_words::{field, role_by_count, stored, tells_length, using_field};
+use crate::access::access_words::{
+    field, goes_on_if, role_by_count, stored, tells_length, using_field,
+};
 use crate::access::accessed::Accessed;
 use crate::access::field_access::{FieldAccess, FieldExchange, FieldUse, Role};
 use crate::access::mixed_access::MixedAccess;
@@ -85,7 +88,7 @@ impl Access {
         if r.value >= u64::from(len) {
             return Turn::Finished(Accessed::Fails(End::OutOfRange));
         }
-        self.store_in(field(r.at, 1, role, r.value as u32), usage, new)
+        goes_on_if(self.store_in(field(r.at, 1, role, r.value as u32), usage, new))
     }
 
     #[inline(always)]
@@ -102,26 +105,24 @@ impl Access {
         ensures state { self.new ≡ goes_by self.old (storing (field_of r.at 1 role r.value) (FieldUse.Exchanges e) (may_store role e.new (in_record len r.value))) }
         ensures tells { result ≡ turn_by (storing (field_of r.at 1 role r.value) (FieldUse.Exchanges e) (may_store role e.new (in_record len r.value))) }
     {
-        self.exchange_apart(r, role, len, e)
+        self.spaces.known();
+        if r.value >= u64::from(len) {
+            return Turn::Finished(Accessed::Fails(End::OutOfRange));
+        }
+        goes_on_if(self.exchange_apart(field(r.at, 1, role, r.value as u32), e))
     }
 
     /// An exchange stands apart for its size, as does what mixed records alone need: the rest of an access is then small enough to be
-    /// inlined. What calls it is a function too, since what is handed on in memory would be kept there by all of its caller.
+    /// inlined. Both only say whether they go on: what is handed back in memory would be kept there at each step of an access.
     #[inline(never)]
-    fn exchange_apart(
-        &mut self,
-        r: RecordAccess,
-        role: Role,
-        len: u16,
-        e: FieldExchange,
-    ) -> Turn<Accessed>
-        requires in_heap { IsHeapAddress self.old.spaces.pages r.at }
-        requires short { len ≤ 4095 }
+    fn exchange_apart(&mut self, f: FieldAccess, e: FieldExchange) -> bool
+        requires in_heap { field_at f < 2 ^ 32 }
+        requires behind { (0 < f.first) × (f.first ≤ f.word) }
         requires is_value { IsValueWord e.new }
-        ensures state { self.new ≡ goes_by self.old (storing (field_of r.at 1 role r.value) (FieldUse.Exchanges e) (may_store role e.new (in_record len r.value))) }
-        ensures tells { result ≡ turn_by (storing (field_of r.at 1 role r.value) (FieldUse.Exchanges e) (may_store role e.new (in_record len r.value))) }
+        ensures state { (x : ℕ) → self.new ≡ goes_by self.old (storing f (FieldUse.Exchanges e) (may_hold (kind_of f.role) x (value_seen e.new))) }
+        ensures tells { (x : ℕ) → goes_on_if result ≡ turn_by (storing f (FieldUse.Exchanges e) (may_hold (kind_of f.role) x (value_seen e.new))) }
     {
-        self.store(r, role, len, FieldUse::Exchanges(e), e.new)
+        self.store_in(f, FieldUse::Exchanges(e), e.new)
     }
 
     /// A mixed record has the value or not by its header; what role it has the count says, which stands behind that.
@@ -173,51 +174,61 @@ impl Access {
         ensures state { self.new ≡ goes_by self.old (read_count m (number_in (decode word))) }
         ensures tells { result ≡ turn_by (read_count m (number_in (decode word))) }
     {
-        self.read_count_apart(m, word)
+        goes_on_if(self.read_count_apart(m, word))
     }
 
     #[inline(never)]
-    fn read_count_apart(&mut self, m: MixedAccess, word: u64) -> Turn<Accessed>
+    fn read_count_apart(&mut self, m: MixedAccess, word: u64) -> bool
         requires in_heap { IsHeapAddress self.old.spaces.pages (m.at + (m.value + 2)) }
         requires fits { FitsMixedUse m.usage }
         ensures state { self.new ≡ goes_by self.old (read_count m (number_in (decode word))) }
-        ensures tells { result ≡ turn_by (read_count m (number_in (decode word))) }
+        ensures tells { goes_on_if result ≡ turn_by (read_count m (number_in (decode word))) }
     {
         match Word(word).as_number() {
             Some(count) => self.use_value(m, role_by_count(count, m.value)),
-            None => self.go_to(AccessStage::LoadsCount(m)),
+            None => {
+                self.go_to(AccessStage::LoadsCount(m));
+                true
+            }
         }
     }
 
     /// The values of a mixed record begin behind its count.
     #[inline(always)]
-    fn use_value(&mut self, m: MixedAccess, role: Role) -> Turn<Accessed>
+    fn use_value(&mut self, m: MixedAccess, role: Role) -> bool
         requires in_heap { IsHeapAddress self.old.spaces.pages (m.at + (m.value + 2)) }
         requires fits { FitsMixedUse m.usage }
         ensures state { self.new ≡ goes_by self.old (valued m role m.usage) }
-        ensures tells { result ≡ turn_by (valued m role m.usage) }
+        ensures tells { goes_on_if result ≡ turn_by (valued m role m.usage) }
     {
         self.spaces.known();
         let f = field(m.at, 2, role, m.value);
         match m.usage {
-            FieldUse::Loads(_) => self.go_to_field(f, m.usage),
+            FieldUse::Loads(_) => {
+                self.go_to_field(f, m.usage);
+                true
+            }
             FieldUse::Stores(new) => self.store_in(f, m.usage, new),
             FieldUse::Exchanges(e) => self.store_in(f, m.usage, e.new),
         }
     }
 
-    /// A register's word is stored there, if it may be.
+    /// A register's word is stored there, if it may be. It says whether the access goes on.
+    #[tactic(auto, using(crate::proofs::Words::StoredWords::stores_held, crate::proofs::Words::StoredWords::fails_unheld))]
     #[inline(always)]
-    fn store_in(&mut self, f: FieldAccess, usage: FieldUse, new: u64) -> Turn<Accessed>
+    fn store_in(&mut self, f: FieldAccess, usage: FieldUse, new: u64) -> bool
         requires in_heap { field_at f < 2 ^ 32 }
         requires behind { (0 < f.first) × (f.first ≤ f.word) }
         requires is_value { IsValueWord new }
         ensures state { (x : ℕ) → self.new ≡ goes_by self.old (storing f usage (may_hold (kind_of f.role) x (value_seen new))) }
-        ensures tells { (x : ℕ) → result ≡ turn_by (storing f usage (may_hold (kind_of f.role) x (value_seen new))) }
+        ensures tells { (x : ℕ) → goes_on_if result ≡ turn_by (storing f usage (may_hold (kind_of f.role) x (value_seen new))) }
     {
         match stored(f.role, new) {
-            Ok(word) => self.go_to_field(f, usage.with_new(word)),
-            Err(why) => Turn::Finished(Accessed::Fails(why)),
+            Some(word) => {
+                self.go_to_field(f, usage.with_new(word));
+                true
+            }
+            None => false,
         }
     }
 

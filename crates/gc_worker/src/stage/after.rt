@@ -5,4 +5,6 @@ pub enum After {
     Looks,
     /// At the allocation of a record, from its beginning.
     Places,
+    /// At the beginning of a checkpoint, from its first round.
+    Snaps,
 }

@@ -7,6 +7,8 @@ pub enum Back {
     ToAccess(Access),
     /// To the allocation of a record, from its beginning.
     ToPlace,
+    /// To the beginning of a checkpoint, from its first round.
+    ToSnap,
     /// To the next round.
     ToScanner,
 }

@@ -13,6 +13,7 @@ ghost use Rattle.gc_worker.specs.Steps.Turned.{full_by, is_full, places, told, t
 use crate::stage::Stage;
 use crate::stage::after::After;
 use crate::stage::back::Back;
+use crate::stage::goal::Goal;
 use crate::state::State;
 use crate::steps::stepped::Stepped;
 use crate::task::due::Due;
@@ -112,14 +113,11 @@ impl State {
         match self.header_and_fields() {
             Some((header, fields)) => {
                 let run = self.run.unwrap_or(Run { at: 0, end: 0 });
-                self.stage = Stage::Places(Place::new(
-                    self.spaces,
-                    run,
-                    header,
-                    self.epoch,
-                    fields,
-                    0,
-                ));
+                let place = Place::new(self.spaces, run, header, self.epoch, fields, self.snap);
+                self.stage = Stage::Places(place);
+                if self.running != 0 {
+                    self.guard_place(place);
+                }
             }
             None => self.stage = Stage::Looks,
         }
@@ -140,6 +138,10 @@ impl State {
             unreachable!()
         };
         let Turn::Finished(allocated) = place.take(reply) else {
+            if self.running != 0 {
+                let place = *place;
+                self.guard_place(place);
+            }
             return Stepped::Moved;
         };
         let run = place.run();
@@ -197,7 +199,11 @@ impl State {
             } = s;
             return self.end_with(End::HeapFull { asked, room, live });
         }
-        self.stage = Stage::Passes(Gate::request(self.spaces), After::Places);
+        if self.spaces.has_checkpoints() {
+            self.checkpoint(Goal::ForFlip);
+        } else {
+            self.stage = Stage::Passes(Gate::request(self.spaces), After::Places);
+        }
         Stepped::Moved
     }
 }

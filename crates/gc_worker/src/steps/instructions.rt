@@ -5,7 +5,8 @@
 //! took 38 machine instructions more for an instruction on registers (docs/PERFORMANCE.md). Both are proved to do what the one
 //! definition `action` says.
 
-ghost use Rattle.std.specs.Prelude.{◌≡◌, ℕ, ◌^◌, ◌<◌, IsTrue, true, nat_lt};
+ghost use Rattle.std.specs.Prelude.{◌≡◌, ℕ, ◌^◌, ◌<◌, ◌≤◌, IsTrue, true, nat_lt};
+ghost use Rattle.space_map.specs.declared.spaces.TheConstants.{LAST_WORKER};
 ghost use Rattle.mutator_asm.specs.Program.{is_valid};
 ghost use Rattle.plain_state.specs.declared.kind.Kind.{Kind};
 ghost use Rattle.plain_state.specs.declared.sizes.TheConstants.{BOARD_WORDS};
@@ -36,11 +37,12 @@ impl State {
     pub fn execute(&mut self) -> Stepped
         requires at { self.old.stage ≡ Stage.Looks }
         requires is_mutator { nat_lt self.old.number self.old.mutators ≡ true }
+        requires few { self.old.number ≤ LAST_WORKER }
         requires due { IsCall self.old.task }
         requires valid { IsTrue (is_valid (instr_due self.old.task)) }
         requires after { let act = action (seen_by self.old) (instr_due self.old.task) in FitsStage (acted self.old act) (acted self.old act).stage }
         ensures state { self.new ≡ uncounted (acted self.old (action (seen_by self.old) (instr_due self.old.task))) }
-        ensures tells { (task : Task) → result ≡ stepped_by self.old.number (told_acted task (action (seen_by self.old) (instr_due self.old.task))) }
+        ensures tells { (task : Task) → result ≡ stepped_by self.old.number (told_acted self.old task (action (seen_by self.old) (instr_due self.old.task))) }
     {
         let Due::Call = self.due else { unreachable!() };
         match self.instr {
@@ -69,7 +71,7 @@ impl State {
             Instr::Put(x, a) => self.put_on_board(x, a),
             Instr::Swap(d, x) => self.swap_with_board(d, x),
             Instr::Out(a) => self.print_number(a),
-            Instr::Snap => self.go_on(),
+            Instr::Snap => self.snap(),
             Instr::Halt => self.end_with(End::Halt),
         }
     }
@@ -79,7 +81,7 @@ impl State {
     fn compute(&mut self, operation: Operation, d: u8, a: u8, b: u8) -> Stepped
         requires at { self.old.stage ≡ Stage.Looks }
         ensures state { self.new ≡ uncounted (acted self.old (computes operation (seen_by self.old) d a b)) }
-        ensures tells { (task : Task) → result ≡ stepped_by self.old.number (told_acted task (computes operation (seen_by self.old) d a b)) }
+        ensures tells { (task : Task) → result ≡ stepped_by self.old.number (told_acted self.old task (computes operation (seen_by self.old) d a b)) }
     {
         let number = match (self.number(a), self.number(b)) {
             (Ok(a), Ok(b)) => operation.apply(a, b),
@@ -97,7 +99,7 @@ impl State {
     fn jump_to(&mut self, a: u8) -> Stepped
         requires at { self.old.stage ≡ Stage.Looks }
         ensures state { self.new ≡ uncounted (acted self.old (action (seen_by self.old) (Instr.Jr a))) }
-        ensures tells { (task : Task) → result ≡ stepped_by self.old.number (told_acted task (action (seen_by self.old) (Instr.Jr a))) }
+        ensures tells { (task : Task) → result ≡ stepped_by self.old.number (told_acted self.old task (action (seen_by self.old) (Instr.Jr a))) }
     {
         match self.number(a) {
             Ok(target) => self.jump(target),
@@ -112,7 +114,7 @@ impl State {
         requires at { self.old.stage ≡ Stage.Looks }
         requires is_mutator { nat_lt self.old.number self.old.mutators ≡ true }
         ensures state { self.new ≡ uncounted (acted self.old (action (seen_by self.old) (Instr.Out a))) }
-        ensures tells { (task : Task) → result ≡ stepped_by self.old.number (told_acted task (action (seen_by self.old) (Instr.Out a))) }
+        ensures tells { (task : Task) → result ≡ stepped_by self.old.number (told_acted self.old task (action (seen_by self.old) (Instr.Out a))) }
     {
         match self.number(a) {
             Ok(number) if self.printed.len() < MOST_PRINTED => self.print(number),
@@ -127,7 +129,7 @@ impl State {
         requires at { self.old.stage ≡ Stage.Looks }
         requires after { (kind : Kind) × (d : ℕ) × FitsStage (acted self.old (allocates (seen_by self.old) kind d x)) (acted self.old (allocates (seen_by self.old) kind d x)).stage }
         ensures state { (kind : Kind) (d : ℕ) → self.new ≡ uncounted (acted self.old (allocates (seen_by self.old) kind d x)) }
-        ensures tells { (task : Task) (kind : Kind) (d : ℕ) → result ≡ stepped_by self.old.number (told_acted task (allocates (seen_by self.old) kind d x)) }
+        ensures tells { (task : Task) (kind : Kind) (d : ℕ) → result ≡ stepped_by self.old.number (told_acted self.old task (allocates (seen_by self.old) kind d x)) }
     {
         self.known();
         match self.length(x) {
@@ -146,7 +148,7 @@ impl State {
         requires at { self.old.stage ≡ Stage.Looks }
         requires after { (d : ℕ) × FitsStage (acted self.old (mixes (seen_by self.old) d fields raw)) (acted self.old (mixes (seen_by self.old) d fields raw)).stage }
         ensures state { (d : ℕ) → self.new ≡ uncounted (acted self.old (mixes (seen_by self.old) d fields raw)) }
-        ensures tells { (task : Task) (d : ℕ) → result ≡ stepped_by self.old.number (told_acted task (mixes (seen_by self.old) d fields raw)) }
+        ensures tells { (task : Task) (d : ℕ) → result ≡ stepped_by self.old.number (told_acted self.old task (mixes (seen_by self.old) d fields raw)) }
     {
         self.known();
         match self.mixed_length(fields, raw) {
@@ -163,7 +165,7 @@ impl State {
     #[inline(always)]
     fn load_from(&mut self, d: u8, a: u8, x: Operand) -> Stepped
         ensures state { self.new ≡ uncounted (acted self.old (action (seen_by self.old) (Instr.Ld d a x))) }
-        ensures tells { (task : Task) → result ≡ stepped_by self.old.number (told_acted task (action (seen_by self.old) (Instr.Ld d a x))) }
+        ensures tells { (task : Task) → result ≡ stepped_by self.old.number (told_acted self.old task (action (seen_by self.old) (Instr.Ld d a x))) }
     {
         match (self.reference(a), self.operand(x)) {
             (Ok(record), Ok(x)) => self.begin_access(to_record(record, x, RecordUse::Loads(d))),
@@ -176,7 +178,7 @@ impl State {
     #[inline(always)]
     fn store_to(&mut self, a: u8, x: Operand, b: u8) -> Stepped
         ensures state { self.new ≡ uncounted (acted self.old (action (seen_by self.old) (Instr.St a x b))) }
-        ensures tells { (task : Task) → result ≡ stepped_by self.old.number (told_acted task (action (seen_by self.old) (Instr.St a x b))) }
+        ensures tells { (task : Task) → result ≡ stepped_by self.old.number (told_acted self.old task (action (seen_by self.old) (Instr.St a x b))) }
     {
         let new = RecordUse::Stores(word_of(self.value(b)));
         match (self.reference(a), self.operand(x)) {
@@ -190,7 +192,7 @@ impl State {
     #[inline(always)]
     fn exchange_in(&mut self, d: u8, a: u8, x: Operand, b: u8, c: u8) -> Stepped
         ensures state { self.new ≡ uncounted (acted self.old (action (seen_by self.old) (Instr.Cas d a x b c))) }
-        ensures tells { (task : Task) → result ≡ stepped_by self.old.number (told_acted task (action (seen_by self.old) (Instr.Cas d a x b c))) }
+        ensures tells { (task : Task) → result ≡ stepped_by self.old.number (told_acted self.old task (action (seen_by self.old) (Instr.Cas d a x b c))) }
     {
         let exchange = RecordUse::Exchanges(FieldExchange {
             into: d,
@@ -208,7 +210,7 @@ impl State {
     #[inline(always)]
     fn measure(&mut self, d: u8, a: u8) -> Stepped
         ensures state { self.new ≡ uncounted (acted self.old (action (seen_by self.old) (Instr.Len d a))) }
-        ensures tells { (task : Task) → result ≡ stepped_by self.old.number (told_acted task (action (seen_by self.old) (Instr.Len d a))) }
+        ensures tells { (task : Task) → result ≡ stepped_by self.old.number (told_acted self.old task (action (seen_by self.old) (Instr.Len d a))) }
     {
         match self.reference(a) {
             Ok(record) => self.begin_access(to_record(record, 0, RecordUse::TellsLength(d))),
@@ -221,7 +223,7 @@ impl State {
     #[inline(always)]
     fn get_from_board(&mut self, d: u8, x: Operand) -> Stepped
         ensures state { self.new ≡ uncounted (acted self.old (action (seen_by self.old) (Instr.Get d x))) }
-        ensures tells { (task : Task) → result ≡ stepped_by self.old.number (told_acted task (action (seen_by self.old) (Instr.Get d x))) }
+        ensures tells { (task : Task) → result ≡ stepped_by self.old.number (told_acted self.old task (action (seen_by self.old) (Instr.Get d x))) }
     {
         match self.board_place(x) {
             Ok(word) => self.begin_access(to_board(word, BoardUse::Loads(d))),
@@ -234,7 +236,7 @@ impl State {
     #[inline(always)]
     fn put_on_board(&mut self, x: Operand, a: u8) -> Stepped
         ensures state { self.new ≡ uncounted (acted self.old (action (seen_by self.old) (Instr.Put x a))) }
-        ensures tells { (task : Task) → result ≡ stepped_by self.old.number (told_acted task (action (seen_by self.old) (Instr.Put x a))) }
+        ensures tells { (task : Task) → result ≡ stepped_by self.old.number (told_acted self.old task (action (seen_by self.old) (Instr.Put x a))) }
     {
         let new = BoardUse::Stores(word_of(self.value(a)));
         match self.board_place(x) {
@@ -248,7 +250,7 @@ impl State {
     #[inline(always)]
     fn swap_with_board(&mut self, d: u8, x: Operand) -> Stepped
         ensures state { self.new ≡ uncounted (acted self.old (action (seen_by self.old) (Instr.Swap d x))) }
-        ensures tells { (task : Task) → result ≡ stepped_by self.old.number (told_acted task (action (seen_by self.old) (Instr.Swap d x))) }
+        ensures tells { (task : Task) → result ≡ stepped_by self.old.number (told_acted self.old task (action (seen_by self.old) (Instr.Swap d x))) }
     {
         let swap = BoardUse::Swaps(d, word_of(self.value(d)));
         match self.board_place(x) {

@@ -1,6 +1,7 @@
 //! The look at the gate that begins an instruction.
 
-ghost use Rattle.std.specs.Prelude.{◌≡◌, true, nat_lt};
+ghost use Rattle.std.specs.Prelude.{◌≡◌, ◌≤◌, true, nat_lt};
+ghost use Rattle.space_map.specs.declared.spaces.TheConstants.{LAST_WORKER};
 ghost use Rattle.space_map.specs.GateWord.{decode_gate};
 ghost use Rattle.gc_worker.specs.Workers.Fits.{FitsStage, MayBegin};
 ghost use Rattle.gc_worker.specs.Steps.Stepped.{IsSound, stepped_by, uncounted};
@@ -35,6 +36,7 @@ impl State {
     fn looked(&mut self, word: u64) -> Stepped
         requires at { self.old.stage ≡ Stage.Looks }
         requires is_mutator { nat_lt self.old.number self.old.mutators ≡ true }
+        requires few { self.old.number ≤ LAST_WORKER }
         requires may_begin { MayBegin self.old.account self.old.registers self.old.task }
         requires after { FitsStage (looked_by self.old (decode_gate word)) (looked_by self.old (decode_gate word)).stage }
         ensures state { self.new ≡ uncounted (looked_by self.old (decode_gate word)) }
@@ -55,6 +57,7 @@ impl State {
     fn start(&mut self) -> Stepped
         requires at { self.old.stage ≡ Stage.Looks }
         requires is_mutator { nat_lt self.old.number self.old.mutators ≡ true }
+        requires few { self.old.number ≤ LAST_WORKER }
         requires may_begin { MayBegin self.old.account self.old.registers self.old.task }
         requires after { FitsStage (started self.old self.old.task) (started self.old self.old.task).stage }
         ensures state { self.new ≡ uncounted (started self.old self.old.task) }

@@ -3,7 +3,7 @@
 
 ghost use Rattle.std.specs.Prelude.{◌≡◌};
 ghost use Rattle.gc_worker.specs.Steps.Made.{MayMake, step_made};
-ghost use Rattle.gc_worker.specs.Steps.Stepped.{IsAtAccess, IsAtGate, IsEvacuating, IsFlipping, IsForwarding, IsOpening, IsPlacing, IsAtScan, IsServing, IsSound, uncounted};
+ghost use Rattle.gc_worker.specs.Steps.Stepped.{IsAtAccess, IsAtGate, IsBeginningCheckpoint, IsCheckpointing, IsEvacuating, IsFlipping, IsForwarding, IsGuarding, IsOpening, IsPlacing, IsRecalling, IsAtScan, IsServing, IsSound, uncounted};
 
 use crate::stage::Stage;
 use crate::state::State;
@@ -49,6 +49,19 @@ impl State {
                 self.open_on(on);
                 Stepped::Moved
             }
+            Stage::Recalls(..) => {
+                self.recall_on(on);
+                Stepped::Moved
+            }
+            Stage::Guards(..) => {
+                self.guard_on(on);
+                Stepped::Moved
+            }
+            Stage::Checkpoints(..) => {
+                self.go_on_saving_on(on);
+                Stepped::Moved
+            }
+            Stage::BeginsCheckpoint(_) => self.begin_checkpoint_on(on),
             Stage::Gone => Stepped::Idle,
         }
     }
@@ -202,5 +215,66 @@ impl State {
         };
         let reply = on.act(open.want());
         self.open(reply);
+    }
+
+    #[inline(never)]
+    fn recall_on(&mut self, on: &mut PlainAtoms)
+        requires at { IsRecalling self.old.stage }
+        requires sound { IsSound self.old }
+        requires may { MayMake self.old on.old }
+        ensures state { self.new ≡ uncounted (step_made self.old on.old).held }
+        ensures words { on.new ≡ (step_made self.old on.old).words }
+    {
+        let Stage::Recalls(recall, _) = &self.stage else {
+            unreachable!()
+        };
+        let reply = on.act(recall.want());
+        self.recall(reply);
+    }
+
+    #[inline(never)]
+    fn guard_on(&mut self, on: &mut PlainAtoms)
+        requires at { IsGuarding self.old.stage }
+        requires sound { IsSound self.old }
+        requires may { MayMake self.old on.old }
+        ensures state { self.new ≡ uncounted (step_made self.old on.old).held }
+        ensures words { on.new ≡ (step_made self.old on.old).words }
+    {
+        let Stage::Guards(guard, _) = &self.stage else {
+            unreachable!()
+        };
+        let reply = on.act(guard.want());
+        self.guard(reply);
+    }
+
+    #[inline(never)]
+    fn go_on_saving_on(&mut self, on: &mut PlainAtoms)
+        requires at { IsCheckpointing self.old.stage }
+        requires sound { IsSound self.old }
+        requires may { MayMake self.old on.old }
+        ensures state { self.new ≡ uncounted (step_made self.old on.old).held }
+        ensures words { on.new ≡ (step_made self.old on.old).words }
+    {
+        let Stage::Checkpoints(round, _) = &self.stage else {
+            unreachable!()
+        };
+        let reply = on.act(round.want());
+        self.go_on_saving(reply);
+    }
+
+    #[inline(never)]
+    fn begin_checkpoint_on(&mut self, on: &mut PlainAtoms) -> Stepped
+        requires at { IsBeginningCheckpoint self.old.stage }
+        requires sound { IsSound self.old }
+        requires may { MayMake self.old on.old }
+        ensures state { self.new ≡ uncounted (step_made self.old on.old).held }
+        ensures words { on.new ≡ (step_made self.old on.old).words }
+        ensures tells { result ≡ (step_made self.old on.old).told }
+    {
+        let Stage::BeginsCheckpoint(snap) = &self.stage else {
+            unreachable!()
+        };
+        let reply = on.act(snap.want());
+        self.begin_checkpoint(reply)
     }
 }

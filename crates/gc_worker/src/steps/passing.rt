@@ -2,12 +2,12 @@
 
 ghost use Rattle.std.specs.Prelude.{◌≡◌, ◌+◌, ◌-◌, ◌^◌, ◌<◌, ◌≤◌};
 ghost use Rattle.std.specs.Option.{option_map};
-ghost use Rattle.gc_worker.specs.Workers.Held.{at_stage, has_seen_flip};
+ghost use Rattle.gc_worker.specs.Workers.Held.{at_stage, has_seen_flip, may_snap};
 ghost use Rattle.gc_worker.specs.declared.stage.Stage.TheVariants.{Flips};
 ghost use Rattle.gate_core.specs.Flip.{begun};
 ghost use Rattle.gc_worker.specs.Workers.Fits.{FitsStage, Takes};
 ghost use Rattle.gc_worker.specs.Steps.Stepped.{IsAtGate, IsFlipping, IsForwarding, IsSound, pointed, stepped_by, uncounted};
-ghost use Rattle.gc_worker.specs.Steps.Turned.{epoch_said, first_pointer, forwards_from, goes_on, in_epoch, passed_by, passes, stopped, told, turned};
+ghost use Rattle.gc_worker.specs.Steps.Turned.{after_request, epoch_said, first_pointer, forwards_from, goes_on, in_epoch, passed_by, passes, runs_on, stopped, told, turned};
 
 use crate::stage::Stage;
 use crate::stage::after::After;
@@ -16,7 +16,7 @@ use crate::state::State;
 use crate::steps::stepped::Stepped;
 use atom_store::{Reply, Turn};
 use forwarding::Evac;
-use gate_core::{Flip, Flipped, Gate, Passage, Passed};
+use gate_core::{Flip, Flipped, Gate, Passage, Passed, Recall};
 use heap_words::Word;
 use plain_state::REGISTERS;
 use space_map::GateWord;
@@ -42,6 +42,7 @@ impl State {
     }
 
     /// What a passage comes to.
+    #[tactic(auto, using(crate::proofs::Workers::Fitting::fits_before))]
     #[inline(always)]
     fn has_passed(&mut self, after: After, passage: Passage, passed: Passed)
         requires { FitsStage (passed_by self.old after passage passed) (passed_by self.old after passage passed).stage }
@@ -50,7 +51,7 @@ impl State {
         match (passage, passed) {
             (Passage::Attach, Passed::Went(word)) => {
                 self.enter(word);
-                self.stage = Stage::Looks;
+                self.run_on(After::Looks);
             }
             (Passage::Attach, Passed::NotYet(_)) => {
                 self.stage = Stage::Passes(Gate::attach(self.spaces), after);
@@ -58,12 +59,9 @@ impl State {
             (Passage::Park | Passage::Clear, Passed::Went(_)) => {
                 self.stage = self.resuming(after);
             }
-            (Passage::Park, Passed::NotYet(_)) | (Passage::Resume(_), Passed::Went(_)) => {
-                self.go_on_with(after);
-            }
-            (Passage::Request, Passed::Went(_)) => {
-                self.stage = self.flipping(self.asked());
-            }
+            (Passage::Park, Passed::NotYet(_)) => self.go_on_with(after),
+            (Passage::Resume(_), Passed::Went(_)) => self.run_on(after),
+            (Passage::Request, Passed::Went(_)) => self.stage = self.asking(after),
             (Passage::Request, Passed::NotYet(_)) => {
                 self.stage = Stage::Passes(Gate::park(self.spaces), after);
             }
@@ -93,14 +91,39 @@ impl State {
         Stage::Passes(Gate::resume(self.spaces, self.epoch), after)
     }
 
+    /// A mutator that begins to run reads first which checkpoint is in progress, if there are checkpoints.
+    fn run_on(&mut self, after: After)
+        requires { FitsStage self.old (runs_on self.old after) }
+        ensures { self.new ≡ at_stage self.old (runs_on self.old after) }
+    {
+        if self.spaces.has_checkpoints() {
+            self.stage = Stage::Recalls(Recall::new(self.spaces), after);
+        } else {
+            self.go_on_with(after);
+        }
+    }
+
     /// A mutator that stopped goes on with what it was about to do.
-    fn go_on_with(&mut self, after: After)
+    pub fn go_on_with(&mut self, after: After)
         requires { FitsStage self.old (goes_on self.old after) }
         ensures { self.new ≡ at_stage self.old (goes_on self.old after) }
     {
         match after {
             After::Looks => self.stage = Stage::Looks,
             After::Places => self.begin_placing(),
+            After::Snaps if self.may_snap() => self.serve_snap(),
+            After::Snaps => self.stage = Stage::Looks,
+        }
+    }
+
+    /// Its request stands: it flips, or begins a checkpoint.
+    fn asking(&self, after: After) -> Stage
+        requires { FitsStage self.now (after_request self.now after) }
+        ensures { result ≡ after_request self.now after }
+    {
+        match after {
+            After::Snaps => self.beginning(),
+            After::Looks | After::Places => self.flipping(self.asked()),
         }
     }
 

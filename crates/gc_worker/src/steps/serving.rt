@@ -6,12 +6,13 @@ ghost use Rattle.space_map.specs.Spaces.{board_page};
 ghost use Rattle.gc_worker.specs.declared.access.access_stage.AccessStage.{AccessStage};
 ghost use Rattle.gc_worker.specs.Workers.Fits.{FitsStage, IsAccessing, Takes};
 ghost use Rattle.gc_worker.specs.Steps.Stepped.{IsAtAccess, IsEvacuating, IsOpening, IsAtScan, IsServing, IsSound, back_at, served_in, stepped_by, uncounted};
-ghost use Rattle.gc_worker.specs.Steps.Turned.{accessed_by, back_from, goes_back, scans, told, told_access, turned};
+ghost use Rattle.gc_worker.specs.Steps.Turned.{accessed_by, back_from, goes_back, scans, told, told_access, traced_by, turned};
 
 use crate::access::Access;
 use crate::access::accessed::Accessed;
 use crate::stage::Stage;
 use crate::stage::back::Back;
+use crate::stage::goal::Goal;
 use crate::state::State;
 use crate::steps::stepped::Stepped;
 use atom_store::{Reply, Turn};
@@ -35,7 +36,13 @@ impl State {
             unreachable!()
         };
         match access.take(reply) {
-            Turn::More => Stepped::Moved,
+            Turn::More => {
+                if self.running != 0 {
+                    let access = *access;
+                    self.guard_access(access);
+                }
+                Stepped::Moved
+            }
             Turn::Finished(accessed) => {
                 let access = *access;
                 self.has_accessed(access, accessed)
@@ -99,7 +106,8 @@ impl State {
         match end {
             RoundEnd::ScanPage(page) => self.scan_page(epoch, page, false),
             RoundEnd::ScanInPlace(page) => self.scan_page(epoch, page, true),
-            RoundEnd::Marked | RoundEnd::Traced | RoundEnd::NothingNow(_) => self.go_back(epoch),
+            RoundEnd::Marked | RoundEnd::NothingNow(_) => self.go_back(epoch),
+            RoundEnd::Traced => self.has_found_traced(epoch),
             RoundEnd::AllLeft(_) => self.stage = Stage::Gone,
         }
     }
@@ -119,10 +127,32 @@ impl State {
         self.stage = Stage::Scans(scan, back);
     }
 
+    /// The epoch is traced: who begins a checkpoint goes on, and a scanner helps with one.
+    fn has_found_traced(&mut self, epoch: u32)
+        requires at { IsServing self.old.stage }
+        requires fits { let x = record self.old { epoch = epoch } in FitsStage (traced_by x (back_at self.old.stage)) (traced_by x (back_at self.old.stage)).stage }
+        ensures { self.new ≡ traced_by (record self.old { epoch = epoch }) (back_at self.old.stage) }
+    {
+        let Stage::Serves(_, back) = self.stage else {
+            unreachable!()
+        };
+        match back {
+            Back::ToSnap => {
+                self.epoch = epoch;
+                self.checkpoint(Goal::ForSnap);
+            }
+            Back::ToScanner if self.spaces.has_checkpoints() => {
+                self.epoch = epoch;
+                self.checkpoint(Goal::ForScanner);
+            }
+            Back::ToAccess(_) | Back::ToPlace | Back::ToScanner => self.go_back(epoch),
+        }
+    }
+
     /// The worker goes on where it was before the round, in this epoch.
     ///
     /// It has the arms of `return_to` itself: if it hands on to that, each step of a run takes two machine instructions more.
-    #[tactic(auto, using(crate::proofs::Words::Read::placing_fits))]
+    #[tactic(auto, using(crate::proofs::Workers::Fitting::fits_before))]
     fn go_back(&mut self, epoch: u32)
         requires at { IsServing self.old.stage }
         requires fits { FitsStage (back_from (record self.old { epoch = epoch }) (back_at self.old.stage)) (goes_back (record self.old { epoch = epoch }) (back_at self.old.stage)) }
@@ -135,6 +165,7 @@ impl State {
         match back {
             Back::ToAccess(access) => self.stage = Stage::Accesses(access),
             Back::ToPlace => self.begin_placing(),
+            Back::ToSnap => self.serve_snap(),
             Back::ToScanner => self.begin_next_round(),
         }
     }
@@ -154,7 +185,7 @@ impl State {
     }
 
     /// The worker goes on where it was before the round.
-    #[tactic(auto, using(crate::proofs::Words::Read::placing_fits))]
+    #[tactic(auto, using(crate::proofs::Workers::Fitting::fits_before))]
     fn return_to(&mut self, back: Back)
         requires { FitsStage (back_from self.old back) (goes_back self.old back) }
         ensures { self.new ≡ back_from self.old back }
@@ -162,6 +193,7 @@ impl State {
         match back {
             Back::ToAccess(access) => self.stage = Stage::Accesses(access),
             Back::ToPlace => self.begin_placing(),
+            Back::ToSnap => self.serve_snap(),
             Back::ToScanner => {
                 let duty = Duty::scanner(self.spaces, self.number, self.mutators);
                 self.stage = Stage::Serves(duty, Back::ToScanner);

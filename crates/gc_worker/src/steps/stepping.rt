@@ -65,6 +65,8 @@ impl State {
             mutators,
             epoch: 0,
             begun: 0,
+            snap: 0,
+            running: 0,
             registers: [0; REGISTERS],
             counter: 0,
             serial: 0,
@@ -111,6 +113,10 @@ impl State {
             Stage::Scans(scan, _) => Some(scan.want()),
             Stage::Evacuates(evac, _, _) => Some(evac.want()),
             Stage::Opens(open, _, _) => Some(open.want()),
+            Stage::Recalls(recall, _) => Some(recall.want()),
+            Stage::Guards(guard, _) => Some(guard.want()),
+            Stage::Checkpoints(round, _) => Some(round.want()),
+            Stage::BeginsCheckpoint(snap) => Some(snap.want()),
             Stage::Gone => None,
         }
     }
@@ -153,6 +159,19 @@ impl State {
                 self.open(reply);
                 Stepped::Moved
             }
+            Stage::Recalls(..) => {
+                self.recall(reply);
+                Stepped::Moved
+            }
+            Stage::Guards(..) => {
+                self.guard(reply);
+                Stepped::Moved
+            }
+            Stage::Checkpoints(..) => {
+                self.go_on_saving(reply);
+                Stepped::Moved
+            }
+            Stage::BeginsCheckpoint(_) => self.begin_checkpoint(reply),
             Stage::Gone => unreachable!(),
         }
     }

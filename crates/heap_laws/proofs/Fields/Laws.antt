@@ -12,11 +12,12 @@ use Rattle.heap_state.specs.Invariant.Inductive.{Invariant}
 use Rattle.heap_state.specs.Meaning.Values.{Accounts, Shown}
 use Rattle.heap_state.specs.Worker.{Worker, Team, Account, is_running}
 use Rattle.heap_state.proofs.Puts.{none≢some}
+use Rattle.heap_state.proofs.Represents.Snapped.{snaps_show}
 use Rattle.heap_laws.specs.Fields.Held.{MutatorGoesOn, with_mutator, GoesOnSo}
 use Rattle.heap_laws.specs.Steps.{with_word, with_worker, Makes, NoRow, InWord}
 use Rattle.heap_laws.specs.Fields.Stores.{IsAs, MutatorsStep, MutatorsStore, MutatorsStoreOnBoard, MutatorsSnap, MutatorsEnd, MutatorsFindNoRoom, with_end, MutatorsLearn}
 use Rattle.heap_laws.proofs.Fields.Cycle.{stores_keep_cycle, board_stores_keep_cycle}
-use Rattle.heap_laws.proofs.Fields.Shown.{stores_show, board_stores_show, snaps_show}
+use Rattle.heap_laws.proofs.Fields.Shown.{stores_show, board_stores_show}
 use Rattle.heap_laws.proofs.Fields.Stored.{words_are_stored, board_is_stored}
 use Rattle.plain_state.proofs.Stored.{stored_serial}
 use Rattle.heap_laws.proofs.Fields.GoingOn.{mutators_go_on, going_on_shows, going_on_keeps_cycle}

@@ -7,7 +7,7 @@ use Rattle.std.proofs.lemmas.Bool.{cases_eq}
 use Rattle.plain_state.specs.State as plain
 use Rattle.plain_state.specs.declared.value.Identity.{Identity}
 use Rattle.plain_state.specs.declared.value.Value.{Value}
-use Rattle.plain_state.specs.Writing.{stored, took, with_heap, with_value}
+use Rattle.plain_state.specs.Writing.{stored, with_heap, with_value}
 use Rattle.plain_state.specs.Layout.{values_at, word_of_value}
 use Rattle.heap_state.specs.Memory.Era.{Era, IsLaidOut, Memory}
 use Rattle.heap_state.specs.Functions.{put}
@@ -178,17 +178,6 @@ board_stores_show E m team g p x v y lay inv l denotes s = record {
   where
     off : (b : ℕ) → 0 < g.size b → (j : ℕ) → j < g.size b → put m.heap (E.board + x) v (b + j) ≡ m.heap (b + j)
     off b st j u = put_other m.heap (E.board + x) v (b + j) (λ e. let q = inv.laid.lies b st in omega (arith, e, q, inv.laid.order, lay.below, lay.old_below, u))
-
--- the words show the plain heap with another checkpoint as well
-pub snaps_show : (E : Era) (m : Memory) (team : Team) (g : Ghost) (p : plain.Plain) → Shown E m team g p → Shown E m team g (with_heap p (took p.heap))
-snaps_show E m team g p s = record {
-  objects = record { shows = s.objects.shows };
-  board = record { sixteen = s.board.sixteen; board = s.board.board };
-  as_many = s.as_many;
-  makers = s.makers;
-  accounts = λ k q e. let c = s.accounts k q e in record { counter = c.counter; printed = c.printed; executed = c.executed; end = c.end; serial = c.serial };
-  registers = s.registers;
-}
 
 -- ---- loads
 

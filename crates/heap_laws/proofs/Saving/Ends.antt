@@ -1,5 +1,5 @@
 -- A checkpoint is finished: what is kept of checkpoints, and what each worker knows, after the exchange of DONE.
-use Rattle.std.proofs.Common.{◌≡◌, ◌≢◌, ℕ, ◌+◌, ◌-◌, ◌<◌, ◌≤◌, inl, inr, ⊎_elim, true, None, sym, ap, subst, ◌∙◌, arith}
+use Rattle.std.proofs.Common.{◌≡◌, ◌≢◌, ℕ, ◌+◌, ◌-◌, ◌<◌, ◌≤◌, inl, ⊎_elim, true, None, sym, ap, subst, ◌∙◌, arith}
 use Rattle.std.proofs.lemmas.Bool.{cases_eq}
 use Rattle.space_map.specs.declared.save_word.SaveWord.TheVariants.{Saving, Saved}
 use Rattle.space_map.specs.SaveWord.{number_of}
@@ -7,12 +7,13 @@ use Rattle.space_map.specs.Spaces.{page_of}
 use Rattle.heap_state.specs.Memory.Table.{Table}
 use Rattle.heap_state.specs.Saving.Words.{Saves, IsInProgress}
 use Rattle.heap_state.specs.Saving.Frozen.{Frozen, IsSafe, MayBeSaved}
-use Rattle.heap_state.specs.Saving.Savers.{Saver, SaveRound, FirstReads, NoReads, GateRead, SnapRead, DoneRead}
-use Rattle.heap_state.specs.Saving.Parts.{SavingWords, Recalls, ReadsTell, SavesRound, KnowsSaving, SavingStands}
+use Rattle.heap_state.specs.Saving.Savers.{Saver, SaveRound}
+use Rattle.heap_state.specs.Saving.Parts.{SavingWords, Recalls, SavesRound, KnowsSaving, SavingStands}
 use Rattle.heap_laws.specs.Saving.Rows.{HasPassedAll, AllAreSaved, SparesNone}
 use Rattle.heap_laws.specs.Saving.Rounds.{CheckpointsEnd}
 use Rattle.heap_laws.proofs.Saving.Forgotten.{each_is_forgotten}
-use Rattle.heap_laws.proofs.Saving.Frozen.{passed_rounds_have_saved}
+use Rattle.heap_laws.proofs.Saving.PassedRounds.{passed_rounds_have_saved}
+use Rattle.heap_laws.proofs.Saving.Pages.Safe.{may_still, begins_still, reads_still, round_still}
 
 saving≢saved : (a b k : ℕ) → Saving a k ≡ Saved b → ⊥
 saving≢saved a b k is = absurd (cc)
@@ -42,9 +43,8 @@ module _ (t : Table) (s : Saves) (z : Frozen) (c : ℕ) (all : AllAreSaved s z c
       inl (rw (saved, same) (omega arith)))
       safe
 
-  may_still : (d epoch : ℕ) → MayBeSaved t s z d epoch → MayBeSaved t finished z d epoch
-  unfolding MayBeSaved
-  may_still d epoch may = λ page is opened. safe_still page d (may page is opened)
+  may : (d epoch : ℕ) → MayBeSaved t s z d epoch → MayBeSaved t finished z d epoch
+  may = may_still t s finished z z (omega arith) safe_still
 
   -- ---- the words
 
@@ -52,6 +52,7 @@ module _ (t : Table) (s : Saves) (z : Frozen) (c : ℕ) (all : AllAreSaved s z c
   words_finished w = let is = rests in let below = w.order.2 in record {
     order = (omega (arith, is), omega (arith, is), below);
     young = w.young;
+    within = w.within;
     traced = λ runs. never runs;
     opened = λ runs. never runs;
     old = λ runs. never runs;
@@ -71,30 +72,7 @@ module _ (t : Table) (s : Saves) (z : Frozen) (c : ℕ) (all : AllAreSaved s z c
     runs = r.runs;
     snap = r.snap;
     none = λ read zero. rests;
-    one = λ some. let one = r.one some in (one.0, one.1, may_still w.running t.gate.epoch one.2);
-  }
-
-  reads_finished : (r : FirstReads) → ReadsTell t s z r → ReadsTell t finished z r
-  reads_finished NoReads tell = tt
-  reads_finished (GateRead epoch) tell = tell
-  reads_finished (SnapRead epoch d) tell = (
-    tell.0,
-    tell.1,
-    λ now. ⊎_elim
-        (λ (same : s.snap ≡ d). inl same)
-        (λ (rest : (t.traced ≡ epoch + 1) × MayBeSaved t s z (d + 1) epoch). inr (rest.0, may_still (d + 1) epoch rest.1))
-        (tell.2 now),
-  )
-  reads_finished (DoneRead epoch d) tell = (tell.0, tell.1, λ now. let rest = tell.2 now in (rest.0, may_still d epoch rest.1))
-
-  round_finished : (r : SaveRound) → SavesRound t s z r → SavesRound t finished z r
-  round_finished r saves = record {
-    begun = saves.begun;
-    traced = saves.traced;
-    runs = λ runs. runs_no_more r.number runs;
-    pages = may_still r.number r.epoch saves.pages;
-    opened = λ page is. safe_still page r.number (saves.opened page is);
-    passed = λ free runs. runs_no_more r.number runs;
+    one = λ some. let one = r.one some in (one.0, one.1, may w.running t.gate.epoch one.2);
   }
 
   knows_finished : (k : ℕ) (w : Saver) → KnowsSaving t s z k w → KnowsSaving t finished z k w
@@ -104,14 +82,12 @@ module _ (t : Table) (s : Saves) (z : Frozen) (c : ℕ) (all : AllAreSaved s z c
     still = knows.still;
     guarded = λ page is. let was = knows.guarded page is in record { recalled = was.recalled; says = was.says };
     marked = knows.marked;
-    begins = λ step is won.
-        let was = knows.begins step is won in
-        record { earlier = was.earlier; safe = safe_still step.page step.number was.safe };
+    begins = λ step is won. begins_still t s finished z z (omega arith) safe_still step (knows.begins step is won);
     saves = λ step is won.
         let was = knows.saves step is won in
         absurd (saving≢saved step.number c k (sym was.own ∙ all.saved step.page was.held));
-    reads = reads_finished w.reads knows.reads;
-    round = λ r is. round_finished r (knows.round r is);
+    reads = reads_still t s finished z z (omega arith) safe_still w.reads (λ d epoch same now. inl same) knows.reads;
+    round = λ r is. round_still t s finished z z (omega arith) safe_still r (runs_no_more r.number) (λ free. runs_no_more r.number) (knows.round r is);
   }
 
   stands_finished : (count : ℕ) (saver : ℕ → Saver) → SavingStands t s z count saver → SavingStands t finished z count saver

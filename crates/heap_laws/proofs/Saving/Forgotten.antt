@@ -4,11 +4,11 @@ use Rattle.heap_state.specs.Memory.Table.{Table}
 use Rattle.heap_state.specs.Saving.Words.{Saves}
 use Rattle.heap_state.specs.Saving.Frozen.{Frozen}
 use Rattle.heap_state.specs.Saving.Savers.{Saver, SaveRound, FirstReads, NoReads}
-use Rattle.heap_state.specs.Saving.Parts.{Recalls, Guarded, ReadsTell, KnowsSaving, HasWonSave}
+use Rattle.heap_state.specs.Saving.Parts.{Recalls, Guarded, ReadsTell, KnowsSaving}
 use Rattle.heap_state.proofs.Puts.{true_false, none≢some}
-use Rattle.heap_laws.specs.Saving.Snapping.{saver_after_request}
-use Rattle.heap_laws.specs.Saving.Rounds.{KnowsNoMore, SaversForget, KeepsSavingAs, RunsKeepSaving, saver_running, saver_stopped, EachIsForgotten, saver_unsettled, saver_unguarded, saver_unmarked, saver_after_reads, saver_after_round}
-use Rattle.heap_laws.proofs.Saving.Workers.{steps_are_spared}
+use Rattle.heap_laws.specs.Saving.Snapping.{saver_after_request, saver_running}
+use Rattle.heap_laws.specs.Saving.Rounds.{KnowsNoMore, SaversForget, KeepsSavingAs, RunsKeepSaving, saver_stopped, EachIsForgotten, saver_unsettled, saver_unguarded, saver_unmarked, saver_after_reads, saver_after_round}
+use Rattle.heap_laws.proofs.Saving.Workers.{has_won_as, steps_are_spared}
 
 -- ---- by parts
 
@@ -21,10 +21,6 @@ recalls_as t s z v w runs reads_done snap running r = record {
   none = λ read zero. r.none (sym reads_done ∙ read) (sym running ∙ zero);
   one = rw running r.one;
 }
-
--- a won save that another worker has too
-pub has_won_as : (v w : Saver) (page c : ℕ) → w.save ≡ v.save → HasWonSave v page c → HasWonSave w page c
-has_won_as v w page c same won = record { step = won.step; is = same ∙ won.is; won = won.won; page = won.page; number = won.number }
 
 -- ---- less
 

@@ -1,3 +1,4 @@
+pub mod Safe
 pub mod Marks
 pub mod Images
 pub mod Stages

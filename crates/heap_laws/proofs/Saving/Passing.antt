@@ -1,6 +1,6 @@
 -- The gate and the checkpoints: at each passage but the one that clears the request nobody is still; and what is kept of checkpoints
 -- stands after each of them, and after a flip.
-use Rattle.std.proofs.Common.{◌≡◌, ◌≢◌, ℕ, ◌+◌, ◌<◌, Bool, ⊎_elim, true, false, Option, Some, None, is_some, refl, sym, ap, ◌∙◌, arith}
+use Rattle.std.proofs.Common.{◌≡◌, ◌≢◌, ℕ, ◌+◌, ◌<◌, Bool, ⊎_elim, true, false, Some, None, is_some, refl, sym, ap, ◌∙◌, arith}
 use Rattle.std.proofs.lemmas.Bool.{cases_eq}
 use Rattle.space_map.specs.declared.gate_word.GateWord.{GateWord}
 use Rattle.heap_state.specs.Functions.{count_one, put}
@@ -11,11 +11,11 @@ use Rattle.heap_state.specs.Memory.Entries.{GateIs}
 use Rattle.heap_state.specs.Memory.Era.{era_of, memory_of}
 use Rattle.heap_state.specs.Memory.Table.{Table}
 use Rattle.heap_state.specs.Saving.Frozen.{Frozen}
-use Rattle.heap_state.specs.Saving.Parts.{KnowsSaving, SavingStands}
+use Rattle.heap_state.specs.Saving.Parts.{SavingStands}
 use Rattle.heap_state.specs.Saving.Savers.{Saver}
 use Rattle.heap_state.specs.Saving.Words.{Saves}
 use Rattle.heap_state.specs.Worker.{Worker, Team, Post, Scanner, Outside, Running, Stopped, Flipping, Snapping, Gone, Passage, Enter, Park, Request, RequestSnap, Clear, Forwarded, Resume, Leave, Reset, is_running, is_asking}
-use Rattle.heap_state.proofs.Puts.{put_at, put_other, true_false, none≢some}
+use Rattle.heap_state.proofs.Puts.{put_at, put_other, true_false}
 use Rattle.heap_laws.specs.Answers.{IsCounted}
 use Rattle.heap_laws.specs.Flipping.Flip.{Flips, flipped_gate, after_flip}
 use Rattle.heap_laws.specs.Gate.{WinsGate, gate_after, worker_after}
@@ -27,15 +27,12 @@ use Rattle.heap_laws.specs.Saving.Sparing.{IsAstir, NobodyAsks, SomeoneRuns, Som
 use Rattle.heap_laws.specs.Steps.{Ready}
 use Rattle.heap_laws.proofs.Flipping.Sums.{sum_below-term, one_of}
 use Rattle.heap_laws.proofs.Flipping.Workers.{none_true}
-use Rattle.heap_laws.proofs.Saving.Requests.{runners_are_counted, askers_are_alone, won_alike, requests_are_spared, runners_are_spared, clears_are_spared}
-use Rattle.heap_laws.proofs.Saving.Workers.{steps_are_spared, settled_may_flip, flips_are_spared}
+use Rattle.heap_laws.proofs.Saving.Forgotten.{runs_keep_saving}
+use Rattle.heap_laws.proofs.Saving.Requests.{runners_are_counted, askers_are_alone, requests_are_spared, runners_are_spared, clears_are_spared}
+use Rattle.heap_laws.proofs.Saving.Workers.{none_if, steps_are_spared, settled_may_flip, flips_are_spared}
 use Rattle.heap_laws.proofs.Steps.Answers.{passages_fit}
 
 -- ---- nobody is still
-
-none_if : {X : Type 0} (o : Option X) → ((x : X) → o ≡ Some x → ⊥) → o ≡ None
-none_if None never = refl
-none_if (Some x) never = absurd (never x refl)
 
 module _ (t : Table) (s : Saves) (z : Frozen) (count : ℕ) (worker : ℕ → Worker) (saver : ℕ → Saver) (stands : SavingStands t s z count saver)
     (counted : Counted t.gate count worker) (follow : FollowPosts count worker saver) where
@@ -106,32 +103,13 @@ passages_are_spared t s z team g saver k step stands ready follow wins other =
 
 -- ---- what is kept after them
 
--- who stops to run knows nothing wrong
-stopped_knows : (t : Table) (s : Saves) (z : Frozen) (k : ℕ) (w : Saver) → w.still ≡ None → KnowsSaving t s z k w → KnowsSaving t s z k (saver_stopped w)
-stopped_knows t s z k w loose knows = record {
-  recalls = λ is. true_false refl is;
-  settles = λ is. true_false refl is;
-  still = λ gate is. none≢some (sym loose ∙ is);
-  guarded = λ page is. none≢some is;
-  marked = λ page is. none≢some is;
-  begins = knows.begins;
-  saves = knows.saves;
-  reads = knows.reads;
-  round = knows.round;
-}
-
 module _ (t : Table) (s : Saves) (z : Frozen) (count : ℕ) (saver : ℕ → Saver) (k : ℕ) (gate : GateWord) (stands : SavingStands t s z count saver)
     (in_team : k < count) (passed : IsPassed t count saver gate) where
   abbrev Kept : Saver → Type 0
   Kept w = SavingStands (table_after t (Some (GateIs gate))) s z count (put saver k w)
 
   stops : Kept (saver_stopped (saver k))
-  stops =
-      let after = saver_stopped (saver k) in
-      steps_are_spared t s z count saver k (Some (GateIs gate)) after stands in_team (SparesGate gate passed.epoch passed.nobody)
-      (stopped_knows t s z k (saver k) (passed.nobody k in_team) (stands.workers.each k in_team))
-      (λ page c is. won_alike (saver k) after page c refl (stands.workers.savers page c k is).1)
-      (λ g is. is)
+  stops = runs_keep_saving.stopped t s z count saver k (Some (GateIs gate)) stands in_team (SparesGate gate passed.epoch passed.nobody)
 
   stays : Kept (saver k)
   stays =

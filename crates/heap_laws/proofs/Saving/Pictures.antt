@@ -1,5 +1,5 @@
 -- The heap of now, frozen in a traced epoch, shows the board and the records of the plain heap, and lies on open pages.
-use Rattle.std.proofs.Common.{◌≡◌, ◌≢◌, ℕ, ◌+◌, ◌*◌, ◌/◌, ◌%◌, ◌<◌, ◌≤◌, true, inl, inr, ⊎_elim, refl, arith}
+use Rattle.std.proofs.Common.{◌≡◌, ◌≢◌, ℕ, ◌+◌, ◌*◌, ◌/◌, ◌%◌, ◌<◌, ◌≤◌, true, inl, inr, ⊎_elim, refl, subst, arith}
 use Rattle.std.proofs.lemmas.Bool.{cases_eq, cases_lt, and_parts, and_from, or_cases, or_left, or_right, eqb-true, eq-eqb, leb-true, le-leb, ltb-true, lt-ltb}
 use Rattle.heap_words.specs.Decoded.{PointerWord, decode}
 use Rattle.plain_state.specs.Layout.{is_field}
@@ -50,8 +50,19 @@ tested_page n epoch page is = ⊎_elim
     inr (leb-true (n * to_space epoch) page parts.0, ltb-true page (n * to_space epoch + n) parts.1))
     (or_cases _ _ is)
 
+-- a page of an epoch is one of the table
+pub below_board : (n epoch page : ℕ) → IsPageOf n epoch page → page ≤ board_page n
+unfolding IsPageOf
+below_board n epoch page is = ⊎_elim
+    (λ (board : page ≡ board_page n). omega (arith, board))
+    (λ (within : (n * to_space epoch ≤ page) × (page < n * to_space epoch + n)). ⊎_elim
+    (λ (even : epoch % 2 ≡ 0). let below = rw even at within in omega (arith, below))
+    (λ (odd : epoch % 2 ≢ 0). let is_odd : epoch % 2 ≡ 1 = omega (arith, odd) in let below = rw is_odd at within in omega (arith, below))
+    (cases_eq (epoch % 2) 0))
+    is
+
 module _ (t : Table) (g : Ghost) (page : ℕ) where
-  -- a page of the epoch's space, or the board's, is held where it is open
+  -- a page of the epoch's space, or the board's, is held if it is open
   pub open_held : IsPageOf t.pages t.gate.epoch page → t.page page ≡ Open t.gate.epoch → (frozen_of t g).held page ≡ true
   open_held is opened = and_from _ _ (page_tested t.pages t.gate.epoch page is) (open_tested t.gate.epoch (t.page page) opened)
 
@@ -96,9 +107,11 @@ module _ (t : Table) (team : Team) (g : Ghost) (out : IsLaidOut (era_of t)) (inv
   quiet : Quiet E m.gate.behind m.front m.page
   quiet = inv.tracing.quiet traced
 
-  board_held : z.held (page_of E.board) ≡ true
+  board_held : z.held (board_page t.pages) ≡ true
   unfolding IsPageOf
-  board_held = open_held t g (page_of E.board) (inl (omega arith)) quiet.board
+  board_held =
+      let home : page_of E.board ≡ board_page t.pages = omega arith in
+      open_held t g (board_page t.pages) (inl refl) (subst (λ p. t.page p ≡ Open t.gate.epoch) home quiet.board)
 
   -- a word of the epoch's space on an open page is held
   space_held : (x : ℕ) → E.start ≤ x → x < E.start + E.span → m.page (page_of x) ≡ Open E.epoch → z.held (page_of x) ≡ true
@@ -181,6 +194,7 @@ module _ (t : Table) (team : Team) (g : Ghost) (out : IsLaidOut (era_of t)) (inv
 pub frozen_heaps_show : FrozenHeapsShow
 frozen_heaps_show t team g p out inv shown traced = record {
   board = shown.board.board;
+  sixteen = shown.board.sixteen;
   held = board_held t team g out inv traced;
   records = λ a kept. record_shows t team g out inv traced a kept p shown;
   board_lands = λ x b within points. lands_here t team g out inv traced ((era_of t).board + x) b (board_here (era_of t) g.size g.writer g.kind x within) points;

@@ -13,8 +13,8 @@ use Rattle.heap_state.specs.Saving.Savers.{Saver, SaveStep, SaveRound, FirstRead
 use Rattle.heap_state.specs.Saving.Parts.{SavingWords, Recalls, ReadsTell, SavesRound, BeginsSave, IsSaving, KnowsSaving, HasWonSave}
 use Rattle.heap_state.proofs.Puts.{true_false, none≢some, some_same}
 use Rattle.heap_laws.specs.Saving.Rounds.{round_begun, round_past, IsNextPage, round_passing, RoundsFollow, running_by, save_begun, LearnsOfSaves, RecallsSnap, RecallsDone, FindsRest, BeginsRound, ReadsGate, ReadsSnap, ReadsDone, ReadsGateAgain, FindsOpen, PassesClosed, PassesKept, PassesBusy, BeginsSaving, SaversLearn, NumbersFit, NumbersStay}
-use Rattle.heap_laws.proofs.Saving.Workers.{saver_changes}
-use Rattle.heap_laws.proofs.Saving.Forgotten.{recalls_as, has_won_as}
+use Rattle.heap_laws.proofs.Saving.Workers.{has_won_as, asker_knows, saver_changes}
+use Rattle.heap_laws.proofs.Saving.Forgotten.{recalls_as}
 
 -- ---- rounds at their stages
 
@@ -254,17 +254,8 @@ module _ (t : Table) (s : Saves) (z : Frozen) where
     knows_rest : v.recalled ≡ true → s.done ≡ v.snap → t.traced ≡ t.gate.epoch + 1 → KnowsSaving t s z k (record v { settled = true })
     knows_rest recalled same traced =
         let r = knows.recalls recalled in
-        record {
-          recalls = λ is. recalls_as t s z v (record v { settled = true }) r.runs refl refl refl r;
-          settles = λ is. record { alive = inl r.runs; snap = r.snap; rests = same ∙ r.snap; traced = traced };
-          still = knows.still;
-          guarded = λ page is. let was = knows.guarded page is in record { recalled = was.recalled; says = was.says };
-          marked = knows.marked;
-          begins = knows.begins;
-          saves = knows.saves;
-          reads = knows.reads;
-          round = knows.round;
-        }
+        asker_knows t s z k v knows v.asks true v.still
+        (λ is. record { alive = inl r.runs; snap = r.snap; rests = same ∙ r.snap; traced = traced }) knows.still
 
     -- a worker that differs in its save, first reads and round alone
     knows_with : (save : Option SaveStep) (reads : FirstReads) (round : Option SaveRound)

@@ -14,11 +14,11 @@ use Rattle.heap_state.specs.Memory.Era.{Era, Memory}
 use Rattle.heap_state.specs.Worker.{Worker, Team, Account, Post, Snapping, GateStep, is_mutator, is_running, is_gone, is_late}
 use Rattle.heap_state.proofs.Puts.{proj_put, team_put, true_false, some_same}
 use Rattle.heap_state.proofs.Workers.Frames.{counted_put, staffed_put, scanned_put, stocks_put, numbered_put}
+use Rattle.heap_state.proofs.Represents.Snapped.{snaps_show}
 use Rattle.heap_laws.specs.Saving.Snapping.{about_to_clear, SnappersStep}
 use Rattle.heap_laws.specs.Steps.{Beside, with_worker}
 use Rattle.heap_laws.proofs.Fields.GoingOn.{going_on_shows}
 use Rattle.heap_laws.proofs.Fields.Laws.{accounts_in}
-use Rattle.heap_laws.proofs.Fields.Shown.{snaps_show}
 
 -- who begins a checkpoint neither runs nor is gone
 stands_there : (post : Post) → post ≡ Snapping → (is_running post ≡ true) ⊎ (is_gone post ≡ true) → ⊥

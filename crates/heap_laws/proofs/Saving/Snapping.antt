@@ -9,14 +9,16 @@ use Rattle.space_map.specs.Spaces.{page_of}
 use Rattle.heap_state.specs.Invariant.Ghost.{Ghost}
 use Rattle.heap_state.specs.Memory.Table.{Table}
 use Rattle.heap_state.specs.Saving.Frozen.{Frozen, IsSafe, MayBeSaved}
-use Rattle.heap_state.specs.Saving.Parts.{SavingWords, ReadsTell, SavesRound, KnowsSaving, HasWonSave}
-use Rattle.heap_state.specs.Saving.Savers.{Saver, FirstReads, NoReads, GateRead, SnapRead, DoneRead, SaveRound}
+use Rattle.heap_state.specs.Saving.Parts.{SavingWords, KnowsSaving, HasWonSave}
+use Rattle.heap_state.specs.Saving.Savers.{Saver}
 use Rattle.heap_state.specs.Saving.Words.{Saves, IsInProgress, IsAtRest}
 use Rattle.heap_state.proofs.Puts.{each_put, team_put, true_false}
 use Rattle.heap_laws.specs.Saving.Snapping.{frozen_of, next_saves, saver_after_snap, SnapsAreBegun, SnapsAreKept}
 use Rattle.heap_laws.proofs.Flipping.Workers.{none_true}
-use Rattle.heap_laws.proofs.Saving.Pictures.{open_held, held_open, frozen_heaps_show}
-use Rattle.heap_laws.proofs.Saving.Requests.{runners_are_counted, askers_are_alone, won_alike, asker_knows}
+use Rattle.heap_laws.proofs.Saving.Pictures.{open_held, held_open, below_board, frozen_heaps_show}
+use Rattle.heap_laws.proofs.Saving.Pages.Safe.{begins_still, reads_still, round_still}
+use Rattle.heap_laws.proofs.Saving.Requests.{runners_are_counted, askers_are_alone}
+use Rattle.heap_laws.proofs.Saving.Workers.{has_won_as, asker_knows}
 
 -- ---- the words and the workers
 
@@ -35,10 +37,6 @@ module _ (t : Table) (s : Saves) (z : Frozen) (g : Ghost) (rests : IsAtRest s) (
       (λ (runs : IsInProgress s c × (z.held page ≡ true)). absurd (let now = runs.0 in omega (arith, now, rests)))
       safe
 
-  may_still : (c v : ℕ) → MayBeSaved t s z c v → MayBeSaved t s' z' c v
-  unfolding MayBeSaved
-  may_still c v may = λ page is opened. safe_still page c (may page is opened)
-
   -- each open page may be saved for the next one
   may_now : MayBeSaved t s' z' (s.snap + 1) t.gate.epoch
   unfolding MayBeSaved IsSafe
@@ -51,6 +49,7 @@ module _ (t : Table) (s : Saves) (z : Frozen) (g : Ghost) (rests : IsAtRest s) (
   words_begun fits w = record {
     order = (omega (arith, rests), omega (arith, rests), fits);
     young = λ page. let most = w.young page in omega (arith, most);
+    within = λ page held. below_board t.pages t.gate.epoch page (held_open t g page held).0;
     traced = λ runs. traced;
     opened = λ runs page held. held_open t g page held;
     old = λ runs page held is. let most = w.young page in absurd (let number = ap number_of is in omega (arith, most, number));
@@ -58,33 +57,6 @@ module _ (t : Table) (s : Saves) (z : Frozen) (g : Ghost) (rests : IsAtRest s) (
     saved = λ runs x held is. absurd (let most = w.young (page_of x) in let number = ap number_of is in omega (arith, most, number));
     done = λ now. absurd (omega (arith, now, rests));
     ran = λ runs. may_now;
-  }
-
-  reads_begun : (r : FirstReads) → ReadsTell t s z r → ReadsTell t s' z' r
-  reads_begun NoReads tell = tt
-  reads_begun (GateRead v) tell = tell
-  reads_begun (SnapRead v c) tell = let begun = tell.1 in (
-    tell.0,
-    omega (arith, begun),
-    λ now. ⊎_elim
-        (λ (same : s.snap ≡ c). inr (subst (λ e. t.traced ≡ e + 1) now traced, may_next c v same now))
-        (λ (rest : (t.traced ≡ v + 1) × MayBeSaved t s z (c + 1) v). inr (rest.0, may_still (c + 1) v rest.1))
-        (tell.2 now),
-  )
-  reads_begun (DoneRead v c) tell = let begun = tell.1 in (
-    tell.0,
-    omega (arith, begun),
-    λ now. let rest = tell.2 now in (rest.0, may_still c v rest.1),
-  )
-
-  round_begun : (r : SaveRound) → SavesRound t s z r → SavesRound t s' z' r
-  round_begun r saves = let begun = saves.begun.0 in record {
-    begun = (omega (arith, begun), saves.begun.1);
-    traced = saves.traced;
-    runs = λ runs. absurd (omega (arith, begun, runs));
-    pages = may_still r.number r.epoch saves.pages;
-    opened = λ page is. safe_still page r.number (saves.opened page is);
-    passed = λ free runs. absurd (omega (arith, begun, runs));
   }
 
   -- a worker that doesn't run and isn't settled
@@ -95,10 +67,14 @@ module _ (t : Table) (s : Saves) (z : Frozen) (g : Ghost) (rests : IsAtRest s) (
     still = knows.still;
     guarded = λ page is. true_false idle (knows.recalls (knows.guarded page is).recalled.0).runs;
     marked = λ page is. true_false idle (knows.recalls (knows.marked page is).0).runs;
-    begins = λ v is won. let begins = knows.begins v is won in record { earlier = begins.earlier; safe = safe_still v.page v.number begins.safe };
+    begins = λ v is won. begins_still t s s' z z' (omega arith) safe_still v (knows.begins v is won);
     saves = λ v is won. absurd (let runs = (knows.saves v is won).runs in omega (arith, runs, rests));
-    reads = reads_begun w.reads knows.reads;
-    round = λ r is. round_begun r (knows.round r is);
+    reads = reads_still t s s' z z' (omega arith) safe_still w.reads
+        (λ c v same now. inr (subst (λ e. t.traced ≡ e + 1) now traced, may_next c v same now)) knows.reads;
+    round = λ r is.
+        let saves = knows.round r is in
+        let begun = saves.begun.0 in
+        round_still t s s' z z' (omega arith) safe_still r (λ runs. absurd (omega (arith, begun, runs))) (λ free runs. absurd (omega (arith, begun, runs))) saves;
   }
 
 pub snaps_are_begun : SnapsAreBegun
@@ -112,7 +88,7 @@ snaps_are_begun t s z g count saver k stands in_team may =
       workers = record {
         savers = λ page c j is.
             let was = stands.workers.savers page c j is in
-            (was.0, each_put (λ j x. HasWonSave x page c) saver k after j (λ other. was.1) (λ same. won_alike (saver k) after page c refl (rw same at was.1)));
+            (was.0, each_put (λ j x. HasWonSave x page c) saver k after j (λ other. was.1) (λ same. has_won_as (saver k) after page c refl (rw same at was.1)));
         each = team_put count (KnowsSaving t (next_saves s) (frozen_of t g)) saver k after
             (λ j j_in other.
             let knows = stands.workers.each j j_in in

@@ -44,6 +44,7 @@ module _ (t u : Table) (s : Saves) (z : Frozen) (l : Leaves t u s z) where
   words_after w = record {
     order = w.order;
     young = w.young;
+    within = λ page held. rw l.pages (w.within page held);
     traced = λ runs. rw (l.epoch, l.traced (w.traced runs)) (w.traced runs);
     opened = λ runs page held. rw (l.pages, l.epoch, l.held runs page held) (w.opened runs page held);
     old = w.old;

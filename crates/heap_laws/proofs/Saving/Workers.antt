@@ -1,5 +1,5 @@
 -- Workers: one becomes another, all keep what they know at a flip, and before the first checkpoint nobody knows of one.
-use Rattle.std.proofs.Common.{◌≡◌, ◌≢◌, ℕ, ◌+◌, ◌<◌, ⊎_elim, true, false, Option, Some, None, refl, sym, subst, ◌∙◌, arith}
+use Rattle.std.proofs.Common.{◌≡◌, ◌≢◌, ℕ, ◌+◌, ◌<◌, ⊎_elim, Bool, true, false, Option, Some, None, refl, sym, subst, ◌∙◌, arith}
 use Rattle.std.proofs.lemmas.Bool.{cases_Bool, cases_eq}
 use Rattle.space_map.specs.declared.gate_word.GateWord.{GateWord}
 use Rattle.space_map.specs.Spaces.{page_of}
@@ -10,7 +10,7 @@ use Rattle.heap_state.specs.Memory.Table.{Table}
 use Rattle.heap_state.specs.Saving.Words.{Saves, IsAtRest}
 use Rattle.heap_state.specs.Saving.Frozen.{Frozen, MayBeSaved}
 use Rattle.heap_state.specs.Saving.Savers.{Saver, SaveRound, FirstReads, NoReads, GateRead, SnapRead, DoneRead}
-use Rattle.heap_state.specs.Saving.Parts.{SavingWords, ReadsTell, SavesRound, KnowsSaving, HasWonSave}
+use Rattle.heap_state.specs.Saving.Parts.{SavingWords, Settles, ReadsTell, SavesRound, KnowsSaving, HasWonSave}
 use Rattle.heap_state.proofs.Puts.{each_put, team_put, true_false, none≢some}
 use Rattle.heap_laws.specs.Saving.Rows.{NobodyIsStill, Spares, SparesNone, SparesCross, SparesAnnounce, SparesArea, SparesSize, SparesWord, SparesPage, SparesTraced, SparesGate, SaverChanges, StepsAreSpared, SettledMayFlip, FlipsAreSpared, saver_after_flip, KnowsNothing, SavesOpen}
 use Rattle.heap_laws.proofs.Saving.Rows.{rows_are_spared}
@@ -26,13 +26,36 @@ saver_changes t s z count saver k w stands in_team knows own = record {
   };
 }
 
+-- ---- a worker that has the same
+
+-- a won save that another worker has too
+pub has_won_as : (v w : Saver) (page c : ℕ) → w.save ≡ v.save → HasWonSave v page c → HasWonSave w page c
+has_won_as v w page c same won = record { step = won.step; is = same ∙ won.is; won = won.won; page = won.page; number = won.number }
+
+-- what a worker knows that differs in what it has by the request alone
+pub asker_knows : (t : Table) (s : Saves) (z : Frozen) (k : ℕ) (w : Saver) → KnowsSaving t s z k w → (asks settled : Bool) (still : Option GateWord)
+    → (settled ≡ true → Settles t s (record w { asks = asks; settled = settled; still = still }))
+    → ((gate : GateWord) → still ≡ Some gate → (asks ≡ true) × (t.gate ≡ gate) × (gate.running ≡ 0))
+    → KnowsSaving t s z k (record w { asks = asks; settled = settled; still = still })
+asker_knows t s z k w knows asks settled still settles stands = record {
+  recalls = λ is. let was = knows.recalls is in record { runs = was.runs; snap = was.snap; none = was.none; one = was.one };
+  settles = settles;
+  still = stands;
+  guarded = λ page is. let was = knows.guarded page is in record { recalled = was.recalled; says = was.says };
+  marked = knows.marked;
+  begins = knows.begins;
+  saves = knows.saves;
+  reads = knows.reads;
+  round = knows.round;
+}
+
 -- ---- a step
 
-none_if : {X : Type 0} (o : Option X) → ((x : X) → o ≡ Some x → ⊥) → o ≡ None
+pub none_if : {X : Type 0} (o : Option X) → ((x : X) → o ≡ Some x → ⊥) → o ≡ None
 none_if None never = refl
 none_if (Some x) never = absurd (never x refl)
 
--- the row spares them all the same where worker k becomes one that isn't still but where it was
+-- the row spares them all the same if worker k becomes one that isn't still unless it was
 module _ (t : Table) (s : Saves) (z : Frozen) (count : ℕ) (saver : ℕ → Saver) (k : ℕ) (w : Saver)
     (still : (gate : GateWord) → w.still ≡ Some gate → (saver k).still ≡ Some gate) where
   nobody_after : NobodyIsStill count saver → NobodyIsStill count (put saver k w)
@@ -84,6 +107,7 @@ module _ (t : Table) (s : Saves) (z : Frozen) (gate : GateWord) (next : gate.epo
   words_after_flip w = record {
     order = w.order;
     young = w.young;
+    within = w.within;
     traced = λ runs. absurd (omega (arith, runs, rests));
     opened = λ runs. absurd (omega (arith, runs, rests));
     old = w.old;
@@ -127,35 +151,21 @@ module _ (t : Table) (s : Saves) (z : Frozen) (gate : GateWord) (next : gate.epo
     round = λ r is. round_after_flip r (knows.round r is);
   }
 
--- the flipper without what it is settled by
-knows_unsettled : (t : Table) (s : Saves) (z : Frozen) (k : ℕ) (w : Saver) → w.recalled ≡ false → w.still ≡ None → KnowsSaving t s z k w
-    → KnowsSaving t s z k (saver_after_flip w)
-knows_unsettled t s z k w not_recalled not_still knows = record {
-  recalls = λ is. true_false not_recalled is;
-  settles = λ is. true_false refl is;
-  still = λ g is. none≢some (sym not_still ∙ is);
-  guarded = λ page is. let was = knows.guarded page is in record { recalled = was.recalled; says = was.says };
-  marked = knows.marked;
-  begins = knows.begins;
-  saves = knows.saves;
-  reads = knows.reads;
-  round = knows.round;
-}
-
-won_still : (w : Saver) (page c : ℕ) → HasWonSave w page c → HasWonSave (saver_after_flip w) page c
-won_still w page c won = record { step = won.step; is = won.is; won = won.won; page = won.page; number = won.number }
-
 pub flips_are_spared : FlipsAreSpared
 flips_are_spared t s z count saver k gate stands in_team next may =
     let after : (j : ℕ) → j < count → j ≢ k → KnowsSaving (record t { gate = gate }) s z j (saver j) = λ j j_in other.
     knows_after_flip t s z gate next may.rests j (saver j) (may.recalled j j_in) (may.settled j j_in other) (may.still j j_in) (stands.workers.each j j_in) in
-    let own = knows_unsettled t s z k (saver k) (may.recalled k in_team) (may.still k in_team) (stands.workers.each k in_team) in
+    let own = asker_knows t s z k (saver k) (stands.workers.each k in_team) false false (saver k).still
+    (λ is. true_false refl is) (λ g is. none≢some (sym (may.still k in_team) ∙ is)) in
     record {
       words = words_after_flip t s z gate next may.rests stands.words;
       workers = record {
         savers = λ page c j is.
-            let was = stands.workers.savers page c j is in
-            (was.0, each_put (λ j x. HasWonSave x page c) saver k (saver_after_flip (saver k)) j (λ other. was.1) (λ same. won_still (saver k) page c (rw same at was.1)));
+            let was = stands.workers.savers page c j is in (
+              was.0,
+              each_put (λ j x. HasWonSave x page c) saver k (saver_after_flip (saver k)) j (λ other. was.1)
+                  (λ same. has_won_as (saver k) (saver_after_flip (saver k)) page c refl (rw same at was.1)),
+            );
         each = team_put count (KnowsSaving (record t { gate = gate }) s z) saver k (saver_after_flip (saver k)) after
             (knows_after_flip t s z gate next may.rests k (saver_after_flip (saver k)) (may.recalled k in_team) refl (may.still k in_team) own);
       };
@@ -188,6 +198,7 @@ saves_open t s z count saver none nobody =
       words = record {
         order = (omega (arith, first, last), omega (arith, first, last), omega (arith, first));
         young = λ page. rw (none.save page) (omega arith);
+        within = λ page held. true_false (none.held page) held;
         traced = λ runs. absurd (omega (arith, runs, first));
         opened = λ runs. absurd (omega (arith, runs, first));
         old = λ runs. absurd (omega (arith, runs, first));

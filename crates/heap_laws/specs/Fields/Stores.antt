@@ -17,7 +17,7 @@ use Rattle.heap_state.specs.Memory.Entries.{WordIs}
 use Rattle.heap_state.specs.Memory.Era.{Era, Memory}
 use Rattle.heap_state.specs.Invariant.Ghost.{Ghost}
 use Rattle.heap_state.specs.Meaning.Values.{Shown, Shows, Accounts, RegistersShow, value_of}
-use Rattle.heap_state.specs.Worker.{Worker, Team, Stock, Account, Snapping, is_running}
+use Rattle.heap_state.specs.Worker.{Worker, Team, Stock, is_running}
 use Rattle.heap_state.specs.Functions.{put}
 use Rattle.heap_laws.specs.Allocation.Stocks.{SeesRoom}
 use Rattle.heap_laws.specs.Fields.Words.{IsWordOf, MayStore, StandsFor}
@@ -68,17 +68,6 @@ abbrev pub MutatorsSnap : Type 0
 MutatorsSnap = (E : Era) (m : Memory) (team : Team) (g : Ghost) (p : plain.Plain) (k : ℕ) (next : Worker) (q : plain.Mutator) → Ready E m team g k
     → is_running (team.worker k).post ≡ true → Shown E m team g p → MutatorGoesOn E m g (team.worker k) next → IsAs g p.heap k next q
     → StepsTo E m team g k None next g (with_mutator (with_heap p (took p.heap)) k q)
-
--- the worker with another account
-abbrev pub with_account : Worker → Account → Worker
-with_account w account = record w { account = account }
-
--- the same of a mutator that is stopped for it: of it the account alone changes, and it gets no end by it
-abbrev pub SnapsAreTaken : Type 0
-SnapsAreTaken = (E : Era) (m : Memory) (team : Team) (g : Ghost) (p : plain.Plain) (k : ℕ) (account : Account) (q : plain.Mutator) → Ready E m team g k
-    → (team.worker k).post ≡ Snapping → Shown E m team g p → account.serial ≡ (team.worker k).account.serial → account.end ≡ (team.worker k).account.end
-    → IsAs g p.heap k (with_account (team.worker k) account) q
-    → StepsTo E m team g k None (with_account (team.worker k) account) g (with_mutator (with_heap p (took p.heap)) k q)
 
 -- the mutator that has placed a record of size z at the place of its stock s, with a pointer to it in register d
 abbrev pub with_record : Worker → Stock → (z d pointer : ℕ) → Worker

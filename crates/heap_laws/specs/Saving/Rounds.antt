@@ -1,4 +1,4 @@
--- What a worker learns of checkpoints where it reads SNAP and DONE and in its rounds, what it may forget, and the end of a
+-- What a worker learns of checkpoints when it reads SNAP and DONE and in its rounds, what it may forget, and the end of a
 -- checkpoint: what is kept of checkpoints then.
 use Rattle.std.specs.Prelude.{◌≡◌, ◌≢◌, ℕ, ◌+◌, ◌-◌, ◌*◌, ◌^◌, ◌<◌, ◌==◌, ◌⊎◌, Bool, true, false, Option, Some, None, if◌then◌else◌}
 use Rattle.space_map.specs.declared.gate_word.GateWord.{GateWord}
@@ -16,7 +16,7 @@ use Rattle.heap_state.specs.Saving.Savers.{Saver, SaveStep, SaveRound, NoReads, 
 use Rattle.heap_state.specs.Saving.Parts.{SavingWords, SavingStands}
 use Rattle.heap_laws.specs.Lifting.{table_after}
 use Rattle.heap_laws.specs.Saving.Rows.{Spares, HasPassedAll}
-use Rattle.heap_laws.specs.Saving.Snapping.{saver_after_request}
+use Rattle.heap_laws.specs.Saving.Snapping.{saver_after_request, saver_running}
 
 -- ---- what a worker may forget
 
@@ -45,11 +45,7 @@ KeepsSavingAs next = (t : Table) (s : Saves) (z : Frozen) (count : ℕ) (saver :
 
 -- ---- a mutator begins to run, and stops
 
--- a mutator that begins to run
-abbrev pub saver_running : Saver → Saver
-saver_running w = record w { runs = true }
-
--- one that stops
+-- a mutator that stops
 abbrev pub saver_stopped : Saver → Saver
 saver_stopped w = record w { runs = false; recalled = false; settled = false; guarded = None; marked = None }
 
@@ -117,7 +113,7 @@ pub record RoundsFollow : Type 0 where
 
 -- ---- what is learnt
 
--- the checkpoint that is in progress where these are read as SNAP and DONE, or 0
+-- the checkpoint that is in progress if these are read as SNAP and DONE, or 0
 abbrev pub running_by : (number done : ℕ) → ℕ
 running_by number done = if done == number then 0 else number
 
@@ -171,7 +167,7 @@ NumbersStay = (t : Table) (s : Saves) (z : Frozen) (count : ℕ) (saver : ℕ �
 
 -- ---- the end of a checkpoint
 
--- where a round has passed all pages, the exchange of DONE leaves what is kept of checkpoints: this one is finished
+-- if a round has passed all pages, the exchange of DONE leaves what is kept of checkpoints: this one is finished
 abbrev pub CheckpointsEnd : Type 0
 CheckpointsEnd = (t : Table) (s : Saves) (z : Frozen) (count : ℕ) (saver : ℕ → Saver) (k : ℕ) (r : SaveRound) → SavingStands t s z count saver → k < count
     → (saver k).round ≡ Some r → HasPassedAll t.pages r → s.done ≡ r.number - 1

@@ -1,5 +1,5 @@
 -- Rows that a checkpoint in progress doesn't own: which stores in them spare it, and what is kept of it then, at a flip and at the
--- opening. And what is read of a checkpoint.
+-- opening. And when all of its pages are saved.
 use Rattle.std.specs.Prelude.{◌≡◌, ◌≢◌, ℕ, ◌+◌, ◌*◌, ◌<◌, ◌≤◌, ◌⊎◌, true, false, Option, Some, None}
 use Rattle.plain_state.specs.declared.kind.Kind.TheVariants.{Fields}
 use Rattle.space_map.specs.declared.area_word.AreaWord.{AreaWord}
@@ -12,7 +12,7 @@ use Rattle.space_map.specs.Spaces.{page_of, to_space}
 use Rattle.heap_state.specs.Functions.{put}
 use Rattle.heap_state.specs.Memory.Entries.{Entry, GateIs, TracedIs, AreaIs, SizeIs, PageIs, CrossIs, WordIs, AnnounceIs}
 use Rattle.heap_state.specs.Memory.Table.{Table}
-use Rattle.heap_state.specs.Saving.Words.{Saves, IsInProgress, IsAtRest, word_read}
+use Rattle.heap_state.specs.Saving.Words.{Saves, IsInProgress, IsAtRest}
 use Rattle.heap_state.specs.Saving.Frozen.{Frozen}
 use Rattle.heap_state.specs.Saving.Savers.{Saver, SaveRound, NoReads}
 use Rattle.heap_state.specs.Saving.Parts.{SavingWords, SavesRound, KnowsSaving, HasWonSave, SavingStands}
@@ -26,7 +26,7 @@ NobodyIsStill count saver = (k : ℕ) → k < count → (saver k).still ≡ None
 
 -- The row that is written, or none, spares the checkpoints. A word on a page of one in progress is written only once the page is
 -- saved, and what PAGE says of it stays. A page is opened in this epoch alone, and its SAVE is of the last checkpoint, or the epoch
--- isn't traced. TRACED is written where the epoch becomes traced, and the gate, in its epoch, where nobody is still.
+-- isn't traced. TRACED is written when the epoch becomes traced, and the gate, in its epoch, if nobody is still.
 pub data Spares (t : Table) (s : Saves) (z : Frozen) (count : ℕ) (saver : ℕ → Saver) : Option Entry → Type 0 where
   SparesNone : Spares t s z count saver None
   SparesCross : (page place : ℕ) → Spares t s z count saver (Some (CrossIs page place))
@@ -55,7 +55,7 @@ SaverChanges = (t : Table) (s : Saves) (z : Frozen) (count : ℕ) (saver : ℕ �
     → SavingStands t s z count (put saver k w)
 
 -- A step of worker k that stores in a row, or in none, leaves what is kept of checkpoints, if the row spares them, and the worker
--- knows what is so before the store. It isn't still but where it was.
+-- knows what is so before the store. It isn't still unless it was.
 abbrev pub StepsAreSpared : Type 0
 StepsAreSpared = (t : Table) (s : Saves) (z : Frozen) (count : ℕ) (saver : ℕ → Saver) (k : ℕ) (e : Option Entry) (w : Saver)
     → SavingStands t s z count saver → k < count → Spares t s z count saver e → KnowsSaving t s z k w
@@ -72,7 +72,7 @@ pub record MayFlip (s : Saves) (count : ℕ) (saver : ℕ → Saver) (k : ℕ) :
   pub settled : (j : ℕ) → j < count → j ≢ k → (saver j).settled ≡ false
   pub still : NobodyIsStill count saver
 
--- it may where it has found DONE equal to SNAP and isn't still, nobody runs, and nobody else holds the request
+-- it may if it has found DONE equal to SNAP and isn't still, nobody runs, and nobody else holds the request
 abbrev pub SettledMayFlip : Type 0
 SettledMayFlip = (t : Table) (s : Saves) (z : Frozen) (count : ℕ) (saver : ℕ → Saver) (k : ℕ) → SavingStands t s z count saver → k < count
     → (saver k).settled ≡ true → (saver k).still ≡ None → ((j : ℕ) → j < count → (saver j).runs ≡ false)
@@ -88,11 +88,7 @@ FlipsAreSpared = (t : Table) (s : Saves) (z : Frozen) (count : ℕ) (saver : ℕ
     → k < count → gate.epoch ≡ t.gate.epoch + 1 → MayFlip s count saver k
     → SavingStands (table_after t (Some (GateIs gate))) s z count (put saver k (saver_after_flip (saver k)))
 
--- ---- what is read
-
--- the word that is read of an address on a page of the last checkpoint is the word of then
-abbrev pub WordsReadAreFrozen : Type 0
-WordsReadAreFrozen = (t : Table) (s : Saves) (z : Frozen) (x : ℕ) → SavingWords t s z → z.held (page_of x) ≡ true → word_read s t.heap x ≡ z.heap x
+-- ---- the end
 
 -- a round has passed the board and the n pages of its space, and none of them was being saved by another worker
 pub record HasPassedAll (n : ℕ) (r : SaveRound) : Type 0 where
@@ -105,7 +101,7 @@ pub record AllAreSaved (s : Saves) (z : Frozen) (c : ℕ) : Type 0 where
   pub runs : IsInProgress s c
   pub saved : (page : ℕ) → z.held page ≡ true → s.save page ≡ Saved c
 
--- all pages are saved where a round has passed all, as long as DONE says that its checkpoint isn't finished
+-- all pages are saved if a round has passed all, as long as DONE says that its checkpoint isn't finished
 abbrev pub PassedRoundsHaveSaved : Type 0
 PassedRoundsHaveSaved = (t : Table) (s : Saves) (z : Frozen) (r : SaveRound) → SavingWords t s z → SavesRound t s z r → HasPassedAll t.pages r
     → s.done + 1 ≡ r.number → AllAreSaved s z r.number
@@ -143,5 +139,4 @@ nothing_frozen = record {
   size = λ addr. 0;
   kind = λ addr. Fields;
   identity = λ addr. record { mutator = 0; serial = 0 };
-  board = 0;
 }

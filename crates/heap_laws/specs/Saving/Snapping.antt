@@ -16,7 +16,7 @@ use Rattle.heap_state.specs.Memory.Entries.{GateIs, SnapIs}
 use Rattle.heap_state.specs.Memory.Era.{Era, Memory, IsLaidOut, era_of, memory_of}
 use Rattle.heap_state.specs.Memory.Table.{Table}
 use Rattle.heap_state.specs.Saving.Frozen.{Frozen}
-use Rattle.heap_state.specs.Saving.Kept.{KeepsPicture}
+use Rattle.heap_state.specs.Saving.Kept.{KeepsPicture, ShowsSnapped}
 use Rattle.heap_state.specs.Saving.Parts.{SavingStands}
 use Rattle.heap_state.specs.Saving.Savers.{Saver}
 use Rattle.heap_state.specs.Saving.Words.{Saves}
@@ -30,7 +30,7 @@ use Rattle.heap_laws.specs.Steps.{Ready, StepsTo}
 
 -- ---- who runs and who holds the request
 
--- what is known of each worker's saves says that it runs, or holds the request, where its post does
+-- what is known of each worker's saves says that it runs, or holds the request, as its post does
 pub record FollowPosts (count : ℕ) (worker : ℕ → Worker) (saver : ℕ → Saver) : Type 0 where
   pub runs : (k : ℕ) → k < count → (saver k).runs ≡ is_running (worker k).post
   pub asks : (k : ℕ) → k < count → (saver k).asks ≡ is_asking (worker k).post
@@ -42,7 +42,7 @@ NobodyRuns count saver = (j : ℕ) → j < count → (saver j).runs ≡ false
 abbrev pub NobodyElseAsks : (count : ℕ) (saver : ℕ → Saver) (k : ℕ) → Type 0
 NobodyElseAsks count saver k = (j : ℕ) → j < count → j ≢ k → (saver j).asks ≡ false
 
--- nobody runs where the gate counts nobody running
+-- nobody runs if the gate counts nobody running
 abbrev pub RunnersAreCounted : Type 0
 RunnersAreCounted = (gate : GateWord) (count : ℕ) (worker : ℕ → Worker) (saver : ℕ → Saver) → Counted gate count worker → FollowPosts count worker saver
     → gate.running ≡ 0 → NobodyRuns count saver
@@ -58,7 +58,7 @@ AskersAreAlone = (gate : GateWord) (count : ℕ) (worker : ℕ → Worker) (save
 abbrev pub saver_after_request : Saver → Saver
 saver_after_request w = record w { runs = false; asks = true; recalled = false; guarded = None; marked = None }
 
--- a passage by which a worker gets the request leaves what is kept of checkpoints, where nobody is still
+-- a passage by which a worker gets the request leaves what is kept of checkpoints, if nobody is still
 abbrev pub RequestsAreSpared : Type 0
 RequestsAreSpared = (t : Table) (s : Saves) (z : Frozen) (count : ℕ) (saver : ℕ → Saver) (k : ℕ) (gate : GateWord) → SavingStands t s z count saver
     → k < count → gate.epoch ≡ t.gate.epoch → NobodyIsStill count saver
@@ -94,13 +94,12 @@ frozen_of t g = record {
   size = only_in (era_of t).start (era_of t).span g.size;
   kind = g.kind;
   identity = g.identity;
-  board = (era_of t).board;
 }
 
 -- in a traced epoch it shows the board and the records of the plain heap
 abbrev pub FrozenHeapsShow : Type 0
 FrozenHeapsShow = (t : Table) (team : Team) (g : Ghost) (p : plain.Plain) → IsLaidOut (era_of t) → Invariant (era_of t) (memory_of t) team g
-    → Shown (era_of t) (memory_of t) team g p → t.traced ≡ t.gate.epoch + 1 → KeepsPicture (frozen_of t g) p.heap.board p.heap.records
+    → Shown (era_of t) (memory_of t) team g p → t.traced ≡ t.gate.epoch + 1 → KeepsPicture t.pages (frozen_of t g) p.heap.board p.heap.records
 
 -- ---- SNAP is exchanged
 
@@ -125,11 +124,6 @@ abbrev pub SnapsAreBegun : Type 0
 SnapsAreBegun = (t : Table) (s : Saves) (z : Frozen) (g : Ghost) (count : ℕ) (saver : ℕ → Saver) (k : ℕ) → SavingStands t s z count saver → k < count
     → MaySnap s count saver k → SavingStands t (next_saves s) (frozen_of t g) count (put saver k (saver_after_snap (saver k)))
 
--- As many checkpoints were begun as in the plain heap, and the frozen heap shows what that has kept of the last one.
-pub record ShowsSnapped (s : Saves) (z : Frozen) (heap : plain.Heap) : Type 0 where
-  pub number : s.snap ≡ heap.snaps
-  pub keeps : 0 < s.snap → KeepsPicture z heap.snapped.board heap.snapped.records
-
 -- Worker k exchanges SNAP: it is still and settled.
 pub record IsAboutToSnap (s : Saves) (saver : ℕ → Saver) (k : ℕ) : Type 0 where
   pub gate : GateWord
@@ -140,12 +134,12 @@ pub record IsAboutToSnap (s : Saves) (saver : ℕ → Saver) (k : ℕ) : Type 0 
 -- the checkpoint is begun: what is kept of checkpoints stands for the heap of now, and the plain heap has kept that too
 pub record SnapIsKept (t : Table) (s : Saves) (g : Ghost) (count : ℕ) (saver : ℕ → Saver) (k : ℕ) (heap : plain.Heap) : Type 0 where
   pub stands : SavingStands t (next_saves s) (frozen_of t g) count (put saver k (saver_after_snap (saver k)))
-  pub shows : ShowsSnapped (next_saves s) (frozen_of t g) (took heap)
+  pub shows : ShowsSnapped t.pages (next_saves s) (frozen_of t g) (took heap)
 
 abbrev pub SnapsAreKept : Type 0
 SnapsAreKept = (t : Table) (s : Saves) (z : Frozen) (team : Team) (g : Ghost) (p : plain.Plain) (saver : ℕ → Saver) (k : ℕ) → IsLaidOut (era_of t)
     → Invariant (era_of t) (memory_of t) team g → Shown (era_of t) (memory_of t) team g p → SavingStands t s z team.count saver
-    → ShowsSnapped s z p.heap → FollowPosts team.count team.worker saver → k < team.count → IsAboutToSnap s saver k → SnapIsKept t s g team.count saver k p.heap
+    → ShowsSnapped t.pages s z p.heap → FollowPosts team.count team.worker saver → k < team.count → IsAboutToSnap s saver k → SnapIsKept t s g team.count saver k p.heap
 
 -- ---- the mutator goes on
 
@@ -172,12 +166,12 @@ ClearsAreSpared = (t : Table) (s : Saves) (z : Frozen) (count : ℕ) (saver : �
     → k < count → gate.epoch ≡ t.gate.epoch → NobodyElseAsks count saver k
     → SavingStands (table_after t (Some (GateIs gate))) s z count (put saver k (saver_after_clear (saver k)))
 
--- the worker that runs
-abbrev pub saver_in_run : Saver → Saver
-saver_in_run w = record w { runs = true }
+-- the worker that begins to run
+abbrev pub saver_running : Saver → Saver
+saver_running w = record w { runs = true }
 
--- a passage by which a worker begins to run leaves what is kept of checkpoints, where nobody is still
+-- a passage by which a worker begins to run leaves what is kept of checkpoints, if nobody is still
 abbrev pub RunnersAreSpared : Type 0
 RunnersAreSpared = (t : Table) (s : Saves) (z : Frozen) (count : ℕ) (saver : ℕ → Saver) (k : ℕ) (gate : GateWord) → SavingStands t s z count saver
     → k < count → gate.epoch ≡ t.gate.epoch → NobodyIsStill count saver
-    → SavingStands (table_after t (Some (GateIs gate))) s z count (put saver k (saver_in_run (saver k)))
+    → SavingStands (table_after t (Some (GateIs gate))) s z count (put saver k (saver_running (saver k)))

@@ -22,7 +22,7 @@ use Rattle.heap_laws.specs.Gate.{WinsGate, gate_after, worker_after}
 use Rattle.heap_laws.specs.Lifting.{table_after}
 use Rattle.heap_laws.specs.Saving.Rows.{NobodyIsStill, Spares, saver_after_flip}
 use Rattle.heap_laws.specs.Saving.Rounds.{saver_stopped}
-use Rattle.heap_laws.specs.Saving.Snapping.{FollowPosts, saver_after_request, saver_after_clear, saver_in_run}
+use Rattle.heap_laws.specs.Saving.Snapping.{FollowPosts, saver_after_request, saver_after_clear, saver_running}
 use Rattle.heap_laws.specs.Scanning.Claims.{WinsPage, HasScanned}
 use Rattle.heap_laws.specs.Steps.{Ready}
 use Rattle.heap_laws.specs.Tracing.{WinsTraced}
@@ -133,16 +133,16 @@ PassagesAreSpared = (t : Table) (s : Saves) (z : Frozen) (team : Team) (g : Ghos
 
 -- the worker after a passage
 abbrev pub saver_passed : Passage → Saver → Saver
-saver_passed Enter w = saver_in_run w
+saver_passed Enter w = saver_running w
 saver_passed Park w = saver_stopped w
 saver_passed (Request asked) w = saver_after_request w
 saver_passed RequestSnap w = saver_after_request w
 saver_passed Clear w = saver_after_clear w
 saver_passed Forwarded w = w
-saver_passed Resume w = saver_in_run w
+saver_passed Resume w = saver_running w
 saver_passed Leave w = saver_stopped w
 
--- after it what is known of each worker's saves says again that it runs, or holds the request, where its post does
+-- after it what is known of each worker's saves says again that it runs, or holds the request, as its post does
 abbrev pub PassagesFollowPosts : Type 0
 PassagesFollowPosts = (E : Era) (m : Memory) (team : Team) (g : Ghost) (saver : ℕ → Saver) (k : ℕ) (step : GateStep) → Ready E m team g k
     → FollowPosts team.count team.worker saver → WinsGate m team k step
@@ -161,7 +161,7 @@ FlippersKeepSaving = (t : Table) (s : Saves) (z : Frozen) (team : Team) (g : Gho
     → (saver k).settled ≡ true → (saver k).still ≡ None
     → SavingStands (table_after t (Some (GateIs (flipped_gate r.read)))) s z team.count (put saver k (saver_after_flip (saver k)))
 
--- what is known of each worker's saves says after a flip too that it runs, or holds the request, where its post does
+-- what is known of each worker's saves says after a flip too that it runs, or holds the request, as its post does
 abbrev pub FlippersFollowPosts : Type 0
 FlippersFollowPosts = (E : Era) (m : Memory) (team : Team) (g : Ghost) (saver : ℕ → Saver) (k : ℕ) (r : Reset) → Ready E m team g k
     → FollowPosts team.count team.worker saver → Flips E team k r

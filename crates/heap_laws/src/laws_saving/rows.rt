@@ -8,7 +8,6 @@ ghost use Rattle.heap_laws.specs.Saving.Rows.{
   StepsAreSpared,
   SettledMayFlip,
   FlipsAreSpared,
-  WordsReadAreFrozen,
   PassedRoundsHaveSaved,
   SavesOpen,
 };
@@ -29,11 +28,6 @@ pub fn savers_change()
 pub fn flips_are_spared()
     ensures ready { SettledMayFlip }
     ensures spared { FlipsAreSpared }
-{}
-
-/// The words that are read of the last checkpoint are those of then.
-pub fn words_read_are_frozen()
-    ensures { WordsReadAreFrozen }
 {}
 
 /// Where a round has passed all pages, all of its checkpoint are saved.

@@ -3,7 +3,7 @@ use Rattle.std.proofs.Common.{◌≡◌, ℕ, ◌+◌, ◌<◌, List, ◌∷◌,
 use Rattle.std.specs.Prelude.{true}
 use Rattle.heap_state.specs.Configuration.{team, Stands}
 use Rattle.heap_state.specs.Examples.Flipped.{flipped_plain}
-use Rattle.heap_state.specs.Examples.Requested.{requested, requested_entries, running_on}
+use Rattle.heap_state.specs.Examples.Requested.{requested, requested_plain, requested_entries, running_on}
 use Rattle.heap_state.specs.Functions.{put, sum_below}
 use Rattle.heap_state.specs.Invariant.Holds.{GateHolds}
 use Rattle.heap_state.specs.Invariant.Inductive.{Invariant}
@@ -11,14 +11,15 @@ use Rattle.heap_state.specs.Meaning.Values.{value_of, Accounts, RegistersShow, B
 use Rattle.heap_state.specs.Memory.Entries.{Entry, GateIs, EachFits, HasSizes}
 use Rattle.heap_state.specs.Memory.Era.{era_of, memory_of}
 use Rattle.heap_state.specs.Theorems.Examples.{IsWorkedOutRequested}
-use Rattle.heap_state.specs.Theorems.Rows.{Written}
+use Rattle.heap_state.specs.Theorems.Saves.{WrittenWhole}
 use Rattle.heap_state.specs.Theorems.Standing.{IsSound}
 use Rattle.heap_state.proofs.Flipped.Parts.{flipped_ghost, heap, identity, blank_word, zero_word, headed, once, kept_by, raw_words, counts, old_area}
 use Rattle.heap_state.proofs.Flipped.Standing.{objects, board_zero, registers}
 use Rattle.heap_state.proofs.Holds.Keeping.{holds}
 use Rattle.heap_state.proofs.Represents.Representing.{represents}
+use Rattle.heap_state.proofs.Represents.Snapped.{snaps_show}
 use Rattle.heap_state.proofs.Requested.Parts.{requested_table, requested_era, workers, Known, opened, landing, older, laid, copied, room, shut, filling, tracing, aged, old_words, old_pages, scanned, larger, new_written, old_space, crossing, counted, staffed, stocks, numbered, mutator_knows}
-use Rattle.heap_state.proofs.Table.Writing.{writes_tables}
+use Rattle.heap_state.proofs.Table.Writing.{writes_whole_tables}
 use Rattle.heap_state.proofs.Worked.Standing.{the_mutator, number_value, of_one}
 
 -- ---- the invariant
@@ -39,9 +40,9 @@ board = record {
   board = λ x l. rw (blank_word (512 + x) (omega arith)) (number_value identity 0 0 zero_word ∙ sym (board_zero x l));
 }
 
-shows : Shown (era_of requested_table) (memory_of requested_table) (team requested) flipped_ghost flipped_plain
+flipped_shows : Shown (era_of requested_table) (memory_of requested_table) (team requested) flipped_ghost flipped_plain
 unfolding put
-shows = record {
+flipped_shows = record {
   objects = objects;
   board = board;
   as_many = refl;
@@ -49,6 +50,9 @@ shows = record {
   accounts = of_one (λ k q. Accounts flipped_plain.heap k (workers.worker k).account q) the_mutator (record { counter = refl; printed = refl; executed = refl; end = refl; serial = refl });
   registers = of_one (λ k q. RegistersShow (value_of identity) (workers.worker k).registers q) the_mutator registers;
 }
+
+shows : Shown (era_of requested_table) (memory_of requested_table) (team requested) flipped_ghost requested_plain
+shows = snaps_show (era_of requested_table) (memory_of requested_table) (team requested) flipped_ghost flipped_plain flipped_shows
 
 -- ---- the words
 
@@ -58,10 +62,10 @@ entries_fit = (omega arith, (omega arith, (omega arith, (record { epoch_fits = o
 has_sizes : HasSizes requested_entries
 has_sizes = record { first = (4, (7, omega arith, refl)); second = (4, (8, omega arith, refl)) }
 
-table_is : Written 4 requested_entries
-table_is = writes_tables 4 requested_entries entries_fit has_sizes
+table_is : WrittenWhole 4 requested_entries
+table_is = writes_whole_tables 4 requested_entries entries_fit has_sizes
 
-abbrev stands : Stands requested flipped_plain
+abbrev stands : Stands requested requested_plain
 stands = record {
   size = (omega arith, omega arith);
   formed = table_is.formed;
@@ -70,19 +74,19 @@ stands = record {
   shown = rw table_is.says shows;
 }
 
-sound : IsSound requested flipped_plain
-sound = record { holds = holds requested stands.ghost stands.formed stands.invariant; represents = represents requested stands.ghost stands.formed stands.invariant flipped_plain stands.shown }
+sound : IsSound requested requested_plain
+sound = record { holds = holds requested stands.ghost stands.formed stands.invariant; represents = represents requested stands.ghost stands.formed stands.invariant requested_plain stands.shown }
 
 pub worked_out_requested : IsWorkedOutRequested
-worked_out_requested = record { stands = stands; sound = sound }
+worked_out_requested = record { stands = stands; sound = sound; number = rw table_is.saves refl }
 
 -- ---- who runs has no request
 
 abbrev running_entries : List Entry
 running_entries = GateIs (record { epoch = 0; live = 1; running = 1; behind = 0; request = true; left = 0 }) ∷ requested_entries
 
-running_is : Written 4 running_entries
-running_is = writes_tables 4 running_entries
+running_is : WrittenWhole 4 running_entries
+running_is = writes_whole_tables 4 running_entries
     (record { epoch_fits = omega arith; live_fits = omega arith; running_fits = omega arith; behind_fits = omega arith; left_fits = omega arith }, entries_fit)
     (record { first = (4, (8, omega arith, refl)); second = (4, (9, omega arith, refl)) })
 

@@ -1,17 +1,15 @@
 -- Three configurations in which a checkpoint is in progress and a rule is broken are told.
-use Rattle.std.proofs.Common.{◌≡◌, ◌≢◌, ℕ, ◌+◌, ◌≤◌, ◌<◌, ◌⊎◌, inl, inr, true, [], ◌∷◌, suc, Some, refl, sym, ap, ◌∙◌, arith, ⊎_elim}
+use Rattle.std.proofs.Common.{◌≡◌, ℕ, ◌+◌, ◌≤◌, ◌<◌, true, [], ◌∷◌, suc, Some, refl, sym, ap, ◌∙◌, arith}
 use Rattle.std.specs.Prelude.{Contains, Option}
-use Rattle.std.proofs.lemmas.Bool.{cases_eq, ne_eqb}
 use Rattle.plain_state.specs.declared.kind.Kind.{Kind}
 use Rattle.plain_state.specs.declared.kind.Kind.TheVariants.{Fields}
 use Rattle.plain_state.specs.declared.value.Identity.{Identity}
 use Rattle.plain_state.specs.declared.value.Value.{Value}
 use Rattle.plain_state.specs.declared.value.Value.TheVariants.{Number, Reference}
 use Rattle.plain_state.specs.State.{Record}
-use Rattle.heap_words.specs.declared.kind.Kind.TheVariants as heap_kind
 use Rattle.heap_words.specs.Decoded.{PointerWord, decode}
 use Rattle.heap_words.specs.Word.{number_word, pointer_word}
-use Rattle.heap_words.proofs.Decoding.{decode-number_word, decode-pointer_word, decode-header_word}
+use Rattle.heap_words.proofs.Decoding.{decode-number_word, decode-pointer_word}
 use Rattle.space_map.specs.declared.save_word.SaveWord.TheVariants.{Saving, Saved, New}
 use Rattle.space_map.specs.Spaces.{page_of}
 use Rattle.heap_state.specs.Examples.Saving.{saving_entries, kept_board, kept_records, StandsFrom, marked_ahead, saved_by_nobody, saved_too_late}
@@ -28,10 +26,8 @@ use Rattle.heap_state.specs.Saving.Kept.{KeepsPicture, ShowsKept, kept_record}
 use Rattle.heap_state.specs.Saving.Parts.{SavingWords, SavingStands}
 use Rattle.heap_state.specs.Theorems.Examples.{TellsBrokenSaves}
 use Rattle.heap_state.specs.Theorems.Saves.{WrittenWhole}
-use Rattle.heap_state.proofs.Flipped.Parts.{zero_word}
-use Rattle.heap_state.proofs.Puts.{none≢some, some_same}
+use Rattle.heap_state.proofs.Puts.{some_same}
 use Rattle.heap_state.proofs.Saving.Out.{entries_fit, has_sizes}
-use Rattle.heap_state.proofs.Saving.Words.{each_page}
 use Rattle.heap_state.proofs.Table.Writing.{writes_whole_tables}
 use Rattle.heap_state.proofs.Worked.Standing.{pointer_value, number_value}
 
@@ -75,52 +71,28 @@ late_table = table_with 4 saved_too_late
 abbrev late_saves : Saves
 late_saves = saves_with_all saved_too_late
 
--- on page 3 there is no reference in the images, and on the board only one in the heap, to 192
-reference_in_image : (named : ℕ → Identity) (x : ℕ) (i : Identity) → page_of x ≡ 3 → value_of named (late_saves.image x) ≡ Some (Reference i) → ⊥
-unfolding value_of put
-reference_in_image named x i on e = ⊎_elim
-    (λ (o : x ≡ 193). absurd (let q = sym (number_value named (number_word 6) 6 (decode-number_word 6 (omega arith))) ∙ (rw o at e) in cc))
-    (λ (n : x ≢ 193). ⊎_elim
-    (λ (o : x ≡ 192). none≢some ((rw (decode-header_word heap_kind.Fields 1 1 0 (omega arith) (omega arith)) refl) ∙ (rw o at e)))
-    (λ (m : x ≢ 192). absurd (
-    let zero : late_saves.image x ≡ 0 = rw (ne_eqb x 193 n, ne_eqb x 192 m, ne_eqb x 512 (λ o. omega (arith, o, on))) refl in
-    let q = sym (number_value named 0 0 zero_word) ∙ (rw zero at e) in cc))
-    (cases_eq x 192))
-    (cases_eq x 193)
-
-reference_on_board : (named : ℕ → Identity) (x : ℕ) (i : Identity) → page_of x ≡ 8 → value_of named (late_table.heap x) ≡ Some (Reference i)
-    → (decode (late_table.heap x) ≡ PointerWord 192) × (named 192 ≡ i)
+-- the reference on the board's first word is to the record at 192
+reference_on_board : (named : ℕ → Identity) (i : Identity) → value_of named (late_table.heap 512) ≡ Some (Reference i)
+    → (decode (late_table.heap 512) ≡ PointerWord 192) × (named 192 ≡ i)
 unfolding put
-reference_on_board named x i on e = ⊎_elim
-    (λ (o : x ≡ 512).
+reference_on_board named i e =
     let leads = decode-pointer_word 192 (omega arith) in
-    let q : Some (Reference (named 192)) ≡ Some (Reference i) = sym (pointer_value named (pointer_word 192) 192 leads) ∙ (rw o at e) in
-    (rw o leads, cc))
-    (λ (n : x ≢ 512). absurd (
-    let apart : (a : ℕ) → a < 512 → x ≢ a = λ a l o. omega (arith, l, o, on) in
-    let zero : late_table.heap x ≡ 0 =
-    rw (ne_eqb x 128 (apart 128 (omega arith)), ne_eqb x 192 (apart 192 (omega arith)), ne_eqb x 193 (apart 193 (omega arith)), ne_eqb x 512 n) refl in
-    let q = sym (number_value named 0 0 zero_word) ∙ (rw zero at e) in cc))
-    (cases_eq x 512)
+    let q : Some (Reference (named 192)) ≡ Some (Reference i) = sym (pointer_value named (pointer_word 192) 192 leads) ∙ e in
+    (leads, cc)
 
 -- a heap of then whose checkpoint is in progress
 module _ (z : Frozen) (words : SavingWords late_table late_saves z) where
   running : late_saves.done < late_saves.snap
   running = omega arith
 
-  held_page : (p : ℕ) → z.held p ≡ true → (p ≡ 3) ⊎ (p ≡ 8)
-  unfolding put
-  held_page = each_page (λ p. z.held p ≡ true → (p ≡ 3) ⊎ (p ≡ 8))
-      (λ h. absurd (words.old running 2 h refl)) (λ h. inl refl) (λ h. inr refl) (λ p u s h. absurd (let q = sym u ∙ (words.opened running p h).1 in cc))
-
-  -- on page 3 its words are those of the images, on the board those of the heap
+  -- on page 3 its words are those of the images, and the board's first one is that of the heap
   on_page_3 : (x : ℕ) → z.held (page_of x) ≡ true → page_of x ≡ 3 → late_saves.image x ≡ z.heap x
   unfolding put
   on_page_3 x h on = words.saved running x h (rw on refl)
 
-  on_board : (x : ℕ) → z.held (page_of x) ≡ true → page_of x ≡ 8 → late_table.heap x ≡ z.heap x
+  on_board : z.held 8 ≡ true → late_table.heap 512 ≡ z.heap 512
   unfolding put
-  on_board x h on = words.unsaved running x h (λ e. absurd (let q : Saving 1 1 ≡ Saved 1 = rw on at e in cc))
+  on_board h = words.unsaved running 512 h (λ e. absurd (let q : Saving 1 1 ≡ Saved 1 = e in cc))
 
 -- the record that is kept; where it is shown, 5 is its field
 abbrev kept_one : Record
@@ -151,25 +123,21 @@ module _ (z : Frozen) (words : SavingWords late_table late_saves z) where
       in
       absurd (let broken : Some (Number 6) ≡ Some (Number 5) = sym six ∙ field in cc)
 
-  -- the board's first word can only be the one at 512
-  board_leads : (board : ℕ) → z.held (page_of board) ≡ true → value_of z.identity (z.heap board) ≡ Some (Reference (made 1))
-      → (decode (z.heap board) ≡ PointerWord 192) × (z.identity 192 ≡ made 1)
-  board_leads board held first = ⊎_elim
-      (λ (on : page_of board ≡ 3). absurd (reference_in_image z.identity board (made 1) on (ap (value_of z.identity) (on_page_3 z words board held on) ∙ first)))
-      (λ (on : page_of board ≡ 8).
-      let same = on_board z words board held on in
-      let leads = reference_on_board z.identity board (made 1) on (ap (value_of z.identity) same ∙ first) in
-      (sym (ap decode same) ∙ leads.0, leads.1))
-      (held_page z words (page_of board) held)
+  -- the board's first word leads to the record
+  board_leads : z.held 8 ≡ true → value_of z.identity (z.heap 512) ≡ Some (Reference (made 1))
+      → (decode (z.heap 512) ≡ PointerWord 192) × (z.identity 192 ≡ made 1)
+  board_leads held first =
+      let same = on_board z words held in
+      let leads = reference_on_board z.identity (made 1) (ap (value_of z.identity) same ∙ first) in
+      (sym (ap decode same) ∙ leads.0, leads.1)
 
-  differs : KeepsPicture z kept_board kept_records → ⊥
+  differs : KeepsPicture 4 z kept_board kept_records → ⊥
   differs picture =
-      let home : z.board + 0 ≡ z.board = omega arith in
-      let leads = board_leads (z.board + 0) (ap (λ b. z.held (page_of b)) home ∙ picture.held) (picture.board 0 (omega arith)) in
+      let leads = board_leads picture.held (picture.board 0 (omega arith)) in
       let stood = picture.board_lands 0 192 (omega arith) leads.0 in
       field_differs (picture.records 192 stood) stood leads.1
 
-too_late : (z : Frozen) (count : ℕ) (saver : ℕ → Saver) → KeepsPicture z kept_board kept_records → ¬ (StandsFrom saved_too_late z count saver)
+too_late : (z : Frozen) (count : ℕ) (saver : ℕ → Saver) → KeepsPicture 4 z kept_board kept_records → ¬ (StandsFrom saved_too_late z count saver)
 too_late z count saver picture stands = differs z (said (ImageIs 193 (number_word 6)) (omega arith) z count saver stands).words picture
 
 pub tells_broken : TellsBrokenSaves

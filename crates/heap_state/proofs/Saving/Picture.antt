@@ -71,12 +71,13 @@ shown = record {
   held = λ i l. rw (on_page_3 i l) refl;
 }
 
-pub picture : KeepsPicture frozen_heap kept_board kept_records
+pub picture : KeepsPicture 4 frozen_heap kept_board kept_records
 picture = record {
   board = λ x l. ⊎_elim
       (λ (e : x ≡ 0). rw e (pointer_value frozen_heap.identity (frozen_heap.heap 512) 192 first_word))
       (λ (n : x ≢ 0). number_value frozen_heap.identity (frozen_heap.heap (512 + x)) 0 (blank_word x n) ∙ sym (kept_zero x l n))
       (cases_eq x 0);
+  sixteen = refl;
   held = refl;
   records = λ a st. rw (only a st) shown;
   board_lands = λ x b l e. ⊎_elim

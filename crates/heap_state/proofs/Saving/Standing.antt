@@ -24,6 +24,9 @@ young : (page : ℕ) → number_of (saving_saves.save page) ≤ 1
 unfolding put
 young = each_page (λ p. number_of (saving_saves.save p) ≤ 1) (omega arith) (omega arith) (omega arith) (λ p u s. rw s (omega arith))
 
+within : (page : ℕ) → frozen_heap.held page ≡ true → page ≤ 8
+within page h = ⊎_elim (λ (e : page ≡ 3). omega arith) (λ (e : page ≡ 8). omega arith) (held_page page h)
+
 opened : (page : ℕ) → frozen_heap.held page ≡ true → IsPageOf 4 0 page × (saving_table.page page ≡ Open 0)
 unfolding IsPageOf put
 opened page h = ⊎_elim
@@ -47,6 +50,7 @@ words : SavingWords saving_table saving_saves frozen_heap
 words = record {
   order = (omega arith, omega arith, omega arith);
   young = young;
+  within = within;
   traced = λ l. refl;
   opened = λ l. opened;
   old = λ l. old;

@@ -1,14 +1,19 @@
 -- A third small configuration worked out by hand, in which a mutator has begun a checkpoint, and one that breaks a rule.
 --
 -- It is the second one's heap before its flip: four pages a space, epoch 0, which is traced. Mutator 0 has exchanged the number of
--- checkpoints for 1, and is about to clear the request, which is its own. It represents the same plain state.
+-- checkpoints for 1, and is about to clear the request, which is its own. It represents the same plain state, whose heap has begun
+-- that checkpoint.
 use Rattle.std.specs.Prelude.{true, List, [], ◌∷◌, Some, None, if◌then◌else◌, ◌==◌}
 use Rattle.heap_words.specs.Word.{pointer_word, header_word}
 use Rattle.heap_words.specs.declared.kind.Kind.TheVariants as heap_kind
+use Rattle.plain_state.specs.State.{Plain}
+use Rattle.plain_state.specs.Writing.{with_heap, took}
 use Rattle.space_map.specs.declared.gate_word.GateWord.{GateWord}
 use Rattle.space_map.specs.declared.page_word.PageWord.TheVariants.{Open}
 use Rattle.heap_state.specs.Configuration.{Configuration}
-use Rattle.heap_state.specs.Memory.Entries.{Entry, GateIs, TracedIs, AreaIs, SizeIs, PageIs, WordIs, SnapIs, written}
+use Rattle.heap_state.specs.Examples.Flipped.{flipped_plain}
+use Rattle.heap_state.specs.Memory.Entries.{Entry, GateIs, TracedIs, AreaIs, SizeIs, PageIs, WordIs, SnapIs}
+use Rattle.heap_state.specs.Saving.Written.{written_whole}
 use Rattle.heap_state.specs.Worker.{Worker, fresh, Running, Snapping, Clear}
 
 -- nobody runs, and there is a request
@@ -41,13 +46,16 @@ snapping_mutator = record (fresh Snapping) {
 }
 
 abbrev pub requested : Configuration
-requested = record { pages = 4; words = written 4 requested_entries; mutators = 1; workers = snapping_mutator ∷ [] }
+requested = record { pages = 4; words = written_whole 4 requested_entries; mutators = 1; workers = snapping_mutator ∷ [] }
+
+abbrev pub requested_plain : Plain
+requested_plain = with_heap flipped_plain (took flipped_plain.heap)
 
 -- it runs though there is a request, which nobody else has made
 abbrev pub running_on : Configuration
 running_on = record {
   pages = 4;
-  words = written 4 (GateIs (record { epoch = 0; live = 1; running = 1; behind = 0; request = true; left = 0 }) ∷ requested_entries);
+  words = written_whole 4 (GateIs (record { epoch = 0; live = 1; running = 1; behind = 0; request = true; left = 0 }) ∷ requested_entries);
   mutators = 1;
   workers = record snapping_mutator { post = Running; gate_step = None } ∷ [];
 }

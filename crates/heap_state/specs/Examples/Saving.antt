@@ -77,7 +77,6 @@ frozen_heap = record {
   size = λ a. if a == 192 then 2 else 0;
   kind = λ a. plain_kind.Fields;
   identity = λ a. made 1;
-  board = 512;
 }
 
 -- what the plain heap has kept: the record on the board's first word, with 5 in its field

@@ -9,15 +9,14 @@ use Rattle.heap_state.specs.Memory.Table.{Table}
 use Rattle.heap_state.specs.Saving.Words.{Saves, IsInProgress}
 
 -- The heap as it was then. `held` are the pages of the checkpoint: the board, and each page of the epoch's space that was open.
--- Then come the words; by place the size of the record that begins there, or 0, its kind and its identity; and the board's first
--- word. Nothing of it changes before the next checkpoint is begun.
+-- Then come the words; and by place the size of the record that begins there, or 0, its kind and its identity. Nothing of it changes
+-- before the next checkpoint is begun.
 pub record Frozen : Type 0 where
   pub held : ℕ → Bool
   pub heap : ℕ → ℕ
   pub size : ℕ → ℕ
   pub kind : ℕ → Kind
   pub identity : ℕ → Identity
-  pub board : ℕ
 
 -- ---- which pages may be saved
 

@@ -1,14 +1,15 @@
 -- The heap as it was when the last checkpoint was begun shows what the plain heap has kept of then.
-use Rattle.std.specs.Prelude.{◌≡◌, ℕ, ◌+◌, ◌-◌, ◌<◌, true, List, [], Some, slice_get, slice_index_or, Option}
+use Rattle.std.specs.Prelude.{◌≡◌, ℕ, ◌+◌, ◌-◌, ◌<◌, true, length, List, [], Some, slice_get, slice_index_or, Option}
 use Rattle.heap_words.specs.Decoded.{PointerWord, HeaderWord, decode}
 use Rattle.plain_state.specs.declared.value.Identity.{Identity}
 use Rattle.plain_state.specs.declared.value.Value.{Value}
 use Rattle.plain_state.specs.Layout.{is_field}
-use Rattle.plain_state.specs.State.{Record, at_serial}
-use Rattle.space_map.specs.Spaces.{page_of}
+use Rattle.plain_state.specs.State.{Record, Heap, at_serial}
+use Rattle.space_map.specs.Spaces.{page_of, first_word, board_page}
 use Rattle.heap_state.specs.Invariant.Ghost.{header_kind}
 use Rattle.heap_state.specs.Meaning.Values.{Shows, value_of}
 use Rattle.heap_state.specs.Saving.Frozen.{Frozen}
+use Rattle.heap_state.specs.Saving.Words.{Saves}
 
 -- the record of an identity among those kept
 abbrev pub kept_record : List (List Record) → Identity → Option Record
@@ -22,12 +23,18 @@ pub record ShowsKept (z : Frozen) (records : List (List Record)) (a : ℕ) : Typ
   pub header : decode (z.heap a) ≡ HeaderWord (header_kind (z.kind a)) (z.size a - 1) (z.identity a).serial (z.identity a).mutator
   pub held : (i : ℕ) → i < z.size a → z.held (page_of (a + i)) ≡ true
 
--- The board's words denote the kept board, on a page of the checkpoint; each record is shown; a reference on the board or in a field
--- is to a record; and no record stands twice.
-pub record KeepsPicture (z : Frozen) (board_kept : List Value) (kept : List (List Record)) : Type 0 where
-  pub board : (x : ℕ) → x < 16 → value_of z.identity (z.heap (z.board + x)) ≡ slice_get board_kept x
-  pub held : z.held (page_of z.board) ≡ true
+-- With n pages a space: the board's words denote the kept board, which has sixteen values, and its page is one of the checkpoint; each
+-- record is shown; a reference on the board or in a field is to a record; and no record stands twice.
+pub record KeepsPicture (n : ℕ) (z : Frozen) (board_kept : List Value) (kept : List (List Record)) : Type 0 where
+  pub board : (x : ℕ) → x < 16 → value_of z.identity (z.heap (first_word (board_page n) + x)) ≡ slice_get board_kept x
+  pub sixteen : length board_kept ≡ 16
+  pub held : z.held (board_page n) ≡ true
   pub records : (a : ℕ) → 0 < z.size a → ShowsKept z kept a
-  pub board_lands : (x b : ℕ) → x < 16 → decode (z.heap (z.board + x)) ≡ PointerWord b → 0 < z.size b
+  pub board_lands : (x b : ℕ) → x < 16 → decode (z.heap (first_word (board_page n) + x)) ≡ PointerWord b → 0 < z.size b
   pub field_lands : (a i b : ℕ) → 0 < i → i < z.size a → is_field (z.kind a) i ≡ true → decode (z.heap (a + i)) ≡ PointerWord b → 0 < z.size b
   pub once : (a b : ℕ) → 0 < z.size a → 0 < z.size b → z.identity a ≡ z.identity b → a ≡ b
+
+-- As many checkpoints were begun as in the plain heap, and the frozen heap shows what that has kept of the last one.
+pub record ShowsSnapped (n : ℕ) (s : Saves) (z : Frozen) (heap : Heap) : Type 0 where
+  pub number : s.snap ≡ heap.snaps
+  pub keeps : 0 < s.snap → KeepsPicture n z heap.snapped.board heap.snapped.records

@@ -5,7 +5,7 @@ use Rattle.space_map.specs.declared.page_word.PageWord.TheVariants.{Open}
 use Rattle.space_map.specs.declared.save_word.SaveWord.TheVariants.{Saving, Saved, New}
 use Rattle.space_map.specs.declared.spaces.TheConstants.{PAGE_WORDS}
 use Rattle.space_map.specs.SaveWord.{number_of}
-use Rattle.space_map.specs.Spaces.{page_of, first_word}
+use Rattle.space_map.specs.Spaces.{page_of, first_word, board_page}
 use Rattle.heap_state.specs.Memory.Table.{Table}
 use Rattle.heap_state.specs.Saving.Words.{Saves, IsInProgress, IsAtRest}
 use Rattle.heap_state.specs.Saving.Frozen.{Frozen, IsPageOf, IsSafe, MayBeSaved}
@@ -13,12 +13,13 @@ use Rattle.heap_state.specs.Saving.Savers.{Saver, SaveStep, SaveRound, FirstRead
 
 -- ---- the words
 
--- SNAP is DONE or one more, and no page's SAVE is of a later checkpoint. While one is in progress its epoch is traced, and its pages
+-- SNAP is DONE or one more, no page's SAVE is of a later checkpoint, and its pages are pages of the table. While one is in progress its epoch is traced, and its pages
 -- are open, in no case new, and have their words of then: in the heap as long as they aren't saved, and in their images once they
 -- are. Each open page may be saved. When it is finished all its pages have these words in their images.
 pub record SavingWords (t : Table) (s : Saves) (z : Frozen) : Type 0 where
   pub order : (s.done ≤ s.snap) × (s.snap ≤ s.done + 1) × (s.snap < 2 ^ 32)
   pub young : (page : ℕ) → number_of (s.save page) ≤ s.snap
+  pub within : (page : ℕ) → z.held page ≡ true → page ≤ board_page t.pages
   pub traced : s.done < s.snap → t.traced ≡ t.gate.epoch + 1
   pub opened : s.done < s.snap → (page : ℕ) → z.held page ≡ true → IsPageOf t.pages t.gate.epoch page × (t.page page ≡ Open t.gate.epoch)
   pub old : s.done < s.snap → (page : ℕ) → z.held page ≡ true → s.save page ≢ New s.snap
@@ -111,7 +112,7 @@ pub record SavingWorkers (t : Table) (s : Saves) (z : Frozen) (count : ℕ) (sav
   pub savers : (page c k : ℕ) → s.save page ≡ Saving c k → (k < count) × HasWonSave (saver k) page c
   pub each : (k : ℕ) → k < count → KnowsSaving t s z k (saver k)
 
--- what each step keeps of checkpoints, with the same frozen heap but where one is begun
+-- what each step keeps of checkpoints, with the same frozen heap unless one is begun
 pub record SavingStands (t : Table) (s : Saves) (z : Frozen) (count : ℕ) (saver : ℕ → Saver) : Type 0 where
   pub words : SavingWords t s z
   pub workers : SavingWorkers t s z count saver

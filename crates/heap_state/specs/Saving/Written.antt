@@ -5,7 +5,7 @@ use Rattle.heap_state.specs.Functions.{put}
 use Rattle.heap_state.specs.Memory.Entries.{Entry, SnapIs, DoneIs, SaveIs, ImageIs, row_of, word_of, whole_place_of}
 use Rattle.heap_state.specs.Saving.Words.{Saves}
 
--- what is said of checkpoints where the row says it
+-- what is said of checkpoints if the row says it
 abbrev pub saves_with : Entry → Saves → Saves
 saves_with (SnapIs number) s = record s { snap = number }
 saves_with (DoneIs number) s = record s { done = number }

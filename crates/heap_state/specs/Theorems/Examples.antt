@@ -5,7 +5,7 @@ use Rattle.plain_state.specs.declared.value.Value.TheVariants.{Number, Reference
 use Rattle.plain_state.specs.State.{Plain}
 use Rattle.heap_state.specs.Meaning.Denotes.{denoted}
 use Rattle.heap_state.specs.Examples.Flipped.{flipped, flipped_plain, late_mutator}
-use Rattle.heap_state.specs.Examples.Requested.{requested, running_on}
+use Rattle.heap_state.specs.Examples.Requested.{requested, requested_plain, running_on}
 use Rattle.heap_state.specs.Examples.Saving.{saving_entries, saving_workers, frozen_heap, kept_board, kept_records, StandsFrom, marked_ahead, saved_by_nobody, saved_too_late}
 use Rattle.heap_state.specs.Memory.Table.{table_of, IsFormed}
 use Rattle.heap_state.specs.Saving.Words.{saves_of, save_word_in, word_read, AreFormedSaves}
@@ -51,10 +51,11 @@ pub record IsWorkedOutFlipped : Type 0 where
   pub uncopied_words : uncopied flipped (old_walk_of flipped) ≡ 3
   pub in_place : denoted flipped (pointer_word 192) ≡ Some (Reference (made 1))
 
--- what the definitions say of the configuration whose mutator has begun a checkpoint
+-- what the definitions say of the configuration whose mutator has begun a checkpoint: its plain state has begun as many
 pub record IsWorkedOutRequested : Type 0 where
-  pub stands : Stands requested flipped_plain
-  pub sound : IsSound requested flipped_plain
+  pub stands : Stands requested requested_plain
+  pub sound : IsSound requested requested_plain
+  pub number : (saves_of 4 requested.words).snap ≡ requested_plain.heap.snaps
 
 -- What the definitions say of the one in the midst of a checkpoint: its words can be read, what each step keeps of checkpoints stands,
 -- and the heap of then shows what the plain heap has kept. SAVE of the pages 2, 3 and 8 are these words. Of the record's field and of
@@ -63,7 +64,7 @@ pub record IsWorkedOutSaving : Type 0 where
   pub formed : IsFormed 4 (written_whole 4 saving_entries)
   pub saves_formed : AreFormedSaves 4 (written_whole 4 saving_entries)
   pub stands : StandsFrom saving_entries frozen_heap 2 saving_workers
-  pub picture : KeepsPicture frozen_heap kept_board kept_records
+  pub picture : KeepsPicture 4 frozen_heap kept_board kept_records
   pub page_2 : save_word_in 4 (written_whole 4 saving_entries) (SaveOf 2) ≡ 65539
   pub page_3 : save_word_in 4 (written_whole 4 saving_entries) (SaveOf 3) ≡ 65538
   pub page_8 : save_word_in 4 (written_whole 4 saving_entries) (SaveOf 8) ≡ 65541
@@ -75,7 +76,7 @@ pub record IsWorkedOutSaving : Type 0 where
 pub record TellsBrokenSaves : Type 0 where
   pub ahead : (z : Frozen) (count : ℕ) (saver : ℕ → Saver) → ¬ (StandsFrom marked_ahead z count saver)
   pub nobody : (z : Frozen) (saver : ℕ → Saver) → ¬ (StandsFrom saved_by_nobody z 2 saver)
-  pub too_late : (z : Frozen) (count : ℕ) (saver : ℕ → Saver) → KeepsPicture z kept_board kept_records → ¬ (StandsFrom saved_too_late z count saver)
+  pub too_late : (z : Frozen) (count : ℕ) (saver : ℕ → Saver) → KeepsPicture 4 z kept_board kept_records → ¬ (StandsFrom saved_too_late z count saver)
 
 -- what is broken is told: no plain state is represented, or the part of the invariant that speaks of it doesn't hold
 pub record TellsBroken : Type 0 where

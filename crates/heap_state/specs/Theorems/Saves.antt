@@ -1,12 +1,20 @@
--- What is proved of rows of checkpoints: what a store in a row of the table or of theirs changes of what is said.
-use Rattle.std.specs.Prelude.{◌≡◌, ◌≢◌, ℕ, ◌+◌, ◌*◌, ◌≤◌, List, length, slice_set}
+-- What is proved of rows of checkpoints: what a store in a row of the table or of theirs changes of what is said, and what is read of
+-- the last checkpoint.
+use Rattle.std.specs.Prelude.{◌≡◌, ◌≢◌, ℕ, ◌+◌, ◌*◌, ◌≤◌, List, length, slice_set, true}
+use Rattle.plain_state.specs.State as plain
 use Rattle.space_map.specs.declared.save_word.SaveWord.{SaveWord}
 use Rattle.space_map.specs.SaveWord.{SaveFits, encode_save}
+use Rattle.space_map.specs.Spaces.{page_of}
 use Rattle.space_map.specs.Table.{Row, SnapNumber, DoneNumber, SaveOf, ImageOf, IsRow, place_of, save_place_of, table_length}
 use Rattle.heap_state.specs.Functions.{put}
 use Rattle.heap_state.specs.Memory.Entries.{Entry, EachFits, HasSizes, table_with}
-use Rattle.heap_state.specs.Memory.Table.{table_of, IsFormed}
-use Rattle.heap_state.specs.Saving.Words.{Saves, saves_of, AreFormedSaves}
+use Rattle.heap_state.specs.Memory.Table.{Table, table_of, IsFormed}
+use Rattle.heap_state.specs.Saving.Words.{Saves, saves_of, AreFormedSaves, word_read}
+use Rattle.heap_state.specs.Saving.Frozen.{Frozen}
+use Rattle.heap_state.specs.Saving.Savers.{Saver}
+use Rattle.heap_state.specs.Saving.Parts.{SavingWords, SavingStands}
+use Rattle.heap_state.specs.Saving.Kept.{ShowsSnapped}
+use Rattle.heap_state.specs.Saving.Said.{SaysCheckpoint}
 use Rattle.heap_state.specs.Saving.Written.{written_whole, saves_with_all}
 
 -- the words after a store at a place say this of checkpoints, and can be read as before
@@ -53,3 +61,15 @@ pub record WrittenWhole (n : ℕ) (entries : List Entry) : Type 0 where
 
 abbrev pub WritesWholeTables : Type 0
 WritesWholeTables = (n : ℕ) (entries : List Entry) → EachFits n entries → HasSizes entries → WrittenWhole n entries
+
+-- ---- what is read
+
+-- the word that is read of an address on a page of the last checkpoint is the word of then
+abbrev pub WordsReadAreFrozen : Type 0
+WordsReadAreFrozen = (t : Table) (s : Saves) (z : Frozen) (x : ℕ) → SavingWords t s z → z.held (page_of x) ≡ true → word_read s t.heap x ≡ z.heap x
+
+-- If what is kept of checkpoints stands, and the heap of then shows what the plain heap has kept, the words say that checkpoint.
+abbrev pub CheckpointsAreSaid : Type 0
+CheckpointsAreSaid = (n : ℕ) (words : List ℕ) (z : Frozen) (count : ℕ) (saver : ℕ → Saver) (heap : plain.Heap) → AreFormedSaves n words
+    → SavingStands (table_of n words) (saves_of n words) z count saver → ShowsSnapped n (saves_of n words) z heap
+    → SaysCheckpoint n words heap.snaps heap.snapped

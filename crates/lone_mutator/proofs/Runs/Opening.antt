@@ -53,6 +53,7 @@ module _ (n least : ℕ) (size : IsPageCount n) (least_fits : FEWEST_PAGES ≤ l
     record {
       one = one;
       alone = refl;
+      no_checkpoints = refl;
       no_end = ap (λ (y : Held). y.account.end) first;
       remembers = subst (λ (y : Held). Remembers t y) (sym first) (subst (λ (z : Table). Remembers z x) (sym says) remembers);
     },

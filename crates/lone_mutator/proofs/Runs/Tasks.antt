@@ -25,6 +25,7 @@ module _ (h : Heap) (task : Task) (lone : IsLone h) where
     record {
       one = length-set h.workers 0 given ∙ lone.one;
       alone = lone.alone;
+      no_checkpoints = lone.no_checkpoints;
       no_end = ap (λ (z : Held). z.account.end) holds ∙ lone.no_end;
       remembers = subst (λ (z : Held). Remembers (table (read h)) z) (sym holds) (same_memory (table (read h)) (held_at h 0) task lone.remembers);
     },

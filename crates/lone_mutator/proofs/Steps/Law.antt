@@ -5,7 +5,7 @@ use Rattle.plain_state.specs.State.{Plain}
 use Rattle.atom_store.specs.declared.reply.Reply.{Reply}
 use Rattle.atom_store.specs.declared.step.Step.{Step}
 use Rattle.atom_store.specs.Step.{reply_of}
-use Rattle.space_map.specs.Spaces.{to_space}
+use Rattle.space_map.specs.Spaces.{Layout, to_space}
 use Rattle.gate_core.specs.declared.gate_stage.GateStage.{GateStage}
 use Rattle.gate_core.specs.declared.gate_stage.GateStage.TheVariants as gate_stage
 use Rattle.gate_core.specs.Flip.{Flipping}
@@ -14,11 +14,12 @@ use Rattle.heap_state.specs.Configuration.{Configuration, Stands, table}
 use Rattle.heap_state.specs.Worker.{Account}
 use Rattle.gc_worker.specs.declared.stage.after.After.{After}
 use Rattle.gc_worker.specs.declared.stage.Stage.{Stage}
-use Rattle.gc_worker.specs.declared.stage.Stage.TheVariants.{Looks, Passes, Flips, Forwards, Accesses, Places, Serves, Scans, Evacuates, Opens, Gone}
+use Rattle.gc_worker.specs.declared.stage.Stage.TheVariants.{Looks, Passes, Flips, Forwards, Accesses, Places, Serves, Scans, Evacuates, Opens, Recalls, Guards, Checkpoints, BeginsCheckpoint, Gone}
 use Rattle.gc_worker.specs.declared.task.Task.{Task}
 use Rattle.gc_worker.specs.Plain.Answer.{IsAnswered, after_told}
 use Rattle.gc_worker.specs.Workers.Begun.{IsPastLook}
-use Rattle.gc_worker.specs.Laws.Between.{KeepsToTask, IsSo}
+use Rattle.gc_worker.specs.Workers.Fits.{Fits}
+use Rattle.gc_worker.specs.Laws.Between.{KeepsToTask, IsSo, RestsAt}
 use Rattle.gc_worker.specs.Workers.Held.{Held, at_stage, has_seen_flip}
 use Rattle.gc_worker.specs.Workers.Knows.{knows}
 use Rattle.gc_worker.specs.Laws.Step.{Heap, StepKeeps, WorkersStand, at_flip, held_at, moved, nobody, read}
@@ -35,6 +36,7 @@ use Rattle.lone_mutator.specs.Bound.{most_steps, whole_cost}
 use Rattle.lone_mutator.specs.Law.{AfterStep, IsAlone, Lowers, LowersWhereTold, LoneStepsLower, StepsLower}
 use Rattle.lone_mutator.specs.Lone.{IsLone, NobodyElseAnnounces, Remembers, StageStands, potential}
 use Rattle.lone_mutator.specs.Potential.{due_in, potential_at, potential_in}
+use Rattle.lone_mutator.proofs.Steps.NoCheckpoints.{rests_looking}
 use Rattle.lone_mutator.proofs.Stages.Access.Stages.{accesses}
 use Rattle.lone_mutator.proofs.Runs.MostSteps.{costs_lt_most}
 use Rattle.lone_mutator.proofs.Stages.Copies.Registers.{forwards}
@@ -75,6 +77,10 @@ module _ (c : Configuration) (p : Plain) (s : Stands c p) (x : Held) where
   by_stage (Scans z back) busy a = scans_page c p s x z back a
   by_stage (Evacuates v z back) busy a = evacuates c p s x v z back a
   by_stage (Opens o z back) busy a = opens c p s x o z back a
+  by_stage (Recalls r after) busy a = absurd a.remembers.stands
+  by_stage (Guards g write) busy a = absurd a.remembers.stands
+  by_stage (Checkpoints r goal) busy a = absurd a.remembers.stands
+  by_stage (BeginsCheckpoint r) busy a = absurd a.remembers.stands
   by_stage Gone busy a = λ q asked. absurd (cc)
 
 -- ---- the heap
@@ -97,6 +103,7 @@ module _ (h : Heap) (p o : Plain) (x : Held) (q : Step) (st : WorkersStand h p o
     is = member h p o 0 x st below holds;
     one = length-map h.workers knows ∙ lone.one;
     alone = lone.alone;
+    no_checkpoints = ap (λ (z : Held). z.layout.checkpoints) (sym holds) ∙ (st.laid_out 0 below ∙ lone.no_checkpoints);
     no_end = ap (λ (z : Held). z.account.end) (sym holds) ∙ lone.no_end;
     remembers = subst (Remembers (table (read h))) holds lone.remembers;
   }
@@ -121,6 +128,7 @@ module _ (h : Heap) (p o : Plain) (x : Held) (q : Step) (st : WorkersStand h p o
   is_lone no_end remembers = record {
     one = length-set h.workers 0 y ∙ lone.one;
     alone = lone.alone;
+    no_checkpoints = lone.no_checkpoints;
     no_end = no_end;
     remembers = subst (Remembers (table (read later))) (sym held) remembers;
   }
@@ -157,13 +165,19 @@ module _ (h : Heap) (p o : Plain) (x : Held) (q : Step) (st : WorkersStand h p o
     stands = subst (StageStands (table (read later)) y) (sym looks) tt;
   }
 
+  -- it looks at the gate next
+  looks_next : (p' o' : Plain) → WorkersStand later p' o' → RestsAt x.stage y.stage → y.stage ≡ Looks
+  looks_next p' o' stands rests =
+      let fits : Fits h.pages h.mutators 0 y = subst (Fits h.pages h.mutators 0) held (stands.fit 0 (let n = length-set h.workers 0 y in omega (arith, n, below))) in
+      rests_looking y (ap (λ (l : Layout). l.checkpoints) goes.layout ∙ alone.no_checkpoints) x.stage y.stage fits.stage rests
+
   effect : (task : Task) → told x r ≡ Answers task Done → NobodyElseAnnounces (table (read later)).announced false
       → IsLone later × (potential later < most_steps h.pages) × ((held_at later 0).account.executed ≡ (held_at h 0).account.executed + 1)
   effect task is quiet =
       let answered = subst (IsAnswered p 0) is keeps.answered in
       let stands = subst (λ (t : Told). WorkersStand later (after_told p 0 t) (at_flip p o t)) is keeps.stands in
       let one = executes_one h later p so lone.alone lone.alone task answered (what_stands_is_so later (after_told p 0 (Answers task Done)) o stands) in
-      let looks = (goes.answers task Done is).after in
+      let looks = looks_next (after_told p 0 (Answers task Done)) o stands (goes.answers task Done is).after in
       let cost = look_costs (after_told p 0 (Answers task Done)) o stands in (
         is_lone one.no_end (at_look looks quiet),
         (let after = ap (potential_in h.pages (table (read later))) held in let stage = ap (potential_at h.pages (table (read later)) y) looks in omega (arith, after, stage, cost)),

@@ -23,7 +23,10 @@ use Rattle.alloc_end.specs.declared.allocated.Allocated.{Allocated}
 use Rattle.alloc_end.specs.declared.allocated.Allocated.TheVariants.{Placed, Full}
 use Rattle.alloc_end.specs.declared.shortage.Shortage.{Shortage}
 use Rattle.alloc_end.specs.Place as place
+use Rattle.gate_core.specs.declared.snap.snapped.Snapped.{Snapped}
+use Rattle.gate_core.specs.declared.snap.snapped.Snapped.TheVariants as snapped
 use Rattle.gate_core.specs.Flip.{Flipping}
+use Rattle.gate_core.specs.Snap as snap
 use Rattle.heap_state.specs.Configuration.{Configuration, table, era, memory, team}
 use Rattle.heap_state.specs.Invariant.Parts.Pages.{Quiet}
 use Rattle.heap_state.specs.Worker.{Worker}
@@ -32,17 +35,18 @@ use Rattle.heap_laws.proofs.Steps.Answers.{areas_are_read}
 use Rattle.gc_worker.specs.declared.access.accessed.Accessed.{Accessed}
 use Rattle.gc_worker.specs.declared.access.accessed.Accessed.TheVariants.{Faults, Brings, Stored, Fails}
 use Rattle.gc_worker.specs.declared.stage.Stage.{Stage}
-use Rattle.gc_worker.specs.declared.stage.Stage.TheVariants.{Looks, Passes, Flips, Forwards, Accesses, Places, Serves, Scans, Evacuates, Opens, Gone}
+use Rattle.gc_worker.specs.declared.stage.Stage.TheVariants.{Looks, Passes, Flips, Forwards, Accesses, Places, Serves, Scans, Evacuates, Opens, Recalls, Guards, Checkpoints, BeginsCheckpoint, Gone}
+use Rattle.gc_worker.specs.declared.calls.did.Did.TheVariants.{Done}
 use Rattle.gc_worker.specs.declared.task.Task.{Task}
 use Rattle.gc_worker.specs.declared.task.Task.TheVariants.{Calls, Stops}
 use Rattle.gc_worker.specs.Steps.Access as access
 use Rattle.gc_worker.specs.Laws.Claims.{IsBelowLow, IsCopiedPage, IsForCopies, CopiedPagesAreBelowLow, TracedPagesAreOpen, FlipsAreOfTraced, epoch_of_heap}
 use Rattle.gc_worker.specs.Laws.Copied.{IsTraced}
-use Rattle.gc_worker.specs.Workers.Held.{Held}
+use Rattle.gc_worker.specs.Workers.Held.{Held, may_snap}
 use Rattle.gc_worker.specs.Workers.Knows.{traced_seen_in}
 use Rattle.gc_worker.specs.Laws.Step.{Heap, read, WorkersStand}
 use Rattle.gc_worker.specs.Plain.Seen.{seen}
-use Rattle.gc_worker.specs.Steps.Turned.{Told, Silent, Answers, Marks, told_at, told_look, told_gate, told_start, told_acted, told_action, told_access, told_place, told_full, told_effect, told_end, is_full, end_by_shortage}
+use Rattle.gc_worker.specs.Steps.Turned.{Told, Silent, Answers, Marks, told_at, told_look, told_gate, told_start, told_acted, told_action, told_access, told_place, told_snap, told_full, told_effect, told_end, is_full, end_by_shortage}
 use Rattle.gc_worker.specs.Steps.Turned as turning
 use Rattle.gc_worker.proofs.Words.Areas.{area_now, area_says, is_space}
 use Rattle.gc_worker.proofs.Words.Eras.{board_is, start_is}
@@ -150,26 +154,26 @@ effects_unmarked : (o : Option Task) → NoMark (told_effect o)
 effects_unmarked (Some task) = tt
 effects_unmarked None = tt
 
-actions_unmarked : (task : Task) (act : Action) → NoMark (told_action task act)
-actions_unmarked task (Sets d v) = tt
-actions_unmarked task (Jumps target) = tt
-actions_unmarked task (Links d target) = tt
-actions_unmarked task (Prints n) = tt
-actions_unmarked task Snaps = tt
-actions_unmarked task act = tt
-
-acted_unmarked : (task : Task) (o : Result Action End) → NoMark (told_acted task o)
-acted_unmarked task (Ok act) = actions_unmarked task act
-acted_unmarked task (Err why) = tt
-
-starts_unmarked : (x : Held) (o : Option Task) → NoMark (told_start x o)
-starts_unmarked x None = tt
-starts_unmarked x (Some (Calls instr)) = acted_unmarked (Calls instr) (action (seen x.account x.registers) instr)
-starts_unmarked x (Some (Stops end)) = tt
-
 either_unmarked : (b : Bool) (s t : Told) → NoMark s → NoMark t → NoMark (cond b s t)
 either_unmarked true s t is other = is
 either_unmarked false s t is other = other
+
+actions_unmarked : (x : Held) (task : Task) (act : Action) → NoMark (told_action x task act)
+actions_unmarked x task (Sets d v) = tt
+actions_unmarked x task (Jumps target) = tt
+actions_unmarked x task (Links d target) = tt
+actions_unmarked x task (Prints n) = tt
+actions_unmarked x task Snaps = either_unmarked (may_snap x) Silent (Answers task Done) tt tt
+actions_unmarked x task act = tt
+
+acted_unmarked : (x : Held) (task : Task) (o : Result Action End) → NoMark (told_acted x task o)
+acted_unmarked x task (Ok act) = actions_unmarked x task act
+acted_unmarked x task (Err why) = tt
+
+starts_unmarked : (x : Held) (o : Option Task) → NoMark (told_start x o)
+starts_unmarked x None = tt
+starts_unmarked x (Some (Calls instr)) = acted_unmarked x (Calls instr) (action (seen x.account x.registers) instr)
+starts_unmarked x (Some (Stops end)) = tt
 
 gates_unmarked : (x : Held) (o : Option GateWord) → NoMark (told_gate x o)
 gates_unmarked x (Some gate) = either_unmarked gate.request Silent (told_start x x.task) tt (starts_unmarked x x.task)
@@ -197,6 +201,11 @@ places_unmarked x (Finished (Placed at)) = effects_unmarked x.task
 places_unmarked x (Finished (Full s)) = full_unmarked x s s.traced
 places_unmarked x More = tt
 
+snaps_unmarked : (o : Option Task) (t : Turn Snapped) → NoMark (told_snap o t)
+snaps_unmarked o (Finished (snapped.Begun seen)) = effects_unmarked o
+snaps_unmarked o (Finished (snapped.NotYet word)) = tt
+snaps_unmarked o More = tt
+
 -- who flips is at a flip
 pub flips_at : (x : Held) (reply : Reply) (asked : ℕ) (stage : Stage) → told_at x stage reply ≡ Marks asked → (f : Flipping) × (stage ≡ Flips f)
 flips_at x reply asked (Flips f) e = (f, refl)
@@ -209,6 +218,10 @@ flips_at x reply asked (Serves d back) e = absurd (subst NoMark e tt)
 flips_at x reply asked (Scans s back) e = absurd (subst NoMark e tt)
 flips_at x reply asked (Evacuates v s back) e = absurd (subst NoMark e tt)
 flips_at x reply asked (Opens o s back) e = absurd (subst NoMark e tt)
+flips_at x reply asked (BeginsCheckpoint s) e = absurd (subst NoMark e (snaps_unmarked x.task (snap.told (snap.taken s reply))))
+flips_at x reply asked (Recalls r after) e = absurd (subst NoMark e tt)
+flips_at x reply asked (Guards g write) e = absurd (subst NoMark e tt)
+flips_at x reply asked (Checkpoints r goal) e = absurd (subst NoMark e tt)
 flips_at x reply asked Gone e = absurd (subst NoMark e tt)
 
 pub flips_are_of_traced : FlipsAreOfTraced

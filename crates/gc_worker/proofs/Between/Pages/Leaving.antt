@@ -10,6 +10,7 @@ use Rattle.atom_store.specs.declared.step.Step.{Step}
 use Rattle.atom_store.specs.declared.step.Step.TheVariants.{Store, Exchange}
 use Rattle.atom_store.specs.Step.{place_in, words_after, reply_of}
 use Rattle.atom_store.specs.StepOn.{StepOn, WritesOnly, step_at}
+use Rattle.atom_store.specs.StepOn as on
 use Rattle.space_map.specs.declared.area_word.AreaWord.{AreaWord}
 use Rattle.space_map.specs.declared.page_word.PageWord.{PageWord}
 use Rattle.space_map.specs.declared.page_word.PageWord.TheVariants.{Unset}
@@ -17,6 +18,7 @@ use Rattle.space_map.specs.AreaWord.{AreaFits, decode_area, encode_area}
 use Rattle.space_map.specs.PageWord.{PageFits, age_of, encode_page}
 use Rattle.space_map.specs.Spaces.{first_word, to_space}
 use Rattle.space_map.specs.Table.{Row, Area, Page, place_of}
+use Rattle.space_map.specs.WholeTable.{WholeRow, Within, whole_place_of}
 use Rattle.space_map.proofs.AreaWords.{decode_area-encode_area}
 use Rattle.space_map.proofs.PageWords.{decode_page-encode_page}
 use Rattle.space_map.proofs.Rows.{place_of-apart}
@@ -26,7 +28,7 @@ use Rattle.heap_state.proofs.Table.Places.{word_in-row, word_in-same, word_in-ot
 use Rattle.gc_worker.specs.Laws.Step.{age}
 use Rattle.gc_worker.specs.Steps.Turned.{PageWon}
 use Rattle.gc_worker.proofs.Words.Areas.{area_says, area_is, is_space}
-use Rattle.gc_worker.proofs.Between.Pages.Written.{IsOther, other_area_stays, other_page_stays, row_stays}
+use Rattle.gc_worker.proofs.Between.Pages.Written.{Elsewhere, IsOther, other_area_stays, other_page_stays, row_stays}
 
 -- ---- what a step leaves
 
@@ -69,16 +71,22 @@ module _ (c : Configuration) (p : Plain) (s : Stands c p) where
   pub nothing_left : (w : Option PageWon) → LeavesPages c c.words w
   nothing_left w = record { page = λ page within. Same refl; low = same_low c.words refl }
 
-  -- most steps leave all as it was
-  pub spares : (n : ℕ) → n ≡ c.pages → (o : Option (StepOn Row)) (w : Reply → Option PageWon) → WritesOnly IsOther o → LeavesBy c (option_map (step_at (place_of n)) o) w
-  spares n same None w writes = λ q asked. absurd (cc)
-  spares n same (Some on) w writes =
-      let later : List ℕ = words_after (step_at (place_of c.pages) on) c.words in
-      subst (λ (m : ℕ). LeavesBy c (Some (step_at (place_of m) on)) w) (sym same)
-      (this (step_at (place_of c.pages) on) w (record {
-        page = λ page within. Same (same_age later page (other_page_stays c.pages c.words on writes page));
-        low = same_low later (other_area_stays c.pages c.words on writes (space_now c));
+  -- most steps leave all as it was, also those on rows behind the table
+  pub spares_whole : (n : ℕ) → n ≡ c.pages → (o : Option (StepOn WholeRow)) (w : Reply → Option PageWon) → WritesOnly (Elsewhere IsOther) o → LeavesBy c (option_map (step_at (whole_place_of n)) o) w
+  spares_whole n same None w writes = λ q asked. absurd (cc)
+  spares_whole n same (Some step) w writes =
+      let later : List ℕ = words_after (step_at (whole_place_of c.pages) step) c.words in
+      subst (λ (m : ℕ). LeavesBy c (Some (step_at (whole_place_of m) step)) w) (sym same)
+      (this (step_at (whole_place_of c.pages) step) w (record {
+        page = λ page within. Same (same_age later page (other_page_stays c.pages c.words step writes page));
+        low = same_low later (other_area_stays c.pages c.words step writes (space_now c));
       }))
+
+  pub spares : (n : ℕ) → n ≡ c.pages → (o : Option (StepOn Row)) (w : Reply → Option PageWon) → WritesOnly IsOther o → LeavesBy c (option_map (step_at (place_of n)) o) w
+  spares n same None w writes = spares_whole n same None w writes
+  spares n same (Some (on.Load row)) w writes = spares_whole n same (Some (on.Load (Within row))) w writes
+  spares n same (Some (on.Store row word)) w writes = spares_whole n same (Some (on.Store (Within row) word)) w writes
+  spares n same (Some (on.Exchange row old new)) w writes = spares_whole n same (Some (on.Exchange (Within row) old new)) w writes
 
   -- ---- an area is written
 

@@ -3,6 +3,7 @@ use Rattle.std.proofs.Common.{◌≡◌, ℕ, ◌+◌, ◌*◌, ◌^◌, ◌<◌
 use Rattle.plain_state.specs.State.{Plain}
 use Rattle.atom_store.specs.declared.reply.Reply.{Reply}
 use Rattle.atom_store.specs.declared.reply.Reply.TheVariants as replies
+use Rattle.atom_store.specs.declared.step.Step.{Step}
 use Rattle.atom_store.specs.declared.step.Step.TheVariants.{Store, Exchange}
 use Rattle.atom_store.specs.StepOn as on
 use Rattle.space_map.specs.declared.page_word.PageWord.TheVariants.{Open, Scanning}
@@ -28,7 +29,12 @@ use Rattle.gate_core.specs.declared.flip_stage.FlipStage.{FlipStage}
 use Rattle.gate_core.specs.declared.flip_stage.FlipStage.TheVariants as flip_stage
 use Rattle.gate_core.specs.Flip as flip
 use Rattle.gate_core.specs.Gate as gate
-use Rattle.gate_core.proofs.RowsFit.{passage_writes}
+use Rattle.gate_core.specs.Recall as recall
+use Rattle.gate_core.specs.Snap as snap
+use Rattle.gate_core.proofs.RowsFit.{passage_writes, recall_writes, snap_writes}
+use Rattle.page_saves.specs.Guard as guard
+use Rattle.page_saves.specs.SaveRound as save_round
+use Rattle.page_saves.proofs.RowsFit.{guard_by_rows, guard_writes, round_by_rows, round_writes}
 use Rattle.page_scan.specs.Scanning as scan
 use Rattle.page_scan.proofs.RowsFit as scan_rows
 use Rattle.page_slots.specs.declared.claim_stage.ClaimStage.{ClaimStage}
@@ -38,8 +44,10 @@ use Rattle.page_slots.specs.declared.open_stage.OpenStage.TheVariants as open_st
 use Rattle.page_slots.specs.Claim as claim
 use Rattle.page_slots.specs.Open as open_page
 use Rattle.gc_worker.specs.declared.stage.back.Back.{Back}
+use Rattle.gc_worker.specs.declared.stage.goal.Goal.{Goal}
+use Rattle.gc_worker.specs.declared.stage.write.Write.{Write}
 use Rattle.gc_worker.specs.declared.stage.Stage.{Stage}
-use Rattle.gc_worker.specs.declared.stage.Stage.TheVariants.{Looks, Passes, Flips, Forwards, Accesses, Places, Serves, Scans, Evacuates, Opens, Gone}
+use Rattle.gc_worker.specs.declared.stage.Stage.TheVariants.{Looks, Passes, Flips, Forwards, Accesses, Places, Serves, Scans, Evacuates, Opens, Recalls, Guards, Checkpoints, BeginsCheckpoint, Gone}
 use Rattle.gc_worker.specs.Steps.Access as access
 use Rattle.gc_worker.specs.Steps.Goes.{Is}
 use Rattle.gc_worker.specs.Workers.Held.{Held, at_stage}
@@ -49,11 +57,10 @@ use Rattle.gc_worker.specs.Steps.Wanted.{wanted, wanted_at}
 use Rattle.gc_worker.proofs.Stages.Access.RowsFit as access_rows
 use Rattle.gc_worker.proofs.Words.Areas.{is_space}
 use Rattle.gc_worker.proofs.Words.Eras.{board_is}
-use Rattle.gc_worker.proofs.Words.TableRows.{in_each_table, never_marks}
 use Rattle.gc_worker.proofs.Stages.OpenedPage.{of_page}
 use Rattle.gc_worker.proofs.Stages.Rounds.Words.{page_age}
-use Rattle.gc_worker.proofs.Between.Pages.Written.{IsOther}
-use Rattle.gc_worker.proofs.Between.Pages.Leaving.{Same, New, Wins, LeavesPages, LeavesBy, nothing_left, this, spares, stores_other, exchanges_area, written, age_now, writes_page, stores_page}
+use Rattle.gc_worker.proofs.Between.Pages.Written.{Elsewhere, IsOther}
+use Rattle.gc_worker.proofs.Between.Pages.Leaving.{Same, New, Wins, LeavesPages, LeavesBy, nothing_left, this, spares, spares_whole, stores_other, exchanges_area, written, age_now, writes_page, stores_page}
 
 module _ (c : Configuration) (p : Plain) (s : Stands c p) (k : ℕ) (x : Held) where
   abbrev none : Reply → Option PageWon
@@ -120,8 +127,7 @@ module _ (c : Configuration) (p : Plain) (s : Stands c p) (k : ℕ) (x : Held) w
       (New (age_now c p s new.next within (Open z.epoch) is.fits.stage.sound.epoch ∙ ap (λ (d : ℕ). d + 1) e)
       (omega (arith, q.lies, q.aligned, fits))
       (omega (arith, q.lies, q.aligned, fits, below)))
-  places z (place_stage.StoresNew new) is = absurd (never_marks z.snap is.fits.stage.snap is.fits.stage.sound.stage.1)
-  places z stage is = spares c p s z.layout.pages (own z.layout is.fits.stage.layout is.fits.pages) (in_each_table (place.wants_at z stage)) none tt
+  places z stage is = spares_whole c p s z.layout.pages (own z.layout is.fits.stage.layout is.fits.pages) (place.wants_at z stage) none tt
 
   -- ---- scanned pages
 
@@ -170,6 +176,20 @@ module _ (c : Configuration) (p : Plain) (s : Stands c p) (k : ℕ) (x : Held) w
   rounds d back (duty_stage.Claims q) is = claims d back q q.stage is
   rounds d back stage is = spares c p s d.layout.pages (own d.layout is.fits.stage.0.layout is.fits.pages) (duty.wants_at d stage) (won_in stage) tt
 
+  -- ---- saves
+
+  guards : (g : guard.Guarding) (write : Write) → Kind (Guards g write)
+  guards g write is =
+      let f = is.fits.stage in
+      subst (λ (o : Option Step). LeavesBy c o none) (sym (guard_by_rows g g.stage f.sound.stage))
+      (spares_whole c p s g.layout.pages (own g.layout f.layout is.fits.pages) (guard.wants_at g g.stage) none (guard_writes (Elsewhere IsOther) tt (λ page. tt) (λ addr. tt) g g.stage))
+
+  save_rounds : (r : save_round.SavingRound) (goal : Goal) → Kind (Checkpoints r goal)
+  save_rounds r goal is =
+      let f = is.fits.stage in
+      subst (λ (o : Option Step). LeavesBy c o none) (sym (round_by_rows r r.stage f.sound.stage))
+      (spares_whole c p s r.layout.pages (own r.layout f.layout is.fits.pages) (save_round.wants_at r r.stage) none (round_writes (Elsewhere IsOther) tt (λ page. tt) (λ addr. tt) r r.stage))
+
   -- ---- the whole
 
   by_stage : (stage : Stage) → Kind stage
@@ -187,6 +207,10 @@ module _ (c : Configuration) (p : Plain) (s : Stands c p) (k : ℕ) (x : Held) w
       let f = is.fits.stage.0 in
       copies v.layout v.addr v.epoch v.worker (own v.layout f.layout is.fits.pages) v.stage f.sound.fits
   by_stage (Opens o z back) is = opens o z back o.stage is
+  by_stage (Recalls r after) is = spares c p s r.layout.pages (own r.layout is.fits.stage.layout is.fits.pages) (recall.wants_at r.stage) none (recall_writes IsOther r.stage)
+  by_stage (Guards g write) is = guards g write is
+  by_stage (Checkpoints r goal) is = save_rounds r goal is
+  by_stage (BeginsCheckpoint z) is = spares c p s z.layout.pages (own z.layout is.fits.stage.layout is.fits.pages) (snap.wants_at z z.stage) none (snap_writes IsOther tt z z.stage)
   by_stage Gone is = λ q asked. absurd (cc)
 
   pub leaves : Is c k x → LeavesBy c (wanted x) (won x)

@@ -5,8 +5,9 @@ use Rattle.std.proofs.lemmas.Option.{same_Some}
 use Rattle.plain_state.specs.State.{Plain}
 use Rattle.plain_heap.specs.declared.action.Action.{Action}
 use Rattle.atom_store.specs.declared.reply.Reply.{Reply}
+use Rattle.atom_store.specs.declared.reply.Reply.TheVariants.{Value, Done, Won, Lost}
 use Rattle.space_map.specs.declared.page_word.PageWord.TheVariants.{Open}
-use Rattle.space_map.specs.Spaces.{board_page, page_of}
+use Rattle.space_map.specs.Spaces.{Layout, board_page, page_of}
 use Rattle.fault_duty.specs.declared.caller.Caller.TheVariants as callers
 use Rattle.fault_duty.specs.Duty as duty
 use Rattle.plain_state.specs.declared.end.End.{End}
@@ -22,26 +23,47 @@ use Rattle.heap_laws.proofs.Fields.Laws.{goes_on_so, mutators_learn}
 use Rattle.heap_laws.proofs.Fields.Shown.{registers_are_held}
 use Rattle.gc_worker.specs.declared.access.Access.{Access}
 use Rattle.gc_worker.specs.declared.access.access_stage.AccessStage.{AccessStage}
-use Rattle.gc_worker.specs.declared.access.access_stage.AccessStage.TheVariants.{LooksAtField, LoadsField, StoresField, LoadsForCas}
+use Rattle.gc_worker.specs.declared.access.access_stage.AccessStage.TheVariants.{LooksAtField, LoadsField, StoresField, LoadsForCas, ExchangesField, StoresBoard, SwapsBoard}
 use Rattle.gc_worker.specs.declared.access.accessed.Accessed.TheVariants.{Faults}
 use Rattle.gc_worker.specs.declared.access.field_access.FieldAccess.{FieldAccess}
 use Rattle.gc_worker.specs.declared.access.field_access.FieldUse.{FieldUse}
 use Rattle.gc_worker.specs.declared.access.field_access.FieldUse.TheVariants as field_uses
 use Rattle.gc_worker.specs.declared.stage.back.Back.TheVariants.{ToAccess}
 use Rattle.gc_worker.specs.declared.stage.Stage.TheVariants.{Accesses, Serves}
-use Rattle.gc_worker.specs.Steps.Access.{Answered, GoesTo, Comes, FitsFieldUse, FitsStage, IsFieldOfAction, IsHeapAddress, answered, field_at, goes_by, read_before, to_field, turn_by, uses_field}
+use Rattle.gc_worker.specs.Steps.Access.{Answered, GoesTo, Comes, FitsFieldUse, FitsStage, IsFieldOfAction, IsHeapAddress, answered, answered_at, field_at, goes_by, read_before, to_field, turn_by, uses_field, writes_on}
 use Rattle.gc_worker.specs.Steps.Access as access
 use Rattle.gc_worker.specs.Workers.Fits.{ExecutesAction, Fits, IsAccessing, IsFaulting}
 use Rattle.gc_worker.specs.Steps.Goes.{Is, Goes}
 use Rattle.gc_worker.specs.Workers.Held.{Held, at_stage}
 use Rattle.gc_worker.specs.Workers.Knows.{knows, access_at, known_access, opened_at}
-use Rattle.gc_worker.specs.Steps.Turned.{turned_access, told_access}
+use Rattle.gc_worker.specs.Steps.Turned.{guards_access, turned_access, told_access}
+use Rattle.gc_worker.proofs.Workers.Guarded.{guards_access_fits, guards_access_known}
 use Rattle.gc_worker.proofs.Workers.Parts.{refit, page_count}
 use Rattle.gc_worker.proofs.Words.RowSteps.{Law, becomes, nothing, prepared}
 
 pub no_end_by : (o : Option End) → is_some o ≡ false → o ≡ None
 no_end_by None e = refl
 no_end_by (Some end) e = absurd (cc)
+
+-- an access faults where it looks at a page, and not where it writes
+faults_at_look : (l : Layout) (epoch : ℕ) (stage : AccessStage) (reply : Reply) (page : ℕ) → answered_at l epoch stage reply ≡ Comes (Faults page) → writes_on l stage ≡ None
+faults_at_look l epoch (StoresField f new) (Value word) page comes = absurd (cc)
+faults_at_look l epoch (StoresField f new) Done page comes = absurd (cc)
+faults_at_look l epoch (StoresField f new) Won page comes = absurd (cc)
+faults_at_look l epoch (StoresField f new) (Lost word) page comes = absurd (cc)
+faults_at_look l epoch (ExchangesField f e old) (Value word) page comes = absurd (cc)
+faults_at_look l epoch (ExchangesField f e old) Done page comes = absurd (cc)
+faults_at_look l epoch (ExchangesField f e old) Won page comes = absurd (cc)
+faults_at_look l epoch (ExchangesField f e old) (Lost word) page comes = absurd (cc)
+faults_at_look l epoch (StoresBoard word new) (Value other) page comes = absurd (cc)
+faults_at_look l epoch (StoresBoard word new) Done page comes = absurd (cc)
+faults_at_look l epoch (StoresBoard word new) Won page comes = absurd (cc)
+faults_at_look l epoch (StoresBoard word new) (Lost other) page comes = absurd (cc)
+faults_at_look l epoch (SwapsBoard s old) (Value word) page comes = absurd (cc)
+faults_at_look l epoch (SwapsBoard s old) Done page comes = absurd (cc)
+faults_at_look l epoch (SwapsBoard s old) Won page comes = absurd (cc)
+faults_at_look l epoch (SwapsBoard s old) (Lost word) page comes = absurd (cc)
+faults_at_look l epoch stage reply page comes = refl
 
 module _ (c : Configuration) (p : Plain) (s : Stands c p) (k : ℕ) (y : Held) where
   abbrev pub own : AccessStage → Access
@@ -83,7 +105,7 @@ module _ (c : Configuration) (p : Plain) (s : Stands c p) (k : ℕ) (y : Held) w
     pub knew_opened : (page : ℕ) → opened_at y.layout stage ≡ Some page → (table c).page page ≡ Open (era c).epoch
     knew_opened page e = (me.opened page (ap (λ (w : Worker). w.opened) is.as_known ∙ e)).1
 
-    -- ---- the next stage
+    -- ---- the next stage: before a word is written, the look at its page
 
     pub learns : (next : AccessStage) → ((f : workers.Access) → access_at next ≡ Some f → parts.Accesses (era c) s.ghost.size s.ghost.writer s.ghost.kind f)
         → ((page : ℕ) → opened_at y.layout next ≡ Some page → (table c).page page ≡ Open (era c).epoch) → Law c p s k x None (knows (at next)) s.ghost
@@ -104,8 +126,9 @@ module _ (c : Configuration) (p : Plain) (s : Stands c p) (k : ℕ) (y : Held) w
     pub goes_to : (next : AccessStage) (reply : Reply) → answered (own stage) reply ≡ GoesTo next → Law c p s k x None (knows (at next)) s.ghost
         → IsAccessing y.account y.registers y.task next → FitsStage y.layout.pages next → access.AccessTakes stage reply → Goes c p s k None x reply
     goes_to next reply e law task fits takes =
-        becomes c p s k x None reply (at next) s.ghost (ap (λ (r : Answered). turned_access x (goes_by (own stage) r) (turn_by r)) e) is.below law
-        (ap (λ (r : Answered). told_access y.task (turn_by r)) e) refl takes (next_fits next task fits)
+        becomes c p s k x None reply (at_stage y (guards_access y (own next))) s.ghost (ap (λ (r : Answered). turned_access x (goes_by (own stage) r) (turn_by r)) e) is.below
+        (subst (λ (w : Worker). Law c p s k x None w s.ghost) (sym (guards_access_known y (own next))) law)
+        (ap (λ (r : Answered). told_access y.task (turn_by r)) e) refl takes (guards_access_fits c.pages c.mutators k y (own next) (next_fits next task fits))
 
     -- what it then accesses is this alone
     pub it_only : (f g : workers.Access) → parts.Accesses (era c) s.ghost.size s.ghost.writer s.ghost.kind f → Some f ≡ Some g → parts.Accesses (era c) s.ghost.size s.ghost.writer s.ghost.kind g
@@ -156,5 +179,5 @@ module _ (c : Configuration) (p : Plain) (s : Stands c p) (k : ℕ) (y : Held) w
             going = tt;
             sound = record { pages = page_count c.pages c.mutators k x is.fits; caller = within; epoch = is.fits.epoch; worker = rw is.fits.number is.fits.few; stage = tt };
           },
-          is.fits.stage,
+          (is.fits.stage, faults_at_look y.layout y.epoch stage reply page e),
         ))

@@ -31,7 +31,7 @@ module _ (c : Configuration) (p : Plain) (s : Stands c p) (k : ℕ) (y : Held) (
   abbrev x : Held
   x = at c p s k y asked (Exchanges r)
 
-  abbrev q : Reset
+  abbrev pub q : Reset
   q = record { read = r.gate; size = Some r.size; grown = Some r.next; used = Some r.used; sized = true; stored = true }
 
   abbrev z : Held
@@ -46,7 +46,7 @@ module _ (c : Configuration) (p : Plain) (s : Stands c p) (k : ℕ) (y : Held) (
         let least = resets.grown sized.0 sized.1 in
         omega (arith, least, sized.2)
 
-    flips : Flips (era c) (team c) k q
+    pub flips : Flips (era c) (team c) k q
     flips = record {
       asked = asked;
       post = ap (λ (w : Worker). w.post) is.as_known;

@@ -208,7 +208,7 @@ module _ (c : Configuration) (p : Plain) (s : Stands c p) (k : ℕ) (y : Held) (
   -- ---- the size of the other space
 
   -- it is no smaller than that of the space in use, and has so many pages
-  next_within : (r : resets.Reset) → FitsReset y.layout.pages (has_seen_flip y) r → (r.size ≤ r.next) × (r.next ≤ y.layout.pages)
+  pub next_within : (r : resets.Reset) → FitsReset y.layout.pages (has_seen_flip y) r → (r.size ≤ r.next) × (r.next ≤ y.layout.pages)
   next_within r fits =
       grown_within y.layout.pages r.size r.next fits.size.1
       (subst (Grows y.layout.pages r.size) (sym fits.next) (next_grows y.layout.pages (has_seen_flip y) r.size fits.copied))
@@ -226,7 +226,7 @@ module _ (c : Configuration) (p : Plain) (s : Stands c p) (k : ℕ) (y : Held) (
     is_other_space : from_space (era c).epoch ≡ other
     is_other_space = ap (λ (e : ℕ). to_space (e + 1)) (sym (now (StoresSize r) is))
 
-    sized : Leads other (knows (at (StoresSize r)))
+    pub sized : Leads other (knows (at (StoresSize r)))
     sized =
         let next = next_within r is.fits.stage.sound.stage in let n = is.fits.pages in
         subst (λ (space : ℕ). Leads space (knows (at (StoresSize r)))) is_other_space
@@ -259,7 +259,7 @@ module _ (c : Configuration) (p : Plain) (s : Stands c p) (k : ℕ) (y : Held) (
     abbrev unstored : Reset
     unstored = record { read = r.gate; size = Some r.size; grown = Some r.next; used = Some r.used; sized = true; stored = false }
 
-    fresh_fits : AreaFits fresh_area
+    pub fresh_fits : AreaFits fresh_area
     fresh_fits =
         let u = is.fits.stage.sound.stage.used in let z = is.fits.stage.sound.stage.size in let n = is.fits.pages in let few = is.fits.counted in
         let next = next_within r is.fits.stage.sound.stage in

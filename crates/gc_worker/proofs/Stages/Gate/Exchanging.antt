@@ -13,7 +13,6 @@ use Rattle.gate_core.specs.declared.gate_stage.GateStage.{GateStage}
 use Rattle.gate_core.specs.declared.gate_stage.GateStage.TheVariants.{Loads, Exchanges}
 use Rattle.gate_core.specs.declared.passage.Passage.{Passage}
 use Rattle.gate_core.specs.declared.passage.Passage.TheVariants.{Look, Attach, Park, Request, Resume, Forwarded, Leave, Clear}
-use Rattle.gate_core.specs.Flip as flip
 use Rattle.gate_core.specs.Gate.{gate_after}
 use Rattle.heap_state.specs.Configuration.{Configuration, Stands, table, era, memory, team}
 use Rattle.heap_state.specs.Memory.Entries.{GateIs}
@@ -23,14 +22,15 @@ use Rattle.heap_laws.specs.Gate as laws
 use Rattle.heap_laws.proofs.Gate.Passages.{passes_gate}
 use Rattle.heap_laws.proofs.Steps.Forgotten.{reads_are_forgotten}
 use Rattle.gc_worker.specs.declared.stage.after.After.{After}
-use Rattle.gc_worker.specs.declared.stage.Stage.TheVariants.{Passes, Flips, Looks, Gone}
-use Rattle.gc_worker.specs.Workers.Fits.{Fits, IsGoneBy}
+use Rattle.gc_worker.specs.declared.stage.after.After.TheVariants as afters
+use Rattle.gc_worker.specs.declared.stage.Stage.TheVariants.{Passes, Looks, Gone}
+use Rattle.gc_worker.specs.Workers.Fits.{Fits, FitsTaskAfter, IsGoneBy}
 use Rattle.gc_worker.specs.Steps.Goes.{Is, Goes, StepsSo}
-use Rattle.gc_worker.specs.Workers.Held.{Held, at_stage, has_seen_flip, pages_needed}
+use Rattle.gc_worker.specs.Workers.Held.{Held, at_stage, pages_needed}
 use Rattle.gc_worker.specs.Workers.Knows.{knows, known_at, post_gone}
-use Rattle.gc_worker.specs.Steps.Turned.{passes, goes_on, turned, in_epoch, epoch_said, epoch_in_gate}
-use Rattle.gc_worker.proofs.Workers.Parts.{refit, come, before_passage, page_count}
-use Rattle.gc_worker.proofs.Workers.GoingOn.{goes_on_known, goes_on_fits}
+use Rattle.gc_worker.specs.Steps.Turned.{passes, runs_on, after_request, turned, in_epoch, epoch_said, epoch_in_gate}
+use Rattle.gc_worker.proofs.Workers.Parts.{refit, come, before_passage, page_count, before_snap}
+use Rattle.gc_worker.proofs.Workers.GoingOn.{runs_on_known, runs_on_fits}
 use Rattle.gc_worker.proofs.Stages.Gate.Words.{wants, gate_now, gate_is}
 use Rattle.gc_worker.proofs.Words.RowSteps.{Law, becomes, exchanges, less, prepared}
 
@@ -87,9 +87,10 @@ module _ (c : Configuration) (p : Plain) (s : Stands c p) (k : ℕ) (y : Held) (
       let may = is.fits.stage.sound.stage in
       let fits : GateFits (gate_after Attach gate) = record { epoch_fits = may.fits.epoch_fits; live_fits = may.counts.0; running_fits = may.counts.1; behind_fits = may.fits.behind_fits; left_fits = may.fits.left_fits } in
       let z = at_stage (in_epoch x gate.epoch) Looks in
+      let looks = come c.pages c.mutators k x is.fits gate.epoch may.fits.epoch_fits Looks is.fits.end is.fits.side is.fits.task tt in
       exchanges_it Attach is
-      (wins Attach is workers.Enter refl refl z (ap (λ (e : ℕ). at_stage (in_epoch x e) Looks) (said (gate_after Attach gate) fits x.epoch)) refl
-      (come c.pages c.mutators k x is.fits gate.epoch may.fits.epoch_fits Looks is.fits.end is.fits.side is.fits.task tt)) (loses Attach is refl)
+      (wins Attach is workers.Enter refl refl (at_stage z (runs_on z afters.Looks)) (ap (λ (e : ℕ). let y = in_epoch x e in at_stage y (runs_on y afters.Looks)) (said (gate_after Attach gate) fits x.epoch))
+      (sym (runs_on_known z afters.Looks)) (runs_on_fits c.pages c.mutators k z looks is.fits.end is.fits.side afters.Looks is.fits.task)) (loses Attach is refl)
 
   parks : (is : Is c k (at Park (Exchanges gate))) → StepsSo c p s k (at Park (Exchanges gate))
   parks is =
@@ -98,22 +99,19 @@ module _ (c : Configuration) (p : Plain) (s : Stands c p) (k : ℕ) (y : Held) (
       (wins Park is workers.Park refl refl (at_stage x (passes x (Resume x.epoch) after)) refl refl
       (before_passage c.pages c.mutators k x is.fits (Resume x.epoch) after is.fits.end is.fits.side is.fits.task refl)) (loses Park is refl)
 
-  requests : (is : Is c k (at Request (Exchanges gate))) → StepsSo c p s k (at Request (Exchanges gate))
-  requests is =
-      let x = at Request (Exchanges gate) in
-      let z = at_stage x (Flips (flip.begun x.layout x.epoch (pages_needed x) (has_seen_flip x))) in
-      exchanges_it Request is
-      (wins Request is (workers.Request (pages_needed x)) refl refl z refl refl
-      (refit c.pages c.mutators k x is.fits (Flips (flip.begun x.layout x.epoch (pages_needed x) (has_seen_flip x))) is.fits.end is.fits.side (is.fits.task.0, refl)
-      (record { layout = refl; epoch = refl; seen = refl; going = tt; sound = record { pages = page_count c.pages c.mutators k x is.fits; epoch = is.fits.stage.passage; stage = tt } })))
-      (loses Request is refl)
+  -- its exchange is won, and it flips, or begins a checkpoint
+  module _ (q : workers.Passage) (is : Is c k (at Request (Exchanges gate))) (stands : (knows (at Request (Exchanges gate))).gate_step ≡ Some (record { read = gate; passage = q }))
+      (same : gate_after Request gate ≡ laws.gate_after q gate) (known : laws.worker_after gate.epoch q (knows (at Request (Exchanges gate))) ≡ knows (at_stage (at Request (Exchanges gate)) (after_request y after)))
+      (fits : Fits c.pages c.mutators k (at_stage (at Request (Exchanges gate)) (after_request y after))) where
+    requests_it : StepsSo c p s k (at Request (Exchanges gate))
+    requests_it = exchanges_it Request is (wins Request is q stands same (at_stage (at Request (Exchanges gate)) (after_request y after)) refl known fits) (loses Request is refl)
 
   resumes : (epoch : ℕ) (is : Is c k (at (Resume epoch) (Exchanges gate))) → StepsSo c p s k (at (Resume epoch) (Exchanges gate))
   resumes epoch is =
       let x = at (Resume epoch) (Exchanges gate) in
       exchanges_it (Resume epoch) is
-      (wins (Resume epoch) is workers.Resume refl refl (at_stage x (goes_on x after)) refl (sym (goes_on_known x after))
-      (goes_on_fits c.pages c.mutators k x is.fits is.fits.end is.fits.side after is.fits.task)) (loses (Resume epoch) is refl)
+      (wins (Resume epoch) is workers.Resume refl refl (at_stage x (runs_on x after)) refl (sym (runs_on_known x after))
+      (runs_on_fits c.pages c.mutators k x is.fits is.fits.end is.fits.side after is.fits.task)) (loses (Resume epoch) is refl)
 
   forwards : (is : Is c k (at Forwarded (Exchanges gate))) → StepsSo c p s k (at Forwarded (Exchanges gate))
   forwards is =
@@ -143,12 +141,33 @@ module _ (c : Configuration) (p : Plain) (s : Stands c p) (k : ℕ) (y : Held) (
       (wins Leave is workers.Leave refl refl (at_stage x Gone) refl (ap (λ (b : Bool). record (known_at x Gone) { post = post_gone b }) (sym (is_member is)))
       (refit c.pages c.mutators k x is.fits Gone tt (gone (nat_lt y.number y.mutators) is.fits.end) is.fits.task tt)) (loses Leave is refl)
 
-  pub exchanges_gate : (passage : Passage) → Is c k (at passage (Exchanges gate)) → StepsSo c p s k (at passage (Exchanges gate))
-  exchanges_gate Look is = absurd is.fits.stage.passage
-  exchanges_gate Attach is = attaches is
-  exchanges_gate Park is = parks is
-  exchanges_gate Request is = requests is
-  exchanges_gate (Resume epoch) is = resumes epoch is
-  exchanges_gate Forwarded is = forwards is
-  exchanges_gate Leave is = leaves is
-  exchanges_gate Clear is = absurd is.fits.stage.passage
+  clears : (is : Is c k (at Clear (Exchanges gate))) → StepsSo c p s k (at Clear (Exchanges gate))
+  clears is =
+      let x = at Clear (Exchanges gate) in
+      exchanges_it Clear is
+      (wins Clear is workers.Clear refl refl (at_stage x (passes x (Resume x.epoch) after)) refl refl
+      (before_passage c.pages c.mutators k x is.fits (Resume x.epoch) after is.fits.end is.fits.side (subst (FitsTaskAfter y) (sym is.fits.task.1) is.fits.task.0) refl)) (loses Clear is refl)
+
+module _ (c : Configuration) (p : Plain) (s : Stands c p) (k : ℕ) (y : Held) (l : Layout) (gate : GateWord) where
+  requests : (after : After) → Is c k (at c p s k y l gate after Request (Exchanges gate)) → StepsSo c p s k (at c p s k y l gate after Request (Exchanges gate))
+  requests afters.Looks is = absurd is.fits.task
+  requests afters.Places is =
+      let x = at c p s k y l gate afters.Places Request (Exchanges gate) in
+      requests_it c p s k y l gate afters.Places (workers.Request (pages_needed y)) is refl refl refl
+      (refit c.pages c.mutators k x is.fits (after_request y afters.Places) is.fits.end is.fits.side (is.fits.task, refl)
+      (record { layout = refl; epoch = refl; seen = refl; going = tt; sound = record { pages = page_count c.pages c.mutators k x is.fits; epoch = is.fits.stage.passage; stage = tt } }))
+  requests afters.Snaps is =
+      let x = at c p s k y l gate afters.Snaps Request (Exchanges gate) in
+      requests_it c p s k y l gate afters.Snaps workers.RequestSnap is refl refl refl
+      (before_snap c.pages c.mutators k x is.fits is.fits.end is.fits.side is.fits.task is.fits.stage.passage)
+
+  module _ (after : After) where
+    pub exchanges_gate : (passage : Passage) → Is c k (at c p s k y l gate after passage (Exchanges gate)) → StepsSo c p s k (at c p s k y l gate after passage (Exchanges gate))
+    exchanges_gate Look is = absurd is.fits.stage.passage
+    exchanges_gate Attach is = attaches c p s k y l gate after is
+    exchanges_gate Park is = parks c p s k y l gate after is
+    exchanges_gate Request is = requests after is
+    exchanges_gate (Resume epoch) is = resumes c p s k y l gate after epoch is
+    exchanges_gate Forwarded is = forwards c p s k y l gate after is
+    exchanges_gate Leave is = leaves c p s k y l gate after is
+    exchanges_gate Clear is = clears c p s k y l gate after is

@@ -1,5 +1,5 @@
 -- A passage of the gate begins with a load, which allows it or not.
-use Rattle.std.proofs.Common.{◌≡◌, ℕ, ◌+◌, ◌==◌, ◌&&◌, Bool, true, false, cond, Option, Some, None, is_some, refl, ap, sym, subst, ◌∙◌, arith}
+use Rattle.std.proofs.Common.{◌≡◌, ℕ, ◌+◌, ◌<◌, ◌==◌, ◌&&◌, Bool, true, false, cond, Option, Some, None, is_some, refl, ap, sym, subst, ◌∙◌, arith}
 use Rattle.std.specs.Prelude.{not, nat_lt}
 use Rattle.std.proofs.lemmas.Bool.{eqb-true}
 use Rattle.std.proofs.lemmas.Bool.Decides.{nat_tests}
@@ -28,10 +28,10 @@ use Rattle.heap_laws.proofs.Steps.Forgotten.{traced_is_forgotten}
 use Rattle.gc_worker.specs.declared.stage.after.After.{After}
 use Rattle.gc_worker.specs.declared.stage.after.After.TheVariants as afters
 use Rattle.gc_worker.specs.declared.stage.Stage.TheVariants.{Passes}
-use Rattle.gc_worker.specs.Workers.Fits.{Fits, FitsTaskAfter, IsMaking}
+use Rattle.gc_worker.specs.Workers.Fits.{Fits, FitsTaskAfter, FitsTaskAsking}
 use Rattle.gc_worker.specs.Steps.Goes.{Is, Goes, StepsSo}
 use Rattle.gc_worker.specs.Workers.Held.{Held, at_stage, pages_needed}
-use Rattle.gc_worker.specs.Workers.Knows.{knows}
+use Rattle.gc_worker.specs.Workers.Knows.{knows, request_for}
 use Rattle.gc_worker.specs.Steps.Turned.{passes, goes_on, forwards_from, epoch_in_gate, turned_gate}
 use Rattle.gc_worker.proofs.Workers.Parts.{refit, before_passage}
 use Rattle.gc_worker.proofs.Workers.GoingOn.{goes_on_known, goes_on_fits}
@@ -58,6 +58,26 @@ resumes_so g epoch is = by_clear (is_clear g) refl is
     by_clear : (b : Bool) → is_clear g ≡ b → b && (g.epoch == epoch) ≡ true → (g.request ≡ false) × (g.behind ≡ 0) × (g.epoch ≡ epoch)
     by_clear true same e = let z = clear_says g same in (z.0, z.1, grind (arith, nat_tests))
     by_clear false same e = cc
+
+-- ---- a request
+
+-- it is for a flip or for a checkpoint
+may_request : (after : After) (epoch asked : ℕ) (ended : Bool) (gate : GateWord) → ended ≡ false → gate.request ≡ false
+    → parts.Passes workers.Running epoch 0 ended true gate (request_for asked after)
+may_request afters.Looks epoch asked ended gate unended none = (refl, unended, none, refl)
+may_request afters.Places epoch asked ended gate unended none = (refl, unended, none, refl)
+may_request afters.Snaps epoch asked ended gate unended none = (refl, unended, none, refl)
+
+counts_itself : (after : After) (asked : ℕ) (gate : GateWord) → GateAnswers gate (request_for asked after) → 0 < gate.running
+counts_itself afters.Looks asked gate a = a.counted
+counts_itself afters.Places asked gate a = a.counted
+counts_itself afters.Snaps asked gate a = a.counted
+
+-- who requests anything may stop for it
+request_stops : (y : Held) (after : After) → FitsTaskAsking y after → FitsTaskAfter y after
+request_stops y afters.Looks task = absurd task
+request_stops y afters.Places task = task
+request_stops y afters.Snaps task = task
 
 module _ (c : Configuration) (p : Plain) (s : Stands c p) (k : ℕ) (y : Held) (l : Layout) (after : After) where
   abbrev at : Passage → GateStage → Held
@@ -138,17 +158,14 @@ module _ (c : Configuration) (p : Plain) (s : Stands c p) (k : ℕ) (y : Held) (
       let z = at_stage x (goes_on x after) in
       goes Park is false test z refl tt (nothing c p s k x is (knows z) (sym (goes_on_known x after))) (goes_on_fits c.pages c.mutators k x is.fits is.fits.end is.fits.side after is.fits.task)
 
-  -- who requests a flip allocates
-  request_stops : (b : After) → IsMaking y.account y.registers y.task × (b ≡ afters.Places) → FitsTaskAfter y b
-  request_stops b task = subst (FitsTaskAfter y) (sym task.1) task.0
-
   requests : (is : Is c k (at Request Loads)) (b : Bool) → allows Request gate ≡ b → Goes c p s k None (at Request Loads) (Value (gate_now c))
   requests is true test =
-      exchange_next Request is (workers.Request (pages_needed (at Request Loads))) (refl, is.fits.end, unset gate.request test, refl) test refl refl (λ a. a.counted) refl
+      exchange_next Request is (request_for (pages_needed y) after) (may_request after y.epoch (pages_needed y) (is_some y.account.end) gate is.fits.end (unset gate.request test)) test refl refl
+      (counts_itself after (pages_needed y) gate) refl
   requests is false test =
       let x = at Request Loads in
       let z = at_stage x (passes x Park after) in
-      goes Request is false test z refl tt (less c p s k x is (knows z) (traced_is_forgotten (knows x) refl refl)) (before_passage c.pages c.mutators k x is.fits Park after is.fits.end is.fits.side (request_stops after is.fits.task) tt)
+      goes Request is false test z refl tt (less c p s k x is (knows z) (traced_is_forgotten (knows x) refl refl)) (before_passage c.pages c.mutators k x is.fits Park after is.fits.end is.fits.side (request_stops y after is.fits.task) tt)
 
   resumes : (epoch : ℕ) (is : Is c k (at (Resume epoch) Loads)) (b : Bool) → allows (Resume epoch) gate ≡ b → Goes c p s k None (at (Resume epoch) Loads) (Value (gate_now c))
   resumes epoch is true test =
@@ -176,6 +193,9 @@ module _ (c : Configuration) (p : Plain) (s : Stands c p) (k : ℕ) (y : Held) (
   leaves : (is : Is c k (at Leave Loads)) → Goes c p s k None (at Leave Loads) (Value (gate_now c))
   leaves is = exchange_next Leave is workers.Leave (refl, is.fits.end) refl refl refl (λ a. (a.counted.0, a.counted.1, a.after.left_fits)) refl
 
+  clears : (is : Is c k (at Clear Loads)) → Goes c p s k None (at Clear Loads) (Value (gate_now c))
+  clears is = exchange_next Clear is workers.Clear refl refl refl refl (λ a. tt) refl
+
   pub loads_gate : (passage : Passage) → Is c k (at passage Loads) → StepsSo c p s k (at passage Loads)
   loads_gate Look is = absurd is.fits.stage.passage
   loads_gate Attach is = steps_of Attach is (attaches is (allows Attach gate) refl)
@@ -184,4 +204,4 @@ module _ (c : Configuration) (p : Plain) (s : Stands c p) (k : ℕ) (y : Held) (
   loads_gate (Resume epoch) is = steps_of (Resume epoch) is (resumes epoch is (allows (Resume epoch) gate) refl)
   loads_gate Forwarded is = steps_of Forwarded is (forwards is)
   loads_gate Leave is = steps_of Leave is (leaves is)
-  loads_gate Clear is = absurd is.fits.stage.passage
+  loads_gate Clear is = steps_of Clear is (clears is)

@@ -1,5 +1,5 @@
--- A look that begins an allocation or an access.
-use Rattle.std.proofs.Common.{◌≡◌, ℕ, Some, None, Ok, refl, sym, subst, arith}
+-- A look that begins an allocation, an access or a checkpoint.
+use Rattle.std.proofs.Common.{◌≡◌, ℕ, true, Some, None, Ok, refl, sym, subst, arith}
 use Rattle.std.specs.Prelude.{⊤}
 use Rattle.plain_state.specs.declared.kind.Kind.{Kind}
 use Rattle.plain_state.specs.declared.value.Identity.{Identity}
@@ -9,7 +9,7 @@ use Rattle.plain_state.specs.State.{Mutator, Plain}
 use Rattle.heap_words.specs.Word.{pointer_word}
 use Rattle.mutator_asm.specs.declared.instr.Instr.{Instr}
 use Rattle.plain_heap.specs.declared.action.Action.{Action}
-use Rattle.plain_heap.specs.declared.action.Action.TheVariants.{Makes, Measures, Loads, Stores, Exchanges, Gets, Puts, Swaps}
+use Rattle.plain_heap.specs.declared.action.Action.TheVariants.{Makes, Measures, Loads, Stores, Exchanges, Gets, Puts, Swaps, Snaps}
 use Rattle.plain_heap.specs.Action.{action}
 use Rattle.plain_heap.proofs.Calls.Named.{Names}
 use Rattle.atom_store.specs.declared.reply.Reply.{Reply}
@@ -20,16 +20,16 @@ use Rattle.gc_worker.specs.declared.task.Task.TheVariants.{Calls}
 use Rattle.gc_worker.specs.Steps.Access.{FitsStage, IsHeapAddress, IsAccessOf}
 use Rattle.gc_worker.specs.Workers.Fits.{MayBegin, FitsCall, ExecutesAction, IsMaking}
 use Rattle.gc_worker.specs.Steps.Goes.{Is, Goes}
-use Rattle.gc_worker.specs.Workers.Held.{Held, at_stage, header_for}
+use Rattle.gc_worker.specs.Workers.Held.{Held, at_stage, header_for, may_snap}
 use Rattle.gc_worker.specs.Workers.Knows.{knows}
 use Rattle.gc_worker.specs.Plain.Seen.{IsValueWord, seen, word_for}
-use Rattle.gc_worker.specs.Steps.Turned.{Silent, acts, begins, places, turned, told}
+use Rattle.gc_worker.specs.Steps.Turned.{Silent, acts, begins, places, serves_snap, turned, told}
 use Rattle.heap_laws.proofs.Fields.Shown.{headers_are_read}
 use Rattle.gc_worker.proofs.Plain.Actions.{plain_value}
 use Rattle.gc_worker.proofs.Plain.AnswerSteps.{IsIts}
 use Rattle.gc_worker.proofs.Words.Eras.{board_is}
 use Rattle.gc_worker.proofs.Workers.Parts.{refit, page_count}
-use Rattle.gc_worker.proofs.Workers.GoingOn.{places_known, places_fit}
+use Rattle.gc_worker.proofs.Workers.GoingOn.{places_known, places_fit, snaps_fit}
 use Rattle.gc_worker.proofs.Stages.Look.Begun.{begun_fits}
 use Rattle.gc_worker.proofs.Plain.Registers.{sight, Holds, is_value, names, points, writes}
 use Rattle.gc_worker.proofs.Words.RowSteps.{becomes, nothing, prepared}
@@ -57,6 +57,14 @@ module _ (c : Configuration) (p : Plain) (s : Stands c p) (k : ℕ) (y : Held) w
         becomes c p s k x None reply (at_stage (begins x) (places (begins x) (header_for (begins x)))) s.ghost same is.below
         (nothing c p s k x is (knows (at_stage (begins x) (places (begins x) (header_for (begins x))))) (sym (places_known (begins x) (header_for (begins x))))) silent refl tt
         (places_fit c.pages c.mutators k (begins x) (begun_fits c.pages c.mutators k y is.fits) is.fits.end is.fits.side making)
+
+    -- ---- a checkpoint
+
+    pub snaps : may_snap x ≡ true → Acts Snaps → turned x reply ≡ at_stage (begins x) (serves_snap (begins x)) → Goes c p s k None x reply
+    snaps may is_act same =
+        becomes c p s k x None reply (at_stage (begins x) (serves_snap (begins x))) s.ghost same is.below
+        (nothing c p s k x is (knows (at_stage (begins x) (serves_snap (begins x)))) refl) silent refl tt
+        (snaps_fit c.pages c.mutators k (begins x) (begun_fits c.pages c.mutators k y is.fits) is.fits.end is.fits.side (executes Snaps is_act) may)
 
     -- ---- an access
 

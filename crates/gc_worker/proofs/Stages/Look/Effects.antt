@@ -1,4 +1,5 @@
--- A look whose instruction's effect the registers alone decide: a register is set, a jump is made, a number is printed, or a checkpoint is begun.
+-- A look whose instruction's effect the registers alone decide: a register is set, a jump is made, a number is printed, or `snap` finds no
+-- number, or no room, for one more checkpoint.
 use Rattle.std.proofs.Common.{◌≡◌, ℕ, ◌+◌, ◌%◌, ◌<◌, ◌≤◌, List, [], ◌∷◌, ◌++◌, length, slice_index, slice_set, is_some, Some, None, Result, Ok, refl, ap, sym, subst, ◌∙◌, length-set, arith}
 use Rattle.std.specs.Prelude.{⊤, IsTrue}
 use Rattle.std.proofs.lemmas.List.{length-append}
@@ -130,7 +131,8 @@ module _ (c : Configuration) (p : Plain) (s : Stands c p) (k : ℕ) (y : Held) w
         (may_hold c p s k x is refl unended) (next_as c p s k x q its (turn.next_of x) (next_of q) printed (q.printed ++ n ∷ []) next_same (ap (λ (l : List ℕ). l ++ n ∷ []) its.same.account.printed))
         (called (Prints n) is_act) same
 
-    pub snaps : Acts Snaps → turned x reply ≡ acts (begins x) Snaps → Goes c p s k None x reply
+    -- there is no number for one more checkpoint, or no room for any: the words stay
+    pub snaps : Acts Snaps → turned x reply ≡ turn.went_on (begins x) → Goes c p s k None x reply
     snaps is_act same =
         let account : Account = counted c p s k x is refl unended in
         let next : Mutator = plain.went_on q in

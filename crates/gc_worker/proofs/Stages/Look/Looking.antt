@@ -29,11 +29,11 @@ use Rattle.gc_worker.specs.Plain.Answer.{MayCome, MayEnd, after_outcome}
 use Rattle.gc_worker.specs.Workers.Fits.{MayBegin, MayStop}
 use Rattle.gc_worker.specs.Plain.Full.{FullByEnd}
 use Rattle.gc_worker.specs.Steps.Goes.{Is, Goes, StepsSo}
-use Rattle.gc_worker.specs.Workers.Held.{Held, at_stage}
+use Rattle.gc_worker.specs.Workers.Held.{Held, at_stage, may_snap}
 use Rattle.gc_worker.specs.Workers.Knows.{knows}
 use Rattle.gc_worker.specs.Plain.Seen.{seen}
-use Rattle.gc_worker.specs.declared.calls.did.Did.TheVariants.{Trap}
-use Rattle.gc_worker.specs.Steps.Turned.{Told, Silent, Answers, begins, passes, ended, acted, started, looked_by, turned, told, told_acted, told_start, told_gate}
+use Rattle.gc_worker.specs.declared.calls.did.Did.TheVariants.{Done, Trap}
+use Rattle.gc_worker.specs.Steps.Turned.{Told, Silent, Answers, begins, passes, serves_snap, went_on, ended, acted, started, looked_by, turned, told, told_acted, told_start, told_gate}
 use Rattle.gc_worker.proofs.Plain.Actions.{plain_outcome}
 use Rattle.gc_worker.proofs.Plain.AnswerSteps.{LawTo, IsIts, answers, its_mutator}
 use Rattle.gc_worker.proofs.Workers.Parts.{before_passage}
@@ -117,12 +117,17 @@ module _ (c : Configuration) (p : Plain) (s : Stands c p) (k : ℕ) (y : Held) w
       unfolding call
       calls_end why e = ap (λ (o : Result Action End). o >>= performed k p.heap q) (alike c p s k x is refl unended q mutator.1 instr valid ∙ ap (plain_outcome s.ghost.identity) e)
 
-      acts_so : (act : Action) → Acts (Ok act) → Comes (acted (begins x) (Ok act)) (told_acted (Calls instr) (Ok act)) → Goes c p s k None x reply
+      -- a checkpoint is begun, or cannot be
+      snaps_if : (b : Bool) → may_snap x ≡ b → Acts (Ok Snaps) → Comes (cond b (at_stage (begins x) (serves_snap (begins x))) (went_on (begins x))) (cond b Silent (Answers (Calls instr) Done)) → Goes c p s k None x reply
+      snaps_if true may e so = beginning.snaps c p s k y is unended q mutator.1 instr task reply so.tells may e so.turns
+      snaps_if false may e so = effect.snaps c p s k y is unended q mutator.1 instr task valid reply so.tells e so.turns
+
+      acts_so : (act : Action) → Acts (Ok act) → Comes (acted (begins x) (Ok act)) (told_acted x (Calls instr) (Ok act)) → Goes c p s k None x reply
       acts_so (Sets d v) e so = effect.sets c p s k y is unended q mutator.1 instr task valid reply so.tells d v e so.turns
       acts_so (Jumps target) e so = effect.jumps c p s k y is unended q mutator.1 instr task valid reply so.tells target e so.turns
       acts_so (Links d target) e so = effect.links c p s k y is unended q mutator.1 instr task valid reply so.tells d target e so.turns
       acts_so (Prints n) e so = effect.prints c p s k y is unended q mutator.1 instr task valid reply so.tells n e so.turns
-      acts_so Snaps e so = effect.snaps c p s k y is unended q mutator.1 instr task valid reply so.tells e so.turns
+      acts_so Snaps e so = snaps_if (may_snap x) refl e so
       acts_so (Makes kind d n) e so = beginning.makes c p s k y is unended q mutator.1 instr task reply so.tells kind d n e so.turns
       acts_so (Measures d i) e so = beginning.measures c p s k y is unended q mutator.1 instr task reply so.tells d i e so.turns
       acts_so (Loads d i n) e so = beginning.loads c p s k y is unended q mutator.1 instr task reply so.tells d i n e so.turns
@@ -132,7 +137,7 @@ module _ (c : Configuration) (p : Plain) (s : Stands c p) (k : ℕ) (y : Held) w
       acts_so (Puts n v) e so = beginning.puts c p s k y is unended q mutator.1 instr task reply so.tells n v e so.turns
       acts_so (Swaps d n v) e so = beginning.swaps c p s k y is unended q mutator.1 instr task reply so.tells d n v e so.turns
 
-      calls : (o : Result Action End) → Acts o → Comes (acted (begins x) o) (told_acted (Calls instr) o) → Goes c p s k None x reply
+      calls : (o : Result Action End) → Acts o → Comes (acted (begins x) o) (told_acted x (Calls instr) o) → Goes c p s k None x reply
       calls (Ok act) e so = acts_so act e so
       calls (Err why) e so =
           let may = its_end (seen x.account x.registers) instr why e in

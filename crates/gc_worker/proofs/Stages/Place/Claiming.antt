@@ -43,13 +43,13 @@ use Rattle.gc_worker.proofs.Words.RowSteps.{Law, becomes, loads, exchanges, noth
 
 module _ (c : Configuration) (p : Plain) (s : Stands c p) (k : ℕ) (y : Held) (run : Run) (header : Header) where
   abbrev pub placing : PlaceStage → Placing
-  placing stage = record { layout = y.layout; run = run; header = header; fields = fields_for y; epoch = y.epoch; snap = 0; stage = stage }
+  placing stage = record { layout = y.layout; run = run; header = header; fields = fields_for y; epoch = y.epoch; snap = y.snap; stage = stage }
 
   abbrev pub at : PlaceStage → Held
   at stage = at_stage y (Places (placing stage))
 
   -- a mutator that allocates at another stage
-  pub replace : (before stage : PlaceStage) → Is c k (at before) → IsPlacingGoing stage → LeavesShortRun run header stage → FitsPlaceStage y.layout.pages (pages_for (size_of header)) 0 run header stage → Fits c.pages c.mutators k (at stage)
+  pub replace : (before stage : PlaceStage) → Is c k (at before) → IsPlacingGoing stage → LeavesShortRun run header stage → FitsPlaceStage y.layout.pages (pages_for (size_of header)) y.snap run header stage → Fits c.pages c.mutators k (at stage)
   replace before stage is going rest fits =
       refit c.pages c.mutators k (at before) is.fits (Places (placing stage)) is.fits.end is.fits.side is.fits.task
       (record { layout = refl; epoch = refl; fields = refl; snap = refl; going = going; rest = rest; sound = record { pages = is.fits.stage.sound.pages; run = is.fits.stage.sound.run; fields = is.fits.stage.sound.fields; epoch = is.fits.stage.sound.epoch; snap = is.fits.stage.sound.snap; room = is.fits.stage.sound.room; stage = fits } })
@@ -195,7 +195,7 @@ module _ (c : Configuration) (p : Plain) (s : Stands c p) (k : ℕ) (y : Held) (
       wins : Goes c p s k (Some (AreaIs space (area_after (words_for header) f))) x Won
       wins =
           let some : 0 < words_for header = omega arith in
-          let fits : FitsPlaceStage y.layout.pages asked 0 run header (StoresZero new_pages) = (lies, omega arith, omega (arith, some)) in
+          let fits : FitsPlaceStage y.layout.pages asked y.snap run header (StoresZero new_pages) = (lies, omega arith, omega (arith, some)) in
           becomes c p s k x (Some (AreaIs space (area_after (words_for header) f))) Won (at (StoresZero new_pages)) s.ghost refl is.below stocks refl refl
           (record { pages = is.fits.stage.sound.pages; run = is.fits.stage.sound.run; fields = is.fits.stage.sound.fields; epoch = is.fits.stage.sound.epoch; snap = is.fits.stage.sound.snap; room = is.fits.stage.sound.room; stage = fits })
           (replace (ExchangesArea f) (StoresZero new_pages) is tt tt fits)

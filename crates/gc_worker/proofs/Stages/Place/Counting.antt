@@ -10,7 +10,7 @@ use Rattle.record_layout.specs.declared.header.Header.{Header}
 use Rattle.space_map.specs.Table.{HeapWord, place_of}
 use Rattle.alloc_end.specs.declared.place_stage.PlaceStage.TheVariants.{StoresCount, StoresHeader}
 use Rattle.alloc_end.specs.declared.run.Run.{Run}
-use Rattle.alloc_end.specs.Place.{size_of}
+use Rattle.alloc_end.specs.Place.{Placing, size_of}
 use Rattle.heap_state.specs.Configuration.{Configuration, Stands, era, memory, team}
 use Rattle.heap_state.specs.Memory.Entries.{Entry, WordIs}
 use Rattle.heap_state.specs.Worker.{Stock, Worker}
@@ -18,10 +18,12 @@ use Rattle.heap_laws.specs.Allocation.Records.{stored_ahead}
 use Rattle.heap_laws.specs.Allocation.Stocks.{stocked, with_ahead}
 use Rattle.heap_laws.proofs.Allocation.Ahead.{stores_ahead}
 use Rattle.gc_worker.specs.Steps.Goes.{Is, Goes, StepsSo}
-use Rattle.gc_worker.specs.Workers.Held.{Held, fields_for}
+use Rattle.gc_worker.specs.Workers.Held.{Held, at_stage, fields_for}
 use Rattle.gc_worker.specs.Workers.Knows.{knows, kind_with, stock_of}
+use Rattle.gc_worker.specs.Steps.Turned.{guards_place}
 use Rattle.gc_worker.proofs.Stages.Gate.Words.{wants}
-use Rattle.gc_worker.proofs.Stages.Place.Claiming.{at, replace}
+use Rattle.gc_worker.proofs.Stages.Place.Claiming.{placing, at, replace}
+use Rattle.gc_worker.proofs.Workers.Guarded.{guards_place_fits, guards_place_known}
 use Rattle.gc_worker.proofs.Words.RowSteps.{Law, becomes, stores, row_fits, prepared}
 
 module _ (c : Configuration) (p : Plain) (s : Stands c p) (k : ℕ) (y : Held) (run : Run) (header : Header) (is : Is c k (at c p s k y run header StoresCount)) where
@@ -59,11 +61,15 @@ module _ (c : Configuration) (p : Plain) (s : Stands c p) (k : ℕ) (y : Held) (
       (subst (λ (a : ℕ). Law c p s k x (Some (WordIs a word)) (stocked (knows x) (with_ahead stock word)) s.ghost) behind
       (subst (λ (v : Worker). Law c p s k x (Some (WordIs (run.at + 1 + 0) word)) (stocked v (with_ahead stock word)) s.ghost) is.as_known stored))
 
+  abbrev next : Placing
+  next = placing c p s k y run header StoresHeader
+
   goes : Goes c p s k (Some entry) x Done
   goes =
-      becomes c p s k x (Some entry) Done (at c p s k y run header StoresHeader) s.ghost refl is.below law refl refl
+      becomes c p s k x (Some entry) Done (at_stage y (guards_place y next)) s.ghost refl is.below
+      (subst (λ (v : Worker). Law c p s k x (Some entry) v s.ghost) (sym (guards_place_known y next)) law) refl refl
       (record { pages = is.fits.stage.sound.pages; run = is.fits.stage.sound.run; fields = is.fits.stage.sound.fields; epoch = is.fits.stage.sound.epoch; snap = is.fits.stage.sound.snap; room = is.fits.stage.sound.room; stage = room })
-      (replace c p s k y run header StoresCount StoresHeader is tt is.fits.stage.rest room)
+      (guards_place_fits c.pages c.mutators k y next (replace c p s k y run header StoresCount StoresHeader is tt is.fits.stage.rest room))
 
   pub stores_count : StepsSo c p s k x
   stores_count =

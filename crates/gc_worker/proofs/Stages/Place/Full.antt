@@ -29,8 +29,6 @@ use Rattle.heap_laws.proofs.Fields.Laws.{mutators_find_no_room}
 use Rattle.heap_laws.proofs.Steps.Answers.{areas_are_read}
 use Rattle.heap_laws.proofs.Steps.Composing.{plain_steps_forget}
 use Rattle.heap_laws.proofs.Steps.Forgotten.{sizes_are_forgotten, traced_is_forgotten}
-use Rattle.gate_core.specs.declared.passage.Passage.TheVariants.{Request}
-use Rattle.gc_worker.specs.declared.stage.after.After.TheVariants as afters
 use Rattle.gc_worker.specs.declared.task.Task.{Task}
 use Rattle.gc_worker.specs.declared.task.Task.TheVariants.{Calls}
 use Rattle.gc_worker.specs.Plain.Answer.{after_outcome}
@@ -40,7 +38,7 @@ use Rattle.gc_worker.specs.Steps.Goes.{Is, Goes}
 use Rattle.gc_worker.specs.Workers.Held.{Held, at_stage, has_seen_flip}
 use Rattle.gc_worker.specs.Workers.Knows.{knows}
 use Rattle.gc_worker.specs.declared.calls.did.Did.TheVariants.{Trap}
-use Rattle.gc_worker.specs.Steps.Turned.{Silent, Answers, is_full, passes, ended, end_by_shortage, told_end, turned_place, told_place}
+use Rattle.gc_worker.specs.Steps.Turned.{Silent, Answers, asks_flip, is_full, ended, end_by_shortage, told_end, turned_place, told_place}
 use Rattle.gc_worker.specs.Steps.Turned as turning
 use Rattle.gc_worker.proofs.Plain.AnswerSteps.{LawTo, IsIts, answers}
 use Rattle.gc_worker.proofs.Words.Areas.{area_now, area_says, is_space}
@@ -86,7 +84,7 @@ module _ (c : Configuration) (p : Plain) (s : Stands c p) (k : ℕ) (y : Held) (
     comes : turning.turned x (Value (area_now c space)) ≡ after
     comes =
         ap (λ (stage : PlaceStage). turned_place x (placing c p s k y run header stage) (told (placing c p s k y run header stage))) reads
-        ∙ ap (λ (b : Bool). cond b after (at_stage x (passes x Request afters.Places))) full
+        ∙ ap (λ (b : Bool). cond b after (at_stage x (asks_flip x))) full
 
     answer : turning.told x (Value (area_now c space)) ≡ Answers (Calls instr) (Trap end)
     answer =
@@ -153,5 +151,5 @@ module _ (c : Configuration) (p : Plain) (s : Stands c p) (k : ℕ) (y : Held) (
       finds_no_room =
           answers c p s k x None (Value (area_now c space)) after s.ghost q (Calls instr) (Trap end) comes answer refl is.below its.is its.no_end
           (plain_pages y making q acts) law no_room
-          (record { pages = is.fits.stage.sound.pages; run = is.fits.stage.sound.run; fields = is.fits.stage.sound.fields; epoch = is.fits.stage.sound.epoch; snap = is.fits.stage.sound.snap; room = is.fits.stage.sound.room; stage = subst (FitsPlaceStage y.layout.pages asked 0 run header) (sym reads) tt })
+          (record { pages = is.fits.stage.sound.pages; run = is.fits.stage.sound.run; fields = is.fits.stage.sound.fields; epoch = is.fits.stage.sound.epoch; snap = is.fits.stage.sound.snap; room = is.fits.stage.sound.room; stage = subst (FitsPlaceStage y.layout.pages asked y.snap run header) (sym reads) tt })
           (ended_fits c.pages c.mutators k x is.fits is.fits.side end)

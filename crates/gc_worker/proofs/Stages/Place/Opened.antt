@@ -16,7 +16,7 @@ use Rattle.alloc_end.specs.declared.new_pages.NewPages.{NewPages}
 use Rattle.alloc_end.specs.declared.place_stage.PlaceStage.{PlaceStage}
 use Rattle.alloc_end.specs.declared.place_stage.PlaceStage.TheVariants.{OpensPage}
 use Rattle.alloc_end.specs.declared.run.Run.{Run}
-use Rattle.alloc_end.specs.Place.{Placing, size_of, pages_for, words_for, stores_first, told}
+use Rattle.alloc_end.specs.Place.{Placing, size_of, pages_for, readies, words_for, stores_first, told}
 use Rattle.alloc_end.specs.Soundness.{IsSoundPlacing}
 use Rattle.heap_state.specs.Configuration.{Configuration, Stands, era, memory, team}
 use Rattle.heap_state.specs.Memory.Entries.{Entry, PageIs}
@@ -29,11 +29,13 @@ use Rattle.gc_worker.specs.Workers.Fits.{Fits}
 use Rattle.gc_worker.specs.Steps.Goes.{Is, Goes, StepsSo}
 use Rattle.gc_worker.specs.Workers.Held.{Held, at_stage, fields_for}
 use Rattle.gc_worker.specs.Workers.Knows.{knows, kind_with, opened_to}
-use Rattle.gc_worker.specs.Steps.Turned.{Silent, turned_place, told_place}
+use Rattle.gc_worker.specs.Steps.Turned.{Silent, guards_place, turned_place, told_place}
 use Rattle.gc_worker.proofs.Workers.GoingOn.{first_fits, first_going, first_rest}
 use Rattle.gc_worker.proofs.Workers.Parts.{refit}
 use Rattle.gc_worker.proofs.Stages.Gate.Words.{wants}
 use Rattle.gc_worker.proofs.Stages.Place.Claiming.{placing, at, now}
+use Rattle.gc_worker.proofs.Stages.Place.Marking.{readied_comes, readied_silent, readied_going, readied_rest, readied_known, readied_fits}
+use Rattle.gc_worker.proofs.Workers.Guarded.{guards_place_fits, guards_place_known}
 use Rattle.gc_worker.proofs.Words.RowSteps.{Law, becomes, stores, row_fits, prepared}
 
 module _ (c : Configuration) (p : Plain) (s : Stands c p) (k : ℕ) (y : Held) (run : Run) (header : Header) (new : NewPages) where
@@ -75,14 +77,21 @@ module _ (c : Configuration) (p : Plain) (s : Stands c p) (k : ℕ) (y : Held) (
     abbrev all : Run
     all = record { at = new.first; end = new.first + words }
 
+    abbrev further : NewPages
+    further = record { first = new.first; next = new.next + 1 }
+
+    -- the record's first store
+    abbrev first_for : Kind → Placing
+    first_for kind = placing c p s k y all header (stores_first kind)
+
     abbrev pick_for : Kind → Bool → Placing
-    pick_for kind b = cond b (placing c p s k y run header (OpensPage (record { first = new.first; next = new.next + 1 }))) (placing c p s k y all header (stores_first kind))
+    pick_for kind b = cond b (placing c p s k y run header (readies y.snap further)) (first_for kind)
 
     abbrev pick : Bool → Placing
     pick b = pick_for header.kind b
 
     abbrev then_for : Kind → Bool → Held
-    then_for kind b = at_stage y (Places (pick_for kind b))
+    then_for kind b = cond b (here (readies y.snap further)) (at_stage y (guards_place y (first_for kind)))
 
     abbrev then : Bool → Held
     then b = then_for header.kind b
@@ -91,13 +100,13 @@ module _ (c : Configuration) (p : Plain) (s : Stands c p) (k : ℕ) (y : Held) (
     by z = turned_place x z (told z)
 
     comes : (kind : Kind) (b : Bool) → by (pick_for kind b) ≡ then_for kind b
-    comes kind true = refl
+    comes kind true = readied_comes c p s k y run header further (OpensPage new)
     comes Fields false = refl
     comes Raw false = refl
     comes Mixed false = refl
 
     silent : (kind : Kind) (b : Bool) → told_place x (told (pick_for kind b)) ≡ Silent
-    silent kind true = refl
+    silent kind true = readied_silent c p s k y run header further (OpensPage new)
     silent Fields false = refl
     silent Raw false = refl
     silent Mixed false = refl
@@ -108,7 +117,7 @@ module _ (c : Configuration) (p : Plain) (s : Stands c p) (k : ℕ) (y : Held) (
     sound : (b : Bool) → test_of ≡ b → IsSoundPlacing (pick b)
     sound true test =
         let l = ltb-true (new.next + 1) (page_of new.first + asked) test in let f = is.fits.stage.sound.stage in
-        record { pages = is.fits.stage.sound.pages; run = is.fits.stage.sound.run; fields = is.fits.stage.sound.fields; epoch = is.fits.stage.sound.epoch; snap = is.fits.stage.sound.snap; room = is.fits.stage.sound.room; stage = (f.0, omega (arith, f), l) }
+        record { pages = is.fits.stage.sound.pages; run = is.fits.stage.sound.run; fields = is.fits.stage.sound.fields; epoch = is.fits.stage.sound.epoch; snap = is.fits.stage.sound.snap; room = is.fits.stage.sound.room; stage = readied_fits c p s k y run header further (f.0, omega (arith, f), l) }
     sound false test =
         let f = is.fits.stage.sound.stage in
         record {
@@ -118,12 +127,17 @@ module _ (c : Configuration) (p : Plain) (s : Stands c p) (k : ℕ) (y : Held) (
           epoch = is.fits.stage.sound.epoch;
           snap = is.fits.stage.sound.snap;
           room = is.fits.stage.sound.room;
-          stage = first_fits y.layout.pages asked 0 (fields_for y) all header header.kind refl is.fits.stage.sound.fields (omega arith);
+          stage = first_fits y.layout.pages asked y.snap (fields_for y) all header header.kind refl is.fits.stage.sound.fields (omega arith);
         }
 
     fits : (b : Bool) → test_of ≡ b → Fits c.pages c.mutators k (then b)
-    fits true test = refit c.pages c.mutators k x is.fits (Places (pick true)) is.fits.end is.fits.side is.fits.task (record { layout = refl; epoch = refl; fields = refl; snap = refl; going = tt; rest = tt; sound = sound true test })
-    fits false test = refit c.pages c.mutators k x is.fits (Places (pick false)) is.fits.end is.fits.side is.fits.task (record { layout = refl; epoch = refl; fields = refl; snap = refl; going = first_going header.kind; rest = first_rest all header header.kind (omega arith); sound = sound false test })
+    fits true test =
+        refit c.pages c.mutators k x is.fits (Places (pick true)) is.fits.end is.fits.side is.fits.task
+        (record { layout = refl; epoch = refl; fields = refl; snap = refl; going = readied_going c p s k y run header further; rest = readied_rest c p s k y run header further; sound = sound true test })
+    fits false test =
+        guards_place_fits c.pages c.mutators k y (first_for header.kind)
+        (refit c.pages c.mutators k x is.fits (Places (pick false)) is.fits.end is.fits.side is.fits.task
+        (record { layout = refl; epoch = refl; fields = refl; snap = refl; going = first_going header.kind; rest = first_rest all header header.kind (omega arith); sound = sound false test }))
 
     -- at the record's first store all pages are open
     abbrev stock_with : (opened : ℕ) (ahead : List ℕ) → Stock
@@ -132,18 +146,19 @@ module _ (c : Configuration) (p : Plain) (s : Stands c p) (k : ℕ) (y : Held) (
     abbrev ahead_for : Kind → List ℕ
     ahead_for kind = stored_ahead (kind_with kind (fields_for y))
 
-    stock_first : (kind : Kind) → header.kind ≡ kind → first_word new.next + 64 ≡ new.first + words → stocked (knows x) (opened_further stock) ≡ knows (then_for kind false)
-    stock_first Fields is e = λ i. record (knows (then_for Fields false)) { stock = Some (stock_with (e i) (ahead_for (sym is i))) }
-    stock_first Raw is e = λ i. record (knows (then_for Raw false)) { stock = Some (stock_with (e i) (ahead_for (sym is i))) }
-    stock_first Mixed is e = λ i. record (knows (then_for Mixed false)) { stock = Some (stock_with (e i) []) }
+    stock_first : (kind : Kind) → header.kind ≡ kind → first_word new.next + 64 ≡ new.first + words → stocked (knows x) (opened_further stock) ≡ knows (at_stage y (Places (first_for kind)))
+    stock_first Fields is e = λ i. record (knows (at_stage y (Places (first_for Fields)))) { stock = Some (stock_with (e i) (ahead_for (sym is i))) }
+    stock_first Raw is e = λ i. record (knows (at_stage y (Places (first_for Raw)))) { stock = Some (stock_with (e i) (ahead_for (sym is i))) }
+    stock_first Mixed is e = λ i. record (knows (at_stage y (Places (first_for Mixed)))) { stock = Some (stock_with (e i) []) }
 
     stock_then : (b : Bool) → test_of ≡ b → stocked (knows x) (opened_further stock) ≡ knows (then b)
     stock_then true test =
         let e : first_word new.next + 64 ≡ first_word (new.next + 1) = omega arith in
-        λ i. record (knows (then true)) { stock = Some (record { epoch = y.epoch; at = new.first; end = new.first + words; zeroed = new.first + words; opened = e i; ahead = [] }) }
+        (λ i. record (knows (here (OpensPage further))) { stock = Some (record { epoch = y.epoch; at = new.first; end = new.first + words; zeroed = new.first + words; opened = e i; ahead = [] }) })
+        ∙ sym (readied_known c p s k y run header further)
     stock_then false test =
         let l = ltb-false (new.next + 1) (page_of new.first + asked) test in let f = is.fits.stage.sound.stage in
-        stock_first header.kind refl (omega (arith, l, f, aligned))
+        stock_first header.kind refl (omega (arith, l, f, aligned)) ∙ sym (guards_place_known y (first_for header.kind))
 
     goes : (b : Bool) → test_of ≡ b → Goes c p s k (Some entry) x Done
     goes b test =

@@ -12,7 +12,7 @@ use Rattle.alloc_end.specs.declared.new_pages.NewPages.{NewPages}
 use Rattle.alloc_end.specs.declared.place_stage.PlaceStage.{PlaceStage}
 use Rattle.alloc_end.specs.declared.place_stage.PlaceStage.TheVariants.{StoresZero, OpensPage}
 use Rattle.alloc_end.specs.declared.run.Run.{Run}
-use Rattle.alloc_end.specs.Place.{size_of, pages_for, words_for, told}
+use Rattle.alloc_end.specs.Place.{size_of, pages_for, readies, words_for, told}
 use Rattle.alloc_end.specs.Soundness.{FitsPlaceStage, IsPlacingGoing}
 use Rattle.heap_state.specs.Configuration.{Configuration, Stands, era, memory, team}
 use Rattle.heap_state.specs.Memory.Entries.{WordIs}
@@ -26,6 +26,7 @@ use Rattle.gc_worker.specs.Workers.Knows.{knows, zeroed_to}
 use Rattle.gc_worker.specs.Steps.Turned.{Told, Silent, turned_place, told_place}
 use Rattle.gc_worker.proofs.Stages.Gate.Words.{wants}
 use Rattle.gc_worker.proofs.Stages.Place.Claiming.{placing, at, replace, now}
+use Rattle.gc_worker.proofs.Stages.Place.Marking.{readied_comes, readied_silent, readied_going, readied_rest, readied_known, readied_fits}
 use Rattle.gc_worker.proofs.Words.RowSteps.{Law, becomes, stores, row_fits, prepared}
 
 module _ (c : Configuration) (p : Plain) (s : Stands c p) (k : ℕ) (y : Held) (run : Run) (header : Header) (new : NewPages) where
@@ -58,12 +59,15 @@ module _ (c : Configuration) (p : Plain) (s : Stands c p) (k : ℕ) (y : Held) (
         let e = now c p s k y run header (StoresZero new) is in
         (s.invariant.stocks.stocked k is.below stock (rw is.as_known refl) e).aligned.1
 
-    abbrev next : Bool → PlaceStage
-    next b = cond b (StoresZero (record { first = new.first; next = new.next + 1 })) (OpensPage (record { first = new.first; next = page_of new.first }))
+    abbrev pages : NewPages
+    pages = record { first = new.first; next = page_of new.first }
 
-    fits : (b : Bool) → nat_lt (new.next + 1) (new.first + words) ≡ b → FitsPlaceStage y.layout.pages asked 0 run header (next b)
+    abbrev next : Bool → PlaceStage
+    next b = cond b (StoresZero (record { first = new.first; next = new.next + 1 })) (readies y.snap pages)
+
+    fits : (b : Bool) → nat_lt (new.next + 1) (new.first + words) ≡ b → FitsPlaceStage y.layout.pages asked y.snap run header (next b)
     fits true test = let l = ltb-true (new.next + 1) (new.first + words) test in let f = is.fits.stage.sound.stage in (f.0, omega (arith, f), l)
-    fits false test = let f = is.fits.stage.sound.stage in (f.0, omega arith, omega arith)
+    fits false test = let f = is.fits.stage.sound.stage in readied_fits c p s k y run header pages (f.0, omega arith, omega arith)
 
     stock_then : (b : Bool) → nat_lt (new.next + 1) (new.first + words) ≡ b → stocked (knows x) (zeroed_further stock) ≡ knows (here (next b))
     stock_then true test = refl
@@ -71,7 +75,8 @@ module _ (c : Configuration) (p : Plain) (s : Stands c p) (k : ℕ) (y : Held) (
         let l = ltb-false (new.next + 1) (new.first + words) test in let f = is.fits.stage.sound.stage in
         let all : new.next + 1 ≡ new.first + words = omega (arith, l, f) in
         let whole : new.first ≡ first_word (page_of new.first) = omega (arith, aligned) in
-        λ i. record (knows (here (next false))) { stock = Some (record { epoch = y.epoch; at = new.first; end = new.first + words; zeroed = all i; opened = whole i; ahead = [] }) }
+        (λ i. record (knows (here (OpensPage pages))) { stock = Some (record { epoch = y.epoch; at = new.first; end = new.first + words; zeroed = all i; opened = whole i; ahead = [] }) })
+        ∙ sym (readied_known c p s k y run header pages)
 
     abbrev by : PlaceStage → Held
     by stage = turned_place x (placing c p s k y run header stage) (told (placing c p s k y run header stage))
@@ -81,25 +86,25 @@ module _ (c : Configuration) (p : Plain) (s : Stands c p) (k : ℕ) (y : Held) (
 
     comes : (b : Bool) → by (next b) ≡ here (next b)
     comes true = refl
-    comes false = refl
+    comes false = readied_comes c p s k y run header pages (StoresZero new)
 
     going : (b : Bool) → IsPlacingGoing (next b)
     going true = tt
-    going false = tt
+    going false = readied_going c p s k y run header pages
 
     rest : (b : Bool) → LeavesShortRun run header (next b)
     rest true = tt
-    rest false = tt
+    rest false = readied_rest c p s k y run header pages
 
     silent : (b : Bool) → tells (next b) ≡ Silent
     silent true = refl
-    silent false = refl
+    silent false = readied_silent c p s k y run header pages (StoresZero new)
 
     goes : (b : Bool) → nat_lt (new.next + 1) (new.first + words) ≡ b → Goes c p s k (Some (WordIs new.next 0)) x Done
     goes b test =
         becomes c p s k x (Some (WordIs new.next 0)) Done (here (next b)) s.ghost (ap (λ (t : Bool). by (next t)) test ∙ comes b) is.below
         (subst (λ (v : Worker). Law c p s k x (Some (WordIs new.next 0)) v s.ghost) (stock_then b test) law) (ap (λ (t : Bool). tells (next t)) test ∙ silent b) refl
-        (record { pages = is.fits.stage.sound.pages; run = is.fits.stage.sound.run; fields = is.fits.stage.sound.fields; epoch = is.fits.stage.sound.epoch; snap = is.fits.stage.sound.snap; room = is.fits.stage.sound.room; stage = subst (FitsPlaceStage y.layout.pages asked 0 run header) (ap next (sym test)) (fits b test) })
+        (record { pages = is.fits.stage.sound.pages; run = is.fits.stage.sound.run; fields = is.fits.stage.sound.fields; epoch = is.fits.stage.sound.epoch; snap = is.fits.stage.sound.snap; room = is.fits.stage.sound.room; stage = subst (FitsPlaceStage y.layout.pages asked y.snap run header) (ap next (sym test)) (fits b test) })
         (replace c p s k y run header (StoresZero new) (next b) is (going b) (rest b) (fits b test))
 
     pub stores_zero : StepsSo c p s k x

@@ -17,10 +17,10 @@ use Rattle.gc_worker.proofs.Stages.Place.Areas.{loads_area}
 use Rattle.gc_worker.proofs.Stages.Place.Claiming.{at, loads_traced, loads_size, exchanges_area}
 use Rattle.gc_worker.proofs.Stages.Place.Counting.{stores_count}
 use Rattle.gc_worker.proofs.Stages.Place.Header.{stores_header}
+use Rattle.gc_worker.proofs.Stages.Place.Marking.{stores_new}
 use Rattle.gc_worker.proofs.Stages.Place.Opened.{opens_page}
 use Rattle.gc_worker.proofs.Stages.Place.Traced.{loads_area as loads_area_traced}
 use Rattle.gc_worker.proofs.Stages.Place.Readying.{stores_zero}
-use Rattle.gc_worker.proofs.Words.TableRows.{never_marks}
 
 module _ (c : Configuration) (p : Plain) (s : Stands c p) (k : ℕ) (x : Held) where
   -- the header is that of the record that the task makes
@@ -37,7 +37,7 @@ module _ (c : Configuration) (p : Plain) (s : Stands c p) (k : ℕ) (x : Held) w
   own run header (LoadsArea true size) is = let task = is.fits.task in for_made run header (LoadsArea true size) task.0 task.1 (loads_area_traced c p s k x run size task.0) is
   own run header (ExchangesArea f) is = exchanges_area c p s k x run header f is
   own run header (StoresZero new) is = stores_zero c p s k x run header new is
-  own run header (StoresNew new) is = absurd (never_marks 0 is.fits.stage.snap is.fits.stage.sound.stage.1)
+  own run header (StoresNew new) is = stores_new c p s k x run header new is
   own run header (OpensPage new) is = opens_page c p s k x run header new is
   own run header StoresCount is = stores_count c p s k x run header is
   own run header StoresHeader is = let task = is.fits.task in for_made run header StoresHeader task.0 task.1 (stores_header c p s k x run task.0) is
@@ -45,7 +45,7 @@ module _ (c : Configuration) (p : Plain) (s : Stands c p) (k : ℕ) (x : Held) w
 
   pub places : (z : Placing) → Is c k (at_stage x (Places z)) → StepsSo c p s k (at_stage x (Places z))
   places z is =
-      let same : z ≡ record { layout = x.layout; run = z.run; header = z.header; fields = fields_for x; epoch = x.epoch; snap = 0; stage = z.stage } =
+      let same : z ≡ record { layout = x.layout; run = z.run; header = z.header; fields = fields_for x; epoch = x.epoch; snap = x.snap; stage = z.stage } =
       (λ i. record { layout = is.fits.stage.layout i; run = z.run; header = z.header; fields = is.fits.stage.fields i; epoch = is.fits.stage.epoch i; snap = is.fits.stage.snap i; stage = z.stage }) in
       subst (λ (y : Placing). StepsSo c p s k (at_stage x (Places y))) (sym same)
       (own z.run z.header z.stage (subst (λ (y : Placing). Is c k (at_stage x (Places y))) same is))

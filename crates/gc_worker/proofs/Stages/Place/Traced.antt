@@ -1,6 +1,6 @@
 -- A mutator that allocates reads the area, where it saw the epoch traced: the pages fit, or it requests a flip, if that can help, or the
 -- heap is full.
-use Rattle.std.proofs.Common.{◌≡◌, ℕ, ◌+◌, ◌-◌, ◌^◌, ◌==◌, ◌&&◌, Bool, true, false, cond, Some, None, refl, ap, sym, subst, ◌∙◌, arith}
+use Rattle.std.proofs.Common.{◌≡◌, ℕ, ◌+◌, ◌-◌, ◌^◌, ◌<◌, ◌==◌, ◌&&◌, Bool, true, false, cond, Some, None, refl, ap, sym, subst, ◌∙◌, arith}
 use Rattle.std.proofs.lemmas.Bool.{leb-true, eqb-false, or_parts}
 use Rattle.plain_state.specs.State.{Plain}
 use Rattle.atom_store.specs.declared.step.Step.TheVariants.{Load}
@@ -23,13 +23,15 @@ use Rattle.heap_laws.specs.Composing.{IsAtMost}
 use Rattle.heap_laws.proofs.Steps.Answers.{areas_are_read}
 use Rattle.heap_laws.proofs.Steps.Forgotten.{sizes_are_forgotten}
 use Rattle.gc_worker.specs.declared.stage.after.After.TheVariants as afters
+use Rattle.gc_worker.specs.declared.stage.goal.Goal.TheVariants.{ForFlip}
 use Rattle.gc_worker.specs.Workers.Fits.{Fits, IsMaking}
 use Rattle.gc_worker.specs.Steps.Goes.{Is, Goes, StepsSo}
 use Rattle.gc_worker.specs.Workers.Held.{Held, at_stage, has_seen_flip}
 use Rattle.gc_worker.specs.Workers.Knows.{knows}
-use Rattle.gc_worker.specs.Steps.Turned.{Silent, is_full, passes, ended, end_by_shortage, told_end, turned_place, told_place}
+use Rattle.gc_worker.specs.Steps.Turned.{Silent, checkpoints, is_full, passes, ended, end_by_shortage, told_end, turned_place, told_place}
 use Rattle.gc_worker.proofs.Plain.AnswerSteps.{its_mutator}
 use Rattle.gc_worker.proofs.Words.Areas.{area_now, area_says, is_space}
+use Rattle.gc_worker.proofs.Workers.Checkpointing.{round_for_flip}
 use Rattle.gc_worker.proofs.Workers.Parts.{before_passage}
 use Rattle.gc_worker.proofs.Stages.Gate.Resuming.{end_none}
 use Rattle.gc_worker.proofs.Stages.Gate.Words.{wants}
@@ -61,8 +63,12 @@ module _ (c : Configuration) (p : Plain) (s : Stands c p) (k : ℕ) (y : Held) (
   abbrev by : PlaceStage → Held
   by stage = turned_place x (placing c p s k y run header stage) (told (placing c p s k y run header stage))
 
+  -- a flip is asked for, after a round for the checkpoint in progress if there can be one
+  abbrev asks_by : Bool → Held
+  asks_by room = at_stage x (cond room (checkpoints x ForFlip) (passes x Request afters.Places))
+
   abbrev asks : Held
-  asks = at_stage x (passes x Request afters.Places)
+  asks = asks_by y.layout.checkpoints
 
   abbrev then : Bool → Held
   then b = cond b (at c p s k y run header (ExchangesArea (record { traced = true; area = area }))) asks
@@ -81,10 +87,14 @@ module _ (c : Configuration) (p : Plain) (s : Stands c p) (k : ℕ) (y : Held) (
   -- it forgets the size
   knows_less : (b : Bool) → IsAtMost (knows (then b)) (knows x)
   knows_less true = sizes_are_forgotten (knows x)
-  knows_less false = sizes_are_forgotten (knows x)
+  knows_less false = asks_less y.layout.checkpoints
+    where
+      asks_less : (room : Bool) → IsAtMost (knows (asks_by room)) (knows x)
+      asks_less true = sizes_are_forgotten (knows x)
+      asks_less false = sizes_are_forgotten (knows x)
 
   module _ (is : Is c k x) where
-    stage_fits : (b : Bool) → fits true (words_for header) area ≡ b → FitsPlaceStage y.layout.pages (pages_for (size_of header)) 0 run header (next b)
+    stage_fits : (b : Bool) → fits true (words_for header) area ≡ b → FitsPlaceStage y.layout.pages (pages_for (size_of header)) y.snap run header (next b)
     stage_fits true test =
         let all = (areas_are_read c p s).each space (is_space y.epoch) in
         let l = leb-true (words_for header + 0) (area.low - area.front) test in
@@ -92,12 +102,16 @@ module _ (c : Configuration) (p : Plain) (s : Stands c p) (k : ℕ) (y : Held) (
         record { kept = omega (arith, l, all.order); in_space = omega (arith, all.order, n); owed = all.fits.owed_fits }
     stage_fits false test = tt
 
+    asks_fit : y.epoch + 1 < 2 ^ 32 → (room : Bool) → y.layout.checkpoints ≡ room → Fits c.pages c.mutators k (asks_by room)
+    asks_fit short true room = round_for_flip c.pages c.mutators k x is.fits is.fits.end room is.fits.side making short
+    asks_fit short false none = before_passage c.pages c.mutators k x is.fits Request afters.Places is.fits.end is.fits.side making short
+
     worker_fits : (b : Bool) → fits true (words_for header) area ≡ b → Helps b → Fits c.pages c.mutators k (then b)
     worker_fits true test helps = replace c p s k y run header (LoadsArea true size) (ExchangesArea (record { traced = true; area = area })) is tt tt (stage_fits true test)
     worker_fits false test helps =
         let last = or_parts (has_seen_flip y && (size == y.layout.pages)) (y.epoch == 2 ^ 32 - 1) (helps refl) in
         let other = eqb-false y.epoch (2 ^ 32 - 1) last.1 in
-        before_passage c.pages c.mutators k x is.fits Request afters.Places is.fits.end is.fits.side (making, refl) (omega (arith, other, is.fits.epoch))
+        asks_fit (omega (arith, other, is.fits.epoch)) y.layout.checkpoints refl
 
     reads : (b : Bool) → fits true (words_for header) area ≡ b → looked_at_area (placing c p s k y run header (LoadsArea true size)) true size (decode_area (area_now c space)) ≡ next b
     reads b test = ap (looked_at_area (placing c p s k y run header (LoadsArea true size)) true size) (area_says c p s space (is_space y.epoch)) ∙ ap next test
@@ -106,7 +120,7 @@ module _ (c : Configuration) (p : Plain) (s : Stands c p) (k : ℕ) (y : Held) (
     goes_on b test helps =
         becomes c p s k x None (Value (area_now c space)) (then b) s.ghost (ap by (reads b test) ∙ comes b helps) is.below
         (less c p s k x is (knows (then b)) (knows_less b)) (ap (λ (t : PlaceStage). told_place x (told (placing c p s k y run header t))) (reads b test) ∙ silent b helps) refl
-        (record { pages = is.fits.stage.sound.pages; run = is.fits.stage.sound.run; fields = is.fits.stage.sound.fields; epoch = is.fits.stage.sound.epoch; snap = is.fits.stage.sound.snap; room = is.fits.stage.sound.room; stage = subst (FitsPlaceStage y.layout.pages (pages_for (size_of header)) 0 run header) (sym (reads b test)) (stage_fits b test) })
+        (record { pages = is.fits.stage.sound.pages; run = is.fits.stage.sound.run; fields = is.fits.stage.sound.fields; epoch = is.fits.stage.sound.epoch; snap = is.fits.stage.sound.snap; room = is.fits.stage.sound.room; stage = subst (FitsPlaceStage y.layout.pages (pages_for (size_of header)) y.snap run header) (sym (reads b test)) (stage_fits b test) })
         (worker_fits b test helps)
 
     goes : (b : Bool) → fits true (words_for header) area ≡ b → (full : Bool) → is_full y found ≡ full → Goes c p s k None x (Value (area_now c space))

@@ -23,7 +23,7 @@ use Rattle.heap_laws.specs.Tracing.{in_round}
 use Rattle.heap_laws.proofs.Gate.Scanner.{takes_epoch_of_gate}
 use Rattle.heap_laws.proofs.Tracing.Looks.{reads_traced}
 use Rattle.gc_worker.specs.declared.stage.back.Back.{Back}
-use Rattle.gc_worker.specs.declared.stage.back.Back.TheVariants.{ToAccess, ToPlace, ToScanner}
+use Rattle.gc_worker.specs.declared.stage.back.Back.TheVariants.{ToAccess, ToPlace, ToSnap, ToScanner}
 use Rattle.gc_worker.specs.declared.stage.Stage.TheVariants.{Serves, Gone}
 use Rattle.gc_worker.specs.Steps.Goes.{Is, Goes, StepsSo}
 use Rattle.gc_worker.specs.Workers.Held.{Held, at_stage}
@@ -31,7 +31,8 @@ use Rattle.gc_worker.specs.Workers.Knows.{knows, own_stock, post_gone}
 use Rattle.gc_worker.specs.Steps.Turned.{turned_round}
 use Rattle.gc_worker.proofs.Workers.Parts.{refit}
 use Rattle.gc_worker.proofs.Stages.Gate.Words.{gate_now, gate_says}
-use Rattle.gc_worker.proofs.Stages.Rounds.Going.{round, at, sound_at, goes_on, ends, finds_traced, loads_it}
+use Rattle.gc_worker.proofs.Stages.Rounds.Going.{round, at, sound_at, goes_on, ends, loads_it}
+use Rattle.gc_worker.proofs.Stages.Rounds.Traced.{finds_traced}
 use Rattle.gc_worker.proofs.Stages.Rounds.Words.{traced_now, traced_word}
 use Rattle.gc_worker.proofs.Words.RowSteps.{Law, becomes, nothing, prepared}
 
@@ -136,14 +137,18 @@ module _ (c : Configuration) (p : Plain) (s : Stands c p) (k : ℕ) (y : Held) w
       (ap (duty.looked_at_gate (round c p s k y (record d { caller = Faulted page }) (ToAccess a) LoadsGate) (gate_now c)) (gate_says c p s))
   gate_goes d Allocates ToPlace is = mutator (record d { caller = Allocates }) ToPlace is.fits.stage.0.epoch is
       (ap (duty.looked_at_gate (round c p s k y (record d { caller = Allocates }) ToPlace LoadsGate) (gate_now c)) (gate_says c p s))
+  gate_goes d Allocates ToSnap is = mutator (record d { caller = Allocates }) ToSnap is.fits.stage.0.epoch is
+      (ap (duty.looked_at_gate (round c p s k y (record d { caller = Allocates }) ToSnap LoadsGate) (gate_now c)) (gate_says c p s))
   gate_goes d (Scans mutators) ToScanner is = scanner_by d mutators is (nat_eq gate.left mutators)
       (ap (duty.looked_at_gate (round c p s k y (record d { caller = Scans mutators }) ToScanner LoadsGate) (gate_now c)) (gate_says c p s))
   gate_goes d (Faulted page) ToPlace is = absurd is.fits.stage.0.caller
+  gate_goes d (Faulted page) ToSnap is = absurd is.fits.stage.0.caller
   gate_goes d (Faulted page) ToScanner is = absurd is.fits.stage.0.caller
   gate_goes d Allocates (ToAccess a) is = absurd is.fits.stage.0.caller
   gate_goes d Allocates ToScanner is = absurd is.fits.stage.0.caller
   gate_goes d (Scans mutators) (ToAccess a) is = absurd is.fits.stage.0.caller
   gate_goes d (Scans mutators) ToPlace is = absurd is.fits.stage.0.caller
+  gate_goes d (Scans mutators) ToSnap is = absurd is.fits.stage.0.caller
 
   pub loads_gate : (d : Round) (back : Back) → Is c k (at c p s k y d back LoadsGate) → StepsSo c p s k (at c p s k y d back LoadsGate)
   loads_gate d back is = loads_it c p s k y d back LoadsGate is Gate tt refl (gate_goes d d.caller back is)
@@ -181,7 +186,7 @@ module _ (c : Configuration) (p : Plain) (s : Stands c p) (k : ℕ) (y : Held) w
     traced_by : (b : Bool) → nat_eq (traced_now c) (d.epoch + 1) ≡ b
         → duty.taken_at (round c p s k y d back (LoadsTraced hindrance)) (LoadsTraced hindrance) (Value (traced_now c))
         ≡ round c p s k y d back (cond b (Ended round_end.Traced) (duty.first_look d.caller found)) → Goes c p s k None before (Value (traced_now c))
-    traced_by true test taken = finds_traced c p s k y d back (LoadsTraced hindrance) is (Value (traced_now c)) taken refl refl
+    traced_by true test taken = finds_traced c p s k y d (LoadsTraced hindrance) (Value (traced_now c)) taken refl refl back is (same_of (traced_now c) (d.epoch + 1) test)
     traced_by false test taken = first_by d.caller refl (other_of (traced_now c) (d.epoch + 1) test) taken
 
     pub loads_traced : StepsSo c p s k before

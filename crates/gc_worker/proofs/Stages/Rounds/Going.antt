@@ -8,7 +8,6 @@ use Rattle.fault_duty.specs.declared.caller.Caller.TheVariants as callers
 use Rattle.fault_duty.specs.declared.duty_stage.DutyStage.{DutyStage}
 use Rattle.fault_duty.specs.declared.duty_stage.DutyStage.TheVariants.{LoadsGate, LoadsTraced, LoadsWanted, LoadsFrontFor, LoadsFront, LoadsPage, Claims, EndGate, EndArea, EndPage, EndFilling, EndAreaAgain, Traces, Ended}
 use Rattle.fault_duty.specs.declared.round_end.RoundEnd.{RoundEnd}
-use Rattle.fault_duty.specs.declared.round_end.RoundEnd.TheVariants as round_end
 use Rattle.fault_duty.specs.declared.round_end.RoundEnd.TheVariants.{NothingNow}
 use Rattle.fault_duty.specs.Duty as duty
 use Rattle.fault_duty.specs.Duty.{Round}
@@ -25,7 +24,7 @@ use Rattle.heap_state.specs.Worker.{Worker}
 use Rattle.heap_laws.specs.Composing.{ends_round}
 use Rattle.heap_laws.proofs.Steps.Composites.{rounds_end}
 use Rattle.gc_worker.specs.declared.stage.back.Back.{Back}
-use Rattle.gc_worker.specs.declared.stage.back.Back.TheVariants.{ToAccess, ToPlace, ToScanner}
+use Rattle.gc_worker.specs.declared.stage.back.Back.TheVariants.{ToAccess, ToPlace, ToSnap, ToScanner}
 use Rattle.gc_worker.specs.declared.stage.Stage.TheVariants.{Serves}
 use Rattle.gc_worker.specs.Workers.Fits.{Fits, FitsBack, IsCallerOf, IsEpochOf}
 use Rattle.gc_worker.specs.Steps.Goes.{Is, Goes, StepsSo}
@@ -96,6 +95,7 @@ module _ (c : Configuration) (p : Plain) (s : Stands c p) (k : ℕ) (y : Held) (
     same_stock : (b : Back) → IsEpochOf x b d.epoch → FitsBack x b → SameStock
     same_stock (ToAccess a) of_epoch own = ap (λ e. own_stock e y.run) of_epoch
     same_stock ToPlace of_epoch own = ap (λ e. own_stock e y.run) of_epoch
+    same_stock ToSnap of_epoch own = ap (λ e. own_stock e y.run) of_epoch
     same_stock ToScanner of_epoch own = ap (own_stock d.epoch) own ∙ sym (ap (own_stock y.epoch) own)
 
     -- who ends its round knows what it knew but for that
@@ -116,6 +116,7 @@ module _ (c : Configuration) (p : Plain) (s : Stands c p) (k : ℕ) (y : Held) (
       knows_back : (b : Back) → knows (back_from (done_with b) b) ≡ with_epoch b
       knows_back (ToAccess a) = refl
       knows_back ToPlace = places_known (done_with ToPlace) (header_for (done_with ToPlace))
+      knows_back ToSnap = refl
       knows_back ToScanner = refl
 
       pub ended_known : knows (back_from done back) ≡ ends_round (knows x)
@@ -125,6 +126,7 @@ module _ (c : Configuration) (p : Plain) (s : Stands c p) (k : ℕ) (y : Held) (
     caller_done : (b : Back) (caller : Caller) (e : ℕ) → IsEpochOf x b e → IsCallerOf x b caller → IsCallerOf (record x { epoch = e }) b caller
     caller_done (ToAccess a) caller e of_epoch own = subst (λ z. IsCallerOf (record x { epoch = z }) (ToAccess a) caller) (sym of_epoch) own
     caller_done ToPlace caller e of_epoch own = subst (λ z. IsCallerOf (record x { epoch = z }) ToPlace caller) (sym of_epoch) own
+    caller_done ToSnap caller e of_epoch own = subst (λ z. IsCallerOf (record x { epoch = z }) ToSnap caller) (sym of_epoch) own
     caller_done ToScanner (callers.Scans mutators) e of_epoch own = own
     caller_done ToScanner (callers.Faulted page) e of_epoch own = absurd own
     caller_done ToScanner callers.Allocates e of_epoch own = absurd own
@@ -132,11 +134,13 @@ module _ (c : Configuration) (p : Plain) (s : Stands c p) (k : ℕ) (y : Held) (
     epoch_done : (b : Back) (e : ℕ) → IsEpochOf (record x { epoch = e }) b e
     epoch_done (ToAccess a) e = refl
     epoch_done ToPlace e = refl
+    epoch_done ToSnap e = refl
     epoch_done ToScanner e = tt
 
     back_done : (b : Back) (e : ℕ) → IsEpochOf x b e → FitsBack x b → FitsBack (record x { epoch = e }) b
     back_done (ToAccess a) e of_epoch own = subst (λ z. FitsBack (record x { epoch = z }) (ToAccess a)) (sym of_epoch) own
     back_done ToPlace e of_epoch own = tt
+    back_done ToSnap e of_epoch own = tt
     back_done ToScanner e of_epoch own = own
 
     pub fits_done : Fits c.pages c.mutators k done
@@ -175,23 +179,27 @@ module _ (c : Configuration) (p : Plain) (s : Stands c p) (k : ℕ) (y : Held) (
         (ap (λ (r : Round). turned_round x r back (duty.told r)) taken ∙ comes)
         is.below law refl none (subst IsSoundRound (sym taken) (sound_at (Ended result) tt)) ended_fits
 
-    -- the worker goes back with nothing, and what the round has read is forgotten
-    goes_back_with : (reply : Reply) (result : RoundEnd) → duty.taken_at (round stage) stage reply ≡ round (Ended result)
+    -- it becomes this with nothing, and what the round has read is forgotten
+    pub ends_as : (reply : Reply) (result : RoundEnd) (next : Held) → duty.taken_at (round stage) stage reply ≡ round (Ended result)
+        → turned_round x (round (Ended result)) back (Finished result) ≡ next → won_in stage reply ≡ None
+        → knows next ≡ ends_round (knows x) → Fits c.pages c.mutators k next → Goes c p s k None x reply
+    ends_as reply result next taken comes none known fits = becomes c p s k x None reply next s.ghost
+        (ap (λ (r : Round). turned_round x r back (duty.told r)) taken ∙ comes)
+        is.below
+        (subst (λ (w : Worker). Law c p s k x None w s.ghost) (ap ends_round is.as_known ∙ sym known)
+        (rounds_end (era c) (memory c) (team c) s.ghost k (prepared c p s k x is)))
+        refl none (subst IsSoundRound (sym taken) (sound_at (Ended result) tt)) fits
+
+    -- the worker goes back
+    pub goes_back_with : (reply : Reply) (result : RoundEnd) → duty.taken_at (round stage) stage reply ≡ round (Ended result)
         → turned_round x (round (Ended result)) back (Finished result) ≡ back_from done back → won_in stage reply ≡ None
         → epoch_at y.epoch (round stage) stage ≡ d.epoch → Goes c p s k None x reply
-    goes_back_with reply result taken comes none own = ends_with None reply result s.ghost taken comes none
-        (subst (λ (w : Worker). Law c p s k x None w s.ghost) (ap ends_round is.as_known ∙ sym (ended_known own own_stock_same))
-        (rounds_end (era c) (memory c) (team c) s.ghost k (prepared c p s k x is)))
+    goes_back_with reply result taken comes none own = ends_as reply result (back_from done back) taken comes none (ended_known own own_stock_same) ended_fits
 
     -- there is nothing to do now
     pub ends : (reply : Reply) (word : ℕ) → duty.taken_at (round stage) stage reply ≡ round (Ended (NothingNow word)) → won_in stage reply ≡ None
         → epoch_at y.epoch (round stage) stage ≡ d.epoch → Goes c p s k None x reply
     ends reply word taken none own = goes_back_with reply (NothingNow word) taken refl none own
-
-    -- the epoch is traced
-    pub finds_traced : (reply : Reply) → duty.taken_at (round stage) stage reply ≡ round (Ended round_end.Traced) → won_in stage reply ≡ None
-        → epoch_at y.epoch (round stage) stage ≡ d.epoch → Goes c p s k None x reply
-    finds_traced reply taken none own = goes_back_with reply round_end.Traced taken refl none own
 
     -- the pages of the round's heap are the heap's
     pub same_pages : d.layout.pages ≡ c.pages

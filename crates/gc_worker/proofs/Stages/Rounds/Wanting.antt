@@ -24,7 +24,7 @@ use Rattle.heap_state.specs.Worker as workers
 use Rattle.heap_laws.specs.Scanning.Claims.{MayClaim}
 use Rattle.heap_laws.proofs.Steps.Answers.{areas_are_read}
 use Rattle.gc_worker.specs.declared.stage.back.Back.{Back}
-use Rattle.gc_worker.specs.declared.stage.back.Back.TheVariants.{ToAccess, ToPlace, ToScanner}
+use Rattle.gc_worker.specs.declared.stage.back.Back.TheVariants.{ToAccess, ToPlace, ToSnap, ToScanner}
 use Rattle.gc_worker.specs.Workers.Fits.{IsCallerOf, IsEpochOf}
 use Rattle.gc_worker.specs.Steps.Goes.{Is, Goes, StepsSo}
 use Rattle.gc_worker.specs.Workers.Held.{Held}
@@ -124,6 +124,7 @@ module _ (c : Configuration) (p : Plain) (s : Stands c p) (k : ℕ) (y : Held) (
         subst (λ m. (w.page ≡ board_page m) ⊎ (space_start m space ≤ first_word w.page)) n
         (subst (λ e. (w.page ≡ board_page y.layout.pages) ⊎ (space_start y.layout.pages (to_space e) ≤ first_word w.page)) (sym of_epoch) own)
     faulting ToPlace own of_epoch = absurd own
+    faulting ToSnap own of_epoch = absurd own
     faulting ToScanner own of_epoch = absurd own
 
     served : (w.page ≡ board_page d.layout.pages) ⊎ (duty.to_start d ≤ first_word w.page)

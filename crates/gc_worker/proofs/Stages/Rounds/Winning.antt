@@ -26,7 +26,7 @@ use Rattle.heap_state.specs.Memory.Entries.{Entry, PageIs}
 use Rattle.heap_state.specs.Worker.{Worker, Quest}
 use Rattle.heap_state.proofs.Puts.{put_at}
 use Rattle.heap_laws.specs.Lifting.{configuration_after}
-use Rattle.heap_laws.specs.Scanning.Claims.{ClaimsPage, begins_scan, scan_from}
+use Rattle.heap_laws.specs.Scanning.Claims.{ClaimsPage, WinsPage, begins_scan, scan_from}
 use Rattle.heap_laws.proofs.Scanning.Claimed as claimed_laws
 use Rattle.heap_laws.proofs.Lifting.Configurations.{seen}
 use Rattle.gc_worker.specs.declared.stage.back.Back.{Back}
@@ -49,7 +49,7 @@ module _ (c : Configuration) (p : Plain) (s : Stands c p) (k : ℕ) (y : Held) (
   abbrev x : Held
   x = at c p s k y d back (Claims (record q { stage = Exchanges }))
 
-  own : IsOwnClaim (round c p s k y d back (Claims (record q { stage = Exchanges }))) (record q { stage = Exchanges })
+  pub own : IsOwnClaim (round c p s k y d back (Claims (record q { stage = Exchanges }))) (record q { stage = Exchanges })
   own = is.fits.stage.0.sound.stage
 
   -- the scan that it then begins
@@ -68,19 +68,19 @@ module _ (c : Configuration) (p : Plain) (s : Stands c p) (k : ℕ) (y : Held) (
   turns = turns_by q.in_place
 
   -- the number of pages
-  pages : q.layout.pages ≡ c.pages
+  pub pages : q.layout.pages ≡ c.pages
   pages = ap (λ (l : Layout). l.pages) own.layout ∙ same_pages c p s k y d back (Claims (record q { stage = Exchanges })) is
 
-  inside : q.page ≤ 2 * c.pages
+  pub inside : q.page ≤ 2 * c.pages
   inside = let i = own.sound.page in let n = pages in omega (arith, i, n)
 
   word_is : page_now c q.page ≡ encode_page q.found → (table c).page q.page ≡ q.found
   word_is same = same_Some ((table c).page q.page) q.found (sym (page_says c p s q.page inside) ∙ (ap decode_page same ∙ decode_page-encode_page q.found own.sound.found))
 
-  worker_is : q.worker ≡ k
+  pub worker_is : q.worker ≡ k
   worker_is = own.worker ∙ (is.fits.stage.0.worker ∙ is.fits.number)
 
-  epoch_is : ((team c).worker k).epoch ≡ q.epoch
+  pub epoch_is : ((team c).worker k).epoch ≡ q.epoch
   epoch_is = ap (λ (w : Worker). w.epoch) is.as_known ∙ sym own.epoch
 
   abbrev entry : Entry
@@ -94,14 +94,17 @@ module _ (c : Configuration) (p : Plain) (s : Stands c p) (k : ℕ) (y : Held) (
   looked_by false true here test = inr (inr (let e : q.page ≡ board_page q.layout.pages = grind (arith, nat_tests) in let n = pages in let b = board_is c in omega (arith, e, n, b)))
   looked_by false false here test = inl (let all : looked_all q ≡ 24 = rw (here, test) refl in let f = s.invariant.staffed.few in omega (arith, all, f))
 
-  wins_it : page_now c q.page ≡ encode_page q.found → ClaimsPage (era c) (memory c) (team c) s.ghost k (claim_with q (looked_all q) true)
-  wins_it same = claimed_laws.claims (era c) (memory c) (team c) s.ghost k (claim_with q (looked_all q) true) (prepared c p s k x is) (record {
+  pub wins_page : page_now c q.page ≡ encode_page q.found → WinsPage (era c) (memory c) (team c) k (claim_with q (looked_all q) true)
+  wins_page same = record {
     claims = ap (λ (w : Worker). w.claim) is.as_known;
     looked = looked_by q.in_place (nat_eq q.page (board_page q.layout.pages)) refl refl;
     sure = refl;
     idle = ap (λ (w : Worker). w.scan) is.as_known;
     unchanged = word_is same;
-  })
+  }
+
+  wins_it : page_now c q.page ≡ encode_page q.found → ClaimsPage (era c) (memory c) (team c) s.ghost k (claim_with q (looked_all q) true)
+  wins_it same = claimed_laws.claims (era c) (memory c) (team c) s.ghost k (claim_with q (looked_all q) true) (prepared c p s k x is) (wins_page same)
 
   abbrev first : Bool → ScanStage
   first b = cond b (LoadsWord (OnBoard (first_word q.page))) LoadsCross

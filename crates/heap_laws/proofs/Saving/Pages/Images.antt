@@ -1,5 +1,5 @@
 -- A word is stored in its IMAGE by the worker that saves its page: what is kept of checkpoints then.
-use Rattle.std.proofs.Common.{◌≡◌, ◌≢◌, ℕ, ◌+◌, ◌<◌, ◌≤◌, true, Some, ◌∙◌, arith}
+use Rattle.std.proofs.Common.{◌≡◌, ◌≢◌, ℕ, ◌+◌, ◌<◌, ◌≤◌, inl, true, Some, ◌∙◌, arith}
 use Rattle.space_map.specs.declared.save_word.SaveWord.TheVariants.{Saving}
 use Rattle.space_map.specs.declared.spaces.TheConstants.{PAGE_WORDS}
 use Rattle.space_map.specs.Spaces.{page_of, first_word}
@@ -7,9 +7,10 @@ use Rattle.heap_state.specs.Functions.{put}
 use Rattle.heap_state.specs.Memory.Table.{Table}
 use Rattle.heap_state.specs.Saving.Words.{Saves, IsInProgress}
 use Rattle.heap_state.specs.Saving.Frozen.{Frozen, IsSafe, MayBeSaved}
-use Rattle.heap_state.specs.Saving.Savers.{Saver, SaveStep, FirstReads, NoReads, GateRead, SnapRead, DoneRead}
-use Rattle.heap_state.specs.Saving.Parts.{SavingWords, ReadsTell, IsSaving, KnowsSaving, HasWonSave, SavingStands}
+use Rattle.heap_state.specs.Saving.Savers.{Saver, SaveStep}
+use Rattle.heap_state.specs.Saving.Parts.{SavingWords, IsSaving, KnowsSaving, HasWonSave, SavingStands}
 use Rattle.heap_state.proofs.Puts.{put_other, each_put, team_put}
+use Rattle.heap_laws.proofs.Saving.Pages.Safe.{may_still, begins_still, reads_still, round_still}
 
 -- ---- where words lie
 
@@ -41,6 +42,7 @@ module _ (t : Table) (s : Saves) (z : Frozen) (k addr word : ℕ) (saved : IsBei
   words_imaged w = record {
     order = w.order;
     young = w.young;
+    within = w.within;
     traced = w.traced;
     opened = w.opened;
     old = w.old;
@@ -54,10 +56,6 @@ module _ (t : Table) (s : Saves) (z : Frozen) (k addr word : ℕ) (saved : IsBei
   safe_still : (page c : ℕ) → IsSafe s z page c → IsSafe after z page c
   unfolding IsSafe
   safe_still page c safe = safe
-
-  may_still : (c epoch : ℕ) → MayBeSaved t s z c epoch → MayBeSaved t after z c epoch
-  unfolding MayBeSaved
-  may_still c epoch may = λ page is opened. safe_still page c (may page is opened)
 
   -- another worker saves another page
   saving_imaged : (j : ℕ) (u : SaveStep) → j ≢ k → IsSaving s z j u → IsSaving after z j u
@@ -75,13 +73,6 @@ module _ (t : Table) (s : Saves) (z : Frozen) (k addr word : ℕ) (saved : IsBei
     loaded = is.loaded;
   }
 
-  reads_imaged : (r : FirstReads) → ReadsTell t s z r → ReadsTell t after z r
-  unfolding MayBeSaved IsSafe
-  reads_imaged NoReads tell = tt
-  reads_imaged (GateRead epoch) tell = tell
-  reads_imaged (SnapRead epoch c) tell = tell
-  reads_imaged (DoneRead epoch c) tell = tell
-
   -- who isn't saving a page by the exchange that it has won knows what it knew
   pub knows_imaged : (j : ℕ) (w : Saver) → ((u : SaveStep) → w.save ≡ Some u → u.won ≡ true → IsSaving after z j u) → KnowsSaving t s z j w
       → KnowsSaving t after z j w
@@ -90,25 +81,16 @@ module _ (t : Table) (s : Saves) (z : Frozen) (k addr word : ℕ) (saved : IsBei
       runs = r.runs;
       snap = r.snap;
       none = r.none;
-      one = λ some. let one = r.one some in (one.0, one.1, may_still w.running t.gate.epoch one.2);
+      one = λ some. let one = r.one some in (one.0, one.1, may_still t s after z z (omega arith) safe_still w.running t.gate.epoch one.2);
     };
     settles = λ is. let was = knows.settles is in record { alive = was.alive; snap = was.snap; rests = was.rests; traced = was.traced };
     still = knows.still;
     guarded = λ page is. let was = knows.guarded page is in record { recalled = was.recalled; says = was.says };
     marked = knows.marked;
-    begins = λ u is won.
-        let begins = knows.begins u is won in
-        record { earlier = begins.earlier; safe = safe_still u.page u.number begins.safe };
+    begins = λ u is won. begins_still t s after z z (omega arith) safe_still u (knows.begins u is won);
     saves = saving;
-    reads = reads_imaged w.reads knows.reads;
-    round = λ r is. let saves = knows.round r is in record {
-      begun = saves.begun;
-      traced = saves.traced;
-      runs = saves.runs;
-      pages = may_still r.number r.epoch saves.pages;
-      opened = λ page same. safe_still page r.number (saves.opened page same);
-      passed = saves.passed;
-    };
+    reads = reads_still t s after z z (omega arith) safe_still w.reads (λ c epoch same now. inl same) knows.reads;
+    round = λ r is. let saves = knows.round r is in round_still t s after z z (omega arith) safe_still r saves.runs saves.passed saves;
   }
 
 -- worker k becomes w, which knows what is so with the word in its image, and has won each save for which a SAVE names k

@@ -1,5 +1,5 @@
 -- The SAVE of a page becomes another word: what is kept of checkpoints then, in the words, and in what a worker knows.
-use Rattle.std.proofs.Common.{◌≡◌, ◌≢◌, ℕ, ◌+◌, ◌<◌, ◌≤◌, ◌⊎◌, inl, inr, ⊎_elim, true, Some, sym, ◌∙◌, arith}
+use Rattle.std.proofs.Common.{◌≡◌, ◌≢◌, ℕ, ◌<◌, ◌≤◌, ◌⊎◌, inl, inr, ⊎_elim, true, Some, sym, ◌∙◌, arith}
 use Rattle.std.proofs.lemmas.Bool.{cases_eq}
 use Rattle.space_map.specs.declared.save_word.SaveWord.{SaveWord}
 use Rattle.space_map.specs.declared.save_word.SaveWord.TheVariants.{Saving, Saved, New}
@@ -9,9 +9,10 @@ use Rattle.heap_state.specs.Functions.{put}
 use Rattle.heap_state.specs.Memory.Table.{Table}
 use Rattle.heap_state.specs.Saving.Words.{Saves, IsInProgress}
 use Rattle.heap_state.specs.Saving.Frozen.{Frozen, IsSafe, MayBeSaved}
-use Rattle.heap_state.specs.Saving.Savers.{Saver, SaveStep, SaveRound, FirstReads, NoReads, GateRead, SnapRead, DoneRead}
-use Rattle.heap_state.specs.Saving.Parts.{SavingWords, Recalls, Guarded, ReadsTell, SavesRound, IsSaving, KnowsSaving, HasWonSave, SavingStands}
+use Rattle.heap_state.specs.Saving.Savers.{Saver, SaveStep, SaveRound}
+use Rattle.heap_state.specs.Saving.Parts.{SavingWords, Recalls, Guarded, SavesRound, IsSaving, KnowsSaving, HasWonSave, SavingStands}
 use Rattle.heap_state.proofs.Puts.{put_at, put_same, put_other, each_put, team_put}
+use Rattle.heap_laws.proofs.Saving.Pages.Safe.{may_still, begins_still, reads_still, round_still}
 
 -- ---- what a new SAVE has to be
 
@@ -53,8 +54,7 @@ module _ (t : Table) (s : Saves) (z : Frozen) (k page : ℕ) (v : SaveWord) (m :
       safe
 
   may_after : (c epoch : ℕ) → MayBeSaved t s z c epoch → MayBeSaved t after z c epoch
-  unfolding MayBeSaved
-  may_after c epoch may = λ p is opened. safe_after p c (may p is opened)
+  may_after = may_still t s after z z (omega arith) safe_after
 
   -- ---- the words
 
@@ -68,6 +68,7 @@ module _ (t : Table) (s : Saves) (z : Frozen) (k page : ℕ) (v : SaveWord) (m :
   words_marked w = record {
     order = w.order;
     young = λ p. each_put (λ p x. number_of x ≤ s.snap) s.save page v p (λ other. w.young p) (λ same. m.young);
+    within = w.within;
     traced = w.traced;
     opened = w.opened;
     old = λ runs p held. each_put (λ p x. x ≢ New s.snap) s.save page v p
@@ -112,31 +113,13 @@ module _ (t : Table) (s : Saves) (z : Frozen) (k page : ℕ) (v : SaveWord) (m :
     loaded = is.loaded;
   }
 
-  reads_marked : (r : FirstReads) → ReadsTell t s z r → ReadsTell t after z r
-  reads_marked NoReads tell = tt
-  reads_marked (GateRead epoch) tell = tell
-  reads_marked (SnapRead epoch c) tell = (
-    tell.0,
-    tell.1,
-    λ now. ⊎_elim
-        (λ (same : s.snap ≡ c). inl same)
-        (λ (rest : (t.traced ≡ epoch + 1) × MayBeSaved t s z (c + 1) epoch). inr (rest.0, may_after (c + 1) epoch rest.1))
-        (tell.2 now),
-  )
-  reads_marked (DoneRead epoch c) tell = (tell.0, tell.1, λ now. let rest = tell.2 now in (rest.0, may_after c epoch rest.1))
-
   round_marked : (r : SaveRound) → SavesRound t s z r → SavesRound t after z r
-  round_marked r saves = record {
-    begun = saves.begun;
-    traced = saves.traced;
-    runs = saves.runs;
-    pages = may_after r.number r.epoch saves.pages;
-    opened = λ p is. safe_after p r.number (saves.opened p is);
-    passed = λ free runs p held passed.
-        let snap : s.snap ≡ r.number = runs.0 in
-        let done = runs.1 in
-        rw snap at (saved_still (omega (arith, snap, done)) p held (rw snap (saves.passed free runs p held passed)));
-  }
+  round_marked r saves = round_still t s after z z (omega arith) safe_after r saves.runs
+      (λ free runs p held passed.
+      let snap : s.snap ≡ r.number = runs.0 in
+      let done = runs.1 in
+      rw snap at (saved_still (omega (arith, snap, done)) p held (rw snap (saves.passed free runs p held passed))))
+      saves
 
   -- who saves no page or another one knows what it knew
   pub knows_marked : (j : ℕ) (w : Saver) → SavesAnother page w → KnowsSaving t s z j w → KnowsSaving t after z j w
@@ -148,11 +131,9 @@ module _ (t : Table) (s : Saves) (z : Frozen) (k page : ℕ) (v : SaveWord) (m :
     marked = λ p is.
         let was = knows.marked p is in
         (was.0, each_put (λ p x. x ≡ New s.snap) s.save page v p (λ other. was.1) (λ same. m.new (rw same at was.1)));
-    begins = λ u is won.
-        let begins = knows.begins u is won in
-        record { earlier = begins.earlier; safe = safe_after u.page u.number begins.safe };
+    begins = λ u is won. begins_still t s after z z (omega arith) safe_after u (knows.begins u is won);
     saves = λ u is won. saving_marked j u (another u is won) (knows.saves u is won);
-    reads = reads_marked w.reads knows.reads;
+    reads = reads_still t s after z z (omega arith) safe_after w.reads (λ c epoch same now. inl same) knows.reads;
     round = λ r is. round_marked r (knows.round r is);
   }
 

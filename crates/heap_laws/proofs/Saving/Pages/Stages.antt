@@ -16,8 +16,8 @@ use Rattle.heap_state.specs.Saving.Parts.{Guarded, BeginsSave, IsSaving, SavesRo
 use Rattle.heap_state.proofs.Puts.{put_same, put_other, true_false, none≢some, some_same}
 use Rattle.heap_laws.specs.Saving.Rounds.{save_begun}
 use Rattle.heap_laws.specs.Saving.Pages.{save_at, save_with, next_word, saver_in_save, saver_after_save, saver_guarded, saver_marking, FindsKept, FindsUnsaved, LooksAgain, WinsSave, LosesSave, LoadsWord, StoresImage, EndsSave, EndsLook, MarksNew, PagesAreSaved, SaveNumbersRise}
-use Rattle.heap_laws.proofs.Saving.Workers.{saver_changes}
-use Rattle.heap_laws.proofs.Saving.Forgotten.{recalls_as, has_won_as}
+use Rattle.heap_laws.proofs.Saving.Workers.{has_won_as, saver_changes}
+use Rattle.heap_laws.proofs.Saving.Forgotten.{recalls_as}
 use Rattle.heap_laws.proofs.Saving.Pages.Marks.{Marks, SavesAnother, numbers_rise, knows_marked, saves_are_marked}
 use Rattle.heap_laws.proofs.Saving.Pages.Images.{IsBeingSaved, on_page, place_on, place_small, knows_imaged, saves_are_imaged}
 

@@ -12,13 +12,17 @@ use Rattle.gc_worker.specs.declared.access.accessed.Accessed.TheVariants.{Brings
 use Rattle.gc_worker.specs.declared.access.field_access.FieldAccess.{FieldAccess}
 use Rattle.gc_worker.specs.declared.access.field_access.FieldUse.{FieldUse}
 use Rattle.gc_worker.specs.declared.access.field_access.FieldUse.TheVariants as field_uses
+use Rattle.gc_worker.specs.declared.stage.write.Write.TheVariants.{OfAccess}
+use Rattle.gc_worker.specs.declared.stage.Stage.{Stage}
+use Rattle.gc_worker.specs.declared.stage.Stage.TheVariants.{Accesses}
 use Rattle.gc_worker.specs.declared.task.Task.{Task}
-use Rattle.gc_worker.specs.Steps.Access.{Answered, GoesTo, Comes, field_at, goes_by, left_at, loading, read_before, storing, to_field, turn_by, uses_field, with_new, word_as}
-use Rattle.gc_worker.specs.Workers.Held.{Held}
+use Rattle.gc_worker.specs.Steps.Access.{Answered, GoesTo, Comes, field_at, goes_by, left_at, loading, read_before, storing, to_field, turn_by, uses_field, with_new, word_as, writes_on}
+use Rattle.gc_worker.specs.Workers.Held.{Held, at_stage}
 use Rattle.gc_worker.specs.Steps.Turned.{ended, loads, told_access, told_effect, told_end, turned_access, went_on}
 use Rattle.gc_worker.proofs.Stages.Access.Going.{own, at}
-use Rattle.lone_mutator.specs.Law.{IsAlone, LowersWhereTold}
+use Rattle.lone_mutator.specs.Law.{IsAlone, Lowers, LowersWhereTold}
 use Rattle.lone_mutator.specs.Lone.{AccessStands, NobodyElseAnnounces}
+use Rattle.lone_mutator.proofs.Steps.NoCheckpoints.{none_runs, unguarded}
 
 module _ (c : Configuration) (p : Plain) (s : Stands c p) (y : Held) (stage : AccessStage) (a : IsAlone c (at c p s 0 y stage)) where
   abbrev x : Held
@@ -38,7 +42,10 @@ module _ (c : Configuration) (p : Plain) (s : Stands c p) (y : Held) (stage : Ac
   stored after quiet = subst (λ (task : Option Task). LowersWhereTold c.pages (table c) after x (went_on x) (told_effect task)) (sym a.is.fits.task.executes.task_is) quiet
 
   pub goes : (next : AccessStage) → AccessStands (table c) y.layout next → left_at next < left_at stage → Owed (table c) (GoesTo next)
-  goes next stands fewer = record { remembers = record { began = a.remembers.began; quiet = a.remembers.quiet; stands = stands }; falls = omega (arith, fewer) }
+  goes next stands fewer =
+      let then = own c p s 0 y next in
+      subst (λ (z : Stage). Lowers c.pages (table c) (table c) x (at_stage x z)) (sym (unguarded x (OfAccess then) (writes_on y.layout next) (Accesses then) (none_runs c x a)))
+      (record { remembers = record { began = a.remembers.began; quiet = a.remembers.quiet; stands = stands }; falls = omega (arith, fewer) })
 
   -- ---- a field, behind the word that was read last
 

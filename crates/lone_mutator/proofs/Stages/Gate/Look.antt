@@ -29,6 +29,7 @@ use Rattle.lone_mutator.specs.Potential.{flip_left, flips_left, size_in}
 use Rattle.lone_mutator.proofs.Stages.Gate.Counts.{no_request}
 use Rattle.lone_mutator.proofs.Epochs.Growths.{flips_cost-le, flips_cost-most, growths-few}
 use Rattle.lone_mutator.proofs.Steps.GoingOn.{goes_placing}
+use Rattle.lone_mutator.proofs.Steps.NoCheckpoints.{may_begin_none, none_runs}
 use Rattle.lone_mutator.proofs.Steps.Owed.{loads, wants}
 
 flips_left-le : (n size : ℕ) (x : Held) → flips_left n size x ≤ most_flips
@@ -53,12 +54,12 @@ module _ (c : Configuration) (p : Plain) (s : Stands c p) (y : Held) where
 
     module _ (instr : Instr) (task_is : y.task ≡ Some (Calls instr)) (call : FitsCall y.account y.registers instr) where
       abbrev Acts : Action → Type 0
-      Acts act = LowersWhereTold c.pages (table c) (table c) x (acts (begins x) act) (told_action (Calls instr) act)
+      Acts act = LowersWhereTold c.pages (table c) (table c) x (acts (begins x) act) (told_action x (Calls instr) act)
 
       makes : (kind : Kind) (d n : ℕ) → action (seen y.account y.registers) instr ≡ Ok (Makes kind d n) → Acts (Makes kind d n)
       makes kind d n is =
           let making : IsMaking y.account y.registers y.task = record { making = record { kind = kind; into = d; len = n }; executes = record { instr = instr; task_is = task_is; call = call; acts = is } } in
-          let goes = goes_placing c.pages (table c) (begins x) (omega arith) a.remembers.quiet making in
+          let goes = goes_placing c.pages (table c) (begins x) (omega arith) (none_runs c x a) a.remembers.quiet making in
           let flip = flip_left-le c.pages (size_in (table c)) (begins x) in
           let within = goes.within in
           record { remembers = goes.remembers; falls = omega (arith, within, flip) }
@@ -68,7 +69,7 @@ module _ (c : Configuration) (p : Plain) (s : Stands c p) (y : Held) where
       act_by (Jumps target) is = a.remembers.quiet
       act_by (Links d target) is = a.remembers.quiet
       act_by (Prints n) is = a.remembers.quiet
-      act_by Snaps is = a.remembers.quiet
+      act_by Snaps is = rw (may_begin_none x a.no_checkpoints) a.remembers.quiet
       act_by (Makes kind d n) is = makes kind d n is
       act_by (Measures d i) is = record { remembers = record { began = λ past. omega arith; quiet = a.remembers.quiet; stands = tt }; falls = omega arith }
       act_by (Loads d i n) is = record { remembers = record { began = λ past. omega arith; quiet = a.remembers.quiet; stands = tt }; falls = omega arith }
@@ -78,7 +79,7 @@ module _ (c : Configuration) (p : Plain) (s : Stands c p) (y : Held) where
       act_by (Puts n v) is = record { remembers = record { began = λ past. omega arith; quiet = a.remembers.quiet; stands = tt }; falls = omega arith }
       act_by (Swaps d n v) is = record { remembers = record { began = λ past. omega arith; quiet = a.remembers.quiet; stands = tt }; falls = omega arith }
 
-      acted_by : (r : Result Action End) → action (seen y.account y.registers) instr ≡ r → LowersWhereTold c.pages (table c) (table c) x (acted (begins x) r) (told_acted (Calls instr) r)
+      acted_by : (r : Result Action End) → action (seen y.account y.registers) instr ≡ r → LowersWhereTold c.pages (table c) (table c) x (acted (begins x) r) (told_acted x (Calls instr) r)
       acted_by (Ok act) is = act_by act is
       acted_by (Err why) is = tt
 

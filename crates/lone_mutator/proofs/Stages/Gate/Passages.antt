@@ -23,11 +23,12 @@ use Rattle.heap_state.specs.Memory.Table.{Table}
 use Rattle.heap_state.proofs.Table.Spelled.{spelled}
 use Rattle.gc_worker.specs.declared.stage.after.After.{After}
 use Rattle.gc_worker.specs.declared.stage.after.After.TheVariants as afters
+use Rattle.gc_worker.specs.declared.stage.Stage.{Stage}
 use Rattle.gc_worker.specs.declared.stage.Stage.TheVariants.{Passes}
 use Rattle.gc_worker.specs.Workers.Begun.{IsPastAfter}
 use Rattle.gc_worker.specs.Workers.Fits.{FitsTaskAfter, IsMaking}
 use Rattle.gc_worker.specs.Workers.Held.{Held, at_stage}
-use Rattle.gc_worker.specs.Steps.Turned.{Pointed, epoch_in_gate, first_pointer, forwards_it, goes_on, in_epoch, passes, turned, turned_gate}
+use Rattle.gc_worker.specs.Steps.Turned.{Pointed, after_request, epoch_in_gate, epoch_said, first_pointer, forwards_it, goes_on, in_epoch, passes, runs_on, turned, turned_gate}
 use Rattle.gc_worker.proofs.Stages.Gate.Passing.{resumes_so}
 use Rattle.gc_worker.proofs.Stages.Gate.Words.{gate_now, gate_says}
 use Rattle.lone_mutator.specs.Bound.{flips_cost, growths, longest_placing}
@@ -35,6 +36,7 @@ use Rattle.lone_mutator.specs.Potential.{due_in, flip_left, flips_left, potentia
 use Rattle.lone_mutator.specs.Law.{IsAlone, Lowers, StepsLower}
 use Rattle.lone_mutator.proofs.Stages.Gate.Counts.{and_false, is_clear_so, knowing, no_request, none_behind, none_live}
 use Rattle.lone_mutator.proofs.Steps.GoingOn.{GoesAt, goes_placing}
+use Rattle.lone_mutator.proofs.Steps.NoCheckpoints.{for_a_flip, none_runs, runs_straight_on}
 use Rattle.lone_mutator.proofs.Steps.Owed.{exchanges, loads, wants}
 
 same_so : (own epoch : ℕ) → own ≡ epoch → nat_lt own epoch ≡ false
@@ -136,18 +138,29 @@ module _ (c : Configuration) (p : Plain) (s : Stands c p) (y : Held) (l : Layout
       (ap (λ n. Some (Exchange (place_of n Gate) (encode_gate g) (encode_gate (gate_after passage g)))) (ap (λ (m : Layout). m.pages) a.is.fits.stage.layout ∙ a.is.fits.pages))
       (exchanges c p s (at passage (Exchanges g)) (GateIs (gate_after passage g)) (encode_gate g) fits (spelled c.pages c.words s.formed).gate falls)
 
+  module _ (a : IsAlone c (at Attach (Exchanges g))) (epoch : ℕ) where
+    abbrev u : Held
+    u = in_epoch (at Attach (Exchanges g)) epoch
+
+    attached_falls : Lowers c.pages (table c) (passed Attach) (at Attach (Exchanges g)) (at_stage u (runs_on u afters.Looks))
+    attached_falls =
+        subst (λ (stage : Stage). Lowers c.pages (table c) (passed Attach) (at Attach (Exchanges g)) (at_stage u stage)) (sym (runs_straight_on u a.no_checkpoints afters.Looks))
+        (record { remembers = record { began = λ past. absurd past; quiet = a.remembers.quiet; stands = tt }; falls = omega arith })
+
   attach_won : IsAlone c (at Attach (Exchanges g)) → StepsLower c (at Attach (Exchanges g))
   attach_won a =
       let may = a.is.fits.stage.sound.stage in
       won_by Attach a (record { epoch_fits = may.fits.epoch_fits; live_fits = may.counts.0; running_fits = may.counts.1; behind_fits = may.fits.behind_fits; left_fits = may.fits.left_fits })
-      (record { remembers = record { began = λ past. absurd past; quiet = a.remembers.quiet; stands = tt }; falls = omega arith })
+      (attached_falls a (epoch_said y.epoch (encode_gate (gate_after Attach g))))
 
   request_won : IsAlone c (at Request (Exchanges g)) → StepsLower c (at Request (Exchanges g))
   request_won a =
       let may = a.is.fits.stage.sound.stage in
       let counted = may.fits.running_fits in
+      let places = for_a_flip y a.no_checkpoints after a.is.fits.stage.passage in
       won_by Request a (record { epoch_fits = may.fits.epoch_fits; live_fits = may.fits.live_fits; running_fits = omega (arith, counted); behind_fits = may.fits.behind_fits; left_fits = may.fits.left_fits })
-      (record { remembers = record { began = λ past. a.remembers.began (subst IsPastAfter (sym a.is.fits.task.1) tt); quiet = a.remembers.quiet; stands = tt }; falls = omega arith })
+      (subst (λ (b : After). Lowers c.pages (table c) (passed Request) (at Request (Exchanges g)) (at_stage (at Request (Exchanges g)) (after_request (at Request (Exchanges g)) b))) (sym places)
+      (record { remembers = record { began = λ past. a.remembers.began (subst IsPastAfter (sym places) tt); quiet = a.remembers.quiet; stands = tt }; falls = omega arith }))
 
   -- it goes on with its allocation
   module _ (epoch : ℕ) (a : IsAlone c (at (Resume epoch) (Exchanges g))) where
@@ -157,10 +170,11 @@ module _ (c : Configuration) (p : Plain) (s : Stands c p) (y : Held) (l : Layout
     now : y.epoch ≡ g.epoch
     now = sym ((resumes_so g epoch a.is.fits.stage.sound.stage.allowed).2 ∙ a.is.fits.stage.passage)
 
-    placing : (b : After) → b ≡ afters.Places → IsMaking y.account y.registers y.task → GoesAt c.pages (passed (Resume epoch)) (at_stage r (goes_on r b)) (longest_placing + flip_left c.pages (size_in (table c)) r + due_in c.pages (table c))
-    placing b is making =
-        subst (λ (z : After). GoesAt c.pages (passed (Resume epoch)) (at_stage r (goes_on r z)) (longest_placing + flip_left c.pages (size_in (table c)) r + due_in c.pages (table c))) (sym is)
-        (goes_placing c.pages (passed (Resume epoch)) r (let e = a.remembers.stands.0.earlier in omega (arith, e, now)) a.remembers.quiet making)
+    placing : IsMaking y.account y.registers y.task → GoesAt c.pages (passed (Resume epoch)) (at_stage r (runs_on r after)) (longest_placing + flip_left c.pages (size_in (table c)) r + due_in c.pages (table c))
+    placing making =
+        subst (λ (stage : Stage). GoesAt c.pages (passed (Resume epoch)) (at_stage r stage) (longest_placing + flip_left c.pages (size_in (table c)) r + due_in c.pages (table c)))
+        (sym (runs_straight_on r a.no_checkpoints after ∙ ap (goes_on r) a.remembers.stands.0.places))
+        (goes_placing c.pages (passed (Resume epoch)) r (let e = a.remembers.stands.0.earlier in omega (arith, e, now)) (none_runs c r a) a.remembers.quiet making)
 
     resume_won : StepsLower c r
     resume_won =
@@ -170,11 +184,11 @@ module _ (c : Configuration) (p : Plain) (s : Stands c p) (y : Held) (l : Layout
         let none : flips_left c.pages (size_in (table c)) r ≡ growths c.pages (size_in (table c)) = rw seen (omega arith) in
         let grown = ap (flips_cost c.pages) none in
         let making : IsMaking y.account y.registers y.task = subst (FitsTaskAfter r) stops.places a.is.fits.task in
-        let goes = placing after stops.places making in
+        let goes = placing making in
         won_by (Resume epoch) a (record { epoch_fits = may.fits.epoch_fits; live_fits = may.fits.live_fits; running_fits = may.counts; behind_fits = may.fits.behind_fits; left_fits = may.fits.left_fits })
         (record {
           remembers = goes.remembers;
-          falls = lt_by (potential_in c.pages (passed (Resume epoch)) (at_stage r (goes_on r after))) (potential_in c.pages (table c) r) (longest_placing + flip_left c.pages (size_in (table c)) r + due_in c.pages (table c)) goes.within
+          falls = lt_by (potential_in c.pages (passed (Resume epoch)) (at_stage r (runs_on r after))) (potential_in c.pages (table c) r) (longest_placing + flip_left c.pages (size_in (table c)) r + due_in c.pages (table c)) goes.within
               (rw (same_so y.epoch g.epoch now) (omega (arith, grown)));
         })
 

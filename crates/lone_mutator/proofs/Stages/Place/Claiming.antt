@@ -16,18 +16,17 @@ use Rattle.alloc_end.specs.declared.place_stage.PlaceStage.TheVariants.{LoadsTra
 use Rattle.alloc_end.specs.declared.run.Run.{Run}
 use Rattle.alloc_end.specs.declared.shortage.Shortage.{Shortage}
 use Rattle.alloc_end.specs.Place.{Placing, area_after, fits, kept_room, looked_at_area, pages_for, shortage, size_of, told_at, words_for}
-use Rattle.gate_core.specs.declared.passage.Passage.TheVariants.{Request}
 use Rattle.heap_state.specs.Configuration.{Configuration, Stands, era, table}
 use Rattle.heap_state.specs.Memory.Entries.{AreaIs}
 use Rattle.heap_state.specs.Functions.{put}
 use Rattle.heap_state.specs.Memory.Table.{Table, word_in}
 use Rattle.heap_state.proofs.Puts.{put_at}
 use Rattle.heap_state.proofs.Table.Spelled.{spelled}
-use Rattle.gc_worker.specs.declared.stage.after.After.TheVariants as afters
+use Rattle.gc_worker.specs.declared.stage.Stage.{Stage}
 use Rattle.gc_worker.specs.declared.stage.Stage.TheVariants.{Places}
 use Rattle.gc_worker.specs.declared.task.Task.{Task}
 use Rattle.gc_worker.specs.Workers.Held.{Held, at_stage, fields_for}
-use Rattle.gc_worker.specs.Steps.Turned.{Silent, end_by_shortage, ended, full_by, is_full, passes, told_end, told_full, told_place, turned_place}
+use Rattle.gc_worker.specs.Steps.Turned.{Silent, asks_flip, end_by_shortage, ended, full_by, is_full, told_end, told_full, told_place, turned_place}
 use Rattle.gc_worker.proofs.Words.Areas.{area_says, is_space}
 use Rattle.gc_worker.proofs.Stages.Rounds.Words.{traced_now, traced_word}
 use Rattle.lone_mutator.specs.Law.{IsAlone, Lowers, LowersWhereTold, StepsLower}
@@ -35,6 +34,7 @@ use Rattle.lone_mutator.specs.Lone.{PlaceStands}
 use Rattle.lone_mutator.specs.Potential.{due_in, flips_left, size_in}
 use Rattle.lone_mutator.specs.Tracing.{tracing_due}
 use Rattle.lone_mutator.proofs.Stages.Gate.Counts.{knowing, present}
+use Rattle.lone_mutator.proofs.Steps.NoCheckpoints.{asks_at_once}
 use Rattle.lone_mutator.proofs.Steps.Owed.{exchanges, loads, wants}
 use Rattle.lone_mutator.proofs.Steps.Sizes.{size_in-within}
 use Rattle.lone_mutator.proofs.Epochs.Cost.{due_traced, due_still, due_untraced}
@@ -162,12 +162,13 @@ module _ (c : Configuration) (p : Plain) (s : Stands c p) (y : Held) (run : Run)
         (cases_lt (size_in (table c)) c.pages)
 
     -- it requests a flip, unless none can help
-    request_by : (b : Bool) → is_full x short ≡ b → LowersWhereTold c.pages (table c) (table c) x (cond b (ended x (end_by_shortage short)) (at_stage x (passes x Request afters.Places))) (cond b (told_end x.task (end_by_shortage short)) Silent)
+    request_by : (b : Bool) → is_full x short ≡ b → LowersWhereTold c.pages (table c) (table c) x (cond b (ended x (end_by_shortage short)) (at_stage x (asks_flip x))) (cond b (told_end x.task (end_by_shortage short)) Silent)
     request_by true full =
         subst (λ (task : Option Task). LowersWhereTold c.pages (table c) (table c) x (ended x (end_by_shortage short)) (told_end task (end_by_shortage short))) (sym a.is.fits.task.0.executes.task_is) tt
     request_by false full =
         let flip = flips_cost-less c.pages (flips_left c.pages (size_in (table c)) x) (may_ask (nat_lt y.begun y.epoch) refl full) in
-        record { remembers = record { began = λ past. a.remembers.began tt; quiet = a.remembers.quiet; stands = (tt, tt) }; falls = omega (arith, flip) }
+        subst (λ (stage : Stage). Lowers c.pages (table c) (table c) x (at_stage x stage)) (sym (asks_at_once x a.no_checkpoints))
+        (record { remembers = record { began = λ past. a.remembers.began tt; quiet = a.remembers.quiet; stands = (tt, tt) }; falls = omega (arith, flip) })
 
     full_so : (b : Bool) → PlaceStands (table c) (placing (LoadsArea b size)) (LoadsArea b size) → LowersWhereTold c.pages (table c) (table c) x (full_by x short b) (told_full x short b)
     full_so true stands = request_by (is_full x short) refl

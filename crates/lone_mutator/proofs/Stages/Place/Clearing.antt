@@ -8,6 +8,7 @@ use Rattle.heap_words.specs.declared.kind.Kind.TheVariants.{Fields, Raw, Mixed}
 use Rattle.heap_words.specs.Decoded.{encode}
 use Rattle.heap_words.specs.Word.{number_word}
 use Rattle.atom_store.specs.declared.step.Step.TheVariants.{Store}
+use Rattle.atom_store.specs.declared.turn.Turn.TheVariants.{More}
 use Rattle.space_map.specs.declared.page_word.PageWord.TheVariants.{Open}
 use Rattle.space_map.specs.PageWord.{encode_page}
 use Rattle.space_map.specs.Spaces.{page_of, to_space}
@@ -16,18 +17,22 @@ use Rattle.alloc_end.specs.declared.new_pages.NewPages.{NewPages}
 use Rattle.alloc_end.specs.declared.place_stage.PlaceStage.{PlaceStage}
 use Rattle.alloc_end.specs.declared.place_stage.PlaceStage.TheVariants.{StoresZero, OpensPage, StoresCount, StoresHeader}
 use Rattle.alloc_end.specs.declared.run.Run.{Run}
-use Rattle.alloc_end.specs.Place.{Placing, pages_for, size_of, stores_first, told_at, words_for}
+use Rattle.alloc_end.specs.Place.{Placing, pages_for, size_of, stores_first, told_at, words_for, writes_on}
 use Rattle.heap_state.specs.Configuration.{Configuration, Stands, table}
 use Rattle.heap_state.specs.Memory.Entries.{PageIs, WordIs}
 use Rattle.heap_state.specs.Functions.{put}
 use Rattle.heap_state.specs.Memory.Table.{Table}
 use Rattle.gc_worker.specs.declared.task.Task.{Task}
-use Rattle.gc_worker.specs.Workers.Held.{Held, fields_for, making_for}
+use Rattle.gc_worker.specs.declared.stage.write.Write.TheVariants.{OfPlace}
+use Rattle.gc_worker.specs.declared.stage.Stage.{Stage}
+use Rattle.gc_worker.specs.declared.stage.Stage.TheVariants.{Places}
+use Rattle.gc_worker.specs.Workers.Held.{Held, at_stage, fields_for, making_for}
 use Rattle.gc_worker.specs.Steps.Turned.{told_effect, told_place, turned_place, with_record}
 use Rattle.lone_mutator.specs.Law.{IsAlone, Lowers, LowersWhereTold, StepsLower}
 use Rattle.lone_mutator.specs.Potential.{due_in}
 use Rattle.lone_mutator.proofs.Stages.Gate.Counts.{present}
 use Rattle.lone_mutator.proofs.Stages.Place.Claiming.{at, placing}
+use Rattle.lone_mutator.proofs.Steps.NoCheckpoints.{none_runs, unguarded}
 use Rattle.lone_mutator.proofs.Steps.Owed.{stores, wants}
 use Rattle.lone_mutator.proofs.Epochs.Cost.{due_opened}
 
@@ -37,6 +42,12 @@ module _ (c : Configuration) (p : Plain) (s : Stands c p) (y : Held) (run : Run)
 
   abbrev asked : ℕ
   asked = pages_for (size_of header)
+
+  -- where it is to write next, it needs no look before
+  writes_next : (stage : PlaceStage) (next : Placing) (after : Table) → IsAlone c (on stage) → Lowers c.pages (table c) after (on stage) (at_stage y (Places next))
+      → Lowers c.pages (table c) after (on stage) (turned_place (on stage) next More)
+  writes_next stage next after a falls =
+      subst (λ (z : Stage). Lowers c.pages (table c) after (on stage) (at_stage y z)) (sym (unguarded (on stage) (OfPlace next) (writes_on next next.stage) (Places next) (none_runs c (on stage) a))) falls
 
   -- ---- a word is cleared
 
@@ -96,7 +107,8 @@ module _ (c : Configuration) (p : Plain) (s : Stands c p) (y : Held) (run : Run)
     opened_last =
         let fits = a.is.fits.stage.sound.stage in
         let from = fits.1 in let below = fits.2 in let due = due_after in
-        record { remembers = record { began = a.remembers.began; quiet = a.remembers.quiet; stands = tt }; falls = omega (arith, from, below, due) }
+        writes_next (OpensPage new) (then_at Fields false) opened_at a
+        (record { remembers = record { began = a.remembers.began; quiet = a.remembers.quiet; stands = tt }; falls = omega (arith, from, below, due) })
 
     opened_by : (kind : Kind) (b : Bool) → Opens kind b
     opened_by kind true =
@@ -108,7 +120,8 @@ module _ (c : Configuration) (p : Plain) (s : Stands c p) (y : Held) (run : Run)
     opened_by Mixed false =
         let fits = a.is.fits.stage.sound.stage in
         let from = fits.1 in let below = fits.2 in let due = due_after in
-        record { remembers = record { began = a.remembers.began; quiet = a.remembers.quiet; stands = tt }; falls = omega (arith, from, below, due) }
+        writes_next (OpensPage new) (then_at Mixed false) opened_at a
+        (record { remembers = record { began = a.remembers.began; quiet = a.remembers.quiet; stands = tt }; falls = omega (arith, from, below, due) })
 
     pub opens_page : StepsLower c (on (OpensPage new))
     opens_page =
@@ -123,8 +136,9 @@ module _ (c : Configuration) (p : Plain) (s : Stands c p) (y : Held) (run : Run)
     abbrev counted : Table
     counted = record (table c) { heap = put (table c).heap (run.at + 1) (number_word (fields_for y)) }
 
-    lowers : Lowers c.pages (table c) counted (on StoresCount) (on StoresHeader)
-    lowers = record { remembers = record { began = a.remembers.began; quiet = a.remembers.quiet; stands = tt }; falls = omega arith }
+    lowers : Lowers c.pages (table c) counted (on StoresCount) (turned_place (on StoresCount) (placing c p s y run header StoresHeader) More)
+    lowers = writes_next StoresCount (placing c p s y run header StoresHeader) counted a
+        (record { remembers = record { began = a.remembers.began; quiet = a.remembers.quiet; stands = tt }; falls = omega arith })
 
     pub stores_count : StepsLower c (on StoresCount)
     stores_count =

@@ -18,7 +18,7 @@ use Rattle.heap_state.specs.Memory.Era.{Era, Memory}
 use Rattle.heap_state.specs.Memory.Table.{word_in}
 use Rattle.heap_state.specs.Worker.{Worker, is_running}
 use Rattle.gc_worker.specs.declared.stage.back.Back.{Back}
-use Rattle.gc_worker.specs.declared.stage.back.Back.TheVariants.{ToAccess, ToPlace, ToScanner}
+use Rattle.gc_worker.specs.declared.stage.back.Back.TheVariants.{ToAccess, ToPlace, ToSnap, ToScanner}
 use Rattle.gc_worker.specs.Workers.Fits.{IsCallerOf}
 use Rattle.gc_worker.specs.Workers.Held.{Held}
 use Rattle.gc_worker.specs.Workers.Knows.{epoch_at}
@@ -93,6 +93,7 @@ module _ (c : Configuration) (p : Plain) (s : Stands c p) (y : Held) (d : Round)
     mutator_by ToPlace (callers.Faulted page) stands is mutators e = is
     mutator_by ToPlace callers.Allocates stands is mutators e = cc
     mutator_by ToPlace (callers.Scans other) stands is mutators e = is
+    mutator_by ToSnap caller stands is mutators e = stands
     mutator_by ToScanner caller stands is mutators e = stands
 
     pages : d.layout.pages ≡ c.pages

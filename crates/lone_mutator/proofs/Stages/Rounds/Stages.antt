@@ -23,6 +23,7 @@ use Rattle.lone_mutator.specs.Law.{Lowers, IsAlone, StepsLower}
 use Rattle.lone_mutator.specs.Potential.{back_left, due_in, size_in}
 use Rattle.lone_mutator.proofs.Steps.GoingBack.{past_look, same_back}
 use Rattle.lone_mutator.proofs.Steps.GoingOn.{GoesAt, goes_back}
+use Rattle.lone_mutator.proofs.Steps.NoCheckpoints.{none_runs}
 use Rattle.lone_mutator.proofs.Stages.Rounds.Going.{of_epoch, era_epoch}
 use Rattle.lone_mutator.proofs.Stages.Rounds.Loads as loads
 use Rattle.lone_mutator.proofs.Stages.Rounds.Winning.{exchanges_page}
@@ -55,7 +56,7 @@ module _ (c : Configuration) (p : Plain) (s : Stands c p) (y : Held) (d : Round)
     began = let b = a.remembers.began (past_look back a.remembers.stands.1) in let e = same_epoch in omega (arith, b, e)
 
     goes : GoesAt c.pages (with_entry entry t) (back_from ended back) (back_left c.pages (size_in t) ended back + due_in c.pages (with_entry entry t))
-    goes = goes_back c.pages (with_entry entry t) ended began a.remembers.quiet back a.remembers.stands.1 a.is.fits.task
+    goes = goes_back c.pages (with_entry entry t) ended began (none_runs c x a) a.remembers.quiet back a.remembers.stands.1 a.is.fits.task
 
     marked : due_in c.pages (with_entry entry t) ≡ 0
     marked = due_traced c.pages t.gate.epoch (d.epoch + 1) (t.area (to_space t.gate.epoch)).owed t.page (ap (λ e. e + 1) (sym (era_epoch c p s y d back (Traces traced) a)))

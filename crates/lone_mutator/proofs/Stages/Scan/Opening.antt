@@ -23,6 +23,7 @@ use Rattle.lone_mutator.specs.Bound.{round_cost}
 use Rattle.lone_mutator.proofs.Stages.Gate.Counts.{present}
 use Rattle.lone_mutator.proofs.Steps.GoingBack.{past_look, runs}
 use Rattle.lone_mutator.proofs.Steps.GoingOn.{GoesAt, goes_back}
+use Rattle.lone_mutator.proofs.Steps.NoCheckpoints.{none_runs}
 use Rattle.lone_mutator.proofs.Steps.Owed.{wants, stores}
 use Rattle.lone_mutator.proofs.Epochs.Cost.{due_opened, due_le_left}
 
@@ -41,7 +42,7 @@ module _ (c : Configuration) (p : Plain) (s : Stands c p) (y : Held) (o : Openin
     now = a.is.fits.stage.0.epoch ∙ present c p s x a (runs back a.remembers.stands)
 
     goes : GoesAt c.pages (with_entry entry t) (back_from x back) (back_left c.pages (size_in t) x back + due_in c.pages (with_entry entry t))
-    goes = goes_back c.pages (with_entry entry t) x (a.remembers.began (past_look back a.remembers.stands)) a.remembers.quiet back a.remembers.stands a.is.fits.task
+    goes = goes_back c.pages (with_entry entry t) x (a.remembers.began (past_look back a.remembers.stands)) (none_runs c x a) a.remembers.quiet back a.remembers.stands a.is.fits.task
 
     paid : due_in c.pages (with_entry entry t) ≤ left_in c.pages t + round_cost c.pages
     paid =

@@ -1,8 +1,9 @@
-use Rattle.page_saves.proofs.Rounds.{shows_nothing, none_runs, saves_page, marks_done}
+use Rattle.page_saves.proofs.Reading.{none_runs_is_shown}
+use Rattle.page_saves.proofs.Rounds.{shows_nothing, saves_page, marks_done}
 use Rattle.page_saves.proofs.laws.save_rounds_show_why.Goals as goal
 
 pub returns-clause-none_runs : goal.returns-clause-none_runs
-returns-clause-none_runs c = λ r before after number acts. none_runs r r.stage before after number acts
+returns-clause-none_runs c = none_runs_is_shown
 
 pub returns-clause-saved : goal.returns-clause-saved
 returns-clause-saved c = λ r before after sound whole acts. saves_page r r.stage before after sound whole acts

@@ -22,7 +22,8 @@ invariant_of-self c =
 pub invariant_of-self-2 : goal.invariant_of-self-2
 invariant_of-self-2 c = (
   c.step-reply.ensures.table.2 ∙ c.self.invariant.0,
-  moved_heads _ _ _ _ _ _ c.step-reply.ensures.moved c.take.ensures.state,
+  moved_heads _ _ _ _ _ (subst (λ (z : Held). Heads c.self.inside.seat.me.0.plan z c.self.inside.seat.me.0.hands) (sym c.deref_mut-worker.ensures.value) c.self.invariant.1)
+      c.step-reply.ensures.moved c.take.ensures.state,
   still_live _ _ c.self.inside.seat.me.0 c.step-reply.new.seat.me.0 c.step-reply.ensures.table.0 c.step-reply.ensures.moved.plan c.self.invariant.2,
   c.step-reply.ensures.moved.mine,
   subst (λ (z : Held). ShowsSeen z c.step-reply.new.seat.me.0) (sym c.take.ensures.state) c.step-reply.ensures.moved.shows,

@@ -5,12 +5,13 @@ use Rattle.std.proofs.lemmas.List.{length-replicate}
 use Rattle.std.proofs.Math.ListN.{length-set}
 use Rattle.heap_laws.specs.Opening.{opening_entries}
 use Rattle.heap_state.specs.Memory.Entries.{written}
-use Rattle.space_map.specs.Table.{table_length}
+use Rattle.space_map.specs.Table.{table_length, whole_length}
 use Rattle.gc_worker.specs.declared.open_error.OpenError.{OpenError}
 use Rattle.gc_worker.specs.declared.open_error.OpenError.TheVariants.{BadPages, NoMemory}
 use Rattle.space_map.specs.declared.spaces.TheConstants.{FEWEST_PAGES}
 use Rattle.space_map.specs.Spaces.{Layout, IsPageCount, without_checkpoints}
 use Rattle.gc_worker.specs.Config.{has_sizes}
+use Rattle.gc_worker.specs.Laws.Between.{opening_words}
 use Rattle.atomic_table.specs.Table as table
 use Rattle.gc_worker.specs.declared.config.Config.{Config}
 use Rattle.ael_threads.specs.declared.view.Plan.{Plan}
@@ -23,6 +24,13 @@ use Rattle.ael_threads.proofs.shared.Shared.open.Goals as goal
 -- the words are as many as the table has
 all_words : (n least : ℕ) (words : List ℕ) → words ≡ written n (opening_entries n least) → length words ≡ table_length n
 all_words n least words is = ap length is ∙ simp (length-set, length-replicate)
+
+-- without room for checkpoints they are these, and so many
+written_first : (layout : Layout) (least : ℕ) → layout.checkpoints ≡ false → opening_words layout least ≡ written layout.pages (opening_entries layout.pages least)
+written_first layout least without = rw without refl
+
+whole_is : (layout : Layout) → layout.checkpoints ≡ false → whole_length layout ≡ table_length layout.pages
+whole_is layout without = rw without refl
 
 -- of sizes that a heap may have only memory may be wanting
 module _ (config : Config) (n : ℕ) (size : IsPageCount n) (is : n ≡ config.limit) (within : (FEWEST_PAGES ≤ config.pages) × (config.pages ≤ n)) where
@@ -53,8 +61,9 @@ pub of_words-requires : goal.of_words-requires
 of_words-requires c =
     let plan : Plan = record { spaces = c.in_ok-spaces.spaces; least = c.args.config.now.pages; mutators = c.args.mutators; scanners = c.args.config.now.scanners } in
     let all : crew plan ≤ 24 = (let a = c.requires.mutators.1 in let b = c.requires.scanners in omega (arith, a, b)) in
-    subst (λ (words : List ℕ). RuleHolds plan (table.opening {S = ℕ} words [] (first_view plan))) (sym (c.as_slice.ensures.value ∙ c.in_ok-words.ensures))
-    (opens_kept plan c.known.ensures c.in_ok-spaces.ensures.at_first.0 c.in_ok-spaces.ensures.at_first.1 c.requires.mutators.1 all)
+    let without = c.in_ok-spaces.ensures.without in
+    subst (λ (words : List ℕ). RuleHolds plan (table.opening {S = ℕ} words [] (first_view plan))) (written_first c.in_ok-spaces.spaces plan.least without ∙ sym (c.as_slice.ensures.value ∙ c.in_ok-words.ensures))
+    (opens_kept plan without c.known.ensures c.in_ok-spaces.ensures.at_first.0 c.in_ok-spaces.ensures.at_first.1 c.requires.mutators.1 all)
 
 pub deal-requires-clause-few : goal.deal-requires-clause-few
 deal-requires-clause-few c = (c.requires.mutators.1, (let a = c.requires.mutators.1 in let b = c.requires.scanners in omega (arith, a, b)))
@@ -88,7 +97,7 @@ pub returns-clause-bad_pages : goal.returns-clause-bad_pages
 returns-clause-bad_pages c = is_open c.args.config.now _ c.known.ensures c.in_ok-spaces.ensures.pages c.in_ok-spaces.ensures.at_first _
 
 pub deal-requires-clause-live : goal.deal-requires-clause-live
-deal-requires-clause-live c = c.in_ok-table.ensures.0 ∙ all_words _ _ _ (c.as_slice.ensures.value ∙ c.in_ok-words.ensures)
+deal-requires-clause-live c = c.in_ok-table.ensures.0 ∙ (all_words _ _ _ (c.as_slice.ensures.value ∙ c.in_ok-words.ensures) ∙ sym (whole_is c.in_ok-spaces.spaces c.in_ok-spaces.ensures.without))
 
 pub returns-clause-words : goal.returns-clause-words
 returns-clause-words c = c.in_ok-table.ensures.0 ∙ (all_words _ _ _ (c.as_slice.ensures.value ∙ c.in_ok-words.ensures) ∙ ap table_length c.in_ok-spaces.ensures.pages)

@@ -7,10 +7,10 @@ use Rattle.atom_store.specs.declared.step.Step.{Step}
 use Rattle.atom_store.specs.declared.step.Step.TheVariants.{Load, Store, Exchange}
 use Rattle.atom_store.specs.declared.reply.Reply.TheVariants.{Won, Lost}
 use Rattle.atom_store.specs.Step.{place_in}
-use Rattle.space_map.specs.Table.{table_length}
+use Rattle.space_map.specs.Table.{whole_length}
 use Rattle.gc_worker.specs.Workers.Held.{Held}
 use Rattle.gc_worker.specs.Steps.Wanted.{wanted}
-use Rattle.gc_worker.proofs.Words.Rows.{places_in_each_table}
+use Rattle.gc_worker.proofs.Words.Rows.{places_fit}
 use Rattle.ael_threads.specs.declared.view.Hand.{Hand}
 use Rattle.ael_threads.specs.declared.view.Plan.{Plan}
 use Rattle.ael_threads.specs.declared.view.View.{View}
@@ -20,9 +20,10 @@ use Rattle.ael_threads.proofs.TableRule.AllowedSteps.{allows, word_after}
 use Rattle.ael_threads.proofs.shared.Shared.step.Goals as goal
 
 -- the place of the step is in the table
-bound : (plan : Plan) (words : ℕ) (hs : List Hand) (x : Held) (q q' : Step) → Heads plan x hs → words ≡ table_length plan.spaces.pages → wanted x ≡ Some q → q ≡ q' → place_in q' < words
+bound : (plan : Plan) (words : ℕ) (hs : List Hand) (x : Held) (q q' : Step) → Heads plan x hs → words ≡ whole_length plan.spaces → wanted x ≡ Some q → q ≡ q' → place_in q' < words
 bound plan words [] x q q' h e want is = absurd h
-bound plan words (was ∷ others) x q q' h e want is = subst (λ (z : Step). place_in z < words) is (let l = places_in_each_table plan.spaces.pages plan.mutators was.number x q h.fits want in omega (arith, e, l))
+bound plan words (was ∷ others) x q q' h e want is = subst (λ (z : Step). place_in z < words) is
+    (subst (λ (z : ℕ). place_in q < z) (ap whole_length h.laid_out ∙ sym e) (places_fit plan.spaces.pages plan.mutators was.number x q h.fits want))
 
 now_allows : (key : Plan) (slots id : ℕ) (me : Me) (x j : Held) (q q' : Step) (st : table.Step ℕ) → Heads me.0.plan x me.0.hands → 0 < me.0.plan.spaces.pages → IsMine me.0 → ShowsSeen x me.0 → x ≡ j → wanted x ≡ Some q → q ≡ q' → (says : ℕ → ℕ)
     → ((found : ℕ) → reply_to q' (says found) ≡ reply_to q' found) → Allows (RuleHolds key) slots id me (place_in q') (word_after q') (λ found later. Plays j st me (says found) later)

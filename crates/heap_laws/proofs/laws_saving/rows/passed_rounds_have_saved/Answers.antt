@@ -1,4 +1,4 @@
-use Rattle.heap_laws.proofs.Saving.Frozen.{passed_rounds_have_saved}
+use Rattle.heap_laws.proofs.Saving.PassedRounds.{passed_rounds_have_saved}
 use Rattle.heap_laws.proofs.laws_saving.rows.passed_rounds_have_saved.Goals as goal
 
 pub returns : goal.returns

@@ -1,7 +1,7 @@
-use Rattle.std.proofs.Common.{◌≡◌, ◌+◌, ◌*◌, ◌%◌, ◌^◌, refl, arith}
+use Rattle.std.proofs.Common.{refl, arith}
 use Rattle.space_map.specs.SaveWord.{encode_save}
-use Rattle.space_map.proofs.Bits.{or_above}
 use Rattle.space_map.proofs.SaveWords.{decode_save-encode_save}
+use Rattle.space_map.proofs.StateWords.{packed, packed-without_worker}
 use Rattle.space_map.proofs.save_word.SaveWord.pack.Goals as goal
 
 pub returns-in-Unsaved-clause-word : goal.returns-in-Unsaved-clause-word
@@ -17,15 +17,7 @@ unfolding encode_save
 returns-in-Saving-clause-word c =
     let worker = c.from.result in
     let number = c.from-in-Saving.result in
-    let worker_whole : worker * 2 ^ 2 % 2 ^ 64 ≡ worker * 2 ^ 2 = omega arith in
-    let number_whole : number * 2 ^ 16 % 2 ^ 64 ≡ number * 2 ^ 16 = omega arith in
-    rw (
-      worker_whole,
-      number_whole,
-      or_above 1 worker 2 (omega arith),
-      or_above (1 + worker * 2 ^ 2) number 16 (omega arith),
-      c.in-Saving.is,
-    ) (omega arith)
+    rw (packed 1 worker number (omega arith) (omega arith) (omega arith), c.in-Saving.is) (omega arith)
 
 pub returns-in-Saving-clause-reads_back : goal.returns-in-Saving-clause-reads_back
 returns-in-Saving-clause-reads_back c =
@@ -34,9 +26,7 @@ returns-in-Saving-clause-reads_back c =
 pub returns-in-Saved-clause-word : goal.returns-in-Saved-clause-word
 unfolding encode_save
 returns-in-Saved-clause-word c =
-    let number = c.from-in-Saved.result in
-    let whole : number * 2 ^ 16 % 2 ^ 64 ≡ number * 2 ^ 16 = omega arith in
-    rw (whole, or_above 2 number 16 (omega arith), c.in-Saved.is) (omega arith)
+    rw (packed-without_worker 2 c.from-in-Saved.result (omega arith) (omega arith), c.in-Saved.is) (omega arith)
 
 pub returns-in-Saved-clause-reads_back : goal.returns-in-Saved-clause-reads_back
 returns-in-Saved-clause-reads_back c =
@@ -45,9 +35,7 @@ returns-in-Saved-clause-reads_back c =
 pub returns-in-New-clause-word : goal.returns-in-New-clause-word
 unfolding encode_save
 returns-in-New-clause-word c =
-    let number = c.from-in-New.result in
-    let whole : number * 2 ^ 16 % 2 ^ 64 ≡ number * 2 ^ 16 = omega arith in
-    rw (whole, or_above 3 number 16 (omega arith), c.in-New.is) (omega arith)
+    rw (packed-without_worker 3 c.from-in-New.result (omega arith) (omega arith), c.in-New.is) (omega arith)
 
 pub returns-in-New-clause-reads_back : goal.returns-in-New-clause-reads_back
 returns-in-New-clause-reads_back c =

@@ -1,0 +1,10 @@
+pub mod Places
+pub mod Finds
+pub mod Meets
+pub mod Scans
+pub mod Sorts
+pub mod Pieces
+pub mod RecordKinds
+pub mod Pictures
+pub mod Leads
+pub mod Checkpoints

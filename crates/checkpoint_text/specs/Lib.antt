@@ -1,0 +1,6 @@
+pub mod Heap
+pub mod Records
+pub mod Marks
+pub mod Reached
+pub mod Text
+pub mod Words

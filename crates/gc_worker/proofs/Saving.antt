@@ -1,0 +1,10 @@
+pub mod Frame
+pub mod Mutators
+pub mod Collector
+pub mod Gates
+pub mod Flips
+pub mod Snaps
+pub mod Checkpoints
+pub mod Kinds
+pub mod Keeping
+pub mod Won

@@ -1,0 +1,4 @@
+pub mod Ends
+pub mod First
+pub mod Pages
+pub mod Stages

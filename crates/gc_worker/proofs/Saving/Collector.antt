@@ -1,0 +1,4 @@
+pub mod Copies
+pub mod Scans
+pub mod Opens
+pub mod Rounds

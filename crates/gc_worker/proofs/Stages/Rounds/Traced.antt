@@ -1,0 +1,99 @@
+-- A round finds its epoch traced. A mutator that begins a checkpoint, and a scanner where there are checkpoints, goes on with a round for
+-- the one in progress; any other worker goes back.
+use Rattle.std.proofs.Common.{◌≡◌, ℕ, ◌+◌, Bool, true, false, None, cond, refl, sym, ap, subst, ◌∙◌}
+use Rattle.plain_state.specs.State.{Plain}
+use Rattle.atom_store.specs.declared.reply.Reply.{Reply}
+use Rattle.fault_duty.specs.declared.duty_stage.DutyStage.{DutyStage}
+use Rattle.fault_duty.specs.declared.duty_stage.DutyStage.TheVariants.{Ended}
+use Rattle.fault_duty.specs.declared.round_end.RoundEnd.TheVariants.{Traced}
+use Rattle.fault_duty.specs.Duty as duty
+use Rattle.fault_duty.specs.Duty.{Round}
+use Rattle.fault_duty.specs.Soundness.{IsSoundRound}
+use Rattle.heap_state.specs.Configuration.{Configuration, Stands, era, memory, team}
+use Rattle.heap_state.specs.Worker.{Worker, is_running}
+use Rattle.heap_laws.specs.Composing.{ends_round}
+use Rattle.heap_laws.proofs.Gate.Reading.{sees_traced}
+use Rattle.heap_laws.proofs.Steps.Composing.{steps_forget}
+use Rattle.heap_laws.proofs.Steps.Forgotten.{rounds_are_forgotten}
+use Rattle.gc_worker.specs.declared.stage.back.Back.{Back}
+use Rattle.gc_worker.specs.declared.stage.back.Back.TheVariants.{ToAccess, ToPlace, ToSnap, ToScanner}
+use Rattle.gc_worker.specs.declared.stage.goal.Goal.TheVariants.{ForSnap, ForScanner}
+use Rattle.gc_worker.specs.Steps.Goes.{Is, Goes}
+use Rattle.gc_worker.specs.Workers.Held.{Held, at_stage}
+use Rattle.gc_worker.specs.Workers.Knows.{knows, epoch_at}
+use Rattle.gc_worker.specs.Steps.Turned.{checkpoints, goes_back, turned_round, won_in}
+use Rattle.gc_worker.proofs.Workers.Checkpointing.{has_room, round_for_snap, round_of_scanner}
+use Rattle.gc_worker.proofs.Stages.Rounds.Going.{at, done, ends_as, fits_done, goes_back_with, own_stock_same, sound_at}
+use Rattle.gc_worker.proofs.Stages.Rounds.Words.{traced_now, traced_word}
+use Rattle.gc_worker.proofs.Words.RowSteps.{Law, becomes, prepared}
+
+module _ (c : Configuration) (p : Plain) (s : Stands c p) (k : ℕ) (y : Held) (d : Round) (stage : DutyStage) (reply : Reply) where
+  -- the round finds it so
+  abbrev Finds : Type 0
+  Finds = duty.taken_at (record d { stage = stage }) stage reply ≡ record d { stage = Ended Traced }
+
+  module _ (taken : Finds) (none : won_in stage reply ≡ None) (own : epoch_at y.epoch (record d { stage = stage }) stage ≡ d.epoch) where
+    -- ---- a mutator that begins a checkpoint has seen it
+
+    module _ (is : Is c k (at c p s k y d ToSnap stage)) (traced : traced_now c ≡ d.epoch + 1) where
+      abbrev x : Held
+      x = at c p s k y d ToSnap stage
+
+      abbrev ended : Held
+      ended = done c p s k y d ToSnap
+
+      abbrev begun : Held
+      begun = at_stage ended (checkpoints ended ForSnap)
+
+      abbrev aware : Worker → Worker
+      aware w = record w { traced_seen = true }
+
+      sees : Law c p s k x None (aware ((team c).worker k)) s.ghost
+      sees = sees_traced (era c) (memory c) (team c) s.ghost k (prepared c p s k x is) (ap (λ (w : Worker). is_running w.post) is.as_known)
+          (traced_word c ∙ (traced ∙ sym (ap (λ (w : Worker). w.epoch + 1) is.as_known ∙ ap (λ (e : ℕ). e + 1) own)))
+
+      knows_begun : knows begun ≡ aware (ends_round (knows x))
+      knows_begun = let stock = own_stock_same c p s k y d ToSnap stage is in λ i. record (knows begun) { epoch = sym own i; stock = stock i }
+
+      law : Law c p s k x None (knows begun) s.ghost
+      law =
+          let w = aware ((team c).worker k) in
+          subst (λ (v : Worker). Law c p s k x None v s.ghost) (ap (λ (v : Worker). aware (ends_round v)) is.as_known ∙ sym knows_begun)
+          (steps_forget (era c) (memory c) (team c) s.ghost k None w (ends_round w) s.ghost sees (rounds_are_forgotten w))
+
+      goes : Goes c p s k None x reply
+      goes =
+          let f = fits_done c p s k y d ToSnap stage is in
+          let task = is.fits.task in
+          becomes c p s k x None reply begun s.ghost
+          (ap (λ (r : Round). turned_round x r ToSnap (duty.told r)) taken) is.below law refl none
+          (subst IsSoundRound (sym taken) (sound_at c p s k y d ToSnap stage is (Ended Traced) tt))
+          (round_for_snap c.pages c.mutators k ended f is.fits.end (has_room ended task.1) is.fits.side task.0 task.1)
+
+    -- ---- a scanner
+
+    module _ (is : Is c k (at c p s k y d ToScanner stage)) where
+      abbrev scanner : Held
+      scanner = done c p s k y d ToScanner
+
+      abbrev helping : Held
+      helping = at_stage scanner (checkpoints scanner ForScanner)
+
+      helps_by : (b : Bool) → y.layout.checkpoints ≡ b → Goes c p s k None (at c p s k y d ToScanner stage) reply
+      helps_by true room =
+          let f = fits_done c p s k y d ToScanner stage is in
+          let stock = own_stock_same c p s k y d ToScanner stage is in
+          ends_as c p s k y d ToScanner stage is reply Traced helping taken
+          (ap (λ (b : Bool). at_stage scanner (cond b (checkpoints scanner ForScanner) (goes_back scanner ToScanner))) room) none
+          (λ i. record (knows helping) { epoch = sym own i; stock = stock i })
+          (round_of_scanner c.pages c.mutators k scanner f is.fits.end room is.fits.side is.fits.task is.fits.stage.1)
+      helps_by false room = goes_back_with c p s k y d ToScanner stage is reply Traced taken
+          (ap (λ (b : Bool). at_stage scanner (cond b (checkpoints scanner ForScanner) (goes_back scanner ToScanner))) room) none own
+
+    -- ---- all
+
+    pub finds_traced : (back : Back) → Is c k (at c p s k y d back stage) → traced_now c ≡ d.epoch + 1 → Goes c p s k None (at c p s k y d back stage) reply
+    finds_traced (ToAccess a) is traced = goes_back_with c p s k y d (ToAccess a) stage is reply Traced taken refl none own
+    finds_traced ToPlace is traced = goes_back_with c p s k y d ToPlace stage is reply Traced taken refl none own
+    finds_traced ToSnap is traced = goes is traced
+    finds_traced ToScanner is traced = helps_by is y.layout.checkpoints refl

@@ -1,0 +1,91 @@
+-- What fits a worker at a stage fits it whatever its stage was before, and whatever its account, its registers and its task are.
+use Rattle.std.proofs.Common.{◌≡◌, ℕ, ◌+◌, List, Option, ◌∙◌, sym, refl}
+use Rattle.alloc_end.specs.Place.{Placing}
+use Rattle.fault_duty.specs.Duty.{Round}
+use Rattle.forwarding.specs.Evacuation.{Evacuation}
+use Rattle.heap_state.specs.Worker.{Account}
+use Rattle.page_saves.specs.SaveRound.{SavingRound}
+use Rattle.page_scan.specs.Scanning.{Scanning}
+use Rattle.gc_worker.specs.declared.stage.back.Back.{Back}
+use Rattle.gc_worker.specs.declared.stage.goal.Goal.{Goal}
+use Rattle.gc_worker.specs.declared.stage.goal.Goal.TheVariants.{ForFlip, ForSnap, ForScanner}
+use Rattle.gc_worker.specs.declared.stage.write.Write.{Write}
+use Rattle.gc_worker.specs.declared.stage.write.Write.TheVariants.{OfAccess, OfPlace}
+use Rattle.gc_worker.specs.declared.stage.Stage.{Stage}
+use Rattle.gc_worker.specs.declared.stage.Stage.TheVariants.{Looks, Passes, Flips, Forwards, Accesses, Places, Serves, Scans, Evacuates, Opens, Recalls, Guards, Checkpoints, BeginsCheckpoint, Gone}
+use Rattle.gc_worker.specs.declared.task.Task.{Task}
+use Rattle.gc_worker.specs.Workers.Fits.{FitsCopy, FitsPlace, FitsRound, FitsScan, FitsStage, FitsWrite, IsRoundFor, IsRoundOfMutator}
+use Rattle.gc_worker.specs.Workers.Held.{Held, at_stage, fields_for}
+
+-- the parts of which no machine knows
+pub record Aside : Type 0 where
+  pub account : Account
+  pub registers : List ℕ
+  pub task : Option Task
+  pub stage : Stage
+
+abbrev pub with_aside : Held → Aside → Held
+with_aside x o = record x { account = o.account; registers = o.registers; task = o.task; stage = o.stage }
+
+-- the task makes a record with as many fields
+module _ (x : Held) (o : Aside) (fields : fields_for (with_aside x o) ≡ fields_for x) where
+  abbrev z : Held
+  z = with_aside x o
+
+  fits_copy : (epoch : ℕ) (v : Evacuation) → FitsCopy x epoch v → FitsCopy z epoch v
+  fits_copy epoch v f = record { layout = f.layout; of_epoch = f.of_epoch; worker = f.worker; going = f.going; sound = f.sound }
+
+  fits_place : (p : Placing) → FitsPlace x p → FitsPlace z p
+  fits_place p f =
+      record { layout = f.layout; epoch = f.epoch; fields = f.fields ∙ sym fields; snap = f.snap; going = f.going; rest = f.rest; sound = f.sound }
+
+  fits_round : (d : Round) (back : Back) → FitsRound x d back → FitsRound z d back
+  fits_round d back f = record { layout = f.layout; worker = f.worker; caller = f.caller; epoch = f.epoch; going = f.going; sound = f.sound }
+
+  fits_scan : (s : Scanning) → FitsScan x s → FitsScan z s
+  fits_scan s f = record { layout = f.layout; epoch = f.epoch; sound = f.sound }
+
+  fits_write : (write : Write) (page : ℕ) → FitsWrite x write page → FitsWrite z write page
+  fits_write (OfAccess a) page f = f
+  fits_write (OfPlace p) page f = (fits_place p f.0, f.1)
+
+  round_of_mutator : (r : SavingRound) → IsRoundOfMutator x r → IsRoundOfMutator z r
+  round_of_mutator r f = record { caller = f.caller; epoch = f.epoch; number = f.number }
+
+  round_for : (goal : Goal) (r : SavingRound) → IsRoundFor x goal r → IsRoundFor z goal r
+  round_for ForFlip r f = (round_of_mutator r f.0, f.1)
+  round_for ForSnap r f = (round_of_mutator r f.0, f.1)
+  round_for ForScanner r f = record { caller = f.caller; no_run = f.no_run }
+
+  pub fits_stage : (stage : Stage) → FitsStage x stage → FitsStage z stage
+  fits_stage Looks f = tt
+  fits_stage (Passes g after) f = record { layout = f.layout; passage = f.passage; going = f.going; sound = f.sound }
+  fits_stage (Flips g) f = record { layout = f.layout; epoch = f.epoch; seen = f.seen; going = f.going; sound = f.sound }
+  fits_stage (Forwards w) f = record { register = f.register; copy = fits_copy (x.epoch + 1) w.evac f.copy }
+  fits_stage (Accesses a) f = f
+  fits_stage (Places p) f = fits_place p f
+  fits_stage (Serves d back) f = (fits_round d back f.0, f.1)
+  fits_stage (Scans s back) f = (fits_scan s f.0, f.1, f.2)
+  fits_stage (Evacuates v s back) f = (fits_copy x.epoch v f.0, fits_scan s f.1, f.2, f.3)
+  fits_stage (Opens o s back) f =
+      (record { layout = f.0.layout; epoch = f.0.epoch; page = f.0.page; going = f.0.going; sound = f.0.sound }, fits_scan s f.1, f.2, f.3)
+  fits_stage (Recalls r after) f = record { room = f.room; layout = f.layout; going = f.going; sound = f.sound }
+  fits_stage (Guards g write) f =
+      record { room = f.room; layout = f.layout; worker = f.worker; number = f.number; runs = f.runs; going = f.going; sound = f.sound; write = fits_write write g.page f.write }
+  fits_stage (Checkpoints r goal) f =
+      record { room = f.room; layout = f.layout; worker = f.worker; caller = round_for goal r f.caller; going = f.going; sound = f.sound }
+  fits_stage (BeginsCheckpoint s) f = record { layout = f.layout; number = f.number; may = f.may; going = f.going; sound = f.sound }
+  fits_stage Gone f = tt
+
+-- before its stage was another
+pub fits_before : (x : Held) (was stage : Stage) → FitsStage (at_stage x was) stage → FitsStage x stage
+fits_before x was stage f =
+    fits_stage (at_stage x was) (record { account = x.account; registers = x.registers; task = x.task; stage = x.stage }) refl stage f
+
+-- once its stage is another
+pub fits_after : (x : Held) (now stage : Stage) → FitsStage x stage → FitsStage (at_stage x now) stage
+fits_after x now stage f =
+    fits_stage x (record { account = x.account; registers = x.registers; task = x.task; stage = now }) refl stage f
+
+pub fits_moved : (x : Held) (was now stage : Stage) → FitsStage (at_stage x was) stage → FitsStage (at_stage x now) stage
+fits_moved x was now stage f = fits_after x now stage (fits_before x was stage f)

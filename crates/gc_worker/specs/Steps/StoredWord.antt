@@ -1,0 +1,21 @@
+-- The word that a store leaves in a record, and whether the access goes on with it.
+use Rattle.std.specs.Prelude.{ℕ, Bool, true, false, Option, Some, None, Result, Ok, Err}
+use Rattle.atom_store.specs.declared.turn.Turn.{Turn}
+use Rattle.atom_store.specs.declared.turn.Turn.TheVariants.{More, Finished}
+use Rattle.plain_state.specs.declared.end.End.{End}
+use Rattle.plain_state.specs.declared.end.End.TheVariants.{IntoRaw}
+use Rattle.plain_state.specs.declared.value.Value.{Value}
+use Rattle.gc_worker.specs.declared.access.accessed.Accessed.{Accessed}
+use Rattle.gc_worker.specs.declared.access.accessed.Accessed.TheVariants.{Fails}
+use Rattle.gc_worker.specs.declared.access.field_access.Role.{Role}
+use Rattle.gc_worker.specs.Steps.Access.{word_as}
+
+-- what stands at a word with this role for a value, if it may be stored there
+abbrev pub word_if_held : Role → Result Value End → Option ℕ
+word_if_held role (Ok v) = Some (word_as role v)
+word_if_held role (Err why) = None
+
+-- an access goes on, or fails since a number may not be replaced by a pointer
+abbrev pub goes_on_if : Bool → Turn Accessed
+goes_on_if true = More
+goes_on_if false = Finished (Fails IntoRaw)
