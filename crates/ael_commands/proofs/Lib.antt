@@ -9,5 +9,8 @@ pub mod Noting
 pub mod Agreeing
 pub mod Concordances
 pub mod Calls
+pub mod Checkpoints
+pub mod Dumps
 pub mod Parsed
+pub mod Tables
 pub mod Threading

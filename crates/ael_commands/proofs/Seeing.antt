@@ -1,10 +1,11 @@
 -- What is told of the elements of a list, one after another.
-use Rattle.std.proofs.Common.{◌≡◌, ℕ, ◌+◌, ◌≤◌, zero, suc, true, false, List, [], ◌∷◌, ◌++◌, length, Option, Some, None, drop, slice_get, refl, ap, sym, ◌∙◌, add-one, append_assoc, append-nil, arith}
-use Rattle.std.specs.List.{flat_map, list_all}
+use Rattle.std.proofs.Common.{◌≡◌, ℕ, ◌+◌, ◌≤◌, ◌<◌, ◌^◌, zero, suc, true, false, List, [], ◌∷◌, ◌++◌, length, Option, Some, None, drop, get_or, slice_get, refl, ap, subst, sym, ◌∙◌, add-one, append_assoc, append-nil, arith}
+use Rattle.std.specs.List.{AllByRecursion, flat_map, list_all}
 use Rattle.std.specs.Option.{option_map}
 use Rattle.std.proofs.lemmas.Option.{same_Some}
 use Rattle.plain_state.specs.declared.end.End.{End}
 use Rattle.plain_heap.specs.Print.{Seen, printed_lines, lines_seen}
+use Rattle.dump_text.specs.Text.{IsWord}
 use Rattle.ael_commands.specs.declared.status.Status.TheVariants.{Done, Ended, StepsOut}
 use Rattle.ael_commands.specs.Runs.Verdict.{is_halt, has_ended, has_halted, status_seen}
 
@@ -77,3 +78,23 @@ went_done ks over halts = rw (over, halts)
 
 pub went_otherwise : (ks : List Seen) → list_all has_ended ks ≡ true → list_all has_halted ks ≡ false → Ended ≡ status_seen ks
 went_otherwise ks over halts = rw (over, halts)
+
+-- ---- what is so of each
+
+-- if it is so of those from m on, it is so of all
+pub record IsSoBefore {A : Type 0} (IsSo : A → Type 0) (m : ℕ) (xs : List A) : Type 0 where
+  pub all : AllByRecursion IsSo (drop m xs) → AllByRecursion IsSo xs
+
+pub so_at_first : {A : Type 0} (IsSo : A → Type 0) (xs : List A) → IsSoBefore IsSo 0 xs
+so_at_first IsSo xs = record { all = λ rest. rest }
+
+pub so_more : {A : Type 0} (IsSo : A → Type 0) (m : ℕ) (xs : List A) (x : A) → slice_get xs m ≡ Some x → IsSo x → IsSoBefore IsSo m xs → IsSoBefore IsSo (m + 1) xs
+so_more IsSo m xs x is so h = record { all = λ rest. h.all (subst (AllByRecursion IsSo) (sym (found-next xs m x is)) (so, rest)) }
+
+pub so_of_all : {A : Type 0} (IsSo : A → Type 0) (m : ℕ) (xs : List A) → length xs ≤ m → IsSoBefore IsSo m xs → AllByRecursion IsSo xs
+so_of_all IsSo m xs past h = h.all (subst (AllByRecursion IsSo) (sym (found-end xs m past)) tt)
+
+-- each item that fits is a word
+pub fit_words : (words : List ℕ) → ((i : ℕ) → get_or words i 0 < 2 ^ 64) → AllByRecursion IsWord words
+fit_words [] fit = tt
+fit_words (word ∷ words) fit = (fit 0, fit_words words (λ i. fit (suc i)))

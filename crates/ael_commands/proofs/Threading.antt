@@ -1,5 +1,5 @@
 -- A run on threads, and what is printed of it.
-use Rattle.std.proofs.Common.{◌≡◌, ℕ, zero, suc, ◌+◌, ◌≤◌, true, List, [], ◌∷◌, ◌++◌, Some, length, map, slice_get, refl, sym, ap, ap₂, ◌∙◌, arith}
+use Rattle.std.proofs.Common.{◌≡◌, ℕ, zero, suc, ◌+◌, ◌≤◌, true, List, [], ◌∷◌, ◌++◌, Some, length, map, slice_get, refl, sym, ap, ap₂, subst, ◌∙◌, arith}
 use mathlib.Core.Option.{some, some-injective, some-ne-none}
 use lib.ListN.{get_elem?}
 use Rattle.std.specs.List.{list_all}
@@ -10,11 +10,15 @@ use Rattle.mutator_asm.specs.Program.{IsWellFormed}
 use Rattle.plain_state.specs.State.{Plain}
 use Rattle.plain_heap.specs.Order.{plain, story}
 use Rattle.plain_heap.specs.Print.{Seen, lines_seen}
+use Rattle.space_map.specs.Spaces.{IsPageCount, Layout}
 use Rattle.heap_state.specs.Kept.{kept_by}
 use Rattle.heap_state.specs.Worker.{Worker}
 use Rattle.gc_worker.specs.Workers.Held.{Held}
 use Rattle.gc_worker.specs.Workers.Knows.{knows}
-use Rattle.gc_worker.specs.Laws.Step.{Heap, WorkersStand}
+use Rattle.gc_worker.specs.Laws.Checkpoints.{TellsKept}
+use Rattle.gc_worker.specs.Laws.Step.{Heap, WorkersStand, layout_of}
+use Rattle.gc_core.specs.Checkpoints.{TellsLastCheckpoint}
+use Rattle.gc_core.specs.Core.{CoreState, layout_by}
 use Rattle.gc_core.specs.Readers.{mutators_in}
 use Rattle.gc_core.specs.Run.{Ran}
 use Rattle.gc_core.specs.Told.{IsToldOf, WhatStandsIsTold}
@@ -27,11 +31,13 @@ use Rattle.ael_threads.specs.Rule.{heap_of}
 use Rattle.ael_commands.specs.declared.arguments.options.RunOptions.{RunOptions}
 use Rattle.ael_commands.specs.declared.status.Status.{Status}
 use Rattle.ael_commands.specs.Runs.ClosedHeap.{HasClosed, IsWholeHeap, told_by}
-use Rattle.ael_commands.specs.Runs.Run.{IsRun, Threaded}
+use Rattle.ael_commands.specs.Runs.Run.{IsCheckpointOf, IsRun, Threaded}
 use Rattle.ael_commands.specs.Runs.Verdict.{has_ended, status_seen}
 use Rattle.ael_commands.specs.Runs.Simulation.{config}
 use Rattle.ael_commands.specs.Runs.Threads.{IsThreaded}
-use Rattle.ael_commands.specs.Runs.Told.{RunReport, heap_lines, told_of}
+use Rattle.ael_commands.specs.Runs.Told.{AreLinesIf, RunReport, TellsWords, heap_lines, told_of}
+use Rattle.ael_commands.proofs.Checkpoints.{told_if}
+use Rattle.ael_commands.proofs.Dumps.{IsOfSize, dump_is}
 
 -- ---- what is read of it
 
@@ -63,6 +69,13 @@ module _ (law : WhatStandsIsTold) (options : RunOptions) (program : List (List I
   stands : WorkersStand heap last flip
   stands = rw (r.plain_is, ← r.flip_is) r.stands
 
+  -- the words say what the plain machine has kept
+  checkpoint : options.snap ≡ true → TellsLastCheckpoint program options.turns (order_of r.log) ran.last
+  checkpoint snap = record {
+    told = subst (TellsKept heap) (sym r.plain_is) (r.kept snap);
+    last = r.last;
+  }
+
   so : IsToldOf ran.last last flip
   so = law ran.last last flip stands
 
@@ -75,7 +88,7 @@ module _ (law : WhatStandsIsTold) (options : RunOptions) (program : List (List I
   pub has_closed : HasClosed options program items (told_by options.limit outputs)
   has_closed = record {
     ran = ran;
-    is = record { made = threaded; acts = r.acts; dump = so.dump; live = so.live };
+    is = record { made = threaded; acts = r.acts; dump = so.dump; checkpoint = checkpoint; live = so.live };
     tells = tells;
     seen = r.tells.mutators ∙ so.seen;
   }
@@ -99,7 +112,7 @@ module _ (law : WhatStandsIsTold) (options : RunOptions) (program : List (List I
       sym (length-map outputs.kept.items as_kept) ∙ ap length r.tells.kept
       ∙ length-map (map knows r.workers) (λ (w : Worker). kept_by w.copy) ∙ length-map r.workers knows
 
-  pub is_whole : IsWellFormed program items → options.scanners ≤ 8 → IsWholeHeap options.limit outputs
+  pub is_whole : IsWellFormed program items → options.scanners ≤ 8 → IsWholeHeap (layout_by (config options)) outputs
   is_whole formed few =
       let sections = formed.few_sections in
       let count : length r.workers ≡ length program + options.scanners = r.count in
@@ -114,14 +127,41 @@ module _ (law : WhatStandsIsTold) (options : RunOptions) (program : List (List I
 
 -- ---- what is printed
 
+-- the run has a mutator for each section and so many scanners, and its table is whole
+run_size : (options : RunOptions) (program : List (List Instr)) (items : List Item) (ran : Ran) → IsThreaded options program ran → IsWellFormed program items → IsPageCount options.limit → options.scanners ≤ 8 → IsOfSize ran.last
+run_size options program items ran made formed count few =
+    let r = made.runs in
+    let workers : length r.workers ≡ length program + options.scanners = r.count in
+    let words = r.all_words in
+    subst IsOfSize (sym made.last_is) (record {
+      count = count;
+      mutators = (formed.a_section, formed.few_sections);
+      workers = (omega (arith, workers), omega (arith, workers, few));
+      whole = omega (arith, words);
+    })
+
+-- the last checkpoint of the order is what the words of the heap say
+saved_is : (options : RunOptions) (program : List (List Instr)) (items : List Item) (told : RunReport) (checkpoint : List ℕ) (h : HasClosed options program items told)
+    → IsPageCount options.limit → AreLinesIf options.snap told.words checkpoint → IsCheckpointOf (Threaded options) program h.ran checkpoint
+saved_is options program items told checkpoint h count lines =
+    let made = h.is.made in
+    let layout : layout_of h.ran.last.heap ≡ layout_by (config options) = ap (λ (s : CoreState). layout_of s.heap) made.last_is in
+    told_if program options.turns h.ran.order h.ran.last (subst (λ (l : Layout). IsPageCount l.pages) (sym layout) count) checkpoint options.snap
+    (ap (λ (l : Layout). l.checkpoints) layout) h.is.checkpoint (subst (λ (t : RunReport). AreLinesIf options.snap t.words checkpoint) h.tells lines)
+
 pub run_is : (options : RunOptions) (program : List (List Instr)) (items : List Item) (told : RunReport) (output : List ℕ) (status : Status)
-    → HasClosed options program items told
-    → output ≡ lines_seen 0 told.seen ++ heap_lines options told
+    → HasClosed options program items told → IsWellFormed program items → IsPageCount options.limit → options.scanners ≤ 8
+    → (options.dump ≡ true → TellsWords told.dump)
+    → (checkpoint : List ℕ) → AreLinesIf options.snap told.words checkpoint
+    → output ≡ lines_seen 0 told.seen ++ heap_lines options told checkpoint
     → status ≡ status_seen told.seen
     → IsRun (Threaded options) program items output status
-run_is options program items told output status h printed went = record {
+run_is options program items told output status h formed count few words checkpoint lines printed went = record {
   ran = h.ran;
   is = h.is;
-  prints = printed ∙ ap₂ (λ (xs ys : List ℕ). xs ++ ys) (ap (lines_seen 0) h.seen) (ap (heap_lines options) h.tells);
+  checkpoint = checkpoint;
+  saved = saved_is options program items told checkpoint h count lines;
+  is_dump = λ asked. dump_is h.ran.last (run_size options program items h.ran h.is.made formed count few) (subst (λ (t : RunReport). TellsWords t.dump) h.tells (words asked));
+  prints = printed ∙ ap₂ (λ (xs ys : List ℕ). xs ++ ys) (ap (lines_seen 0) h.seen) (ap (λ (t : RunReport). heap_lines options t checkpoint) h.tells);
   went = went ∙ ap status_seen h.seen;
 }

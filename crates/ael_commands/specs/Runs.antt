@@ -1,3 +1,4 @@
+pub mod Checkpoint
 pub mod ClosedHeap
 pub mod Schedulers
 pub mod Run

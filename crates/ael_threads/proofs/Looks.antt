@@ -11,7 +11,7 @@ use Rattle.plain_state.specs.declared.end.End.{End}
 use Rattle.plain_state.specs.declared.end.End.TheVariants.{HeapFull}
 use Rattle.plain_state.specs.State.{Plain}
 use Rattle.space_map.specs.declared.gate_word.GateWord.{GateWord}
-use Rattle.heap_state.specs.Worker.{Account, is_running}
+use Rattle.heap_state.specs.Worker.{Account}
 use Rattle.gc_worker.specs.declared.calls.call.Call.{Call}
 use Rattle.gc_worker.specs.declared.calls.did.Did.TheVariants.{Done, Trap}
 use Rattle.gc_worker.specs.declared.calls.entry.Entry.{Entry}
@@ -20,7 +20,7 @@ use Rattle.gc_worker.specs.declared.stage.Stage.{Stage}
 use Rattle.gc_worker.specs.declared.stage.Stage.TheVariants.{Looks}
 use Rattle.gc_worker.specs.declared.task.Task.{Task}
 use Rattle.gc_worker.specs.Workers.Begun.{IsPastLook}
-use Rattle.gc_worker.specs.Laws.Between.{KeepsToTask, IsNoAnswer}
+use Rattle.gc_worker.specs.Laws.Between.{KeepsToTask, IsNoAnswer, is_present}
 use Rattle.gc_worker.specs.Laws.Cycles.{IsInCall}
 use Rattle.gc_worker.specs.Workers.Fits.{Fits, FitsEnd}
 use Rattle.gc_worker.specs.Plain.Full.{FindsNoRoom, FullWhereTold}
@@ -46,7 +46,7 @@ use Rattle.ael_threads.specs.Workers.{StandsAs, heap_of}
 use Rattle.ael_threads.proofs.WholeCalls.Began.{answers_in_call, none_at, was_in_call}
 use Rattle.ael_threads.proofs.WholeCalls.Ended.{ended_keeps, ended_out}
 use Rattle.ael_threads.proofs.Lists.Elements.{prefix_self, prefix_trans}
-use Rattle.ael_threads.proofs.TableRule.Epochs.{flipped_since, runs_now}
+use Rattle.ael_threads.proofs.TableRule.Epochs.{flipped_since, present_now}
 use Rattle.ael_threads.proofs.TableRule.Flips.{answers_as_begun}
 use Rattle.ael_threads.proofs.TableRule.FullCalls.{ended_after, told_or_before}
 use Rattle.ael_threads.proofs.TableRule.PagesInUse.{flipped_or_last}
@@ -62,9 +62,9 @@ begun_here plan m x q task words workers log here st gate want is looks call =
     let h : Heap = heap_of plan words workers in
     let held : held_at h m ≡ here.held = get_of workers m here.held nobody here.is in
     let stage : (held_at h m).stage ≡ Looks = ap (λ (y : Held). y.stage) held ∙ (ap (λ (y : Held). y.stage) here.shown ∙ looks) in
-    let runs : is_running (post_in (held_at h m) (held_at h m).stage) ≡ true = ap (λ (stage : Stage). is_running (post_in (held_at h m) stage)) stage in
+    let present : is_present (post_in (held_at h m) (held_at h m).stage) ≡ true = ap (λ (stage : Stage). is_present (post_in (held_at h m) stage)) stage in
     let epoch : flips_of plan log ≡ x.epoch =
-    sym gate ∙ (runs_now h (after_all (first_plain plan) log) (last_flip (first_plain plan) log) st m (at_inside workers m here.held here.is) runs ∙ (ap (λ (y : Held). y.epoch) held ∙ ap (λ (y : Held). y.epoch) here.shown)) in (
+    sym gate ∙ (present_now h (after_all (first_plain plan) log) (last_flip (first_plain plan) log) st m (at_inside workers m here.held here.is) present ∙ (ap (λ (y : Held). y.epoch) held ∙ ap (λ (y : Held). y.epoch) here.shown)) in (
       record { words = words; workers = workers; held = x; here = here; stands = st; task_is = is; looks = looks; epoch = epoch; step = q; wants = want; begins = call },
       epoch,
     )

@@ -5,3 +5,4 @@ pub mod Acts
 pub mod Underway
 pub mod FromActs
 pub mod OneMore
+pub mod AfterSnap

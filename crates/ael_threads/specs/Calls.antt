@@ -6,7 +6,9 @@ use Rattle.plain_state.specs.declared.end.End.{End}
 use Rattle.plain_state.specs.declared.end.End.TheVariants.{HeapFull}
 use Rattle.plain_state.specs.State.{Mutator}
 use Rattle.plain_state.specs.State as plain
-use Rattle.mutator_asm.specs.declared.instr.Instr.TheVariants.{Halt}
+use Rattle.mutator_asm.specs.declared.instr.Instr.{Instr}
+use Rattle.mutator_asm.specs.declared.instr.Instr.TheVariants.{Halt, Snap}
+use Rattle.gc_worker.specs.declared.stage.Stage.TheVariants.{Looks}
 use Rattle.gc_worker.specs.declared.steps.stepped.Stepped.{Stepped}
 use Rattle.gc_worker.specs.declared.task.Task.{Task}
 use Rattle.gc_worker.specs.declared.task.Task.TheVariants.{Calls}
@@ -15,6 +17,7 @@ use Rattle.gc_worker.specs.Laws.Between.{AreAlike, RegistersLand}
 use Rattle.gc_worker.specs.Laws.Cycles.{IsInCall}
 use Rattle.gc_worker.specs.Plain.Full.{FullByOutcome}
 use Rattle.gc_worker.specs.Steps.Turned.{Answers, told}
+use Rattle.gc_worker.specs.Workers.Held.{Held}
 use Rattle.gc_worker.specs.declared.calls.call.Call.{Call}
 use Rattle.gc_worker.specs.declared.calls.entry.Entry.{Entry}
 use Rattle.ael_threads.specs.declared.view.WonClaim.{WonClaim}
@@ -24,7 +27,7 @@ use Rattle.gc_worker.specs.History.Tally.{IsFilledBy, tally, tasks_held}
 use Rattle.ael_threads.specs.Histories.{opening_tally, first_plain, hand}
 use Rattle.gc_worker.specs.History.Legal.{after_all, worker_call, last_flip}
 use Rattle.ael_threads.specs.Began.{BegunWithin, FlippedSinceBegun, flips_of}
-use Rattle.ael_threads.specs.Seats.{ActsBy, Extends, IsShown, LiveWhereTold, Seated, ShowsSeen, first_number, first_own, plain_after_seen}
+use Rattle.ael_threads.specs.Seats.{ActsBy, Extends, IsPresent, IsRunning, IsShown, LiveWhereTold, Seated, ShowsSeen, StandWith, first_number, first_own, plain_after_seen}
 
 -- a caller's call that came to this
 abbrev pub call_by : Seated → Task → Did → Call
@@ -96,14 +99,20 @@ abbrev pub WasExecuted : Did → Type 0
 WasExecuted Done = ⊤
 WasExecuted (Trap end) = ⊥
 
--- THE CLAUSE OF EXEC: the call is one more of the caller's own, and the history that it has seen is legal, begins with all that it had
--- seen before, and ends with the call, which comes to what the plain machine's may at that point; of the seat's workers it has just the
--- calls that they made. What the caller shows is its plain mutator after it. The last act is of the caller while it still waits, and
--- answers the task in the epoch that the caller then has. Where the task was executed, each pointer in the registers leads to a record's
--- header in the space of that epoch, by the words after that act, and two registers hold one word exactly where the plain ones hold one
--- value; where the heap is told to be full it was, by the words that the act found, and what is told as live was live at the last flip,
--- which came since the look that began the task in this call if the epoch is not the last one, and all pages of the space were in use
--- then; what it and the room leave of the pages in use is no more than the pages of records made since then, or made next by the others.
+-- who executed a task runs, but after `snap` it may have to clear its request first
+abbrev pub RunsAfter : Task → Held → Type 0
+RunsAfter (Calls Snap) x = IsPresent x
+RunsAfter task x = IsRunning x
+
+-- A CALL: it is one more of the caller's own, and the history that it has seen is legal, begins with all that it had seen before, and ends
+-- with the call, which comes to what the plain machine's may at that point; of the seat's workers it has just the calls that they made.
+-- What the caller shows is its plain mutator after it. The last act is of the caller while it still waits, and answers the task in the
+-- epoch that the caller then has. Where the task was executed, the caller runs, but after `snap` may have to clear its request first; each
+-- pointer in its registers leads to a record's header in the space of that epoch, by the words after that act, and two registers hold one
+-- word exactly where the plain ones hold one value. Where the heap is told to be full it was, by the words that the act found, and what is
+-- told as live was live at the last flip, which came since the look that began the task in this call if the epoch is not the last one, and
+-- all pages of the space were in use then; what it and the room leave of the pages in use is no more than the pages of records made since
+-- then, or made next by the others.
 pub record Called (a : Seated) (task : Task) (did : Did) (b : Seated) : Type 0 where
   pub rests : b.worker.task ≡ None
   pub ends : b.worker.account.end ≡ end_by_did did
@@ -125,6 +134,7 @@ pub record Called (a : Seated) (task : Task) (did : Did) (b : Seated) : Type 0 w
   pub full : FullByOutcome a.knows.plan.spaces.pages acts.knows.before last.worker did
   pub live : LiveWhereTold (last_flip (first_plain a.knows.plan) b.knows.seen) (Answers task did)
   pub filled : IsFilledBy acts.knows.stands.tallied.sizes (tasks_held acts.knows.stands.workers) (tally (opening_tally a.knows.plan) (a.knows.seen ++ history.between)) (first_number a.knows.hands) task did []
+  pub runs : WasExecuted did → RunsAfter task b.worker
   pub lands : WasExecuted did → RegistersLand a.knows.plan.spaces.pages acts.knows.after b.worker
   pub alike : WasExecuted did → (q : Mutator) → slice_get (plain_after_seen b.knows).mutators (first_number a.knows.hands) ≡ Some q → AreAlike b.worker.registers q
 
@@ -144,6 +154,40 @@ pub record StaysSilent (a b : Seated) : Type 0 where
   pub ended : (end : End) → a.worker.account.end ≡ Some end → b.worker.account.end ≡ Some end
   pub shown : (end : End) → a.worker.account.end ≡ Some end → (records : plain.Heap) (m : ℕ) (q : Mutator) → IsShown records m a.worker q → IsShown records m b.worker q
   pub known : KnowsWorker a → KnowsWorker b
+
+-- ---- after `snap`
+
+-- By these words all workers stand, and each pointer in the caller's registers leads to a record's header in the space of its epoch; two
+-- registers hold one word exactly where the plain ones hold one value.
+pub record RegistersStand (b : Seated) : Type 0 where
+  pub words : List ℕ
+  pub stands : StandWith b.knows.plan (first_number b.knows.hands) b.worker b.knows.seen words
+  pub lands : RegistersLand b.knows.plan.spaces.pages words b.worker
+  pub alike : (q : Mutator) → slice_get (plain_after_seen b.knows).mutators (first_number b.knows.hands) ≡ Some q → AreAlike b.worker.registers q
+
+-- nothing is heard of a caller that has no task, and shows its plain mutator, with registers that stand while it is present
+pub record GoesOn (a b : Seated) : Type 0 where
+  pub quiet : StaysSilent a b
+  pub shows : ShowsSeen b.worker b.knows
+  pub registers : IsPresent b.worker → RegistersStand b
+
+-- A call of `snap`, after which the caller went on up to its look, where it runs: nobody waits for it any more. It has seen no more than
+-- the history that ends with the call.
+pub record CalledSnap (a : Seated) (did : Did) (b : Seated) : Type 0 where
+  pub then : Seated
+  pub called : Called a (Calls Snap) did then
+  pub goes : GoesOn then b
+  pub known : KnowsWorker b
+  pub ends : b.worker.account.end ≡ end_by_did did
+  pub looks : WasExecuted did → b.worker.stage ≡ Looks
+  pub runs : WasExecuted did → IsRunning b.worker
+
+-- THE CLAUSE OF EXEC: the instruction was called, and after `snap` the caller went on up to its look
+abbrev pub CalledBy : Seated → Instr → Did → Seated → Type 0
+CalledBy a Snap did b = CalledSnap a did b
+CalledBy a instr did b = Called a (Calls instr) did b
+
+-- ---- who leaves
 
 -- THE CLAUSE OF LEAVE, of a caller without an end: it makes `halt`, and after that nothing is heard of it
 pub record Halts (a b : Seated) : Type 0 where

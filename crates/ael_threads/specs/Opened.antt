@@ -1,13 +1,14 @@
 -- A heap as it is opened.
-use Rattle.std.specs.Prelude.{ℕ, zero, suc, false, ◌+◌, List, [], ◌∷◌, ◌++◌}
+use Rattle.std.specs.Prelude.{ℕ, zero, suc, ◌+◌, List, [], ◌∷◌, ◌++◌}
 use Rattle.atomic_table.specs.Seated.{TableId}
 use Rattle.gc_worker.specs.declared.config.Config.{Config}
+use Rattle.gc_worker.specs.Config.{layout_by}
 use Rattle.ael_threads.specs.declared.view.Plan.{Plan}
 use Rattle.ael_threads.specs.Readers.{SeatedScanner}
 use Rattle.ael_threads.specs.Seats.{new_seated}
 
 abbrev pub plan_of : (mutators : ℕ) → Config → Plan
-plan_of mutators config = record { spaces = record { pages = config.limit; checkpoints = false }; least = config.pages; mutators = mutators; scanners = config.scanners }
+plan_of mutators config = record { spaces = layout_by config; least = config.pages; mutators = mutators; scanners = config.scanners }
 
 abbrev pub new_scanner : TableId → Plan → ℕ → SeatedScanner
 new_scanner t plan k = record { seated = new_seated t plan k; steps = 0 }

@@ -1,20 +1,23 @@
 -- What a run tells of itself at its end.
-use Rattle.std.specs.Prelude.{◌≡◌, ℕ, ◌-◌, ◌^◌, ◌<◌, false, List, ◌++◌, Some, IsSome, length, map, slice_get}
+use Rattle.std.specs.Prelude.{◌≡◌, ℕ, ◌-◌, ◌^◌, ◌<◌, true, false, List, ◌++◌, Some, IsSome, length, map, slice_get}
 use Rattle.plain_state.specs.declared.end.End.{End}
 use Rattle.plain_state.specs.State.{Mutator}
 use Rattle.mutator_asm.specs.declared.instr.Instr.{Instr}
+use Rattle.plain_heap.specs.LastCheckpoint.{IsLastCheckpoint}
 use Rattle.plain_heap.specs.Order.{opening, plain, story}
 use Rattle.plain_heap.specs.Print.{Seen}
 use Rattle.heap_state.specs.Cycles.Copies.{CopiedIsLive}
 use Rattle.heap_state.specs.Kept.{Kept}
 use Rattle.heap_state.specs.Memory.Table.{word_in}
 use Rattle.space_map.specs.Spaces.{to_space}
-use Rattle.space_map.specs.Table.{Area, Traced, table_length}
+use Rattle.space_map.specs.Table.{Area, Traced, whole_length}
 use Rattle.gc_worker.specs.declared.config.Config.{Config}
+use Rattle.gc_worker.specs.Config.{layout_by}
 use Rattle.gc_worker.specs.declared.open_error.OpenError.{OpenError}
 use Rattle.gc_worker.specs.declared.open_error.OpenError.TheVariants as opens
 use Rattle.gc_worker.specs.declared.stage.Stage.TheVariants.{Gone}
 use Rattle.gc_worker.specs.Laws.Between.{ShowsRegisters}
+use Rattle.gc_worker.specs.Laws.Checkpoints.{TellsKept}
 use Rattle.gc_worker.specs.Laws.Copied.{IsTraced}
 use Rattle.gc_worker.specs.Workers.Held.{Held}
 use Rattle.gc_worker.specs.Laws.Step.{Heap, WorkersStand, epoch_of, read}
@@ -74,7 +77,7 @@ pub record Tells (h : Heap) (told : Outputs) : Type 0 where
 -- what is told of a heap that was closed, by these mutators and scanners and by its words
 pub record IsToldOnClose (plan : Plan) (mutators : List Seated) (scanners : List SeatedScanner) (told : Outputs) : Type 0 where
   pub closes : Closes plan (map seated scanners ++ mutators) told.words
-  pub all_words : length told.words ≡ table_length plan.spaces.pages
+  pub all_words : length told.words ≡ whole_length plan.spaces
   pub printed : map printed_by told.mutators.items ≡ map seat_seen mutators
   pub registers : told.regs.items ≡ map seat_registers mutators
   pub kept : told.kept.items ≡ map seat_kept (mutators ++ map seated scanners)
@@ -90,13 +93,14 @@ pub record TellsRegisters (told : Outputs) (m : ℕ) (q : Mutator) : Type 0 wher
 -- THE CLAUSE OF RUN: all calls of its mutators stand in one legal history. In the order of that history the plain machine executes the
 -- program, each mutator its section from the start, none of its instructions skipped and none executed twice, to its end. The words that
 -- are told, with what all workers hold, which have left, stand for the plain state after it, and registers show the plain ones; what was
--- copied in an epoch that is traced is what was live at its last flip; what else is told is what these say. Each flip was for a record, an
--- instruction asking for one at most of a space all of whose pages are in use, and left the pages in use or doubled them; where a mutator's
--- end is that the heap is full, it was, by words with which all workers stood at that call, and what was live at the flip before and the
--- room left no more of the pages in use than the pages of records made since then, or made next by others; there is a look by which the
--- mutator began that instruction, and that flip came since and all pages of the space were in use, if it is not the last that there can be.
--- So it is by the order alone; and a heap whose limit is as large as the order needs is never full, but after the last flip that there can
--- be its pages at first have to be enough.
+-- copied in an epoch that is traced is what was live at its last flip; what the plain machine has kept is the last checkpoint of the order,
+-- and if checkpoints can be begun, the words say it; what else is told is what these say. Each flip was for a record, an instruction asking
+-- for one at most of a space all of whose pages are in use, and left the pages in use or doubled them; where a mutator's end is that the
+-- heap is full, it was, by words with which all workers stood at that call, and what was live at the flip before and the room left no more
+-- of the pages in use than the pages of records made since then, or made next by others; there is a look by which the mutator began that
+-- instruction, and that flip came since and all pages of the space were in use, if it is not the last that there can be. So it is by the
+-- order alone; and a heap whose limit is as large as the order needs is never full, but after the last flip that there can be its pages at
+-- first have to be enough.
 pub record Runs (code : List (List Instr)) (config : Config) (told : Outputs) : Type 0 where
   pub log : List Entry
   pub workers : List Held
@@ -109,6 +113,8 @@ pub record Runs (code : List (List Instr)) (config : Config) (told : Outputs) : 
   pub stands : WorkersStand (heap_of (plan_of (length code) config) told.words workers) (after_all (opening code) log) (last_flip (opening code) log)
   pub copied : IsTraced (heap_of (plan_of (length code) config) told.words workers)
       → CopiedIsLive (read (heap_of (plan_of (length code) config) told.words workers)) (last_flip (opening code) log)
+  pub kept : config.snap ≡ true → TellsKept (heap_of (plan_of (length code) config) told.words workers) (after_all (opening code) log)
+  pub last : IsLastCheckpoint code config.turns (order_of log)
   pub epoch : told.cycles ≡ (tally (opening_tally (plan_of (length code) config)) log).flips
   pub left : Each (λ (x : Held). x.stage ≡ Gone) workers
   pub shows : (m : ℕ) (q : Mutator) → slice_get (after_all (opening code) log).mutators m ≡ Some q → TellsRegisters told m q
@@ -116,7 +122,7 @@ pub record Runs (code : List (List Instr)) (config : Config) (told : Outputs) : 
   pub sized : AreSizesOf (plan_of (length code) config) sizes
   pub size : size_of config.limit told.words ≡ size_now sizes (tally (opening_tally (plan_of (length code) config)) log)
   pub entries : EachEntry (EntryIs sizes (tasks_held workers)) (opening_tally (plan_of (length code) config)) log
-  pub all_words : length told.words ≡ table_length config.limit
+  pub all_words : length told.words ≡ whole_length (layout_by config)
   pub tells : Tells (heap_of (plan_of (length code) config) told.words workers) told
   pub flipped : (m : ℕ) → FlippedIfFull (plan_of (length code) config) m (begun_held workers m) log
   pub full : (m : ℕ) (q : Mutator) (end : End) → slice_get (after_all (opening code) log).mutators m ≡ Some q → q.end ≡ Some end → FullIn (plan_of (length code) config) m log end

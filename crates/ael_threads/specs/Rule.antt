@@ -65,10 +65,8 @@ pub record FitsView (plan : Plan) (words : List ℕ) (workers : List Held) (log 
 -- THE RULE: with what all workers hold the words stand for the plain state after one legal history, and keep what a cycle keeps that
 -- began at its last flip; once a scanner is gone, all mutators are; what is counted along the history fits the words and the workers;
 -- each worker that is in a call began it by a look at a beginning of the history, in the epoch that it keeps, and where the history tells
--- that a worker found the heap full, a flip came since that look, or none can; what each seat knows fits these. No table has room for
--- checkpoints.
+-- that a worker found the heap full, a flip came since that look, or none can; what each seat knows fits these.
 pub record RuleHolds (plan : Plan) (s : table.State ℕ View) : Type 0 where
-  pub without : plan.spaces.checkpoints ≡ false
   pub log : List Entry
   pub workers : List Held
   pub count : length workers ≡ crew plan

@@ -1,5 +1,5 @@
 -- What a seat is told by a step, and by what it takes in.
-use Rattle.std.specs.Prelude.{◌≡◌, ◌≢◌, ℕ, zero, suc, ◌+◌, ◌==◌, ◌<◌, ◌≤◌, ⊤, true, Option, Some, None, List, [], ◌∷◌, ◌++◌, map, take, drop, slice_get, length, if◌then◌else◌}
+use Rattle.std.specs.Prelude.{◌≡◌, ◌≢◌, ℕ, zero, suc, ◌+◌, ◌==◌, ◌<◌, ◌≤◌, ◌⊎◌, ⊤, true, Option, Some, None, List, [], ◌∷◌, ◌++◌, map, take, drop, slice_get, length, if◌then◌else◌}
 use mathlib.Core.List.{IsPrefix}
 use lib.ListN.{get_elem?}
 use Rattle.atomic_table.specs.Table as table
@@ -12,10 +12,12 @@ use Rattle.atom_store.specs.Step.{reply_of, words_after}
 use Rattle.space_map.specs.Table.{whole_length}
 use Rattle.plain_state.specs.State.{Mutator, Plain, serial_of}
 use Rattle.plain_state.specs.State as plain
+use Rattle.mutator_asm.specs.declared.instr.Instr.TheVariants.{Snap}
+use Rattle.gc_worker.specs.declared.stage.Stage.{Stage}
 use Rattle.gc_worker.specs.declared.stage.Stage.TheVariants.{Gone}
 use Rattle.gc_worker.specs.declared.steps.stepped.Stepped.{Stepped}
 use Rattle.gc_worker.specs.declared.steps.stepped.Stepped.TheVariants.{Idle}
-use Rattle.gc_worker.specs.Laws.Between.{Begins, AreAlike, KeepsToTask, RegistersLand, Readies, ShowsRegisters}
+use Rattle.gc_worker.specs.Laws.Between.{Begins, AreAlike, KeepsToTask, RegistersLand, Readies, ShowsRegisters, is_present}
 use Rattle.gc_worker.specs.Workers.Counted.{counted}
 use Rattle.gc_worker.specs.Workers.Fits.{Fits, Takes}
 use Rattle.gc_worker.specs.Plain.Full.{FullWhereTold}
@@ -25,13 +27,15 @@ use Rattle.plain_state.specs.declared.end.End.{End}
 use Rattle.plain_state.specs.declared.end.End.TheVariants.{HeapFull}
 use Rattle.heap_state.specs.Meaning.Reachable as reachable
 use Rattle.heap_state.specs.Worker.{is_running}
+use Rattle.gc_worker.specs.Laws.Checkpoints.{TellsKept}
 use Rattle.gc_worker.specs.Laws.Copied.{IsTraced}
 use Rattle.gc_worker.specs.Laws.Gone.{ScannersAreLast}
 use Rattle.gc_worker.specs.Laws.Step.{FlipsWhereTold, WorkersStand, held_at, read, epoch_of}
 use Rattle.heap_state.specs.Cycles.Copies.{CopiedIsLive}
-use Rattle.gc_worker.specs.Steps.Stepped.{stepped_by, uncounted}
+use Rattle.gc_worker.specs.Steps.Stepped.{IsBeginningCheckpoint, stepped_by, uncounted}
 use Rattle.gc_worker.specs.declared.calls.did.Did.TheVariants.{Done, Trap}
 use Rattle.gc_worker.specs.declared.task.Task.{Task}
+use Rattle.gc_worker.specs.declared.task.Task.TheVariants.{Calls}
 use Rattle.gc_worker.specs.Steps.Turned.{PageWon, Told, Silent, Answers, Marks, told, turned, won}
 use Rattle.gc_worker.specs.Steps.Wanted.{wanted}
 use Rattle.gc_worker.specs.declared.calls.call.Call.{Call}
@@ -41,6 +45,7 @@ use Rattle.gc_worker.specs.declared.calls.entry.Entry.TheVariants.{Made}
 use Rattle.ael_threads.specs.declared.view.Hand.{Hand}
 use Rattle.ael_threads.specs.declared.view.Plan.{Plan}
 use Rattle.ael_threads.specs.declared.view.View.{View}
+use Rattle.gc_worker.specs.History.Checkpoints.{IsLastOfHistory}
 use Rattle.gc_worker.specs.History.Large.{HasNoFullCall, IsLargeFor}
 use Rattle.gc_worker.specs.History.Tally.{EachEntry, EntryIs, IsTallied, Sizes, Tasks, size_now, tasks_held, tally}
 use Rattle.gc_worker.specs.Laws.Cycles.{size_of}
@@ -130,6 +135,14 @@ LiveWhereTold o (Marks asked) = ⊤
 abbrev pub IsRunning : Held → Type 0
 IsRunning x = (x.account.end ≡ None) × (is_running (post_in x x.stage) ≡ true)
 
+-- a mutator that has no end, and runs or has made the request: its epoch is the gate's
+abbrev pub IsPresent : Held → Type 0
+IsPresent x = (x.account.end ≡ None) × (is_present (post_in x x.stage) ≡ true)
+
+-- by this task a checkpoint is begun
+abbrev pub BeginsBySnap : Stage → Task → Type 0
+BeginsBySnap stage task = IsBeginningCheckpoint stage × (task ≡ Calls Snap)
+
 -- With these words, and with worker m, which holds x but for its count, all workers stand for the plain state after a legal history
 -- that begins with this; what is counted along it fits them.
 pub record StandWith (plan : Plan) (m : ℕ) (x : Held) (seen : List Entry) (words : List ℕ) : Type 0 where
@@ -147,8 +160,9 @@ pub record StandWith (plan : Plan) (m : ℕ) (x : Held) (seen : List Entry) (wor
 -- worker has changed. A scanner that is gone after it found all mutators gone. The history before it begins with all that the seat had
 -- heard of, and has just the calls that the worker made; the seat hears of the one after it. A flip, and nothing else, raises the epoch by
 -- one, for the pages that the worker's task asks for. Where the heap is told to be full it was by the words before, and what is told as
--- live was live at the last flip. An effect leaves a mutator that runs and has no end. If the worker is then such a one, each pointer in
--- its registers leads to a record's header in the words after, and two registers hold one word exactly where the plain ones hold one value.
+-- live was live at the last flip. An effect leaves a mutator that is present, and that runs, if it is not the effect of `snap` by which a
+-- checkpoint is begun: then it has yet to clear its request. If the worker is one that is present, each pointer in its registers leads to a
+-- record's header in the words after, and two registers hold one word exactly where the plain ones hold one value.
 pub record Moves (v : View) (m : ℕ) (x : Held) (r : Reply) (w : View) : Type 0 where
   pub takes : Takes x r
   pub fits : Fits v.plan.spaces.pages v.plan.mutators m (turned x r)
@@ -176,9 +190,10 @@ pub record Moves (v : View) (m : ℕ) (x : Held) (r : Reply) (w : View) : Type 0
   pub flips : FlipsWhereTold v.plan.spaces.pages before after x (told x r)
   pub full : FullWhereTold v.plan.spaces.pages before x (told x r)
   pub live : LiveWhereTold (last_flip (first_plain v.plan) w.seen) (told x r)
-  pub runs : (task : Task) → told x r ≡ Answers task Done → IsRunning (turned x r)
-  pub lands : IsRunning (turned x r) → RegistersLand v.plan.spaces.pages after (turned x r)
-  pub alike : IsRunning (turned x r) → (q : Mutator) → slice_get (plain_after_seen w).mutators m ≡ Some q → AreAlike (turned x r).registers q
+  pub present : (task : Task) → told x r ≡ Answers task Done → IsPresent (turned x r)
+  pub runs : (task : Task) → told x r ≡ Answers task Done → BeginsBySnap x.stage task ⊎ IsRunning (turned x r)
+  pub lands : IsPresent (turned x r) → RegistersLand v.plan.spaces.pages after (turned x r)
+  pub alike : IsPresent (turned x r) → (q : Mutator) → slice_get (plain_after_seen w).mutators m ≡ Some q → AreAlike (turned x r).registers q
 
 abbrev pub Me : Type 0
 Me = table.Me ℕ View
@@ -322,15 +337,15 @@ pub record Stays (workers : List Held) (log : List Entry) (h : Hand) : Type 0 wh
 
 -- THE CLAUSE OF CLOSE: the calls of all these callers stand in one legal history, each once, of which what each has seen is a beginning;
 -- with what their codes hold the words stand for the plain state after it; if a scanner is gone, all mutators are; what was copied in an
--- epoch that is traced is what was live at the last flip of the history; the gate's epoch is the number of its flips; each flip was for a
--- record, and if a call told the heap to be full, what was live at the flip before it and the room left no more of the pages in use
--- than the pages of records made since then, or made next, by the history or else by the tasks that mutators have begun; that flip came
--- since the look by which the worker began that task, in the epoch that it keeps, and all pages of the space were in use, if that flip was
--- not the last that there can be. So a heap whose limit is as large as the history needs is never full; after the last flip that there
--- can be, its pages at first have to be enough. As many pages are in use as the history's flips have brought into use, each of which
--- leaves them or doubles them, as far as the limit goes; between two of its calls no mutator asked for two flips of a space all of whose
--- pages were in use; if all workers are there the history has no other calls; no worker stands twice, and no page was won twice in one
--- epoch.
+-- epoch that is traced is what was live at the last flip of the history; if checkpoints can be begun, the words are just those of the
+-- layout, and say what was kept at the last `snap` of the history; the gate's epoch is the number of its flips; each flip was for a record,
+-- and if a call told the heap to be full, what was live at the flip before it and the room left no more of the pages in use than the pages
+-- of records made since then, or made next, by the history or else by the tasks that mutators have begun; that flip came since the look by
+-- which the worker began that task, in the epoch that it keeps, and all pages of the space were in use, if that flip was not the last that
+-- there can be. So a heap whose limit is as large as the history needs is never full; after the last flip that there can be, its pages at
+-- first have to be enough. As many pages are in use as the history's flips have brought into use, each of which leaves them or doubles
+-- them, as far as the limit goes; between two of its calls no mutator asked for two flips of a space all of whose pages were in use; if all
+-- workers are there the history has no other calls; no worker stands twice, and no page was won twice in one epoch.
 pub record Closes (plan : Plan) (all : List Seated) (words : List ℕ) : Type 0 where
   pub log : List Entry
   pub workers : List Held
@@ -339,6 +354,8 @@ pub record Closes (plan : Plan) (all : List Seated) (words : List ℕ) : Type 0 
   pub stands : WorkersStand (heap_of plan words workers) (after_all (first_plain plan) log) (last_flip (first_plain plan) log)
   pub last : ScannersAreLast (heap_of plan words workers)
   pub copied : IsTraced (heap_of plan words workers) → CopiedIsLive (read (heap_of plan words workers)) (last_flip (first_plain plan) log)
+  pub kept : plan.spaces.checkpoints ≡ true → TellsKept (heap_of plan words workers) (after_all (first_plain plan) log)
+  pub last_snap : IsLastOfHistory (first_plain plan) log
   pub epoch : epoch_of plan.spaces.pages words ≡ (tally (opening_tally plan) log).flips
   pub sizes : Sizes
   pub sized : AreSizesOf plan sizes

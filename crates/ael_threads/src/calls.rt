@@ -5,8 +5,9 @@ ghost use Rattle.plain_state.specs.declared.end.End.{End};
 ghost use Rattle.gc_worker.specs.declared.stage.Stage.TheVariants.{Gone};
 ghost use Rattle.gc_worker.specs.declared.task.Task.{Task};
 ghost use Rattle.gc_worker.specs.declared.task.Task.TheVariants.{Calls};
+ghost use Rattle.gc_worker.specs.Steps.Stepped.{awaits};
 ghost use Rattle.gc_worker.specs.Workers.Fits.{MayBegin};
-ghost use Rattle.ael_threads.specs.Calls.{Called, Halts, StaysSilent, IsUnderWay, Tries};
+ghost use Rattle.ael_threads.specs.Calls.{Called, CalledBy, GoesOn, Halts, StaysSilent, IsUnderWay, Tries};
 ghost use Rattle.ael_threads.specs.Seats.{Seated};
 
 use crate::mutator::Mutator;
@@ -22,7 +23,28 @@ const ACTS: u32 = 64;
 impl Mutator {
     /// Makes one call: the instruction is begun, and acts are made up to its effect or end. Between two tries it backs off. What `begin`
     /// asks for is asked for here. `Trap` comes exactly where the plain machine's call has that end, or where the heap is full.
+    ///
+    /// `snap` has its effect while all other mutators stand still. So after it a few more acts are made, up to the next look at the gate:
+    /// nobody waits any longer for a thread that has come back from here.
     pub fn exec<R: Wait>(&mut self, rt: &R, h: &Shared, instr: &Instr) -> Did
+        requires table { self.old.table ≡ h.now.table.shared.table_id }
+        requires no_end { self.old.worker.account.end ≡ None }
+        requires no_task { self.old.worker.task ≡ None }
+        requires may_begin { MayBegin self.old.worker.account self.old.worker.registers (Some (Calls instr.now)) }
+        ensures table { self.new.table ≡ self.old.table }
+        ensures called { CalledBy self.old instr.now result self.new }
+    {
+        let did = self.calls(rt, h, instr);
+        if let Instr::Snap = instr {
+            if let Did::Done = did {
+                self.settles(rt, h);
+            }
+        }
+        did
+    }
+
+    /// Makes one call, and no act after its effect or end.
+    pub(crate) fn calls<R: Wait>(&mut self, rt: &R, h: &Shared, instr: &Instr) -> Did
         requires table { self.old.table ≡ h.now.table.shared.table_id }
         requires no_end { self.old.worker.account.end ≡ None }
         requires no_task { self.old.worker.task ≡ None }
@@ -64,6 +86,38 @@ impl Mutator {
             }
         }
         None
+    }
+
+    /// Goes on after `snap`, up to its look.
+    fn settles<R: Wait>(&mut self, rt: &R, h: &Shared)
+        requires table { self.old.table ≡ h.now.table.shared.table_id }
+        ensures table { self.new.table ≡ self.old.table }
+        ensures settled { awaits self.new.worker ≡ true }
+        ensures goes_on { (a : Seated) → GoesOn a self.old → GoesOn a self.new }
+    {
+        let backoff = Backoff::new();
+        for _ in rt.forever() {
+            if self.comes_back(h) {
+                return;
+            }
+            backoff.snooze();
+        }
+    }
+
+    /// Makes some acts, up to the one after which it looks at the gate and has no task.
+    fn comes_back(&mut self, h: &Shared) -> bool
+        requires table { self.old.table ≡ h.now.table.shared.table_id }
+        ensures table { self.new.table ≡ self.old.table }
+        ensures back { result ≡ true → awaits self.new.worker ≡ true }
+        ensures goes_on { (a : Seated) → GoesOn a self.old → GoesOn a self.new }
+    {
+        for _ in 0..ACTS {
+            if self.caller.worker.awaits() {
+                return true;
+            }
+            self.act(h);
+        }
+        false
     }
 
     /// Leaves the heap. A mutator without an end, which has no instruction begun, makes `halt` first.

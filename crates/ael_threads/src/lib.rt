@@ -1,6 +1,8 @@
 //! The heap on real threads: each worker has a seat at the words that all share.
 //!
 //! What a seat knows is kept by a rule of the table of words. The rule rests on the one law of a worker's step, whatever the step is.
+//!
+//! On a heap with room for checkpoints `snap` begins one. Once the heap is closed its words tell the last of them.
 #![tactic(auto)]
 
 mod caller;

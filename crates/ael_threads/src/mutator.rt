@@ -75,6 +75,10 @@ impl Mutator {
 
     /// Makes one atomic step, and waits for nobody. With no instruction begun it is a look at the gate, and what the gate then asks. It is
     /// idle exactly where the mutator has left.
+    ///
+    /// At the effect of `snap` all other mutators stand still, and they do until this one has made a few more acts: in one of them it clears
+    /// its request. Who makes `snap` by acts and then waits for another thread should make acts first, until it looks at the gate again;
+    /// `exec` does so by itself.
     pub fn act(&mut self, h: &Shared) -> Stepped
         requires { self.old.table ≡ h.now.table.shared.table_id }
         ensures table { self.new.table ≡ self.old.table }

@@ -1,11 +1,10 @@
 //! How a heap is opened: its words, and a seat for each of its workers.
 
 ghost use Rattle.std.specs.Prelude.{◌≡◌, ◌+◌, ◌-◌, ◌≤◌, ◌<◌, ◌↔◌, [], IfOk, IsErrOf, IsTrue, not};
-ghost use Rattle.heap_laws.specs.Opening.{opening_entries};
-ghost use Rattle.heap_state.specs.Memory.Entries.{written};
 ghost use Rattle.space_map.specs.declared.spaces.TheConstants.{MOST_MUTATORS, MOST_SCANNERS};
-ghost use Rattle.space_map.specs.Table.{table_length, whole_length};
-ghost use Rattle.gc_worker.specs.Config.{has_sizes};
+ghost use Rattle.space_map.specs.Table.{whole_length};
+ghost use Rattle.gc_worker.specs.Config.{has_sizes, layout_by};
+ghost use Rattle.gc_worker.specs.Laws.Between.{opening_words};
 ghost use Rattle.ael_threads.specs.Histories.{first_held, new_hands};
 ghost use Rattle.ael_threads.specs.Opened.{new_scanners, plan_of};
 ghost use Rattle.ael_threads.specs.Rule.{crew, first_view, view};
@@ -30,17 +29,18 @@ pub struct Seats {
     pub scanners: Vec<Scanner>,
 }
 
-/// The words before the first step: both spaces are empty with so many pages in use, the epoch is traced, and the board is open.
+/// The words before the first step: both spaces are empty with so many pages in use, the epoch is traced, the board is open, and nothing is
+/// said of checkpoints.
 fn first_words(alloc: Global, spaces: Spaces, pages: u32) -> Result<Vec<u64>, AllocError>
     requires { pages ≤ spaces.pages }
-    ensures { IfOk result (λ words. words.items ≡ written spaces.pages (opening_entries spaces.pages pages)) }
+    ensures { IfOk result (λ words. words.items ≡ opening_words spaces pages) }
 {
     let area = AreaWord {
         front: 0,
         low: PAGE_WORDS * pages,
         owed: 0,
     };
-    let mut words = Vec::from_elem(alloc, 0u64, spaces.table_len())?;
+    let mut words = Vec::from_elem(alloc, 0u64, spaces.whole_len())?;
     words[spaces.page_place(spaces.board_page())] = unprotect(0);
     words[spaces.size_place(1)] = u64::from(pages);
     words[spaces.size_place(0)] = u64::from(pages);
@@ -53,12 +53,13 @@ fn first_words(alloc: Global, spaces: Spaces, pages: u32) -> Result<Vec<u64>, Al
 impl Shared {
     /// A heap in which nobody has made a step, and a seat for each of its workers: 1 to 16 mutators, and at most 8 scanners. `BadPages`
     /// comes exactly for fewer than 4 pages at first, for fewer in all than at first, or for more than 2048, else `NoMemory` if memory is
-    /// wanting. The words and the room for the most numbers of each mutator are taken here; no later call takes memory.
+    /// wanting. The words and the room for the most numbers of each mutator are taken here; no later call takes memory. With
+    /// `config.snap` the table has room for checkpoints, and `snap` begins one; else `snap` changes none of its words.
     pub fn open(alloc: Global, mutators: u8, config: &Config) -> Result<(Shared, Seats), OpenError>
         requires mutators { (1 ≤ mutators) × (mutators ≤ MOST_MUTATORS) }
         requires scanners { config.now.scanners ≤ MOST_SCANNERS }
         ensures key { IfOk result (λ o. o.0.table.shared.key ≡ plan_of mutators config.now) }
-        ensures words { IfOk result (λ o. o.0.table.shared.table_id.words ≡ table_length config.now.limit) }
+        ensures words { IfOk result (λ o. o.0.table.shared.table_id.words ≡ whole_length (layout_by config.now)) }
         ensures mutators { IfOk result (λ o. o.1.mutators.items ≡ new_callers o.0.table.shared.table_id (plan_of mutators config.now) 0 mutators) }
         ensures scanners { IfOk result (λ o. o.1.scanners.items ≡ new_scanners o.0.table.shared.table_id (plan_of mutators config.now) mutators config.now.scanners) }
         ensures bad_pages { IsErrOf result OpenError.BadPages ↔ IsTrue (not (has_sizes config.now)) }

@@ -7,6 +7,7 @@ use std::collections::LinkedList;
 /// How large the heap is, and who works on it.
 #[derive(Clone, Copy, Debug)]
 pub struct Plan {
+    /// Its layout: how many pages of a space may come into use, and whether checkpoints can be begun.
     pub spaces: Spaces,
     /// Pages of a space that are in use at first.
     pub least: u32,

@@ -1,12 +1,12 @@
 //! The words of a heap once all its workers are back.
 
-ghost use Rattle.std.specs.Prelude.{◌≡◌, ◌<◌, ℕ, List, length};
+ghost use Rattle.std.specs.Prelude.{◌≡◌, ◌<◌, ℕ, List, length, IfOk};
 ghost use Rattle.std.specs.Slots.{slots_items, slots_len, IsFull};
 ghost use mathlib.Core.Option.{some};
 ghost use lib.ListN.{get_elem?};
 
 use atomic_table::Closed;
-use std::alloc::Global;
+use std::alloc::{AllocError, Global};
 use std::marker::Model;
 
 /// The words of a heap that was closed. Contracts see them as a list.
@@ -39,6 +39,17 @@ impl Words {
         ensures { get_elem? self.now place ≡ some result }
     {
         self.closed.word(place)
+    }
+
+    /// All of them, in order.
+    pub fn to_vec(&self, alloc: Global) -> Result<Vec<u64>, AllocError>
+        ensures { IfOk result (λ words. words.items ≡ self.now) }
+    {
+        let mut words = Vec::with_capacity(alloc, self.len())?;
+        for place in 0..self.len() {
+            words.push_reserved(self.word(place));
+        }
+        Ok(words)
     }
 }
 

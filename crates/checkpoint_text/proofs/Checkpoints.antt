@@ -1,5 +1,5 @@
 -- The lines of what is read are those of the checkpoint that is kept.
-use Rattle.std.proofs.Common.{◌≡◌, ◌≢◌, ℕ, zero, suc, ◌+◌, ◌*◌, ◌^◌, ◌<◌, List, ◌++◌, map, length, slice_index, slice_index_or, Some, sym, ap, ◌∙◌, subst, arith}
+use Rattle.std.proofs.Common.{◌≡◌, ◌≢◌, ℕ, zero, suc, ◌+◌, ◌*◌, ◌^◌, ◌<◌, List, [], ◌++◌, map, length, slice_index, slice_index_or, Some, sym, ap, ◌∙◌, subst, arith}
 use Rattle.std.specs.List.{Contains, flat_map}
 use Rattle.std.proofs.Math.ListN.{get_or-map}
 use Rattle.std.proofs.lemmas.List.{append_assoc, length-map}
@@ -8,7 +8,7 @@ use Rattle.std.proofs.lemmas.List.Folds.{flat_map-map}
 use Rattle.heap_words.specs.declared.kind.Kind.TheVariants.{Fields}
 use Rattle.plain_state.specs.declared.value.Identity.{Identity}
 use Rattle.plain_state.specs.State.{Snapped}
-use Rattle.space_map.specs.Spaces.{board_page, first_word}
+use Rattle.space_map.specs.Spaces.{IsPageCount, board_page, first_word}
 use Rattle.plain_heap.specs.Checkpoint.{Checkpoint, IsCheckpoint, IsListedBefore, KeptRecord, ReachedFrom, board_line, checkpoint_lines, identities_of, kept_record, number_line, record_line}
 use Rattle.heap_state.specs.Saving.Words.{saves_of}
 use Rattle.heap_state.specs.Saving.Said.{SaysCheckpoint}
@@ -16,7 +16,7 @@ use Rattle.checkpoint_text.specs.declared.saved_record.SavedRecord.{SavedRecord}
 use Rattle.checkpoint_text.specs.Heap.{saved_word}
 use Rattle.checkpoint_text.specs.Records.{content_of, values_read}
 use Rattle.checkpoint_text.specs.Reached.{AreListed}
-use Rattle.checkpoint_text.specs.Text.{AreLinesOf, TellsCheckpoint}
+use Rattle.checkpoint_text.specs.Text.{AreLinesOf, HaveNoRoom, TellsCheckpoint}
 use Rattle.checkpoint_text.proofs.Leads.{belongs, contains_map, has_each}
 use Rattle.checkpoint_text.proofs.Pictures.{Pictured, board_is, board_of, content_is, pictured}
 use Rattle.checkpoint_text.proofs.Sorts.{addresses_apart, rises}
@@ -82,25 +82,35 @@ module _ (kept : Snapped) (p : Pictured kept) (records : List SavedRecord) (are 
 some_begun : (snap number : ℕ) → snap ≡ number → (snap ≡ 0 → ⊥) → 0 < number
 some_begun snap number is some = omega (arith, is, some)
 
-module _ (n : ℕ) (words : List ℕ) (whole : length words ≡ 262 * n + 170) where
+module _ (n : ℕ) (words : List ℕ) (count : IsPageCount n) (whole : length words ≡ 262 * n + 170) where
   said_here : (number : ℕ) (kept : Snapped) → TellsCheckpoint words number kept → SaysCheckpoint n words number kept
   said_here number kept tells =
       let same : tells.pages ≡ n = omega (arith, whole, tells.table.length) in
       subst (λ (m : ℕ). SaysCheckpoint m words number kept) same tells.says
 
+  -- there is room for checkpoints
+  none_here : (bytes : List ℕ) → HaveNoRoom words → bytes ≡ []
+  none_here bytes no_room = absurd (no_room n (record { count = count; length = whole }))
+
   -- before the first checkpoint
   pub none_told : (bytes : List ℕ) → (saves_of n words).snap ≡ 0 → bytes ≡ number_line 0 → AreLinesOf words bytes
-  none_told bytes none is number kept tells =
-      let zero_is : 0 ≡ number = sym none ∙ (said_here number kept tells).number_is in
-      subst (λ (m : ℕ). checkpoint_lines m kept bytes) zero_is is
+  none_told bytes none is = record {
+    told = λ number kept tells.
+        let zero_is : 0 ≡ number = sym none ∙ (said_here number kept tells).number_is in
+        subst (λ (m : ℕ). checkpoint_lines m kept bytes) zero_is is;
+    none = none_here bytes;
+  }
 
   -- and after it
   pub some_told : ((place : ℕ) → slice_index words place < 2 ^ 64) → (snap : ℕ) (bytes : List ℕ) (records : List SavedRecord) → snap ≡ (saves_of n words).snap → (snap ≡ 0 → ⊥) → AreListed (saved_word n words) (first_word (board_page n)) records
       → bytes ≡ (number_line snap ++ board_line (values_read (saved_word n words) (first_word (board_page n)) 16 16)) ++ flat_map (λ r. record_line (content_of (saved_word n words) r)) records → AreLinesOf words bytes
-  some_told fit snap bytes records snap_is some are is number kept tells =
-      let says = said_here number kept tells in
-      let number_is : snap ≡ number = snap_is ∙ says.number_is in
-      let begun = some_begun snap number number_is some in
-      let board = board_line (values_read (saved_word n words) (first_word (board_page n)) 16 16) in
-      lines_are kept (pictured n words fit number kept says begun) records are (says.picture begun).sixteen number bytes begun
-      (is ∙ ap (λ (m : ℕ). (number_line m ++ board) ++ flat_map (λ r. record_line (content_of (saved_word n words) r)) records) number_is)
+  some_told fit snap bytes records snap_is some are is = record {
+    told = λ number kept tells.
+        let says = said_here number kept tells in
+        let number_is : snap ≡ number = snap_is ∙ says.number_is in
+        let begun = some_begun snap number number_is some in
+        let board = board_line (values_read (saved_word n words) (first_word (board_page n)) 16 16) in
+        lines_are kept (pictured n words fit number kept says begun) records are (says.picture begun).sixteen number bytes begun
+        (is ∙ ap (λ (m : ℕ). (number_line m ++ board) ++ flat_map (λ r. record_line (content_of (saved_word n words) r)) records) number_is);
+    none = none_here bytes;
+  }

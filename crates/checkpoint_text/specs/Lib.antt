@@ -1,6 +1,6 @@
 pub mod Heap
 pub mod Records
-pub mod Marks
+pub mod Visits
 pub mod Reached
 pub mod Text
 pub mod Words

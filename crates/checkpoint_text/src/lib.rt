@@ -2,9 +2,9 @@
 #![tactic(auto)]
 
 mod lines;
-mod marking;
 mod printing;
 mod saved_record;
 mod saved_words;
+mod visiting;
 
-pub use lines::checkpoint;
+pub use lines::{checkpoint, push_checkpoint};

@@ -3,7 +3,7 @@
 ghost use Rattle.std.specs.Prelude.{◌≡◌, ◌+◌, ◌*◌, ◌≤◌, ◌<◌, ◌^◌, ◌==◌, ℕ, IfSome, IsSome, length, slice_index, true};
 ghost use Rattle.heap_words.specs.Decoded.{decode};
 ghost use Rattle.record_layout.specs.Layout.{header_in};
-ghost use Rattle.space_map.specs.Spaces.{board_page, first_word};
+ghost use Rattle.space_map.specs.Spaces.{IsPageCount, board_page, first_word};
 ghost use Rattle.heap_state.specs.Saving.Words.{is_saved_for, reads_saved, saves_of};
 ghost use Rattle.checkpoint_text.specs.Heap.{AreWholeTable, field_value, identity_there, saved_word};
 ghost use Rattle.checkpoint_text.specs.Records.{fields_by, record_there, record_with, value_read};
@@ -20,6 +20,7 @@ pub struct SavedWords<'t> {
     words: &'t [u64],
     spaces: Spaces,
     ghost room: { spaces.checkpoints ≡ true },
+    ghost counted: { IsPageCount spaces.pages },
     ghost whole: { length words.now ≡ 262 * spaces.pages + 170 },
     ghost fit: { (place : ℕ) → slice_index words.now place < 2 ^ 64 },
 }

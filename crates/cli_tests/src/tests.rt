@@ -1,6 +1,7 @@
 //! The program's answers, over sources and sinks in memory and over a file.
 
 mod benches;
+mod checkpoints;
 mod collecting;
 mod concordances;
 mod dumps;
@@ -150,6 +151,7 @@ an empty input|sim|||ael: line 1: error 5: no mutator/|1";
 fn calls_give_what_they_should(rt: HostRuntime) -> Result<(), Fail> {
     let tables = [
         ROWS,
+        checkpoints::ROWS,
         collecting::ROWS,
         concordances::ROWS,
         instructions::ROWS,

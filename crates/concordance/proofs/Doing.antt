@@ -9,7 +9,7 @@ use Rattle.plain_state.specs.declared.kind.Kind.{Kind}
 use Rattle.plain_state.specs.declared.kind.Kind.TheVariants.{Fields, Raw}
 use Rattle.plain_state.specs.declared.sizes.TheConstants.{LONGEST_RECORD}
 use Rattle.plain_state.specs.declared.value.Value.{Value}
-use Rattle.plain_state.specs.declared.value.Value.TheVariants.{Number, Reference}
+use Rattle.plain_state.specs.declared.value.Value.TheVariants.{Number}
 use Rattle.plain_state.specs.Layout.{values_at}
 use Rattle.plain_state.specs.State.{Heap, Mutator, Record, made_by}
 use Rattle.plain_state.specs.Writing.{stored, with_value, zeros}

@@ -1,3 +1,4 @@
+pub mod Calls
 pub mod Doing
 pub mod RegisterCount
 pub mod Lone

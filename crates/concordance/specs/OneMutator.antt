@@ -1,5 +1,5 @@
 -- The histories of a heap that has one mutator: its plain states, and how many flips there are.
-use Rattle.std.specs.Prelude.{◌≡◌, ℕ, ◌+◌, ◌≤◌, true, List, length}
+use Rattle.std.specs.Prelude.{◌≡◌, ◌+◌, ◌≤◌, true, List, length}
 use Rattle.plain_state.specs.State.{Plain, serial_of}
 use Rattle.gc_worker.specs.declared.calls.call.Call.{Call}
 use Rattle.gc_worker.specs.declared.calls.did.Did.TheVariants.{Done}

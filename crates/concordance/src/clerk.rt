@@ -3,10 +3,11 @@
 mod joining;
 mod whole;
 
-ghost use Rattle.std.specs.Prelude.{◌≡◌, ◌<◌, ◌↔◌, ℕ, Some, None, IfErr, IsTrue, OnOk};
+ghost use Rattle.std.specs.Prelude.{◌≡◌, ◌≢◌, ◌<◌, ◌↔◌, ℕ, Some, None, IfErr, IsTrue, OnOk};
 ghost use Rattle.plain_state.specs.declared.end.End.{End};
 ghost use Rattle.plain_state.specs.declared.sizes.TheConstants.{REGISTERS};
 ghost use Rattle.plain_state.specs.declared.value.Value.TheVariants as values;
+ghost use Rattle.mutator_asm.specs.declared.instr.Instr.TheVariants.{Snap};
 ghost use Rattle.mutator_asm.specs.Program.{is_valid};
 ghost use Rattle.plain_heap.specs.Alone.{is_heap_full};
 ghost use Rattle.gc_worker.specs.declared.stage.Stage.TheVariants.{Gone};
@@ -76,8 +77,9 @@ impl<'h> Clerk<'h> {
         Clerk { heap, mutator }
     }
 
-    /// Its mutator makes a call, for which it may wait until others get on.
+    /// Its mutator makes a call, but none of `snap`, for which it may wait until others get on.
     fn call<R: Wait>(&mut self, rt: &R, instr: Instr) -> Did
+        requires other { instr ≢ Snap }
         requires no_end { self.old.worker.account.end ≡ None }
         requires may_begin { MayBegin self.old.worker.account self.old.worker.registers (Some (Calls instr)) }
         ensures of_heap { self.new.table ≡ self.old.table }

@@ -1,6 +1,6 @@
 //! How the concordance of a text is made.
 
-ghost use Rattle.std.specs.Prelude.{◌≡◌, ◌<◌, ◌≤◌, ◌^◌, ◌↔◌, ℕ, List, flat_map, length, vec_len, IfOk, IsErrOf, IsTrue};
+ghost use Rattle.std.specs.Prelude.{◌≡◌, ◌<◌, ◌≤◌, ◌^◌, ◌↔◌, ℕ, List, flat_map, length, vec_len, IfOk, IsErrOf, IsTrue, false};
 ghost use Rattle.std.specs.List.{AllByRecursion};
 ghost use Rattle.std.specs.Thread.{IsSync};
 ghost use Rattle.space_map.specs.declared.spaces.TheConstants.{MOST_MUTATORS, MOST_SCANNERS};
@@ -37,8 +37,8 @@ use std::thread::{Threads, join_mut};
 /// has a word of more than 64 letters, with the first line that has one; `NoMemory` may come to any other text. `HeapFull` comes only if a
 /// space has fewer than four pages for each word of the text plus two, and no more heap words than the room that is told plus what the text's
 /// rows need. It tells at most two pages that were asked for, and the room, which is less. If the heap is full for one of several clerks, one
-/// makes the whole on a new heap of the same size, and only what this one finds is told. That the call returns is not promised, since clerks
-/// wait for one another.
+/// makes the whole on a new heap of the same size, and only what this one finds is told. No clerk begins a checkpoint, so the heap has no room
+/// for one. That the call returns is not promised, since clerks wait for one another.
 pub fn concord<R: Threads + Wait + Sync>(
     rt: &R,
     alloc: Global,
@@ -52,6 +52,7 @@ pub fn concord<R: Threads + Wait + Sync>(
     requires pages { IsTrue (is_size config.now.pages) }
     requires limit { config.now.limit ≡ config.now.pages }
     requires scanners { config.now.scanners ≤ MOST_SCANNERS }
+    requires snap { config.now.snap ≡ false }
     ensures too_long { (line : ℕ) → IsErrOf result (ConcordError.WordTooLong line) ↔ IsFirstTooLong text.now line }
     ensures told { IfOk result (λ told. IsConcordanceOf text.now told.items) }
     ensures full { (asked room : ℕ) → IsErrOf result (ConcordError.HeapFull asked room) → MayBeFull config.now.pages text.now asked room }

@@ -63,6 +63,7 @@ fn other_sizes_are_refused(rt: HostRuntime) -> Result<(), Fail> {
             limit,
             scanners: 0,
             turns: 1,
+            snap: false,
         };
         let opened = Core::open(rt.alloc(), &program, &config);
         let refused = matches!(opened, Err(OpenError::BadPages));

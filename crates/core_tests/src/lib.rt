@@ -5,6 +5,8 @@
 #[cfg(test)]
 mod asserting;
 #[cfg(test)]
+mod checkpoints;
+#[cfg(test)]
 mod claims;
 #[cfg(test)]
 mod copies;

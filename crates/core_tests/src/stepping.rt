@@ -31,6 +31,16 @@ pub fn open<'p>(
     open_to(alloc, program, pages, pages, scanners)
 }
 
+/// The same with room for checkpoints.
+pub fn open_for_checkpoints<'p>(
+    alloc: Global,
+    program: &'p Program,
+    pages: u32,
+    scanners: u8,
+) -> Result<Core<'p>, Fail> {
+    open_as(alloc, program, pages, pages, scanners, true)
+}
+
 /// The same over spaces with so many pages in use at first, and as many as the limit at most.
 pub fn open_to<'p>(
     alloc: Global,
@@ -38,6 +48,17 @@ pub fn open_to<'p>(
     pages: u32,
     limit: u32,
     scanners: u8,
+) -> Result<Core<'p>, Fail> {
+    open_as(alloc, program, pages, limit, scanners, false)
+}
+
+fn open_as<'p>(
+    alloc: Global,
+    program: &'p Program,
+    pages: u32,
+    limit: u32,
+    scanners: u8,
+    snap: bool,
 ) -> Result<Core<'p>, Fail> {
     if scanners > 8 {
         return Err("there are too many scanners".into());
@@ -47,6 +68,7 @@ pub fn open_to<'p>(
         limit,
         scanners,
         turns: 1_000_000,
+        snap,
     };
     Ok(Core::open(alloc, program, &config)?)
 }
@@ -83,7 +105,7 @@ pub fn printed<'a>(rt: &impl Abort, core: &'a Core<'_>, m: u8) -> (&'a [u64], Op
 }
 
 /// What the gate says.
-fn gate(rt: &impl Abort, core: &Core<'_>, spaces: Spaces) -> GateWord {
+pub fn gate(rt: &impl Abort, core: &Core<'_>, spaces: Spaces) -> GateWord {
     match GateWord::read(word(core, spaces.gate_place())) {
         Some(gate) => gate,
         None => panic!(rt; "the gate's word says nothing"),
@@ -147,6 +169,28 @@ pub fn until_all_came(
         }
     }
     panic!(rt; "not all come to epoch {epoch}");
+}
+
+/// Steps the worker until the word at this place is this.
+pub fn until_word(rt: &impl Abort, core: &mut Core<'_>, worker: u8, place: usize, wanted: u64) {
+    for _ in 0..MOST {
+        if word(core, place) == wanted {
+            return;
+        }
+        step(rt, core, worker);
+    }
+    panic!(rt; "worker {worker} never makes the word at {place} {wanted}");
+}
+
+/// Steps the worker until it is about to store in the word at this place.
+pub fn until_store(rt: &impl Abort, core: &mut Core<'_>, worker: u8, place: usize) {
+    for _ in 0..MOST {
+        match want(rt, core, worker) {
+            Some(Step::Store(at, _)) if at == place => return,
+            _ => step(rt, core, worker),
+        };
+    }
+    panic!(rt; "worker {worker} never stores in the word at {place}");
 }
 
 /// Steps the worker until it is about to exchange the word at this place, and tells which old word it expects there.

@@ -51,7 +51,7 @@ kept_are (k ∷ kept) =
     flat_map-cons kept_line k kept ∙ ap (λ (xs : List ℕ). xs ++ flat_map kept_line kept) (row_is k.header (k.place ∷ [])) ∙ ap (λ (xs : List ℕ). kept_text k ++ xs) (kept_are kept)
     ∙ sym (flat_map-cons kept_text k kept)
 
-head_is : (p m w : ℕ) → dump_head p m w ≡ head_text (record { pages = p; mutators = m; workers = w })
+pub head_is : (p m w : ℕ) → dump_head p m w ≡ head_text (record { pages = p; mutators = m; workers = w })
 head_is p m w = simp append_assoc refl
 
 -- the text of a dump is the one that is laid out

@@ -61,6 +61,12 @@ are_workers mutators workers = nat_le 1 mutators && nat_le mutators MOST_MUTATOR
 abbrev pub are_counts : Counts → Bool
 are_counts c = is_size c.pages && are_workers c.mutators c.workers
 
+-- the first line of the bytes tells these counts, and a heap may have them
+pub record BeginsDump (bytes : List ℕ) (c : Counts) : Type 0 where
+  pub counts : IsTrue (are_counts c)
+  pub rest : List ℕ
+  pub line : bytes ≡ dump_head c.pages c.mutators c.workers ++ rest
+
 abbrev pub IsWord : ℕ → Type 0
 IsWord word = word < 2 ^ 64
 

@@ -11,5 +11,6 @@ mod word;
 
 pub use dump::Dump;
 pub use dump_error::DumpError;
+pub use head::Head;
 pub use kept::Kept;
-pub use reading::read;
+pub use reading::{read, read_head};

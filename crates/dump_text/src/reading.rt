@@ -1,13 +1,14 @@
 //! A whole dump.
 
-ghost use Rattle.std.specs.Prelude.{◌≡◌, IfErr, IfOk, Ok};
+ghost use Rattle.std.specs.Prelude.{◌≡◌, IfErr, IfOk, IfSome, Ok, Some, option_map};
 ghost use Rattle.dump_text.specs.Lines.{NamesFirstWrong};
+ghost use Rattle.dump_text.specs.Pieces.{head_view};
 ghost use Rattle.dump_text.specs.Reading.{GivesReading, dump_at, dump_view};
-ghost use Rattle.dump_text.specs.Text.{Dumped, IsDump, dump_text};
+ghost use Rattle.dump_text.specs.Text.{BeginsDump, Counts, Dumped, IsDump, dump_text};
 
 use crate::dump::Dump;
 use crate::dump_error::DumpError;
-use crate::head::first_line;
+use crate::head::{Head, first_line};
 use crate::lines::{all_kept, all_registers, table};
 use std::alloc::Global;
 
@@ -49,4 +50,17 @@ pub fn read(alloc: Global, bytes: &[u8]) -> Result<Dump, DumpError>
     ensures first_wrong { IfErr result (λ e. NamesFirstWrong bytes.now e) }
 {
     all(alloc, bytes)
+}
+
+/// What the first line of a dump tells, whatever stands behind it.
+pub fn read_head(bytes: &[u8]) -> Option<Head>
+    // What is told begins the bytes.
+    ensures found { IfSome result (λ head. BeginsDump bytes.now (head_view head)) }
+    // Each first line of a dump is read.
+    ensures only { (counts : Counts) → BeginsDump bytes.now counts → option_map head_view result ≡ Some counts }
+{
+    match first_line(bytes) {
+        Some((head, _)) => Some(head),
+        None => None,
+    }
 }

@@ -1,10 +1,9 @@
 //! An actor of the runtime, and why it stops.
 
 ghost use Rattle.std.specs.Prelude.{◌≡◌, ◌<◌, None, IsTrue, OnOk};
-ghost use Rattle.ael_threads.specs.Calls.{Called};
+ghost use Rattle.ael_threads.specs.Calls.{CalledBy};
 ghost use Rattle.ael_threads.specs.Histories.{Each};
 ghost use Rattle.gc_worker.specs.declared.calls.did.Did.TheVariants.{Done};
-ghost use Rattle.gc_worker.specs.declared.task.Task.TheVariants.{Calls};
 ghost use Rattle.plain_state.specs.declared.sizes.TheConstants.{REGISTERS};
 ghost use Rattle.mutator_asm.specs.Program.{is_valid};
 
@@ -58,7 +57,7 @@ impl<'h> Actor<'h> {
     pub fn call<R: Wait>(&mut self, rt: &R, instr: Instr) -> Result<(), Stop>
         requires { IsTrue (is_valid instr) }
         ensures of_heap { self.new.table ≡ self.old.table }
-        ensures called { OnOk result (Called self.old (Calls instr) Done self.new) }
+        ensures called { OnOk result (CalledBy self.old instr Done self.new) }
     {
         if let Some(end) = self.mutator.ended() {
             return Err(Stop::Ended(end));

@@ -203,6 +203,7 @@ fn main(rt: HostRuntime) -> Result<(), anyhow::Error> {
         limit: 4,
         scanners: 0,
         turns: 1,
+        snap: false,
     };
     let (heap, mut seats) = Shared::open(rt.alloc(), 2, &config)?;
     run(&rt, &heap, &mut seats)?;

@@ -82,6 +82,14 @@ impl Duty {
         }
     }
 
+    /// The round begins anew, with the look at the gate.
+    pub fn begin_anew(&mut self)
+        ensures { self.new ≡ begun self.old.layout self.old.caller 0 self.old.worker }
+    {
+        self.epoch = 0;
+        self.stage = DutyStage::LoadsGate;
+    }
+
     /// The epoch that the round is for.
     pub fn epoch(&self) -> u32
         ensures { result ≡ self.now.epoch }

@@ -1,6 +1,9 @@
 -- What holds of all events and runs, from the laws of a worker's step.
+use Rattle.std.proofs.Common.{subst}
+use Rattle.plain_state.specs.State.{Plain}
 use Rattle.plain_heap.specs.Order.{Story, opening}
 use Rattle.plain_heap.proofs.Orders.Stories.{story_after-now}
+use Rattle.heap_state.specs.Saving.Said.{SaysCheckpoint}
 use Rattle.gc_worker.proofs.Between.Beginning.{tasks_may_begin}
 use Rattle.gc_worker.proofs.Between.GoingOn.{workers_go_on}
 use Rattle.gc_worker.proofs.Between.Pages.ByClaims.{pages_are_opened_by_claims}
@@ -9,13 +12,15 @@ use Rattle.gc_worker.proofs.Between.Opening.{heaps_open}
 use Rattle.gc_worker.proofs.Between.Readying.{readying_stands}
 use Rattle.gc_worker.proofs.Between.Standing.{what_stands_is_so}
 use Rattle.gc_worker.proofs.Between.Wanting.{workers_want}
+use Rattle.gc_worker.proofs.Saving.Won.{checkpoints_are_kept}
 use Rattle.gc_worker.proofs.StepKeeps.{steps_keep}
+use Rattle.gc_worker.specs.Laws.Represented.{HasKept}
 use Rattle.gc_core.specs.Core.{CoreState, opening_core}
 use Rattle.gc_core.specs.Law.{EventsKeep, EventsMeet}
 use Rattle.gc_core.specs.Run.{Ran, run_from}
 use Rattle.gc_core.specs.Whole.{RunsArePlainRuns, RunsFollow, NoPageIsWonTwice, CopiedPagesAreWonOnce, FlipsAreOfTracedCores}
 use Rattle.gc_core.proofs.Events.Law as events
-use Rattle.gc_core.proofs.Events.Opening.{opening_stands, opening_steady, opening_lawful, opening_epoch}
+use Rattle.gc_core.proofs.Events.Opening.{opening_stands, opening_steady, opening_epoch}
 use Rattle.gc_core.proofs.Runs.WonPages.{pages_are_won_once}
 use Rattle.gc_core.proofs.Runs.CopiedPages.{pages_are_won, flipped_of_traced}
 use Rattle.gc_core.proofs.Told.Dumps.{told_represents}
@@ -28,9 +33,9 @@ pub events_meet : EventsMeet
 events_meet = events.events_meet steps_keep readying_stands tasks_may_begin workers_go_on workers_want what_stands_is_so
 
 pub runs_are_plain_runs : RunsArePlainRuns
-runs_are_plain_runs schedule at n s p lawful represents =
+runs_are_plain_runs schedule at n s p lawful for_it =
     let story : Story = record { flip = lawful.flip; now = p } in
-    let stands = events.represented_lawful s p lawful represents in
+    let stands = events.represented_lawful s p lawful for_it in
     let r : Ran = run_from schedule at n s in
     let law = run_law events_keep schedule at n s story lawful.steady stands in
     let now = story_after-now s.code s.turns story r.order in
@@ -38,6 +43,12 @@ runs_are_plain_runs schedule at n s p lawful represents =
     record {
       lawful = record { steady = law.steady; plain = _; flip = _; stands = law.stands };
       represents = rw now at all.sound.represents;
+      kept = subst (HasKept r.last.heap.checkpoints _) now (events.kept_itself _ _);
+      tells = λ room. record {
+        counted = law.stands.stands.size;
+        whole = law.steady.whole;
+        says = subst (λ (p : Plain). SaysCheckpoint r.last.heap.pages r.last.heap.words p.heap.snaps p.heap.snapped) now (checkpoints_are_kept r.last.heap _ _ law.stands room);
+      };
       dump = told_represents r.last _ all.enough (rw now at all.sound.represents).dump;
       seen = rw now at (stands_seen what_stands_is_so r.last _ _ law.stands);
       acts = run_acts events_keep schedule at n s story lawful.steady stands;
@@ -48,8 +59,9 @@ pub runs_follow : RunsFollow
 runs_follow code items config schedule n program size turns few =
     let s : CoreState = opening_core code config in
     let stands = opening_stands heaps_open code items config program size turns few in
-    runs_are_plain_runs schedule 0 n s (opening code) (opening_lawful heaps_open code items config program size turns few)
-    (what_stands_is_so s.heap _ _ stands).sound.represents
+    let steady = opening_steady heaps_open code items config program size turns few in
+    runs_are_plain_runs schedule 0 n s (opening code) (record { steady = steady; plain = opening code; flip = opening code; stands = stands })
+    (record { represents = (what_stands_is_so s.heap _ _ stands).sound.represents; kept = events.kept_itself config.snap (opening code) })
 
 -- ---- pages and flips
 

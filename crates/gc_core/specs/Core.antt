@@ -1,8 +1,7 @@
 -- What the machine with a collected heap is between two events.
 use Rattle.std.specs.Prelude.{ℕ, List, length}
-use Rattle.space_map.specs.Spaces.{without_checkpoints}
 use Rattle.mutator_asm.specs.declared.instr.Instr.{Instr}
-pub use Rattle.gc_worker.specs.Config.{has_sizes}
+pub use Rattle.gc_worker.specs.Config.{has_sizes, layout_by}
 use Rattle.gc_worker.specs.Laws.Between.{opening_heap}
 use Rattle.gc_worker.specs.Laws.Cycles.{size_of}
 use Rattle.gc_worker.specs.Laws.Step.{Heap}
@@ -16,7 +15,7 @@ pub record CoreState : Type 0 where
 
 -- the core in which a program begins: a mutator for each section, and the scanners
 abbrev pub opening_core : List (List Instr) → Config → CoreState
-opening_core code config = record { code = code; turns = config.turns; heap = opening_heap (without_checkpoints config.limit) config.pages (length code) config.scanners }
+opening_core code config = record { code = code; turns = config.turns; heap = opening_heap (layout_by config) config.pages (length code) config.scanners }
 
 -- the mutators, then the scanners
 abbrev pub workers_of : CoreState → ℕ

@@ -1,5 +1,5 @@
 -- The law of an event: it does to the plain state what the mark of it does, and what is told of it is what the plain machine has.
-use Rattle.std.specs.Prelude.{◌≡◌, ◌≢◌, ⊤, false, ℕ, ◌+◌, ◌<◌, ◌≤◌, length, Some, None, IsTrue}
+use Rattle.std.specs.Prelude.{◌≡◌, ◌≢◌, ⊤, ℕ, ◌+◌, ◌<◌, ◌≤◌, length, Some, None, IsTrue}
 use Rattle.std.specs.List.{list_all}
 use Rattle.std.specs.Option.{option_to_list}
 use Rattle.plain_state.specs.declared.end.End.{End}
@@ -8,6 +8,7 @@ use Rattle.plain_state.specs.State.{Plain}
 use Rattle.mutator_asm.specs.Program.{is_valid}
 use Rattle.plain_heap.specs.Step.{asked_by}
 use Rattle.plain_heap.specs.Order.{Story, state_after, story_after, end_of}
+use Rattle.space_map.specs.Table.{whole_length}
 use Rattle.heap_state.specs.Meaning.Represents.{Represents}
 use Rattle.gc_worker.specs.declared.config.TheConstants.{MOST_TURNS}
 use Rattle.gc_worker.specs.declared.stage.Stage.TheVariants.{Gone}
@@ -16,7 +17,8 @@ use Rattle.gc_worker.specs.Plain.Full.{FindsNoRoom}
 use Rattle.gc_worker.specs.Workers.Held as held
 use Rattle.gc_worker.specs.Laws.Claims.{epoch_of_heap}
 use Rattle.gc_worker.specs.Laws.Gone.{ScannersAreLast}
-use Rattle.gc_worker.specs.Laws.Step.{Heap, WorkersStand, held_at, read}
+use Rattle.gc_worker.specs.Laws.Represented.{HasKept}
+use Rattle.gc_worker.specs.Laws.Step.{Heap, WorkersStand, held_at, layout_of, read}
 use Rattle.gc_worker.specs.declared.steps.stepped.Stepped.{Stepped}
 use Rattle.gc_worker.specs.declared.steps.stepped.Stepped.TheVariants.{Idle, Moved, Effect, Flipped, Ended}
 use Rattle.gc_worker.specs.Plain.Marks.{mark_of}
@@ -31,15 +33,15 @@ pub record IsOnTask (s : CoreState) (m : ℕ) : Type 0 where
   pub within : (held_at s.heap m).account.executed ≤ s.turns
   pub task : (t : Task) → (held_at s.heap m).task ≡ Some t → t ≡ fetched_task s.code s.turns m (held_at s.heap m)
 
--- There is a mutator for each section of valid code, and each is on its task; once a scanner is gone, all mutators are. The heap has no
--- checkpoints.
+-- There is a mutator for each section of valid code, and each is on its task; once a scanner is gone, all mutators are. The words are just
+-- those of the heap's layout.
 pub record IsSteady (s : CoreState) : Type 0 where
   pub valid : IsTrue (list_all (list_all is_valid) s.code)
   pub sections : length s.code ≡ s.heap.mutators
   pub turns_fit : s.turns ≤ MOST_TURNS
   pub on_task : (m : ℕ) → m < s.heap.mutators → IsOnTask s m
   pub last : ScannersAreLast s.heap
-  pub none : s.heap.checkpoints ≡ false
+  pub whole : length s.heap.words ≡ whole_length (layout_of s.heap)
 
 -- it is steady, and its heap stands for some plain state
 pub record IsLawful (s : CoreState) : Type 0 where
@@ -47,6 +49,12 @@ pub record IsLawful (s : CoreState) : Type 0 where
   pub plain : Plain
   pub flip : Plain
   pub stands : WorkersStand s.heap plain flip
+
+-- A lawful core represents p: its words, with what its workers keep, represent it, and if checkpoints can be begun it has kept what the core
+-- stands for.
+pub record StandsFor (s : CoreState) (lawful : IsLawful s) (p : Plain) : Type 0 where
+  pub represents : Represents (read s.heap) p
+  pub kept : HasKept s.heap.checkpoints lawful.plain p
 
 -- ---- an event
 
@@ -99,10 +107,11 @@ pub record KeepsStory (s : CoreState) (w : ℕ) (story : Story) : Type 0 where
 abbrev pub EventsKeep : Type 0
 EventsKeep = (s : CoreState) (w : ℕ) (story : Story) → IsSteady s → WorkersStand s.heap story.now story.flip → KeepsStory s w story
 
--- The event e of worker w, from a core that represents p, meets the law.
+-- The event e of worker w, from a core that represents p, meets the law: the core after it is lawful, and represents p after what is told.
 pub record Meets (s : CoreState) (w : ℕ) (p : Plain) (e : Event) : Type 0 where
-  pub represents : Represents (read e.after) (plain_after s p e.told)
+  pub lawful : IsLawful (record s { heap = e.after })
+  pub after : StandsFor (record s { heap = e.after }) lawful (plain_after s p e.told)
   pub told : IsTold s w p e.after e.told
 
 abbrev pub EventsMeet : Type 0
-EventsMeet = (s : CoreState) (w : ℕ) (p : Plain) → IsLawful s → Represents (read s.heap) p → Meets s w p (event_of s w)
+EventsMeet = (s : CoreState) (w : ℕ) (p : Plain) (lawful : IsLawful s) → StandsFor s lawful p → Meets s w p (event_of s w)

@@ -11,3 +11,4 @@ pub mod Needs
 pub mod Inside
 pub mod Told
 pub mod Stores
+pub mod Checkpoints

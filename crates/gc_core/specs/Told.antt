@@ -2,11 +2,12 @@
 use Rattle.std.specs.Prelude.{◌≡◌, ◌≤◌}
 use Rattle.plain_state.specs.State.{Plain}
 use Rattle.plain_heap.specs.Print.{plain_seen}
+use Rattle.dump_text.specs.Said.{dump_said}
 use Rattle.heap_state.specs.Meaning.Represents.{DumpRepresents}
 use Rattle.gc_worker.specs.Laws.Step.{WorkersStand}
 use Rattle.gc_core.specs.Core.{CoreState, workers_of}
 use Rattle.gc_core.specs.Cycles.{KeepsWhatIsLive}
-use Rattle.gc_core.specs.Dumped.{dump_said, dumped}
+use Rattle.gc_core.specs.Dumped.{dumped}
 use Rattle.gc_core.specs.Readers.{seen_of}
 
 -- What is seen of the mutators is what is seen of those of the plain state p. What a dump tells, read by itself, represents p. What a cycle

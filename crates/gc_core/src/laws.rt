@@ -1,5 +1,6 @@
 //! What holds of all events and runs. Each function here does nothing: its contract is what is proved.
 
+ghost use Rattle.gc_core.specs.Checkpoints.{CheckpointsAreTold};
 ghost use Rattle.gc_core.specs.Cycles.{CyclesKeepWhatIsLive, FullHeapsAreFilled, InstructionsFlipOnce, SizesAreBetween, SizesGrowAtFlips, SizesNeverFall};
 ghost use Rattle.gc_core.specs.Law.{EventsMeet, IsLawful};
 ghost use Rattle.gc_core.specs.Needs.{ClaimsAreForRecords, ClaimsAreMadeOrSetAside, LargeHeapsAreNeverFull, LoneFullsFollowTheirFlips, LoneHeapsAreNeverFull, OrdersAreFilledByClaims, OrdersFillTheSpace};
@@ -9,7 +10,8 @@ ghost use Rattle.gc_core.specs.Whole.{CopiedPagesAreWonOnce, FlipsAreOfTracedCor
 
 use crate::machine::Core;
 
-/// The event of any worker does to each plain state that the core represents what the mark of it does, and what is told of it is so.
+/// The event of any worker does to each plain state that the core represents what the mark of it does, and what is told of it is so. The core
+/// is lawful after it, so the same holds of the next event.
 pub fn events_meet()
     ensures { EventsMeet }
 {}
@@ -26,7 +28,8 @@ impl<'p> Core<'p> {
 /// Whoever steps a core by hand, whichever worker comes next, makes a run of the plain machine. Up to the last mutator's end, from any
 /// lawful core and for each plain state that it represents, the core then represents what the plain machine comes to from there, which
 /// executes the same instructions in the order in which their marks came. It is lawful again, so the same holds of what follows; what
-/// is seen of each mutator is what is seen of its plain one, each mark acts, and a heap that is said to be full is.
+/// is seen of each mutator is what is seen of its plain one, each mark acts, and a heap that is said to be full is. If checkpoints can be
+/// begun, a core represents those plain states alone that have kept the same one.
 pub fn runs_are_plain_runs()
     ensures { RunsArePlainRuns }
 {}
@@ -43,6 +46,12 @@ pub fn runs_follow()
 pub fn runs_find_the_last_store()
     ensures loads { LoadsOfRunsGetTheLastStore }
     ensures exchanges { ExchangesOfRunsFindTheLastStore }
+{}
+
+/// Wherever a run stops in which checkpoints can be begun, the words of its core say the last checkpoint of the order: its number, and the
+/// board and the records right after the `snap` that began it.
+pub fn checkpoints_are_told()
+    ensures { CheckpointsAreTold }
 {}
 
 /// A worker that isn't there is idle.

@@ -1,9 +1,7 @@
 //! How a core is opened.
 
 ghost use Rattle.std.specs.Prelude.{◌≡◌, ◌+◌, ◌≤◌, ◌<◌, ◌↔◌, length, IfOk, IsErrOf, IsTrue, not};
-ghost use Rattle.heap_state.specs.Memory.Entries.{written};
-ghost use Rattle.heap_laws.specs.Opening.{opening_entries};
-ghost use Rattle.gc_worker.specs.Laws.Between.{fresh_worker, fresh_workers};
+ghost use Rattle.gc_worker.specs.Laws.Between.{fresh_worker, fresh_workers, opening_words};
 ghost use Rattle.space_map.specs.declared.spaces.TheConstants.{LAST_WORKER, MOST_MUTATORS, MOST_SCANNERS};
 ghost use Rattle.gc_worker.specs.declared.config.TheConstants.{MOST_TURNS};
 ghost use Rattle.gc_core.specs.Core.{opening_core, workers_of, has_sizes};
@@ -17,17 +15,18 @@ use mutator_asm::Program;
 use space_map::{AreaWord, PAGE_WORDS, Spaces};
 use std::alloc::{AllocError, Global};
 
-/// The words before the first step: both spaces are empty with so many pages in use, the epoch is traced, and the board is open.
+/// The words before the first step: both spaces are empty with so many pages in use, the epoch is traced, the board is open, and nothing is
+/// said of checkpoints.
 fn words(alloc: Global, spaces: Spaces, pages: u32) -> Result<PlainAtoms, NoMemory>
     requires { pages ≤ spaces.pages }
-    ensures { IfOk result (λ atoms. atoms ≡ written spaces.pages (opening_entries spaces.pages pages)) }
+    ensures { IfOk result (λ atoms. atoms ≡ opening_words spaces pages) }
 {
     let area = AreaWord {
         front: 0,
         low: PAGE_WORDS * pages,
         owed: 0,
     };
-    let mut atoms = PlainAtoms::new(alloc, spaces.table_len())?;
+    let mut atoms = PlainAtoms::new(alloc, spaces.whole_len())?;
     atoms.act(Step::Store(spaces.page_place(spaces.board_page()), unprotect(0)));
     atoms.act(Step::Store(spaces.size_place(1), u64::from(pages)));
     atoms.act(Step::Store(spaces.size_place(0), u64::from(pages)));

@@ -7,6 +7,7 @@ ghost use Rattle.space_map.specs.declared.spaces.TheConstants.{MOST_MUTATORS};
 ghost use Rattle.gc_worker.specs.Steps.Stepped.{header_kept, place_kept};
 ghost use Rattle.gc_worker.specs.Steps.Wanted.{wanted};
 ghost use Rattle.gc_core.specs.Core.{workers_of};
+ghost use Rattle.gc_core.specs.Dumped.{dumped};
 ghost use Rattle.gc_core.specs.Event.{ready};
 ghost use Rattle.gc_core.specs.Readers.{seen_of, registers_in, kept_in, cycles_of, live_of};
 ghost use Rattle.gc_core.specs.Run.{all_ended};
@@ -97,6 +98,13 @@ impl<'p> Core<'p> {
         ensures { result.now ≡ self.now.heap.words }
     {
         self.atoms.words()
+    }
+
+    /// The words that a dump shows: all but those that checkpoints save.
+    pub fn table_words(&self) -> &[u64]
+        ensures { result.now ≡ (dumped self.now).words }
+    {
+        &self.words()[..self.spaces.table_len()]
     }
 
     /// The words in a mutator's registers.

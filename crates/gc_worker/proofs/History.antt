@@ -12,3 +12,4 @@ pub mod Needs
 pub mod Lone
 pub mod Large
 pub mod Loads
+pub mod Checkpoints

@@ -8,3 +8,4 @@ pub mod Checkpoints
 pub mod Kinds
 pub mod Keeping
 pub mod Won
+pub mod Safe

@@ -4,6 +4,7 @@ pub mod Checkpointing
 pub mod Fitting
 pub mod Answered
 pub mod GoingOn
+pub mod BeginningAnew
 pub mod GoingBack
 pub mod Members
 pub mod Made

@@ -4,3 +4,4 @@ pub mod Order
 pub mod Needs
 pub mod Large
 pub mod Loads
+pub mod Checkpoints

@@ -7,3 +7,4 @@ pub mod PastEpochs
 pub mod Cycles
 pub mod Represented
 pub mod FullTold
+pub mod Checkpoints

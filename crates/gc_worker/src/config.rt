@@ -1,6 +1,6 @@
-ghost use Rattle.std.specs.Prelude.{◌≡◌, ◌≤◌, ◌↔◌, IfOk, IsOk, IsTrue, false};
+ghost use Rattle.std.specs.Prelude.{◌≡◌, ◌≤◌, ◌↔◌, IfOk, IsOk, IsTrue};
 ghost use Rattle.space_map.specs.declared.spaces.TheConstants.{FEWEST_PAGES};
-ghost use Rattle.gc_worker.specs.Config.{has_sizes};
+ghost use Rattle.gc_worker.specs.Config.{has_sizes, layout_by};
 
 use space_map::{BadPages, FEWEST_PAGES, Spaces};
 
@@ -18,20 +18,26 @@ pub struct Config {
     pub scanners: u8,
     /// How many instructions a mutator may execute, 1 to 10,000,000.
     pub turns: u32,
+    /// Whether checkpoints can be begun. The table is then about twice as long; without, `snap` changes none of its words.
+    pub snap: bool,
 }
 
 impl Config {
-    /// The layout of its spaces, for as many pages as may come into use. `BadPages` comes exactly if fewer than 4 pages are in use at
-    /// first, or more than may come into use, or more than 2048 may.
+    /// The layout of its spaces, for as many pages as may come into use, with room for checkpoints if they can be begun. `BadPages` comes
+    /// exactly if fewer than 4 pages are in use at first, or more than may come into use, or more than 2048 may.
     pub fn spaces(self) -> Result<Spaces, BadPages>
-        ensures pages { IfOk result (λ spaces. spaces.pages ≡ self.limit) }
-        ensures without { IfOk result (λ spaces. spaces.checkpoints ≡ false) }
+        ensures layout { IfOk result (λ spaces. spaces ≡ layout_by self) }
         ensures at_first { IfOk result (λ spaces. (FEWEST_PAGES ≤ self.pages) × (self.pages ≤ spaces.pages)) }
         ensures refused_exactly_outside { IsOk result ↔ IsTrue (has_sizes self) }
     {
         if self.pages < FEWEST_PAGES || self.pages > self.limit {
             return Err(BadPages);
         }
-        Spaces::new(self.limit)
+        let spaces = Spaces::new(self.limit)?;
+        Ok(if self.snap {
+            spaces.with_checkpoints()
+        } else {
+            spaces
+        })
     }
 }

@@ -1,6 +1,7 @@
 //! What holds of a worker's steps. Each function here does nothing: its contract is what is proved.
 
 ghost use Rattle.gc_worker.specs.Laws.Step.{SnapsAreWon, StepsKeep, CheckpointsAreKept, ClearsAreWon, FlipsAreWon, PlacesFit, RegistersLeadBack};
+ghost use Rattle.gc_worker.specs.Laws.Checkpoints.{CheckpointsAreSafe};
 ghost use Rattle.gc_worker.specs.Steps.HeldUp.{AccessesGoOn, LostSwapsLoadAgain, LostExchangesCompareAgain};
 ghost use Rattle.gc_worker.specs.Steps.AccessRows.{LostSwapIsTriedAgain, CountIsNoValue, CountsPageIsLookedAt, NextPageIsLookedAt, NoPointerIsStoredBehindFields, SamePageIsNotLookedAt, ClosedPageIsAFault, NoSuchValueFails, LostExchangeIsComparedAgain};
 ghost use Rattle.gc_worker.specs.Laws.Between.{HeapsOpen, ReadyingStands, TasksMayBegin, WorkersGoOn, WorkersWant, WhatStandsIsSo, AnswersLeaveTheOthers};
@@ -35,6 +36,14 @@ pub fn checkpoints_are_begun()
 /// The words of a heap that stands, in which checkpoints can be begun, say what the plain heap has kept at the last `snap`.
 pub fn checkpoints_are_kept()
     ensures { CheckpointsAreKept }
+{}
+
+/// While the last checkpoint of such a heap is unfinished, its epoch is traced, nobody is to flip, its pages are open and not new, and
+/// who writes on an open page next does so on one that is saved or new. Who has found this of a page, or that DONE is SNAP on its way
+/// to a request, still finds it so. Whoever saves a page has copied its words as they were when the checkpoint began; and who is to
+/// finish the checkpoint has all of its pages saved.
+pub fn checkpoints_are_safe()
+    ensures { CheckpointsAreSafe }
 {}
 
 /// The place of a step is in the table, by what the worker holds alone.

@@ -2,3 +2,5 @@ pub mod Cost
 pub mod Traced
 pub mod Pages
 pub mod Growths
+pub mod Saves
+pub mod SavedPages

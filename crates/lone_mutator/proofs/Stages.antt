@@ -4,3 +4,8 @@ pub mod Scan
 pub mod Place
 pub mod Access
 pub mod Gate
+pub mod Recalls
+pub mod Snaps
+pub mod Saves
+pub mod Guards
+pub mod Checkpoints

@@ -1,7 +1,7 @@
 pub mod Rows
 pub mod Owed
-pub mod NoCheckpoints
 pub mod GoingOn
 pub mod GoingBack
+pub mod Heaps
 pub mod Law
 pub mod Sizes

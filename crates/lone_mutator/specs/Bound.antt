@@ -1,6 +1,7 @@
 -- How many steps of a lone mutator one instruction may take, and what its parts cost at most.
 use Rattle.std.specs.Prelude.{ℕ, ◌+◌, ◌*◌, ◌^◌, nat_lt, if◌then◌else◌}
 use Rattle.space_map.specs.declared.spaces.TheConstants.{PAGE_WORDS}
+use Rattle.space_map.specs.Spaces.{Layout}
 use Rattle.heap_state.specs.Functions.{sum_below}
 
 -- ---- the bound
@@ -14,6 +15,10 @@ steps_per_pair = 240
 -- the most steps of an instruction, in a heap whose spaces may have so many pages
 unfoldable pub most_steps : ℕ → ℕ
 most_steps n = steps_per_page * n + steps_per_pair * (n * n)
+
+-- by its layout: twice as many where checkpoints can be begun
+abbrev pub most_steps_of : Layout → ℕ
+most_steps_of l = if l.checkpoints then 2 * most_steps l.pages else most_steps l.pages
 
 -- ---- how often a space may still grow
 
@@ -43,9 +48,21 @@ page_cost n = round_cost n + 452
 unfoldable pub longest_tracing : ℕ → ℕ
 longest_tracing n = page_cost n * (n + 1) + round_cost n + 4 * (PAGE_WORDS * n)
 
--- a request, the flip, eight registers, and the tracing of the new epoch
+-- a look before a write, and the save that it may make
+abbrev pub guard_cost : ℕ
+guard_cost = 131
+
+-- a save round, and the step to the next one
+abbrev pub save_round_cost : ℕ → ℕ
+save_round_cost n = 2 * n + 136
+
+-- to read which checkpoint is in progress
+abbrev pub recall_cost : ℕ
+recall_cost = 2
+
+-- a save round that finds no checkpoint in progress, a request, the flip, eight registers, and the tracing of the new epoch
 abbrev pub flip_cost : ℕ → ℕ
-flip_cost n = longest_tracing n + 56
+flip_cost n = longest_tracing n + save_round_cost n + 57
 
 -- so many of these
 unfoldable pub flips_cost : (n flips : ℕ) → ℕ
@@ -55,9 +72,13 @@ flips_cost n flips = flip_cost n * flips
 abbrev pub most_pages : ℕ
 most_pages = 64
 
--- an allocation of so many
+-- an allocation of so many, with a look before each of two words of the record
 abbrev pub longest_placing : ℕ
-longest_placing = 66 * most_pages + 6
+longest_placing = 66 * most_pages + 6 + 2 * guard_cost
+
+-- to begin a checkpoint, beside a round that finds the epoch traced
+abbrev pub snap_cost : ℕ
+snap_cost = 109
 
 -- a whole instruction, in a traced epoch
 abbrev pub whole_cost : ℕ → ℕ

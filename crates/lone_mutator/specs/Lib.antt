@@ -1,5 +1,6 @@
 pub mod Bound
 pub mod Tracing
+pub mod Saving
 pub mod Rounds
 pub mod Copies
 pub mod Potential

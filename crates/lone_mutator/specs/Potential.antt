@@ -1,5 +1,6 @@
--- What a lone mutator has still to pay before its instruction is done, by its stage: at least the steps that it will make.
-use Rattle.std.specs.Prelude.{ℕ, ◌+◌, ◌-◌, ◌*◌, Bool, true, false, nat_lt, if◌then◌else◌}
+-- What a lone mutator has still to pay before its instruction is done, by its stage, beside what pages of a checkpoint in progress pay: at
+-- least the steps that it will make.
+use Rattle.std.specs.Prelude.{ℕ, ◌+◌, ◌-◌, ◌*◌, Bool, true, false, Option, Some, None, nat_lt, if◌then◌else◌}
 use Rattle.space_map.specs.Spaces.{to_space}
 use Rattle.alloc_end.specs.declared.place_stage.PlaceStage.{PlaceStage}
 use Rattle.alloc_end.specs.declared.place_stage.PlaceStage.TheVariants as place_stage
@@ -10,16 +11,30 @@ use Rattle.gate_core.specs.declared.passage.Passage.TheVariants.{Look, Attach, P
 use Rattle.gate_core.specs.declared.gate_stage.GateStage.{GateStage}
 use Rattle.gate_core.specs.Flip as flip
 use Rattle.gate_core.specs.Gate as gate
+use Rattle.gate_core.specs.Recall as recall
+use Rattle.gate_core.specs.Snap as snap
+use Rattle.page_saves.specs.declared.save_round_stage.SaveRoundStage.{SaveRoundStage}
+use Rattle.page_saves.specs.declared.save_round_stage.SaveRoundStage.TheVariants as save_round_stage
+use Rattle.page_saves.specs.declared.save_stage.SaveStage.{SaveStage}
+use Rattle.page_saves.specs.declared.save_stage.SaveStage.TheVariants as save_stage
+use Rattle.page_saves.specs.Guard as guard
+use Rattle.page_saves.specs.SaveRound as save_round
 use Rattle.page_scan.specs.Left as scan
 use Rattle.page_slots.specs.Open as open_page
 use Rattle.heap_state.specs.Memory.Table.{Table}
+use Rattle.gc_worker.specs.declared.access.Access.{Access}
+use Rattle.gc_worker.specs.declared.stage.after.After.{After}
+use Rattle.gc_worker.specs.declared.stage.after.After.TheVariants as afters
 use Rattle.gc_worker.specs.declared.stage.back.Back.{Back}
 use Rattle.gc_worker.specs.declared.stage.back.Back.TheVariants.{ToAccess, ToPlace, ToSnap, ToScanner}
+use Rattle.gc_worker.specs.declared.stage.write.Write.{Write}
+use Rattle.gc_worker.specs.declared.stage.write.Write.TheVariants.{OfAccess, OfPlace}
 use Rattle.gc_worker.specs.declared.stage.Stage.{Stage}
 use Rattle.gc_worker.specs.declared.stage.Stage.TheVariants.{Looks, Passes, Flips, Forwards, Accesses, Places, Serves, Scans, Evacuates, Opens, Recalls, Guards, Checkpoints, BeginsCheckpoint, Gone}
 use Rattle.gc_worker.specs.Steps.Access as access
+use Rattle.gc_worker.specs.Steps.Turned.{after_goal}
 use Rattle.gc_worker.specs.Workers.Held.{Held}
-use Rattle.lone_mutator.specs.Bound.{round_cost, growths, flips_cost, longest_tracing, most_pages, longest_placing, whole_cost}
+use Rattle.lone_mutator.specs.Bound.{round_cost, growths, flips_cost, guard_cost, longest_tracing, most_pages, longest_placing, recall_cost, save_round_cost, snap_cost, whole_cost}
 use Rattle.lone_mutator.specs.Copies.{copy_left}
 use Rattle.lone_mutator.specs.Tracing.{tracing_left, tracing_due}
 
@@ -43,19 +58,47 @@ growing_left n size = flips_cost n (growths n size)
 
 -- ---- by the worker alone
 
+-- the look that is still to come before an access writes a word
+abbrev pub look_left : (written : Option ℕ) → ℕ
+look_left None = guard_cost
+look_left (Some page) = 0
+
+abbrev pub access_left : Access → ℕ
+access_left a = access.left a + look_left (access.writes_on a.spaces a.stage)
+
+-- those that are still to come before an allocation writes words of its record
+abbrev pub looks_left : PlaceStage → ℕ
+looks_left place_stage.StoresCount = guard_cost
+looks_left place_stage.StoresHeader = 0
+looks_left stage = 2 * guard_cost
+
 -- an allocation is dear as long as pages may have to be claimed
 abbrev pub place_left : (n size : ℕ) → Held → place.Placing → PlaceStage → ℕ
-place_left n size x p place_stage.LoadsTraced = place.left_at most_pages place_stage.LoadsTraced + flip_left n size x
-place_left n size x p (place_stage.LoadsSize traced) = place.left_at most_pages (place_stage.LoadsSize traced) + flip_left n size x
-place_left n size x p (place_stage.LoadsArea traced read) = place.left_at most_pages (place_stage.LoadsArea traced read) + flip_left n size x
-place_left n size x p stage = place.left_at (place.pages_for (place.size_of p.header)) stage
+place_left n size x p place_stage.LoadsTraced = place.left_at most_pages place_stage.LoadsTraced + 2 * guard_cost + flip_left n size x
+place_left n size x p (place_stage.LoadsSize traced) = place.left_at most_pages (place_stage.LoadsSize traced) + 2 * guard_cost + flip_left n size x
+place_left n size x p (place_stage.LoadsArea traced read) = place.left_at most_pages (place_stage.LoadsArea traced read) + 2 * guard_cost + flip_left n size x
+place_left n size x p stage = place.left_at (place.pages_for (place.size_of p.header)) stage + looks_left stage
 
--- what it goes back to after a round; it never makes one for a checkpoint
+-- what is written after a look
+abbrev pub write_left : (n size : ℕ) → Held → Write → ℕ
+write_left n size x (OfAccess a) = access_left a
+write_left n size x (OfPlace p) = place_left n size x p p.stage
+
+-- what it goes back to after a round
 abbrev pub back_left : (n size : ℕ) → Held → Back → ℕ
-back_left n size x (ToAccess a) = access.left a
+back_left n size x (ToAccess a) = access_left a
 back_left n size x ToPlace = longest_placing + flip_left n size x
-back_left n size x ToSnap = 0
+back_left n size x ToSnap = snap_cost
 back_left n size x ToScanner = 0
+
+-- a save that is won is paid by its page, and so is the round after it
+abbrev pub saved_left : (n : ℕ) → SaveStage → ℕ
+saved_left n save_stage.Exchanges = 0
+saved_left n stage = save_round_cost n
+
+abbrev pub save_round_left : (n : ℕ) → SaveRoundStage → ℕ
+save_round_left n (save_round_stage.Saves s) = saved_left n s.stage
+save_round_left n stage = 0
 
 -- the registers from this one on
 abbrev pub registers_left : (register : ℕ) → ℕ
@@ -63,34 +106,60 @@ registers_left j = 5 * (7 - j) + 4
 
 -- ---- with what the tracing still costs: this in the midst of it, or this before a round
 
+-- the round that who begins a checkpoint makes after each that traces something
+abbrev pub again_left : (n : ℕ) → Back → ℕ
+again_left n (ToAccess a) = 0
+again_left n ToPlace = 0
+again_left n ToSnap = round_cost n
+again_left n ToScanner = 0
+
+-- in the midst of a round, with that one: there is none in a traced epoch
+abbrev pub round_left : (left due : ℕ) → Back → ℕ
+round_left left due (ToAccess a) = left
+round_left left due ToPlace = left
+round_left left due ToSnap = due
+round_left left due ToScanner = left
+
+-- where a stopped mutator goes on: with its allocation, after its own flip, or at a look
+abbrev pub after_left : (n growing due : ℕ) → After → ℕ
+after_left n growing due afters.Looks = whole_cost n + due
+after_left n growing due afters.Places = longest_placing + growing + due
+after_left n growing due afters.Snaps = 0
+
+-- after its request: the flip and the tracing of the new epoch, with what the flips after it cost; or the beginning of a checkpoint
+abbrev pub request_left : (n later : ℕ) → After → ℕ
+request_left n later afters.Looks = 0
+request_left n later afters.Places = 51 + recall_cost + longest_placing + longest_tracing n + later
+request_left n later afters.Snaps = 2
+
 -- at the gate, where its epoch is the gate's or the one before; with what the flips after the next one cost, and those that make the
 -- space grow
-abbrev pub passage_left : (n later growing due : ℕ) (late : Bool) → Passage → GateStage → ℕ
-passage_left n later growing due late Attach stage = gate.left_at Attach stage + whole_cost n + due
-passage_left n later growing due late Request stage = gate.left_at Request stage + 51 + longest_placing + longest_tracing n + later
-passage_left n later growing due true (Resume epoch) stage = 45 + longest_placing + growing + due
-passage_left n later growing due false (Resume epoch) stage = gate.left_at (Resume epoch) stage + longest_placing + growing + due
-passage_left n later growing due late Forwarded stage = gate.left_at Forwarded stage + 2 + longest_placing + growing + due
-passage_left n later growing due late Look stage = 0
-passage_left n later growing due late Park stage = 0
-passage_left n later growing due late Leave stage = 0
-passage_left n later growing due late Clear stage = 0
+abbrev pub passage_left : (n later growing due : ℕ) (late : Bool) → After → Passage → GateStage → ℕ
+passage_left n later growing due late after Attach stage = gate.left_at Attach stage + recall_cost + whole_cost n + due
+passage_left n later growing due late after Request stage = gate.left_at Request stage + request_left n later after
+passage_left n later growing due true after (Resume epoch) stage = 45 + recall_cost + longest_placing + growing + due
+passage_left n later growing due false after (Resume epoch) stage = gate.left_at (Resume epoch) stage + recall_cost + after_left n growing due after
+passage_left n later growing due late after Forwarded stage = gate.left_at Forwarded stage + 2 + recall_cost + longest_placing + growing + due
+passage_left n later growing due late after Clear stage = gate.left_at Clear stage + 2 + recall_cost + whole_cost n + due
+passage_left n later growing due late after Look stage = 0
+passage_left n later growing due late after Park stage = 0
+passage_left n later growing due late after Leave stage = 0
 
 abbrev pub stage_left : (n size left due : ℕ) (late : Bool) → Held → Stage → ℕ
 stage_left n size left due late x Looks = whole_cost n + due
-stage_left n size left due late x (Passes g after) = passage_left n (later_left n size x) (growing_left n size) due late g.passage g.stage
-stage_left n size left due late x (Flips f) = flip.left f + 45 + longest_placing + longest_tracing n + later_left n size x
-stage_left n size left due late x (Forwards w) = copy_left w.evac.stage + registers_left w.register + longest_placing + growing_left n size + due
-stage_left n size left due late x (Accesses a) = access.left a + due
+stage_left n size left due late x (Passes g after) = passage_left n (later_left n size x) (growing_left n size) due late after g.passage g.stage
+stage_left n size left due late x (Flips f) = flip.left f + 45 + recall_cost + longest_placing + longest_tracing n + later_left n size x
+stage_left n size left due late x (Forwards w) = copy_left w.evac.stage + registers_left w.register + recall_cost + longest_placing + growing_left n size + due
+stage_left n size left due late x (Accesses a) = access_left a + due
 stage_left n size left due late x (Places p) = place_left n size x p p.stage + due
-stage_left n size left due late x (Serves d back) = duty.left d + back_left n size x back + left
-stage_left n size left due late x (Scans s back) = scan.left s + 1 + round_cost n + back_left n size x back + left
-stage_left n size left due late x (Evacuates v s back) = copy_left v.stage + scan.left s + 1 + round_cost n + back_left n size x back + left
-stage_left n size left due late x (Opens o s back) = open_page.left o + round_cost n + back_left n size x back + left
-stage_left n size left due late x (Recalls r after) = 0
-stage_left n size left due late x (Guards g write) = 0
-stage_left n size left due late x (Checkpoints r goal) = 0
-stage_left n size left due late x (BeginsCheckpoint s) = 0
+stage_left n size left due late x (Serves d back) = duty.left d + back_left n size x back + round_left left due back
+stage_left n size left due late x (Scans s back) = scan.left s + 1 + round_cost n + back_left n size x back + again_left n back + left
+stage_left n size left due late x (Evacuates v s back) = copy_left v.stage + scan.left s + 1 + round_cost n + back_left n size x back + again_left n back + left
+stage_left n size left due late x (Opens o s back) = open_page.left o + round_cost n + back_left n size x back + again_left n back + left
+stage_left n size left due late x (Recalls r after) = recall.left r + after_left n (growing_left n size) due after
+stage_left n size left due late x (Guards g write) = guard.left g + write_left n size x write + due
+stage_left n size left due late x (Checkpoints r goal) = save_round.left r + save_round_left n r.stage + 2 + request_left n (later_left n size x) (after_goal goal)
+stage_left n size left due late x (BeginsCheckpoint s) = snap.left s
 stage_left n size left due late x Gone = 0
 
 -- ---- by what the table says

@@ -1,5 +1,5 @@
 -- What a round of the duty by a lone mutator has found: it is so still, since nobody else makes a step.
-use Rattle.std.specs.Prelude.{◌≡◌, ◌≢◌, ℕ, ◌+◌, ◌%◌, ◌<◌, ◌≤◌, ⊤, None}
+use Rattle.std.specs.Prelude.{◌≡◌, ◌≢◌, ℕ, ◌+◌, ◌%◌, ◌<◌, ◌≤◌, ◌⊎◌, ⊤, None}
 use Rattle.space_map.specs.declared.page_word.PageWord.{PageWord}
 use Rattle.space_map.specs.declared.page_word.PageWord.TheVariants.{Open}
 use Rattle.space_map.specs.declared.spaces.TheConstants.{PAGE_WORDS}
@@ -14,6 +14,8 @@ use Rattle.fault_duty.specs.declared.end_look.EndLook.{EndLook}
 use Rattle.fault_duty.specs.declared.duty_stage.DutyStage.{DutyStage}
 use Rattle.fault_duty.specs.declared.duty_stage.DutyStage.TheVariants.{LoadsGate, LoadsTraced, LoadsWanted, LoadsFrontFor, LoadsFront, LoadsPage, Claims, EndGate, EndArea, EndPage, EndFilling, EndAreaAgain, Traces, Ended}
 use Rattle.fault_duty.specs.Duty.{Round}
+use Rattle.gc_worker.specs.declared.stage.back.Back.{Back}
+use Rattle.gc_worker.specs.declared.stage.back.Back.TheVariants.{ToSnap}
 use Rattle.heap_state.specs.Memory.Era.{Era, Memory}
 use Rattle.heap_state.specs.Invariant.Parts.Pages.{Quiet}
 
@@ -67,7 +69,18 @@ FoundAt E m d (EndAreaAgain look filling) = LookedAt m look × (look.front % PAG
 FoundAt E m d (Traces traced) = traced ≡ m.traced
 FoundAt E m d (Ended result) = ⊤
 
+-- who begins a checkpoint makes rounds until one finds the epoch traced
+abbrev pub EndsTraced : Back → Type 0
+EndsTraced ToSnap = ⊤
+EndsTraced back = ⊥
+
+-- the epoch isn't traced, but for such a round that hasn't read TRACED
+abbrev pub IsUntraced : (traced epoch : ℕ) → Back → DutyStage → Type 0
+IsUntraced traced epoch back LoadsGate = EndsTraced back ⊎ (traced ≢ epoch + 1)
+IsUntraced traced epoch back (LoadsTraced hindrance) = EndsTraced back ⊎ (traced ≢ epoch + 1)
+IsUntraced traced epoch back stage = traced ≢ epoch + 1
+
 -- the epoch isn't traced, and what was found is so still
-pub record RoundStands (E : Era) (m : Memory) (d : Round) : Type 0 where
-  pub untraced : m.traced ≢ E.epoch + 1
+pub record RoundStands (E : Era) (m : Memory) (d : Round) (back : Back) : Type 0 where
+  pub untraced : IsUntraced m.traced E.epoch back d.stage
   pub found : FoundAt E m d d.stage

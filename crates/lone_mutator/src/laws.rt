@@ -3,13 +3,13 @@
 ghost use Rattle.lone_mutator.specs.Law.{LoneHeapsOpen, LoneStepsLower, LoneTasksBegin};
 ghost use Rattle.lone_mutator.specs.Runs.{LoneMutatorsGoOn, LoneRunsEnd};
 
-/// Without checkpoints, a step of a mutator without company that answers nothing leaves it less to pay, and it is without company still.
-/// After an effect it has less to pay than the most steps of an instruction, and has executed one more; else it has its end.
+/// A step of a mutator without company that answers nothing leaves it less to pay, and it is without company still. After an effect it has
+/// less to pay than the most steps of an instruction, and has executed one more; else it has its end.
 pub fn lone_steps_lower()
     ensures { LoneStepsLower }
 {}
 
-/// A heap of one mutator, with no scanner and no checkpoints, opens so, and the mutator has less to pay than the most steps of an instruction.
+/// A heap of one mutator without a scanner opens so, and the mutator has less to pay than the most steps of an instruction.
 pub fn lone_heaps_open()
     ensures { LoneHeapsOpen }
 {}

@@ -5,3 +5,4 @@ pub mod Named
 pub mod Counts
 pub mod Consistency
 pub mod Checkpoints
+pub mod OnlySnap

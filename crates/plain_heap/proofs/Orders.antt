@@ -1,3 +1,4 @@
 pub mod Stories
 pub mod Marks
 pub mod Words
+pub mod Checkpoints

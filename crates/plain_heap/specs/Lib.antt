@@ -12,3 +12,4 @@ pub mod WorkedCheckpoint
 pub mod Alone
 pub mod Consistent
 pub mod Stores
+pub mod LastCheckpoint

@@ -2,6 +2,7 @@
 
 ghost use Rattle.plain_heap.specs.Calls.{CallLeavesOthers, CallKeepsCount, CallMakesNewRecord, NewRecordIsMade, ElseNoneIsMade, AsksForNewRecord, OnlySnapBegins};
 ghost use Rattle.plain_heap.specs.Checkpoint.{OneCheckpoint, OneText, SameIsPrinted, SameIsReached};
+ghost use Rattle.plain_heap.specs.LastCheckpoint.{OrdersCountCheckpoints, OrdersKeepTheLastCheckpoint};
 ghost use Rattle.plain_heap.specs.Consistent.{OpensConsistent, MarksKeepConsistent, RunsStayConsistent};
 ghost use Rattle.plain_heap.specs.Records.{ExchangesFindTheWord, LoadsTakeTheWord, OnlyStoresChangeWords, ShapesStay};
 ghost use Rattle.plain_heap.specs.Order.{StoryIsPlain, StoryHasOpening, StoryHasLastFlip};
@@ -79,6 +80,15 @@ pub fn shapes_stay()
 /// as many checkpoints as there were, and what the last one keeps.
 pub fn only_snap_begins_checkpoints()
     ensures { OnlySnapBegins }
+{}
+
+/// After whatever order, no step of it has executed `snap`, and the number of checkpoints is 0; or a step began the last one by
+/// executing `snap`: as many steps had done so before as its number says, what is kept is the board and the records right after
+/// it, and none has executed `snap` since, if there haven't been the most checkpoints. Their number is that of the steps that
+/// executed `snap`, or the most.
+pub fn orders_keep_the_last_checkpoint()
+    ensures last { OrdersKeepTheLastCheckpoint }
+    ensures counted { OrdersCountCheckpoints }
 {}
 
 /// What is kept of a checkpoint has one board and one list of the records that the board leads to, and

@@ -19,8 +19,9 @@ pub use action::Action;
 pub use laws::{
     alone_mutators_are_independent, call_leaves_the_others, call_makes_the_new_record,
     checkpoints_have_one_text, only_reached_records_are_printed, only_snap_begins_checkpoints,
-    only_stores_change_words, reached_states_are_consistent, shapes_stay,
-    steps_find_the_last_store, stories_keep_the_last_flip, worked_checkpoints_are_printed,
+    only_stores_change_words, orders_keep_the_last_checkpoint, reached_states_are_consistent,
+    shapes_stay, steps_find_the_last_store, stories_keep_the_last_flip,
+    worked_checkpoints_are_printed,
 };
 pub use mark::Mark;
 pub use order::plain_run;

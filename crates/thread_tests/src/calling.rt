@@ -42,8 +42,13 @@ pub fn make<R: Wait + Abort>(rt: &R, h: &Shared, mutator: &mut Mutator, instr: I
     assert_same(rt, &did, &Did::Done);
 }
 
-/// A heap of so many pages with two mutators, which have made no step, and the seats without theirs, for which there is room.
-pub fn open_two(alloc: Global, pages: u32) -> Result<(Shared, Seats, Mutator, Mutator), OpenError>
+/// A heap of so many pages with two mutators, which have made no step, and the seats without theirs, for which there is room. With
+/// `snap` checkpoints can be begun.
+pub fn open_two(
+    alloc: Global,
+    pages: u32,
+    snap: bool,
+) -> Result<(Shared, Seats, Mutator, Mutator), OpenError>
     ensures first { IfOk result (λ o. (o.2.table ≡ o.0.table.shared.table_id) × (o.2.worker.task ≡ None)) }
     ensures second { IfOk result (λ o. (o.3.table ≡ o.0.table.shared.table_id) × (o.3.worker.task ≡ None)) }
     ensures seats { IfOk result (λ o. (o.1.mutators.items ≡ []) × (o.1.scanners.items ≡ [])) }
@@ -54,6 +59,7 @@ pub fn open_two(alloc: Global, pages: u32) -> Result<(Shared, Seats, Mutator, Mu
         limit: pages,
         scanners: 0,
         turns: 1,
+        snap,
     };
     let (heap, mut seats) = Shared::open(alloc, 2, &config)?;
     let (Some(second), Some(first)) = (seats.mutators.pop(), seats.mutators.pop()) else {

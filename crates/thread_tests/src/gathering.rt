@@ -100,6 +100,7 @@ fn as_many_workers_as_there_may_be_run_at_once(rt: HostRuntime) -> Result<(), Fa
         limit: 4,
         scanners: SCANNERS,
         turns: 10,
+        snap: false,
     };
     let pace = Gathering::new();
     let told = run(&rt, rt.alloc(), &program, &config, &pace)?;

@@ -11,6 +11,8 @@ mod gathering;
 #[cfg(test)]
 mod programs;
 #[cfg(test)]
+mod snapping;
+#[cfg(test)]
 mod turns;
 #[cfg(test)]
 mod two_threads;

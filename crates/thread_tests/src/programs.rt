@@ -102,6 +102,7 @@ fn all_workers_run_at_once(rt: HostRuntime) -> Result<(), Fail> {
             limit: 4,
             scanners,
             turns: 10,
+            snap: false,
         };
         let pace = Meeting::new(scanners);
         let told = run(&rt, rt.alloc(), &program, &config, &pace)?;
@@ -132,6 +133,7 @@ fn spaces_of_other_sizes_are_refused(rt: HostRuntime) -> Result<(), Fail> {
             limit,
             scanners: 0,
             turns: 10,
+            snap: false,
         };
         let told = run(&rt, rt.alloc(), &program, &config, &NoPace);
         assert!(rt; matches!(told, Err(RunError::BadPages)), "{pages} {limit}");
@@ -186,6 +188,7 @@ fn one_mutator_with_scanners_does_as_alone(rt: HostRuntime) -> Result<(), Fail> 
             limit: 4,
             scanners: alone.scanners,
             turns: 1_000_000,
+            snap: false,
         };
         let told = run(&rt, rt.alloc(), &program, &config, &NoPace)?;
         check_alone(&rt, alone, &told);

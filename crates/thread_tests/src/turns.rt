@@ -101,7 +101,7 @@ fn share(rt: &impl Abort, h: &Shared, one: &mut Mutator, other: &mut Mutator)
 
 #[test]
 fn two_callers_see_what_the_other_shares(rt: HostRuntime) -> Result<(), Fail> {
-    let (h, mut seats, mut one, mut other) = open_two(rt.alloc(), 4)?;
+    let (h, mut seats, mut one, mut other) = open_two(rt.alloc(), 4, false)?;
     share(&rt, &h, &mut one, &mut other);
     one.leave(&rt, &h);
     other.leave(&rt, &h);

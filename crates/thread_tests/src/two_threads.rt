@@ -71,7 +71,7 @@ fn check_both(rt: &impl Abort, first: &Mutator, second: &Mutator) {
 
 #[test]
 fn callers_on_two_threads_keep_their_own(rt: HostRuntime) -> Result<(), Fail> {
-    let (h, mut seats, first, second) = open_two(rt.alloc(), PAGES)?;
+    let (h, mut seats, first, second) = open_two(rt.alloc(), PAGES, false)?;
     let (mut first, second) = work_both(&rt, &h, first, second);
     check_both(&rt, &first, &second);
     first.absorb(&h, second);

@@ -125,6 +125,9 @@ module _ (one : MeansOneProgram) (no_fault : HasNoFault) (call : Call) (a : Call
       record {
         ran = d.1.ran;
         is = d.1.is;
+        checkpoint = d.1.checkpoint;
+        saved = d.1.saved;
+        is_dump = d.1.is_dump;
         prints = subst (λ output. Grows call.out.held output call.out.holds) d.1.prints d.0.printed;
       }
 
@@ -142,6 +145,8 @@ module _ (one : MeansOneProgram) (no_fault : HasNoFault) (call : Call) (a : Call
         is = plainly.is;
         mutators = (plain program (options_by manner).turns plainly.ran.order).mutators;
         all = plain_count program (options_by manner).turns plainly.ran.order;
+        checkpoint = plainly.checkpoint;
+        saved = plainly.saved;
         prints = plainly.prints;
         alone = λ m k at. same program (options_by manner).turns plainly.ran.order m k shares_nothing at;
       }

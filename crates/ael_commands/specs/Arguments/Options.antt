@@ -50,6 +50,10 @@ order_flag = codes "order"
 abbrev pub cycles_flag : Text
 cycles_flag = codes "cycles"
 
+-- `--snap`
+abbrev pub snap_flag : Text
+snap_flag = codes "snap"
+
 -- `--dump`
 abbrev pub dump_flag : Text
 dump_flag = codes "dump"
@@ -73,7 +77,7 @@ abbrev pub run_wide : List Text
 run_wide = []
 
 abbrev pub run_flags : List Text
-run_flags = cycles_flag ∷ dump_flag ∷ []
+run_flags = cycles_flag ∷ snap_flag ∷ dump_flag ∷ []
 
 -- the tables of `concord`
 abbrev pub concord_numbers : List (Text × Numbers)
@@ -93,7 +97,7 @@ abbrev pub sim_wide : List Text
 sim_wide = seed_option ∷ []
 
 abbrev pub sim_flags : List Text
-sim_flags = order_flag ∷ cycles_flag ∷ dump_flag ∷ []
+sim_flags = order_flag ∷ cycles_flag ∷ snap_flag ∷ dump_flag ∷ []
 
 abbrev pub pages_given : List Row → ℕ
 pages_given rows = number_given pages_option rows
@@ -109,6 +113,7 @@ run_options_in rows = record {
   scanners = number_given scanners_option rows;
   turns = number_given turns_option rows;
   cycles = was_given cycles_flag rows;
+  snap = was_given snap_flag rows;
   dump = was_given dump_flag rows;
 }
 

@@ -18,7 +18,7 @@ use Rattle.ael_commands.specs.Calls.Call.{Call}
 use Rattle.ael_commands.specs.Calls.Concordance.{ConcordEnds, LargeHeapsSuffice, PrintsConcordance}
 use Rattle.ael_commands.specs.Calls.Emits.{IsEmitted}
 use Rattle.ael_commands.specs.Arguments.Jobs.{run_by, job_task}
-use Rattle.ael_commands.specs.Runs.Run.{IsRunOf, Manner, flag_lines, options_by}
+use Rattle.ael_commands.specs.Runs.Run.{IsCheckpointOf, IsDumpOf, IsRunOf, Manner, flag_lines, options_by}
 use Rattle.ael_commands.specs.Calls.Status.{status_code}
 use Rattle.ael_commands.specs.Streams.Stream.{Grows}
 use Rattle.ael_commands.specs.Calls.Success.{GoesWell, Succeeds}
@@ -51,11 +51,14 @@ abbrev pub IsComplete : Call → Type 0
 IsComplete call = (job : Job) (bytes : List ℕ) → GoesWell call job bytes → IsDone call job bytes ⊎ (call.code ≡ 7)
 
 -- The bytes held grow by what the plain machine prints that executes the order of a run, and then by
--- the lines of the flags, which tell that same run.
+-- the lines of the flags, which tell that same run, and the last checkpoint of its order and a dump of a heap if they are asked for.
 pub record IsPlainlyPrinted (call : Call) (manner : Manner) (program : List (List Instr)) (items : List Item) : Type 0 where
   pub ran : Ran
   pub is : IsRunOf manner program items ran
-  pub prints : Grows call.out.held (print_of (plain program (options_by manner).turns ran.order) ++ flag_lines manner ran) call.out.holds
+  pub checkpoint : List ℕ
+  pub saved : IsCheckpointOf manner program ran checkpoint
+  pub is_dump : IsDumpOf manner ran
+  pub prints : Grows call.out.held (print_of (plain program (options_by manner).turns ran.order) ++ flag_lines manner ran checkpoint) call.out.holds
 
 -- the headline in one sentence: where `sim`, `run` or `bench` succeeds, it prints what the plain machine prints
 abbrev pub PrintsPlainly : Call → Type 0
@@ -75,7 +78,9 @@ pub record IsPrintedAsAlone (call : Call) (manner : Manner) (program : List (Lis
   pub is : IsRunOf manner program items ran
   pub mutators : List Mutator
   pub all : length mutators ≡ length program
-  pub prints : Grows call.out.held (lines_seen 0 (seen_in mutators) ++ flag_lines manner ran) call.out.holds
+  pub checkpoint : List ℕ
+  pub saved : IsCheckpointOf manner program ran checkpoint
+  pub prints : Grows call.out.held (lines_seen 0 (seen_in mutators) ++ flag_lines manner ran checkpoint) call.out.holds
   pub alone : (m : ℕ) (k : Mutator) → slice_get mutators m ≡ Some k → IsAsAlone program (options_by manner).turns m k
 
 -- where `sim`, `run` or `bench` succeeds, the mutators of a program without `get`, `put` and `swap` print what they print alone

@@ -5,12 +5,16 @@ use Rattle.mutator_asm.specs.declared.item.Item.{Item}
 use Rattle.plain_heap.specs.Order.{opening, plain, story}
 use Rattle.plain_heap.specs.Print.{print_of, order_line, plain_seen}
 use Rattle.gc_worker.specs.Plain.Marks.{EachActs}
+use Rattle.gc_core.specs.Checkpoints.{TellsLastCheckpoint}
 use Rattle.gc_core.specs.Cycles.{KeepsWhatIsLive}
+use Rattle.gc_core.specs.Dumped.{dumped}
 use Rattle.gc_core.specs.Run.{Ran}
+use Rattle.dump_text.specs.Text.{IsDump}
 use Rattle.ael_commands.specs.declared.arguments.options.RunOptions.{RunOptions}
 use Rattle.ael_commands.specs.declared.arguments.options.SimOptions.{SimOptions}
 use Rattle.ael_commands.specs.declared.status.Status.{Status}
 use Rattle.ael_commands.specs.Tasks.ProgramTask.{program_task}
+use Rattle.ael_commands.specs.Runs.Checkpoint.{TellsLastIf}
 use Rattle.ael_commands.specs.Runs.Verdict.{status_seen}
 use Rattle.ael_commands.specs.Runs.Simulation.{IsSimulated}
 use Rattle.ael_commands.specs.Tasks.Task.{Task}
@@ -39,23 +43,32 @@ IsMadeInManner (Scheduled options) program items ran = IsSimulated options progr
 IsMadeInManner (Threaded options) program items ran = IsThreaded options program ran
 
 -- This is what a run of the program came to. Each mark of its order acts: each mutator's marks execute its program from the start, none
--- skipped and none twice. A dump represents what the plain machine comes to that executes the order. What was copied in a traced epoch,
--- and is told as live, was live at the last exchange of the spaces.
+-- skipped and none twice. A dump represents what the plain machine comes to that executes the order. If checkpoints can be begun, the words
+-- of the core say the last one of the order. What was copied in a traced epoch, and is told as live, was live at the last exchange of the spaces.
 pub record IsRunOf (manner : Manner) (program : List (List Instr)) (items : List Item) (ran : Ran) : Type 0 where
   pub made : IsMadeInManner manner program items ran
   pub acts : EachActs program (options_by manner).turns (opening program) ran.order
   pub dump : IsTrueDump ran.last (plain program (options_by manner).turns ran.order)
+  pub checkpoint : (options_by manner).snap ≡ true → TellsLastCheckpoint program (options_by manner).turns ran.order ran.last
   pub live : KeepsWhatIsLive ran.last (story program (options_by manner).turns ran.order).flip
 
 -- ---- what is printed
 
--- the lines of the flags
-abbrev pub flag_lines : Manner → Ran → List ℕ
-flag_lines manner ran = (if tells_order manner then order_line ran.order else []) ++ heap_lines (options_by manner) (told_of ran.last)
+-- with its flag, the bytes are the lines of the last checkpoint of the order; without, there are none
+abbrev pub IsCheckpointOf : Manner → List (List Instr) → Ran → (bytes : List ℕ) → Type 0
+IsCheckpointOf manner program ran bytes = TellsLastIf (options_by manner).snap program (options_by manner).turns ran.order bytes
+
+-- the lines of the flags, with those of the last checkpoint
+abbrev pub flag_lines : Manner → Ran → (checkpoint : List ℕ) → List ℕ
+flag_lines manner ran checkpoint = (if tells_order manner then order_line ran.order else []) ++ heap_lines (options_by manner) (told_of ran.last) checkpoint
 
 -- all that is printed: the lines of the plain machine that executes the order, and then those of the flags
-abbrev pub output_of : Manner → List (List Instr) → Ran → List ℕ
-output_of manner program ran = print_of (plain program (options_by manner).turns ran.order) ++ flag_lines manner ran
+abbrev pub output_of : Manner → List (List Instr) → Ran → (checkpoint : List ℕ) → List ℕ
+output_of manner program ran checkpoint = print_of (plain program (options_by manner).turns ran.order) ++ flag_lines manner ran checkpoint
+
+-- if a dump is asked for, what it tells is a dump of a heap
+abbrev pub IsDumpOf : Manner → Ran → Type 0
+IsDumpOf manner ran = (options_by manner).dump ≡ true → IsDump (dumped ran.last)
 
 -- how it goes, by the ends of the plain machine
 abbrev pub status_of : Manner → List (List Instr) → Ran → Status
@@ -65,7 +78,10 @@ status_of manner program ran = status_seen (plain_seen (plain program (options_b
 pub record IsRun (manner : Manner) (program : List (List Instr)) (items : List Item) (output : List ℕ) (status : Status) : Type 0 where
   pub ran : Ran
   pub is : IsRunOf manner program items ran
-  pub prints : output ≡ output_of manner program ran
+  pub checkpoint : List ℕ
+  pub saved : IsCheckpointOf manner program ran checkpoint
+  pub is_dump : IsDumpOf manner ran
+  pub prints : output ≡ output_of manner program ran checkpoint
   pub went : status ≡ status_of manner program ran
 
 -- ---- the tasks

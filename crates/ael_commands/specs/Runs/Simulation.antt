@@ -14,7 +14,7 @@ use Rattle.ael_commands.specs.Runs.Schedule.{scheduled_by}
 
 -- the heap and the workers of a run
 abbrev pub config : RunOptions → Config
-config options = record { pages = options.pages; limit = options.limit; scanners = options.scanners; turns = options.turns }
+config options = record { pages = options.pages; limit = options.limit; scanners = options.scanners; turns = options.turns; snap = options.snap }
 
 -- the core in which the run of a program begins
 abbrev pub core_of : SimOptions → List (List Instr) → CoreState

@@ -13,7 +13,7 @@ use Rattle.ael_commands.specs.Tasks.Task.{Nothing, Task}
 -- be, and by the words of the seed that the text doesn't take.
 abbrev pub bench_options : BenchOperands → SimOptions
 bench_options operands = record {
-  run = record { pages = SPARE_PAGES + 2 ^ operands.depth; limit = SPARE_PAGES + 2 ^ operands.depth; scanners = 1; turns = turns_option.1.most; cycles = true; dump = false };
+  run = record { pages = SPARE_PAGES + 2 ^ operands.depth; limit = SPARE_PAGES + 2 ^ operands.depth; scanners = 1; turns = turns_option.1.most; cycles = true; snap = false; dump = false };
   steps = steps_option.1.most;
   seed = Some (seed_behind operands.seed);
   order = false;

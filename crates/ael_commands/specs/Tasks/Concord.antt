@@ -1,5 +1,5 @@
 -- The task `concord`: the concordance of a text is made.
-use Rattle.std.specs.Prelude.{◌≡◌, ℕ, true, List, []}
+use Rattle.std.specs.Prelude.{◌≡◌, ℕ, true, false, List, []}
 use Rattle.gc_worker.specs.declared.config.Config.{Config}
 use Rattle.gc_worker.specs.declared.config.TheConstants.{MOST_TURNS}
 use Rattle.concordance_text.specs.Rows.{IsConcordanceOf}
@@ -13,7 +13,7 @@ use Rattle.ael_commands.specs.Tasks.Task.{Everything, Task}
 -- The heap, with all its pages in use from the start and one scanner. How many instructions a mutator may execute has no meaning for a
 -- concordance.
 abbrev pub concord_config : ConcordOptions → Config
-concord_config options = record { pages = options.pages; limit = options.pages; scanners = 1; turns = MOST_TURNS }
+concord_config options = record { pages = options.pages; limit = options.pages; scanners = 1; turns = MOST_TURNS; snap = false }
 
 -- a word of the text is too long, and the first line that has one is told
 pub record TellsLongWord (text : List ℕ) (status : Status) : Type 0 where

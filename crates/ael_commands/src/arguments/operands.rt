@@ -67,6 +67,7 @@ impl BenchOperands {
                 scanners: 1,
                 turns: TURNS.1.most,
                 cycles: true,
+                snap: false,
                 dump: false,
             },
             steps: STEPS.1.most,

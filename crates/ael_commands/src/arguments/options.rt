@@ -75,6 +75,9 @@ pub const ORDER: &str = "order";
 /// Whether it is printed how often the spaces were exchanged, and what the last exchange copied.
 pub const CYCLES: &str = "cycles";
 
+/// Whether checkpoints can be begun, and the last one is printed.
+pub const SNAP: &str = "snap";
+
 /// Whether the last configuration is printed.
 pub const DUMP: &str = "dump";
 
@@ -85,7 +88,7 @@ pub const RUN_NUMBERS: [(&str, Numbers); 4] = [PAGES, LIMIT, SCANNERS, TURNS];
 pub const RUN_WIDE: [&str; 0] = [];
 
 /// The flags of `run`.
-pub const RUN_FLAGS: [&str; 2] = [CYCLES, DUMP];
+pub const RUN_FLAGS: [&str; 3] = [CYCLES, SNAP, DUMP];
 
 /// The options of `concord` with a number of 32 bits.
 pub const CONCORD_NUMBERS: [(&str, Numbers); 2] = [WORKERS, PAGES];
@@ -103,7 +106,7 @@ pub const SIM_NUMBERS: [(&str, Numbers); 5] = [PAGES, LIMIT, SCANNERS, TURNS, ST
 pub const SIM_WIDE: [&str; 1] = [SEED];
 
 /// The flags of `sim`.
-pub const SIM_FLAGS: [&str; 3] = [ORDER, CYCLES, DUMP];
+pub const SIM_FLAGS: [&str; 4] = [ORDER, CYCLES, SNAP, DUMP];
 
 /// How a program is run, whoever makes its steps, and what is told of its heap: the values of the
 /// table's rows.
@@ -114,6 +117,7 @@ pub struct RunOptions {
     pub scanners: u32,
     pub turns: u32,
     pub cycles: bool,
+    pub snap: bool,
     pub dump: bool,
 }
 
@@ -146,6 +150,7 @@ impl RunOptions {
             scanners: number_of(matches, SCANNERS),
             turns: number_of(matches, TURNS),
             cycles: is_given(matches, CYCLES),
+            snap: is_given(matches, SNAP),
             dump: is_given(matches, DUMP),
         })
     }
@@ -160,6 +165,7 @@ impl RunOptions {
             limit: self.limit,
             scanners: self.scanners as u8,
             turns: self.turns,
+            snap: self.snap,
         }
     }
 }
@@ -231,6 +237,7 @@ impl ConcordOptions {
             limit: self.pages,
             scanners: 1,
             turns: MOST_TURNS,
+            snap: false,
         }
     }
 }

@@ -2,7 +2,8 @@
 
 use crate::runs::report::Report;
 use ael_threads::Outputs;
-use plain_heap::End;
+use checkpoint_text::push_checkpoint;
+use plain_heap::{End, NoMemory};
 use plain_state::REGISTERS;
 use space_map::{MOST_MUTATORS, Spaces};
 use std::marker::Model;
@@ -22,7 +23,7 @@ impl Model for ClosedHeap {
 
     ghost view = { λ c. told_by c.spaces.pages c.outputs };
 
-    ghost invariant = { λ c. IsWholeHeap c.spaces.pages c.outputs };
+    ghost invariant = { λ c. IsWholeHeap c.spaces c.outputs };
 }
 
 impl ClosedHeap {
@@ -30,7 +31,7 @@ impl ClosedHeap {
     ghost use Rattle.ael_commands.specs.Runs.ClosedHeap.{IsWholeHeap, told_by};
 
     pub fn new(spaces: Spaces, outputs: Outputs) -> ClosedHeap
-        requires { IsWholeHeap spaces.pages outputs }
+        requires { IsWholeHeap spaces outputs }
         ensures { result ≡ told_by spaces.pages outputs }
     {
         ClosedHeap { spaces, outputs }
@@ -53,7 +54,7 @@ impl Report for ClosedHeap {
     }
 
     fn places(&self) -> usize {
-        self.outputs.words.len()
+        self.spaces.table_len()
     }
 
     fn printed(&self, m: u8) -> &[u64] {
@@ -88,5 +89,11 @@ impl Report for ClosedHeap {
 
     fn word(&self, place: usize) -> u64 {
         self.outputs.words.word(place)
+    }
+
+    /// The words are copied first, since they lie apart.
+    fn push_checkpoint(&self, out: &mut String) -> Result<(), NoMemory> {
+        let words = self.outputs.words.to_vec(*out.allocator())?;
+        push_checkpoint(out, &words)
     }
 }

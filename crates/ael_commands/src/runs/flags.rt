@@ -1,9 +1,9 @@
 //! The lines of the flags.
 
-ghost use Rattle.std.specs.Prelude.{◌≡◌, ◌++◌, [], OnOk, if◌then◌else◌, string_bytes};
+ghost use Rattle.std.specs.Prelude.{◌≡◌, ◌++◌, ℕ, List, [], OnOk, true, if◌then◌else◌, string_bytes};
 ghost use Rattle.plain_heap.specs.Print.{order_line};
 ghost use Rattle.dump_text.specs.Text.{dump_text};
-ghost use Rattle.ael_commands.specs.Runs.Told.{cycles_line, heap_lines, live_text};
+ghost use Rattle.ael_commands.specs.Runs.Told.{AreLinesIf, TellsWords, cycles_line, heap_lines, live_text};
 
 use crate::arguments::options::RunOptions;
 use crate::runs::dump::push_dump;
@@ -51,9 +51,20 @@ fn push_cycles_if<H: Report>(out: &mut String, flag: bool, heap: &H) -> Result<(
     Ok(())
 }
 
+/// Adds the lines of the last checkpoint, where they are asked for.
+fn push_checkpoint_if<H: Report>(out: &mut String, flag: bool, heap: &H) -> Result<(), NoMemory>
+    ensures { OnOk result ((bytes : List ℕ) × AreLinesIf flag (H.told heap.now).words bytes × (string_bytes out.new ≡ string_bytes out.old ++ bytes)) }
+{
+    if flag {
+        heap.push_checkpoint(out)?;
+    }
+    Ok(())
+}
+
 /// Adds the dump, where it is asked for.
 fn push_dump_if<H: Report>(out: &mut String, flag: bool, heap: &H) -> Result<(), NoMemory>
-    ensures { OnOk result (string_bytes out.new ≡ string_bytes out.old ++ (if flag then dump_text (H.told heap.now).dump else [])) }
+    ensures text { OnOk result (string_bytes out.new ≡ string_bytes out.old ++ (if flag then dump_text (H.told heap.now).dump else [])) }
+    ensures words { OnOk result (flag ≡ true → TellsWords (H.told heap.now).dump) }
 {
     if flag {
         push_dump(out, heap)?;
@@ -63,8 +74,11 @@ fn push_dump_if<H: Report>(out: &mut String, flag: bool, heap: &H) -> Result<(),
 
 /// Adds what is asked for of the heap.
 pub fn push_heap<H: Report>(out: &mut String, options: RunOptions, heap: &H) -> Result<(), NoMemory>
-    ensures { OnOk result (string_bytes out.new ≡ string_bytes out.old ++ heap_lines options (H.told heap.now)) }
+    ensures text { OnOk result ((checkpoint : List ℕ) × AreLinesIf options.snap (H.told heap.now).words checkpoint
+        × (string_bytes out.new ≡ string_bytes out.old ++ heap_lines options (H.told heap.now) checkpoint)) }
+    ensures words { OnOk result (options.dump ≡ true → TellsWords (H.told heap.now).dump) }
 {
     push_cycles_if(out, options.cycles, heap)?;
+    push_checkpoint_if(out, options.snap, heap)?;
     push_dump_if(out, options.dump, heap)
 }

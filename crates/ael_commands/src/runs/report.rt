@@ -1,12 +1,14 @@
 //! What is told of a heap and its workers once a run is over, by whoever has them.
 
-ghost use Rattle.std.specs.Prelude.{◌≡◌, ◌<◌, Some, length, option_map, slice_get};
+ghost use Rattle.std.specs.Prelude.{◌≡◌, ◌<◌, OnOk, Some, length, option_map, slice_get, string_bytes};
 ghost use Rattle.std.specs.List.{list_all};
+ghost use Rattle.checkpoint_text.specs.Text.{AddsLinesOf};
 ghost use Rattle.ael_commands.specs.Runs.Verdict.{has_ended};
 ghost use Rattle.ael_commands.specs.Runs.Told.{RunReport};
 
+use checkpoint_text::push_checkpoint;
 use gc_core::Core;
-use plain_heap::End;
+use plain_heap::{End, NoMemory};
 use plain_state::REGISTERS;
 
 /// Tells of a heap and its workers. Mutators and workers are told of by their numbers, which begin with 0.
@@ -27,7 +29,7 @@ pub trait Report {
     fn workers(&self) -> u8
         ensures { result ≡ length (told self.now).dump.kept };
 
-    /// How many words the table has.
+    /// How many words a dump tells: those of the table but what checkpoints save.
     fn places(&self) -> usize
         ensures { result ≡ length (told self.now).dump.words };
 
@@ -63,10 +65,14 @@ pub trait Report {
         requires { w < length (told self.now).dump.kept }
         ensures { slice_get (told self.now).dump.kept w ≡ Some (record { header = result.0; place = result.1 }) };
 
-    /// A word of the table.
+    /// A word that a dump tells.
     fn word(&self, place: usize) -> u64
         requires { place < length (told self.now).dump.words }
         ensures { slice_get (told self.now).dump.words place ≡ Some result };
+
+    /// Adds the lines of the last checkpoint, as all words of the table say it.
+    fn push_checkpoint(&self, out: &mut String) -> Result<(), NoMemory>
+        ensures { OnOk result (AddsLinesOf (told self.now).words (string_bytes out.old) (string_bytes out.new)) };
 }
 
 impl<'p> Report for Core<'p> {
@@ -87,7 +93,7 @@ impl<'p> Report for Core<'p> {
     }
 
     fn places(&self) -> usize {
-        self.words().len()
+        self.table_words().len()
     }
 
     fn printed(&self, m: u8) -> &[u64] {
@@ -119,6 +125,10 @@ impl<'p> Report for Core<'p> {
     }
 
     fn word(&self, place: usize) -> u64 {
-        self.words()[place]
+        self.table_words()[place]
+    }
+
+    fn push_checkpoint(&self, out: &mut String) -> Result<(), NoMemory> {
+        push_checkpoint(out, self.words())
     }
 }

@@ -13,6 +13,7 @@ use Rattle.plain_state.specs.declared.end.End.{End}
 use Rattle.plain_state.specs.State.{Mutator, Plain}
 use Rattle.mutator_asm.specs.declared.instr.Instr.{Instr}
 use Rattle.plain_heap.specs.Order.{opening}
+use Rattle.plain_heap.proofs.Orders.Checkpoints.{orders_keep_the_last_checkpoint}
 use Rattle.heap_state.specs.Cycles.Copies.{CopiedIsLive}
 use Rattle.heap_state.specs.Kept as kept
 use Rattle.heap_state.specs.Memory.Table.{word_in}
@@ -21,11 +22,13 @@ use Rattle.heap_state.proofs.Table.Places.{word_in-row}
 use Rattle.std.proofs.lemmas.List.{length-replicate}
 use Rattle.heap_laws.specs.Opening.{opening_mutator, opening_plain}
 use Rattle.space_map.specs.Spaces.{to_space}
-use Rattle.space_map.specs.Table.{Area, IsRow, Row, Traced, place_of, table_length}
+use Rattle.space_map.specs.Table.{Area, IsRow, Row, Traced, place_of, whole_length}
 use Rattle.gc_worker.specs.declared.config.Config.{Config}
+use Rattle.gc_worker.specs.Config.{layout_by}
 use Rattle.gc_worker.specs.declared.stage.Stage.{Stage}
 use Rattle.gc_worker.specs.declared.stage.Stage.TheVariants.{Gone}
 use Rattle.gc_worker.specs.Laws.Between.{IsSo}
+use Rattle.gc_worker.specs.Laws.Checkpoints.{TellsKept}
 use Rattle.gc_worker.specs.Laws.Copied.{IsTraced}
 use Rattle.gc_worker.specs.Workers.Held.{Held}
 use Rattle.gc_worker.specs.Workers.Knows.{copy_in, knows}
@@ -309,7 +312,7 @@ module _ (code : List (List Instr)) (config : Config) (t : TableId) (ms : List S
         c.entries (omega arith) (λ m e. e))
 
     -- THE CLAUSE OF RUN
-    pub runs_so : (told : Outputs) → told.words ≡ words → length told.words ≡ table_length config.limit → told.regs.items ≡ map seat_registers ms → Tells h told → Runs code config told
+    pub runs_so : (told : Outputs) → told.words ≡ words → length told.words ≡ whole_length (layout_by config) → told.regs.items ≡ map seat_registers ms → Tells h told → Runs code config told
     runs_so told same all regs tells =
         let from : p ≡ opening code = opens_so code in
         record {
@@ -323,6 +326,8 @@ module _ (code : List (List Instr)) (config : Config) (t : TableId) (ms : List S
           count = c.count;
           stands = subst (λ (z : Plain × List ℕ). WorkersStand (heap_of plan_here z.1 c.workers) (after_all z.0 c.log) (last_flip z.0 c.log)) (λ i. (from i, sym same i)) c.stands;
           copied = subst (λ (z : Plain × List ℕ). IsTraced (heap_of plan_here z.1 c.workers) → CopiedIsLive (read (heap_of plan_here z.1 c.workers)) (last_flip z.0 c.log)) (λ i. (from i, sym same i)) c.copied;
+          kept = λ room. subst (λ (z : Plain × List ℕ). TellsKept (heap_of plan_here z.1 c.workers) (after_all z.0 c.log)) (λ i. (from i, sym same i)) (c.kept room);
+          last = orders_keep_the_last_checkpoint code config.turns (order_of c.log);
           all_words = all;
           epoch = tells.cycles ∙ c.epoch;
           left = workers_left;

@@ -3,14 +3,14 @@ use Rattle.std.proofs.Common.{◌≡◌, ℕ, ◌<◌, ◌≤◌, ◌-◌, ◌^�
 use mathlib.Core.List.{IsPrefix}
 use Rattle.plain_state.specs.State.{Plain}
 use Rattle.heap_state.specs.Configuration.{era, team}
-use Rattle.heap_state.specs.Worker.{Worker, is_running}
+use Rattle.heap_state.specs.Worker.{Worker}
 use Rattle.gc_worker.specs.declared.stage.back.Back.TheVariants.{ToAccess, ToPlace, ToScanner, ToSnap}
 use Rattle.gc_worker.specs.declared.calls.entry.Entry.{Entry}
 use Rattle.gc_worker.specs.declared.calls.entry.Entry.TheVariants.{Exchanged, Made}
 use Rattle.gc_worker.specs.declared.stage.Stage.{Stage}
 use Rattle.gc_worker.specs.declared.stage.Stage.TheVariants.{Accesses, BeginsCheckpoint, Checkpoints, Evacuates, Flips, Forwards, Gone, Guards, Looks, Opens, Passes, Places, Recalls, Scans, Serves}
 use Rattle.gc_worker.specs.declared.task.Task.{Task}
-use Rattle.gc_worker.specs.Laws.Between.{IsSo}
+use Rattle.gc_worker.specs.Laws.Between.{IsSo, is_present}
 use Rattle.gc_worker.specs.Workers.Fits.{Fits, FitsTask}
 use Rattle.gc_worker.specs.Workers.Held.{Held}
 use Rattle.gc_worker.specs.History.Tally.{Tally, after_entry, tally}
@@ -24,7 +24,7 @@ use Rattle.gc_worker.proofs.Workers.Members.{member}
 use Rattle.ael_threads.specs.declared.view.Plan.{Plan}
 use Rattle.ael_threads.specs.Began.{HasFlipped, flips_of}
 use Rattle.ael_threads.specs.Histories.{opening_tally}
-use Rattle.ael_threads.proofs.WorkerSeats.Shown.{mutator_at, runs_aside}
+use Rattle.ael_threads.proofs.WorkerSeats.Shown.{mutator_at, present_aside}
 
 -- ---- a worker's epoch
 
@@ -38,13 +38,13 @@ module _ (h : Heap) (p o : Plain) (st : WorkersStand h p o) (k : ℕ) (below : k
   so : IsSo h p
   so = what_stands_is_so h p o st
 
-  -- that of a mutator that runs is the gate's
-  pub runs_now : is_running (post_in x x.stage) ≡ true → epoch_of h.pages h.words ≡ x.epoch
-  runs_now runs =
-      let side = runs_aside h.pages h.mutators k x fits runs in
+  -- that of a mutator that is present is the gate's
+  pub present_now : is_present (post_in x x.stage) ≡ true → epoch_of h.pages h.words ≡ x.epoch
+  present_now present =
+      let side = present_aside h.pages h.mutators k x fits present in
       let many = so.as_many in
       let w = mutator_at p.mutators k (omega (arith, side, many)) in
-      (so.mutators k w.0 w.1).epoch runs
+      (so.mutators k w.0 w.1).epoch present
 
   timely : epoch_in x.epoch x.stage ≤ epoch_of h.pages h.words
   timely =
@@ -58,8 +58,8 @@ module _ (h : Heap) (p o : Plain) (st : WorkersStand h p o) (k : ℕ) (below : k
   pub no_later : (task : Task) → x.task ≡ Some task → x.epoch ≤ epoch_of h.pages h.words
   no_later task is = by_stage x.stage refl fits.task
     where
-      runs_at : (stage : Stage) → x.stage ≡ stage → is_running (post_in x stage) ≡ true → x.epoch ≤ epoch_of h.pages h.words
-      runs_at stage at runs = let same = runs_now (subst (λ (s : Stage). is_running (post_in x s) ≡ true) (sym at) runs) in omega (arith, same)
+      present_at : (stage : Stage) → x.stage ≡ stage → is_present (post_in x stage) ≡ true → x.epoch ≤ epoch_of h.pages h.words
+      present_at stage at present = let same = present_now (subst (λ (s : Stage). is_present (post_in x s) ≡ true) (sym at) present) in omega (arith, same)
 
       rests_at : (stage : Stage) → x.stage ≡ stage → epoch_in x.epoch stage ≡ x.epoch → x.epoch ≤ epoch_of h.pages h.words
       rests_at stage at same =
@@ -68,9 +68,9 @@ module _ (h : Heap) (p o : Plain) (st : WorkersStand h p o) (k : ℕ) (below : k
           omega (arith, t, e)
 
       by_stage : (stage : Stage) → x.stage ≡ stage → FitsTask x stage → x.epoch ≤ epoch_of h.pages h.words
-      by_stage (Serves d (ToAccess a)) at f = runs_at (Serves d (ToAccess a)) at refl
-      by_stage (Serves d ToPlace) at f = runs_at (Serves d ToPlace) at refl
-      by_stage (Serves d ToSnap) at f = runs_at (Serves d ToSnap) at refl
+      by_stage (Serves d (ToAccess a)) at f = present_at (Serves d (ToAccess a)) at refl
+      by_stage (Serves d ToPlace) at f = present_at (Serves d ToPlace) at refl
+      by_stage (Serves d ToSnap) at f = present_at (Serves d ToSnap) at refl
       by_stage (Serves d ToScanner) at f = absurd (let none : None ≡ Some task = sym f ∙ is in cc)
       by_stage Looks at f = rests_at Looks at refl
       by_stage (Passes g after) at f = rests_at (Passes g after) at refl

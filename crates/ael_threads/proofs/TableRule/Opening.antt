@@ -5,6 +5,9 @@ use lib.ListN.{get_elem?}
 use Rattle.atomic_table.specs.Table as table
 use Rattle.space_map.specs.declared.spaces.TheConstants.{FEWEST_PAGES}
 use Rattle.space_map.specs.Spaces.{Layout, IsPageCount}
+use Rattle.space_map.specs.Table.{whole_length}
+use Rattle.std.proofs.lemmas.List.{length-replicate}
+use Rattle.std.proofs.Math.ListN.{length-set}
 use Rattle.gc_worker.specs.Laws.Between.{fresh_mutator, fresh_scanner, fresh_worker, fresh_workers, opening_words}
 use Rattle.gc_worker.specs.Laws.Cycles.{IsInCall}
 use Rattle.gc_worker.specs.Workers.Held.{Held}
@@ -23,7 +26,24 @@ use Rattle.gc_worker.proofs.History.Opening.{opening_tallied}
 abbrev pub first_words : Plan → List ℕ
 first_words plan = opening_words plan.spaces plan.least
 
--- the workers as they stand in the list
+-- ---- the words
+
+-- they are these, by whether there is room for checkpoints
+module _ (n least : ℕ) where
+  abbrev these : Bool → List ℕ
+  these room = opening_words (record { pages = n; checkpoints = room }) least
+
+  length_by : (room : Bool) → length (these room) ≡ whole_length (record { pages = n; checkpoints = room })
+  length_by true = simp (length-set, length-replicate)
+  length_by false = simp (length-set, length-replicate)
+
+-- so many
+pub opening_length : (layout : Layout) (least : ℕ) → length (opening_words layout least) ≡ whole_length layout
+opening_length layout least = length_by layout.pages least layout.checkpoints
+
+-- ---- the workers
+
+-- as they stand in the list
 abbrev first_workers : Plan → List Held
 first_workers plan = fresh_workers plan.spaces plan.mutators 0 (crew plan)
 
@@ -77,9 +97,8 @@ fresh_looks s mutators from zero m x is call = absurd (some-ne-none x (sym is))
 fresh_looks s mutators from (suc count) zero x is call = new_looks s mutators from (subst (λ (y : Held). IsInCall y.stage) (sym (some-injective (fresh_worker s mutators from) x is)) call)
 fresh_looks s mutators from (suc count) (suc m) x is call = fresh_looks s mutators (from + 1) count m x is call
 
-pub opens_kept : (plan : Plan) → plan.spaces.checkpoints ≡ false → IsPageCount plan.spaces.pages → FEWEST_PAGES ≤ plan.least → plan.least ≤ plan.spaces.pages → plan.mutators ≤ 16 → crew plan ≤ 24 → RuleHolds plan (table.opening {S = ℕ} (first_words plan) [] (first_view plan))
-opens_kept plan without size fewest most few all = record {
-  without = without;
+pub opens_kept : (plan : Plan) → IsPageCount plan.spaces.pages → FEWEST_PAGES ≤ plan.least → plan.least ≤ plan.spaces.pages → plan.mutators ≤ 16 → crew plan ≤ 24 → RuleHolds plan (table.opening {S = ℕ} (first_words plan) [] (first_view plan))
+opens_kept plan size fewest most few all = record {
   log = [];
   workers = first_workers plan;
   count = count_is plan.spaces plan.mutators 0 (crew plan);

@@ -1,5 +1,5 @@
 -- A step keeps the rule.
-use Rattle.std.proofs.Common.{◌≡◌, ◌≢◌, ℕ, ◌<◌, ◌≤◌, inl, inr, ⊎_elim, Option, Some, None, List, [], ◌∷◌, ◌++◌, length, slice_get, slice_set, set, refl, sym, ◌∙◌, ap, subst, length-set, arith, get_or-set_other, get_or-set_same}
+use Rattle.std.proofs.Common.{◌≡◌, ◌≢◌, ℕ, ◌<◌, ◌≤◌, ◌⊎◌, inl, inr, ⊎_elim, Option, Some, None, List, [], ◌∷◌, ◌++◌, length, slice_get, slice_set, set, refl, sym, ◌∙◌, ap, subst, length-set, arith, get_or-set_other, get_or-set_same}
 use Rattle.std.proofs.lemmas.Bool.{cases_eq}
 use mathlib.Core.Option.{some}
 use mathlib.Core.List.{IsPrefix}
@@ -8,10 +8,9 @@ use Rattle.atomic_table.specs.Table as table
 use Rattle.atom_store.specs.declared.reply.Reply.{Reply}
 use Rattle.atom_store.specs.declared.step.Step.{Step}
 use Rattle.atom_store.specs.Step.{words_after, reply_of}
-use Rattle.space_map.specs.Spaces.{Layout}
 use Rattle.plain_state.specs.declared.end.End.{End}
 use Rattle.plain_state.specs.State.{Mutator, Plain}
-use Rattle.gc_worker.specs.declared.stage.Stage.TheVariants.{Gone, Looks}
+use Rattle.gc_worker.specs.declared.stage.Stage.TheVariants.{Gone}
 use Rattle.gc_worker.specs.declared.task.Task.{Task}
 use Rattle.gc_worker.specs.Plain.Answer.{ComesTo, IsAnswered, after_told}
 use Rattle.gc_worker.specs.Laws.Between.{Begins, AreAlike, KeepsToTask, IsAsPlain, IsSo, RegistersLand, Readies, ShowsRegisters, with_task}
@@ -22,7 +21,7 @@ use Rattle.gc_worker.specs.Plain.Full.{FullWhereTold}
 use Rattle.gc_worker.specs.Workers.Held.{Held}
 use Rattle.gc_worker.specs.Laws.Gone.{ScannersAreLast}
 use Rattle.gc_worker.specs.Laws.Step.{FlipsWhereTold, Heap, StepKeeps, WorkersStand, at_flip, held_at, nobody}
-use Rattle.gc_worker.specs.Steps.Stepped.{uncounted}
+use Rattle.gc_worker.specs.Steps.Stepped.{IsBeginningCheckpoint, uncounted}
 use Rattle.gc_worker.specs.declared.calls.did.Did.TheVariants.{Done, Trap}
 use Rattle.gc_worker.specs.Steps.Turned.{Told, Silent, Answers, Marks, told, turned, won}
 use Rattle.gc_worker.specs.Steps.Wanted.{wanted}
@@ -43,7 +42,7 @@ use Rattle.gc_worker.specs.History.Tally.{IsTallied}
 use Rattle.ael_threads.specs.Histories.{opening_tally, HasOwnCalls, first_plain, hand}
 use Rattle.gc_worker.specs.History.Legal.{IsLegal, after_all, worker_call, calls_of, extra, last_flip, own_after}
 use Rattle.ael_threads.specs.Rule.{FitsView, HasHand, RuleHolds, crew, heap_of, view}
-use Rattle.ael_threads.specs.Seats.{Follows, IsRunning, IsShown, Moves, Sees, ShowsSeen, StandWith, plain_after_seen, seen_after, with_claim, LiveByEnd, LiveWhereTold}
+use Rattle.ael_threads.specs.Seats.{BeginsBySnap, Follows, IsPresent, IsRunning, IsShown, Moves, Sees, ShowsSeen, StandWith, plain_after_seen, seen_after, with_claim, LiveByEnd, LiveWhereTold}
 use Rattle.ael_threads.specs.Began.{BegunWithin, FlippedIfFull, HasLooked, begun_held}
 use Rattle.ael_threads.proofs.WholeCalls.Began.{given_none}
 use Rattle.ael_threads.proofs.Looks.{begun_later, flipped_aside, flipped_more, looked}
@@ -52,7 +51,7 @@ use Rattle.ael_threads.proofs.Lists.Elements.{each_map, prefix_more, prefix_self
 use Rattle.gc_worker.proofs.History.Steps.{step_tallied}
 use Rattle.ael_threads.proofs.TableRule.Flips.{flips_by}
 use Rattle.gc_worker.proofs.History.Extensions.{Agrees, after_more, calls_more, calls_other, flip_more, legal_more, seen_keeps}
-use Rattle.ael_threads.proofs.WorkerSeats.Shown.{alike_by, ends_with, full_by, lands_by, live_by, looks_run, mutator_at, rests_look, runs_aside, shown_by, unended}
+use Rattle.ael_threads.proofs.WorkerSeats.Shown.{alike_by, begins_by, ends_with, full_by, lands_by, live_by, mutator_at, present_aside, rests_present, rests_run, shown_by}
 use Rattle.gc_worker.proofs.History.Tallies.{tally_flip, tally_now}
 use Rattle.gc_worker.proofs.History.Tasks.{task_tallied}
 use Rattle.ael_threads.proofs.TableRule.Views.{all_fit, my_fit}
@@ -239,22 +238,28 @@ module _ (plan : Plan) (id : ℕ) (was : Hand) (x : Held) (others : List Hand) (
   goes : KeepsToTask x r
   goes = workers_go_on n plan.mutators m x r follows.fits
 
-  -- who answers by an effect looks at the gate: it has begun no checkpoint
-  looks : (task : Task) → t ≡ Answers task Done → z.stage ≡ Looks
-  looks task is = rests_look n plan.mutators m x.stage z fits_z (ap (λ (l : Layout). l.checkpoints) (goes.layout ∙ follows.laid_out) ∙ b.without) (goes.answers task Done is).after
+  -- who answers by an effect has no end, and is present; it runs, if it has not begun a checkpoint by `snap`
+  goes_present : (task : Task) → t ≡ Answers task Done → IsPresent z
+  goes_present task is = rests_present n plan.mutators m x.stage z fits_z (goes.answers task Done is).after
 
-  -- the plain mutator of who runs
-  its_mutator : IsRunning z → (w : Mutator) × (slice_get p'.mutators m ≡ Some w)
-  its_mutator runs =
+  goes_running : (task : Task) → t ≡ Answers task Done → BeginsBySnap x.stage task ⊎ IsRunning z
+  goes_running task is =
+      let answer = goes.answers task Done is in
+      ⊎_elim (λ (begins : IsBeginningCheckpoint x.stage). inl (begins, begins_by x task x.stage follows.fits.task begins answer.asked)) (λ (runs : IsRunning z). inr runs)
+      (rests_run n plan.mutators m x.stage z fits_z answer.after)
+
+  -- the plain mutator of who is present
+  its_mutator : IsPresent z → (w : Mutator) × (slice_get p'.mutators m ≡ Some w)
+  its_mutator present =
       let many = so'.as_many in
-      let below = runs_aside n plan.mutators m z fits_z runs.1 in
+      let below = present_aside n plan.mutators m z fits_z present.1 in
       mutator_at p'.mutators m (omega (arith, many, below))
 
-  lands : IsRunning z → RegistersLand n later z
-  lands runs = let w = its_mutator runs in lands_by heap' p' m count' z w.0 (as_plain w.0 w.1) runs
+  lands : IsPresent z → RegistersLand n later z
+  lands present = let w = its_mutator present in lands_by heap' p' m count' z w.0 (as_plain w.0 w.1) present
 
-  alike : IsRunning z → (w : Mutator) → slice_get p'.mutators m ≡ Some w → AreAlike z.registers w
-  alike runs w its = alike_by heap' p' m count' z w (as_plain w its) runs
+  alike : IsPresent z → (w : Mutator) → slice_get p'.mutators m ≡ Some w → AreAlike z.registers w
+  alike present w its = alike_by heap' p' m count' z w (as_plain w its) present
 
   -- ---- its registers, also once it has its end
 
@@ -272,7 +277,7 @@ module _ (plan : Plan) (id : ℕ) (was : Hand) (x : Held) (others : List Hand) (
   shows_ended : (w : Mutator) (end : End) (u : Told) → t ≡ u → slice_get (after_told p m u).mutators m ≡ Some w → slice_get p'.mutators m ≡ Some w → w.end ≡ Some end → ShowsRegisters z.registers w
   shows_ended w end Silent is was_its its e = stays_ended w end was_its e
   shows_ended w end (Marks asked) is was_its its e = stays_ended w end was_its e
-  shows_ended w end (Answers task Done) is was_its its e = (as_plain w its).shows (unended heap' p' m count' z w (as_plain w its) (looks_run n plan.mutators m z fits_z (looks task is)))
+  shows_ended w end (Answers task Done) is was_its its e = let a = as_plain w its in a.shows (sym a.account.end ∙ (goes_present task is).0)
   shows_ended w end (Answers task (Trap why)) is was_its its e =
       let comes : ComesTo p m task (Trap why) = subst (IsAnswered p m) is answered in
       let s = showed_at comes.mutator comes.is in
@@ -369,7 +374,6 @@ module _ (plan : Plan) (id : ℕ) (was : Hand) (x : Held) (others : List Hand) (
 
   kept' : RuleHolds plan (record { words = later; homes = s.homes; views = slice_set s.views id v' })
   kept' = record {
-    without = b.without;
     log = log';
     workers = workers2;
     count = count2;
@@ -457,7 +461,8 @@ module _ (plan : Plan) (id : ℕ) (was : Hand) (x : Held) (others : List Hand) (
       flips = flips_by n plan.mutators m count x r follows.fits s.words later t refl (subst (FlipsWhereTold n s.words later y) tells law.flips);
       full = full_by n s.words count x t (subst (FullWhereTold n s.words y) tells law.full);
       live = live_seen (first_plain plan) seen b.log m t (subst (LiveWhereTold o) tells (live_by (heap_of plan s.words workers1) p o readied y (told y r) law.full));
-      runs = λ task is. looks_run n plan.mutators m z fits_z (looks task is);
+      present = goes_present;
+      runs = goes_running;
       lands = lands;
       alike = λ h w its. alike h w (agrees.mutator ∙ its);
     },

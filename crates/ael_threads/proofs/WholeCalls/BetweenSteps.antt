@@ -5,8 +5,7 @@ use mathlib.Core.List.{IsPrefix}
 use Rattle.atomic_table.specs.Seated.{TableId}
 use Rattle.atom_store.specs.declared.reply.Reply.{Reply}
 use Rattle.plain_state.specs.State.{Mutator}
-use Rattle.plain_state.specs.State as plain
-use Rattle.space_map.specs.Spaces.{Layout, IsPageCount, without_checkpoints}
+use Rattle.space_map.specs.Spaces.{Layout, IsPageCount}
 use Rattle.space_map.specs.Table.{whole_length}
 use Rattle.gc_worker.specs.declared.task.Task.{Task}
 use Rattle.gc_worker.specs.Laws.Between.{Begins, IsAsPlain, IsIdle, fresh_mutator, fresh_scanner, fresh_worker, opening_heap, with_task}
@@ -120,20 +119,12 @@ first_end l mutators k = by_side (nat_lt k mutators)
     by_side true = refl
     by_side false = refl
 
--- whatever its layout, it shows the same
-shown_same : (records : plain.Heap) (q : Mutator) (l s : Layout) (mutators k : ℕ) → IsShown records k (fresh_worker l mutators k) q → IsShown records k (fresh_worker s mutators k) q
-shown_same records q l s mutators k = by_side (nat_lt k mutators)
-  where
-    by_side : (b : Bool) → IsShown records k (if b then fresh_mutator l mutators k else fresh_scanner l mutators k) q → IsShown records k (if b then fresh_mutator s mutators k else fresh_scanner s mutators k) q
-    by_side true h = record { counter = h.counter; printed = h.printed; end = h.end; serial = h.serial; registers = h.registers }
-    by_side false h = record { counter = h.counter; printed = h.printed; end = h.end; serial = h.serial; registers = h.registers }
-
 -- what it shows is the opening's plain mutator
 fresh_shown : (plan : Plan) (k : ℕ) → IsPageCount plan.spaces.pages → plan.mutators ≤ 16 → crew plan ≤ 24 → k < crew plan → (q : Mutator) → slice_get (first_plain plan).mutators k ≡ Some q
     → IsShown (first_plain plan).heap k (first_held plan k) q
 fresh_shown plan k size few all below q its =
     let n = plan.spaces.pages in
-    let l : Layout = without_checkpoints n in
+    let l : Layout = plan.spaces in
     let first : ℕ → Held = fresh_worker l plan.mutators in
     let h : Heap = opening_heap l n plan.mutators plan.scanners in
     let so = what_stands_is_so h (first_plain plan) (first_plain plan) (heaps_open l n plan.mutators plan.scanners size size.0 (omega arith) few all) in
@@ -141,7 +132,7 @@ fresh_shown plan k size few all below q its =
     let held : held_at h k ≡ counted 0 (first k) = get_of h.workers k (first (0 + k)) nobody (worker_at l plan.mutators 0 (crew plan) k below) ∙ (ap first same ∙ sym (uncounted_first l plan.mutators k)) in
     let a : IsAsPlain h (first_plain plan) k (counted 0 (first k)) q = subst (λ (x : Held). IsAsPlain h (first_plain plan) k x q) held (so.mutators k q its) in
     let shown = shown_by h (first_plain plan) k 0 (first k) q a (a.shows (sym a.account.end ∙ first_end l plan.mutators k)) in
-    shown_same (first_plain plan).heap q l plan.spaces plan.mutators k (subst (λ (x : Held). IsShown (first_plain plan).heap k x q) (uncounted_first l plan.mutators k) shown)
+    subst (λ (x : Held). IsShown (first_plain plan).heap k x q) (uncounted_first l plan.mutators k) shown
 
 pub fresh_shows : (plan : Plan) (k : ℕ) (x : Held) (v : View) → IsPageCount plan.spaces.pages → plan.mutators ≤ 16 → crew plan ≤ 24 → k < crew plan → x ≡ first_held plan k
     → v ≡ view plan (hand k (first_held plan k) [] ∷ []) [] [] [] → ShowsSeen x v

@@ -1,5 +1,5 @@
 -- From acts to a call.
-use Rattle.std.proofs.Common.{◌≡◌, ℕ, inl, inr, Bool, true, false, not, Option, List, [], ◌∷◌, ◌++◌, drop, Some, None, refl, sym, ◌∙◌, ap, subst, slice_get, append_assoc}
+use Rattle.std.proofs.Common.{◌≡◌, ◌⊎◌, ⊎_elim, ℕ, inl, inr, Bool, true, false, not, Option, List, [], ◌∷◌, ◌++◌, drop, Some, None, refl, sym, ◌∙◌, ap, subst, slice_get, append_assoc}
 use Rattle.std.proofs.lemmas.List.{append_cancel_right}
 use Rattle.std.proofs.lemmas.Option.{same_Some}
 use mathlib.Core.List.{IsPrefix}
@@ -8,22 +8,21 @@ use Rattle.ael_threads.proofs.Lists.Elements.{prefix_self, prefix_trans}
 use Rattle.ael_threads.proofs.WholeCalls.Underway.{begun_by, flipped_by, heard_more, heard_past}
 use Rattle.atom_store.specs.declared.reply.Reply.{Reply}
 use Rattle.std.specs.Option.{is_some}
-use Rattle.gc_worker.specs.declared.stage.Stage.{Stage}
 use Rattle.ael_threads.proofs.TableRule.Flips.{answers_in_epoch}
 use Rattle.gc_worker.proofs.History.Extensions.{legal_last}
-use Rattle.ael_threads.proofs.WorkerSeats.Shown.{looks_run, none_of}
+use Rattle.ael_threads.proofs.WorkerSeats.Shown.{present_uncounted, runs_uncounted}
 use Rattle.gc_worker.proofs.History.Tallies.{entry_at}
 use Rattle.plain_state.specs.declared.end.End.{End}
 use Rattle.heap_state.specs.Worker.{Account}
-use Rattle.mutator_asm.specs.declared.instr.Instr.TheVariants.{Halt}
+use Rattle.mutator_asm.specs.declared.instr.Instr.TheVariants.{Halt, Snap}
 use Rattle.gc_worker.specs.declared.steps.stepped.Stepped.{Stepped}
 use Rattle.gc_worker.specs.declared.steps.stepped.Stepped.TheVariants as stepped
 use Rattle.gc_worker.specs.declared.task.Task.{Task}
 use Rattle.gc_worker.specs.declared.task.Task.TheVariants.{Calls}
-use Rattle.gc_worker.specs.Workers.Fits.{FitsCall, Fits, FitsEnd}
+use Rattle.gc_worker.specs.Workers.Fits.{FitsCall}
 use Rattle.plain_heap.specs.Action as plain_action
 use Rattle.gc_worker.specs.Plain.Answer.{ComesTo}
-use Rattle.gc_worker.specs.Laws.Between.{AreAlike, IsNoAnswer, RegistersLand, with_task, RestsAfter, ShowsRegisters}
+use Rattle.gc_worker.specs.Laws.Between.{AreAlike, IsNoAnswer, RegistersLand, with_task, ShowsRegisters}
 use Rattle.gc_worker.specs.Plain.Full.{FullWhereTold}
 use Rattle.gc_worker.specs.Workers.Held.{Held}
 use Rattle.gc_worker.specs.Steps.Stepped.{stepped_by, uncounted}
@@ -37,11 +36,11 @@ use Rattle.gc_worker.specs.declared.calls.entry.Entry.TheVariants.{Made}
 use Rattle.ael_threads.specs.declared.view.Hand.{Hand}
 use Rattle.ael_threads.specs.declared.view.Plan.{Plan}
 use Rattle.ael_threads.specs.declared.view.View.{View}
-use Rattle.ael_threads.specs.Calls.{Called, Departs, end_by_did, FlippedByOutcome, WasExecuted, StaysSilent, IsUnderWay, KnowsWorker, Rests, Waits, WinsMore, call_by}
+use Rattle.ael_threads.specs.Calls.{Called, Departs, end_by_did, FlippedByOutcome, RunsAfter, WasExecuted, StaysSilent, IsUnderWay, KnowsWorker, Rests, Waits, WinsMore, call_by}
 use Rattle.gc_worker.specs.History.Tally.{EachEntry, EntryIs, IsFilledBy, Sizes, Tasks, tally, tasks_held}
 use Rattle.ael_threads.specs.Histories.{opening_tally, hand, first_plain}
 use Rattle.gc_worker.specs.History.Legal.{IsLegal, after_all, worker_call, extra, own_after, last_flip}
-use Rattle.ael_threads.specs.Seats.{Acts, ActsBy, Extends, IsRunning, Seated, Sees, ShowsSeen, first_number, first_own, plain_after_seen, seen_after, LiveWhereTold, claim_by_win, with_claim}
+use Rattle.ael_threads.specs.Seats.{Acts, ActsBy, BeginsBySnap, Extends, IsPresent, IsRunning, Seated, Sees, ShowsSeen, first_number, first_own, plain_after_seen, seen_after, LiveWhereTold, claim_by_win, with_claim}
 
 -- ---- pages won
 
@@ -145,14 +144,24 @@ way_more a b c task (stepped.Ended m end) u h no_effect no_end = absurd (no_end 
 -- ---- the step that answers
 
 module _ (b c : Seated) (task : Task) (r : Reply) (s : Stepped) (h : ActsBy b r s c) where
-  -- who executed its task runs
-  done_runs : (did : Did) → told b.worker r ≡ Answers task did → WasExecuted did → IsRunning (turned b.worker r)
-  done_runs Done is done = h.knows.runs task is
+  -- who executed its task runs, or it was `snap`
+  done_runs : (did : Did) → told b.worker r ≡ Answers task did → WasExecuted did → (task ≡ Calls Snap) ⊎ IsRunning c.worker
+  done_runs Done is done = ⊎_elim (λ (begins : BeginsBySnap b.worker.stage task). inl begins.1) (λ (runs : IsRunning (turned b.worker r)). inr (subst IsRunning (sym h.worker) (runs_uncounted (turned b.worker r) runs)))
+      (h.knows.runs task is)
   done_runs (Trap end) is done = absurd done
 
+  -- and is present
+  done_present : (did : Did) → told b.worker r ≡ Answers task did → WasExecuted did → IsPresent (turned b.worker r)
+  done_present Done is done = h.knows.present task is
+  done_present (Trap end) is done = absurd done
+
   ends_by : (did : Did) → told b.worker r ≡ Answers task did → (turned b.worker r).account.end ≡ end_by_did did
-  ends_by Done is = (h.knows.runs task is).0
+  ends_by Done is = (h.knows.present task is).0
   ends_by (Trap end) is = ap (λ (a : Account). a.end) (h.goes_on.answers task (Trap end) is).after.0
+
+runs_after : (task : Task) (x : Held) → IsPresent x → (task ≡ Calls Snap) ⊎ IsRunning x → RunsAfter task x
+runs_after (Calls Snap) x present runs = present
+runs_after _ x present runs = ⊎_elim (λ is. absurd (cc)) (λ (running : IsRunning x). running) runs
 
 -- the last call of a history comes to what it may at that point
 comes_last : (a : Seated) (task : Task) (did : Did) (hands : List Hand) (later : List Entry) (h : Extends a.knows.plan hands a.knows.seen (call_by a task did) later)
@@ -165,7 +174,7 @@ filled_last : (a : Seated) (task : Task) (did : Did) (z : Sizes) (tasks : Tasks)
     → IsFilledBy z tasks (tally (opening_tally a.knows.plan) before) (first_number a.knows.hands) task did []
 filled_last a task did z tasks before h = entry_at (EntryIs z tasks) (opening_tally a.knows.plan) before (Made (call_by a task did)) [] h
 
-lands_uncounted : (n : ℕ) (words : List ℕ) (z : Held) → RegistersLand n words z → RegistersLand n words (uncounted z)
+pub lands_uncounted : (n : ℕ) (words : List ℕ) (z : Held) → RegistersLand n words z → RegistersLand n words (uncounted z)
 lands_uncounted n words z l = record { in_space = l.in_space; header = l.header }
 
 -- the history that the last act found is the one before the call
@@ -183,7 +192,8 @@ calls a b c task r s did u h other is =
     let k = h.knows in
     let answer = h.goes_on.answers other did is in
     let same : other ≡ task = same_Some other task (sym answer.asked ∙ w.asks) in
-    let runs : WasExecuted did → IsRunning (turned b.worker r) = done_runs b c other r s h did is in
+    let runs : WasExecuted did → (task ≡ Calls Snap) ⊎ IsRunning c.worker = λ yes. ⊎_elim (λ (snap : other ≡ Calls Snap). inl (sym same ∙ snap)) (λ (running : IsRunning c.worker). inr running) (done_runs b c other r s h did is yes) in
+    let present : WasExecuted did → IsPresent (turned b.worker r) = done_present b c other r s h did is in
     let answers : told b.worker r ≡ Answers task did = is ∙ (λ j. Answers (same j) did) in
     let call_is : worker_call m other did ≡ call_by a task did = (λ i. worker_call (w.rests.number i) (same i) did) in
     let pages : b.knows.plan.spaces.pages ≡ a.knows.plan.spaces.pages = ap (λ (p : Plan). p.spaces.pages) w.rests.plan in
@@ -214,10 +224,11 @@ calls a b c task r s did u h other is =
       live = subst (λ (z : Plan × Told). LiveWhereTold (last_flip (first_plain z.0) c.knows.seen) z.1) (λ i. (w.rests.plan i, answers i)) k.live;
       filled = filled_last a task did k.stands.tallied.sizes (tasks_held k.stands.workers) (a.knows.seen ++ history.between)
           (subst (λ (z : Plan × List Entry). EachEntry (EntryIs k.stands.tallied.sizes (tasks_held k.stands.workers)) (opening_tally z.0) z.1) (λ i. (w.rests.plan i, ends i)) k.stands.tallied.entries);
+      runs = λ yes. runs_after task c.worker (subst IsPresent (sym h.worker) (present_uncounted (turned b.worker r) (present yes))) (runs yes);
       lands = λ yes. subst (λ (z : ℕ × Held). RegistersLand z.0 k.after z.1) (λ i. (pages i, sym h.worker i))
-          (lands_uncounted b.knows.plan.spaces.pages k.after (turned b.worker r) (k.lands (runs yes)));
+          (lands_uncounted b.knows.plan.spaces.pages k.after (turned b.worker r) (k.lands (present yes)));
       alike = λ yes q its. subst (λ (x : Held). AreAlike x.registers q) (sym h.worker)
-          (k.alike (runs yes) q (ap (λ (j : ℕ). slice_get (plain_after_seen c.knows).mutators j) w.rests.number ∙ its));
+          (k.alike (present yes) q (ap (λ (j : ℕ). slice_get (plain_after_seen c.knows).mutators j) w.rests.number ∙ its));
     }
 
 by_effect : (a b c : Seated) (task : Task) (r : Reply) (m : ℕ) → IsUnderWay a task b → ActsBy b r (stepped.Effect m) c → (t : Told) → told b.worker r ≡ t → stepped.Effect m ≡ stepped_by b.worker.number t → Called a task Done c
@@ -248,7 +259,7 @@ knows_by : (b c : Seated) (r : Reply) (s : Stepped) → ActsBy b r s c → Knows
 knows_by b c r s h = let k = h.knows in
     k.hands ∙ (λ i. hand (sym (ap first_number k.hands) i) (sym h.worker i) (sym (ap first_own k.hands) i) ∷ sym (ap (drop 1) k.hands) i)
 
-quiet_by : (a b c : Seated) (r : Reply) (s : Stepped) → StaysSilent a b → ActsBy b r s c → StaysSilent a c
+pub quiet_by : (a b c : Seated) (r : Reply) (s : Stepped) → StaysSilent a b → ActsBy b r s c → StaysSilent a c
 quiet_by a b c r s q h = by_told (told b.worker r) refl
   where
     by_none : IsNoAnswer (told b.worker r) → StaysSilent a c

@@ -9,17 +9,20 @@ use Rattle.gc_worker.specs.declared.calls.entry.Entry.{Entry}
 use Rattle.gc_worker.specs.Workers.Held.{Held}
 use Rattle.gc_worker.specs.Laws.Step.{WorkersStand, epoch_of}
 use Rattle.gc_worker.proofs.Between.Pages.Copied.{copied_was_live}
+use Rattle.gc_worker.proofs.Saving.Won.{checkpoints_are_kept}
+use Rattle.space_map.specs.Table.{whole_length}
 use Rattle.ael_threads.specs.declared.view.WonClaim.{WonClaim}
 use Rattle.ael_threads.specs.declared.view.Hand.{Hand}
 use Rattle.ael_threads.specs.declared.view.Plan.{Plan}
 use Rattle.ael_threads.specs.Histories.{AreBy, opening_tally, Each, IsOnce, first_plain, hand_number}
+use Rattle.gc_worker.proofs.History.Checkpoints.{histories_keep_the_last_checkpoint}
 use Rattle.gc_worker.proofs.History.Large.{large_has_no_full}
 use Rattle.gc_worker.specs.History.Large.{HasNoFullCall, IsLargeFor}
 use Rattle.gc_worker.specs.History.Tally.{size_now, tally, tasks_held}
 use Rattle.gc_worker.specs.Laws.Cycles.{size_of}
 use Rattle.gc_worker.specs.History.Legal.{IsLegal, after_all, last_flip}
 use Rattle.ael_threads.specs.Rule.{HasHand, RuleHolds, crew, heap_of}
-use Rattle.ael_threads.specs.Seats.{Absorbs, Closes, Gathers, HasFlippedIfFull, Seated, Stays, all_hands}
+use Rattle.ael_threads.specs.Seats.{Absorbs, Closes, FitsTable, Gathers, HasFlippedIfFull, Seated, Stays, all_hands}
 use Rattle.ael_threads.proofs.Callers.{are_by, each_is_there}
 use Rattle.ael_threads.proofs.Looks.{hand_flipped}
 use Rattle.ael_threads.proofs.Lists.Elements.{each_at, each_map, each_to_map, prefix_self, prefix_trans}
@@ -50,14 +53,15 @@ all_by plan workers log hands count legal stays apart many =
     let mutators : length (first_plain plan).mutators ≡ plan.mutators = length-replicate plan.mutators opening_mutator in
     are_by (map hand_number hands) (first_plain plan) log (λ j mine. each_is_there (crew plan) (map hand_number hands) apart below (length-map hands hand_number ∙ many) j (omega (arith, mine, mutators))) legal
 
--- what the table's end tells of the caller that has taken in all
-pub closes : (plan : Plan) (id : ℕ) (t : TableId) (all : List Seated) (one : Seated) (words xs : List ℕ) → Gathers t all one → table.Final (table.Seen (RuleHolds plan) id one.knows) words xs → Closes plan all words
-closes plan id t all one words xs g end =
+-- what the table's end tells of the caller that has taken in all, where it leaves all words
+pub closes : (plan : Plan) (id : ℕ) (t : TableId) (all : List Seated) (one : Seated) (words xs : List ℕ) → Gathers t all one → FitsTable t one.knows → length words ≡ t.words → table.Final (table.Seen (RuleHolds plan) id one.knows) words xs → Closes plan all words
+closes plan id t all one words xs g fits many end =
     let s = end.0 in
     let b = end.1.0 in
     let stands : WorkersStand (heap_of plan words b.workers) (after_all (first_plain plan) b.log) (last_flip (first_plain plan) b.log) =
     subst (λ (z : List ℕ). WorkersStand (heap_of plan z b.workers) (after_all (first_plain plan) b.log) (last_flip (first_plain plan) b.log)) end.2 b.stands in
     let f = b.seats id one.knows end.1.1 in
+    let whole : length words ≡ whole_length plan.spaces = many ∙ (fits.1 ∙ ap (λ (z : Plan). whole_length z.spaces) (f.same fits.0)) in
     let sized = tallied_sizes plan s.words b.workers b.log b.tallied in
     let hands = subst (Each (Stays b.workers b.log)) g.hands (each_map (HasHand b.workers b.log b.owner id) (Stays b.workers b.log) (λ h k. record { state = k.state; calls = k.calls }) one.knows.hands f.hands) in
     let apart = subst (λ (hands : List Hand). IsOnce (map hand_number hands)) g.hands f.apart in record {
@@ -68,6 +72,8 @@ closes plan id t all one words xs g end =
       stands = stands;
       last = b.last;
       copied = copied_was_live (heap_of plan words b.workers) (after_all (first_plain plan) b.log) (last_flip (first_plain plan) b.log) stands;
+      kept = λ room. record { counted = stands.stands.size; whole = whole; says = checkpoints_are_kept (heap_of plan words b.workers) (after_all (first_plain plan) b.log) (last_flip (first_plain plan) b.log) stands room };
+      last_snap = histories_keep_the_last_checkpoint (first_plain plan) b.log refl;
       epoch = subst (λ (z : List ℕ). epoch_of plan.spaces.pages z ≡ (tally (opening_tally plan) b.log).flips) end.2 b.tallied.counts.epoch;
       sizes = b.tallied.sizes;
       sized = sized;

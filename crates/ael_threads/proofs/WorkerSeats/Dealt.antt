@@ -75,7 +75,6 @@ by_hands : (plan : Plan) (id : ℕ) (v : View) (hs : List Hand) → v.hands ≡ 
 by_hands plan id v [] e s b at =
     let f = b.seats id v at in
     let new : View = view v.plan [] v.seen v.heard v.claims in record {
-      without = b.without;
       log = b.log;
       workers = b.workers;
       count = b.count;
@@ -103,7 +102,6 @@ by_hands plan id v (d ∷ ds) e s b at =
     let right : View = view v.plan (d ∷ []) v.seen v.heard [] in
     let n : ℕ = length (set s.views id left) in
     let owner' : ℕ → ℕ = given b.owner d.number n in record {
-      without = b.without;
       log = b.log;
       workers = b.workers;
       count = b.count;

@@ -97,7 +97,6 @@ joins plan id v other u s b at apart at' =
     let there : get_elem? s.views other ≡ some u = sym (set_else s.views id other both apart) ∙ at' in
     let owner' : ℕ → ℕ = moved_to b.owner id other in
     let winner' : WonClaim → ℕ = moved_to b.winner id other in record {
-      without = b.without;
       log = b.log;
       workers = b.workers;
       count = b.count;
@@ -139,7 +138,6 @@ learns plan slots id me st live s b homes at small =
       table.keeps,
       tt,
       record {
-        without = b.without;
         log = b.log;
         workers = b.workers;
         count = b.count;

@@ -1,5 +1,5 @@
 -- What a worker shows of its plain mutator, whatever its count of instructions is.
-use Rattle.std.proofs.Common.{◌≡◌, ℕ, zero, suc, ◌<◌, Bool, true, false, nat_lt, ltb-true, Option, Some, None, List, [], ◌∷◌, length, slice_get, refl, sym, ◌∙◌, ap, subst, arith}
+use Rattle.std.proofs.Common.{◌≡◌, ◌⊎◌, inl, inr, ℕ, zero, suc, ◌<◌, Bool, true, false, nat_lt, ltb-true, Option, Some, None, List, [], ◌∷◌, length, slice_get, refl, sym, ◌∙◌, ap, subst, arith}
 use Rattle.std.specs.Option.{is_some}
 use Rattle.plain_state.specs.declared.end.End.{End}
 use Rattle.plain_state.specs.declared.end.End.TheVariants.{Halt, NotPointer, NotNumber, OutOfRange, IntoRaw, ZeroDivisor, JumpOut, TurnsOut, OutputFull, HeapFull}
@@ -16,18 +16,23 @@ use Rattle.gc_worker.specs.declared.stage.Stage.TheVariants.{Accesses, BeginsChe
 use Rattle.gc_worker.specs.declared.task.Task.{Task}
 use Rattle.gc_worker.specs.declared.task.Task.TheVariants.{Calls, Stops}
 use Rattle.gc_worker.specs.Plain.Answer.{after_answer, after_told}
-use Rattle.gc_worker.specs.Laws.Between.{AreAlike, IsAsPlain, RegistersLand, RestsAt, ShowsRegisters}
+use Rattle.gc_worker.specs.Laws.Between.{AreAlike, IsAsPlain, RegistersLand, RestsAt, ShowsRegisters, is_present}
 use Rattle.gc_worker.specs.Workers.Counted.{counted}
-use Rattle.gc_worker.specs.Workers.Fits.{Fits, FitsEnd, FitsStage, IsOnSide, IsOnSideBack, IsOnSideFor, IsOwnPassage}
+use Rattle.gc_worker.specs.Workers.Fits.{Fits, FitsEnd, FitsTask, IsEndBefore, IsOnSide, IsOnSideBack, IsOnSideFor}
 use Rattle.gc_worker.specs.Plain.Full.{FullByEnd, FullWhereTold}
 use Rattle.gc_worker.specs.Workers.Held.{Held}
-use Rattle.gc_worker.specs.Workers.Knows.{post_back, post_for, post_gone, post_in}
+use Rattle.gc_worker.specs.Workers.Knows.{post_back, post_before, post_for, post_gone, post_in}
 use Rattle.gc_worker.specs.Laws.Step.{Heap, WorkersStand}
 use Rattle.gc_worker.proofs.Between.Pages.Copied.{full_tells_live}
-use Rattle.gc_worker.specs.Steps.Stepped.{uncounted}
+use Rattle.gc_worker.specs.Steps.Stepped.{IsBeginningCheckpoint, awaits, awaits_at, uncounted}
 use Rattle.gc_worker.specs.declared.calls.did.Did.TheVariants.{Done, Trap}
+use Rattle.gc_worker.specs.Plain.Seen.{seen}
+use Rattle.gc_worker.proofs.Plain.OnlySnap.{snaps_alone}
+use Rattle.gate_core.specs.declared.passage.Passage.{Passage}
+use Rattle.mutator_asm.specs.declared.instr.Instr.{Instr}
+use Rattle.mutator_asm.specs.declared.instr.Instr.TheVariants.{Snap}
 use Rattle.gc_worker.specs.Steps.Turned.{Told, Silent, Answers, Marks}
-use Rattle.ael_threads.specs.Seats.{IsRunning, IsShown, LiveByEnd, LiveWhereTold}
+use Rattle.ael_threads.specs.Seats.{IsPresent, IsRunning, IsShown, LiveByEnd, LiveWhereTold}
 
 pub shown_by : (h : Heap) (p : Plain) (m count : ℕ) (z : Held) (q : Mutator) → IsAsPlain h p m (counted count z) q → ShowsRegisters z.registers q → IsShown p.heap m (uncounted z) q
 shown_by h p m count z q a shows = record {
@@ -51,54 +56,89 @@ looks_run n mutators m z f looks = (
   ap (λ (stage : Stage). is_running (post_in z stage)) looks,
 )
 
--- who rests looks at the gate where no checkpoint can be begun
-pub rests_look : (n mutators m : ℕ) (was : Stage) (z : Held) → Fits n mutators m z → z.layout.checkpoints ≡ false → RestsAt was z.stage → z.stage ≡ Looks
-rests_look n mutators m was z f without = by_stage z.stage f.stage
+-- so does who awaits a task
+pub awaits_look : (x : Held) → awaits x ≡ true → x.stage ≡ Looks
+awaits_look x is = by_stage x.stage x.task is
   where
-    by_stage : (stage : Stage) → FitsStage z stage → RestsAt was stage → stage ≡ Looks
-    by_stage Looks fits rests = refl
-    by_stage (Passes g after) fits rests = absurd (let room : z.layout.checkpoints ≡ true = subst (IsOwnPassage z after) rests.1 fits.passage in let never = sym without ∙ room in cc)
-    by_stage _ fits rests = absurd rests
+    by_stage : (stage : Stage) (task : Option Task) → awaits_at stage task ≡ true → stage ≡ Looks
+    by_stage Looks task is = refl
+    by_stage _ task is = absurd (cc)
 
--- a scanner never runs
-gone_stops : (b : Bool) → is_running (post_gone b) ≡ true → ⊥
-gone_stops true e = cc
-gone_stops false e = cc
+-- ---- after an effect
 
-back_runs : (back : Back) (b : Bool) → IsOnSideBack back b → is_running (post_back back) ≡ true → b ≡ true
-back_runs (ToAccess a) b side e = side
-back_runs ToPlace b side e = side
-back_runs ToSnap b side e = side
-back_runs ToScanner b side e = absurd (cc)
+-- who rests has no end
+rests_unended : (n mutators m : ℕ) (was : Stage) (z : Held) → Fits n mutators m z → RestsAt was z.stage → z.account.end ≡ None
+rests_unended n mutators m was z f rests = none_of z.account.end (by_stage z.stage f.end rests)
+  where
+    by_stage : (stage : Stage) → FitsEnd stage (is_some z.account.end) → RestsAt was stage → is_some z.account.end ≡ false
+    by_stage Looks end rests = end
+    by_stage (Passes g after) end rests = subst (λ (p : Passage). IsEndBefore p (is_some z.account.end)) rests.1 end
+    by_stage _ end rests = absurd rests
 
-goal_runs : (goal : Goal) (b : Bool) → IsOnSideFor goal b → is_running (post_for goal) ≡ true → b ≡ true
-goal_runs ForFlip b side e = side
-goal_runs ForSnap b side e = side
-goal_runs ForScanner b side e = absurd (cc)
+-- and is present
+pub rests_present : (n mutators m : ℕ) (was : Stage) (z : Held) → Fits n mutators m z → RestsAt was z.stage → IsPresent z
+rests_present n mutators m was z f rests = (rests_unended n mutators m was z f rests, by_stage z.stage rests)
+  where
+    by_stage : (stage : Stage) → RestsAt was stage → is_present (post_in z stage) ≡ true
+    by_stage Looks rests = refl
+    by_stage (Passes g after) rests = ap (λ (p : Passage). is_present (post_before p)) rests.1
+    by_stage _ rests = absurd rests
 
-pub runs_aside : (n mutators m : ℕ) (z : Held) → Fits n mutators m z → is_running (post_in z z.stage) ≡ true → m < mutators
-runs_aside n mutators m z f runs =
-    let less = ltb-true z.number z.mutators (by_stage z.stage f.side runs) in
+-- it runs, if it has not begun a checkpoint
+pub rests_run : (n mutators m : ℕ) (was : Stage) (z : Held) → Fits n mutators m z → RestsAt was z.stage → IsBeginningCheckpoint was ⊎ IsRunning z
+rests_run n mutators m was z f = by_stage z.stage refl
+  where
+    by_stage : (stage : Stage) → z.stage ≡ stage → RestsAt was stage → IsBeginningCheckpoint was ⊎ IsRunning z
+    by_stage Looks looks rests = inr (looks_run n mutators m z f looks)
+    by_stage (Passes g after) is rests = inl rests.0
+    by_stage _ is rests = absurd rests
+
+-- which `snap` alone begins
+pub begins_by : (x : Held) (task : Task) (stage : Stage) → FitsTask x stage → IsBeginningCheckpoint stage → x.task ≡ Some task → task ≡ Calls Snap
+begins_by x task (BeginsCheckpoint s) fits begins asked =
+    let only : fits.instr ≡ Snap = snaps_alone (seen x.account x.registers) fits.instr fits.acts in
+    same_Some task (Calls Snap) (sym asked ∙ (fits.task_is ∙ ap (λ (i : Instr). Some (Calls i)) only))
+begins_by x task _ fits begins asked = absurd begins
+
+-- a scanner never is
+gone_is_none : (b : Bool) → is_present (post_gone b) ≡ true → ⊥
+gone_is_none true e = cc
+gone_is_none false e = cc
+
+back_present : (back : Back) (b : Bool) → IsOnSideBack back b → is_present (post_back back) ≡ true → b ≡ true
+back_present (ToAccess a) b side e = side
+back_present ToPlace b side e = side
+back_present ToSnap b side e = side
+back_present ToScanner b side e = absurd (cc)
+
+goal_present : (goal : Goal) (b : Bool) → IsOnSideFor goal b → is_present (post_for goal) ≡ true → b ≡ true
+goal_present ForFlip b side e = side
+goal_present ForSnap b side e = side
+goal_present ForScanner b side e = absurd (cc)
+
+pub present_aside : (n mutators m : ℕ) (z : Held) → Fits n mutators m z → is_present (post_in z z.stage) ≡ true → m < mutators
+present_aside n mutators m z f present =
+    let less = ltb-true z.number z.mutators (by_stage z.stage f.side present) in
     let number = f.number in
     let beside = f.beside in
     omega (arith, less, number, beside)
   where
-    by_stage : (stage : Stage) → IsOnSide stage (nat_lt z.number z.mutators) (is_some z.account.end) → is_running (post_in z stage) ≡ true → nat_lt z.number z.mutators ≡ true
+    by_stage : (stage : Stage) → IsOnSide stage (nat_lt z.number z.mutators) (is_some z.account.end) → is_present (post_in z stage) ≡ true → nat_lt z.number z.mutators ≡ true
     by_stage Looks side e = side
     by_stage (Passes g after) side e = side
     by_stage (Flips g) side e = side
     by_stage (Forwards w) side e = side
     by_stage (Accesses a) side e = side
     by_stage (Places p) side e = side
-    by_stage (Serves d back) side e = back_runs back (nat_lt z.number z.mutators) side e
-    by_stage (Scans s back) side e = back_runs back (nat_lt z.number z.mutators) side e
-    by_stage (Evacuates v s back) side e = back_runs back (nat_lt z.number z.mutators) side e
-    by_stage (Opens o s back) side e = back_runs back (nat_lt z.number z.mutators) side e
+    by_stage (Serves d back) side e = back_present back (nat_lt z.number z.mutators) side e
+    by_stage (Scans s back) side e = back_present back (nat_lt z.number z.mutators) side e
+    by_stage (Evacuates v s back) side e = back_present back (nat_lt z.number z.mutators) side e
+    by_stage (Opens o s back) side e = back_present back (nat_lt z.number z.mutators) side e
     by_stage (Recalls r after) side e = side
     by_stage (Guards g write) side e = side
-    by_stage (Checkpoints r goal) side e = goal_runs goal (nat_lt z.number z.mutators) side e
+    by_stage (Checkpoints r goal) side e = goal_present goal (nat_lt z.number z.mutators) side e
     by_stage (BeginsCheckpoint s) side e = side
-    by_stage Gone side e = absurd (gone_stops (nat_lt z.number z.mutators) e)
+    by_stage Gone side e = absurd (gone_is_none (nat_lt z.number z.mutators) e)
 
 -- whatever its count is
 counted_post : (count : ℕ) (z : Held) (stage : Stage) → post_in (counted count z) stage ≡ post_in z stage
@@ -118,18 +158,29 @@ counted_post count z (Checkpoints r goal) = refl
 counted_post count z (BeginsCheckpoint s) = refl
 counted_post count z Gone = refl
 
-module _ (h : Heap) (p : Plain) (m count : ℕ) (z : Held) (q : Mutator) (a : IsAsPlain h p m (counted count z) q) (r : IsRunning z) where
+-- who runs does so whatever its count is
+pub runs_uncounted : (z : Held) → IsRunning z → IsRunning (uncounted z)
+runs_uncounted z r = (r.0, ap is_running (counted_post 0 z z.stage) ∙ r.1)
+
+-- so is who is present
+pub present_uncounted : (z : Held) → IsPresent z → IsPresent (uncounted z)
+present_uncounted z r = (r.0, ap is_present (counted_post 0 z z.stage) ∙ r.1)
+
+pub present_with_count : (z : Held) → IsPresent (uncounted z) → IsPresent z
+present_with_count z r = (r.0, ap is_present (sym (counted_post 0 z z.stage)) ∙ r.1)
+
+module _ (h : Heap) (p : Plain) (m count : ℕ) (z : Held) (q : Mutator) (a : IsAsPlain h p m (counted count z) q) (r : IsPresent z) where
   pub unended : q.end ≡ None
   unended = sym a.account.end ∙ r.0
 
-  counted_runs : is_running (post_in (counted count z) z.stage) ≡ true
-  counted_runs = ap is_running (counted_post count z z.stage) ∙ r.1
+  counted_present : is_present (post_in (counted count z) z.stage) ≡ true
+  counted_present = ap is_present (counted_post count z z.stage) ∙ r.1
 
   pub lands_by : RegistersLand h.pages h.words z
-  lands_by = let l = a.lands unended counted_runs in record { in_space = l.in_space; header = l.header }
+  lands_by = let l = a.lands unended counted_present in record { in_space = l.in_space; header = l.header }
 
   pub alike_by : AreAlike z.registers q
-  alike_by = a.alike unended counted_runs
+  alike_by = a.alike unended counted_present
 
 pub mutator_at : (l : List Mutator) (i : ℕ) → i < length l → (q : Mutator) × (slice_get l i ≡ Some q)
 mutator_at [] i h = absurd (omega arith)

@@ -39,7 +39,7 @@ impl Mutator {
                 return;
             };
             job.pace.pass(m, u64::from(executed) + 1);
-            if let Did::Trap(_) = self.exec(job.rt, job.heap, &instr) {
+            if let Did::Trap(_) = self.calls(job.rt, job.heap, &instr) {
                 return;
             }
         }

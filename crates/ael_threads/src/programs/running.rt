@@ -3,7 +3,7 @@
 ghost use Rattle.std.specs.Prelude.{◌≡◌, ◌+◌, ◌<◌, ◌≤◌, ◌↔◌, ℕ, length, vec_len, IfOk, IsErrOf, IsTrue, not};
 ghost use Rattle.std.specs.Thread.{IsSync};
 ghost use Rattle.space_map.specs.declared.spaces.TheConstants.{MOST_MUTATORS, MOST_SCANNERS};
-ghost use Rattle.space_map.specs.Table.{table_length};
+ghost use Rattle.space_map.specs.Table.{whole_length};
 ghost use Rattle.gc_worker.specs.Config.{has_sizes};
 ghost use Rattle.gc_worker.specs.declared.config.TheConstants.{MOST_TURNS};
 ghost use Rattle.ael_threads.specs.Histories.{Each};
@@ -121,7 +121,7 @@ fn tell(alloc: Global, spaces: Spaces, heap: Shared, seats: Seats) -> Result<Out
     requires scanners { Each (λ (s : SeatedScanner). s.seated.table ≡ heap.table.shared.table_id) seats.scanners.items }
     requires ended { Each HasEnd seats.mutators.items }
     requires pages { spaces.pages ≡ heap.table.shared.key.spaces.pages }
-    requires words { heap.table.shared.table_id.words ≡ table_length heap.table.shared.key.spaces.pages }
+    requires words { heap.table.shared.table_id.words ≡ whole_length heap.table.shared.key.spaces }
     ensures told { IfOk result (IsToldOnClose heap.table.shared.key seats.mutators.items seats.scanners.items) }
     ensures no_bad_pages { IsErrOf result RunError.BadPages → ⊥ }
 {

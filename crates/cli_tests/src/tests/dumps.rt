@@ -47,27 +47,39 @@ pub fn dump_lines(alloc: Global, gate: &'static str) -> Result<String, Fail> {
     Ok(lines)
 }
 
-/// What is printed, and the dump.
-fn printed(alloc: Global, gate: &'static str) -> Result<String, Fail> {
-    let mut printed = String::from_str(alloc, "0: 7\n0: halt\n")?;
+/// What is printed before the dump, and the dump.
+fn printed(alloc: Global, before: &str, gate: &'static str) -> Result<String, Fail> {
+    let mut printed = String::from_str(alloc, before)?;
     printed.push_str(&dump_lines(alloc, gate)?)?;
     Ok(printed)
 }
 
-/// On threads a run goes on until all have left.
-const ROWS: [(&str, &str, &str); 2] = [
-    ("a dump", "sim --pages 4 --scanners 0 --dump", RUNNING),
+/// On threads a run goes on until all have left. What checkpoints save is no part of a dump.
+const ROWS: [(&str, &str, &str, &str); 3] = [
+    (
+        "a dump",
+        "sim --pages 4 --scanners 0 --dump",
+        "0: 7\n0: halt\n",
+        RUNNING,
+    ),
     (
         "a dump on threads",
         "run --pages 4 --scanners 0 --dump",
+        "0: 7\n0: halt\n",
         LEFT,
+    ),
+    (
+        "a dump behind a checkpoint",
+        "sim --pages 4 --scanners 0 --dump --snap",
+        "0: 7\n0: halt\ncheckpoint 0\n",
+        RUNNING,
     ),
 ];
 
 #[test]
 fn a_dump_has_each_word(rt: HostRuntime) -> Result<(), Fail> {
-    for (name, words, gate) in ROWS {
-        let out = printed(rt.alloc(), gate)?;
+    for (name, words, before, gate) in ROWS {
+        let out = printed(rt.alloc(), before, gate)?;
         let row = Row {
             name,
             words,

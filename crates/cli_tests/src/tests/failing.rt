@@ -16,6 +16,7 @@ const ROWS: &str = "\
 2|a listing|asm|.schedule 0/.mutator/l: jmp l/|.schedule 0/.mutator/L0: jmp L0/||0
 2|a dump|sim --pages 4 --scanners 0 --cycles --dump|.mutator/li r1 7/new r0 2/st r0 1 r1/ld r2 r0 1/out r2/halt/|0: 7/0: halt/cycles 0 live 0/@||0
 2|a run on threads|run --cycles|.mutator/li r1 7/new r0 2/st r0 1 r1/ld r2 r0 1/out r2/halt/|0: 7/0: halt/cycles 0 live 0/||0
+2|a checkpoint|sim --pages 4 --cycles --snap|.mutator/new r0 1/put 0 r0/snap/halt/|0: halt/cycles 0 live 0/checkpoint 1/board 0.1 0 0 0 0 0 0 0 0 0 0 0 0 0 0 0/0.1 fields 1: 0/||0
 2|a concordance|concord|b a/A|a: 1, 2/b: 1/||0
 2|a word too long|concord|aaaaaaaaaaaaaaaaaaaaaaaaaaaaaaaaaaaaaaaaaaaaaaaaaaaaaaaaaaaaaaaaa||ael: line 1: word too long/|1
 2|a heap too small|concord --pages 4|aa ab ac ad ae af ag ah ba bb bc bd be bf bg bh ca cb cc cd ce||ael: heap full asked 1 room 10/|3

@@ -41,6 +41,8 @@ sim --order --seed 1 --steps 6 --turns 5 --scanners 0 --pages 8|8 0 5 6 Some(1) 
 sim --cycles|256 1 1000000 10000000 None false cycles
 sim --dump --order|256 1 1000000 10000000 None true dump
 sim --dump --cycles|256 1 1000000 10000000 None false cycles dump
+sim --snap|256 1 1000000 10000000 None false snap
+sim --dump --snap --order --cycles|256 1 1000000 10000000 None true cycles snap dump
 run|run 256 1 1000000
 run --|run 256 1 1000000
 run --pages 8|run 8 1 1000000
@@ -52,6 +54,7 @@ run --scanners=-0|run 256 0 1000000
 run --turns 10000000|run 256 1 10000000
 run --cycles|run 256 1 1000000 cycles
 run --dump|run 256 1 1000000 dump
+run --snap --pages 8|run 8 1 1000000 snap
 run --dump --turns 5 --cycles --scanners 8 --pages 2048|run 2048 8 5 cycles dump
 concord|concord 2 256
 concord --|concord 2 256
@@ -101,6 +104,10 @@ sim --order=|refused
 sim --page 8|refused
 sim --cycles --cycles|refused
 sim --dump=1|refused
+sim --snap --snap|refused
+sim --snap=1|refused
+sim --snap 1|refused
+sim --sna|refused
 run --pages 3|refused
 run --pages 2049|refused
 run --limit 255|refused
@@ -113,6 +120,8 @@ run --seed 1|refused
 run --order|refused
 run --cycles --cycles|refused
 run --dump=1|refused
+run --snap --snap|refused
+run --snap=|refused
 run --pages|refused
 run x|refused
 run sim|refused
@@ -131,6 +140,7 @@ concord --limit 300|refused
 concord --scanners 1|refused
 concord --turns 5|refused
 concord --cycles|refused
+concord --snap|refused
 concord x|refused
 concord sim|refused
 concord --help|refused
@@ -173,6 +183,7 @@ bench 3 -1|refused
 bench -- 3 -1|refused
 bench 3 18446744073709551616|refused
 bench 3 1 --cycles|refused
+bench 3 1 --snap|refused
 bench 3 1 --limit 300|refused
 bench --seed 1 3|refused
 bench --depth 3 1|refused
@@ -184,6 +195,7 @@ asm sim|refused
 sim asm|refused
 asm --order|refused
 asm --dump|refused
+asm --snap|refused
 asm --pages 8|refused
 asm --limit 300|refused
 asm ''|refused
@@ -196,13 +208,19 @@ sim_--order|refused
 sim --pages=_8|refused";
 
 /// The text of the flags that a run has besides.
-fn flags_text(options: RunOptions) -> &'static str {
-    match (options.cycles, options.dump) {
-        (true, true) => " cycles dump",
-        (true, false) => " cycles",
-        (false, true) => " dump",
-        (false, false) => "",
+fn flags_text(alloc: Global, options: RunOptions) -> Result<String, Fail> {
+    let mut text = String::new(alloc);
+    let flags = [
+        (options.cycles, " cycles"),
+        (options.snap, " snap"),
+        (options.dump, " dump"),
+    ];
+    for (given, name) in flags {
+        if given {
+            text.push_str(name)?;
+        }
     }
+    Ok(text)
 }
 
 /// The text of a run's pages.
@@ -222,7 +240,7 @@ fn sim_text(alloc: Global, options: SimOptions) -> Result<String, Fail> {
         seed,
         order,
     } = options;
-    let flags = flags_text(run);
+    let flags = flags_text(alloc, run)?;
     let pages = pages_text(alloc, run)?;
     let RunOptions {
         scanners,
@@ -234,7 +252,7 @@ fn sim_text(alloc: Global, options: SimOptions) -> Result<String, Fail> {
 
 /// The text of a run's options.
 fn run_text(alloc: Global, options: RunOptions) -> Result<String, Fail> {
-    let flags = flags_text(options);
+    let flags = flags_text(alloc, options)?;
     let pages = pages_text(alloc, options)?;
     let RunOptions {
         scanners,

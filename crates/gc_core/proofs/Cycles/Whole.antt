@@ -16,7 +16,6 @@ use Rattle.gc_worker.specs.declared.steps.stepped.Stepped.TheVariants.{Idle, Mov
 use Rattle.gc_worker.specs.History.Needs.{EachFullIs, EachMayCome, being_made, made_since, first_story}
 use Rattle.gc_worker.specs.History.Order.{order_of}
 use Rattle.gc_worker.specs.History.Tally.{aside_in, tally}
-use Rattle.space_map.specs.Spaces.{without_checkpoints}
 use Rattle.gc_worker.specs.Laws.Step.{WorkersStand}
 use Rattle.gc_worker.specs.Plain.Marks.{EachActs, mark_of}
 use Rattle.gc_worker.proofs.Between.Pages.Copied.{copied_was_live}
@@ -24,7 +23,7 @@ use Rattle.gc_worker.proofs.Between.Opening.{heaps_open}
 use Rattle.gc_worker.proofs.History.Lone.{flip_before, lone_is_never_full}
 use Rattle.gc_worker.proofs.History.Needs.{large_is_never_full}
 use Rattle.gc_worker.proofs.History.Opening.{in_use, low, opening_tallied}
-use Rattle.gc_core.specs.Core.{CoreState, has_sizes, opening_core, size_in}
+use Rattle.gc_core.specs.Core.{CoreState, has_sizes, layout_by, opening_core, size_in}
 use Rattle.gc_core.specs.Cycles.{CyclesKeepWhatIsLive, FullHeapsAreFilled, InstructionsFlipOnce, SizesAreBetween, FillsTheSpace, HasGrown, claims_next, claims_of, flips_next, story_of}
 use Rattle.gc_core.specs.Event.{core_after, event_of}
 use Rattle.gc_core.specs.Law.{IsSteady, IsTold}
@@ -76,7 +75,7 @@ module _ (code : List (List Instr)) (items : List Item) (config : Config) (sched
   begins = record {
     steady = steady;
     stands = stands;
-    tallied = (let at = sizes_fit config size in opening_tallied (without_checkpoints config.limit) config.pages (length code) config.scanners (limit_fits config size) at.0 at.1 program.few_sections fits (opening code));
+    tallied = (let at = sizes_fit config size in opening_tallied (layout_by config) config.pages (length code) config.scanners (limit_fits config size) at.0 at.1 program.few_sections fits (opening code));
     legal = tt;
     fetched = λ m. tt;
   }
@@ -84,8 +83,8 @@ module _ (code : List (List Instr)) (items : List Item) (config : Config) (sched
   fills : HasClaimed config.limit s 0
   fills =
       let at = sizes_fit config size in
-      let l = low (without_checkpoints config.limit) config.pages (length code) config.scanners (limit_fits config size) at.0 at.1 program.few_sections fits in
-      let u = in_use (without_checkpoints config.limit) config.pages (length code) config.scanners (limit_fits config size) at.0 at.1 program.few_sections fits in
+      let l = low (layout_by config) config.pages (length code) config.scanners (limit_fits config size) at.0 at.1 program.few_sections fits in
+      let u = in_use (layout_by config) config.pages (length code) config.scanners (limit_fits config size) at.0 at.1 program.few_sections fits in
       record { limit_is = refl; low = omega (arith, l, u) }
 
   -- a core of this program, its history, and the words that were claimed since the last flip

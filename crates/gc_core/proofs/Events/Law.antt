@@ -10,11 +10,13 @@ use Rattle.plain_state.specs.State.{Plain, Mutator}
 use Rattle.plain_heap.specs.Order.{Story, fresh, end_of}
 use Rattle.plain_heap.specs.Step.{fetch, asked_by}
 use Rattle.plain_heap.proofs.Orders.Stories.{story_after-now}
+use Rattle.space_map.specs.Table.{whole_length}
 use Rattle.heap_state.specs.Meaning.Represents.{Represents}
 use Rattle.heap_state.specs.Meaning.Values.{Accounts}
 use Rattle.heap_state.proofs.Puts.{none≢some}
 use Rattle.atom_store.specs.declared.step.Step.{Step}
 use Rattle.atom_store.specs.Step.{words_after, reply_of}
+use Rattle.atom_store.proofs.Steps.{length-words_after}
 use Rattle.gc_worker.specs.declared.stage.Stage.TheVariants.{Gone}
 use Rattle.gc_worker.specs.declared.task.Task.{Task}
 use Rattle.gc_worker.specs.Plain.Answer.{ComesTo, MayCome, IsAnswered, after_outcome, after_told}
@@ -24,7 +26,7 @@ use Rattle.gc_worker.specs.Plain.Full.{FullByEnd, FullWhereTold}
 use Rattle.gc_worker.specs.Laws.Gone.{ScannersAreLast}
 use Rattle.gc_worker.specs.Laws.Represented.{HasKept}
 use Rattle.gc_worker.specs.Workers.Held.{Held}
-use Rattle.gc_worker.specs.Laws.Step.{Heap, nobody, held_at, read, moved, WorkersStand, StepKeeps, StepsKeep, FlipsWhereTold, epoch_of, at_flip}
+use Rattle.gc_worker.specs.Laws.Step.{Heap, nobody, held_at, layout_of, read, moved, WorkersStand, StepKeeps, StepsKeep, FlipsWhereTold, epoch_of, at_flip}
 use Rattle.gc_worker.specs.declared.calls.did.Did.{Did}
 use Rattle.gc_worker.specs.declared.calls.did.Did.TheVariants.{Done, Trap}
 use Rattle.gc_worker.specs.Steps.Turned.{Told, Silent, Answers, Marks, turned, told}
@@ -36,7 +38,7 @@ use Rattle.gc_core.specs.Core.{CoreState}
 use Rattle.gc_core.specs.Event.{event_of, ready}
 use Rattle.gc_worker.specs.Steps.Stepped.{stepped_by}
 use Rattle.gc_worker.specs.Laws.Claims.{epoch_of_heap}
-use Rattle.gc_core.specs.Law.{AllHaveLeft, IsLawful, IsOnTask, IsScanner, IsSteady, IsForWant, IsTold, KeepsStory, EventsKeep, EventsMeet, plain_after, story_by}
+use Rattle.gc_core.specs.Law.{AllHaveLeft, IsLawful, IsOnTask, IsScanner, IsSteady, IsForWant, IsTold, KeepsStory, EventsKeep, EventsMeet, StandsFor, plain_after, story_by}
 use Rattle.gc_core.specs.Whole.{MissingWorkersAreIdle}
 use Rattle.gc_worker.proofs.Between.Last.{scanners_last_with, scanners_stay_last}
 use Rattle.gc_worker.proofs.Plain.Represented.{represented_workers}
@@ -296,7 +298,7 @@ module _ (law : StepsKeep) (goes : WorkersGoOn) (wants : WorkersWant) (so : What
           (λ (d : m ≢ w). other_task m (omega (arith, l, c)) d)
           (cases_eq m w);
       last = scanners_stay_last r.heap p story.flip w y q r.stands r.below r.holds asked ready_last;
-      none = ap (λ (h : Heap). h.checkpoints) r.is ∙ steady.none;
+      whole = length-words_after q r.heap.words ∙ subst (λ (h : Heap). length h.words ≡ whole_length (layout_of h)) (sym r.is) steady.whole;
     }
 
     pub step_keeps : KeepsStory s w story
@@ -310,10 +312,14 @@ module _ (law : StepsKeep) (goes : WorkersGoOn) (wants : WorkersWant) (so : What
 
 -- ---- any plain state that is represented
 
--- a lawful core stands for each
-pub represented_lawful : (s : CoreState) (p : Plain) (l : IsLawful s) → Represents (read s.heap) p → WorkersStand s.heap p l.flip
-represented_lawful s p l represents =
-    represented_workers s.heap l.plain p l.flip l.stands represents (subst (λ (b : Bool). HasKept b l.plain p) (sym l.steady.none) tt)
+-- a plain state has kept what it has kept
+pub kept_itself : (checkpoints : Bool) (p : Plain) → HasKept checkpoints p p
+kept_itself true p = record { snaps = refl; snapped = refl }
+kept_itself false p = tt
+
+-- a lawful core stands for each that has kept the same checkpoint
+pub represented_lawful : (s : CoreState) (p : Plain) (l : IsLawful s) → StandsFor s l p → WorkersStand s.heap p l.flip
+represented_lawful s p l for_it = represented_workers s.heap l.plain p l.flip l.stands for_it.represents for_it.kept
 
 -- ---- any event
 
@@ -349,12 +355,17 @@ module _ (law : StepsKeep) (readies : ReadyingStands) (tasks : TasksMayBegin) (g
   story_now s story told = story_after-now s.code s.turns story (option_to_list (mark_of told))
 
   pub events_meet : EventsMeet
-  events_meet s w p lawful represents =
+  events_meet s w p lawful for_it =
       let story : Story = record { flip = lawful.flip; now = p } in
-      let stands = represented_lawful s p lawful represents in
+      let stands = represented_lawful s p lawful for_it in
       let k = events_keep s w story lawful.steady stands in
       let later = so (event_of s w).after (story_by s story (event_of s w).told).now (story_by s story (event_of s w).told).flip k.stands in
-      record { represents = subst (Represents (read (event_of s w).after)) (story_now s story (event_of s w).told) later.sound.represents; told = k.told }
+      let now = story_now s story (event_of s w).told in
+      record {
+        lawful = record { steady = k.steady; plain = _; flip = _; stands = k.stands };
+        after = record { represents = subst (Represents (read (event_of s w).after)) now later.sound.represents; kept = subst (HasKept (event_of s w).after.checkpoints _) now (kept_itself _ _) };
+        told = k.told;
+      }
 
 pub missing_workers_are_idle : MissingWorkersAreIdle
 unfolding event_of

@@ -1,6 +1,8 @@
 -- A core begins lawful, for the plain state in which its program begins.
-use Rattle.std.proofs.Common.{◌≡◌, ℕ, zero, suc, ◌+◌, ◌++◌, ◌<◌, ◌≤◌, ◌&&◌, Bool, true, false, nat_le, List, [], ◌∷◌, length, refl, ap, sym, subst, ◌∙◌, arith, lt-ltb}
-use Rattle.std.specs.Prelude.{IsTrue, if◌then◌else◌}
+use Rattle.std.proofs.Common.{◌≡◌, ℕ, zero, suc, ◌+◌, ◌++◌, ◌<◌, ◌≤◌, ◌&&◌, Bool, true, false, nat_le, List, [], ◌∷◌, length, replicate, refl, ap, sym, subst, ◌∙◌, arith, lt-ltb}
+use Rattle.std.specs.Prelude.{IsTrue, if◌then◌else◌, slice_set}
+use Rattle.std.proofs.lemmas.List.{length-replicate}
+use Rattle.std.proofs.Math.ListN.{length-set}
 use Rattle.std.proofs.lemmas.Bool.{leb-true}
 use Rattle.plain_state.specs.State.{Plain}
 use Rattle.mutator_asm.specs.declared.instr.Instr.{Instr}
@@ -8,20 +10,22 @@ use Rattle.mutator_asm.specs.declared.item.Item.{Item}
 use Rattle.mutator_asm.specs.Program.{IsWellFormed}
 use Rattle.plain_heap.specs.Order as order
 use Rattle.heap_state.proofs.Puts.{none≢some}
-use Rattle.space_map.specs.Spaces.{Layout, IsPageCount, without_checkpoints}
+use Rattle.space_map.specs.Spaces.{Layout, IsPageCount}
 use Rattle.heap_state.specs.Configuration.{table}
+use Rattle.heap_state.specs.Memory.Entries.{Entry, row_of, word_of, whole_place_of}
 use Rattle.heap_state.specs.Memory.Table.{Table}
-use Rattle.heap_laws.proofs.Opening.Heap.{opening_written}
-use Rattle.gc_worker.specs.Laws.Between.{HeapsOpen, fresh_worker, fresh_workers, fresh_mutator, fresh_scanner}
+use Rattle.heap_laws.specs.Opening.{opening_entries}
+use Rattle.space_map.specs.Table.{whole_length}
+use Rattle.gc_worker.specs.Laws.Between.{HeapsOpen, fresh_worker, fresh_workers, fresh_mutator, fresh_scanner, opening_words}
 use Rattle.gc_worker.specs.Workers.Held.{Held}
 use Rattle.gc_worker.specs.Laws.Step.{WorkersStand, held_at, read}
 use Rattle.gc_worker.specs.Steps.Turned.{epoch_in_gate}
 use Rattle.gc_worker.proofs.Stages.Gate.Words.{gate_says}
 use Rattle.gc_worker.proofs.Between.Last.{scanners_begin_last}
-use Rattle.gc_worker.proofs.Between.Opening.{is_there}
+use Rattle.gc_worker.proofs.Between.Opening.{are_opening, is_there}
 use Rattle.gc_worker.specs.declared.config.Config.{Config}
 use Rattle.gc_worker.proofs.Plain.Outcomes.{opens_so}
-use Rattle.gc_core.specs.Core.{has_sizes, opening_core}
+use Rattle.gc_core.specs.Core.{has_sizes, layout_by, opening_core}
 use Rattle.gc_worker.specs.Laws.Claims.{epoch_of_heap}
 use Rattle.gc_core.specs.Law.{IsLawful, IsSteady}
 
@@ -40,6 +44,27 @@ sizes_fit config e = by_tests (nat_le 4 config.pages) (nat_le config.pages 2048)
 pub limit_fits : (config : Config) → IsTrue (has_sizes config) → IsPageCount config.limit
 limit_fits config e = let fit = sizes_fit config e in let a = fit.0 in let b = fit.1 in (omega (arith, a, b), fit.2)
 
+-- ---- the words
+
+-- the words after these rows were written in some, the last of the list first
+abbrev pub written_in : (n : ℕ) → List ℕ → List Entry → List ℕ
+written_in n words [] = words
+written_in n words (e ∷ entries) = slice_set (written_in n words entries) (whole_place_of n (row_of e)) (word_of e)
+
+-- at first the rows of the opening were written in a table whose words are all 0
+pub opening_words_are : (layout : Layout) (least : ℕ) → opening_words layout least ≡ written_in layout.pages (replicate (whole_length layout) 0) (opening_entries layout.pages least)
+opening_words_are layout least = by_room layout.checkpoints refl
+  where
+    by_room : (room : Bool) → layout.checkpoints ≡ room → opening_words layout least ≡ written_in layout.pages (replicate (whole_length layout) 0) (opening_entries layout.pages least)
+    by_room true is = rw is refl
+    by_room false is = rw is refl
+
+-- they are just as many as the layout has
+pub opening_words-length : (layout : Layout) (least : ℕ) → length (opening_words layout least) ≡ whole_length layout
+opening_words-length layout least = ap length (opening_words_are layout least) ∙ simp (length-set, length-replicate)
+
+-- ---- the workers
+
 -- one worker more is the next one
 pub fresh_push : (s : Layout) (mutators from count : ℕ) → fresh_workers s mutators from (count + 1) ≡ fresh_workers s mutators from count ++ fresh_worker s mutators (from + count) ∷ []
 unfolding fresh_workers
@@ -53,12 +78,12 @@ module _ (opens : HeapsOpen) (code : List (List Instr)) (items : List Item) (con
   pub opening_stands : WorkersStand (opening_core code config).heap (order.opening code) (order.opening code)
   opening_stands =
       subst (λ (p : Plain). WorkersStand (opening_core code config).heap p p) (opens_so code)
-      (let fit = sizes_fit config size in opens (without_checkpoints config.limit) config.pages (length code) config.scanners (limit_fits config size) fit.0 fit.1 program.few_sections (let l = program.few_sections in omega (arith, l, few)))
+      (let fit = sizes_fit config size in opens (layout_by config) config.pages (length code) config.scanners (limit_fits config size) fit.0 fit.1 program.few_sections (let l = program.few_sections in omega (arith, l, few)))
 
-  mutator_there : (m : ℕ) → m < length code → held_at (opening_core code config).heap m ≡ fresh_mutator (without_checkpoints config.limit) (length code) m
+  mutator_there : (m : ℕ) → m < length code → held_at (opening_core code config).heap m ≡ fresh_mutator (layout_by config) (length code) m
   mutator_there m l =
-      is_there (without_checkpoints config.limit) (length code) 0 (length code + config.scanners) m m (omega (arith, l)) (omega arith)
-      ∙ ap (λ (b : Bool). if b then fresh_mutator (without_checkpoints config.limit) (length code) m else fresh_scanner (without_checkpoints config.limit) (length code) m) (lt-ltb m (length code) l)
+      is_there (layout_by config) (length code) 0 (length code + config.scanners) m m (omega (arith, l)) (omega arith)
+      ∙ ap (λ (b : Bool). if b then fresh_mutator (layout_by config) (length code) m else fresh_scanner (layout_by config) (length code) m) (lt-ltb m (length code) l)
 
   pub opening_steady : IsSteady (opening_core code config)
   opening_steady = record {
@@ -66,8 +91,8 @@ module _ (opens : HeapsOpen) (code : List (List Instr)) (items : List Item) (con
     sections = refl;
     turns_fit = turns;
     on_task = λ m l. let e = mutator_there m l in record { counted = rw e (omega arith); within = rw e (omega arith); task = λ task t. none≢some (sym (ap (λ (h : Held). h.task) e) ∙ t) };
-    last = scanners_begin_last (without_checkpoints config.limit) config.pages (length code) config.scanners;
-    none = refl;
+    last = scanners_begin_last (layout_by config) config.pages (length code) config.scanners;
+    whole = opening_words-length (layout_by config) config.pages;
   }
 
   pub opening_lawful : IsLawful (opening_core code config)
@@ -78,6 +103,6 @@ module _ (opens : HeapsOpen) (code : List (List Instr)) (items : List Item) (con
   opening_epoch =
       let fit = sizes_fit config size in
       let c = read (opening_core code config).heap in
-      let says = (opening_written config.limit config.pages (limit_fits config size) fit.0 fit.1).says in
+      let says = (are_opening config.limit config.pages (limit_fits config size) fit.0 fit.1 config.snap).says in
       let e : (table c).gate.epoch ≡ 0 = ap (λ (t : Table). t.gate.epoch) says in
       ap (epoch_in_gate 0) (gate_says c (order.opening code) opening_stands.stands) ∙ e

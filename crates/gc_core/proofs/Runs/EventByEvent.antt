@@ -14,6 +14,17 @@ unfolding run_from
 run_over schedule at zero s ended = refl
 run_over schedule at (suc n) s ended = rw ended
 
+-- what each event keeps is so where the run stops
+pub run_keeps : (IsSo : CoreState → Type 0) → ((s : CoreState) (w : ℕ) → IsSo s → IsSo (core_after s w)) → (schedule : ℕ → ℕ) (at n : ℕ) (s : CoreState) → IsSo s
+    → IsSo (run_from schedule at n s).last
+unfolding run_from
+run_keeps IsSo keep schedule at zero s now = now
+run_keeps IsSo keep schedule at (suc n) s now = by_ended (all_ended s) refl (run_keeps IsSo keep schedule (at + 1) n (core_after s (schedule at)) (keep s (schedule at) now))
+  where
+    by_ended : (b : Bool) → all_ended s ≡ b → IsSo (run_from schedule (at + 1) n (core_after s (schedule at))).last → IsSo (run_from schedule at (suc n) s).last
+    by_ended true ended rest = rw ended now
+    by_ended false running rest = rw running rest
+
 -- where no step is left the run is over
 run_out : (schedule : ℕ → ℕ) (at n : ℕ) (s : CoreState) → n ≡ 0 → run_from schedule at n s ≡ record { last = s; order = [] }
 unfolding run_from

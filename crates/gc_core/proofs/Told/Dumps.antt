@@ -1,18 +1,24 @@
 -- What is told of a core by its readers represents the plain state that the core represents.
-use Rattle.std.proofs.Common.{◌≡◌, ℕ, ◌<◌, ◌≤◌, List, [], length, get_or, sym, ap, subst, ◌∙◌, arith}
+use Rattle.std.proofs.Common.{◌≡◌, ℕ, ◌<◌, ◌≤◌, Bool, true, false, List, [], length, get_or, slice_index, take, refl, sym, ap, subst, ◌∙◌, arith}
+use Rattle.std.proofs.Math.Path.{fun_ext}
+use Rattle.std.specs.Prelude.{if◌then◌else◌}
 use Rattle.std.proofs.lemmas.List.{get_or-map, get_or-take, length-map, length-take-le}
 use Rattle.std.proofs.lemmas.Option.{slice_get_within}
 use Rattle.plain_state.specs.State as plain
 use Rattle.plain_state.specs.declared.kind.Kind.{Kind}
+use Rattle.space_map.specs.Table.{Row, is_row, place_of, table_length}
+use Rattle.space_map.proofs.Rows.{is_row-decides, place_of-lt}
 use Rattle.heap_state.specs.Meaning.Dump.{Dump, dump_of}
 use Rattle.heap_state.specs.Meaning.Represents.{DumpRepresents, RegisterShows, RecordShows, IsOwn, HasOwn, LeadsToRecord, denoted_in_dump}
+use Rattle.heap_state.specs.Memory.Table.{Table, table_by, table_of, word_in}
 use Rattle.heap_state.specs.Memory.Walk.{Walked}
 use Rattle.heap_state.specs.Worker.{Scanner, Worker, fresh}
+use Rattle.dump_text.specs.Said.{dump_said, register_told}
 use Rattle.gc_worker.specs.Workers.Held.{Held}
 use Rattle.gc_worker.specs.Workers.Knows.{knows}
 use Rattle.gc_worker.specs.Laws.Step.{held_at, nobody, read}
 use Rattle.gc_core.specs.Core.{CoreState, workers_of}
-use Rattle.gc_core.specs.Dumped.{dumped, dump_said, register_told}
+use Rattle.gc_core.specs.Dumped.{dumped}
 use Rattle.gc_core.specs.Readers.{mutators_in, registers_in}
 
 -- ---- other registers beside the same table
@@ -62,6 +68,23 @@ module _ (d : Dump) (p : plain.Plain) (mutators : ℕ) (registers : ℕ → ℕ 
     records = λ w there. record_shows w (r.records w there);
   }
 
+-- ---- the table's own words
+
+-- a row of the table stands among them
+taken_row : (n : ℕ) (words : List ℕ) (row : Row) → word_in n (take (table_length n) words) row ≡ word_in n words row
+unfolding word_in
+taken_row n words row = by_test (is_row n row) refl
+  where
+    by_test : (b : Bool) → is_row n row ≡ b
+        → (if b then slice_index (take (table_length n) words) (place_of n row) else 0) ≡ (if b then slice_index words (place_of n row) else 0)
+    by_test false none = refl
+    by_test true is = get_or-take (table_length n) words (place_of n row) 0 (place_of-lt n row ((is_row-decides n row).0 is))
+
+-- they say what all words say of the table
+taken_says : (n : ℕ) (words : List ℕ) → table_of n (take (table_length n) words) ≡ table_of n words
+unfolding table_of
+taken_says n words = ap (table_by n) (fun_ext (λ row. taken_row n words row))
+
 -- ---- the registers of a core
 
 abbrev registers_of : Held → List ℕ
@@ -83,5 +106,6 @@ register_is s m j enough few =
 
 pub told_represents : (s : CoreState) (p : plain.Plain) → s.heap.mutators ≤ workers_of s → DumpRepresents (dump_of (read s.heap)) p → DumpRepresents (dump_said (dumped s)) p
 told_represents s p enough r =
-    with_registers (dump_of (read s.heap)) p (length (registers_in s)) (register_told (registers_in s)) (registers_length s enough)
-    (λ m j there few. register_is s m j enough (omega (arith, there, r.as_many.0))) r
+    subst (λ (t : Table). DumpRepresents (record (dump_said (dumped s)) { table = t }) p) (sym (taken_says s.heap.pages s.heap.words))
+    (with_registers (dump_of (read s.heap)) p (length (registers_in s)) (register_told (registers_in s)) (registers_length s enough)
+    (λ m j there few. register_is s m j enough (omega (arith, there, r.as_many.0))) r)

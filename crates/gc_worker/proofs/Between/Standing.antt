@@ -1,6 +1,6 @@
 -- What is so of a heap that stands, between any two steps.
-use Rattle.std.proofs.Common.{◌≡◌, ℕ, ◌-◌, ◌<◌, ◌≤◌, true, false, length, slice_get, slice_index, Some, None, refl, sym, ap, subst, ◌∙◌, arith}
-use Rattle.std.proofs.lemmas.Bool.{lt-ltb}
+use Rattle.std.proofs.Common.{◌≡◌, ℕ, ◌-◌, ◌<◌, ◌≤◌, true, false, length, slice_get, slice_index, Some, None, refl, sym, ap, subst, ◌∙◌, ⊎_elim, arith}
+use Rattle.std.proofs.lemmas.Bool.{lt-ltb, or_cases}
 use Rattle.std.proofs.lemmas.List.{length-map}
 use Rattle.std.proofs.lemmas.Option.{slice_get_within, same_Some}
 use Rattle.heap_words.specs.Decoded.{PointerWord, decode}
@@ -14,22 +14,22 @@ use Rattle.fault_duty.specs.Duty.{Round}
 use Rattle.heap_state.specs.Configuration.{Configuration, era, memory, team}
 use Rattle.heap_state.specs.Invariant.Ghost.{Ghost, header_kind}
 use Rattle.heap_state.specs.Meaning.Values.{Accounts, value_of}
-use Rattle.heap_state.specs.Worker.{Worker, Account, is_mutator, is_running, is_late}
+use Rattle.heap_state.specs.Worker.{Worker, Account, is_mutator, is_running, is_asking, is_late}
 use Rattle.heap_state.proofs.Holds.Keeping.{holds}
 use Rattle.heap_state.proofs.Represents.Representing.{represents}
 use Rattle.heap_laws.specs.Fields.Effects.{IsLikePlain, RegisterHolds}
 use Rattle.heap_laws.specs.Fields.Words.{IsLedTo}
 use Rattle.heap_laws.specs.Steps.{Ready}
 use Rattle.heap_laws.proofs.Fields.Effects.{registers_hold}
-use Rattle.heap_laws.proofs.Fields.GoingOn.{timely}
 use Rattle.heap_laws.proofs.Fields.SameWords.{same_words}
 use Rattle.heap_laws.proofs.Fields.Shown.{headers_are_read, registers_are_held}
 use Rattle.heap_laws.proofs.Frames.Values.{value_from_pointer}
 use Rattle.heap_laws.proofs.Lifting.Configurations.{ready}
+use Rattle.heap_laws.proofs.Scanning.Scanners.{now_not_late}
 use Rattle.gc_worker.specs.declared.stage.back.Back.TheVariants.{ToAccess, ToPlace, ToSnap, ToScanner}
 use Rattle.gc_worker.specs.declared.stage.Stage.{Stage}
 use Rattle.gc_worker.specs.declared.stage.Stage.TheVariants.{Looks, Passes, Flips, Forwards, Accesses, Places, Serves, Scans, Evacuates, Opens, Recalls, Guards, Checkpoints, BeginsCheckpoint, Gone}
-use Rattle.gc_worker.specs.Laws.Between.{ShowsRegisters, RegistersLand, AreAlike, IsAsPlain, WhatStandsIsSo}
+use Rattle.gc_worker.specs.Laws.Between.{ShowsRegisters, RegistersLand, AreAlike, IsAsPlain, WhatStandsIsSo, is_present}
 use Rattle.gc_worker.specs.Workers.Fits.{FitsStage}
 use Rattle.gc_worker.specs.Steps.Goes.{Is}
 use Rattle.gc_worker.specs.Workers.Held.{Held}
@@ -41,7 +41,7 @@ use Rattle.gc_worker.proofs.Words.Eras.{start_is, span_within}
 use Rattle.gc_worker.proofs.Stages.Gate.Words.{gate_says}
 use Rattle.gc_worker.proofs.Workers.Members.{member}
 
--- who runs and makes a round makes it in its own epoch
+-- who is present and makes a round makes it in its own epoch
 round_epoch : (own : ℕ) (d : Round) (stage : DutyStage) → d.epoch ≡ own → epoch_at own d stage ≡ own
 round_epoch own d duty_stage.LoadsGate e = refl
 round_epoch own d (duty_stage.LoadsTraced hindrance) e = e
@@ -58,25 +58,25 @@ round_epoch own d (duty_stage.EndAreaAgain look filling) e = e
 round_epoch own d (duty_stage.Traces traced) e = e
 round_epoch own d (duty_stage.Ended result) e = e
 
-own_epoch : (x : Held) (stage : Stage) → FitsStage x stage → is_running (post_in x stage) ≡ true → epoch_in x.epoch stage ≡ x.epoch
-own_epoch x (Serves d (ToAccess a)) fits runs = round_epoch x.epoch d d.stage fits.0.epoch
-own_epoch x (Serves d ToPlace) fits runs = round_epoch x.epoch d d.stage fits.0.epoch
-own_epoch x (Serves d ToSnap) fits runs = round_epoch x.epoch d d.stage fits.0.epoch
-own_epoch x (Serves d ToScanner) fits runs = absurd (cc)
-own_epoch x Looks fits runs = refl
-own_epoch x (Passes g after) fits runs = refl
-own_epoch x (Flips f) fits runs = refl
-own_epoch x (Forwards w) fits runs = refl
-own_epoch x (Accesses a) fits runs = refl
-own_epoch x (Places z) fits runs = refl
-own_epoch x (Scans z back) fits runs = refl
-own_epoch x (Evacuates v z back) fits runs = refl
-own_epoch x (Opens o z back) fits runs = refl
-own_epoch x (Recalls r after) fits runs = refl
-own_epoch x (Guards z write) fits runs = refl
-own_epoch x (Checkpoints r goal) fits runs = refl
-own_epoch x (BeginsCheckpoint z) fits runs = refl
-own_epoch x Gone fits runs = refl
+own_epoch : (x : Held) (stage : Stage) → FitsStage x stage → is_present (post_in x stage) ≡ true → epoch_in x.epoch stage ≡ x.epoch
+own_epoch x (Serves d (ToAccess a)) fits present = round_epoch x.epoch d d.stage fits.0.epoch
+own_epoch x (Serves d ToPlace) fits present = round_epoch x.epoch d d.stage fits.0.epoch
+own_epoch x (Serves d ToSnap) fits present = round_epoch x.epoch d d.stage fits.0.epoch
+own_epoch x (Serves d ToScanner) fits present = absurd (cc)
+own_epoch x Looks fits present = refl
+own_epoch x (Passes g after) fits present = refl
+own_epoch x (Flips f) fits present = refl
+own_epoch x (Forwards w) fits present = refl
+own_epoch x (Accesses a) fits present = refl
+own_epoch x (Places z) fits present = refl
+own_epoch x (Scans z back) fits present = refl
+own_epoch x (Evacuates v z back) fits present = refl
+own_epoch x (Opens o z back) fits present = refl
+own_epoch x (Recalls r after) fits present = refl
+own_epoch x (Guards z write) fits present = refl
+own_epoch x (Checkpoints r goal) fits present = refl
+own_epoch x (BeginsCheckpoint z) fits present = refl
+own_epoch x Gone fits present = refl
 
 -- the mutators come first
 enough : (h : Heap) (p o : Plain) → WorkersStand h p o → h.mutators ≤ length h.workers
@@ -116,23 +116,26 @@ module _ (h : Heap) (p o : Plain) (st : WorkersStand h p o) (k : ℕ) (q : Mutat
   register : (j : ℕ) → w.registers j ≡ slice_index x.registers j
   register j = ap (λ (v : Worker). v.registers j) there.as_known
 
-  -- ---- where it runs
+  -- ---- where it is present
 
-  module _ (runs : is_running (post_in x x.stage) ≡ true) where
-    running : is_running w.post ≡ true
-    running = ap (λ (v : Worker). is_running v.post) there.as_known ∙ runs
+  module _ (present : is_present (post_in x x.stage) ≡ true) where
+    present_there : is_present w.post ≡ true
+    present_there = ap (λ (v : Worker). is_present v.post) there.as_known ∙ present
+
+    now : w.epoch ≡ (era c).epoch
+    now =
+        let t = (st.stands.invariant.workers k there.below).timely in
+        ⊎_elim t.running t.asking (or_cases (is_running w.post) (is_asking w.post) present_there)
 
     -- its epoch is the current one
     of_now : x.epoch ≡ (era c).epoch
-    of_now =
-        sym (own_epoch x x.stage there.fits.stage runs) ∙ (ap (λ (v : Worker). v.epoch) (sym there.as_known)
-        ∙ (st.stands.invariant.workers k there.below).timely.running running)
+    of_now = sym (own_epoch x x.stage there.fits.stage present) ∙ (ap (λ (v : Worker). v.epoch) (sym there.as_known) ∙ now)
 
     epoch_is : epoch_of h.pages h.words ≡ x.epoch
     epoch_is = ap (epoch_in_gate 0) (gate_says c p st.stands) ∙ sym of_now
 
     not_late : is_late (era c).epoch w ≡ false
-    not_late = timely (era c) w running (st.stands.invariant.workers k there.below).timely.running
+    not_late = now_not_late (era c).epoch w.epoch w.post now
 
   -- ---- where it has no end
 
@@ -144,19 +147,19 @@ module _ (h : Heap) (p o : Plain) (st : WorkersStand h p o) (k : ℕ) (q : Mutat
       pointers = λ j a small e. (g.identity a, sym (as_plain.same.registers.registers_show no_end j small) ∙ value_from_pointer g.identity (w.registers j) a (ap decode (register j) ∙ e));
     }
 
-    -- ---- and runs
+    -- ---- and is present
 
-    module _ (runs : is_running (post_in x x.stage) ≡ true) where
+    module _ (present : is_present (post_in x x.stage) ≡ true) where
       unended : w.account.end ≡ None
       unended = as_plain.same.account.end ∙ no_end
 
       led : (j a : ℕ) → j < REGISTERS → decode (slice_index x.registers j) ≡ PointerWord a → IsLedTo (era c) (memory c) g p a
       led j a small e =
           headers_are_read (era c) (memory c) (team c) g p k (w.registers j) a prepared st.stands.shown
-          (registers_are_held (era c) (memory c) (team c) g k j prepared is_mutator_there (not_late runs) unended small) (ap decode (register j) ∙ e)
+          (registers_are_held (era c) (memory c) (team c) g k j prepared is_mutator_there (not_late present) unended small) (ap decode (register j) ∙ e)
 
       start : (era c).start ≡ space_start h.pages (to_space x.epoch)
-      start = start_is c ∙ ap (λ e. space_start h.pages (to_space e)) (sym (of_now runs))
+      start = start_is c ∙ ap (λ e. space_start h.pages (to_space e)) (sym (of_now present))
 
       lands : RegistersLand h.pages h.words x
       lands = record {
@@ -166,7 +169,7 @@ module _ (h : Heap) (p o : Plain) (st : WorkersStand h p o) (k : ℕ) (q : Mutat
       }
 
       held : (j : ℕ) → j < REGISTERS → (y : Value) × (slice_get q.registers j ≡ Some y) × RegisterHolds (era c) g (w.registers j) y
-      held j small = registers_hold (era c) (memory c) (team c) g p k q j prepared as_plain is_mutator_there (not_late runs) unended small
+      held j small = registers_hold (era c) (memory c) (team c) g p k q j prepared as_plain is_mutator_there (not_late present) unended small
 
       alike : AreAlike x.registers q
       alike j i small_j small_i =

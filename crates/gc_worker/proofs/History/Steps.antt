@@ -14,13 +14,13 @@ use Rattle.space_map.specs.Spaces.{to_space}
 use Rattle.space_map.specs.Table.{Size}
 use Rattle.heap_state.specs.Memory.Table.{word_in}
 use Rattle.gate_core.specs.Flip.{Flipping}
-use Rattle.heap_state.specs.Worker.{Account, is_running}
+use Rattle.heap_state.specs.Worker.{Account}
 use Rattle.gc_worker.specs.declared.stage.Stage.{Stage}
 use Rattle.gc_worker.specs.declared.stage.Stage.TheVariants.{Looks, Flips}
 use Rattle.gc_worker.specs.declared.task.Task.{Task}
 use Rattle.gc_worker.specs.Plain.Answer.{ComesTo, IsAnswered}
 use Rattle.gc_worker.specs.Workers.Begun.{IsPastLook}
-use Rattle.gc_worker.specs.Laws.Between.{KeepsToTask, IsAsPlain, IsNoAnswer, IsSo}
+use Rattle.gc_worker.specs.Laws.Between.{KeepsToTask, IsAsPlain, IsNoAnswer, IsSo, is_present}
 use Rattle.gc_worker.specs.Laws.Cycles.{BeginsAnew, Grows, IsFirst, IsInCall, LowGoes, SetsAside, SizeGoes, StaysInCall, words_claimed, low_at, low_of, low_said, set_aside, size_of, snaps_at}
 use Rattle.gc_worker.specs.Workers.Fits.{Fits, FitsEnd, FitsTask, IsMaking, IsOnSide}
 use Rattle.gc_worker.specs.Plain.Full.{FindsNoRoom, FullWhereTold}
@@ -190,7 +190,7 @@ module _ (h : Heap) (k : ℕ) (y : Held) (q : Step) (below : k < length h.worker
 
   -- a mutator that looks is of the gate's epoch
   at_look : k < h.mutators → y.stage ≡ Looks → t.flips ≡ y.epoch
-  at_look few looks = let w = its_mutator few in sym c.epoch ∙ (as_plain w.0 w.1).epoch (ap (λ (s : Stage). is_running (post_in y s)) looks)
+  at_look few looks = let w = its_mutator few in sym c.epoch ∙ (as_plain w.0 w.1).epoch (ap (λ (s : Stage). is_present (post_in y s)) looks)
 
   -- who has no end had none
   had_no_end : z.account.end ≡ None → y.account.end ≡ None

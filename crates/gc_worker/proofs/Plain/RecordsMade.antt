@@ -1,10 +1,12 @@
 -- The record that an instruction makes: `new`, `raw` and `mix` make one, of the length that their operands name, and no other does.
-use Rattle.std.proofs.Common.{◌≡◌, ℕ, Bool, true, false, Option, None, Result, Ok, Err, nat_lt, if◌then◌else◌, length, refl, ap}
+use Rattle.std.proofs.Common.{◌≡◌, ℕ, ◌+◌, Bool, true, false, Option, Some, None, Result, Ok, Err, nat_lt, if◌then◌else◌, length, refl, ap, sym, subst, ◌∙◌}
+use Rattle.std.specs.Bool.{⊤}
 use Rattle.mutator_asm.specs.declared.operand.Operand.{Operand}
 use Rattle.mutator_asm.specs.declared.instr.Instr.{Instr}
 use Rattle.mutator_asm.specs.declared.instr.Instr.TheVariants as instrs
 use Rattle.plain_state.specs.declared.end.End.{End}
 use Rattle.plain_state.specs.declared.end.End.TheVariants.{OutputFull}
+use Rattle.plain_state.specs.declared.kind.Kind.{Kind}
 use Rattle.plain_state.specs.declared.kind.Kind.TheVariants as kinds
 use Rattle.plain_state.specs.declared.operation.Operation.{Operation}
 use Rattle.plain_state.specs.declared.operation.Operation.TheVariants as operations
@@ -13,8 +15,15 @@ use Rattle.plain_state.specs.Operation.{applied}
 use Rattle.plain_state.specs.State.{Mutator}
 use Rattle.plain_heap.specs.declared.action.Action.{Action}
 use Rattle.plain_heap.specs.declared.action.Action.TheVariants.{Makes, Prints}
-use Rattle.plain_heap.specs.Action.{◌>>=◌, action, allocates, board_place, computes, as_number, mixed_length, mixes, operand, reference_in, register}
-use Rattle.gc_worker.specs.Plain.Seen.{Making, making_in, mixed_made, mixed_named}
+use Rattle.plain_heap.specs.Action.{◌>>=◌, action, allocates, board_place, computes, as_number, length_of, mixed_length, mixes, operand, reference_in, register}
+use Rattle.heap_words.specs.Word.{pointer_word}
+use Rattle.alloc_end.specs.declared.run.Run.{Run}
+use Rattle.gc_worker.specs.declared.task.Task.{Task}
+use Rattle.gc_worker.specs.Plain.Seen.{Making, making_in, mixed_made, mixed_named, register_for}
+use Rattle.gc_worker.specs.Workers.Fits.{IsMaking}
+use Rattle.gc_worker.specs.Workers.Held.{Held, making_for}
+use Rattle.gc_worker.specs.Steps.Stepped.{IsCall, instr_due, seen_by}
+use Rattle.gc_worker.specs.Steps.Turned.{loads, with_record}
 
 no_record_then : {A : Type 0} (o : Result A End) (f : A → Result Action End) → ((a : A) → making_in (f a) ≡ None) → making_in (o >>= f) ≡ None
 no_record_then (Ok a) f h = h a
@@ -85,3 +94,40 @@ made_of q (instrs.Swap d x) = no_record_then (board_place q x) _ (λ n. refl)
 made_of q (instrs.Out a) = no_record_then (as_number (register q a)) _ (λ n. prints_no_record n (nat_lt (length q.printed) MOST_PRINTED))
 made_of q instrs.Snap = refl
 made_of q instrs.Halt = refl
+
+-- ---- the register that leads to it
+
+-- a record, if there is one, is for this register
+abbrev IsFor : ℕ → Option Making → Type 0
+IsFor d (Some m) = m.into ≡ d
+IsFor d None = ⊤
+
+is_for_then : {A : Type 0} (d : ℕ) (o : Result A End) (f : A → Result Action End) → ((a : A) → IsFor d (making_in (f a))) → IsFor d (making_in (o >>= f))
+is_for_then d (Ok a) f h = h a
+is_for_then d (Err why) f h = tt
+
+allocates_for : (q : Mutator) (kind : Kind) (d : ℕ) (x : Operand) → IsFor d (making_in (allocates q kind d x))
+allocates_for q kind d x = is_for_then d (operand q x) _ (λ n. is_for_then d (length_of n) _ (λ len. refl))
+
+makes_for : (q : Mutator) (instr : Instr) → IsFor (register_for instr) (makes_of q instr)
+makes_for q (instrs.New d x) = allocates_for q kinds.Fields d x
+makes_for q (instrs.Raw d x) = allocates_for q kinds.Raw d x
+makes_for q (instrs.Mix d fields raw) = is_for_then d (mixed_named q fields raw) _ (λ m. refl)
+makes_for q instr = tt
+
+-- who makes a record executes an instruction
+pub making_is_call : (x : Held) → IsMaking x.account x.registers x.task → IsCall x.task
+making_is_call x m = subst IsCall (sym m.executes.task_is) tt
+
+-- the register that the instruction names for its record leads to it
+pub record_leads : (x : Held) (run : Run) (at : ℕ) → IsMaking x.account x.registers x.task
+    → with_record x run at (making_for x x.task) ≡ loads (record x { account = record x.account { serial = x.account.serial + 1 }; run = Some run }) (register_for (instr_due x.task)) (pointer_word at)
+record_leads x run at m =
+    let e = m.executes in
+    let q = seen_by x in
+    let placed : Held = record x { account = record x.account { serial = x.account.serial + 1 }; run = Some run } in
+    let made : making_in (action q e.instr) ≡ Some m.making = ap making_in e.acts in
+    let leads : IsFor (register_for e.instr) (Some m.making) = subst (IsFor (register_for e.instr)) (sym (made_of q e.instr) ∙ made) (makes_for q e.instr) in
+    ap (λ (t : Option Task). with_record x run at (making_for x t)) e.task_is
+    ∙ ap (with_record x run at) made
+    ∙ ap (λ (d : ℕ). loads placed d (pointer_word at)) (leads ∙ ap (λ (t : Option Task). register_for (instr_due t)) (sym e.task_is))

@@ -33,7 +33,7 @@ use Rattle.gc_worker.proofs.Workers.Parts.{has_room}
 use Rattle.space_map.proofs.GateWords.{encode_gate-gate_in}
 
 -- where checkpoints can be begun
-kept : (h : Heap) (p o : Plain) → WorkersStand h p o → h.checkpoints ≡ true → CheckpointsStand h p
+pub kept : (h : Heap) (p o : Plain) → WorkersStand h p o → h.checkpoints ≡ true → CheckpointsStand h p
 kept h p o st room = subst (λ b. StandIf b h p) room st.saving
 
 pub checkpoints_are_kept : CheckpointsAreKept

@@ -1,5 +1,5 @@
 -- What stands in a record after a store, and that only a pointer may not be stored, and only for a number.
-use Rattle.std.proofs.Common.{◌≡◌, ℕ, Option, Some, None, Result, Ok, Err, refl, ap}
+use Rattle.std.proofs.Common.{◌≡◌, ℕ, Some, None, Result, Ok, Err, refl, ap}
 use Rattle.plain_state.specs.declared.end.End.{End}
 use Rattle.plain_state.specs.declared.end.End.TheVariants.{IntoRaw}
 use Rattle.plain_state.specs.declared.value.Value.{Value}

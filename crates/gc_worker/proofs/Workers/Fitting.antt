@@ -1,5 +1,5 @@
 -- What fits a worker at a stage fits it whatever its stage was before, and whatever its account, its registers and its task are.
-use Rattle.std.proofs.Common.{◌≡◌, ℕ, ◌+◌, List, Option, ◌∙◌, sym, refl}
+use Rattle.std.proofs.Common.{◌≡◌, ℕ, ◌+◌, Bool, false, if◌then◌else◌, List, Option, ◌∙◌, sym, ap, subst, refl}
 use Rattle.alloc_end.specs.Place.{Placing}
 use Rattle.fault_duty.specs.Duty.{Round}
 use Rattle.forwarding.specs.Evacuation.{Evacuation}
@@ -7,6 +7,7 @@ use Rattle.heap_state.specs.Worker.{Account}
 use Rattle.page_saves.specs.SaveRound.{SavingRound}
 use Rattle.page_scan.specs.Scanning.{Scanning}
 use Rattle.gc_worker.specs.declared.stage.back.Back.{Back}
+use Rattle.gc_worker.specs.declared.stage.back.Back.TheVariants.{ToAccess, ToPlace, ToSnap, ToScanner}
 use Rattle.gc_worker.specs.declared.stage.goal.Goal.{Goal}
 use Rattle.gc_worker.specs.declared.stage.goal.Goal.TheVariants.{ForFlip, ForSnap, ForScanner}
 use Rattle.gc_worker.specs.declared.stage.write.Write.{Write}
@@ -16,6 +17,7 @@ use Rattle.gc_worker.specs.declared.stage.Stage.TheVariants.{Looks, Passes, Flip
 use Rattle.gc_worker.specs.declared.task.Task.{Task}
 use Rattle.gc_worker.specs.Workers.Fits.{FitsCopy, FitsPlace, FitsRound, FitsScan, FitsStage, FitsWrite, IsRoundFor, IsRoundOfMutator}
 use Rattle.gc_worker.specs.Workers.Held.{Held, at_stage, fields_for}
+use Rattle.gc_worker.specs.Steps.Turned.{back_from, checkpoints, goes_back, traced_by}
 
 -- the parts of which no machine knows
 pub record Aside : Type 0 where
@@ -89,3 +91,16 @@ fits_after x now stage f =
 
 pub fits_moved : (x : Held) (was now stage : Stage) → FitsStage (at_stage x was) stage → FitsStage (at_stage x now) stage
 fits_moved x was now stage f = fits_after x now stage (fits_before x was stage f)
+
+-- without room for checkpoints, who finds the epoch traced goes back
+pub traced_without : (x : Held) (back : Back) → x.layout.checkpoints ≡ false → FitsStage (traced_by x back) (traced_by x back).stage → traced_by x back ≡ back_from x back
+traced_without x (ToAccess a) none fits = refl
+traced_without x ToPlace none fits = refl
+traced_without x ToSnap none fits =
+    let room = fits.room in
+    absurd (cc (room, none))
+traced_without x ToScanner none fits = ap (λ (b : Bool). at_stage x (if b then checkpoints x ForScanner else goes_back x ToScanner)) none
+
+-- and fits there
+pub fits_without : (x : Held) (back : Back) → x.layout.checkpoints ≡ false → FitsStage (traced_by x back) (traced_by x back).stage → FitsStage (back_from x back) (goes_back x back)
+fits_without x back none fits = subst (λ (y : Held). FitsStage y y.stage) (traced_without x back none fits) fits

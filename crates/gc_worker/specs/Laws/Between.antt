@@ -1,5 +1,5 @@
 -- What is so between any two steps, how a heap begins, and what a worker may become without a step.
-use Rattle.std.specs.Prelude.{◌≡◌, ◌≢◌, ℕ, ◌+◌, ◌<◌, ◌≤◌, ◌↔◌, ◌⊎◌, ⊤, List, [], length, true, Some, None, nat_lt, replicate, slice_get, slice_index, slice_set, if◌then◌else◌, zero, suc, ◌∷◌}
+use Rattle.std.specs.Prelude.{◌≡◌, ◌≢◌, ℕ, ◌+◌, ◌<◌, ◌≤◌, ◌↔◌, ◌⊎◌, ◌||◌, ⊤, Bool, List, [], length, true, Some, None, nat_lt, replicate, slice_get, slice_index, slice_set, if◌then◌else◌, zero, suc, ◌∷◌}
 use Rattle.heap_words.specs.declared.kind.Kind.{Kind}
 use Rattle.heap_words.specs.Decoded.{NumberWord, PointerWord, HeaderWord, decode}
 use Rattle.plain_state.specs.declared.end.End.{End}
@@ -19,7 +19,7 @@ use Rattle.heap_state.specs.Memory.Table.{word_in}
 use Rattle.heap_state.specs.Saving.Written.{written_whole}
 use Rattle.heap_state.specs.Theorems.Standing.{IsSound}
 use Rattle.heap_state.specs.Meaning.Values.{Accounts}
-use Rattle.heap_state.specs.Worker.{is_running}
+use Rattle.heap_state.specs.Worker.{Post, is_asking, is_running}
 use Rattle.heap_laws.specs.Opening.{opening_entries, opening_plain}
 use Rattle.gc_worker.specs.declared.stage.after.After.TheVariants as afters
 use Rattle.gc_worker.specs.declared.stage.back.Back.TheVariants.{ToScanner}
@@ -182,14 +182,18 @@ pub record RegistersLand (n : ℕ) (words : List ℕ) (x : Held) : Type 0 where
 abbrev pub AreAlike : List ℕ → Mutator → Type 0
 AreAlike registers q = (j i : ℕ) → j < REGISTERS → i < REGISTERS → (slice_index registers j ≡ slice_index registers i) ↔ (slice_get q.registers j ≡ slice_get q.registers i)
 
--- A mutator is as its plain one, and where it has no end its registers show that one's. Where it runs its epoch is the gate's, and then
--- they lead to headers of records.
+-- it runs, or has made the request: its epoch is the gate's
+abbrev pub is_present : Post → Bool
+is_present post = is_running post || is_asking post
+
+-- A mutator is as its plain one, and where it has no end its registers show that one's. Where it is present its epoch is the gate's, and
+-- then they lead to headers of records.
 pub record IsAsPlain (h : Heap) (p : Plain) (k : ℕ) (x : Held) (q : Mutator) : Type 0 where
   pub account : Accounts p.heap k x.account q
   pub shows : q.end ≡ None → ShowsRegisters x.registers q
-  pub epoch : is_running (post_in x x.stage) ≡ true → epoch_of h.pages h.words ≡ x.epoch
-  pub lands : q.end ≡ None → is_running (post_in x x.stage) ≡ true → RegistersLand h.pages h.words x
-  pub alike : q.end ≡ None → is_running (post_in x x.stage) ≡ true → AreAlike x.registers q
+  pub epoch : is_present (post_in x x.stage) ≡ true → epoch_of h.pages h.words ≡ x.epoch
+  pub lands : q.end ≡ None → is_present (post_in x x.stage) ≡ true → RegistersLand h.pages h.words x
+  pub alike : q.end ≡ None → is_present (post_in x x.stage) ≡ true → AreAlike x.registers q
 
 -- The table has all its words, which keep the invariant and represent the plain state; each worker is sound, and each mutator is as its
 -- plain one, of which there are as many.

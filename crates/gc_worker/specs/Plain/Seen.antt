@@ -9,6 +9,8 @@ use Rattle.plain_state.specs.declared.value.Identity.{Identity}
 use Rattle.plain_state.specs.declared.value.Value.{Value}
 use Rattle.plain_state.specs.declared.value.Value.TheVariants.{Number, Reference}
 use Rattle.plain_state.specs.State.{Mutator}
+use Rattle.mutator_asm.specs.declared.instr.Instr.{Instr}
+use Rattle.mutator_asm.specs.declared.instr.Instr.TheVariants.{New, Raw, Mix}
 use Rattle.mutator_asm.specs.declared.operand.Operand.{Operand}
 use Rattle.plain_heap.specs.declared.action.Action.{Action}
 use Rattle.plain_heap.specs.declared.action.Action.TheVariants.{Makes}
@@ -76,6 +78,13 @@ mixed_named k fields raw = do
 abbrev pub making_in : Result Action End → Option Making
 making_in (Ok (Makes kind d n)) = Some (record { kind = kind; into = d; len = n })
 making_in other = None
+
+-- the register that is to lead to the record that an instruction makes, or 0 if it makes none
+abbrev pub register_for : Instr → ℕ
+register_for (New d x) = d
+register_for (Raw d x) = d
+register_for (Mix d fields raw) = d
+register_for instr = 0
 
 -- the mixed record that two operands name
 abbrev pub mixed_made : Mutator → (d : ℕ) → (fields raw : Operand) → Option Making

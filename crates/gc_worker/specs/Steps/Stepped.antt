@@ -20,6 +20,9 @@ use Rattle.gc_worker.specs.Workers.Counted.{counted}
 use Rattle.gc_worker.specs.Workers.Fits.{Fits}
 use Rattle.forwarding.specs.Keeping as keeping
 use Rattle.forwarding.specs.Keeping.{kept_word, reserved_word}
+use Rattle.fault_duty.specs.Duty as duty
+use Rattle.fault_duty.specs.declared.caller.Caller.TheVariants as callers
+use Rattle.space_map.specs.Spaces.{Layout}
 use Rattle.fault_duty.specs.declared.round_end.RoundEnd.{RoundEnd}
 use Rattle.fault_duty.specs.declared.round_end.RoundEnd.TheVariants.{ScanPage, ScanInPlace, Marked, Traced, AllLeft, NothingNow}
 use Rattle.gc_worker.specs.declared.stage.back.Back.{Back}
@@ -139,6 +142,14 @@ abbrev pub IsBeginningCheckpoint : Stage → Type 0
 IsBeginningCheckpoint (BeginsCheckpoint s) = ⊤
 IsBeginningCheckpoint _ = ⊥
 
+-- it does something for checkpoints
+abbrev pub IsForCheckpoints : Stage → Type 0
+IsForCheckpoints (Recalls r after) = ⊤
+IsForCheckpoints (Guards g write) = ⊤
+IsForCheckpoints (Checkpoints r goal) = ⊤
+IsForCheckpoints (BeginsCheckpoint s) = ⊤
+IsForCheckpoints _ = ⊥
+
 -- a register and where it leads
 abbrev pub pointed : ℕ × ℕ → turned.Pointed
 pointed p = record { register = p.0; addr = p.1 }
@@ -147,6 +158,12 @@ pointed p = record { register = p.0; addr = p.1 }
 abbrev pub back_at : Stage → Back
 back_at (Serves d back) = back
 back_at _ = ToScanner
+
+-- a scanner's round is this worker's, beside so many mutators: so its next one is the same begun anew
+abbrev pub MayBeginAnew : Layout → (mutators number : ℕ) → Stage → Type 0
+MayBeginAnew layout mutators number (Serves d ToScanner) =
+    duty.begun d.layout d.caller 0 d.worker ≡ duty.begun layout (callers.Scans mutators) 0 number
+MayBeginAnew layout mutators number _ = ⊤
 
 -- what a round of this epoch comes to
 abbrev pub served_in : Held → (epoch : ℕ) → Back → RoundEnd → Held

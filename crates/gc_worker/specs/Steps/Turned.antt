@@ -97,6 +97,12 @@ guards_access x a = guards x (OfAccess a) (access.writes_on a.spaces a.stage) (A
 abbrev pub guards_place : Held → place.Placing → Stage
 guards_place x p = guards x (OfPlace p) (place.writes_on p p.stage) (Places p)
 
+-- the access or the allocation that is at hand does so
+abbrev pub guarded_at : Held → Stage → Stage
+guarded_at x (Accesses a) = guards_access x a
+guarded_at x (Places p) = guards_place x p
+guarded_at x stage = stage
+
 -- then it writes
 abbrev pub writes : Write → Stage
 writes (OfAccess a) = Accesses a
@@ -378,6 +384,11 @@ accessed_by x a (Faults page) = at_stage x (Serves (duty.begun x.layout (callers
 accessed_by x a (Brings into word) = loads x into word
 accessed_by x a Stored = went_on x
 accessed_by x a (Fails why) = ended x why
+
+-- what the access that is at hand comes to
+abbrev pub accessed_at : Held → Stage → Accessed → Held
+accessed_at x (Accesses a) result = accessed_by x a result
+accessed_at x stage result = x
 
 abbrev pub turned_access : Held → Access → Turn Accessed → Held
 turned_access x a More = at_stage x (guards_access x a)

@@ -86,8 +86,16 @@ impl State {
     }
 
     /// The mutator has its end, and leaves.
-    #[inline(never)]
+    #[inline(always)]
     pub fn end_with(&mut self, end: End) -> Stepped
+        ensures state { self.new ≡ uncounted (ended self.old end) }
+        ensures tells { result ≡ Stepped.Ended self.old.number end }
+    {
+        self.end_with_apart(end)
+    }
+
+    #[inline(never)]
+    fn end_with_apart(&mut self, end: End) -> Stepped
         ensures state { self.new ≡ uncounted (ended self.old end) }
         ensures tells { result ≡ Stepped.Ended self.old.number end }
     {

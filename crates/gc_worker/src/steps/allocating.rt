@@ -6,8 +6,8 @@ ghost use Rattle.record_layout.specs.Layout.{header_in};
 ghost use Rattle.heap_state.specs.Invariant.Ghost.{header_kind, header_len};
 ghost use Rattle.gc_worker.specs.Workers.Fits.{FitsStage, IsMaking, Takes};
 ghost use Rattle.gc_worker.specs.Workers.Held.{pages_needed, at_stage, header_for, fields_for, fields_of, making_for};
-ghost use Rattle.gc_worker.specs.Plain.Seen.{mixed_made};
-ghost use Rattle.gc_worker.specs.Steps.Stepped.{IsPlacing, IsSound, seen_by, stepped_by, uncounted};
+ghost use Rattle.gc_worker.specs.Plain.Seen.{mixed_made, register_for};
+ghost use Rattle.gc_worker.specs.Steps.Stepped.{IsCall, IsPlacing, IsSound, instr_due, seen_by, stepped_by, uncounted};
 ghost use Rattle.gc_worker.specs.Steps.Turned.{full_by, is_full, places, told, told_effect, told_full, turned, with_record};
 
 use crate::stage::Stage;
@@ -116,7 +116,7 @@ impl State {
                 let place = Place::new(self.spaces, run, header, self.epoch, fields, self.snap);
                 self.stage = Stage::Places(place);
                 if self.running != 0 {
-                    self.guard_place(place);
+                    self.guard_at_place();
                 }
             }
             None => self.stage = Stage::Looks,
@@ -139,8 +139,7 @@ impl State {
         };
         let Turn::Finished(allocated) = place.take(reply) else {
             if self.running != 0 {
-                let place = *place;
-                self.guard_place(place);
+                self.guard_at_place();
             }
             return Stepped::Moved;
         };
@@ -152,6 +151,7 @@ impl State {
     }
 
     /// The record stands, and the register that the task names leads to it.
+    #[tactic(auto, using(crate::proofs::Plain::RecordsMade::record_leads, crate::proofs::Plain::RecordsMade::making_is_call))]
     #[inline(always)]
     fn has_placed(&mut self, run: Run, at: u32) -> Stepped
         requires serial { self.old.account.serial + 1 < 2 ^ 40 }
@@ -159,14 +159,23 @@ impl State {
         ensures state { self.new ≡ uncounted (with_record self.old run at (making_for self.old self.old.task)) }
         ensures tells { result ≡ stepped_by self.old.number (told_effect self.old.task) }
     {
-        match self.making() {
-            Some(made) => {
-                self.run = Some(run);
-                self.stage = Stage::Looks;
-                self.serial += 1;
-                self.load(made.into, Word::pointer(at).0)
-            }
-            None => unreachable!(),
+        let into = self.register_for();
+        self.run = Some(run);
+        self.stage = Stage::Looks;
+        self.serial += 1;
+        self.load(into, Word::pointer(at).0)
+    }
+
+    /// The register that is to lead to the record that the instruction makes.
+    #[inline(always)]
+    fn register_for(&self) -> u8
+        requires { IsCall self.now.task }
+        ensures { result ≡ register_for (instr_due self.now.task) }
+    {
+        let Due::Call = self.due else { unreachable!() };
+        match self.instr {
+            Instr::New(d, _) | Instr::Raw(d, _) | Instr::Mix(d, _, _) => d,
+            _ => 0,
         }
     }
 

@@ -32,8 +32,18 @@ impl State {
     }
 
     /// `snap`: if no checkpoint can be begun, it has no effect on the words.
-    #[inline(never)]
+    #[inline(always)]
     pub fn snap(&mut self) -> Stepped
+        requires at { self.old.stage ≡ Stage.Looks }
+        requires number { self.old.number ≤ LAST_WORKER }
+        ensures state { self.new ≡ uncounted (snaps self.old) }
+        ensures tells { (task : Task) → result ≡ stepped_by self.old.number (told_action self.old task Snaps) }
+    {
+        self.snap_apart()
+    }
+
+    #[inline(never)]
+    fn snap_apart(&mut self) -> Stepped
         requires at { self.old.stage ≡ Stage.Looks }
         requires number { self.old.number ≤ LAST_WORKER }
         ensures state { self.new ≡ uncounted (snaps self.old) }

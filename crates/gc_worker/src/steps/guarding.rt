@@ -7,8 +7,8 @@ ghost use Rattle.page_saves.specs.Guard.{begun};
 ghost use Rattle.gc_worker.specs.declared.stage.Stage.TheVariants.{Accesses, Guards, Places};
 ghost use Rattle.gc_worker.specs.Workers.Fits.{FitsStage, Takes};
 ghost use Rattle.gc_worker.specs.Workers.Held.{at_stage};
-ghost use Rattle.gc_worker.specs.Steps.Stepped.{IsGuarding, IsSound, uncounted};
-ghost use Rattle.gc_worker.specs.Steps.Turned.{guards_access, guards_place, turned, writes};
+ghost use Rattle.gc_worker.specs.Steps.Stepped.{IsAtAccess, IsGuarding, IsPlacing, IsSound, uncounted};
+ghost use Rattle.gc_worker.specs.Steps.Turned.{guarded_at, guards_access, guards_place, turned, writes};
 
 use crate::access::Access;
 use crate::stage::Stage;
@@ -21,7 +21,7 @@ use page_saves::Guard;
 impl State {
     /// An access that writes a word next looks first whether the page is saved.
     #[inline(never)]
-    pub fn guard_access(&mut self, access: Access)
+    fn guard_access(&mut self, access: Access)
         requires at { self.old.stage ≡ Accesses access }
         requires fits { FitsStage self.old (guards_access self.old access) }
         requires progress { self.old.running ≢ 0 }
@@ -32,9 +32,23 @@ impl State {
         }
     }
 
+    /// The access at hand does so. It stands apart, so that it is copied only here, and not at each step of an access.
+    #[inline(never)]
+    pub fn guard_at_access(&mut self)
+        requires at { IsAtAccess self.old.stage }
+        requires fits { FitsStage self.old (guarded_at self.old self.old.stage) }
+        requires progress { self.old.running ≢ 0 }
+        ensures { self.new ≡ at_stage self.old (guarded_at self.old self.old.stage) }
+    {
+        let Stage::Accesses(access) = self.stage else {
+            unreachable!()
+        };
+        self.guard_access(access);
+    }
+
     /// An allocation that writes a word of its record next does so too.
     #[inline(never)]
-    pub fn guard_place(&mut self, place: Place)
+    fn guard_place(&mut self, place: Place)
         requires at { self.old.stage ≡ Places place }
         requires fits { FitsStage self.old (guards_place self.old place) }
         requires progress { self.old.running ≢ 0 }
@@ -43,6 +57,21 @@ impl State {
         if let Some(page) = place.page_written() {
             self.stage = self.guarding(page, Write::OfPlace(place));
         }
+    }
+
+    /// The allocation at hand does so.
+    #[inline(never)]
+    pub fn guard_at_place(&mut self)
+        requires at { IsPlacing self.old.stage }
+        requires fits { FitsStage self.old (guarded_at self.old self.old.stage) }
+        requires progress { self.old.running ≢ 0 }
+        ensures { self.new ≡ at_stage self.old (guarded_at self.old self.old.stage) }
+    {
+        let Stage::Places(place) = &self.stage else {
+            unreachable!()
+        };
+        let place = *place;
+        self.guard_place(place);
     }
 
     /// The look at this page, before this is written.

@@ -1,9 +1,10 @@
 //! A worker's next step, made on the words that all share: one function for each thing that it may be about to do. Looks, rounds,
-//! scans and copies are put into the loop that steps the workers; with all the others the compiler would put none there.
+//! scans and copies are put into the loop that steps the workers; with all the others the compiler would put none there. What
+//! tells something and isn't put there is called by a small function that is, so that the loop keeps no room for what it tells.
 
 ghost use Rattle.std.specs.Prelude.{◌≡◌};
 ghost use Rattle.gc_worker.specs.Steps.Made.{MayMake, step_made};
-ghost use Rattle.gc_worker.specs.Steps.Stepped.{IsAtAccess, IsAtGate, IsBeginningCheckpoint, IsCheckpointing, IsEvacuating, IsFlipping, IsForwarding, IsGuarding, IsOpening, IsPlacing, IsRecalling, IsAtScan, IsServing, IsSound, uncounted};
+ghost use Rattle.gc_worker.specs.Steps.Stepped.{IsAtAccess, IsAtGate, IsBeginningCheckpoint, IsCheckpointing, IsEvacuating, IsFlipping, IsForCheckpoints, IsForwarding, IsGuarding, IsOpening, IsPlacing, IsRecalling, IsAtScan, IsServing, IsSound, uncounted};
 
 use crate::stage::Stage;
 use crate::state::State;
@@ -49,19 +50,10 @@ impl State {
                 self.open_on(on);
                 Stepped::Moved
             }
-            Stage::Recalls(..) => {
-                self.recall_on(on);
-                Stepped::Moved
-            }
-            Stage::Guards(..) => {
-                self.guard_on(on);
-                Stepped::Moved
-            }
-            Stage::Checkpoints(..) => {
-                self.go_on_saving_on(on);
-                Stepped::Moved
-            }
-            Stage::BeginsCheckpoint(_) => self.begin_checkpoint_on(on),
+            Stage::Recalls(..)
+            | Stage::Guards(..)
+            | Stage::Checkpoints(..)
+            | Stage::BeginsCheckpoint(_) => self.save_on(on),
             Stage::Gone => Stepped::Idle,
         }
     }
@@ -94,8 +86,20 @@ impl State {
         self.pass(reply);
     }
 
-    #[inline(never)]
+    #[inline(always)]
     fn flip_on(&mut self, on: &mut PlainAtoms) -> Stepped
+        requires at { IsFlipping self.old.stage }
+        requires sound { IsSound self.old }
+        requires may { MayMake self.old on.old }
+        ensures state { self.new ≡ uncounted (step_made self.old on.old).held }
+        ensures words { on.new ≡ (step_made self.old on.old).words }
+        ensures tells { result ≡ (step_made self.old on.old).told }
+    {
+        self.flip_on_apart(on)
+    }
+
+    #[inline(never)]
+    fn flip_on_apart(&mut self, on: &mut PlainAtoms) -> Stepped
         requires at { IsFlipping self.old.stage }
         requires sound { IsSound self.old }
         requires may { MayMake self.old on.old }
@@ -125,8 +129,20 @@ impl State {
         self.forward(reply);
     }
 
-    #[inline(never)]
+    #[inline(always)]
     fn access_on(&mut self, on: &mut PlainAtoms) -> Stepped
+        requires at { IsAtAccess self.old.stage }
+        requires sound { IsSound self.old }
+        requires may { MayMake self.old on.old }
+        ensures state { self.new ≡ uncounted (step_made self.old on.old).held }
+        ensures words { on.new ≡ (step_made self.old on.old).words }
+        ensures tells { result ≡ (step_made self.old on.old).told }
+    {
+        self.access_on_apart(on)
+    }
+
+    #[inline(never)]
+    fn access_on_apart(&mut self, on: &mut PlainAtoms) -> Stepped
         requires at { IsAtAccess self.old.stage }
         requires sound { IsSound self.old }
         requires may { MayMake self.old on.old }
@@ -141,8 +157,20 @@ impl State {
         self.access(reply)
     }
 
-    #[inline(never)]
+    #[inline(always)]
     fn place_on(&mut self, on: &mut PlainAtoms) -> Stepped
+        requires at { IsPlacing self.old.stage }
+        requires sound { IsSound self.old }
+        requires may { MayMake self.old on.old }
+        ensures state { self.new ≡ uncounted (step_made self.old on.old).held }
+        ensures words { on.new ≡ (step_made self.old on.old).words }
+        ensures tells { result ≡ (step_made self.old on.old).told }
+    {
+        self.place_on_apart(on)
+    }
+
+    #[inline(never)]
+    fn place_on_apart(&mut self, on: &mut PlainAtoms) -> Stepped
         requires at { IsPlacing self.old.stage }
         requires sound { IsSound self.old }
         requires may { MayMake self.old on.old }
@@ -215,6 +243,46 @@ impl State {
         };
         let reply = on.act(open.want());
         self.open(reply);
+    }
+
+    /// A step for checkpoints.
+    #[inline(always)]
+    fn save_on(&mut self, on: &mut PlainAtoms) -> Stepped
+        requires at { IsForCheckpoints self.old.stage }
+        requires sound { IsSound self.old }
+        requires may { MayMake self.old on.old }
+        ensures state { self.new ≡ uncounted (step_made self.old on.old).held }
+        ensures words { on.new ≡ (step_made self.old on.old).words }
+        ensures tells { result ≡ (step_made self.old on.old).told }
+    {
+        self.save_on_apart(on)
+    }
+
+    #[inline(never)]
+    fn save_on_apart(&mut self, on: &mut PlainAtoms) -> Stepped
+        requires at { IsForCheckpoints self.old.stage }
+        requires sound { IsSound self.old }
+        requires may { MayMake self.old on.old }
+        ensures state { self.new ≡ uncounted (step_made self.old on.old).held }
+        ensures words { on.new ≡ (step_made self.old on.old).words }
+        ensures tells { result ≡ (step_made self.old on.old).told }
+    {
+        match self.stage {
+            Stage::Recalls(..) => {
+                self.recall_on(on);
+                Stepped::Moved
+            }
+            Stage::Guards(..) => {
+                self.guard_on(on);
+                Stepped::Moved
+            }
+            Stage::Checkpoints(..) => {
+                self.go_on_saving_on(on);
+                Stepped::Moved
+            }
+            Stage::BeginsCheckpoint(_) => self.begin_checkpoint_on(on),
+            _ => unreachable!(),
+        }
     }
 
     #[inline(never)]

@@ -1,14 +1,12 @@
 //! Accesses, and the duty: rounds, scans, copies and openings of pages.
 
-ghost use Rattle.std.specs.Prelude.{◌≡◌, ◌≤◌};
-ghost use Rattle.space_map.specs.declared.spaces.TheConstants.{LAST_WORKER};
+ghost use Rattle.std.specs.Prelude.{◌≡◌, ◌≤◌, true};
 ghost use Rattle.space_map.specs.Spaces.{board_page};
 ghost use Rattle.gc_worker.specs.declared.access.access_stage.AccessStage.{AccessStage};
 ghost use Rattle.gc_worker.specs.Workers.Fits.{FitsStage, IsAccessing, Takes};
-ghost use Rattle.gc_worker.specs.Steps.Stepped.{IsAtAccess, IsEvacuating, IsOpening, IsAtScan, IsServing, IsSound, back_at, served_in, stepped_by, uncounted};
-ghost use Rattle.gc_worker.specs.Steps.Turned.{accessed_by, back_from, goes_back, scans, told, told_access, traced_by, turned};
+ghost use Rattle.gc_worker.specs.Steps.Stepped.{IsAtAccess, IsEvacuating, IsOpening, IsAtScan, IsServing, IsSound, MayBeginAnew, back_at, served_in, stepped_by, uncounted};
+ghost use Rattle.gc_worker.specs.Steps.Turned.{accessed_at, back_from, goes_back, scans, told, told_access, traced_by, turned};
 
-use crate::access::Access;
 use crate::access::accessed::Accessed;
 use crate::stage::Stage;
 use crate::stage::back::Back;
@@ -38,31 +36,27 @@ impl State {
         match access.take(reply) {
             Turn::More => {
                 if self.running != 0 {
-                    let access = *access;
-                    self.guard_access(access);
+                    self.guard_at_access();
                 }
                 Stepped::Moved
             }
-            Turn::Finished(accessed) => {
-                let access = *access;
-                self.has_accessed(access, accessed)
-            }
+            Turn::Finished(accessed) => self.has_accessed(accessed),
         }
     }
 
     /// What an access comes to. It stands apart, also where it is inlined, so that the room of the stages that it may begin is
     /// cleared only here, and not at each step of an access.
     #[inline(always)]
-    fn has_accessed(&mut self, access: Access, accessed: Accessed) -> Stepped
+    fn has_accessed(&mut self, accessed: Accessed) -> Stepped
+        requires at { IsAtAccess self.old.stage }
         requires calls { (stage : AccessStage) × IsAccessing self.old.account self.old.registers self.old.task stage }
-        requires fits { FitsStage (accessed_by self.old access accessed) (accessed_by self.old access accessed).stage }
-        ensures state { self.new ≡ uncounted (accessed_by self.old access accessed) }
+        requires fits { FitsStage (accessed_at self.old self.old.stage accessed) (accessed_at self.old self.old.stage accessed).stage }
+        ensures state { self.new ≡ uncounted (accessed_at self.old self.old.stage accessed) }
         ensures tells { result ≡ stepped_by self.old.number (told_access self.old.task (Turn.Finished accessed)) }
     {
         match accessed {
             Accessed::Faults(page) => {
-                let duty = Duty::new(self.spaces, Some(page), self.epoch, self.number);
-                self.stage = Stage::Serves(duty, Back::ToAccess(access));
+                self.serve_for(page);
                 Stepped::Moved
             }
             Accessed::Brings(into, word) => {
@@ -75,6 +69,20 @@ impl State {
             }
             Accessed::Fails(why) => self.end_with(why),
         }
+    }
+
+    /// A round is made for the page at which the access failed.
+    #[inline(never)]
+    fn serve_for(&mut self, page: u32)
+        requires at { IsAtAccess self.old.stage }
+        requires fits { FitsStage (accessed_at self.old self.old.stage (Accessed.Faults page)) (accessed_at self.old self.old.stage (Accessed.Faults page)).stage }
+        ensures { self.new ≡ uncounted (accessed_at self.old self.old.stage (Accessed.Faults page)) }
+    {
+        let Stage::Accesses(access) = self.stage else {
+            unreachable!()
+        };
+        let duty = Duty::new(self.spaces, Some(page), self.epoch, self.number);
+        self.stage = Stage::Serves(duty, Back::ToAccess(access));
     }
 
     /// A step of a round.
@@ -100,6 +108,7 @@ impl State {
     #[inline(always)]
     fn has_served(&mut self, epoch: u32, end: RoundEnd)
         requires at { IsServing self.old.stage }
+        requires round { MayBeginAnew self.old.layout self.old.mutators self.old.number self.old.stage }
         requires fits { FitsStage (served_in self.old epoch (back_at self.old.stage) end) (served_in self.old epoch (back_at self.old.stage) end).stage }
         ensures { self.new ≡ served_in self.old epoch (back_at self.old.stage) end }
     {
@@ -127,9 +136,27 @@ impl State {
         self.stage = Stage::Scans(scan, back);
     }
 
-    /// The epoch is traced: who begins a checkpoint goes on, and a scanner helps with one.
+    /// The epoch is traced.
+    #[tactic(auto, using(crate::proofs::Workers::Fitting::traced_without, crate::proofs::Workers::Fitting::fits_without))]
     fn has_found_traced(&mut self, epoch: u32)
         requires at { IsServing self.old.stage }
+        requires round { MayBeginAnew self.old.layout self.old.mutators self.old.number self.old.stage }
+        requires fits { let x = record self.old { epoch = epoch } in FitsStage (traced_by x (back_at self.old.stage)) (traced_by x (back_at self.old.stage)).stage }
+        ensures { self.new ≡ traced_by (record self.old { epoch = epoch }) (back_at self.old.stage) }
+    {
+        if self.spaces.has_checkpoints() {
+            self.go_on_traced(epoch);
+        } else {
+            self.go_back(epoch);
+        }
+    }
+
+    /// The epoch is traced, and there are checkpoints: who begins one goes on, and a scanner helps with one.
+    #[inline(never)]
+    fn go_on_traced(&mut self, epoch: u32)
+        requires room { self.old.layout.checkpoints ≡ true }
+        requires at { IsServing self.old.stage }
+        requires round { MayBeginAnew self.old.layout self.old.mutators self.old.number self.old.stage }
         requires fits { let x = record self.old { epoch = epoch } in FitsStage (traced_by x (back_at self.old.stage)) (traced_by x (back_at self.old.stage)).stage }
         ensures { self.new ≡ traced_by (record self.old { epoch = epoch }) (back_at self.old.stage) }
     {
@@ -141,11 +168,11 @@ impl State {
                 self.epoch = epoch;
                 self.checkpoint(Goal::ForSnap);
             }
-            Back::ToScanner if self.spaces.has_checkpoints() => {
+            Back::ToScanner => {
                 self.epoch = epoch;
                 self.checkpoint(Goal::ForScanner);
             }
-            Back::ToAccess(_) | Back::ToPlace | Back::ToScanner => self.go_back(epoch),
+            Back::ToAccess(_) | Back::ToPlace => self.go_back(epoch),
         }
     }
 
@@ -155,6 +182,7 @@ impl State {
     #[tactic(auto, using(crate::proofs::Workers::Fitting::fits_before))]
     fn go_back(&mut self, epoch: u32)
         requires at { IsServing self.old.stage }
+        requires round { MayBeginAnew self.old.layout self.old.mutators self.old.number self.old.stage }
         requires fits { FitsStage (back_from (record self.old { epoch = epoch }) (back_at self.old.stage)) (goes_back (record self.old { epoch = epoch }) (back_at self.old.stage)) }
         ensures { self.new ≡ back_from (record self.old { epoch = epoch }) (back_at self.old.stage) }
     {
@@ -170,18 +198,18 @@ impl State {
         }
     }
 
-    /// A scanner's next round begins in the place of the one before.
+    /// A scanner's next round begins in the place of the one before: it writes only what differs.
+    #[tactic(auto, using(crate::proofs::Workers::BeginningAnew::goes_anew))]
     fn begin_next_round(&mut self)
         requires at { IsServing self.old.stage }
         requires back { back_at self.old.stage ≡ Back.ToScanner }
-        requires few { self.old.number ≤ LAST_WORKER }
+        requires round { MayBeginAnew self.old.layout self.old.mutators self.old.number self.old.stage }
         ensures { self.new ≡ back_from self.old Back.ToScanner }
     {
-        let round = Duty::scanner(self.spaces, self.number, self.mutators);
         let Stage::Serves(duty, _) = &mut self.stage else {
             unreachable!()
         };
-        *duty = round;
+        duty.begin_anew();
     }
 
     /// The worker goes on where it was before the round.

@@ -8,7 +8,7 @@ ghost use Rattle.gc_worker.specs.declared.task.Task.TheVariants.{Calls, Stops};
 ghost use Rattle.gc_worker.specs.Laws.Between.{fresh, fresh_mutator, fresh_scanner, with_task};
 ghost use Rattle.gc_worker.specs.Workers.Fits.{Takes};
 ghost use Rattle.gc_worker.specs.Workers.Held.{at_stage};
-ghost use Rattle.gc_worker.specs.Steps.Stepped.{HasRoomToPrint, IsSound, stepped_by, uncounted};
+ghost use Rattle.gc_worker.specs.Steps.Stepped.{HasRoomToPrint, IsForCheckpoints, IsSound, stepped_by, uncounted};
 ghost use Rattle.gc_worker.specs.Steps.Turned.{told, turned};
 ghost use Rattle.gc_worker.specs.Steps.Wanted.{wanted};
 
@@ -159,6 +159,37 @@ impl State {
                 self.open(reply);
                 Stepped::Moved
             }
+            Stage::Recalls(..)
+            | Stage::Guards(..)
+            | Stage::Checkpoints(..)
+            | Stage::BeginsCheckpoint(_) => self.save(reply),
+            Stage::Gone => unreachable!(),
+        }
+    }
+
+    /// A step for checkpoints.
+    #[inline(always)]
+    fn save(&mut self, reply: Reply) -> Stepped
+        requires at { IsForCheckpoints self.old.stage }
+        requires sound { IsSound self.old }
+        requires takes { Takes self.old reply }
+        requires fits { IsSound (turned self.old reply) }
+        ensures state { self.new ≡ uncounted (turned self.old reply) }
+        ensures tells { result ≡ stepped_by self.old.number (told self.old reply) }
+    {
+        self.save_apart(reply)
+    }
+
+    #[inline(never)]
+    fn save_apart(&mut self, reply: Reply) -> Stepped
+        requires at { IsForCheckpoints self.old.stage }
+        requires sound { IsSound self.old }
+        requires takes { Takes self.old reply }
+        requires fits { IsSound (turned self.old reply) }
+        ensures state { self.new ≡ uncounted (turned self.old reply) }
+        ensures tells { result ≡ stepped_by self.old.number (told self.old reply) }
+    {
+        match self.stage {
             Stage::Recalls(..) => {
                 self.recall(reply);
                 Stepped::Moved
@@ -172,7 +203,7 @@ impl State {
                 Stepped::Moved
             }
             Stage::BeginsCheckpoint(_) => self.begin_checkpoint(reply),
-            Stage::Gone => unreachable!(),
+            _ => unreachable!(),
         }
     }
 }

@@ -3,15 +3,16 @@ use Rattle.std.proofs.Common.{◌≡◌, ℕ, zero, suc, ◌+◌, ◌*◌, ◌/�
 use Rattle.std.proofs.Math.Nat.{div-lt_iff_lt-mul}
 use Rattle.mutator_asm.specs.declared.instr.Instr.{Instr}
 use Rattle.gc_worker.specs.Plain.Marks.{mark_of}
-use Rattle.gc_core.specs.Core.{CoreState, opening_core}
+use Rattle.space_map.specs.Spaces.{Layout}
+use Rattle.gc_core.specs.Core.{CoreState, layout_by, opening_core}
 use Rattle.gc_core.specs.Event.{core_after, event_of}
 use Rattle.gc_core.specs.Law.{IsLawful}
 use Rattle.gc_core.specs.Run.{Ran, after_event, all_ended, run_from}
 use Rattle.gc_core.proofs.Events.Opening.{limit_fits}
 use Rattle.gc_core.proofs.Events.Lawful.{lawful_after, lawful_opening}
-use Rattle.lone_mutator.specs.Bound.{most_steps}
+use Rattle.lone_mutator.specs.Bound.{most_steps_of}
 use Rattle.lone_mutator.specs.Runs.{KeepsPace, LoneMutatorsGoOn, LoneRunsEnd, executed_by, has_end}
-use Rattle.lone_mutator.proofs.Runs.MostSteps.{costs_lt_most}
+use Rattle.lone_mutator.proofs.Runs.MostSteps.{costs_lt_most, most_le_most_of}
 
 -- ---- the last core
 
@@ -41,9 +42,9 @@ too_few most turns steps executed some many within few =
     let below : steps < (turns + 1) * most = (div-lt_iff_lt-mul some).0 (omega (arith, within, few)) in
     omega (arith, below, many)
 
-by_pace : (limit turns steps : ℕ) (last : CoreState) → 0 < most_steps limit → (turns + 1) * most_steps limit ≤ steps → executed_by last 0 ≤ turns → KeepsPace limit steps last → has_end last 0 ≡ true
-by_pace limit turns steps last some many within (inl ended) = ended
-by_pace limit turns steps last some many within (inr few) = absurd (too_few (most_steps limit) turns steps (executed_by last 0) some many within few)
+by_pace : (l : Layout) (turns steps : ℕ) (last : CoreState) → 0 < most_steps_of l → (turns + 1) * most_steps_of l ≤ steps → executed_by last 0 ≤ turns → KeepsPace l steps last → has_end last 0 ≡ true
+by_pace l turns steps last some many within (inl ended) = ended
+by_pace l turns steps last some many within (inr few) = absurd (too_few (most_steps_of l) turns steps (executed_by last 0) some many within few)
 
 pub lone_runs_end : LoneMutatorsGoOn → LoneRunsEnd
 lone_runs_end go_on section items config schedule steps program size turns none alone many =
@@ -55,6 +56,7 @@ lone_runs_end go_on section items config schedule steps program size turns none 
     let is = steady.sections in
     let own = steady.on_task 0 (omega (arith, one, is)) in
     let bound = costs_lt_most config.limit (limit_fits config size).0 in
+    let most = most_le_most_of (layout_by config) in
     let within = own.within in
     let same = kept.turns in
-    by_pace config.limit config.turns steps last (omega (arith, bound)) many (omega (arith, within, same)) (go_on section items config schedule steps program size turns none alone)
+    by_pace (layout_by config) config.turns steps last (omega (arith, bound, most)) many (omega (arith, within, same)) (go_on section items config schedule steps program size turns none alone)

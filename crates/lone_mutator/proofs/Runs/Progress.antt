@@ -9,15 +9,16 @@ use Rattle.atom_store.specs.Step.{words_after, reply_of}
 use Rattle.mutator_asm.specs.declared.instr.Instr.{Instr}
 use Rattle.mutator_asm.specs.declared.item.Item.{Item}
 use Rattle.mutator_asm.specs.Program.{IsWellFormed}
-use Rattle.space_map.specs.Spaces.{without_checkpoints}
+use Rattle.space_map.specs.Spaces.{Layout}
 use Rattle.gc_worker.specs.declared.config.Config.{Config}
+use Rattle.gc_worker.specs.declared.config.TheConstants.{MOST_TURNS}
 use Rattle.gc_worker.specs.declared.stage.Stage.{Stage}
 use Rattle.gc_worker.specs.declared.stage.Stage.TheVariants.{Looks, Gone}
 use Rattle.gc_worker.specs.declared.task.Task.{Task}
 use Rattle.gc_worker.specs.Laws.Between.{fresh_workers, opening_heap, with_task, with_worker}
 use Rattle.gc_worker.specs.Workers.Fits.{Fits, IsGoneBy}
 use Rattle.gc_worker.specs.Workers.Held.{Held}
-use Rattle.gc_worker.specs.Laws.Step.{Heap, WorkersStand, held_at, moved, nobody}
+use Rattle.gc_worker.specs.Laws.Step.{Heap, WorkersStand, held_at, layout_of, moved, nobody}
 use Rattle.gc_worker.specs.Steps.Stepped.{awaits, awaits_at}
 use Rattle.gc_worker.specs.declared.calls.did.Did.TheVariants.{Done, Trap}
 use Rattle.gc_worker.specs.Steps.Turned.{Told, Silent, Answers, Marks, told, turned}
@@ -25,7 +26,7 @@ use Rattle.gc_worker.specs.Steps.Wanted.{wanted}
 use Rattle.gc_worker.proofs.Between.Beginning.{tasks_may_begin}
 use Rattle.gc_worker.proofs.Between.Readying.{readying_stands}
 use Rattle.gc_worker.proofs.Between.Wanting.{workers_want}
-use Rattle.gc_core.specs.Core.{CoreState, opening_core, has_sizes}
+use Rattle.gc_core.specs.Core.{CoreState, opening_core, has_sizes, layout_by}
 use Rattle.gc_core.specs.Event.{Event, event_of, core_after, ready, fetched_task}
 use Rattle.gc_core.specs.Law.{IsLawful}
 use Rattle.gc_core.specs.Run.{all_ended, run_from}
@@ -33,11 +34,12 @@ use Rattle.gc_core.proofs.Events.Opening.{limit_fits, sizes_fit}
 use Rattle.gc_core.proofs.Events.Tasks.{at_look}
 use Rattle.gc_core.proofs.Events.Readied.{readied_awaits, readied_rests}
 use Rattle.gc_core.proofs.Events.Lawful.{event_none, event_some, lawful_after, lawful_opening, may_be_given, workers_after}
-use Rattle.lone_mutator.specs.Bound.{most_steps}
+use Rattle.lone_mutator.specs.Bound.{most_steps_of}
 use Rattle.lone_mutator.specs.Law.{AfterStep}
 use Rattle.lone_mutator.specs.Lone.{IsLone, potential}
 use Rattle.lone_mutator.specs.Runs.{has_end, executed_by, KeepsPace, LoneMutatorsGoOn}
 use Rattle.lone_mutator.proofs.Runs.Tasks.{tasks_begin}
+use Rattle.lone_mutator.proofs.Runs.MostSteps.{costs_lt_most, most_le_most_of}
 use Rattle.lone_mutator.proofs.Runs.Opening.{heaps_open}
 use Rattle.lone_mutator.proofs.Steps.Law.{lone_steps_lower}
 
@@ -60,7 +62,7 @@ pub record CoreIsReady (s : CoreState) (p o : Plain) : Type 0 where
   pub lone : IsLone heap
   pub holds : held_at heap 0 ≡ ready s 0
   pub words : heap.words ≡ s.heap.words
-  pub pages : heap.pages ≡ s.heap.pages
+  pub layout : layout_of heap ≡ layout_of s.heap
   pub moves : (x : Held) (q : Step) → moved heap 0 x q ≡ moved s.heap 0 x q
   pub paid : potential heap ≡ potential s.heap
   pub counted : (ready s 0).account.executed ≡ executed_by s 0
@@ -95,7 +97,7 @@ module _ (s : CoreState) (l : IsLawful s) (lone : IsLone s.heap) where
         lone = begins.0;
         holds = get_or-set_same s.heap.workers 0 given nobody below ∙ sym is;
         words = refl;
-        pages = refl;
+        layout = refl;
         moves = λ y q. ap (λ (ks : List Held). record s.heap { words = words_after q s.heap.words; workers = ks }) (set-set s.heap.workers 0 given (turned y (reply_of q s.heap.words)));
         paid = begins.1;
         counted = ap (λ (z : Held). z.account.executed) is;
@@ -109,7 +111,7 @@ module _ (s : CoreState) (l : IsLawful s) (lone : IsLone s.heap) where
         lone = lone;
         holds = sym is;
         words = refl;
-        pages = refl;
+        layout = refl;
         moves = λ y q. refl;
         paid = refl;
         counted = ap (λ (z : Held). z.account.executed) is;
@@ -133,10 +135,21 @@ wants_some h p o stands lone none =
 
 -- ---- a step
 
+-- the most steps of an instruction
+abbrev most : CoreState → ℕ
+most s = most_steps_of (layout_of s.heap)
+
+-- what one more instruction pays, and what none does
+one_pays : (most left before executed : ℕ) → left < most → left + 1 + most * executed ≤ before + most * (executed + 1)
+one_pays most left before executed less = omega (arith, less)
+
+none_pays : (most left before executed : ℕ) → left < before → left + 1 + most * executed ≤ before + most * executed
+none_pays most left before executed less = omega (arith, less)
+
 -- The heap is lone after it, and what a step costs is paid by what was to be paid before or by an instruction that was executed; or
 -- the mutator has its end.
 data Went (s : CoreState) (h : Heap) : Type 0 where
-  GoesOn : IsLone h → potential h + 1 + most_steps s.heap.pages * executed_by s 0 ≤ potential s.heap + most_steps s.heap.pages * (held_at h 0).account.executed → Went s h
+  GoesOn : IsLone h → potential h + 1 + most s * executed_by s 0 ≤ potential s.heap + most s * (held_at h 0).account.executed → Went s h
   Stops : is_some (held_at h 0).account.end ≡ true → Went s h
 
 module _ (s : CoreState) (l : IsLawful s) (r : CoreIsReady s l.plain l.flip) where
@@ -145,11 +158,14 @@ module _ (s : CoreState) (l : IsLawful s) (r : CoreIsReady s l.plain l.flip) whe
 
   module _ (h : Heap) where
     silent : IsLone h × (potential h < potential r.heap) × ((held_at h 0).account.executed ≡ (held_at r.heap 0).account.executed) → Went s h
-    silent after = GoesOn after.0 (rw (after.2, was) (let less = after.1 in let paid = r.paid in omega (arith, less, paid)))
+    silent after = GoesOn after.0 (rw (after.2, was) (none_pays (most s) (potential h) (potential s.heap) (executed_by s 0) (rw r.paid at after.1)))
+
+    less : potential h < most_steps_of (layout_of r.heap) → potential h < most s
+    less = subst (λ (l : Layout). potential h < most_steps_of l) r.layout
 
     went_by : (t : Told) → AfterStep r.heap h t → Went s h
     went_by Silent after = silent after
-    went_by (Answers task Done) after = GoesOn after.0 (rw (after.2, was) (let less = rw r.pages at after.1 in omega (arith, less)))
+    went_by (Answers task Done) after = GoesOn after.0 (rw (after.2, was) (one_pays (most s) (potential h) (potential s.heap) (executed_by s 0) (less after.1)))
     went_by (Answers task (Trap end)) after = Stops (ap is_some after)
     went_by (Marks asked) after = silent after
 
@@ -169,7 +185,7 @@ adds_up n most most_then before after executed then last same one others = let r
 
 -- in so many steps from a core on
 abbrev Paces : (steps : ℕ) → (s last : CoreState) → Type 0
-Paces steps s last = (has_end last 0 ≡ true) ⊎ (steps + most_steps s.heap.pages * executed_by s 0 ≤ potential s.heap + most_steps s.heap.pages * executed_by last 0)
+Paces steps s last = (has_end last 0 ≡ true) ⊎ (steps + most s * executed_by s 0 ≤ potential s.heap + most s * executed_by last 0)
 
 module _ (schedule : ℕ → ℕ) (alone : (at : ℕ) → schedule at ≡ 0) where
   run_ends : (n at : ℕ) (s : CoreState) → all_ended s ≡ true → (run_from schedule at n s).last ≡ s
@@ -178,20 +194,20 @@ module _ (schedule : ℕ → ℕ) (alone : (at : ℕ) → schedule at ≡ 0) whe
   run_ends (suc n) at s ended = rw ended refl
 
   module _ (s : CoreState) (l : IsLawful s) (lone : IsLone s.heap) where
-    later_pages : (o : Option Step) → wanted (ready s 0) ≡ o → (event_of s 0).after.pages ≡ s.heap.pages
-    later_pages None e = ap (λ (v : Event). v.after.pages) (event_none s 0 e)
-    later_pages (Some q) e = ap (λ (v : Event). v.after.pages) (event_some s 0 q e)
+    later_layout : (o : Option Step) → wanted (ready s 0) ≡ o → layout_of (event_of s 0).after ≡ layout_of s.heap
+    later_layout None e = ap (λ (v : Event). layout_of v.after) (event_none s 0 e)
+    later_layout (Some q) e = ap (λ (v : Event). layout_of v.after) (event_some s 0 q e)
 
     later_mutators : (o : Option Step) → wanted (ready s 0) ≡ o → (event_of s 0).after.mutators ≡ s.heap.mutators
     later_mutators None e = ap (λ (v : Event). v.after.mutators) (event_none s 0 e)
     later_mutators (Some q) e = ap (λ (v : Event). v.after.mutators) (event_some s 0 q e)
 
     goes : (n : ℕ) (last : CoreState)
-        → potential (core_after s 0).heap + 1 + most_steps s.heap.pages * executed_by s 0 ≤ potential s.heap + most_steps s.heap.pages * executed_by (core_after s 0) 0
+        → potential (core_after s 0).heap + 1 + most s * executed_by s 0 ≤ potential s.heap + most s * executed_by (core_after s 0) 0
         → Paces n (core_after s 0) last → Paces (suc n) s last
     goes n last paid (inl ended) = inl ended
-    goes n last paid (inr rest) = inr (adds_up n (most_steps s.heap.pages) (most_steps (core_after s 0).heap.pages) (potential s.heap) (potential (core_after s 0).heap) (executed_by s 0)
-        (executed_by (core_after s 0) 0) (executed_by last 0) (ap most_steps (later_pages (wanted (ready s 0)) refl)) paid rest)
+    goes n last paid (inr rest) = inr (adds_up n (most s) (most (core_after s 0)) (potential s.heap) (potential (core_after s 0).heap) (executed_by s 0)
+        (executed_by (core_after s 0) 0) (executed_by last 0) (ap most_steps_of (later_layout (wanted (ready s 0)) refl)) paid rest)
 
     module _ (n at : ℕ) (rest : IsLone (core_after s 0).heap → Paces n (core_after s 0) (run_from schedule (at + 1) n (core_after s 0)).last) where
       by_step : Went s (core_after s 0).heap → Paces (suc n) s (run_from schedule (at + 1) n (core_after s 0)).last
@@ -215,33 +231,38 @@ module _ (schedule : ℕ → ℕ) (alone : (at : ℕ) → schedule at ≡ 0) whe
 
 -- ---- from the opening on
 
-pace : (most steps executed : ℕ) → 0 < most → steps < most + most * executed → steps / most ≤ executed
-pace most steps executed some few =
-    let below : steps / most < executed + 1 = (div-lt_iff_lt-mul some).1 (omega (arith, few)) in
+pace : (most steps executed paid : ℕ) → 0 < most → paid < most → steps ≤ paid + most * executed → steps / most ≤ executed
+pace most steps executed paid some less few =
+    let below : steps / most < executed + 1 = (div-lt_iff_lt-mul some).1 (omega (arith, less, few)) in
     omega (arith, below)
 
-first_executed : (n least : ℕ) → (held_at (opening_heap (without_checkpoints n) least 1 0) 0).account.executed ≡ 0
+first_executed : (l : Layout) (least : ℕ) → (held_at (opening_heap l least 1 0) 0).account.executed ≡ 0
 unfolding fresh_workers
-first_executed n least = refl
+first_executed l least = refl
 
 module _ (section : List Instr) (items : List Item) (config : Config) (program : IsWellFormed (section ∷ []) items) (size : IsTrue (has_sizes config))
-    (turns : config.turns ≤ 10000000) (none : config.scanners ≡ 0) where
+    (turns : config.turns ≤ MOST_TURNS) (none : config.scanners ≡ 0) where
   abbrev first : CoreState
   first = opening_core (section ∷ []) config
 
-  heap_is : first.heap ≡ opening_heap (without_checkpoints config.limit) config.pages 1 0
-  heap_is = ap (opening_heap (without_checkpoints config.limit) config.pages 1) none
+  abbrev l : Layout
+  l = layout_by config
 
-  begins : IsLone first.heap × (potential first.heap < most_steps config.limit)
-  begins = subst (λ (h : Heap). IsLone h × (potential h < most_steps config.limit)) (sym heap_is) (let fit = sizes_fit config size in heaps_open config.limit config.pages (limit_fits config size) fit.0 fit.1)
+  heap_is : first.heap ≡ opening_heap l config.pages 1 0
+  heap_is = ap (opening_heap l config.pages 1) none
 
-  keeps_pace : (steps : ℕ) (last : CoreState) → Paces steps first last → KeepsPace config.limit steps last
+  begins : IsLone first.heap × (potential first.heap < most_steps_of l)
+  begins = subst (λ (h : Heap). IsLone h × (potential h < most_steps_of l)) (sym heap_is) (let fit = sizes_fit config size in heaps_open l config.pages (limit_fits config size) fit.0 fit.1)
+
+  some : 0 < most_steps_of l
+  some = let bound = costs_lt_most config.limit (limit_fits config size).0 in let most = most_le_most_of l in omega (arith, bound, most)
+
+  keeps_pace : (steps : ℕ) (last : CoreState) → Paces steps first last → KeepsPace l steps last
   keeps_pace steps last (inl ended) = inl ended
   keeps_pace steps last (inr paid) =
-      let few = begins.1 in
-      let zero_first : executed_by first 0 ≡ 0 = ap (λ (h : Heap). (held_at h 0).account.executed) heap_is ∙ first_executed config.limit config.pages in
+      let zero_first : executed_by first 0 ≡ 0 = ap (λ (h : Heap). (held_at h 0).account.executed) heap_is ∙ first_executed l config.pages in
       let all = rw zero_first at paid in
-      inr (pace (most_steps config.limit) steps (executed_by last 0) (omega (arith, few)) (omega (arith, few, all)))
+      inr (pace (most_steps_of l) steps (executed_by last 0) (potential first.heap) some begins.1 (omega (arith, all)))
 
 pub lone_mutators_go_on : LoneMutatorsGoOn
 lone_mutators_go_on section items config schedule steps program size turns none alone =

@@ -3,6 +3,7 @@ pub mod Looks
 pub mod Ends
 pub mod Claims
 pub mod Going
+pub mod Traced
 pub mod Loads
 pub mod Winning
 pub mod Stages

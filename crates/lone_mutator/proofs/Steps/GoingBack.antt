@@ -21,18 +21,18 @@ same_back n size x y ToScanner begun epoch = refl
 pub runs : (back : Back) → BackStands back → is_running (post_back back) ≡ true
 runs (ToAccess a) stands = refl
 runs ToPlace stands = refl
-runs ToSnap stands = absurd stands
+runs ToSnap stands = refl
 runs ToScanner stands = absurd stands
 
 pub own_epoch : (x : Held) (epoch : ℕ) (back : Back) → BackStands back → IsEpochOf x back epoch → epoch ≡ x.epoch
 own_epoch x epoch (ToAccess a) stands of_epoch = of_epoch
 own_epoch x epoch ToPlace stands of_epoch = of_epoch
-own_epoch x epoch ToSnap stands of_epoch = absurd stands
+own_epoch x epoch ToSnap stands of_epoch = of_epoch
 own_epoch x epoch ToScanner stands of_epoch = absurd stands
 
 -- and its instruction has begun
 pub past_look : (back : Back) → BackStands back → IsPastBack back
 past_look (ToAccess a) stands = tt
 past_look ToPlace stands = tt
-past_look ToSnap stands = absurd stands
+past_look ToSnap stands = tt
 past_look ToScanner stands = absurd stands

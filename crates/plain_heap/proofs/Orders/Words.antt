@@ -141,7 +141,7 @@ module _ (code : List (List Instr)) (turns : ℕ) (s : Plain) (m : ℕ) (k : Mut
   unfolding marked stepped
   executed = rw step.mutator (does_turn k.end step.does)
 
-state_after-append : (code : List (List Instr)) (turns : ℕ) (s : Plain) (front rest : List Mark) → state_after code turns s (front ++ rest) ≡ state_after code turns (state_after code turns s front) rest
+pub state_after-append : (code : List (List Instr)) (turns : ℕ) (s : Plain) (front rest : List Mark) → state_after code turns s (front ++ rest) ≡ state_after code turns (state_after code turns s front) rest
 state_after-append code turns s [] rest = refl
 state_after-append code turns s (mark ∷ front) rest = state_after-append code turns (marked code turns s mark) front rest
 

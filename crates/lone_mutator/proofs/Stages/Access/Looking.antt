@@ -37,8 +37,10 @@ use Rattle.gc_worker.proofs.Words.Eras.{board_is}
 use Rattle.gc_worker.proofs.Stages.Rounds.Words.{page_now, page_says}
 use Rattle.gc_worker.proofs.Stages.Access.Acting.{Held_value, led, names}
 use Rattle.gc_worker.proofs.Stages.Access.Going.{own, at, present, knew_access}
+use Rattle.lone_mutator.specs.Bound.{guard_cost}
 use Rattle.lone_mutator.specs.Law.{IsAlone, StepsLower}
 use Rattle.lone_mutator.specs.Lone.{AccessStands, IsLook}
+use Rattle.lone_mutator.specs.Potential.{access_left}
 use Rattle.lone_mutator.proofs.Epochs.Pages.{opened}
 use Rattle.lone_mutator.proofs.Steps.Owed.{loads, wants}
 use Rattle.lone_mutator.proofs.Epochs.Traced.{records_are_open}
@@ -69,7 +71,7 @@ module _ (c : Configuration) (p : Plain) (s : Stands c p) (y : Held) where
 
   module _ (stage : AccessStage) (a : IsAlone c (at c p s 0 y stage)) (look : IsLook stage) (next : AccessStage) (page : ℕ) (asks : access.wanted_at y.layout stage ≡ page_step y.layout page)
       (comes : (word : ℕ) → answered (own c p s 0 y stage) (Value word) ≡ looked page y.epoch word next) (within : page ≤ 2 * c.pages)
-      (traced_open : IsTracedNow → (table c).page page ≡ Open (table c).gate.epoch) (stands : AccessStands (table c) y.layout next) (fewer : left_at next < left_at stage) where
+      (traced_open : IsTracedNow → (table c).page page ≡ Open (table c).gate.epoch) (stands : AccessStands (table c) y.layout next) (fewer : left_at next + guard_cost < access_left (own c p s 0 y stage)) where
     abbrev says : PageWord
     says = (table c).page page
 
@@ -91,7 +93,7 @@ module _ (c : Configuration) (p : Plain) (s : Stands c p) (y : Held) where
             began = λ past. a.remembers.began tt;
             quiet = a.remembers.quiet;
             stands = (
-              record { untraced = untraced; found = λ wanted is age. (let same : page ≡ wanted = cc in closed (subst (λ (q : ℕ). (table c).page q ≡ Open (table c).gate.epoch) (sym same) (open_of_epoch wanted age))) },
+              record { untraced = inr untraced; found = λ wanted is age. (let same : page ≡ wanted = cc in closed (subst (λ (q : ℕ). (table c).page q ≡ Open (table c).gate.epoch) (sym same) (open_of_epoch wanted age))) },
               look,
             );
           };

@@ -1,5 +1,5 @@
 -- What an access of a lone mutator comes to, or where it goes on.
-use Rattle.std.proofs.Common.{ℕ, ◌<◌, ◌==◌, Bool, true, false, cond, Option, Result, Ok, Err, sym, subst, arith}
+use Rattle.std.proofs.Common.{◌≡◌, ℕ, ◌+◌, ◌<◌, ◌≤◌, ◌==◌, Bool, true, false, cond, Option, None, Some, Result, Ok, Err, sym, ap, subst, arith}
 use Rattle.plain_state.specs.declared.end.End.{End}
 use Rattle.plain_state.specs.State.{Plain}
 use Rattle.plain_state.specs.declared.value.Value.{Value}
@@ -20,9 +20,15 @@ use Rattle.gc_worker.specs.Steps.Access.{Answered, GoesTo, Comes, field_at, goes
 use Rattle.gc_worker.specs.Workers.Held.{Held, at_stage}
 use Rattle.gc_worker.specs.Steps.Turned.{ended, loads, told_access, told_effect, told_end, turned_access, went_on}
 use Rattle.gc_worker.proofs.Stages.Access.Going.{own, at}
-use Rattle.lone_mutator.specs.Law.{IsAlone, Lowers, LowersWhereTold}
+use Rattle.lone_mutator.specs.Bound.{guard_cost}
+use Rattle.lone_mutator.specs.Law.{IsAlone, Lowers, LowersWhereTold, saves}
 use Rattle.lone_mutator.specs.Lone.{AccessStands, NobodyElseAnnounces}
-use Rattle.lone_mutator.proofs.Steps.NoCheckpoints.{none_runs, unguarded}
+use Rattle.lone_mutator.specs.Potential.{access_left, look_left}
+use Rattle.lone_mutator.proofs.Steps.GoingOn.{goes_writing}
+
+look_left-le : (written : Option ℕ) → look_left written ≤ guard_cost
+look_left-le None = omega arith
+look_left-le (Some page) = omega arith
 
 module _ (c : Configuration) (p : Plain) (s : Stands c p) (y : Held) (stage : AccessStage) (a : IsAlone c (at c p s 0 y stage)) where
   abbrev x : Held
@@ -30,26 +36,31 @@ module _ (c : Configuration) (p : Plain) (s : Stands c p) (y : Held) (stage : Ac
 
   -- what the step then owes, where the table then is this
   abbrev pub Owed : Table → Answered → Type 0
-  Owed after z = LowersWhereTold c.pages (table c) after x (turned_access x (goes_by (own c p s 0 y stage) z) (turn_by z)) (told_access y.task (turn_by z))
+  Owed after z = LowersWhereTold c.pages (saves c) (table c) after x (turned_access x (goes_by (own c p s 0 y stage) z) (turn_by z)) (told_access y.task (turn_by z))
 
   pub fails : (after : Table) (why : End) → Owed after (Comes (Fails why))
-  fails after why = subst (λ (task : Option Task). LowersWhereTold c.pages (table c) after x (ended x why) (told_end task why)) (sym a.is.fits.task.executes.task_is) tt
+  fails after why = subst (λ (task : Option Task). LowersWhereTold c.pages (saves c) (table c) after x (ended x why) (told_end task why)) (sym a.is.fits.task.executes.task_is) tt
 
   pub brings : (after : Table) (into word : ℕ) → NobodyElseAnnounces after.announced false → Owed after (Comes (Brings into word))
-  brings after into word quiet = subst (λ (task : Option Task). LowersWhereTold c.pages (table c) after x (loads x into word) (told_effect task)) (sym a.is.fits.task.executes.task_is) quiet
+  brings after into word quiet = subst (λ (task : Option Task). LowersWhereTold c.pages (saves c) (table c) after x (loads x into word) (told_effect task)) (sym a.is.fits.task.executes.task_is) quiet
 
   pub stored : (after : Table) → NobodyElseAnnounces after.announced false → Owed after (Comes Stored)
-  stored after quiet = subst (λ (task : Option Task). LowersWhereTold c.pages (table c) after x (went_on x) (told_effect task)) (sym a.is.fits.task.executes.task_is) quiet
+  stored after quiet = subst (λ (task : Option Task). LowersWhereTold c.pages (saves c) (table c) after x (went_on x) (told_effect task)) (sym a.is.fits.task.executes.task_is) quiet
 
-  pub goes : (next : AccessStage) → AccessStands (table c) y.layout next → left_at next < left_at stage → Owed (table c) (GoesTo next)
+  -- it goes on; where it writes next, it may look at the page first
+  pub goes : (next : AccessStage) → AccessStands (table c) y.layout next → left_at next + guard_cost < access_left (own c p s 0 y stage) → Owed (table c) (GoesTo next)
   goes next stands fewer =
       let then = own c p s 0 y next in
-      subst (λ (z : Stage). Lowers c.pages (table c) (table c) x (at_stage x z)) (sym (unguarded x (OfAccess then) (writes_on y.layout next) (Accesses then) (none_runs c x a)))
-      (record { remembers = record { began = a.remembers.began; quiet = a.remembers.quiet; stands = stands }; falls = omega (arith, fewer) })
+      let look = look_left-le (writes_on y.layout next) in
+      goes_writing (λ (z : Stage). Lowers c.pages (saves c) (table c) (table c) x (at_stage x z)) x (OfAccess then) (writes_on y.layout next) (Accesses then)
+      (record { remembers = record { began = a.remembers.began; quiet = a.remembers.quiet; stands = stands }; falls = omega (arith, fewer, look) })
+      (λ on is.
+      let none : look_left (writes_on y.layout next) ≡ 0 = ap look_left is in
+      record { remembers = record { began = a.remembers.began; quiet = a.remembers.quiet; stands = (tt, stands) }; falls = omega (arith, fewer, none) })
 
   -- ---- a field, behind the word that was read last
 
-  module _ (f : FieldAccess) (behind : 3 < left_at stage) where
+  module _ (f : FieldAccess) (behind : 3 + guard_cost < access_left (own c p s 0 y stage)) where
     field_by : (usage : FieldUse) (b : Bool) → Owed (table c) (GoesTo (cond b (uses_field f usage) (LooksAtField f usage)))
     field_by (field_uses.Loads into) true = goes (LoadsField f into) tt (omega (arith, behind))
     field_by (field_uses.Stores new) true = goes (StoresField f new) tt (omega (arith, behind))

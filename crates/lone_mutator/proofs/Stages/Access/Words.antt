@@ -38,7 +38,7 @@ module _ (c : Configuration) (p : Plain) (s : Stands c p) (y : Held) where
       let inside = a.is.fits.stage.sound.stage in
       let n = a.is.fits.pages in
       wants c p s (at c p s 0 y (StoresField f new)) (Store (place_of c.pages (HeapWord (field_at f))) new) (ap (λ n. Some (Store (place_of n (HeapWord (field_at f))) new)) a.is.fits.pages)
-      (stores c p s (at c p s 0 y (StoresField f new)) (WordIs (field_at f) new) (omega (arith, inside, n))
+      (stores c p s (at c p s 0 y (StoresField f new)) (WordIs (field_at f) new) (omega (arith, inside, n)) tt
       (stored c p s y (StoresField f new) a (record (table c) { heap = put (table c).heap (field_at f) new }) a.remembers.quiet))
 
   module _ (f : FieldAccess) (e : FieldExchange) where
@@ -63,7 +63,7 @@ module _ (c : Configuration) (p : Plain) (s : Stands c p) (y : Held) where
         let inside = a.is.fits.stage.sound.stage.0 in
         let n = a.is.fits.pages in
         wants c p s (at c p s 0 y (ExchangesField f e old)) (Exchange (place_of c.pages (HeapWord (field_at f))) old e.new) (ap (λ n. Some (Exchange (place_of n (HeapWord (field_at f))) old e.new)) a.is.fits.pages)
-        (exchanges c p s (at c p s 0 y (ExchangesField f e old)) (WordIs (field_at f) e.new) old (omega (arith, inside, n)) (sym (heap_word c (field_at f)) ∙ a.remembers.stands)
+        (exchanges c p s (at c p s 0 y (ExchangesField f e old)) (WordIs (field_at f) e.new) old (omega (arith, inside, n)) tt (sym (heap_word c (field_at f)) ∙ a.remembers.stands)
         (brings c p s y (ExchangesField f e old) a (record (table c) { heap = put (table c).heap (field_at f) e.new }) e.into (number_word 1) a.remembers.quiet))
 
   -- ---- the board
@@ -83,7 +83,7 @@ module _ (c : Configuration) (p : Plain) (s : Stands c p) (y : Held) where
   pub stores_board : (word new : ℕ) → IsAlone c (at c p s 0 y (StoresBoard word new)) → StepsLower c (at c p s 0 y (StoresBoard word new))
   stores_board word new a =
       wants c p s (at c p s 0 y (StoresBoard word new)) (Store (place_of c.pages (HeapWord (addr word))) new) (ap (λ n. Some (Store (place_of n (HeapWord (addr word))) new)) a.is.fits.pages)
-      (stores c p s (at c p s 0 y (StoresBoard word new)) (WordIs (addr word) new) (board_in word y.layout.pages a.is.fits.stage.sound.stage a.is.fits.pages)
+      (stores c p s (at c p s 0 y (StoresBoard word new)) (WordIs (addr word) new) (board_in word y.layout.pages a.is.fits.stage.sound.stage a.is.fits.pages) tt
       (stored c p s y (StoresBoard word new) a (record (table c) { heap = put (table c).heap (addr word) new }) a.remembers.quiet))
 
   pub loads_for_swap : (b : BoardSwap) → IsAlone c (at c p s 0 y (LoadsForSwap b)) → StepsLower c (at c p s 0 y (LoadsForSwap b))
@@ -95,6 +95,6 @@ module _ (c : Configuration) (p : Plain) (s : Stands c p) (y : Held) where
   pub swaps_board : (b : BoardSwap) (old : ℕ) → IsAlone c (at c p s 0 y (SwapsBoard b old)) → StepsLower c (at c p s 0 y (SwapsBoard b old))
   swaps_board b old a =
       wants c p s (at c p s 0 y (SwapsBoard b old)) (Exchange (place_of c.pages (HeapWord (addr b.word))) old b.new) (ap (λ n. Some (Exchange (place_of n (HeapWord (addr b.word))) old b.new)) a.is.fits.pages)
-      (exchanges c p s (at c p s 0 y (SwapsBoard b old)) (WordIs (addr b.word) b.new) old (board_in b.word y.layout.pages a.is.fits.stage.sound.stage.0 a.is.fits.pages)
+      (exchanges c p s (at c p s 0 y (SwapsBoard b old)) (WordIs (addr b.word) b.new) old (board_in b.word y.layout.pages a.is.fits.stage.sound.stage.0 a.is.fits.pages) tt
       (sym (heap_word c (addr b.word)) ∙ a.remembers.stands)
       (brings c p s y (SwapsBoard b old) a (record (table c) { heap = put (table c).heap (addr b.word) b.new }) b.into old a.remembers.quiet))

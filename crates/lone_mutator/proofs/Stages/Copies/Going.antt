@@ -27,15 +27,17 @@ use Rattle.forwarding.specs.Taken.{by_area, by_first_word, copied, crossed, take
 use Rattle.heap_state.specs.Configuration.{Configuration, Stands, table}
 use Rattle.heap_state.specs.Memory.Entries.{WholeRow, whole_place_of, word_in_whole, Entry, EntryFits, AreaIs, CrossIs, WordIs, AnnounceIs, with_entry, row_of, word_of}
 use Rattle.heap_state.specs.Memory.Table.{Table, table_of, word_in}
+use Rattle.heap_state.specs.Saving.Words.{Saves, saves_of}
 use Rattle.heap_state.proofs.Puts.{put_at, put_other}
 use Rattle.gc_worker.proofs.Words.Areas.{area_says, area_word, is_space}
 use Rattle.gc_worker.proofs.Stages.Scan.Headers.{heap_word}
 use Rattle.lone_mutator.specs.Copies.{CopyStands, copy_left}
+use Rattle.lone_mutator.specs.Law.{saves}
 use Rattle.lone_mutator.specs.Lone.{is_announced, NobodyElseAnnounces}
 use Rattle.lone_mutator.specs.Potential.{left_in, due_in, size_in}
 use Rattle.lone_mutator.proofs.Stages.Copies.Lowering.{copied-le, crossed-le, copied-announced, crossed-announced, copied-stands, crossed-stands}
 use Rattle.lone_mutator.proofs.Stages.Copies.Reading.{IsFirstWord}
-use Rattle.lone_mutator.proofs.Steps.Rows.{HoldsBy, loads, stores, exchanges}
+use Rattle.lone_mutator.proofs.Steps.Rows.{HoldsBy, SaysNoSaves, loads, stores, exchanges}
 use Rattle.lone_mutator.proofs.Epochs.Cost.{left_reserved, due_untraced}
 
 -- The copy that was v becomes w: what it has read is so, nobody else announces a place, the epoch is the same, and there is less to pay.
@@ -73,10 +75,14 @@ module _ (c : Configuration) (p : Plain) (s : Stands c p) (u : Evacuation) where
   abbrev Goes : EvacStage → Table → Reply → Type 0
   Goes z after reply = CopyGoes c.pages (table c) after (at z) (taken (at z) reply)
 
+  -- and what is said of checkpoints stays
+  abbrev GoesSo : EvacStage → Table → Saves → Reply → Type 0
+  GoesSo z after then reply = Goes z after reply × (then ≡ saves c)
+
   module _ (z : EvacStage) (a : CopyIsAlone c (at z)) where
     -- a step of this copy
-    steps : (q : Step) → wanted (at z) ≡ Some q → HoldsBy c p s (Goes z) q → (r : Step) → wanted (at z) ≡ Some r → HoldsBy c p s (Goes z) r
-    steps q next holds r asked = subst (HoldsBy c p s (Goes z)) (same_Some q r (sym next ∙ asked)) holds
+    steps : (q : Step) → wanted (at z) ≡ Some q → HoldsBy c p s (GoesSo z) q → (r : Step) → wanted (at z) ≡ Some r → HoldsBy c p s (GoesSo z) r
+    steps q next holds r asked = subst (HoldsBy c p s (GoesSo z)) (same_Some q r (sym next ∙ asked)) holds
 
     -- nothing but the heap's words and the crossings changes, and the copy has less left
     plain : (after : Table) (next : EvacStage) (reply : Reply) → taken (at z) reply ≡ at next → after.gate ≡ t.gate → after.traced ≡ t.traced → size_in after ≡ size_in t
@@ -114,23 +120,23 @@ module _ (c : Configuration) (p : Plain) (s : Stands c p) (u : Evacuation) where
   any_place z a row = ap (λ m. whole_place_of m row) a.pages
 
   loads_it : (z : EvacStage) → CopyIsAlone c (at z) → (row : Row) → IsRow c.pages row → wanted (at z) ≡ Some (Load (place_of u.layout.pages row))
-      → Goes z t (Value (word_in c.pages c.words row)) → (r : Step) → wanted (at z) ≡ Some r → HoldsBy c p s (Goes z) r
-  loads_it z a row is next goes = steps z a (Load (place_of c.pages row)) (next ∙ ap (λ m. Some (Load m)) (row_place z a row)) (loads c p s (Goes z) row is goes)
+      → Goes z t (Value (word_in c.pages c.words row)) → (r : Step) → wanted (at z) ≡ Some r → HoldsBy c p s (GoesSo z) r
+  loads_it z a row is next goes = steps z a (Load (place_of c.pages row)) (next ∙ ap (λ m. Some (Load m)) (row_place z a row)) (loads c p s (GoesSo z) row is (goes, refl))
 
-  stores_it : (z : EvacStage) → CopyIsAlone c (at z) → (e : Entry) → EntryFits c.pages e → wanted (at z) ≡ Some (Store (whole_place_of u.layout.pages (row_of e)) (word_of e))
-      → Goes z (with_entry e t) Done → (r : Step) → wanted (at z) ≡ Some r → HoldsBy c p s (Goes z) r
-  stores_it z a e fits next goes =
-      steps z a (Store (whole_place_of c.pages (row_of e)) (word_of e)) (next ∙ ap (λ m. Some (Store m (word_of e))) (any_place z a (row_of e))) (stores c p s (Goes z) e fits goes)
+  stores_it : (z : EvacStage) → CopyIsAlone c (at z) → (e : Entry) → EntryFits c.pages e → SaysNoSaves e → wanted (at z) ≡ Some (Store (whole_place_of u.layout.pages (row_of e)) (word_of e))
+      → Goes z (with_entry e t) Done → (r : Step) → wanted (at z) ≡ Some r → HoldsBy c p s (GoesSo z) r
+  stores_it z a e fits none next goes =
+      steps z a (Store (whole_place_of c.pages (row_of e)) (word_of e)) (next ∙ ap (λ m. Some (Store m (word_of e))) (any_place z a (row_of e))) (stores c p s (GoesSo z) e fits none (goes, refl))
 
-  exchanges_it : (z : EvacStage) → CopyIsAlone c (at z) → (e : Entry) (old : ℕ) → EntryFits c.pages e → word_in_whole c.pages c.words (row_of e) ≡ old
+  exchanges_it : (z : EvacStage) → CopyIsAlone c (at z) → (e : Entry) (old : ℕ) → EntryFits c.pages e → SaysNoSaves e → word_in_whole c.pages c.words (row_of e) ≡ old
       → wanted (at z) ≡ Some (Exchange (whole_place_of u.layout.pages (row_of e)) old (word_of e)) → Goes z (with_entry e t) Won
-      → (r : Step) → wanted (at z) ≡ Some r → HoldsBy c p s (Goes z) r
-  exchanges_it z a e old fits same next goes =
+      → (r : Step) → wanted (at z) ≡ Some r → HoldsBy c p s (GoesSo z) r
+  exchanges_it z a e old fits none same next goes =
       steps z a (Exchange (whole_place_of c.pages (row_of e)) old (word_of e)) (next ∙ ap (λ m. Some (Exchange m old (word_of e))) (any_place z a (row_of e)))
-      (exchanges c p s (Goes z) e old fits same goes)
+      (exchanges c p s (GoesSo z) e old fits none same (goes, refl))
 
   abbrev Owes : EvacStage → Type 0
-  Owes z = CopyIsAlone c (at z) → (r : Step) → wanted (at z) ≡ Some r → HoldsBy c p s (Goes z) r
+  Owes z = CopyIsAlone c (at z) → (r : Step) → wanted (at z) ≡ Some r → HoldsBy c p s (GoesSo z) r
 
   loads_header : Owes LoadsHeader
   loads_header a = loads_it LoadsHeader a (HeapWord u.addr) (let l = a.sound.addr in let n = a.pages in omega (arith, l, n)) refl
@@ -138,7 +144,7 @@ module _ (c : Configuration) (p : Plain) (s : Stands c p) (u : Evacuation) where
 
   takes_header : (kept : KeptHeader) → Owes (TakesHeader kept)
   takes_header kept a = exchanges_it (TakesHeader kept) a (WordIs u.addr (busy_word kept.len u.worker)) kept.word (let l = a.sound.addr in let n = a.pages in omega (arith, l, n))
-      (sym read ∙ a.stands) refl
+      tt (sym read ∙ a.stands) refl
       (plain (TakesHeader kept) a (with_entry (WordIs u.addr (busy_word kept.len u.worker)) t) (LoadsArea kept) Won refl refl refl refl refl a.quiet tt (omega arith))
 
   -- ---- the area
@@ -154,7 +160,7 @@ module _ (c : Configuration) (p : Plain) (s : Stands c p) (u : Evacuation) where
       (plain (LoadsArea kept) a t (Announces kept area) (Value _) (ap (λ o. at (by_area kept o)) (area_says c p s space (is_space u.epoch))) refl refl refl refl a.quiet refl (omega arith))
 
   announces : (kept : KeptHeader) (read : AreaWord) → Owes (Announces kept read)
-  announces kept read a = stores_it (Announces kept read) a (AnnounceIs u.worker (front_of u.layout u.epoch read + 1)) a.sound.worker refl
+  announces kept read a = stores_it (Announces kept read) a (AnnounceIs u.worker (front_of u.layout u.epoch read + 1)) a.sound.worker tt refl
       (plain (Announces kept read) a (with_entry (AnnounceIs u.worker (front_of u.layout u.epoch read + 1)) t) (Reserves kept read) Done refl refl refl refl refl
       (λ k few others. put_other t.announced u.worker _ k (λ same. absurd (let e = others (same ∙ a.own) in cc)) ∙ a.quiet k few (λ _. refl)) a.stands (omega arith))
 
@@ -188,8 +194,8 @@ module _ (c : Configuration) (p : Plain) (s : Stands c p) (u : Evacuation) where
     area_stands : word_in c.pages c.words (Area space) ≡ encode_area read
     area_stands = sym (encode_area-area_in (word_in c.pages c.words (Area space))) ∙ (ap encode_area (sym (area_word c space)) ∙ ap encode_area a.stands)
 
-    pub reserves : (r : Step) → wanted (at (Reserves kept read)) ≡ Some r → HoldsBy c p s (Goes (Reserves kept read)) r
-    reserves = exchanges_it (Reserves kept read) a (AreaIs space past) (encode_area read) (is_space u.epoch, past_fits) area_stands refl (record {
+    pub reserves : (r : Step) → wanted (at (Reserves kept read)) ≡ Some r → HoldsBy c p s (GoesSo (Reserves kept read)) r
+    reserves = exchanges_it (Reserves kept read) a (AreaIs space past) (encode_area read) (is_space u.epoch, past_fits) tt area_stands refl (record {
       stands = tt;
       quiet = a.quiet;
       gate = refl;
@@ -205,18 +211,18 @@ module _ (c : Configuration) (p : Plain) (s : Stands c p) (u : Evacuation) where
   announced next is quiet = λ k few others. quiet k few (λ own. sym is ∙ others own)
 
   stores_header : (r : Reserved) → Owes (StoresHeader r)
-  stores_header r a = stores_it (StoresHeader r) a (WordIs r.to r.kept.word) (let f = a.sound.fits.inside in let n = a.pages in omega (arith, f, n)) refl
+  stores_header r a = stores_it (StoresHeader r) a (WordIs r.to r.kept.word) (let f = a.sound.fits.inside in let n = a.pages in omega (arith, f, n)) tt refl
       (plain (StoresHeader r) a (with_entry (WordIs r.to r.kept.word) t) (copied r 1) Done refl refl refl refl refl
       (announced (copied r 1) (copied-announced r 1) a.quiet) (copied-stands (with_entry (WordIs r.to r.kept.word) t) (at (copied r 1)) r 1) (let few = copied-le r 1 in omega (arith, few)))
 
   stores_word : (r : Reserved) (w : LoadedWord) → Owes (StoresWord r w)
-  stores_word r w a = stores_it (StoresWord r w) a (WordIs (r.to + w.number) w.word) (let f = a.sound.fits in let i = f.0.inside in let n = a.pages in omega (arith, f, i, n)) refl
+  stores_word r w a = stores_it (StoresWord r w) a (WordIs (r.to + w.number) w.word) (let f = a.sound.fits in let i = f.0.inside in let n = a.pages in omega (arith, f, i, n)) tt refl
       (plain (StoresWord r w) a (with_entry (WordIs (r.to + w.number) w.word) t) (copied r (w.number + 1)) Done refl refl refl refl refl
       (announced (copied r (w.number + 1)) (copied-announced r (w.number + 1)) a.quiet) (copied-stands (with_entry (WordIs (r.to + w.number) w.word) t) (at (copied r (w.number + 1))) r (w.number + 1))
       (let few = copied-le r (w.number + 1) in let f = a.sound.fits.2 in omega (arith, few, f)))
 
   stores_cross : (r : Reserved) (page : ℕ) → Owes (StoresCross r page)
-  stores_cross r page a = stores_it (StoresCross r page) a (CrossIs page r.to) (let f = a.sound.fits in let i = f.0.inside in let n = a.pages in omega (arith, f, i, n)) refl
+  stores_cross r page a = stores_it (StoresCross r page) a (CrossIs page r.to) (let f = a.sound.fits in let i = f.0.inside in let n = a.pages in omega (arith, f, i, n)) tt refl
       (plain (StoresCross r page) a (with_entry (CrossIs page r.to) t) (crossed r (page + 1)) Done refl refl refl refl refl
       (announced (crossed r (page + 1)) (crossed-announced r (page + 1)) a.quiet) (crossed-stands (with_entry (CrossIs page r.to) t) (at (crossed r (page + 1))) r (page + 1))
       (let few = crossed-le r (page + 1) in let f = a.sound.fits.2 in omega (arith, few, f)))
@@ -226,11 +232,11 @@ module _ (c : Configuration) (p : Plain) (s : Stands c p) (u : Evacuation) where
       (plain (LoadsWord r i) a t (StoresWord r (record { number = i; word = word_in c.pages c.words (HeapWord (u.addr + i)) })) (Value _) refl refl refl refl refl a.quiet tt (omega arith))
 
   stores_forward : (r : Reserved) → Owes (StoresForward r)
-  stores_forward r a = stores_it (StoresForward r) a (WordIs u.addr (forward_word r.kept.len r.to)) (let l = a.sound.addr in let n = a.pages in omega (arith, l, n)) refl
+  stores_forward r a = stores_it (StoresForward r) a (WordIs u.addr (forward_word r.kept.len r.to)) (let l = a.sound.addr in let n = a.pages in omega (arith, l, n)) tt refl
       (plain (StoresForward r) a (with_entry (WordIs u.addr (forward_word r.kept.len r.to)) t) (Clears r.to) Done refl refl refl refl refl a.quiet tt (omega arith))
 
   clears : (to : ℕ) → Owes (Clears to)
-  clears to a = stores_it (Clears to) a (AnnounceIs u.worker 0) a.sound.worker refl
+  clears to a = stores_it (Clears to) a (AnnounceIs u.worker 0) a.sound.worker tt refl
       (plain (Clears to) a (with_entry (AnnounceIs u.worker 0) t) (Ended to) Done refl refl refl refl refl
       (λ k few others. ⊎_elim
       (λ (own : k ≡ u.worker). put_at t.announced u.worker 0 k own)
@@ -255,7 +261,7 @@ module _ (c : Configuration) (p : Plain) (s : Stands c p) (u : Evacuation) where
 
 -- each step of it
 pub copy_goes : (c : Configuration) (p : Plain) (s : Stands c p) (v : Evacuation) (q : Step) → CopyIsAlone c v → wanted v ≡ Some q
-    → CopyGoes c.pages (table c) (table_of c.pages (words_after q c.words)) v (taken v (reply_of q c.words))
+    → CopyGoes c.pages (table c) (table_of c.pages (words_after q c.words)) v (taken v (reply_of q c.words)) × (saves_of c.pages (words_after q c.words) ≡ saves c)
 copy_goes c p s v q a asked = by_stage c p s v v.stage a q asked
 
 -- before a round what is due is paid as well

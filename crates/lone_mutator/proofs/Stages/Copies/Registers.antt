@@ -1,5 +1,5 @@
 -- A copy that a lone mutator makes for a register: five steps of each register that follows are paid by it.
-use Rattle.std.proofs.Common.{◌≡◌, ℕ, ◌+◌, ◌-◌, ◌<◌, true, Option, None, Some, refl, ap, ◌∙◌, arith}
+use Rattle.std.proofs.Common.{◌≡◌, ℕ, ◌+◌, ◌-◌, ◌<◌, true, Option, None, Some, refl, sym, ap, subst, ◌∙◌, arith}
 use Rattle.std.proofs.lemmas.Bool.{eqb-true}
 use Rattle.plain_state.specs.State.{Plain}
 use Rattle.atom_store.specs.Step.{words_after, reply_of}
@@ -10,6 +10,7 @@ use Rattle.forwarding.specs.Evacuation.{Evacuation}
 use Rattle.forwarding.specs.Taken.{stage_after, told}
 use Rattle.heap_state.specs.Configuration.{Configuration, Stands, table, era, memory, team}
 use Rattle.heap_state.specs.Memory.Table.{Table, table_of}
+use Rattle.heap_state.specs.Saving.Words.{Saves}
 use Rattle.heap_state.specs.Worker.{Quest, Register, is_late}
 use Rattle.gc_worker.specs.declared.stage.forwarding_register.ForwardingRegister.{ForwardingRegister}
 use Rattle.gc_worker.specs.declared.stage.Stage.TheVariants.{Forwards}
@@ -17,11 +18,12 @@ use Rattle.gc_worker.specs.Workers.Held.{Held, at_stage}
 use Rattle.gc_worker.specs.Workers.Knows.{copy_at, knows, quest_for}
 use Rattle.gc_worker.specs.Steps.Turned.{Pointed, first_pointer, forwards_it, turned_register, with_copy, with_evac}
 use Rattle.gc_worker.proofs.Words.Pointers.{FirstPointer, Nowhere, There, found}
-use Rattle.lone_mutator.specs.Law.{Lowers, IsAlone, StepsLower}
+use Rattle.lone_mutator.specs.Law.{Lowers, IsAlone, StepsLower, saves}
 use Rattle.lone_mutator.specs.Lone.{GoesOnPlacing}
 use Rattle.lone_mutator.specs.Potential.{due_in, growing_left, size_in}
 use Rattle.lone_mutator.specs.Copies.{copy_left}
 use Rattle.lone_mutator.proofs.Stages.Gate.Counts.{knowing}
+use Rattle.lone_mutator.proofs.Steps.Owed.{OwesAll, pays}
 use Rattle.lone_mutator.proofs.Stages.Copies.Going.{CopyGoes, CopyIsAlone, copy_goes, pays_due}
 use Rattle.lone_mutator.proofs.Stages.Copies.Reading.{IsFirstWord, reads_first}
 use Rattle.lone_mutator.proofs.Epochs.Pages.{untraced_behind}
@@ -80,7 +82,7 @@ module _ (c : Configuration) (p : Plain) (s : Stands c p) (y : Held) (w : Forwar
     growing : growing_left c.pages (size_in after) ≡ growing_left c.pages (size_in t)
     growing = ap (λ (size : ℕ). growing_left c.pages size) goes.size
 
-    goes_on : Lowers c.pages t after x (at_stage y (Forwards (with_evac w (at stage))))
+    goes_on : Lowers c.pages (saves c) t after x (at_stage y (Forwards (with_evac w (at stage))))
     goes_on = record {
       remembers = record { began = a.remembers.began; quiet = goes.quiet; stands = (placing, goes.stands) };
       falls = (let fewer = less in let same = growing in omega (arith, fewer, same));
@@ -90,7 +92,7 @@ module _ (c : Configuration) (p : Plain) (s : Stands c p) (y : Held) (w : Forwar
     abbrev copied : Held
     copied = with_copy x w.register to
 
-    next_by : (o : Option Pointed) → FirstPointer copied.registers (8 - (w.register + 1)) (w.register + 1) o → Lowers c.pages t after x (at_stage copied (forwards_it copied w.after o))
+    next_by : (o : Option Pointed) → FirstPointer copied.registers (8 - (w.register + 1)) (w.register + 1) o → Lowers c.pages (saves c) t after x (at_stage copied (forwards_it copied w.after o))
     next_by None (Nowhere none) = record {
       remembers = record { began = a.remembers.began; quiet = goes.quiet; stands = (placing after (Ended to) goes, tt) };
       falls = (let fewer = less after (Ended to) goes in let same = growing after (Ended to) goes in omega (arith, fewer, same));
@@ -100,10 +102,10 @@ module _ (c : Configuration) (p : Plain) (s : Stands c p) (y : Held) (w : Forwar
       falls = (let fewer = less after (Ended to) goes in let same = growing after (Ended to) goes in omega (arith, fewer, same, from, below));
     }
 
-    next : Lowers c.pages t after x (turned_register x (with_evac w (at (Ended to))) (told (Ended to)))
+    next : Lowers c.pages (saves c) t after x (turned_register x (with_evac w (at (Ended to))) (told (Ended to)))
     next = next_by (first_pointer copied.registers (8 - (w.register + 1)) (w.register + 1)) (found copied.registers (8 - (w.register + 1)) (w.register + 1))
 
-  by_stage : (after : Table) (stage : EvacStage) → CopyGoes c.pages t after v (at stage) → Lowers c.pages t after x (turned_register x (with_evac w (at stage)) (told stage))
+  by_stage : (after : Table) (stage : EvacStage) → CopyGoes c.pages t after v (at stage) → Lowers c.pages (saves c) t after x (turned_register x (with_evac w (at stage)) (told stage))
   by_stage after LoadsHeader goes = goes_on after LoadsHeader goes
   by_stage after (TakesHeader kept) goes = goes_on after (TakesHeader kept) goes
   by_stage after (LoadsArea kept) goes = goes_on after (LoadsArea kept) goes
@@ -119,4 +121,7 @@ module _ (c : Configuration) (p : Plain) (s : Stands c p) (y : Held) (w : Forwar
 
   pub forwards : StepsLower c x
   forwards q asked =
-      by_stage (table_of c.pages (words_after q c.words)) (stage_after v.layout v.epoch v.stage (reply_of q c.words)) (copy_goes c p s v q alone asked)
+      let goes = copy_goes c p s v q alone asked in
+      subst (λ (then : Saves). OwesAll c p s x (table_of c.pages (words_after q c.words)) then (reply_of q c.words)) (sym goes.1)
+      (pays c p s x (table_of c.pages (words_after q c.words)) (reply_of q c.words)
+      (by_stage (table_of c.pages (words_after q c.words)) (stage_after v.layout v.epoch v.stage (reply_of q c.words)) goes.0))

@@ -1,5 +1,5 @@
 -- A copy that a lone mutator makes for a word that it scans.
-use Rattle.std.proofs.Common.{◌≡◌, ℕ, refl, ap, ◌∙◌, arith}
+use Rattle.std.proofs.Common.{◌≡◌, ℕ, refl, sym, ap, subst, ◌∙◌, arith}
 use Rattle.plain_state.specs.State.{Plain}
 use Rattle.atom_store.specs.Step.{words_after, reply_of}
 use Rattle.heap_words.specs.Decoded.{decode}
@@ -14,6 +14,7 @@ use Rattle.page_scan.specs.Scanning.{Scanning}
 use Rattle.page_scan.specs.Taken as scan_taken
 use Rattle.heap_state.specs.Configuration.{Configuration, Stands, table, era, memory, team}
 use Rattle.heap_state.specs.Memory.Table.{Table, table_of}
+use Rattle.heap_state.specs.Saving.Words.{Saves}
 use Rattle.heap_state.specs.Worker.{Worker, Quest, Scanned}
 use Rattle.gc_worker.specs.declared.stage.back.Back.{Back}
 use Rattle.gc_worker.specs.declared.stage.Stage.TheVariants.{Evacuates}
@@ -21,10 +22,11 @@ use Rattle.gc_worker.specs.Workers.Fits.{HasAsked}
 use Rattle.gc_worker.specs.Workers.Held.{Held, at_stage}
 use Rattle.gc_worker.specs.Workers.Knows.{copy_at, cursor_asked, quest_for, scan_of}
 use Rattle.gc_worker.specs.Steps.Turned.{turned_copy}
-use Rattle.lone_mutator.specs.Law.{Lowers, IsAlone, StepsLower}
+use Rattle.lone_mutator.specs.Law.{Lowers, IsAlone, StepsLower, saves}
 use Rattle.lone_mutator.specs.Potential.{back_left, size_in}
 use Rattle.lone_mutator.proofs.Stages.Gate.Counts.{knowing, present}
 use Rattle.lone_mutator.proofs.Steps.GoingBack.{runs}
+use Rattle.lone_mutator.proofs.Steps.Owed.{OwesAll, pays}
 use Rattle.lone_mutator.proofs.Stages.Copies.Going.{CopyGoes, CopyIsAlone, copy_goes}
 use Rattle.lone_mutator.proofs.Stages.Copies.Reading.{IsFirstWord, reads_first}
 use Rattle.lone_mutator.proofs.Epochs.Pages.{untraced_scanning}
@@ -83,19 +85,19 @@ module _ (c : Configuration) (p : Plain) (s : Stands c p) (y : Held) (v : Evacua
     returns : (stage : EvacStage) → CopyGoes c.pages t after v (at stage) → back_left c.pages (size_in after) y back ≡ back_left c.pages (size_in t) y back
     returns stage goes = ap (λ (size : ℕ). back_left c.pages size y back) goes.size
 
-    goes_on : (stage : EvacStage) → CopyGoes c.pages t after v (at stage) → Lowers c.pages t after x (at_stage y (Evacuates (at stage) z back))
+    goes_on : (stage : EvacStage) → CopyGoes c.pages t after v (at stage) → Lowers c.pages (saves c) t after x (at_stage y (Evacuates (at stage) z back))
     goes_on stage goes = record {
       remembers = record { began = a.remembers.began; quiet = goes.quiet; stands = (goes.stands, a.remembers.stands.1) };
       falls = (let less = goes.left in let same = returns stage goes in omega (arith, less, same));
     }
 
-    answers : (to : ℕ) → CopyGoes c.pages t after v (at (Ended to)) → Lowers c.pages t after x (turned_copy x (at (Ended to)) z back (told (Ended to)))
+    answers : (to : ℕ) → CopyGoes c.pages t after v (at (Ended to)) → Lowers c.pages (saves c) t after x (turned_copy x (at (Ended to)) z back (told (Ended to)))
     answers to goes = record {
       remembers = record { began = a.remembers.began; quiet = goes.quiet; stands = a.remembers.stands.1 };
       falls = (let less = goes.left in let same = answered-left z z.stage v to a.is.fits.stage.2 in let back = returns (Ended to) goes in omega (arith, less, same, back));
     }
 
-    by_stage : (stage : EvacStage) → CopyGoes c.pages t after v (at stage) → Lowers c.pages t after x (turned_copy x (at stage) z back (told stage))
+    by_stage : (stage : EvacStage) → CopyGoes c.pages t after v (at stage) → Lowers c.pages (saves c) t after x (turned_copy x (at stage) z back (told stage))
     by_stage LoadsHeader goes = goes_on LoadsHeader goes
     by_stage (TakesHeader kept) goes = goes_on (TakesHeader kept) goes
     by_stage (LoadsArea kept) goes = goes_on (LoadsArea kept) goes
@@ -111,4 +113,7 @@ module _ (c : Configuration) (p : Plain) (s : Stands c p) (y : Held) (v : Evacua
 
   pub evacuates : StepsLower c x
   evacuates q asked =
-      by_stage (table_of c.pages (words_after q c.words)) (stage_after v.layout v.epoch v.stage (reply_of q c.words)) (copy_goes c p s v q alone asked)
+      let goes = copy_goes c p s v q alone asked in
+      subst (λ (then : Saves). OwesAll c p s x (table_of c.pages (words_after q c.words)) then (reply_of q c.words)) (sym goes.1)
+      (pays c p s x (table_of c.pages (words_after q c.words)) (reply_of q c.words)
+      (by_stage (table_of c.pages (words_after q c.words)) (stage_after v.layout v.epoch v.stage (reply_of q c.words)) goes.0))

@@ -1,5 +1,5 @@
 -- The flip by a lone mutator: the gate is still, and the exchange is won.
-use Rattle.std.proofs.Common.{◌≡◌, ℕ, ◌+◌, ◌-◌, ◌*◌, ◌≤◌, Bool, true, false, cond, min, Option, Some, nat_lt, refl, sym, ap, subst, ◌∙◌, arith}
+use Rattle.std.proofs.Common.{◌≡◌, ℕ, ◌+◌, ◌-◌, ◌*◌, ◌≤◌, inl, Bool, true, false, cond, min, Option, Some, nat_lt, refl, sym, ap, subst, ◌∙◌, arith}
 use Rattle.std.proofs.lemmas.Bool.{eq-eqb, lt-ltb}
 use Rattle.std.proofs.lemmas.Option.{same_Some}
 use Rattle.plain_state.specs.State.{Plain}
@@ -33,7 +33,7 @@ use Rattle.gc_worker.proofs.Words.Sizes.{grown_within, next_grows}
 use Rattle.gc_worker.proofs.Stages.Flip.Flipping.{unmoved}
 use Rattle.gc_worker.proofs.Stages.Gate.Words.{gate_now, gate_says}
 use Rattle.lone_mutator.specs.Bound.{growths, longest_tracing}
-use Rattle.lone_mutator.specs.Law.{IsAlone, Lowers, LowersWhereTold, StepsLower}
+use Rattle.lone_mutator.specs.Law.{IsAlone, Lowers, LowersWhereTold, StepsLower, saves}
 use Rattle.lone_mutator.specs.Potential.{due_in, flips_left, growing_left, later_left, size_in}
 use Rattle.lone_mutator.proofs.Stages.Gate.Counts.{knowing, none_behind, running_is}
 use Rattle.lone_mutator.proofs.Steps.Owed.{exchanges, loads, stores, wants}
@@ -59,7 +59,7 @@ module _ (c : Configuration) (p : Plain) (s : Stands c p) (y : Held) (asked : �
 
   module _ (a : IsAlone c (at LoadsGate)) where
     abbrev Gates : FlipStage → Type 0
-    Gates stage = LowersWhereTold c.pages (table c) (table c) (at LoadsGate) (turned_flip (at LoadsGate) (flipping stage) (told_at stage)) (told_flip (told_at stage))
+    Gates stage = LowersWhereTold c.pages (saves c) (table c) (table c) (at LoadsGate) (turned_flip (at LoadsGate) (flipping stage) (told_at stage)) (told_flip (told_at stage))
 
     still : is_still g ≡ true
     still = rw (eq-eqb g.running 0 (running_is c p s (at LoadsGate) a), eq-eqb g.behind 0 (none_behind c p s (at LoadsGate) a (present LoadsGate a))) refl
@@ -81,7 +81,7 @@ module _ (c : Configuration) (p : Plain) (s : Stands c p) (y : Held) (asked : �
 
   module _ (gate : GateWord) (size : ℕ) (a : IsAlone c (at (LoadsArea gate size))) where
     abbrev Areas : FlipStage → Type 0
-    Areas stage = LowersWhereTold c.pages (table c) (table c) (at (LoadsArea gate size)) (turned_flip (at (LoadsArea gate size)) (flipping stage) (told_at stage)) (told_flip (told_at stage))
+    Areas stage = LowersWhereTold c.pages (saves c) (table c) (table c) (at (LoadsArea gate size)) (turned_flip (at (LoadsArea gate size)) (flipping stage) (told_at stage)) (told_flip (told_at stage))
 
     read : Areas (read_area y.layout.pages (has_seen_flip y) gate size (Some ((table c).area (to_space y.epoch))))
     read = record { remembers = record { began = a.remembers.began; quiet = a.remembers.quiet; stands = tt }; falls = omega arith }
@@ -112,7 +112,7 @@ module _ (c : Configuration) (p : Plain) (s : Stands c p) (y : Held) (asked : �
         let next = next_within r fits in let size = fits.size.0 in let n = a.is.fits.pages in
         let later = ap (λ (pages : ℕ). later_left c.pages pages y) same_size in
         wants c p s (at (StoresSize r)) (Store (place_of c.pages (Size other)) r.next) (ap (λ n. Some (Store (place_of n (Size other)) r.next)) a.is.fits.pages)
-        (stores c p s (at (StoresSize r)) (SizeIs other r.next) (is_space (y.epoch + 1), omega (arith, size, next), omega (arith, next, n))
+        (stores c p s (at (StoresSize r)) (SizeIs other r.next) (is_space (y.epoch + 1), omega (arith, size, next), omega (arith, next, n)) tt
         (record { remembers = record { began = a.remembers.began; quiet = a.remembers.quiet; stands = tt }; falls = omega (arith, later) }))
 
   module _ (r : resets.Reset) (a : IsAlone c (at (StoresArea r))) where
@@ -125,7 +125,7 @@ module _ (c : Configuration) (p : Plain) (s : Stands c p) (y : Held) (asked : �
         let area = area_reset r.next r.used in
         let space = to_space (y.epoch + 1) in
         wants c p s (at (StoresArea r)) (Store (place_of c.pages (Area space)) (encode_area area)) (ap (λ n. Some (Store (place_of n (Area space)) (encode_area area))) a.is.fits.pages)
-        (stores c p s (at (StoresArea r)) (AreaIs space area) (is_space (y.epoch + 1), record { front_fits = omega arith; low_fits = omega (arith, next, few); owed_fits = omega (arith, used, size, few) })
+        (stores c p s (at (StoresArea r)) (AreaIs space area) (is_space (y.epoch + 1), record { front_fits = omega arith; low_fits = omega (arith, next, few); owed_fits = omega (arith, used, size, few) }) tt
         (record { remembers = record { began = a.remembers.began; quiet = a.remembers.quiet; stands = tt }; falls = omega arith }))
 
   -- ---- the exchange
@@ -196,13 +196,13 @@ module _ (c : Configuration) (p : Plain) (s : Stands c p) (y : Held) (asked : �
         let e = ap (λ (z : GateWord). ((table c).area (to_space (z.epoch + 1))).owed) (sym gate_is) in
         due_le_longest c.pages (r.gate.epoch + 1) (table c).traced ((table c).area (to_space (r.gate.epoch + 1))).owed (table c).page (omega (arith, used, size, n, e, owed_is))
 
-    falls : Lowers c.pages (table c) flipped x (turned x Won)
+    falls : Lowers c.pages (saves c) (table c) flipped x (turned x Won)
     falls =
         let now : y.epoch ≡ r.gate.epoch = present (Exchanges r) a ∙ ap (λ (z : GateWord). z.epoch) gate_is in
         let late : nat_lt y.epoch (r.gate.epoch + 1) ≡ true = lt-ltb y.epoch (r.gate.epoch + 1) (omega (arith, now)) in
         let began : y.begun ≤ y.epoch = a.remembers.began tt in
         record {
-          remembers = record { began = λ past. began; quiet = a.remembers.quiet; stands = (record { places = refl; earlier = omega (arith, began, now) }, tt) };
+          remembers = record { began = λ past. began; quiet = a.remembers.quiet; stands = (inl (record { places = refl; earlier = omega (arith, began, now) }), tt) };
           falls = rw late (let d = due_within in let l = later_within in omega (arith, d, l));
         }
 
@@ -212,7 +212,7 @@ module _ (c : Configuration) (p : Plain) (s : Stands c p) (y : Held) (asked : �
         wants c p s x (Exchange (place_of c.pages Gate) (encode_gate r.gate) (encode_gate (gate_flipped r.gate)))
         (ap (λ n. Some (Exchange (place_of n Gate) (encode_gate r.gate) (encode_gate (gate_flipped r.gate)))) a.is.fits.pages)
         (exchanges c p s x (GateIs (gate_flipped r.gate)) (encode_gate r.gate)
-        (record { epoch_fits = may.next_fits; live_fits = may.fits.live_fits; running_fits = may.fits.running_fits; behind_fits = may.fits.live_fits; left_fits = may.fits.left_fits })
+        (record { epoch_fits = may.next_fits; live_fits = may.fits.live_fits; running_fits = may.fits.running_fits; behind_fits = may.fits.live_fits; left_fits = may.fits.left_fits }) tt
         (unmoved c p s 0 y asked r a.is) falls)
 
   -- ---- each stage

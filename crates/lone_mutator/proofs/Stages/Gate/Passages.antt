@@ -1,5 +1,5 @@
 -- The passages of the gate by a lone mutator: each is allowed, and each exchange is won.
-use Rattle.std.proofs.Common.{◌≡◌, ◌≢◌, ℕ, ◌+◌, ◌<◌, ◌≤◌, ◌==◌, true, false, cond, Option, Some, None, nat_lt, refl, sym, ap, subst, ◌∙◌, arith, ⊎_elim}
+use Rattle.std.proofs.Common.{◌≡◌, ◌≢◌, ℕ, ◌+◌, ◌<◌, ◌≤◌, ◌==◌, inl, inr, Bool, true, false, cond, Option, Some, None, nat_lt, refl, sym, ap, subst, ◌∙◌, arith, ⊎_elim}
 use Rattle.std.specs.Prelude.{not}
 use Rattle.std.proofs.lemmas.Bool.{eq-eqb, ne_eqb, lt-ltb}
 use Rattle.std.proofs.lemmas.Bool.Decides.{nat_tests}
@@ -23,20 +23,20 @@ use Rattle.heap_state.specs.Memory.Table.{Table}
 use Rattle.heap_state.proofs.Table.Spelled.{spelled}
 use Rattle.gc_worker.specs.declared.stage.after.After.{After}
 use Rattle.gc_worker.specs.declared.stage.after.After.TheVariants as afters
-use Rattle.gc_worker.specs.declared.stage.Stage.{Stage}
-use Rattle.gc_worker.specs.declared.stage.Stage.TheVariants.{Passes}
+use Rattle.gc_worker.specs.declared.stage.Stage.TheVariants.{Looks, Passes, Recalls}
 use Rattle.gc_worker.specs.Workers.Begun.{IsPastAfter}
-use Rattle.gc_worker.specs.Workers.Fits.{FitsTaskAfter, IsMaking}
+use Rattle.gc_worker.specs.Workers.Fits.{FitsTaskAfter, IsMaking, MayRequest}
 use Rattle.gc_worker.specs.Workers.Held.{Held, at_stage}
 use Rattle.gc_worker.specs.Steps.Turned.{Pointed, after_request, epoch_in_gate, epoch_said, first_pointer, forwards_it, goes_on, in_epoch, passes, runs_on, turned, turned_gate}
 use Rattle.gc_worker.proofs.Stages.Gate.Passing.{resumes_so}
 use Rattle.gc_worker.proofs.Stages.Gate.Words.{gate_now, gate_says}
-use Rattle.lone_mutator.specs.Bound.{flips_cost, growths, longest_placing}
-use Rattle.lone_mutator.specs.Potential.{due_in, flip_left, flips_left, potential_in, size_in}
-use Rattle.lone_mutator.specs.Law.{IsAlone, Lowers, StepsLower}
+use Rattle.gate_core.specs.Recall as recall
+use Rattle.lone_mutator.specs.Bound.{flips_cost, growths, longest_placing, recall_cost, whole_cost}
+use Rattle.lone_mutator.specs.Lone.{GoesOnLooking, GoesOnPlacing}
+use Rattle.lone_mutator.specs.Potential.{after_left, due_in, flip_left, flips_left, growing_left, potential_in, size_in}
+use Rattle.lone_mutator.specs.Law.{IsAlone, Lowers, StepsLower, saves}
 use Rattle.lone_mutator.proofs.Stages.Gate.Counts.{and_false, is_clear_so, knowing, no_request, none_behind, none_live}
 use Rattle.lone_mutator.proofs.Steps.GoingOn.{GoesAt, goes_placing}
-use Rattle.lone_mutator.proofs.Steps.NoCheckpoints.{for_a_flip, none_runs, runs_straight_on}
 use Rattle.lone_mutator.proofs.Steps.Owed.{exchanges, loads, wants}
 
 same_so : (own epoch : ℕ) → own ≡ epoch → nat_lt own epoch ≡ false
@@ -60,7 +60,7 @@ module _ (c : Configuration) (p : Plain) (s : Stands c p) (y : Held) (l : Layout
 
   module _ (passage : Passage) (a : IsAlone c (at passage Loads)) where
     abbrev Falls : GateStage → Type 0
-    Falls stage = Lowers c.pages (table c) (table c) (at passage Loads) (next passage stage)
+    Falls stage = Lowers c.pages (saves c) (table c) (table c) (at passage Loads) (next passage stage)
 
     -- by what the gate allows
     loads_by : Falls (cond (allows passage g) (allowed passage (gate_now c) g) (Ended (NotYet (gate_now c)))) → StepsLower c (at passage Loads)
@@ -87,6 +87,11 @@ module _ (c : Configuration) (p : Plain) (s : Stands c p) (y : Held) (l : Layout
       allowed_by Forwarded a refl
       (record { remembers = record { began = a.remembers.began; quiet = a.remembers.quiet; stands = (a.remembers.stands.0, refl) }; falls = omega arith })
 
+  clear_loads : IsAlone c (at Clear Loads) → StepsLower c (at Clear Loads)
+  clear_loads a =
+      allowed_by Clear a refl
+      (record { remembers = record { began = a.remembers.began; quiet = a.remembers.quiet; stands = (tt, refl) }; falls = omega arith })
+
   -- ---- a stopped mutator at the gate
 
   module _ (epoch : ℕ) (a : IsAlone c (at (Resume epoch) Loads)) where
@@ -102,21 +107,28 @@ module _ (c : Configuration) (p : Plain) (s : Stands c p) (y : Held) (l : Layout
         allowed_by (Resume epoch) a test
         (record { remembers = record { began = a.remembers.began; quiet = a.remembers.quiet; stands = (a.remembers.stands.0, refl) }; falls = rw (same_so y.epoch g.epoch now) (omega arith) })
 
-    -- of the one before: it forwards its registers
-    forwards_falls : nat_lt y.epoch g.epoch ≡ true → (o : Option Pointed) → Lowers c.pages (table c) (table c) x (at_stage x (forwards_it x after o))
-    forwards_falls late (Some r) =
-        record { remembers = record { began = a.remembers.began; quiet = a.remembers.quiet; stands = (a.remembers.stands.0, tt) }; falls = rw late (omega arith) }
-    forwards_falls late None =
-        record { remembers = record { began = a.remembers.began; quiet = a.remembers.quiet; stands = (a.remembers.stands.0, tt) }; falls = rw late (omega arith) }
+    -- of the one before: it goes on with an allocation, and forwards its registers
+    module _ (before : y.epoch + 1 ≡ g.epoch) (stops : GoesOnPlacing g.epoch y.begun after) where
+      late : nat_lt y.epoch g.epoch ≡ true
+      late = lt-ltb y.epoch g.epoch (omega (arith, before))
+
+      forwards_falls : (o : Option Pointed) → Lowers c.pages (saves c) (table c) (table c) x (at_stage x (forwards_it x after o))
+      forwards_falls (Some r) = record { remembers = record { began = a.remembers.began; quiet = a.remembers.quiet; stands = (stops, tt) }; falls = rw late (omega arith) }
+      forwards_falls None = record { remembers = record { began = a.remembers.began; quiet = a.remembers.quiet; stands = (stops, tt) }; falls = rw late (omega arith) }
+
+      forwards : StepsLower c x
+      forwards =
+          let other : g.epoch ≢ epoch = (λ same. let own = a.is.fits.stage.passage in omega (arith, same, own, before)) in
+          let test : allows (Resume epoch) g ≡ false = and_false (is_clear g) (g.epoch == epoch) (ne_eqb g.epoch epoch other) in
+          let Stops : Option GateWord → Type 0 = (λ o. Lowers c.pages (saves c) (table c) (table c) x (at_stage x (cond (nat_lt y.epoch (epoch_in_gate y.epoch o)) (forwards_it x after (first_pointer y.registers 8 0)) (passes x (Resume y.epoch) after)))) in
+          let falls : Stops (Some g) = rw late (forwards_falls (first_pointer y.registers 8 0)) in
+          loads_by (Resume epoch) a (rw test (subst Stops (sym (gate_says c p s)) falls))
 
     resumes_late : y.epoch + 1 ≡ g.epoch → StepsLower c x
-    resumes_late before =
-        let late : nat_lt y.epoch g.epoch ≡ true = lt-ltb y.epoch g.epoch (omega (arith, before)) in
-        let other : g.epoch ≢ epoch = (λ same. let own = a.is.fits.stage.passage in omega (arith, same, own, before)) in
-        let test : allows (Resume epoch) g ≡ false = and_false (is_clear g) (g.epoch == epoch) (ne_eqb g.epoch epoch other) in
-        let Stops : Option GateWord → Type 0 = (λ o. Lowers c.pages (table c) (table c) x (at_stage x (cond (nat_lt y.epoch (epoch_in_gate y.epoch o)) (forwards_it x after (first_pointer y.registers 8 0)) (passes x (Resume y.epoch) after)))) in
-        let falls : Stops (Some g) = rw late (forwards_falls late (first_pointer y.registers 8 0)) in
-        loads_by (Resume epoch) a (rw test (subst Stops (sym (gate_says c p s)) falls))
+    resumes_late before = ⊎_elim
+        (λ (stops : GoesOnPlacing g.epoch y.begun after). forwards before stops)
+        (λ (looks : GoesOnLooking g.epoch y.epoch after). absurd (let now = looks.present in omega (arith, now, before)))
+        a.remembers.stands.0
 
     resume_loads : StepsLower c x
     resume_loads = ⊎_elim resumes_now resumes_late ((knowing c p s x a).timely.live refl)
@@ -131,21 +143,23 @@ module _ (c : Configuration) (p : Plain) (s : Stands c p) (y : Held) (l : Layout
   abbrev passed : Passage → Table
   passed passage = record (table c) { gate = gate_after passage g }
 
-  won_by : (passage : Passage) (a : IsAlone c (at passage (Exchanges g))) → GateFits (gate_after passage g) → Lowers c.pages (table c) (passed passage) (at passage (Exchanges g)) (turned (at passage (Exchanges g)) Won)
+  won_by : (passage : Passage) (a : IsAlone c (at passage (Exchanges g))) → GateFits (gate_after passage g) → Lowers c.pages (saves c) (table c) (passed passage) (at passage (Exchanges g)) (turned (at passage (Exchanges g)) Won)
       → StepsLower c (at passage (Exchanges g))
   won_by passage a fits falls =
       wants c p s (at passage (Exchanges g)) (Exchange (place_of c.pages Gate) (encode_gate g) (encode_gate (gate_after passage g)))
       (ap (λ n. Some (Exchange (place_of n Gate) (encode_gate g) (encode_gate (gate_after passage g)))) (ap (λ (m : Layout). m.pages) a.is.fits.stage.layout ∙ a.is.fits.pages))
-      (exchanges c p s (at passage (Exchanges g)) (GateIs (gate_after passage g)) (encode_gate g) fits (spelled c.pages c.words s.formed).gate falls)
+      (exchanges c p s (at passage (Exchanges g)) (GateIs (gate_after passage g)) (encode_gate g) fits tt (spelled c.pages c.words s.formed).gate falls)
 
   module _ (a : IsAlone c (at Attach (Exchanges g))) (epoch : ℕ) where
     abbrev u : Held
     u = in_epoch (at Attach (Exchanges g)) epoch
 
-    attached_falls : Lowers c.pages (table c) (passed Attach) (at Attach (Exchanges g)) (at_stage u (runs_on u afters.Looks))
-    attached_falls =
-        subst (λ (stage : Stage). Lowers c.pages (table c) (passed Attach) (at Attach (Exchanges g)) (at_stage u stage)) (sym (runs_straight_on u a.no_checkpoints afters.Looks))
-        (record { remembers = record { began = λ past. absurd past; quiet = a.remembers.quiet; stands = tt }; falls = omega arith })
+    attached_by : (room : Bool) → Lowers c.pages (saves c) (table c) (passed Attach) (at Attach (Exchanges g)) (at_stage u (cond room (Recalls (recall.begun u.layout) afters.Looks) Looks))
+    attached_by true = record { remembers = record { began = λ past. absurd past; quiet = a.remembers.quiet; stands = inr refl }; falls = omega arith }
+    attached_by false = record { remembers = record { began = λ past. absurd past; quiet = a.remembers.quiet; stands = tt }; falls = omega arith }
+
+    attached_falls : Lowers c.pages (saves c) (table c) (passed Attach) (at Attach (Exchanges g)) (at_stage u (runs_on u afters.Looks))
+    attached_falls = attached_by y.layout.checkpoints
 
   attach_won : IsAlone c (at Attach (Exchanges g)) → StepsLower c (at Attach (Exchanges g))
   attach_won a =
@@ -153,16 +167,26 @@ module _ (c : Configuration) (p : Plain) (s : Stands c p) (y : Held) (l : Layout
       won_by Attach a (record { epoch_fits = may.fits.epoch_fits; live_fits = may.counts.0; running_fits = may.counts.1; behind_fits = may.fits.behind_fits; left_fits = may.fits.left_fits })
       (attached_falls a (epoch_said y.epoch (encode_gate (gate_after Attach g))))
 
-  request_won : IsAlone c (at Request (Exchanges g)) → StepsLower c (at Request (Exchanges g))
-  request_won a =
-      let may = a.is.fits.stage.sound.stage in
-      let counted = may.fits.running_fits in
-      let places = for_a_flip y a.no_checkpoints after a.is.fits.stage.passage in
-      won_by Request a (record { epoch_fits = may.fits.epoch_fits; live_fits = may.fits.live_fits; running_fits = omega (arith, counted); behind_fits = may.fits.behind_fits; left_fits = may.fits.left_fits })
-      (subst (λ (b : After). Lowers c.pages (table c) (passed Request) (at Request (Exchanges g)) (at_stage (at Request (Exchanges g)) (after_request (at Request (Exchanges g)) b))) (sym places)
-      (record { remembers = record { began = λ past. a.remembers.began (subst IsPastAfter (sym places) tt); quiet = a.remembers.quiet; stands = tt }; falls = omega arith }))
+  -- it flips, or begins a checkpoint
+  module _ (a : IsAlone c (at Request (Exchanges g))) where
+    abbrev q : Held
+    q = at Request (Exchanges g)
 
-  -- it goes on with its allocation
+    requested_by : (goes : After) → after ≡ goes → MayRequest y goes → Lowers c.pages (saves c) (table c) (passed Request) q (at_stage q (after_request q goes))
+    requested_by afters.Looks is may = absurd may
+    requested_by afters.Places is may =
+        record { remembers = record { began = λ past. a.remembers.began (subst IsPastAfter (sym is) tt); quiet = a.remembers.quiet; stands = tt }; falls = rw is (omega arith) }
+    requested_by afters.Snaps is may =
+        record { remembers = record { began = λ past. a.remembers.began (subst IsPastAfter (sym is) tt); quiet = a.remembers.quiet; stands = tt }; falls = rw is (omega arith) }
+
+    request_won : StepsLower c q
+    request_won =
+        let may = a.is.fits.stage.sound.stage in
+        let counted = may.fits.running_fits in
+        won_by Request a (record { epoch_fits = may.fits.epoch_fits; live_fits = may.fits.live_fits; running_fits = omega (arith, counted); behind_fits = may.fits.behind_fits; left_fits = may.fits.left_fits })
+        (requested_by after refl a.is.fits.stage.passage)
+
+  -- it runs
   module _ (epoch : ℕ) (a : IsAlone c (at (Resume epoch) (Exchanges g))) where
     abbrev r : Held
     r = at (Resume epoch) (Exchanges g)
@@ -170,26 +194,60 @@ module _ (c : Configuration) (p : Plain) (s : Stands c p) (y : Held) (l : Layout
     now : y.epoch ≡ g.epoch
     now = sym ((resumes_so g epoch a.is.fits.stage.sound.stage.allowed).2 ∙ a.is.fits.stage.passage)
 
-    placing : IsMaking y.account y.registers y.task → GoesAt c.pages (passed (Resume epoch)) (at_stage r (runs_on r after)) (longest_placing + flip_left c.pages (size_in (table c)) r + due_in c.pages (table c))
-    placing making =
-        subst (λ (stage : Stage). GoesAt c.pages (passed (Resume epoch)) (at_stage r stage) (longest_placing + flip_left c.pages (size_in (table c)) r + due_in c.pages (table c)))
-        (sym (runs_straight_on r a.no_checkpoints after ∙ ap (goes_on r) a.remembers.stands.0.places))
-        (goes_placing c.pages (passed (Resume epoch)) r (let e = a.remembers.stands.0.earlier in omega (arith, e, now)) (none_runs c r a) a.remembers.quiet making)
+    -- with its allocation
+    module _ (stops : GoesOnPlacing g.epoch y.begun after) where
+      flips : flip_left c.pages (size_in (table c)) r ≡ growing_left c.pages (size_in (table c))
+      flips =
+          let seen : nat_lt y.begun y.epoch ≡ true = lt-ltb y.begun y.epoch (let e = stops.earlier in omega (arith, e, now)) in
+          let none : flips_left c.pages (size_in (table c)) r ≡ growths c.pages (size_in (table c)) = rw seen (omega arith) in
+          ap (flips_cost c.pages) none
+
+      placing_by : (room : Bool) → IsMaking y.account y.registers y.task
+          → GoesAt c.pages (saves c) (passed (Resume epoch)) (at_stage r (cond room (Recalls (recall.begun r.layout) afters.Places) (goes_on r afters.Places))) (recall_cost + longest_placing + growing_left c.pages (size_in (table c)) + due_in c.pages (table c))
+      placing_by true making = record {
+        remembers = record { began = λ past. (let e = stops.earlier in omega (arith, e, now)); quiet = a.remembers.quiet; stands = inl (record { places = refl; earlier = stops.earlier }) };
+        within = omega arith;
+      }
+      placing_by false making =
+          let goes = goes_placing c.pages (saves c) (passed (Resume epoch)) r a.is.fits.pages (let e = stops.earlier in omega (arith, e, now)) a.remembers.quiet making in
+          let within = goes.within in
+          record { remembers = goes.remembers; within = omega (arith, within, flips) }
+
+    -- at a look
+    looking_by : (room : Bool) → GoesAt c.pages (saves c) (passed (Resume epoch)) (at_stage r (cond room (Recalls (recall.begun r.layout) afters.Looks) Looks)) (recall_cost + whole_cost c.pages + due_in c.pages (table c))
+    looking_by true = record { remembers = record { began = λ past. absurd past; quiet = a.remembers.quiet; stands = inr refl }; within = omega arith }
+    looking_by false = record { remembers = record { began = λ past. absurd past; quiet = a.remembers.quiet; stands = tt }; within = omega arith }
+
+    -- it costs what it said
+    abbrev Runs : After → Type 0
+    Runs goes = GoesAt c.pages (saves c) (passed (Resume epoch)) (at_stage r (runs_on r goes)) (recall_cost + after_left c.pages (growing_left c.pages (size_in (table c))) (due_in c.pages (table c)) goes)
+
+    places_so : (stops : GoesOnPlacing g.epoch y.begun after) → Runs afters.Places
+    places_so stops =
+        let goes = placing_by stops y.layout.checkpoints (subst (FitsTaskAfter r) stops.places a.is.fits.task) in
+        let within = goes.within in
+        record { remembers = goes.remembers; within = omega (arith, within) }
+
+    looks_so : Runs afters.Looks
+    looks_so =
+        let goes = looking_by y.layout.checkpoints in
+        let within = goes.within in
+        record { remembers = goes.remembers; within = omega (arith, within) }
+
+    runs_so : Runs after
+    runs_so = ⊎_elim
+        (λ (stops : GoesOnPlacing g.epoch y.begun after). subst Runs (sym stops.places) (places_so stops))
+        (λ (looks : GoesOnLooking g.epoch y.epoch after). subst Runs (sym looks.looks) looks_so)
+        a.remembers.stands.0
 
     resume_won : StepsLower c r
     resume_won =
         let may = a.is.fits.stage.sound.stage in
-        let stops = a.remembers.stands.0 in
-        let seen : nat_lt y.begun y.epoch ≡ true = lt-ltb y.begun y.epoch (let e = stops.earlier in omega (arith, e, now)) in
-        let none : flips_left c.pages (size_in (table c)) r ≡ growths c.pages (size_in (table c)) = rw seen (omega arith) in
-        let grown = ap (flips_cost c.pages) none in
-        let making : IsMaking y.account y.registers y.task = subst (FitsTaskAfter r) stops.places a.is.fits.task in
-        let goes = placing making in
+        let cost = recall_cost + after_left c.pages (growing_left c.pages (size_in (table c))) (due_in c.pages (table c)) after in
         won_by (Resume epoch) a (record { epoch_fits = may.fits.epoch_fits; live_fits = may.fits.live_fits; running_fits = may.counts; behind_fits = may.fits.behind_fits; left_fits = may.fits.left_fits })
         (record {
-          remembers = goes.remembers;
-          falls = lt_by (potential_in c.pages (passed (Resume epoch)) (at_stage r (runs_on r after))) (potential_in c.pages (table c) r) (longest_placing + flip_left c.pages (size_in (table c)) r + due_in c.pages (table c)) goes.within
-              (rw (same_so y.epoch g.epoch now) (omega (arith, grown)));
+          remembers = runs_so.remembers;
+          falls = lt_by (potential_in c.pages (passed (Resume epoch)) (at_stage r (runs_on r after))) (potential_in c.pages (table c) r) cost runs_so.within (rw (same_so y.epoch g.epoch now) (omega arith));
         })
 
   module _ (a : IsAlone c (at Forwarded (Exchanges g))) where
@@ -197,14 +255,14 @@ module _ (c : Configuration) (p : Plain) (s : Stands c p) (y : Held) (l : Layout
     f = at Forwarded (Exchanges g)
 
     abbrev Comes : ℕ → Type 0
-    Comes e = Lowers c.pages (table c) (passed Forwarded) f (at_stage (in_epoch f e) (passes f (Resume e) after))
+    Comes e = Lowers c.pages (saves c) (table c) (passed Forwarded) f (at_stage (in_epoch f e) (passes f (Resume e) after))
 
     forwarded_falls : Comes g.epoch
     forwarded_falls =
         let stops = a.remembers.stands.0 in
         record {
-          remembers = record { began = λ past. (let e = stops.earlier in omega (arith, e)); quiet = a.remembers.quiet; stands = (stops, tt) };
-          falls = rw (same_so g.epoch g.epoch refl) (omega arith);
+          remembers = record { began = λ past. (let e = stops.earlier in omega (arith, e)); quiet = a.remembers.quiet; stands = (inl stops, tt) };
+          falls = rw (same_so g.epoch g.epoch refl, stops.places) (omega arith);
         }
 
     forwarded_won : StepsLower c f
@@ -214,6 +272,28 @@ module _ (c : Configuration) (p : Plain) (s : Stands c p) (y : Held) (l : Layout
         let fits : GateFits (gate_after Forwarded g) = record { epoch_fits = may.fits.epoch_fits; live_fits = may.fits.live_fits; running_fits = may.fits.running_fits; behind_fits = omega (arith, behind); left_fits = may.fits.left_fits } in
         let said : epoch_in_gate y.epoch (decode_gate (encode_gate (gate_after Forwarded g))) ≡ g.epoch = ap (epoch_in_gate y.epoch) (decode_gate-encode_gate (gate_after Forwarded g) fits) in
         won_by Forwarded a fits (subst Comes (sym said) forwarded_falls)
+
+  -- who has begun a checkpoint is stopped in the gate's epoch, and resumes
+  module _ (a : IsAlone c (at Clear (Exchanges g))) where
+    abbrev b : Held
+    b = at Clear (Exchanges g)
+
+    present : y.epoch ≡ g.epoch
+    present = (knowing c p s b a).timely.asking refl
+
+    cleared_falls : Lowers c.pages (saves c) (table c) (passed Clear) b (at_stage b (passes b (Resume y.epoch) after))
+    cleared_falls =
+        let looks = a.is.fits.task.1 in
+        record {
+          remembers = record { began = a.remembers.began; quiet = a.remembers.quiet; stands = (inr (record { looks = looks; present = present }), tt) };
+          falls = rw (same_so y.epoch g.epoch present, looks) (omega arith);
+        }
+
+    clear_won : StepsLower c b
+    clear_won =
+        let may = a.is.fits.stage.sound.stage in
+        won_by Clear a (record { epoch_fits = may.fits.epoch_fits; live_fits = may.fits.live_fits; running_fits = may.fits.running_fits; behind_fits = may.fits.behind_fits; left_fits = may.fits.left_fits })
+        cleared_falls
 
   -- ---- each passage
 
@@ -225,7 +305,7 @@ module _ (c : Configuration) (p : Plain) (s : Stands c p) (y : Held) (l : Layout
   loads_gate Look a = absurd a.remembers.stands.0
   loads_gate Park a = absurd a.remembers.stands.0
   loads_gate Leave a = absurd a.remembers.stands.0
-  loads_gate Clear a = absurd a.remembers.stands.0
+  loads_gate Clear a = clear_loads a
 
   pub exchanges_gate : (passage : Passage) (gate : GateWord) → IsAlone c (at passage (Exchanges gate)) → StepsLower c (at passage (Exchanges gate))
   exchanges_gate Attach gate a = own Attach attach_won gate a
@@ -235,4 +315,4 @@ module _ (c : Configuration) (p : Plain) (s : Stands c p) (y : Held) (l : Layout
   exchanges_gate Look gate a = absurd a.remembers.stands.0
   exchanges_gate Park gate a = absurd a.remembers.stands.0
   exchanges_gate Leave gate a = absurd a.remembers.stands.0
-  exchanges_gate Clear gate a = absurd a.remembers.stands.0
+  exchanges_gate Clear gate a = own Clear clear_won gate a

@@ -1,5 +1,5 @@
 -- An allocation by a lone mutator looks at the area: it claims pages, makes a round, requests a flip, or finds the heap full.
-use Rattle.std.proofs.Common.{◌≡◌, ◌≢◌, ℕ, ◌+◌, ◌-◌, ◌*◌, ◌^◌, ◌<◌, ◌≤◌, ◌==◌, ◌&&◌, ◌||◌, Bool, true, false, cond, Option, Some, nat_lt, refl, sym, ap, subst, ◌∙◌, arith, ⊎_elim}
+use Rattle.std.proofs.Common.{◌≡◌, ◌≢◌, ℕ, ◌+◌, ◌-◌, ◌*◌, ◌^◌, ◌<◌, ◌≤◌, inr, ◌==◌, ◌&&◌, ◌||◌, Bool, true, false, cond, Option, Some, nat_lt, refl, sym, ap, subst, ◌∙◌, arith, ⊎_elim}
 use Rattle.std.proofs.lemmas.Bool.{eq-eqb, cases_eq, cases_lt}
 use Rattle.plain_state.specs.State.{Plain}
 use Rattle.record_layout.specs.declared.header.Header.{Header}
@@ -22,19 +22,21 @@ use Rattle.heap_state.specs.Functions.{put}
 use Rattle.heap_state.specs.Memory.Table.{Table, word_in}
 use Rattle.heap_state.proofs.Puts.{put_at}
 use Rattle.heap_state.proofs.Table.Spelled.{spelled}
-use Rattle.gc_worker.specs.declared.stage.Stage.{Stage}
+use Rattle.gate_core.specs.declared.passage.Passage.TheVariants.{Request}
+use Rattle.gc_worker.specs.declared.stage.after.After.TheVariants as afters
+use Rattle.gc_worker.specs.declared.stage.goal.Goal.TheVariants.{ForFlip}
 use Rattle.gc_worker.specs.declared.stage.Stage.TheVariants.{Places}
 use Rattle.gc_worker.specs.declared.task.Task.{Task}
 use Rattle.gc_worker.specs.Workers.Held.{Held, at_stage, fields_for}
-use Rattle.gc_worker.specs.Steps.Turned.{Silent, asks_flip, end_by_shortage, ended, full_by, is_full, told_end, told_full, told_place, turned_place}
+use Rattle.gc_worker.specs.Steps.Turned.{Silent, asks_flip, checkpoints, end_by_shortage, ended, full_by, is_full, passes, told_end, told_full, told_place, turned_place}
 use Rattle.gc_worker.proofs.Words.Areas.{area_says, is_space}
 use Rattle.gc_worker.proofs.Stages.Rounds.Words.{traced_now, traced_word}
-use Rattle.lone_mutator.specs.Law.{IsAlone, Lowers, LowersWhereTold, StepsLower}
+use Rattle.lone_mutator.specs.Bound.{flip_cost, flips_cost}
+use Rattle.lone_mutator.specs.Law.{IsAlone, Lowers, LowersWhereTold, StepsLower, saves}
 use Rattle.lone_mutator.specs.Lone.{PlaceStands}
 use Rattle.lone_mutator.specs.Potential.{due_in, flips_left, size_in}
 use Rattle.lone_mutator.specs.Tracing.{tracing_due}
 use Rattle.lone_mutator.proofs.Stages.Gate.Counts.{knowing, present}
-use Rattle.lone_mutator.proofs.Steps.NoCheckpoints.{asks_at_once}
 use Rattle.lone_mutator.proofs.Steps.Owed.{exchanges, loads, wants}
 use Rattle.lone_mutator.proofs.Steps.Sizes.{size_in-within}
 use Rattle.lone_mutator.proofs.Epochs.Cost.{due_traced, due_still, due_untraced}
@@ -63,7 +65,7 @@ neither false b e = refl
 
 module _ (c : Configuration) (p : Plain) (s : Stands c p) (y : Held) (run : Run) (header : Header) where
   abbrev pub placing : PlaceStage → Placing
-  placing stage = record { layout = y.layout; run = run; header = header; fields = fields_for y; epoch = y.epoch; snap = 0; stage = stage }
+  placing stage = record { layout = y.layout; run = run; header = header; fields = fields_for y; epoch = y.epoch; snap = y.snap; stage = stage }
 
   abbrev pub at : PlaceStage → Held
   at stage = at_stage y (Places (placing stage))
@@ -82,7 +84,7 @@ module _ (c : Configuration) (p : Plain) (s : Stands c p) (y : Held) (run : Run)
     stands_by true test = tt
     stands_by false test = λ same. absurd (let is = eq-eqb (traced_now c) (y.epoch + 1) (sym (traced_word c) ∙ same) in let e = sym is ∙ test in cc)
 
-    falls_by : (b : Bool) → (traced_now c == y.epoch + 1) ≡ b → Lowers c.pages (table c) (table c) (at LoadsTraced) (at (LoadsSize b))
+    falls_by : (b : Bool) → (traced_now c == y.epoch + 1) ≡ b → Lowers c.pages (saves c) (table c) (table c) (at LoadsTraced) (at (LoadsSize b))
     falls_by b test = record { remembers = record { began = a.remembers.began; quiet = a.remembers.quiet; stands = stands_by b test }; falls = omega arith }
 
     pub loads_traced : StepsLower c (at LoadsTraced)
@@ -123,7 +125,7 @@ module _ (c : Configuration) (p : Plain) (s : Stands c p) (y : Held) (run : Run)
 
     -- once its machine is at this stage
     abbrev Comes : PlaceStage → Type 0
-    Comes stage = LowersWhereTold c.pages (table c) (table c) x (turned_place x (placing stage) (told_at stage)) (told_place x (told_at stage))
+    Comes stage = LowersWhereTold c.pages (saves c) (table c) (table c) x (turned_place x (placing stage) (told_at stage)) (told_place x (told_at stage))
 
     claims : Comes (ExchangesArea f)
     claims =
@@ -131,13 +133,13 @@ module _ (c : Configuration) (p : Plain) (s : Stands c p) (y : Held) (run : Run)
         record { remembers = record { began = a.remembers.began; quiet = a.remembers.quiet; stands = refl }; falls = omega (arith, few) }
 
     -- it makes a round
-    serves : (table c).traced ≢ y.epoch + 1 → Lowers c.pages (table c) (table c) x (full_by x short false)
+    serves : (table c).traced ≢ y.epoch + 1 → Lowers c.pages (saves c) (table c) (table c) x (full_by x short false)
     serves untraced =
         let n = a.is.fits.pages in
         let other : (table c).traced ≢ (table c).gate.epoch + 1 = (λ same. untraced (same ∙ ap (λ (e : ℕ). e + 1) (sym (now (LoadsArea traced size) a)))) in
         let due = due_untraced c.pages (table c).gate.epoch (table c).traced ((table c).area (to_space (table c).gate.epoch)).owed (table c).page other in
         record {
-          remembers = record { began = λ past. a.remembers.began tt; quiet = a.remembers.quiet; stands = (record { untraced = other; found = λ wanted is. absurd (cc) }, tt) };
+          remembers = record { began = λ past. a.remembers.began tt; quiet = a.remembers.quiet; stands = (record { untraced = inr other; found = λ wanted is. absurd (cc) }, tt) };
           falls = omega (arith, n, due);
         }
 
@@ -161,16 +163,23 @@ module _ (c : Configuration) (p : Plain) (s : Stands c p) (y : Held) (run : Run)
         (λ (all : c.pages ≤ size_in (table c)). absurd (let same = eq-eqb size y.layout.pages (omega (arith, n, is, within, all)) in let e = sym same ∙ other in cc))
         (cases_lt (size_in (table c)) c.pages)
 
+    -- where checkpoints can be begun, it makes a round for one in progress before that
+    by_room : (room : Bool) → flips_cost c.pages (flips_left c.pages (size_in (table c)) x) ≡ flips_cost c.pages (flips_left c.pages (size_in (table c)) x - 1) + flip_cost c.pages
+        → Lowers c.pages (saves c) (table c) (table c) x (at_stage x (cond room (checkpoints x ForFlip) (passes x Request afters.Places)))
+    by_room true flip =
+        let n = a.is.fits.pages in
+        record { remembers = record { began = λ past. a.remembers.began tt; quiet = a.remembers.quiet; stands = (tt, tt) }; falls = omega (arith, flip, n) }
+    by_room false flip = record { remembers = record { began = λ past. a.remembers.began tt; quiet = a.remembers.quiet; stands = (tt, tt) }; falls = omega (arith, flip) }
+
     -- it requests a flip, unless none can help
-    request_by : (b : Bool) → is_full x short ≡ b → LowersWhereTold c.pages (table c) (table c) x (cond b (ended x (end_by_shortage short)) (at_stage x (asks_flip x))) (cond b (told_end x.task (end_by_shortage short)) Silent)
+    request_by : (b : Bool) → is_full x short ≡ b → LowersWhereTold c.pages (saves c) (table c) (table c) x (cond b (ended x (end_by_shortage short)) (at_stage x (asks_flip x))) (cond b (told_end x.task (end_by_shortage short)) Silent)
     request_by true full =
-        subst (λ (task : Option Task). LowersWhereTold c.pages (table c) (table c) x (ended x (end_by_shortage short)) (told_end task (end_by_shortage short))) (sym a.is.fits.task.0.executes.task_is) tt
+        subst (λ (task : Option Task). LowersWhereTold c.pages (saves c) (table c) (table c) x (ended x (end_by_shortage short)) (told_end task (end_by_shortage short))) (sym a.is.fits.task.0.executes.task_is) tt
     request_by false full =
         let flip = flips_cost-less c.pages (flips_left c.pages (size_in (table c)) x) (may_ask (nat_lt y.begun y.epoch) refl full) in
-        subst (λ (stage : Stage). Lowers c.pages (table c) (table c) x (at_stage x stage)) (sym (asks_at_once x a.no_checkpoints))
-        (record { remembers = record { began = λ past. a.remembers.began tt; quiet = a.remembers.quiet; stands = (tt, tt) }; falls = omega (arith, flip) })
+        by_room y.layout.checkpoints flip
 
-    full_so : (b : Bool) → PlaceStands (table c) (placing (LoadsArea b size)) (LoadsArea b size) → LowersWhereTold c.pages (table c) (table c) x (full_by x short b) (told_full x short b)
+    full_so : (b : Bool) → PlaceStands (table c) (placing (LoadsArea b size)) (LoadsArea b size) → LowersWhereTold c.pages (saves c) (table c) (table c) x (full_by x short b) (told_full x short b)
     full_so true stands = request_by (is_full x short) refl
     full_so false stands = serves stands
 
@@ -218,5 +227,5 @@ module _ (c : Configuration) (p : Plain) (s : Stands c p) (y : Held) (run : Run)
     exchanges_area =
         let due = due_after in
         wants c p s z (Exchange (place_of c.pages (Area space)) (encode_area f.area) (encode_area lower)) (ap (λ n. Some (Exchange (place_of n (Area space)) (encode_area f.area) (encode_area lower))) a.is.fits.pages)
-        (exchanges c p s z (AreaIs space lower) (encode_area f.area) (is_space y.epoch, lower_fits) ((spelled c.pages c.words s.formed).areas space ∙ ap encode_area a.remembers.stands)
+        (exchanges c p s z (AreaIs space lower) (encode_area f.area) (is_space y.epoch, lower_fits) tt ((spelled c.pages c.words s.formed).areas space ∙ ap encode_area a.remembers.stands)
         (record { remembers = record { began = a.remembers.began; quiet = a.remembers.quiet; stands = tt }; falls = omega (arith, due) }))

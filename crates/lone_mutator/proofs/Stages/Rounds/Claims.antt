@@ -20,8 +20,8 @@ module _ (E : Era) (m : Memory) (d : Round) (a : RoundIsAlone E m d) (q : Claimi
   at stage = record q { stage = stage }
 
   by_last : (k : ℕ) (b : Bool) → nat_eq k 23 ≡ b → RoundGoes E m d (Claims (at (LooksAtPlace k))) (Value 0)
-  by_last k true test = record { next = Claims (at LooksAtGate); same = rw test refl; more = refl; found = same; advances = refl }
-  by_last k false test = record { next = Claims (at (LooksAtPlace (k + 1))); same = rw test refl; more = refl; found = same; advances = refl }
+  by_last k true test = record { next = Claims (at LooksAtGate); same = rw test refl; more = refl; found = same; untraced = λ back is. is; advances = refl }
+  by_last k false test = record { next = Claims (at (LooksAtPlace (k + 1))); same = rw test refl; more = refl; found = same; untraced = λ back is. is; advances = refl }
 
   pub at_place : (k word : ℕ) → word ≡ 0 → RoundGoes E m d (Claims (at (LooksAtPlace k))) (Value word)
   at_place k word none = rw none (by_last k (nat_eq k 23) refl)
@@ -34,5 +34,6 @@ module _ (E : Era) (m : Memory) (d : Round) (a : RoundIsAlone E m d) (q : Claimi
         same = ap (λ o. at_stage d (Duty.claim_went (at (claim.looked_at_gate q.epoch word o)) (claim.told_at (claim.looked_at_gate q.epoch word o)))) read ∙ rw test refl;
         more = refl;
         found = same;
+        untraced = λ back is. is;
         advances = ap is_some read;
       }

@@ -33,6 +33,7 @@ module _ (E : Era) (m : Memory) (d : Round) (a : RoundIsAlone E m d) where
     same = ap (λ o. at_stage d (Duty.ended_gate d traced word o)) read ∙ rw still refl;
     more = refl;
     found = (quiet, is);
+    untraced = λ back is. is;
     advances = ap is_some read;
   }
 
@@ -43,6 +44,7 @@ module _ (E : Era) (m : Memory) (d : Round) (a : RoundIsAlone E m d) where
     same = ap (λ o. at_stage d (Duty.ended_area d traced o)) read;
     more = refl;
     found = (quiet, record { traced = is; front = front });
+    untraced = λ back is. is;
     advances = ap is_some read;
   }
 
@@ -80,6 +82,7 @@ module _ (E : Era) (m : Memory) (d : Round) (a : RoundIsAlone E m d) where
       same = passes word read ∙ ap (λ (t : Bool). at_stage d (after t)) test;
       more = refl;
       found = (quiet, is);
+      untraced = λ back is. is;
       advances = refl;
     }
     by_full word false test read = by_rest (nat_eq (look.front % 64) 0) refl
@@ -90,6 +93,7 @@ module _ (E : Era) (m : Memory) (d : Round) (a : RoundIsAlone E m d) where
           same = passes word read ∙ (ap (λ (t : Bool). at_stage d (after t)) test ∙ rw none refl);
           more = refl;
           found = (is, λ rest. absurd (let e : look.front % 64 ≡ 0 = grind (arith, nat_tests) in rest e));
+          untraced = λ back is. is;
           advances = refl;
         }
         by_rest false rest = record {
@@ -97,6 +101,7 @@ module _ (E : Era) (m : Memory) (d : Round) (a : RoundIsAlone E m d) where
           same = passes word read ∙ (ap (λ (t : Bool). at_stage d (after t)) test ∙ rw rest refl);
           more = refl;
           found = is;
+          untraced = λ back is. is;
           advances = refl;
         }
 
@@ -119,7 +124,7 @@ module _ (E : Era) (m : Memory) (d : Round) (a : RoundIsAlone E m d) where
             (ap (λ (w : PageWord). Duty.state_of w d.epoch) now ∙ (ap (λ e. Duty.state_of (page_word.Open e) d.epoch) a.epoch ∙ opened_now d.epoch))
 
     pub at_filling : (word : ℕ) → decode_page word ≡ Some filling → RoundGoes E m d (EndFilling look) (Value word)
-    at_filling word read = record { next = EndAreaAgain look filling; same = goes_again word read; more = refl; found = (is, λ rest. refl); advances = ap is_some read }
+    at_filling word read = record { next = EndAreaAgain look filling; same = goes_again word read; more = refl; found = (is, λ rest. refl); untraced = λ back is. is; advances = ap is_some read }
 
   -- ---- FRONT again
 
@@ -139,6 +144,7 @@ module _ (E : Era) (m : Memory) (d : Round) (a : RoundIsAlone E m d) where
       same = stands word area read front ∙ ap (λ st. at_stage d (Duty.ends_by d look filling st)) state;
       more = refl;
       found = is.traced;
+      untraced = λ back is. is;
       advances = ap is_some read;
     }
 
@@ -150,6 +156,7 @@ module _ (E : Era) (m : Memory) (d : Round) (a : RoundIsAlone E m d) where
       same = stands word area read front ∙ ap (λ st. at_stage d (Duty.ends_by d look filling st)) state;
       more = refl;
       found = same;
+      untraced = λ back is. is;
       advances = ap is_some read;
     }
 

@@ -25,7 +25,7 @@ use Rattle.gc_worker.specs.Workers.Knows.{epoch_at}
 use Rattle.gc_worker.specs.Steps.Turned.{turned, turned_round}
 use Rattle.gc_worker.proofs.Words.Eras.{board_is, start_is}
 use Rattle.gc_worker.proofs.Stages.Rounds.Going.{round, at, same_pages}
-use Rattle.lone_mutator.specs.Law.{Lowers, IsAlone, StepsLower}
+use Rattle.lone_mutator.specs.Law.{Lowers, IsAlone, StepsLower, saves}
 use Rattle.lone_mutator.specs.Lone.{BackStands}
 use Rattle.lone_mutator.specs.Potential.{size_in}
 use Rattle.lone_mutator.proofs.Steps.GoingBack.{same_back, runs, own_epoch}
@@ -93,7 +93,9 @@ module _ (c : Configuration) (p : Plain) (s : Stands c p) (y : Held) (d : Round)
     mutator_by ToPlace (callers.Faulted page) stands is mutators e = is
     mutator_by ToPlace callers.Allocates stands is mutators e = cc
     mutator_by ToPlace (callers.Scans other) stands is mutators e = is
-    mutator_by ToSnap caller stands is mutators e = stands
+    mutator_by ToSnap (callers.Faulted page) stands is mutators e = is
+    mutator_by ToSnap callers.Allocates stands is mutators e = cc
+    mutator_by ToSnap (callers.Scans other) stands is mutators e = is
     mutator_by ToScanner caller stands is mutators e = stands
 
     pages : d.layout.pages ≡ c.pages
@@ -110,7 +112,6 @@ module _ (c : Configuration) (p : Plain) (s : Stands c p) (y : Held) (d : Round)
       silent = λ k few. a.remembers.quiet k few (λ _. refl);
       board = board_is c ∙ ap (λ n. 64 * (2 * n)) (sym pages);
       start = start_is c ∙ (ap (λ n. space_start n (to_space E.epoch)) (sym pages) ∙ ap (λ e. space_start d.layout.pages (to_space e)) era_epoch);
-      untraced = a.remembers.stands.0.untraced;
     }
 
     -- ---- it goes on
@@ -126,14 +127,14 @@ module _ (c : Configuration) (p : Plain) (s : Stands c p) (y : Held) (d : Round)
       fewer = subst (λ (r : Round). duty.left r < duty.left own) goes.same
           (lowering.lowers own stage reply a.is.fits.stage.0.sound.pages a.is.fits.stage.0.sound.stage goes.advances)
 
-      lower : Lowers c.pages (table c) (table c) x next
+      lower : Lowers c.pages (saves c) (table c) (table c) x next
       lower = record {
-        remembers = record { began = a.remembers.began; quiet = a.remembers.quiet; stands = (record { untraced = a.remembers.stands.0.untraced; found = goes.found }, back_stands) };
+        remembers = record { began = a.remembers.began; quiet = a.remembers.quiet; stands = (record { untraced = goes.untraced back a.remembers.stands.0.untraced; found = goes.found }, back_stands) };
         falls = (let same = same_back c.pages (size_in (table c)) next x back refl refl in let less = fewer in omega (arith, same, less));
       }
 
       pub goes_on : Owes c p s x (table c) reply
-      goes_on = subst (λ (z : Held). Lowers c.pages (table c) (table c) x z) (sym turns) lower
+      goes_on = subst (λ (z : Held). Lowers c.pages (saves c) (table c) (table c) x z) (sym turns) lower
 
     -- a load of a row
     pub loads_it : (row : Row) → IsRow c.pages row → duty.wanted own ≡ Some (Load (place_of d.layout.pages row))

@@ -1,5 +1,6 @@
 -- The loads of a round by a lone mutator: each takes it on.
-use Rattle.std.proofs.Common.{◌≡◌, ℕ, ◌*◌, ◌≤◌, Option, Some, refl, sym, ap, subst, ◌∙◌, arith}
+use Rattle.std.proofs.Common.{◌≡◌, ◌≢◌, ℕ, ◌+◌, ◌*◌, ◌≤◌, ◌⊎◌, inl, inr, Option, Some, refl, sym, ap, subst, ◌∙◌, arith}
+use Rattle.std.proofs.lemmas.Bool.{cases_eq}
 use Rattle.plain_state.specs.State.{Plain}
 use Rattle.atom_store.specs.declared.reply.Reply.TheVariants.{Value}
 use Rattle.space_map.specs.declared.area_word.AreaWord.{AreaWord}
@@ -31,11 +32,13 @@ use Rattle.gc_worker.proofs.Stages.Rounds.Choosing.{front_for}
 use Rattle.gc_worker.proofs.Stages.Rounds.Going.{round, at, same_pages}
 use Rattle.gc_worker.proofs.Stages.Rounds.Words.{traced_word, page_now, page_says, announced_now, announced_word}
 use Rattle.lone_mutator.specs.Law.{IsAlone, StepsLower}
+use Rattle.lone_mutator.specs.Rounds.{EndsTraced}
 use Rattle.lone_mutator.proofs.Stages.Rounds.Rounds.{RoundGoes}
 use Rattle.lone_mutator.proofs.Stages.Rounds.Claims.{at_place, at_gate}
 use Rattle.lone_mutator.proofs.Stages.Rounds.Ends.{at_gate_again, at_area, at_page_again, at_filling, at_area_again}
 use Rattle.lone_mutator.proofs.Stages.Rounds.Going.{alone, loads_it, worker_epoch, worker_now}
 use Rattle.lone_mutator.proofs.Stages.Rounds.Looks as looks
+use Rattle.lone_mutator.proofs.Stages.Rounds.Traced.{ends_traced}
 
 module _ (c : Configuration) (p : Plain) (s : Stands c p) (y : Held) (d : Round) (back : Back) where
   abbrev round_at : DutyStage → Round
@@ -71,14 +74,29 @@ module _ (c : Configuration) (p : Plain) (s : Stands c p) (y : Held) (d : Round)
   loads_gate a = loads_it c p s y d back LoadsGate a Gate tt refl
       (looks.at_gate (era c) (memory c) (round_at LoadsGate) (alone c p s y d back LoadsGate a) (gate_now c) (gate_says c p s) a.remembers.stands.0.found)
 
+  module _ (hindrance : Option ℕ) (a : IsAlone c (at c p s 0 y d back (LoadsTraced hindrance))) where
+    -- the epoch isn't traced, and the round goes on
+    goes_untraced : (memory c).traced ≢ (era c).epoch + 1 → StepsLower c (at c p s 0 y d back (LoadsTraced hindrance))
+    goes_untraced untraced =
+        let found = a.remembers.stands.0.found in
+        let own = alone c p s y d back (LoadsTraced hindrance) a in
+        loads_it c p s y d back (LoadsTraced hindrance) a Traced tt refl
+        (subst (λ (w : ℕ). RoundGoes (era c) (memory c) (round_at (LoadsTraced hindrance)) (LoadsTraced hindrance) (Value w)) (traced_word c)
+        (subst (λ (h : Option ℕ). RoundGoes (era c) (memory c) (round_at (LoadsTraced hindrance)) (LoadsTraced h) (Value (memory c).traced)) (sym found.1)
+        (looks.at_traced (era c) (memory c) (round_at (LoadsTraced hindrance)) own untraced found.0)))
+
+    -- or it ends a round of who begins a checkpoint
+    by_traced : EndsTraced back → ((memory c).traced ≡ (era c).epoch + 1) ⊎ ((memory c).traced ≢ (era c).epoch + 1)
+        → StepsLower c (at c p s 0 y d back (LoadsTraced hindrance))
+    by_traced ends (inl traced) = ends_traced c p s y d hindrance back ends a traced
+    by_traced ends (inr untraced) = goes_untraced untraced
+
+    by_known : EndsTraced back ⊎ ((memory c).traced ≢ (era c).epoch + 1) → StepsLower c (at c p s 0 y d back (LoadsTraced hindrance))
+    by_known (inl ends) = by_traced ends (cases_eq (memory c).traced ((era c).epoch + 1))
+    by_known (inr untraced) = goes_untraced untraced
+
   pub loads_traced : (hindrance : Option ℕ) → Owes (LoadsTraced hindrance)
-  loads_traced hindrance a =
-      let found = a.remembers.stands.0.found in
-      let own = alone c p s y d back (LoadsTraced hindrance) a in
-      loads_it c p s y d back (LoadsTraced hindrance) a Traced tt refl
-      (subst (λ (w : ℕ). RoundGoes (era c) (memory c) (round_at (LoadsTraced hindrance)) (LoadsTraced hindrance) (Value w)) (traced_word c)
-      (subst (λ (h : Option ℕ). RoundGoes (era c) (memory c) (round_at (LoadsTraced hindrance)) (LoadsTraced h) (Value (memory c).traced)) (sym found.1)
-      (looks.at_traced (era c) (memory c) (round_at (LoadsTraced hindrance)) own found.0)))
+  loads_traced hindrance a = by_known hindrance a a.remembers.stands.0.untraced
 
   pub loads_wanted : (found : Findings) (page : ℕ) → Owes (LoadsWanted found page)
   loads_wanted found page a =

@@ -73,6 +73,7 @@ module _ (E : Era) (m : Memory) (d : Round) (a : RoundIsAlone E m d) where
     same = ap (Duty.looked_at_gate d w) says ∙ caller_goes w d.caller refl;
     more = refl;
     found = (closed, refl);
+    untraced = λ back is. is;
     advances = ap is_some says;
   }
 
@@ -84,22 +85,31 @@ module _ (E : Era) (m : Memory) (d : Round) (a : RoundIsAlone E m d) where
   seen_found : Found m.traced seen
   seen_found = record { traced_is = refl; unhindered = refl }
 
-  untraced : nat_eq m.traced (d.epoch + 1) ≡ false
-  untraced = ne_eqb m.traced (d.epoch + 1) (λ (e : m.traced ≡ d.epoch + 1). a.untraced (let s = a.epoch in omega (arith, e, s)))
+  module _ (untraced : m.traced ≢ E.epoch + 1) where
+    test : nat_eq m.traced (d.epoch + 1) ≡ false
+    test = ne_eqb m.traced (d.epoch + 1) (λ (e : m.traced ≡ d.epoch + 1). untraced (let s = a.epoch in omega (arith, e, s)))
 
-  by_caller : (caller : Caller) → d.caller ≡ caller → IsForClosed E m.page d.caller → RoundGoes E m d (LoadsTraced None) (Value m.traced)
-  by_caller (Faulted page) is closed = record {
-    next = LoadsWanted seen page;
-    same = rw (untraced, is) refl;
-    more = refl;
-    found = (closed page is, seen_found);
-    advances = refl;
-  }
-  by_caller Allocates is closed = record { next = LoadsFront seen; same = rw (untraced, is) refl; more = refl; found = seen_found; advances = refl }
-  by_caller (Scans mutators) is closed = absurd (a.mutator mutators is)
+    by_caller : (caller : Caller) → d.caller ≡ caller → IsForClosed E m.page d.caller → RoundGoes E m d (LoadsTraced None) (Value m.traced)
+    by_caller (Faulted page) is closed = record {
+      next = LoadsWanted seen page;
+      same = rw (test, is) refl;
+      more = refl;
+      found = (closed page is, seen_found);
+      untraced = λ back known. untraced;
+      advances = refl;
+    }
+    by_caller Allocates is closed = record {
+      next = LoadsFront seen;
+      same = rw (test, is) refl;
+      more = refl;
+      found = seen_found;
+      untraced = λ back known. untraced;
+      advances = refl;
+    }
+    by_caller (Scans mutators) is closed = absurd (a.mutator mutators is)
 
-  pub at_traced : IsForClosed E m.page d.caller → RoundGoes E m d (LoadsTraced None) (Value m.traced)
-  at_traced closed = by_caller d.caller refl closed
+    pub at_traced : IsForClosed E m.page d.caller → RoundGoes E m d (LoadsTraced None) (Value m.traced)
+    at_traced closed = by_caller d.caller refl closed
 
   -- ---- the page that is wanted
 
@@ -127,6 +137,7 @@ module _ (E : Era) (m : Memory) (d : Round) (a : RoundIsAlone E m d) where
       same = waits_one word read ∙ (ap (λ (t : Bool). at_stage d (one t)) test ∙ ap (λ st. at_stage d (Duty.claim_by_state d page says false st)) state);
       more = refl;
       found = refl;
+      untraced = λ back is. is;
       advances = ap is_some read;
     }
     wanted_goes word false test read = record {
@@ -134,6 +145,7 @@ module _ (E : Era) (m : Memory) (d : Round) (a : RoundIsAlone E m d) where
       same = waits_one word read ∙ ap (λ (t : Bool). at_stage d (one t)) test;
       more = refl;
       found = (record { says = refl; closed = closed }, is);
+      untraced = λ back is. is;
       advances = ap is_some read;
     }
 
@@ -151,6 +163,7 @@ module _ (E : Era) (m : Memory) (d : Round) (a : RoundIsAlone E m d) where
       same = ap (λ o. at_stage d (Duty.found_front_for d found w o)) read ∙ rw (test, state_w) refl;
       more = refl;
       found = wanted.says;
+      untraced = λ back is. is;
       advances = ap is_some read;
     }
     front_for word area false test read = record {
@@ -158,6 +171,7 @@ module _ (E : Era) (m : Memory) (d : Round) (a : RoundIsAlone E m d) where
       same = ap (λ o. at_stage d (Duty.found_front_for d found w o)) read ∙ rw test refl;
       more = refl;
       found = is;
+      untraced = λ back is. is;
       advances = ap is_some read;
     }
 
@@ -173,6 +187,7 @@ module _ (E : Era) (m : Memory) (d : Round) (a : RoundIsAlone E m d) where
     same = ap (λ o. at_stage d (Duty.found_front d found o)) read;
     more = refl;
     found = record { found = is; front = front; passed = λ other. absurd (other refl) };
+    untraced = λ back is. is;
     advances = ap is_some read;
   }
 
@@ -190,6 +205,7 @@ module _ (E : Era) (m : Memory) (d : Round) (a : RoundIsAlone E m d) where
           ∙ ap (λ st. at_stage d (Duty.chosen_by d choice page word (m.page page) st)) (waits_early (m.page page) d.epoch early);
       more = refl;
       found = refl;
+      untraced = λ back is. is;
       advances = ap is_some read;
     }
 
@@ -240,6 +256,7 @@ module _ (E : Era) (m : Memory) (d : Round) (a : RoundIsAlone E m d) where
         same = passes word read ∙ ap (λ (t : Bool). at_stage d (cond t (LoadsPage choice next_page) (Duty.after_choice choice.seen choice.seen.hindrance))) test;
         more = refl;
         found = record { found = is.found; front = is.front; passed = λ other. open_next };
+        untraced = λ back is. is;
         advances = ap is_some read;
       }
       passed_by word false test read = record {
@@ -248,6 +265,7 @@ module _ (E : Era) (m : Memory) (d : Round) (a : RoundIsAlone E m d) where
             ∙ ap (λ o. at_stage d (Duty.after_choice choice.seen o)) is.found.unhindered);
         more = refl;
         found = (quiet test, is.found.traced_is);
+        untraced = λ back is. is;
         advances = ap is_some read;
       }
 

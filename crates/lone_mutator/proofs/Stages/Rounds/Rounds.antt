@@ -1,5 +1,5 @@
 -- What a mutator without company finds in a round, and what a round owes that goes on.
-use Rattle.std.proofs.Common.{◌≡◌, ◌≢◌, ℕ, ◌+◌, ◌*◌, ◌≤◌, true}
+use Rattle.std.proofs.Common.{◌≡◌, ◌≢◌, ℕ, ◌+◌, ◌*◌, ◌≤◌, true, arith}
 use Rattle.atom_store.specs.declared.reply.Reply.{Reply}
 use Rattle.atom_store.specs.declared.turn.Turn.TheVariants.{More}
 use Rattle.space_map.specs.declared.page_word.PageWord.TheVariants.{Open}
@@ -8,7 +8,11 @@ use Rattle.fault_duty.specs.declared.caller.Caller.TheVariants.{Scans}
 use Rattle.fault_duty.specs.declared.duty_stage.DutyStage.{DutyStage}
 use Rattle.fault_duty.specs.Duty.{Round, at_stage, taken_at, told_at, advances_at, to_start}
 use Rattle.heap_state.specs.Memory.Era.{Era, Memory}
-use Rattle.lone_mutator.specs.Rounds.{FoundAt}
+use Rattle.gc_worker.specs.declared.stage.back.Back.{Back}
+use Rattle.gc_worker.specs.declared.stage.back.Back.TheVariants.{ToAccess, ToPlace, ToSnap, ToScanner}
+use Rattle.lone_mutator.specs.Bound.{round_cost}
+use Rattle.lone_mutator.specs.Potential.{again_left, round_left}
+use Rattle.lone_mutator.specs.Rounds.{FoundAt, IsUntraced}
 
 -- The round is one of the gate's epoch by a mutator; nobody is behind, scans a page, or announces a place.
 pub record RoundIsAlone (E : Era) (m : Memory) (d : Round) : Type 0 where
@@ -21,7 +25,6 @@ pub record RoundIsAlone (E : Era) (m : Memory) (d : Round) : Type 0 where
   pub silent : (k : ℕ) → k ≤ 23 → m.announced k ≡ 0
   pub board : E.board ≡ 64 * (2 * d.layout.pages)
   pub start : E.start ≡ to_start d
-  pub untraced : m.traced ≢ E.epoch + 1
 
 -- the reply takes the round on to another stage, and what was found is so
 pub record RoundGoes (E : Era) (m : Memory) (d : Round) (stage : DutyStage) (reply : Reply) : Type 0 where
@@ -29,4 +32,12 @@ pub record RoundGoes (E : Era) (m : Memory) (d : Round) (stage : DutyStage) (rep
   pub same : taken_at d stage reply ≡ at_stage d next
   pub more : told_at next ≡ More
   pub found : FoundAt E m (at_stage d next) next
+  pub untraced : (back : Back) → IsUntraced m.traced E.epoch back stage → IsUntraced m.traced E.epoch back next
   pub advances : advances_at stage reply ≡ true
+
+-- in the midst of a round of an epoch that isn't traced, what the tracing costs, and the round after it
+pub left_again : (n left due : ℕ) → due ≡ left + round_cost n → (back : Back) → round_left left due back ≡ left + again_left n back
+left_again n left due is (ToAccess a) = omega arith
+left_again n left due is ToPlace = omega arith
+left_again n left due is ToSnap = omega (arith, is)
+left_again n left due is ToScanner = omega arith

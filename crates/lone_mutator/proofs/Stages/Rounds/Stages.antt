@@ -19,16 +19,16 @@ use Rattle.gc_worker.specs.Workers.Held.{Held, at_stage}
 use Rattle.gc_worker.specs.Steps.Turned.{back_from}
 use Rattle.gc_worker.proofs.Stages.Rounds.Going.{at, done, same_pages}
 use Rattle.gc_worker.proofs.Stages.Rounds.Words.{traced_now, traced_word}
-use Rattle.lone_mutator.specs.Law.{Lowers, IsAlone, StepsLower}
-use Rattle.lone_mutator.specs.Potential.{back_left, due_in, size_in}
+use Rattle.lone_mutator.specs.Law.{Lowers, IsAlone, StepsLower, saves}
+use Rattle.lone_mutator.specs.Potential.{again_left, back_left, due_in, left_in, round_left, size_in}
 use Rattle.lone_mutator.proofs.Steps.GoingBack.{past_look, same_back}
 use Rattle.lone_mutator.proofs.Steps.GoingOn.{GoesAt, goes_back}
-use Rattle.lone_mutator.proofs.Steps.NoCheckpoints.{none_runs}
 use Rattle.lone_mutator.proofs.Stages.Rounds.Going.{of_epoch, era_epoch}
 use Rattle.lone_mutator.proofs.Stages.Rounds.Loads as loads
+use Rattle.lone_mutator.proofs.Stages.Rounds.Rounds.{left_again}
 use Rattle.lone_mutator.proofs.Stages.Rounds.Winning.{exchanges_page}
 use Rattle.lone_mutator.proofs.Steps.Owed.{wants, exchanges}
-use Rattle.lone_mutator.proofs.Epochs.Cost.{due_traced}
+use Rattle.lone_mutator.proofs.Epochs.Cost.{due_traced, due_untraced}
 
 module _ (c : Configuration) (p : Plain) (s : Stands c p) (y : Held) (d : Round) (back : Back) where
   abbrev Owes : DutyStage → Type 0
@@ -55,16 +55,21 @@ module _ (c : Configuration) (p : Plain) (s : Stands c p) (y : Held) (d : Round)
     began : y.begun ≤ d.epoch
     began = let b = a.remembers.began (past_look back a.remembers.stands.1) in let e = same_epoch in omega (arith, b, e)
 
-    goes : GoesAt c.pages (with_entry entry t) (back_from ended back) (back_left c.pages (size_in t) ended back + due_in c.pages (with_entry entry t))
-    goes = goes_back c.pages (with_entry entry t) ended began (none_runs c x a) a.remembers.quiet back a.remembers.stands.1 a.is.fits.task
+    goes : GoesAt c.pages (saves c) (with_entry entry t) (back_from ended back) (back_left c.pages (size_in t) ended back + again_left c.pages back + due_in c.pages (with_entry entry t))
+    goes = goes_back c.pages (saves c) (with_entry entry t) ended a.is.fits.pages began a.remembers.quiet back a.remembers.stands.1 a.is.fits.task
 
     marked : due_in c.pages (with_entry entry t) ≡ 0
     marked = due_traced c.pages t.gate.epoch (d.epoch + 1) (t.area (to_space t.gate.epoch)).owed t.page (ap (λ e. e + 1) (sym (era_epoch c p s y d back (Traces traced) a)))
 
-    lower : Lowers c.pages t (with_entry entry t) x (back_from ended back)
+    -- who begins a checkpoint makes one more round, which is paid
+    paid_again : round_left (left_in c.pages t) (due_in c.pages t) back ≡ left_in c.pages t + again_left c.pages back
+    paid_again = left_again c.pages (left_in c.pages t) (due_in c.pages t)
+        (due_untraced c.pages t.gate.epoch t.traced (t.area (to_space t.gate.epoch)).owed t.page a.remembers.stands.0.untraced) back
+
+    lower : Lowers c.pages (saves c) t (with_entry entry t) x (back_from ended back)
     lower = record {
       remembers = goes.remembers;
-      falls = (let within = goes.within in let same = same_back c.pages (size_in t) ended x back refl same_epoch in let none = marked in omega (arith, within, same, none));
+      falls = (let within = goes.within in let same = same_back c.pages (size_in t) ended x back refl same_epoch in let none = marked in let again = paid_again in omega (arith, within, same, none, again));
     }
 
     stands : traced_now c ≡ traced
@@ -74,7 +79,7 @@ module _ (c : Configuration) (p : Plain) (s : Stands c p) (y : Held) (d : Round)
     marks =
         wants c p s x (Exchange (place_of c.pages Traced) traced (d.epoch + 1))
         (ap (λ n. Some (Exchange (place_of n Traced) traced (d.epoch + 1))) (same_pages c p s 0 y d back (Traces traced) a.is))
-        (exchanges c p s x entry traced tt stands lower)
+        (exchanges c p s x entry traced tt tt stands lower)
 
   -- ---- all
 

@@ -30,13 +30,14 @@ use Rattle.gc_worker.specs.Steps.Turned.{served_by, turned}
 use Rattle.gc_worker.proofs.Words.Eras.{board_is, start_is, span_within}
 use Rattle.gc_worker.proofs.Stages.Rounds.Going.{round, at, same_pages}
 use Rattle.gc_worker.proofs.Stages.Rounds.Words.{page_now, page_says}
-use Rattle.lone_mutator.specs.Law.{Lowers, IsAlone, StepsLower}
-use Rattle.lone_mutator.specs.Potential.{left_in, size_in}
+use Rattle.lone_mutator.specs.Law.{Lowers, IsAlone, StepsLower, saves}
+use Rattle.lone_mutator.specs.Potential.{again_left, due_in, left_in, round_left, size_in}
 use Rattle.lone_mutator.specs.Bound.{page_cost}
 use Rattle.lone_mutator.proofs.Steps.GoingBack.{same_back}
+use Rattle.lone_mutator.proofs.Stages.Rounds.Rounds.{left_again}
 use Rattle.lone_mutator.proofs.Stages.Rounds.Going.{of_epoch, era_epoch, worker_now}
 use Rattle.lone_mutator.proofs.Steps.Owed.{wants, exchanges}
-use Rattle.lone_mutator.proofs.Epochs.Cost.{IsToBeTraced, left_claimed}
+use Rattle.lone_mutator.proofs.Epochs.Cost.{IsToBeTraced, due_untraced, left_claimed}
 
 -- a scan that begins has at most so many steps left
 begun-le : (b : Bool) (l : Layout) (page epoch : ℕ) (in_place : Bool) → nat_eq page (board_page l.pages) ≡ b → scan_left.left (scan.begun l page epoch in_place) ≤ 451
@@ -116,19 +117,25 @@ module _ (c : Configuration) (p : Plain) (s : Stands c p) (y : Held) (d : Round)
         (let e = own.epoch in omega (arith, e, now)) a.remembers.stands.0.untraced to_be_traced
         (λ (new : age_of (t.page q.page) ≡ t.gate.epoch + 1). let e = own.epoch in let l = own.sound.earlier in let f = ap age_of found in absurd (omega (arith, new, e, l, f, now)))
 
-    lower : Lowers c.pages t (with_entry entry t) x scanner
+    -- the round that follows the scan is paid too
+    paid_again : round_left (left_in c.pages t) (due_in c.pages t) back ≡ left_in c.pages t + again_left c.pages back
+    paid_again = left_again c.pages (left_in c.pages t) (due_in c.pages t)
+        (due_untraced c.pages t.gate.epoch t.traced (t.area (to_space t.gate.epoch)).owed t.page a.remembers.stands.0.untraced) back
+
+    lower : Lowers c.pages (saves c) t (with_entry entry t) x scanner
     lower = record {
       remembers = record { began = λ past. (let b = a.remembers.began past in let e = of_epoch c p s y d back stage a in omega (arith, b, e)); quiet = a.remembers.quiet; stands = a.remembers.stands.1 };
       falls =
           (let same = same_back c.pages (size_in t) scanner x back refl (of_epoch c p s y d back stage a) in
           let few = begun-le (nat_eq q.page (board_page y.layout.pages)) y.layout q.page d.epoch q.in_place refl in
           let less = paid in
-          omega (arith, same, few, less));
+          let again = paid_again in
+          omega (arith, same, few, less, again));
     }
 
     pub exchanges_page : StepsLower c x
     exchanges_page =
         wants c p s x (Exchange (place_of c.pages (Page q.page)) (encode_page q.found) (encode_page (Scanning q.epoch q.worker)))
         (ap (λ n. Some (Exchange (place_of n (Page q.page)) (encode_page q.found) (encode_page (Scanning q.epoch q.worker)))) pages)
-        (exchanges c p s x entry (encode_page q.found) (inside, (own.sound.epoch, let w = own.sound.worker in omega (arith, w))) stands
-        (subst (λ (z : Held). Lowers c.pages t (with_entry entry t) x z) (sym turns) lower))
+        (exchanges c p s x entry (encode_page q.found) (inside, (own.sound.epoch, let w = own.sound.worker in omega (arith, w))) tt stands
+        (subst (λ (z : Held). Lowers c.pages (saves c) t (with_entry entry t) x z) (sym turns) lower))

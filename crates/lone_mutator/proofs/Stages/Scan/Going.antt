@@ -11,18 +11,19 @@ use Rattle.page_scan.specs.Soundness.{FitsStage}
 use Rattle.page_scan.specs.Taken.{scan_end, stage_after}
 use Rattle.heap_state.specs.Configuration.{Configuration, Stands, table}
 use Rattle.heap_state.specs.Memory.Table.{Table}
+use Rattle.heap_state.specs.Saving.Words.{Saves}
 use Rattle.gc_worker.specs.declared.stage.back.Back.{Back}
 use Rattle.gc_worker.specs.declared.stage.Stage.TheVariants.{Scans}
 use Rattle.gc_worker.specs.Workers.Held.{Held}
 use Rattle.gc_worker.specs.Steps.Wanted.{wanted}
 use Rattle.gc_worker.proofs.Stages.Scan.GoingOn.{scans_to}
 use Rattle.gc_worker.proofs.Stages.Scan.Stages.{scans}
-use Rattle.lone_mutator.specs.Law.{Lowers, IsAlone, StepsLower}
+use Rattle.lone_mutator.specs.Law.{Lowers, IsAlone, StepsLower, saves}
 use Rattle.lone_mutator.specs.Lone.{NobodyElseAnnounces}
 use Rattle.lone_mutator.specs.Potential.{back_left, left_in, size_in}
 use Rattle.lone_mutator.proofs.Stages.Scan.Lowering.{cost, lowers}
 use Rattle.lone_mutator.proofs.Steps.Rows.{HoldsBy}
-use Rattle.lone_mutator.proofs.Steps.Owed.{Owes}
+use Rattle.lone_mutator.proofs.Steps.Owed.{OwesAll, pays}
 
 module _ (c : Configuration) (p : Plain) (s : Stands c p) (y : Held) (z : Scanning) (back : Back) (stage : ScanStage) where
   abbrev pub at : Scanning
@@ -40,7 +41,7 @@ module _ (c : Configuration) (p : Plain) (s : Stands c p) (y : Held) (z : Scanni
     returns : back_left c.pages (size_in after) y back ≡ back_left c.pages (size_in t) y back
     returns = ap (λ (size : ℕ). back_left c.pages size y back) size
 
-    lower : (next : ScanStage) → cost (scan_end z.layout z.page) next < left_at (scan_end z.layout z.page) stage → Lowers c.pages t after x (scans_to x at back next)
+    lower : (next : ScanStage) → cost (scan_end z.layout z.page) next < left_at (scan_end z.layout z.page) stage → Lowers c.pages (saves c) t after x (scans_to x at back next)
     lower LoadsCross fewer = record { remembers = record { began = a.remembers.began; quiet = quiet; stands = a.remembers.stands }; falls = omega (arith, same, returns, fewer) }
     lower (LoadsFirst first) fewer = record { remembers = record { began = a.remembers.began; quiet = quiet; stands = a.remembers.stands }; falls = omega (arith, same, returns, fewer) }
     lower (LoadsCount h) fewer = record { remembers = record { began = a.remembers.began; quiet = quiet; stands = a.remembers.stands }; falls = omega (arith, same, returns, fewer) }
@@ -55,12 +56,12 @@ module _ (c : Configuration) (p : Plain) (s : Stands c p) (y : Held) (z : Scanni
     abbrev next_at : Reply → ScanStage
     next_at reply = stage_after z.layout z.page z.epoch z.in_place stage reply
 
-    pub goes_on : (reply : Reply) → advances stage reply ≡ true → FitsStage z.layout.pages z.page (next_at reply) → Owes c p s x after reply
-    goes_on reply on fits = lower (next_at reply) (lowers z.layout z.page z.epoch z.in_place stage reply a.is.fits.stage.0.sound.fits fits on)
+    pub goes_on : (reply : Reply) → advances stage reply ≡ true → FitsStage z.layout.pages z.page (next_at reply) → OwesAll c p s x after (saves c) reply
+    goes_on reply on fits = pays c p s x after reply (lower (next_at reply) (lowers z.layout z.page z.epoch z.in_place stage reply a.is.fits.stage.0.sound.fits fits on))
 
   -- what a reply owes where the scan stays sound
-  abbrev pub OwesSound : Table → Reply → Type 0
-  OwesSound after reply = FitsStage z.layout.pages z.page (stage_after z.layout z.page z.epoch z.in_place stage reply) → Owes c p s x after reply
+  abbrev pub OwesSound : Table → Saves → Reply → Type 0
+  OwesSound after then reply = FitsStage z.layout.pages z.page (stage_after z.layout z.page z.epoch z.in_place stage reply) → OwesAll c p s x after then reply
 
   -- which it does
   pub sound_steps : IsAlone c x → ((q : Step) → wanted x ≡ Some q → HoldsBy c p s OwesSound q) → StepsLower c x

@@ -17,13 +17,12 @@ use Rattle.gc_worker.specs.declared.stage.back.Back.{Back}
 use Rattle.gc_worker.specs.declared.stage.Stage.TheVariants.{Opens}
 use Rattle.gc_worker.specs.Workers.Held.{Held, at_stage}
 use Rattle.gc_worker.specs.Steps.Turned.{back_from}
-use Rattle.lone_mutator.specs.Law.{Lowers, IsAlone, StepsLower}
-use Rattle.lone_mutator.specs.Potential.{back_left, due_in, left_in, size_in}
+use Rattle.lone_mutator.specs.Law.{Lowers, IsAlone, StepsLower, saves}
+use Rattle.lone_mutator.specs.Potential.{again_left, back_left, due_in, left_in, size_in}
 use Rattle.lone_mutator.specs.Bound.{round_cost}
 use Rattle.lone_mutator.proofs.Stages.Gate.Counts.{present}
 use Rattle.lone_mutator.proofs.Steps.GoingBack.{past_look, runs}
 use Rattle.lone_mutator.proofs.Steps.GoingOn.{GoesAt, goes_back}
-use Rattle.lone_mutator.proofs.Steps.NoCheckpoints.{none_runs}
 use Rattle.lone_mutator.proofs.Steps.Owed.{wants, stores}
 use Rattle.lone_mutator.proofs.Epochs.Cost.{due_opened, due_le_left}
 
@@ -41,8 +40,8 @@ module _ (c : Configuration) (p : Plain) (s : Stands c p) (y : Held) (o : Openin
     now : o.epoch ≡ t.gate.epoch
     now = a.is.fits.stage.0.epoch ∙ present c p s x a (runs back a.remembers.stands)
 
-    goes : GoesAt c.pages (with_entry entry t) (back_from x back) (back_left c.pages (size_in t) x back + due_in c.pages (with_entry entry t))
-    goes = goes_back c.pages (with_entry entry t) x (a.remembers.began (past_look back a.remembers.stands)) (none_runs c x a) a.remembers.quiet back a.remembers.stands a.is.fits.task
+    goes : GoesAt c.pages (saves c) (with_entry entry t) (back_from x back) (back_left c.pages (size_in t) x back + again_left c.pages back + due_in c.pages (with_entry entry t))
+    goes = goes_back c.pages (saves c) (with_entry entry t) x a.is.fits.pages (a.remembers.began (past_look back a.remembers.stands)) a.remembers.quiet back a.remembers.stands a.is.fits.task
 
     paid : due_in c.pages (with_entry entry t) ≤ left_in c.pages t + round_cost c.pages
     paid =
@@ -50,7 +49,7 @@ module _ (c : Configuration) (p : Plain) (s : Stands c p) (y : Held) (o : Openin
         let before = due_le_left c.pages t.gate.epoch t.traced (t.area (to_space t.gate.epoch)).owed t.page in
         omega (arith, fewer, before)
 
-    lower : Lowers c.pages t (with_entry entry t) x (back_from x back)
+    lower : Lowers c.pages (saves c) t (with_entry entry t) x (back_from x back)
     lower = record { remembers = goes.remembers; falls = (let within = goes.within in let less = paid in omega (arith, within, less)) }
 
     opens_page : StepsLower c x
@@ -58,7 +57,7 @@ module _ (c : Configuration) (p : Plain) (s : Stands c p) (y : Held) (o : Openin
         let own = a.is.fits.stage.0 in
         let pages : o.layout.pages ≡ c.pages = ap (λ l. l.pages) own.layout ∙ a.is.fits.pages in
         wants c p s x (Store (place_of c.pages (Page o.page)) (encode_page (Open o.epoch))) (ap (λ n. Some (Store (place_of n (Page o.page)) (encode_page (Open o.epoch)))) pages)
-        (stores c p s x entry ((let few = own.sound.page in omega (arith, few, pages)), own.sound.epoch) lower)
+        (stores c p s x entry ((let few = own.sound.page in omega (arith, few, pages)), own.sound.epoch) tt lower)
 
   by_stage : (stage : OpenStage) → IsAlone c (at_stage y (Opens (record o { stage = stage }) scan back)) → StepsLower c (at_stage y (Opens (record o { stage = stage }) scan back))
   by_stage StoresOpen a = opens_page a

@@ -138,7 +138,7 @@ module _ (c : Configuration) (p : Plain) (s : Stands c p) (y : Held) (z : Scanni
       let want : wanted (at stage) ≡ Some (Store (place_of c.pages (HeapWord place)) word) = ap (λ m. Some (Store (place_of m (HeapWord place)) word)) n in
       sound_steps c p s y z back stage a (λ q asks.
       subst (steps.HoldsBy c p s (OwesSound c p s y z back stage)) (same_Some (Store (place_of c.pages (HeapWord place)) word) q (sym want ∙ asks))
-      (steps.stores c p s (OwesSound c p s y z back stage) (WordIs place word) (on_table asked.spot a.is.fits.stage.0.sound.fits n)
+      (steps.stores c p s (OwesSound c p s y z back stage) (WordIs place word) (on_table asked.spot a.is.fits.stage.0.sound.fits n) tt
       (goes_on c p s y z back stage a (with_entry (WordIs place word) (table c)) refl refl a.remembers.quiet Done refl)))
 
   -- ---- all

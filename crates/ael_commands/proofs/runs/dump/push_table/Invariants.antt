@@ -1,9 +1,12 @@
 use Rattle.std.proofs.Common.{◌++◌, codes}
 use Rattle.std.specs.String.{string_bytes}
-use Rattle.dump_text.specs.Text.{table_lines, word_text}
-use Rattle.ael_commands.proofs.Seeing.{TextsToldSoFar}
+use Rattle.dump_text.specs.Text.{IsWord, table_lines, word_text}
+use Rattle.ael_commands.proofs.Seeing.{IsSoBefore, TextsToldSoFar}
 use Rattle.ael_commands.proofs.runs.dump.push_table.Given as goal
 
 abbrev pub invariant-loop-place : goal.invariant-loop-place
 invariant-loop-place g l =
-    TextsToldSoFar (λ word. word_text word ++ codes "\n") (string_bytes l.out) l.place (g.H.Report.told l.heap).dump.words (string_bytes l.fn.out ++ table_lines (g.H.Report.told l.heap).dump.words)
+    record {
+      text : TextsToldSoFar (λ word. word_text word ++ codes "\n") (string_bytes l.out) l.place (g.H.Report.told l.heap).dump.words (string_bytes l.fn.out ++ table_lines (g.H.Report.told l.heap).dump.words);
+      words : IsSoBefore IsWord l.place (g.H.Report.told l.heap).dump.words;
+    }

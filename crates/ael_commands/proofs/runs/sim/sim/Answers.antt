@@ -1,8 +1,9 @@
 use Rattle.std.proofs.Common.{refl, ◌∙◌}
 use Rattle.std.proofs.lemmas.Result.{IfOk-weaker}
+use Rattle.gc_core.proofs.Events.Opening.{limit_fits}
 use Rattle.ael_commands.specs.Runs.Run.{IsRunOf, Scheduled}
 use Rattle.ael_commands.specs.Runs.Simulation.{config, simulated_run, scheduled}
-use Rattle.ael_commands.proofs.Simulating.{simulated}
+use Rattle.ael_commands.proofs.Simulating.{run_size, simulated}
 use Rattle.ael_commands.proofs.runs.sim.sim.Goals as goal
 
 pub returns : goal.returns
@@ -26,9 +27,11 @@ returns c =
       };
       acts = follows.acts;
       dump = follows.dump;
+      checkpoint = c.checkpoints_are_told.ensures program items (config options.run) schedule options.steps formed sizes turns scanners;
       live = c.cycles_keep_what_is_live.ensures program items (config options.run) schedule options.steps formed sizes turns scanners;
     } in
-    IfOk-weaker c.told.result _ _ (λ answer told. simulated options program items _ c.in_ok-order.order.items _ _ is follows.seen
+    let size = run_size options program items formed (limit_fits (config options.run) sizes) scanners follows.lawful in
+    IfOk-weaker c.told.result _ _ (λ answer told. simulated options program items _ c.in_ok-order.order.items told.2 _ _ is size follows.seen
     (rw (c.in_ok-core.ensures.opened, c.as_slice.ensures) at c.in_ok-order.ensures.core)
     (rw (c.in_ok-core.ensures.opened, c.as_slice.ensures) at c.in_ok-order.ensures.order)
-    (told.1 ∙ rw c.deref.ensures.value) told.0) c.told.ensures
+    told.3 told.1 (told.4 ∙ rw c.deref.ensures.value) told.0) c.told.ensures

@@ -4,8 +4,13 @@ use Rattle.std.proofs.lemmas.Result.{IfOk-weaker}
 use Rattle.ael_commands.proofs.runs.sim.told.Goals as goal
 
 pub returns : goal.returns
-returns c = IfOk-weaker c.new.result _ _ (λ answer new. (
-  new.1 ∙ c.verdict.ensures,
-  new.0 ∙ ap (λ (v : Vec ℕ). v.items) c.into_bytes.ensures.value
-      ∙ rw (c.in_ok-push_heap.ensures, c.in_ok-push_order_if.ensures, c.in_ok-push_mutators.ensures, c.new-output.ensures.bytes),
-)) c.new.ensures.whole
+returns c =
+    let heap = c.in_ok-push_heap.ensures.text in
+    IfOk-weaker c.new.result _ _ (λ answer new. (
+      new.1 ∙ c.verdict.ensures,
+      c.in_ok-push_heap.ensures.words,
+      heap.0,
+      heap.1,
+      new.0 ∙ ap (λ (v : Vec ℕ). v.items) c.into_bytes.ensures.value
+          ∙ rw (heap.2, c.in_ok-push_order_if.ensures, c.in_ok-push_mutators.ensures, c.new-output.ensures.bytes),
+    )) c.new.ensures.whole

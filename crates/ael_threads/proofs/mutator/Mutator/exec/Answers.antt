@@ -1,7 +1,9 @@
-use Rattle.gc_worker.specs.declared.task.Task.TheVariants.{Calls}
-use Rattle.ael_threads.proofs.WholeCalls.FromActs.{under_way}
+use Rattle.ael_threads.proofs.WholeCalls.AfterSnap.{ended_by, settled_by}
 use Rattle.ael_threads.proofs.mutator.Mutator.exec.Goals as goal
 
-pub returns-clause-called : goal.returns-clause-called
-returns-clause-called g c =
-    c.comes_to.ensures.called c.args.self.now (Calls c.args.instr.now) (under_way c.args.self.now c.begin.new.self (Calls c.args.instr.now) c.begin.ensures.begun c.begin.ensures.same.1 c.begin.ensures.looks_first)
+pub returns-in-Done-clause-called : goal.returns-in-Done-clause-called
+returns-in-Done-clause-called g c =
+    settled_by c.args.self.now c.calls-did.new.self c.settles.new.self c.args.instr.now c.calls-did.result c.in-Snap.is c.in-Done.is c.calls-did.ensures.called (c.settles.ensures.goes_on c.calls-did.new.self) c.settles.ensures.settled
+
+pub returns-in_default-did-clause-called : goal.returns-in_default-did-clause-called
+returns-in_default-did-clause-called g c = ended_by c.args.self.now c.calls-did.new.self c.args.instr.now c.calls-did.result c.in-Snap.is c.in_default-did.not-Done c.calls-did.ensures.called

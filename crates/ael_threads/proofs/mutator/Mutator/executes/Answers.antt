@@ -18,8 +18,8 @@ returns-in_default g c =
     executing_ends w c.args.m c.loop-executed.executed a c.loop-executed.invariant c.stop.new.self (Stops JumpOut) JumpOut c.stop.ensures.table
     (read_off w c.args.m c.loop-executed.executed a c.loop-executed.invariant (Stops JumpOut) c.pc.ensures.shows (next_jumps w c.args.m a.worker.account.counter c.loop-executed.executed c.instr.result few is c.in_default.is)) c.stop.ensures.called
 
-pub exec-requires-clause-may_begin : goal.exec-requires-clause-may_begin
-exec-requires-clause-may_begin g c =
+pub calls-requires-clause-may_begin : goal.calls-requires-clause-may_begin
+calls-requires-clause-may_begin g c =
     let w : Work = c.args.job.now in
     let few : c.loop-executed.executed < w.turns = subst (λ (z : Work). c.loop-executed.executed < z.turns) c.job.view_is c.loop-executed-test.true in
     let most = c.job.inside.few in
@@ -33,7 +33,7 @@ returns-in-Trap g c =
     let a = c.loop-executed.self in
     let few : c.loop-executed.executed < w.turns = subst (λ (z : Work). c.loop-executed.executed < z.turns) c.job.view_is c.loop-executed-test.true in
     let is = c.instr.ensures.exact ∙ ((λ i. instr_at (c.job.view_is i).code c.args.m (c.pc.ensures.pc i))) in
-    executing_ends w c.args.m c.loop-executed.executed a c.loop-executed.invariant c.exec.new.self (Calls c.in-Some.instr) c.in-Trap.field-0 c.exec.ensures.table
+    executing_ends w c.args.m c.loop-executed.executed a c.loop-executed.invariant c.calls.new.self (Calls c.in-Some.instr) c.in-Trap.field-0 c.calls.ensures.table
     (read_off w c.args.m c.loop-executed.executed a c.loop-executed.invariant (Calls c.in-Some.instr) c.pc.ensures.shows (next_call w c.args.m a.worker.account.counter c.loop-executed.executed c.instr.result c.in-Some.instr few is c.in-Some.is)) c.in-Trap.ensures.called
 
 pub loop-executed-preserved : goal.loop-executed-preserved
@@ -42,9 +42,9 @@ loop-executed-preserved g c =
     let a = c.loop-executed.self in
     let few : c.loop-executed.executed < w.turns = subst (λ (z : Work). c.loop-executed.executed < z.turns) c.job.view_is c.loop-executed-test.true in
     let is = c.instr.ensures.exact ∙ ((λ i. instr_at (c.job.view_is i).code c.args.m (c.pc.ensures.pc i))) in
-    executing_more w c.args.m c.loop-executed.executed a c.loop-executed.invariant c.exec.new.self (Calls c.in-Some.instr) c.exec.ensures.table
+    executing_more w c.args.m c.loop-executed.executed a c.loop-executed.invariant c.calls.new.self (Calls c.in-Some.instr) c.calls.ensures.table
     (read_off w c.args.m c.loop-executed.executed a c.loop-executed.invariant (Calls c.in-Some.instr) c.pc.ensures.shows (next_call w c.args.m a.worker.account.counter c.loop-executed.executed c.instr.result c.in-Some.instr few is c.in-Some.is))
-    (subst (λ (did : Did). Called a (Calls c.in-Some.instr) did c.exec.new.self) (is_done c.exec.result c.in_default-exec.not-Trap) c.exec.ensures.called)
+    (subst (λ (did : Did). Called a (Calls c.in-Some.instr) did c.calls.new.self) (is_done c.calls.result c.in_default-calls.not-Trap) c.calls.ensures.called)
 
 pub returns : goal.returns
 returns g c =

@@ -1,36 +1,20 @@
-use Rattle.std.proofs.Common.{◌≡◌, ◌≤◌, ℕ, true, false, not, List, [], length, Result, Ok, Err, refl, sym, subst, ap, ◌∙◌, arith}
+use Rattle.std.proofs.Common.{◌≡◌, ◌≤◌, ℕ, true, not, List, [], length, Result, Ok, Err, refl, sym, subst, ap, ◌∙◌, arith}
 use Rattle.std.specs.Prelude.{◌↔◌, IsErrAnd, IsErrOf, IsTrue}
 use Rattle.std.proofs.lemmas.Bool.{le-leb}
-use Rattle.std.proofs.lemmas.List.{length-replicate}
-use Rattle.std.proofs.Math.ListN.{length-set}
-use Rattle.heap_laws.specs.Opening.{opening_entries}
-use Rattle.heap_state.specs.Memory.Entries.{written}
-use Rattle.space_map.specs.Table.{table_length, whole_length}
+use Rattle.space_map.specs.Table.{whole_length}
 use Rattle.gc_worker.specs.declared.open_error.OpenError.{OpenError}
 use Rattle.gc_worker.specs.declared.open_error.OpenError.TheVariants.{BadPages, NoMemory}
 use Rattle.space_map.specs.declared.spaces.TheConstants.{FEWEST_PAGES}
-use Rattle.space_map.specs.Spaces.{Layout, IsPageCount, without_checkpoints}
+use Rattle.space_map.specs.Spaces.{Layout, IsPageCount}
 use Rattle.gc_worker.specs.Config.{has_sizes}
-use Rattle.gc_worker.specs.Laws.Between.{opening_words}
 use Rattle.atomic_table.specs.Table as table
 use Rattle.gc_worker.specs.declared.config.Config.{Config}
 use Rattle.ael_threads.specs.declared.view.Plan.{Plan}
 use Rattle.ael_threads.specs.Opened.{new_scanners}
 use Rattle.ael_threads.specs.Rule.{RuleHolds, crew, first_view}
 use Rattle.ael_threads.specs.Seats.{new_callers}
-use Rattle.ael_threads.proofs.TableRule.Opening.{opens_kept}
+use Rattle.ael_threads.proofs.TableRule.Opening.{opening_length, opens_kept}
 use Rattle.ael_threads.proofs.shared.Shared.open.Goals as goal
-
--- the words are as many as the table has
-all_words : (n least : ℕ) (words : List ℕ) → words ≡ written n (opening_entries n least) → length words ≡ table_length n
-all_words n least words is = ap length is ∙ simp (length-set, length-replicate)
-
--- without room for checkpoints they are these, and so many
-written_first : (layout : Layout) (least : ℕ) → layout.checkpoints ≡ false → opening_words layout least ≡ written layout.pages (opening_entries layout.pages least)
-written_first layout least without = rw without refl
-
-whole_is : (layout : Layout) → layout.checkpoints ≡ false → whole_length layout ≡ table_length layout.pages
-whole_is layout without = rw without refl
 
 -- of sizes that a heap may have only memory may be wanting
 module _ (config : Config) (n : ℕ) (size : IsPageCount n) (is : n ≡ config.limit) (within : (FEWEST_PAGES ≤ config.pages) × (config.pages ≤ n)) where
@@ -53,17 +37,12 @@ module _ (config : Config) (n : ℕ) (size : IsPageCount n) (is : n ≡ config.l
 abbrev opens : (mutators : ℕ) → Config → Layout → Plan
 opens mutators config layout = record { spaces = layout; least = config.pages; mutators = mutators; scanners = config.scanners }
 
--- a layout is known by its parts
-laid_out : (layout : Layout) (n : ℕ) → layout.pages ≡ n → layout.checkpoints ≡ false → layout ≡ without_checkpoints n
-laid_out layout n pages without = λ i. record { pages = pages i; checkpoints = without i }
-
 pub of_words-requires : goal.of_words-requires
 of_words-requires c =
     let plan : Plan = record { spaces = c.in_ok-spaces.spaces; least = c.args.config.now.pages; mutators = c.args.mutators; scanners = c.args.config.now.scanners } in
     let all : crew plan ≤ 24 = (let a = c.requires.mutators.1 in let b = c.requires.scanners in omega (arith, a, b)) in
-    let without = c.in_ok-spaces.ensures.without in
-    subst (λ (words : List ℕ). RuleHolds plan (table.opening {S = ℕ} words [] (first_view plan))) (written_first c.in_ok-spaces.spaces plan.least without ∙ sym (c.as_slice.ensures.value ∙ c.in_ok-words.ensures))
-    (opens_kept plan without c.known.ensures c.in_ok-spaces.ensures.at_first.0 c.in_ok-spaces.ensures.at_first.1 c.requires.mutators.1 all)
+    subst (λ (words : List ℕ). RuleHolds plan (table.opening {S = ℕ} words [] (first_view plan))) (sym (c.as_slice.ensures.value ∙ c.in_ok-words.ensures))
+    (opens_kept plan c.known.ensures c.in_ok-spaces.ensures.at_first.0 c.in_ok-spaces.ensures.at_first.1 c.requires.mutators.1 all)
 
 pub deal-requires-clause-few : goal.deal-requires-clause-few
 deal-requires-clause-few c = (c.requires.mutators.1, (let a = c.requires.mutators.1 in let b = c.requires.scanners in omega (arith, a, b)))
@@ -75,29 +54,29 @@ pub deal-requires-clause-seat : goal.deal-requires-clause-seat
 deal-requires-clause-seat c = c.in_ok-table.ensures.4
 
 pub returns-clause-key : goal.returns-clause-key
-returns-clause-key c = c.in_ok-table.ensures.5 ∙ ap (opens c.args.mutators c.args.config.now) (laid_out c.in_ok-spaces.spaces c.args.config.now.limit c.in_ok-spaces.ensures.pages c.in_ok-spaces.ensures.without)
+returns-clause-key c = c.in_ok-table.ensures.5 ∙ ap (opens c.args.mutators c.args.config.now) c.in_ok-spaces.ensures.layout
 
 pub returns-clause-mutators : goal.returns-clause-mutators
 returns-clause-mutators c =
     let t = c.in_ok-table.table.shared.table_id in
-    c.in_ok-seats.ensures.mutators ∙ ap (λ (l : Layout). new_callers t (opens c.args.mutators c.args.config.now l) 0 c.args.mutators) (laid_out c.in_ok-spaces.spaces c.args.config.now.limit c.in_ok-spaces.ensures.pages c.in_ok-spaces.ensures.without)
+    c.in_ok-seats.ensures.mutators ∙ ap (λ (l : Layout). new_callers t (opens c.args.mutators c.args.config.now l) 0 c.args.mutators) c.in_ok-spaces.ensures.layout
 
 pub returns-clause-scanners : goal.returns-clause-scanners
 returns-clause-scanners c =
     let t = c.in_ok-table.table.shared.table_id in
-    c.in_ok-seats.ensures.scanners ∙ ap (λ (l : Layout). new_scanners t (opens c.args.mutators c.args.config.now l) c.args.mutators c.args.config.now.scanners) (laid_out c.in_ok-spaces.spaces c.args.config.now.limit c.in_ok-spaces.ensures.pages c.in_ok-spaces.ensures.without)
+    c.in_ok-seats.ensures.scanners ∙ ap (λ (l : Layout). new_scanners t (opens c.args.mutators c.args.config.now l) c.args.mutators c.args.config.now.scanners) c.in_ok-spaces.ensures.layout
 
 pub returns-in_err-words-clause-bad_pages : goal.returns-in_err-words-clause-bad_pages
-returns-in_err-words-clause-bad_pages c = no_memory c.args.config.now _ c.known.ensures c.in_ok-spaces.ensures.pages c.in_ok-spaces.ensures.at_first _ c.from_residual-in_err-words.ensures.1
+returns-in_err-words-clause-bad_pages c = no_memory c.args.config.now _ c.known.ensures (ap (λ (l : Layout). l.pages) c.in_ok-spaces.ensures.layout) c.in_ok-spaces.ensures.at_first _ c.from_residual-in_err-words.ensures.1
 
 pub returns-in_err-table-clause-bad_pages : goal.returns-in_err-table-clause-bad_pages
-returns-in_err-table-clause-bad_pages c = no_memory c.args.config.now _ c.known.ensures c.in_ok-spaces.ensures.pages c.in_ok-spaces.ensures.at_first _ c.from_residual-in_err-table.ensures.1
+returns-in_err-table-clause-bad_pages c = no_memory c.args.config.now _ c.known.ensures (ap (λ (l : Layout). l.pages) c.in_ok-spaces.ensures.layout) c.in_ok-spaces.ensures.at_first _ c.from_residual-in_err-table.ensures.1
 
 pub returns-clause-bad_pages : goal.returns-clause-bad_pages
-returns-clause-bad_pages c = is_open c.args.config.now _ c.known.ensures c.in_ok-spaces.ensures.pages c.in_ok-spaces.ensures.at_first _
+returns-clause-bad_pages c = is_open c.args.config.now _ c.known.ensures (ap (λ (l : Layout). l.pages) c.in_ok-spaces.ensures.layout) c.in_ok-spaces.ensures.at_first _
 
 pub deal-requires-clause-live : goal.deal-requires-clause-live
-deal-requires-clause-live c = c.in_ok-table.ensures.0 ∙ (all_words _ _ _ (c.as_slice.ensures.value ∙ c.in_ok-words.ensures) ∙ sym (whole_is c.in_ok-spaces.spaces c.in_ok-spaces.ensures.without))
+deal-requires-clause-live c = c.in_ok-table.ensures.0 ∙ (ap length (c.as_slice.ensures.value ∙ c.in_ok-words.ensures) ∙ opening_length c.in_ok-spaces.spaces c.args.config.now.pages)
 
 pub returns-clause-words : goal.returns-clause-words
-returns-clause-words c = c.in_ok-table.ensures.0 ∙ (all_words _ _ _ (c.as_slice.ensures.value ∙ c.in_ok-words.ensures) ∙ ap table_length c.in_ok-spaces.ensures.pages)
+returns-clause-words c = c.in_ok-table.ensures.0 ∙ (ap length (c.as_slice.ensures.value ∙ c.in_ok-words.ensures) ∙ (opening_length c.in_ok-spaces.spaces c.args.config.now.pages ∙ ap whole_length c.in_ok-spaces.ensures.layout))

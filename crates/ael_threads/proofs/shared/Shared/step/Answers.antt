@@ -1,4 +1,4 @@
-use Rattle.std.proofs.Common.{◌≡◌, ℕ, ◌<◌, ◌≢◌, List, [], ◌∷◌, Bool, Some, refl, sym, ap, ◌∙◌, subst, eq-eqb, ne_eqb, arith, if◌then◌else◌}
+use Rattle.std.proofs.Common.{◌≡◌, ℕ, ◌<◌, ◌≢◌, List, [], ◌∷◌, Bool, Some, refl, sym, ap, ◌∙◌, subst, eq-eqb, ne_eqb, if◌then◌else◌}
 use mathlib.Core.Option.{none}
 use Rattle.atomic_table.specs.Seated.{TableId}
 use Rattle.atomic_table.specs.Table as table

@@ -1,6 +1,7 @@
 use Rattle.concordance.specs.Lone.{desk_of}
 use Rattle.concordance.proofs.Doing.{does_begins}
 use Rattle.concordance.proofs.Lone.{does_desk, does_lone, does_not_end}
+use Rattle.concordance.proofs.Calls.{does_not_snap}
 use Rattle.concordance.proofs.clerk.Clerk.does.Goals as goal
 
 pub call-requires-clause-may_begin : goal.call-requires-clause-may_begin
@@ -14,3 +15,6 @@ returns-clause-lone g c = does_lone c.args.self.now c.call.new.self c.args.instr
 
 pub returns-clause-desk : goal.returns-clause-desk
 returns-clause-desk g c = does_desk c.args.self.now c.call.new.self c.args.instr c.requires.lone c.requires.can c.call.result c.call.ensures.called c.in-Done.is
+
+pub call-requires-clause-other : goal.call-requires-clause-other
+call-requires-clause-other g c = does_not_snap (desk_of c.args.self.now) c.args.instr c.requires.can

@@ -1,5 +1,6 @@
 use Rattle.concordance.specs.Gathering.{whole_desk_of}
 use Rattle.concordance.proofs.Gathered.Reads.{gets_begins, gets_it, gets_not_end}
+use Rattle.concordance.proofs.Calls.{gets_not_snap}
 use Rattle.concordance.proofs.clerk.Clerk.gets.Goals as goal
 
 pub call-requires-clause-may_begin : goal.call-requires-clause-may_begin
@@ -13,3 +14,6 @@ unreachable-requires g c = gets_not_end c.args.self.now c.call.new.self c.args.i
 
 pub returns : goal.returns
 returns g c = gets_it c.args.self.now c.call.new.self c.args.instr c.requires.all c.requires.can c.call.result c.call.ensures.called c.in-Done.is c.call.ensures.of_heap c.requires.valid
+
+pub call-requires-clause-other : goal.call-requires-clause-other
+call-requires-clause-other g c = gets_not_snap (whole_desk_of c.args.self.now) c.args.instr c.requires.can

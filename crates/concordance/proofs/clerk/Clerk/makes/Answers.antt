@@ -5,6 +5,7 @@ use Rattle.concordance.specs.Lone.{desk_of}
 use Rattle.concordance.proofs.Doing.{makes_serial}
 use Rattle.concordance.proofs.Lone.{finds_full, makes_desk, makes_full, makes_lone}
 use Rattle.concordance.proofs.Shown.{serial_read}
+use Rattle.concordance.proofs.Calls.{makes_not_snap}
 use Rattle.concordance.proofs.clerk.Clerk.makes.Goals as goal
 
 pub prove-unreachable-requires : goal.prove-unreachable-requires
@@ -34,3 +35,6 @@ returns-in-Done-clause-shows g c = subst (λ (s : Seated). ShowsSeen s.worker s.
 
 pub returns-in-Trap-clause-shows : goal.returns-in-Trap-clause-shows
 returns-in-Trap-clause-shows g c = subst (λ (s : Seated). ShowsSeen s.worker s.knows) c.self.view_is c.serial-serial.ensures.shows
+
+pub call-requires-clause-other : goal.call-requires-clause-other
+call-requires-clause-other g c = makes_not_snap (desk_of c.args.self.now) c.args.instr c.requires.can

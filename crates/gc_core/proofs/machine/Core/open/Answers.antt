@@ -1,7 +1,5 @@
 use Rattle.std.proofs.Common.{◌≡◌, ◌+◌, length, refl, ap, ◌∙◌, arith}
-use Rattle.space_map.specs.Spaces.{without_checkpoints}
 use Rattle.gc_worker.proofs.Between.Opening.{many}
-use Rattle.gc_core.proofs.Events.Opening.{sizes_fit}
 use Rattle.gc_core.proofs.Events.Lawful.{lawful_opening}
 use Rattle.gc_core.proofs.machine.Core.open.Goals as goal
 
@@ -12,19 +10,14 @@ all_there c =
     ∙ ap (λ n. n + c.args.config.now.scanners) c.len-mutators.ensures
 
 pub words-requires : goal.words-requires
-words-requires c =
-    let fit = sizes_fit c.args.config.now (c.in_ok-spaces.ensures.refused_exactly_outside.0 refl) in
-    let pages = c.in_ok-spaces.ensures.pages in
-    omega (arith, fit.1, pages)
+words-requires c = c.in_ok-spaces.ensures.at_first.1
 
 pub returns-clause-workers : goal.returns-clause-workers
 returns-clause-workers c = all_there c
 
 pub invariant_of-result : goal.invariant_of-result
 invariant_of-result c =
-    let same = c.in_ok-spaces.ensures.pages in
-    let without = c.in_ok-spaces.ensures.without in
-    let layout : c.in_ok-spaces.spaces ≡ without_checkpoints c.args.config.now.limit = λ i. record { pages = same i; checkpoints = without i } in
+    let layout = c.in_ok-spaces.ensures.layout in
     let words = c.in_ok-atoms.ensures in
     let slots = c.in_ok-slots.ensures in
     let len = c.len-mutators.ensures in

@@ -6,7 +6,15 @@ use Rattle.gc_worker.specs.Steps.Turned.{turned}
 use Rattle.gc_worker.specs.contracts.state.State.{the_view}
 use Rattle.gc_worker.specs.declared.stage.Stage.TheVariants.{Serves}
 use Rattle.gc_worker.proofs.Words.Read.{round_turned, served_after, served_fits, served_uncounted}
+use Rattle.gc_worker.proofs.Workers.BeginningAnew.{taken_anew}
 use Rattle.gc_worker.proofs.state.State.serve.Goals as goal
+
+pub has_served-requires-clause-round : goal.has_served-requires-clause-round
+has_served-requires-clause-round c =
+    let x = the_view c.self.inside in
+    let Fitting : Held → Type 0 = λ y. FitsStage y y.stage in
+    taken_anew x c.in-Serves.duty c.take.new.self c.in-Serves.field-1 c.args.reply c.in-Serves.is c.take.ensures.state
+    (subst Fitting (sym c.self.view_is) c.requires.fits.stage)
 
 pub has_served-requires-clause-fits : goal.has_served-requires-clause-fits
 has_served-requires-clause-fits c =

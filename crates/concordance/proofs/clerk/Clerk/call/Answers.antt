@@ -1,0 +1,10 @@
+use Rattle.std.proofs.Common.{subst}
+use Rattle.ael_threads.specs.Calls.{CalledBy}
+use Rattle.ael_threads.specs.Seats.{Seated}
+use Rattle.concordance.proofs.Calls.{called}
+use Rattle.concordance.proofs.clerk.Clerk.call.Goals as goal
+
+pub returns-clause-called : goal.returns-clause-called
+returns-clause-called g c =
+    let by = subst (λ (s : Seated). CalledBy s c.args.instr c.exec.result c.exec.new.self) c.self.view_is c.exec.ensures.called in
+    called c.args.self.now c.exec.new.self c.args.instr c.exec.result c.requires.other by

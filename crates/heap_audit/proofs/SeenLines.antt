@@ -1,0 +1,219 @@
+-- The lines of one mutator, read number by number, as a loop does.
+use Rattle.std.proofs.Common.{◌≡◌, ℕ, suc, ◌+◌, ◌^◌, ◌<◌, ◌≤◌, Bool, true, false, cond, eqb, decimal, List, [], ◌∷◌, ◌++◌, length, Option, Some, None, refl, sym, ap, subst, ◌∙◌, arith}
+use Rattle.std.proofs.lemmas.Bool.{eqb-true, eq-eqb}
+use Rattle.std.proofs.lemmas.List.{append_assoc, append-nil, length-append}
+use Rattle.std.proofs.lemmas.List.Concat.{flat_map-cons}
+use Rattle.std.specs.List.{flat_map, AllByRecursion}
+use Rattle.plain_state.specs.declared.end.End.{End}
+use Rattle.plain_state.specs.declared.sizes.TheConstants.{MOST_PRINTED}
+use Rattle.plain_heap.specs.Print.{end_text, printed_line, printed_lines, Seen}
+use Rattle.dump_text.specs.Pieces.{◌>>=◌, byte_at}
+use Rattle.dump_text.proofs.Options.{some_bind, some_is}
+use Rattle.dump_text.proofs.Pieces.{byte_takes}
+use Rattle.heap_audit.specs.Ends.{end_at, EndFits}
+use Rattle.heap_audit.specs.Lines.{named_at, printed_at, ended_at, IsPrinted, SeenFits}
+use Rattle.heap_audit.specs.Pieces.{decimal_at, mutator_at}
+use Rattle.heap_audit.proofs.EndTexts.{end_takes, end_again, no_number}
+use Rattle.heap_audit.proofs.Marks.{mutator_takes, mutator_again}
+use Rattle.heap_audit.proofs.Numerals.{number_takes, number_again}
+
+-- ---- a line
+
+-- a test that stands in the way and passed
+some_where : {A : Type 0} (b : Bool) (o : Option A) (y : A) → cond b o None ≡ Some y → (b ≡ true) × (o ≡ Some y)
+some_where true o y e = (refl, e)
+some_where false o y e = absurd cc
+
+-- the number of a mutator, and what stands behind it
+abbrev Named : ℕ → List ℕ → List ℕ
+Named m text = decimal m ++ 58 ∷ 32 ∷ text
+
+pub line_is : (m : ℕ) (text rest : List ℕ) → printed_line m text ++ rest ≡ Named m (text ++ 10 ∷ rest)
+line_is m text rest = simp append_assoc refl
+
+named_takes : (m : ℕ) (bytes rest : List ℕ) → named_at m bytes ≡ Some rest → bytes ≡ Named m rest
+unfolding named_at
+named_takes m bytes rest e =
+    let a = some_bind (mutator_at bytes) (λ named. cond (eqb named.0 m) (byte_at 58 named.1 >>= λ rest. byte_at 32 rest) None) rest e in
+    let b = some_where (eqb a.0.0 m) (byte_at 58 a.0.1 >>= λ rest. byte_at 32 rest) rest a.2 in
+    let c = some_bind (byte_at 58 a.0.1) (λ rest. byte_at 32 rest) rest b.1 in
+    (mutator_takes bytes a.0.0 a.0.1 a.1).0
+    ∙ ap (λ (t : List ℕ). decimal a.0.0 ++ t) (byte_takes 58 a.0.1 c.0 c.1 ∙ ap (λ (t : List ℕ). 58 ∷ t) (byte_takes 32 c.0 rest c.2))
+    ∙ ap (λ (k : ℕ). Named k rest) (eqb-true a.0.0 m b.0)
+
+named_again : (m : ℕ) (rest : List ℕ) → m < 256 → named_at m (Named m rest) ≡ Some rest
+unfolding named_at
+named_again m rest lt = rw (mutator_again m (58 ∷ 32 ∷ rest) lt refl, eq-eqb m m refl) refl
+
+printed_takes : (m : ℕ) (bytes : List ℕ) (n : ℕ) (rest : List ℕ) → printed_at m bytes ≡ Some (n, rest) → (bytes ≡ printed_line m (decimal n) ++ rest) × IsPrinted n
+unfolding printed_at
+printed_takes m bytes n rest e =
+    let a = some_bind (named_at m bytes) (λ text. decimal_at (2 ^ 62) text >>= λ number. byte_at 10 number.1 >>= λ rest. Some (number.0, rest)) (n, rest) e in
+    let b = some_bind (decimal_at (2 ^ 62) a.0) (λ number. byte_at 10 number.1 >>= λ rest. Some (number.0, rest)) (n, rest) a.2 in
+    let c = some_bind (byte_at 10 b.0.1) (λ rest. Some (b.0.0, rest)) (n, rest) b.2 in
+    let t = number_takes (2 ^ 62) a.0 b.0.0 b.0.1 b.1 in
+    let whole : bytes ≡ Named m (decimal b.0.0 ++ 10 ∷ c.0) =
+    named_takes m bytes a.0 a.1 ∙ ap (λ (xs : List ℕ). Named m xs) (t.0 ∙ ap (λ (xs : List ℕ). decimal b.0.0 ++ xs) (byte_takes 10 b.0.1 c.0 c.1)) in
+    let P : ℕ × List ℕ → Type 0 = λ q. (bytes ≡ printed_line m (decimal q.0) ++ q.1) × IsPrinted q.0 in
+    subst P (some_is {A = ℕ × List ℕ} (b.0.0, c.0) (n, rest) c.2) (whole ∙ sym (line_is m (decimal b.0.0) c.0), t.1)
+
+printed_again : (m n : ℕ) (rest : List ℕ) → m < 256 → IsPrinted n → printed_at m (printed_line m (decimal n) ++ rest) ≡ Some (n, rest)
+unfolding printed_at
+printed_again m n rest lt fits =
+    ap (printed_at m) (line_is m (decimal n) rest)
+    ∙ rw (named_again m (decimal n ++ 10 ∷ rest) lt, number_again (2 ^ 62) n (10 ∷ rest) (omega arith) fits refl) refl
+
+-- the line of an end is no number's
+not_printed : (m : ℕ) (end : Option End) (rest : List ℕ) → m < 256 → printed_at m (printed_line m (end_text end) ++ rest) ≡ None
+unfolding printed_at
+not_printed m end rest lt =
+    ap (printed_at m) (line_is m (end_text end) rest) ∙ rw (named_again m (end_text end ++ 10 ∷ rest) lt, no_number (2 ^ 62) end (10 ∷ rest)) refl
+
+ended_takes : (m : ℕ) (bytes : List ℕ) (end : Option End) (rest : List ℕ) → ended_at m bytes ≡ Some (end, rest) → (bytes ≡ printed_line m (end_text end) ++ rest) × EndFits end
+unfolding ended_at
+ended_takes m bytes end rest e =
+    let a = some_bind (named_at m bytes) (λ text. end_at text >>= λ end. byte_at 10 end.1 >>= λ rest. Some (end.0, rest)) (end, rest) e in
+    let b = some_bind (end_at a.0) (λ end. byte_at 10 end.1 >>= λ rest. Some (end.0, rest)) (end, rest) a.2 in
+    let c = some_bind (byte_at 10 b.0.1) (λ rest. Some (b.0.0, rest)) (end, rest) b.2 in
+    let t = end_takes a.0 b.0.0 b.0.1 b.1 in
+    let whole : bytes ≡ Named m (end_text b.0.0 ++ 10 ∷ c.0) =
+    named_takes m bytes a.0 a.1 ∙ ap (λ (xs : List ℕ). Named m xs) (t.0 ∙ ap (λ (xs : List ℕ). end_text b.0.0 ++ xs) (byte_takes 10 b.0.1 c.0 c.1)) in
+    let P : Option End × List ℕ → Type 0 = λ q. (bytes ≡ printed_line m (end_text q.0) ++ q.1) × EndFits q.0 in
+    subst P (some_is {A = Option End × List ℕ} (b.0.0, c.0) (end, rest) c.2) (whole ∙ sym (line_is m (end_text b.0.0) c.0), t.1)
+
+ended_again : (m : ℕ) (end : Option End) (rest : List ℕ) → m < 256 → EndFits end → ended_at m (printed_line m (end_text end) ++ rest) ≡ Some (end, rest)
+unfolding ended_at
+ended_again m end rest lt fits =
+    ap (ended_at m) (line_is m (end_text end) rest)
+    ∙ rw (named_again m (end_text end ++ 10 ∷ rest) lt, end_again end (10 ∷ rest) fits refl) refl
+
+-- ---- the lines so far
+
+-- the lines of numbers
+abbrev pub numbers_text : ℕ → List ℕ → List ℕ
+numbers_text m numbers = flat_map (λ n. printed_line m (decimal n)) numbers
+
+-- the lines of numbers and of an end, and what stands behind them
+abbrev pub Lines : ℕ → List ℕ → Option End → List ℕ → List ℕ
+Lines m numbers end tail = numbers_text m numbers ++ (printed_line m (end_text end) ++ tail)
+
+lines_are : (m : ℕ) (numbers : List ℕ) (end : Option End) (tail : List ℕ) → printed_lines m numbers end ++ tail ≡ Lines m numbers end tail
+lines_are m numbers end tail = append_assoc (numbers_text m numbers) (printed_line m (end_text end)) tail
+
+text_of_one : (m n : ℕ) (numbers : List ℕ) (after : List ℕ) → numbers_text m (n ∷ numbers) ++ after ≡ printed_line m (decimal n) ++ (numbers_text m numbers ++ after)
+text_of_one m n numbers after = ap (λ (t : List ℕ). t ++ after) (flat_map-cons (λ n. printed_line m (decimal n)) n numbers) ∙ append_assoc (printed_line m (decimal n)) (numbers_text m numbers) after
+
+-- what is left of a mutator's lines when some numbers are read
+pub record Left (m : ℕ) (found numbers : List ℕ) (end : Option End) (rest tail : List ℕ) : Type 0 where
+  pub more : List ℕ
+  pub split : numbers ≡ found ++ more
+  pub fit : AllByRecursion IsPrinted more
+  pub text : rest ≡ Lines m more end tail
+
+-- the numbers that are read are those that stand at the front
+pub record SoFar (m : ℕ) (bytes found rest : List ℕ) : Type 0 where
+  pub taken : bytes ≡ numbers_text m found ++ rest
+  pub few : length found ≤ MOST_PRINTED
+  pub fit : AllByRecursion IsPrinted found
+  pub only : (numbers : List ℕ) (end : Option End) (tail : List ℕ) → AllByRecursion IsPrinted numbers → bytes ≡ Lines m numbers end tail → Left m found numbers end rest tail
+
+pub starts : (m : ℕ) (bytes : List ℕ) → SoFar m bytes [] bytes
+starts m bytes = record { taken = refl; few = omega arith; fit = tt; only = λ numbers end tail h e. record { more = numbers; split = refl; fit = h; text = e } }
+
+fits_one_more : (found : List ℕ) (n : ℕ) → AllByRecursion IsPrinted found → IsPrinted n → AllByRecursion IsPrinted (found ++ n ∷ [])
+fits_one_more [] n h one = (one, tt)
+fits_one_more (k ∷ found) n h one = (h.0, fits_one_more found n h.1 one)
+
+text_one_more : (m : ℕ) (found : List ℕ) (n : ℕ) (after : List ℕ) → numbers_text m (found ++ n ∷ []) ++ after ≡ numbers_text m found ++ (printed_line m (decimal n) ++ after)
+text_one_more m [] n after = text_of_one m n [] after
+text_one_more m (k ∷ found) n after =
+    text_of_one m k (found ++ n ∷ []) after ∙ ap (λ (t : List ℕ). printed_line m (decimal k) ++ t) (text_one_more m found n after) ∙ sym (text_of_one m k found (printed_line m (decimal n) ++ after))
+
+none_is_not_some : {A : Type 0} (o : Option A) (x : A) → o ≡ None → o ≡ Some x → ⊥
+none_is_not_some o x none some = absurd cc
+
+-- the numbers that are left begin with the one that is read
+record Begins (m : ℕ) (left : List ℕ) (n : ℕ) (after : List ℕ) (end : Option End) (tail : List ℕ) : Type 0 where
+  others : List ℕ
+  split : left ≡ n ∷ others
+  fit : AllByRecursion IsPrinted others
+  text : after ≡ Lines m others end tail
+
+module _ (m : ℕ) (lt : m < 256) where
+  begins : (left : List ℕ) (end : Option End) (tail rest : List ℕ) (n : ℕ) (after : List ℕ) → AllByRecursion IsPrinted left → rest ≡ Lines m left end tail → printed_at m rest ≡ Some (n, after) → Begins m left n after end tail
+  begins [] end tail rest n after h e read = absurd (none_is_not_some (printed_at m rest) (n, after) (ap (printed_at m) e ∙ not_printed m end tail lt) read)
+  begins (k ∷ left) end tail rest n after h e read =
+      let again : printed_at m rest ≡ Some (k, Lines m left end tail) =
+      ap (printed_at m) (e ∙ text_of_one m k left (printed_line m (end_text end) ++ tail)) ∙ printed_again m k (Lines m left end tail) lt h.0 in
+      let same = some_is {A = ℕ × List ℕ} (k, Lines m left end tail) (n, after) (sym again ∙ read) in
+      record {
+        others = left;
+        split = ap (λ (q : ℕ × List ℕ). q.0 ∷ left) same;
+        fit = h.1;
+        text = sym (ap (λ (q : ℕ × List ℕ). q.1) same);
+      }
+
+  -- no number is left where none is read
+  at_end : (left : List ℕ) (end : Option End) (tail rest : List ℕ) → AllByRecursion IsPrinted left → rest ≡ Lines m left end tail → printed_at m rest ≡ None → left ≡ []
+  at_end [] end tail rest h e read = refl
+  at_end (k ∷ left) end tail rest h e read =
+      absurd (none_is_not_some (printed_at m rest) (k, Lines m left end tail) read (ap (printed_at m) (e ∙ text_of_one m k left (printed_line m (end_text end) ++ tail)) ∙ printed_again m k (Lines m left end tail) lt h.0))
+
+  module _ (bytes found rest : List ℕ) (s : SoFar m bytes found rest) where
+    -- one more number
+    pub goes_on : (n : ℕ) (after : List ℕ) → printed_at m rest ≡ Some (n, after) → length found < MOST_PRINTED → SoFar m bytes (found ++ n ∷ []) after
+    goes_on n after read room =
+        let t = printed_takes m rest n after read in
+        record {
+          taken = s.taken ∙ ap (λ (xs : List ℕ). numbers_text m found ++ xs) t.0 ∙ sym (text_one_more m found n after);
+          few = omega (arith, length-append found (n ∷ []), room);
+          fit = fits_one_more found n s.fit t.1;
+          only = λ numbers end tail h e.
+              let l = s.only numbers end tail h e in
+              let b = begins l.more end tail rest n after l.fit l.text read in
+              record {
+                more = b.others;
+                split = l.split ∙ ap (λ (xs : List ℕ). found ++ xs) b.split ∙ sym (append_assoc found (n ∷ []) b.others);
+                fit = b.fit;
+                text = b.text;
+              };
+        }
+
+    -- one number too many
+    pub too_many : (n : ℕ) (after : List ℕ) → printed_at m rest ≡ Some (n, after) → length found ≡ MOST_PRINTED → (seen : Seen) (tail : List ℕ) → SeenFits seen → bytes ≡ printed_lines m seen.printed seen.end ++ tail → ⊥
+    too_many n after read full seen tail fits e =
+        let l = s.only seen.printed seen.end tail fits.1 (e ∙ lines_are m seen.printed seen.end tail) in
+        let b = begins l.more seen.end tail rest n after l.fit l.text read in
+        let long : length seen.printed ≡ length found + length l.more = ap (λ (xs : List ℕ). length xs) l.split ∙ length-append found l.more in
+        let more : length l.more ≡ suc (length b.others) = ap (λ (xs : List ℕ). length xs) b.split in
+        absurd (omega (arith, long, more, full, fits.0))
+
+    -- what is left is the line of the end
+    left_end : printed_at m rest ≡ None → (seen : Seen) (tail : List ℕ) → SeenFits seen → bytes ≡ printed_lines m seen.printed seen.end ++ tail → (seen.printed ≡ found) × (rest ≡ printed_line m (end_text seen.end) ++ tail)
+    left_end none seen tail fits e =
+        let l = s.only seen.printed seen.end tail fits.1 (e ∙ lines_are m seen.printed seen.end tail) in
+        let over = at_end l.more seen.end tail rest l.fit l.text none in
+        (l.split ∙ ap (λ (xs : List ℕ). found ++ xs) over ∙ append-nil found, l.text ∙ ap (λ (xs : List ℕ). Lines m xs seen.end tail) over)
+
+    pub no_end : printed_at m rest ≡ None → ended_at m rest ≡ None → (seen : Seen) (tail : List ℕ) → SeenFits seen → bytes ≡ printed_lines m seen.printed seen.end ++ tail → ⊥
+    no_end none wrong seen tail fits e =
+        let l = left_end none seen tail fits e in
+        none_is_not_some (ended_at m rest) (seen.end, tail) wrong (ap (ended_at m) l.1 ∙ ended_again m seen.end tail lt fits.2)
+
+    pub ends : (end : Option End) (after : List ℕ) → ended_at m rest ≡ Some (end, after) → SeenFits (record { printed = found; end = end }) × (bytes ≡ printed_lines m found end ++ after)
+    ends end after read =
+        let t = ended_takes m rest end after read in
+        ((s.few, s.fit, t.1), s.taken ∙ ap (λ (xs : List ℕ). numbers_text m found ++ xs) t.0 ∙ sym (lines_are m found end after))
+
+    pub ends_only : (end : Option End) (after : List ℕ) → printed_at m rest ≡ None → ended_at m rest ≡ Some (end, after) → (seen : Seen) (tail : List ℕ) → SeenFits seen → bytes ≡ printed_lines m seen.printed seen.end ++ tail → ◌≡◌ {A = Seen × List ℕ} (record { printed = found; end = end }, after) (seen, tail)
+    ends_only end after none read seen tail fits e =
+        let l = left_end none seen tail fits e in
+        let same = some_is {A = Option End × List ℕ} (end, after) (seen.end, tail) (sym read ∙ ap (ended_at m) l.1 ∙ ended_again m seen.end tail lt fits.2) in
+        ap (λ (xs : List ℕ). (record { printed = xs; end = end }, after)) (sym l.0) ∙ ap (λ (q : Option End × List ℕ). (record { printed = seen.printed; end = q.0 }, q.1)) same
+
+  -- reading a number leaves less
+  pub less : (rest : List ℕ) (n : ℕ) (after : List ℕ) → printed_at m rest ≡ Some (n, after) → length after < length rest
+  less rest n after read =
+      let t = printed_takes m rest n after read in
+      let e : rest ≡ Named m (decimal n ++ 10 ∷ after) = t.0 ∙ line_is m (decimal n) after in
+      omega (arith, ap (λ (xs : List ℕ). length xs) e, length-append (decimal m) (58 ∷ 32 ∷ (decimal n ++ 10 ∷ after)), length-append (decimal n) (10 ∷ after))

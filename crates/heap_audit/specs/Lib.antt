@@ -1,0 +1,4 @@
+pub mod Pieces
+pub mod Order
+pub mod Ends
+pub mod Lines

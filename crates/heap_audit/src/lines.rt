@@ -1,0 +1,134 @@
+//! The lines of mutators.
+
+ghost use Rattle.std.specs.Prelude.{◌≡◌, ◌++◌, ℕ, List, IfOk, map, option_map};
+ghost use Rattle.plain_heap.specs.Print.{Seen, lines_seen, printed_lines};
+ghost use Rattle.heap_audit.specs.Lines.{named_at, printed_at, ended_at, SeenFits, AreSeen, seen_by};
+ghost use Rattle.heap_audit.specs.Order.{ReadsAs};
+
+use crate::ends::end;
+use crate::number::{after, mutator, printed};
+use crate::reading_error::ReadingError;
+use plain_state::{End, MOST_PRINTED};
+use std::alloc::Global;
+
+/// What is seen of a mutator: the numbers that it printed, and its end.
+#[derive(Debug, Drop)]
+pub struct MutatorLines {
+    pub printed: Vec<u64>,
+    pub end: Option<End>,
+}
+
+/// What stands behind the number of mutator m, a colon and a space.
+#[tactic(auto, unfolding(crate::specs::Lines::named_at))]
+fn named(m: u8, bytes: &[u8]) -> Option<&[u8]>
+    ensures { option_map (λ x. x.now) result ≡ named_at m bytes.now }
+{
+    let (number, rest) = mutator(bytes)?;
+    if number != m {
+        return None;
+    }
+    let rest = after(b':', rest)?;
+    after(b' ', rest)
+}
+
+/// A line of a number that mutator m printed.
+#[tactic(auto, unfolding(crate::specs::Lines::printed_at))]
+fn printed_line(m: u8, bytes: &[u8]) -> Option<(u64, &[u8])>
+    ensures { option_map (λ x. (x.0, x.1.now)) result ≡ printed_at m bytes.now }
+{
+    let text = named(m, bytes)?;
+    let (number, rest) = printed(text)?;
+    let behind = after(b'\n', rest)?;
+    Some((number, behind))
+}
+
+/// The line of the end of mutator m.
+#[tactic(auto, unfolding(crate::specs::Lines::ended_at))]
+fn ended_line(m: u8, bytes: &[u8]) -> Option<(Option<End>, &[u8])>
+    ensures { option_map (λ x. (x.0, x.1.now)) result ≡ ended_at m bytes.now }
+{
+    let text = named(m, bytes)?;
+    let (end, rest) = end(text)?;
+    let behind = after(b'\n', rest)?;
+    Some((end, behind))
+}
+
+/// The lines of mutator m with which the bytes begin, and the bytes behind them.
+fn read_mutator(alloc: Global, m: u8, bytes: &[u8]) -> Result<(MutatorLines, &[u8]), ReadingError>
+    // The lines are those of what is seen.
+    ensures found { IfOk result (λ x. SeenFits (seen_by x.0) × (bytes.now ≡ printed_lines m x.0.printed.items x.0.end ++ x.1.now)) }
+    // Bytes that begin with a mutator's lines are read as what is seen there, unless memory runs out.
+    ensures only { (seen : Seen) (rest : List ℕ) → SeenFits seen → bytes.now ≡ printed_lines m seen.printed seen.end ++ rest → ReadsAs {Y = Seen × List ℕ} (λ x. (seen_by x.0, x.1.now)) result (seen, rest) }
+{
+    let mut printed = Vec::new(alloc);
+    let mut rest = bytes;
+    while let Some(read) = printed_line(m, rest) {
+        if printed.len() == MOST_PRINTED {
+            return Err(ReadingError::Bad);
+        }
+        let (number, behind) = read;
+        printed.push(number)?;
+        rest = behind;
+    }
+    let Some(read) = ended_line(m, rest) else {
+        return Err(ReadingError::Bad);
+    };
+    let (end, behind) = read;
+    Ok((MutatorLines { printed, end }, behind))
+}
+
+/// The lines of so many mutators with which the bytes begin, and the bytes behind them.
+pub fn read_lines(
+    alloc: Global,
+    mutators: u8,
+    bytes: &[u8],
+) -> Result<(Vec<MutatorLines>, &[u8]), ReadingError>
+    // The lines are those of what is seen.
+    ensures found { IfOk result (λ x. AreSeen mutators (map seen_by x.0.items) × (bytes.now ≡ lines_seen 0 (map seen_by x.0.items) ++ x.1.now)) }
+    // Bytes that begin with the lines of so many mutators are read as what is seen there, unless memory runs out.
+    ensures only { (all : List Seen) (rest : List ℕ) → AreSeen mutators all → bytes.now ≡ lines_seen 0 all ++ rest → ReadsAs {Y = List Seen × List ℕ} (λ x. (map seen_by x.0.items, x.1.now)) result (all, rest) }
+{
+    let mut all = Vec::new(alloc);
+    let mut rest = bytes;
+    for m in 0..mutators {
+        let (lines, behind) = read_mutator(alloc, m, rest)?;
+        all.push(lines)?;
+        rest = behind;
+    }
+    Ok((all, rest))
+}
+
+#[test]
+fn lines_are_read(rt: HostRuntime) -> Result<(), ReadingError> {
+    let bytes = b"0: 7\n0: 0\n0: halt\n1: stopped\n2: heap full asked 1 room 0 live 9\norder\n";
+    let (all, rest) = read_lines(rt.alloc(), 3, bytes)?;
+    assert_eq!(rt; all.len(), 3);
+    assert_eq!(rt; all[0].printed.len(), 2);
+    assert_eq!(rt; all[0].printed[0], 7);
+    assert_eq!(rt; all[0].end, Some(End::Halt));
+    assert_eq!(rt; all[1].end, None);
+    let full = End::HeapFull {
+        asked: 1,
+        room: 0,
+        live: 9,
+    };
+    assert_eq!(rt; all[2].end, Some(full));
+    assert_eq!(rt; rest.len(), 6);
+    Ok(())
+}
+
+#[test]
+fn other_mutators_lines_are_refused(rt: HostRuntime) {
+    for bad in [
+        &b"1: halt\n"[..],
+        b"0: 07\n0: halt\n",
+        b"0: 4611686018427387904\n0: halt\n",
+        b"0: 7\n",
+        b"0: halt",
+        b"0: halted\n",
+        b"0:halt\n",
+        b"0: stop\n",
+    ] {
+        assert!(rt; read_lines(rt.alloc(), 1, bad).is_err());
+    }
+}

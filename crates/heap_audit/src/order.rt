@@ -1,0 +1,82 @@
+//! The line of an order.
+
+ghost use Rattle.std.specs.Prelude.{◌≡◌, ◌++◌, List, ℕ, IfOk, option_map};
+ghost use Rattle.std.specs.List.{AllByRecursion};
+ghost use Rattle.plain_heap.specs.declared.mark.Mark.{Mark};
+ghost use Rattle.plain_heap.specs.Print.{order_line};
+ghost use Rattle.heap_audit.specs.Pieces.{name_at};
+ghost use Rattle.heap_audit.specs.Order.{ReadsAs, MarkFits};
+
+use crate::mark::mark;
+use crate::number::after;
+use crate::reading_error::ReadingError;
+use plain_heap::Mark;
+use std::alloc::Global;
+
+/// What stands behind the word `order`.
+fn name(bytes: &[u8]) -> Option<&[u8]>
+    ensures { option_map (λ x. x.now) result ≡ name_at bytes.now }
+{
+    match bytes {
+        [b'o', b'r', b'd', b'e', b'r', rest @ ..] => Some(rest),
+        _ => None,
+    }
+}
+
+/// The marks of the order whose line the bytes begin with, and the bytes behind that line.
+pub fn read_order(alloc: Global, bytes: &[u8]) -> Result<(Vec<Mark>, &[u8]), ReadingError>
+    // The line is that of the marks.
+    ensures found { IfOk result (λ x. AllByRecursion MarkFits x.0.items × (bytes.now ≡ order_line x.0.items ++ x.1.now)) }
+    // Bytes that begin with an order's line are read as that order, unless memory runs out.
+    ensures only { (marks : List Mark) (rest : List ℕ) → AllByRecursion MarkFits marks → bytes.now ≡ order_line marks ++ rest → ReadsAs {Y = List Mark × List ℕ} (λ x. (x.0.items, x.1.now)) result (marks, rest) }
+{
+    let Some(body) = name(bytes) else {
+        return Err(ReadingError::Bad);
+    };
+    let mut found = Vec::new(alloc);
+    let mut rest = body;
+    while let Some(text) = after(b' ', rest) {
+        let Some(read) = mark(text) else {
+            return Err(ReadingError::Bad);
+        };
+        let (mark, behind) = read;
+        found.push(mark)?;
+        rest = behind;
+    }
+    let Some(behind) = after(b'\n', rest) else {
+        return Err(ReadingError::Bad);
+    };
+    Ok((found, behind))
+}
+
+#[test]
+fn orders_are_read(rt: HostRuntime) -> Result<(), ReadingError> {
+    let bytes = b"order 0 F64 255 X3,1,0,4294967295 15\nmore";
+    let (marks, rest) = read_order(rt.alloc(), bytes)?;
+    assert_eq!(rt; marks.len(), 5);
+    assert_eq!(rt; marks[1], Mark::Flip(64));
+    let full = Mark::Full {
+        m: 3,
+        asked: 1,
+        room: 0,
+        live: 4294967295,
+    };
+    assert_eq!(rt; marks[3], full);
+    assert_eq!(rt; rest.len(), 4);
+    Ok(())
+}
+
+#[test]
+fn other_lines_are_refused(rt: HostRuntime) {
+    assert!(rt; read_order(rt.alloc(), b"order\n").is_ok());
+    for bad in [
+        &b"order 00\n"[..],
+        b"order 256\n",
+        b"order F4294967296\n",
+        b"order 1",
+        b"order  1\n",
+        b"order X1,2,3\n",
+    ] {
+        assert!(rt; read_order(rt.alloc(), bad).is_err());
+    }
+}

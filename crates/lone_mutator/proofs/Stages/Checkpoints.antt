@@ -1,0 +1,4 @@
+pub mod Going
+pub mod Pages
+pub mod Saves
+pub mod Stages
