@@ -30,7 +30,7 @@ fn are_workers(mutators: u32, workers: u32) -> bool
 }
 
 /// How many decimal digits stand at the front.
-fn digit_count(bytes: &[u8]) -> usize
+pub fn digit_count(bytes: &[u8]) -> usize
     ensures { result ≡ digit_count bytes.now }
 {
     for (i, b) in bytes.iter().enumerate() {

@@ -11,6 +11,7 @@ mod word;
 
 pub use dump::Dump;
 pub use dump_error::DumpError;
-pub use head::Head;
+pub use head::{Head, digit_count};
 pub use kept::Kept;
 pub use reading::{read, read_head};
+pub use word::after;

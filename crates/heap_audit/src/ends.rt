@@ -3,7 +3,8 @@
 ghost use Rattle.std.specs.Prelude.{◌≡◌, option_map};
 ghost use Rattle.heap_audit.specs.Ends.{text_at, full_end_at, end_at};
 
-use crate::number::{after, amount};
+use crate::number::amount;
+use dump_text::after;
 use plain_state::End;
 
 /// What stands behind a text that is wanted.

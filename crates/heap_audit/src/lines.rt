@@ -6,8 +6,9 @@ ghost use Rattle.heap_audit.specs.Lines.{named_at, printed_at, ended_at, SeenFit
 ghost use Rattle.heap_audit.specs.Order.{ReadsAs};
 
 use crate::ends::end;
-use crate::number::{after, mutator, printed};
+use crate::number::{mutator, printed};
 use crate::reading_error::ReadingError;
+use dump_text::after;
 use plain_state::{End, MOST_PRINTED};
 use std::alloc::Global;
 

@@ -3,7 +3,8 @@
 ghost use Rattle.std.specs.Prelude.{◌≡◌, option_map};
 ghost use Rattle.heap_audit.specs.Pieces.{step_mark_at, flip_mark_at, full_mark_at, mark_at};
 
-use crate::number::{after, amount, mutator, next};
+use crate::number::{amount, mutator, next};
+use dump_text::after;
 use plain_heap::Mark;
 
 #[tactic(auto, unfolding(crate::specs::Pieces::step_mark_at))]

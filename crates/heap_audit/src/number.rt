@@ -4,20 +4,9 @@ ghost use Rattle.std.specs.Prelude.{IfSome, ◌≡◌, ◌<◌, ◌≤◌, ◌^�
 ghost use Rattle.std.specs.Char.{is_ascii_digit};
 ghost use Rattle.std.specs.List.{list_all};
 ghost use Rattle.std.specs.Str.Parse.{digits_value};
-ghost use Rattle.dump_text.specs.Pieces.{byte_at, digit_count};
 ghost use Rattle.heap_audit.specs.Pieces.{decimal_at, amount_at, mutator_at, next_amount_at};
 
-/// How many decimal digits stand at the front.
-fn digit_count(bytes: &[u8]) -> usize
-    ensures { result ≡ digit_count bytes.now }
-{
-    for (i, b) in bytes.iter().enumerate() {
-        if !b.is_ascii_digit() {
-            return i;
-        }
-    }
-    bytes.len()
-}
+use dump_text::{after, digit_count};
 
 /// The number that at most 19 digits write.
 fn value(digits: &[u8]) -> u64
@@ -74,16 +63,6 @@ pub fn printed(bytes: &[u8]) -> Option<(u64, &[u8])>
     ensures { option_map (λ x. (x.0, x.1.now)) result ≡ decimal_at (2 ^ 62) bytes.now }
 {
     number(1 << 62, bytes)
-}
-
-/// What stands behind a byte that is wanted.
-pub fn after(wanted: u8, bytes: &[u8]) -> Option<&[u8]>
-    ensures { option_map (λ x. x.now) result ≡ byte_at wanted bytes.now }
-{
-    match bytes {
-        [first, rest @ ..] if *first == wanted => Some(rest),
-        _ => None,
-    }
 }
 
 /// A comma, and a number of pages or of words.

@@ -8,8 +8,8 @@ ghost use Rattle.heap_audit.specs.Pieces.{name_at};
 ghost use Rattle.heap_audit.specs.Order.{ReadsAs, MarkFits};
 
 use crate::mark::mark;
-use crate::number::after;
 use crate::reading_error::ReadingError;
+use dump_text::after;
 use plain_heap::Mark;
 use std::alloc::Global;
 

@@ -1,6 +1,0 @@
-use Rattle.std.proofs.Common.{◌≡◌, ◌+◌, drop}
-use Rattle.dump_text.specs.Pieces.{digit_count}
-use Rattle.heap_audit.proofs.number.digit_count.Given as goal
-
-abbrev pub invariant-loop-i : goal.invariant-loop-i
-invariant-loop-i l = l.i + digit_count (drop l.i l.bytes) ≡ digit_count l.bytes
