@@ -9,9 +9,9 @@ pub enum Class {
     Free,
     /// A header.
     Header,
-    /// A number with its tag: in a field, a register or the board, or the count of a mixed record.
+    /// A number with its tag: in a field, a register or the board, the count of a mixed record, or the target of a cell.
     Number,
-    /// A number without a tag: a word of a raw record, or one behind the fields of a mixed one.
+    /// A number without a tag: a word of a raw record, one behind the fields of a mixed one, or the link of a cell.
     Raw,
     /// A pointer into the space that records are copied from.
     Old,

@@ -166,6 +166,7 @@ fn name_text(alloc: Global, header: Header) -> Result<String, AllocError> {
         Kind::Fields => ("fields", header.len),
         Kind::Raw => ("raw", header.len),
         Kind::Mixed => ("mixed", header.len.saturating_sub(1)),
+        Kind::Weak => ("weak", header.len.saturating_sub(1)),
     };
     format!(in alloc; "{kind} {len} {}.{}", header.mutator, header.serial)
 }

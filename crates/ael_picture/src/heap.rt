@@ -103,7 +103,7 @@ impl<'a> Heap<'a> {
     }
 
     /// At most how many of the words behind a record's header are tagged: all of a record of fields, and of a mixed one the count
-    /// and the fields.
+    /// and the fields, and of a cell the target.
     fn tagged_words(&self, addr: u32, kind: Kind) -> u64 {
         match kind {
             Kind::Fields => u64::MAX,
@@ -112,6 +112,7 @@ impl<'a> Heap<'a> {
                 let count = Word(self.word(addr.saturating_add(1))).as_number();
                 count.unwrap_or(0).saturating_add(1)
             }
+            Kind::Weak => 1,
         }
     }
 

@@ -29,7 +29,7 @@ use Rattle.gc_worker.specs.History.Legal.{IsLegal, after_all, calls_of, extra, l
 use Rattle.gc_worker.specs.History.Tally.{IsTallied}
 use Rattle.gc_worker.specs.Workers.Knows.{post_in}
 use Rattle.gc_worker.specs.Laws.Step.{Heap, WorkersStand, epoch_of, held_at, nobody}
-use Rattle.gc_worker.specs.Steps.Turned.{Answers, Marks, Silent, Told, epoch_in_gate, told, turned}
+use Rattle.gc_worker.specs.Steps.Turned.{Answers, Marks, Silent, Empties, Told, epoch_in_gate, told, turned}
 use Rattle.gc_worker.specs.Steps.Stepped.{uncounted}
 use Rattle.gc_worker.specs.Steps.Wanted.{wanted}
 use Rattle.gc_worker.proofs.Between.Begun.{beginnings_are_kept, full_is_found_later, rests_before}
@@ -84,6 +84,7 @@ flipped_full plan m task x own log w same now no_flip = record {
 
 same_calls : (m : ℕ) (log : List Entry) (t : Told) → IsNoAnswer t → calls_of m (log ++ extra m t) ≡ calls_of m log
 same_calls m log Silent none = ap (calls_of m) (append-nil log)
+same_calls m log Empties none = ap (calls_of m) (append-nil log)
 same_calls m log (Answers task did) none = absurd none
 same_calls m log (Marks asked) none = calls_append m log (Exchanged m asked ∷ []) ∙ append-nil (calls_of m log)
 
@@ -128,6 +129,7 @@ module _ (plan : Plan) (m : ℕ) (y : Held) (q : Step) (words : List ℕ) (worke
     where
       by_told : (u : Told) → t ≡ u → IsNoAnswer t
       by_told Silent e = subst IsNoAnswer (sym e) tt
+      by_told Empties e = subst IsNoAnswer (sym e) tt
       by_told (Answers task Done) e = absurd (rests_before y.stage z.stage (goes.answers task Done e).after (past_look z.stage call))
       by_told (Answers task (Trap end)) e =
           let ended : z.account.end ≡ Some end = ap (λ (a : Account). a.end) (goes.answers task (Trap end) e).after.0 in

@@ -4,7 +4,7 @@ use Rattle.plain_state.specs.declared.end.End.{End}
 use Rattle.plain_state.specs.State.{Mutator}
 use Rattle.mutator_asm.specs.declared.instr.Instr.{Instr}
 use Rattle.plain_heap.specs.LastCheckpoint.{IsLastCheckpoint}
-use Rattle.plain_heap.specs.Order.{opening, plain, story}
+use Rattle.plain_heap.specs.Order.{first_story, opening, plain, story}
 use Rattle.plain_heap.specs.Print.{Seen}
 use Rattle.heap_state.specs.Cycles.Copies.{CopiedIsLive}
 use Rattle.heap_state.specs.Kept.{Kept}
@@ -31,7 +31,6 @@ use Rattle.ael_threads.specs.declared.programs.outputs.Printed.{Printed}
 use Rattle.ael_threads.specs.declared.programs.outputs.RunError.{RunError}
 use Rattle.ael_threads.specs.declared.programs.outputs.RunError.TheVariants as runs
 use Rattle.gc_worker.specs.History.Needs.{EachFullIs, EachMayCome, HasNoFull, IsEnoughForOne, IsLargeEnough, flips_in}
-use Rattle.gc_worker.specs.History.Needs as needs
 use Rattle.gc_worker.specs.History.Tally.{EachEntry, EntryIs, Sizes, size_now, tasks_held, tally}
 use Rattle.gc_worker.specs.Laws.Cycles.{size_of}
 use Rattle.ael_threads.specs.Histories.{AreSizesOf, opening_tally, Each}
@@ -106,7 +105,7 @@ pub record Runs (code : List (List Instr)) (config : Config) (told : Outputs) : 
   pub workers : List Held
   pub legal : IsLegal (opening code) log
   pub plain_is : plain code config.turns (order_of log) ≡ after_all (opening code) log
-  pub acts : EachActs code config.turns (opening code) (order_of log)
+  pub acts : EachActs code config.turns (first_story code) (order_of log)
   pub flip_is : last_flip (opening code) log ≡ (story code config.turns (order_of log)).flip
   pub ended : (m : ℕ) (q : Mutator) → slice_get (after_all (opening code) log).mutators m ≡ Some q → IsSome q.end
   pub count : length workers ≡ crew (plan_of (length code) config)
@@ -126,7 +125,7 @@ pub record Runs (code : List (List Instr)) (config : Config) (told : Outputs) : 
   pub tells : Tells (heap_of (plan_of (length code) config) told.words workers) told
   pub flipped : (m : ℕ) → FlippedIfFull (plan_of (length code) config) m (begun_held workers m) log
   pub full : (m : ℕ) (q : Mutator) (end : End) → slice_get (after_all (opening code) log).mutators m ≡ Some q → q.end ≡ Some end → FullIn (plan_of (length code) config) m log end
-  pub filled : EachFullIs config.limit config.pages code config.turns (needs.first_story code) 0 0 (order_of log)
+  pub filled : EachFullIs config.limit config.pages code config.turns (first_story code) 0 0 (order_of log)
   pub follows : EachMayCome (λ m. false) 0 (order_of log)
   pub large : IsLargeEnough config.limit config.pages code config.turns (order_of log) → HasNoFull (order_of log)
   pub lone : length code ≡ 1 → flips_in 0 (order_of log) < 2 ^ 32 - 1 → IsEnoughForOne config.limit code config.turns (order_of log) → HasNoFull (order_of log)

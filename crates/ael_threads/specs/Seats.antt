@@ -10,6 +10,7 @@ use Rattle.atom_store.specs.declared.step.Step.{Step}
 use Rattle.atom_store.specs.declared.step.Step.TheVariants.{Load, Store, Exchange}
 use Rattle.atom_store.specs.Step.{reply_of, words_after}
 use Rattle.space_map.specs.Table.{whole_length}
+use Rattle.plain_state.specs.Reachable as reachable
 use Rattle.plain_state.specs.State.{Mutator, Plain, serial_of}
 use Rattle.plain_state.specs.State as plain
 use Rattle.mutator_asm.specs.declared.instr.Instr.TheVariants.{Snap}
@@ -25,7 +26,6 @@ use Rattle.gc_worker.specs.Workers.Held.{Held}
 use Rattle.gc_worker.specs.Workers.Knows.{post_in}
 use Rattle.plain_state.specs.declared.end.End.{End}
 use Rattle.plain_state.specs.declared.end.End.TheVariants.{HeapFull}
-use Rattle.heap_state.specs.Meaning.Reachable as reachable
 use Rattle.heap_state.specs.Worker.{is_running}
 use Rattle.gc_worker.specs.Laws.Checkpoints.{TellsKept}
 use Rattle.gc_worker.specs.Laws.Copied.{IsTraced}
@@ -36,7 +36,7 @@ use Rattle.gc_worker.specs.Steps.Stepped.{IsBeginningCheckpoint, stepped_by, unc
 use Rattle.gc_worker.specs.declared.calls.did.Did.TheVariants.{Done, Trap}
 use Rattle.gc_worker.specs.declared.task.Task.{Task}
 use Rattle.gc_worker.specs.declared.task.Task.TheVariants.{Calls}
-use Rattle.gc_worker.specs.Steps.Turned.{PageWon, Told, Silent, Answers, Marks, told, turned, won}
+use Rattle.gc_worker.specs.Steps.Turned.{PageWon, Told, Silent, Empties, Answers, Marks, told, turned, won}
 use Rattle.gc_worker.specs.Steps.Wanted.{wanted}
 use Rattle.gc_worker.specs.declared.calls.call.Call.{Call}
 use Rattle.ael_threads.specs.declared.view.WonClaim.{WonClaim}
@@ -103,6 +103,7 @@ with_claim cs (Some w) = claim_by_win w ∷ cs
 -- what the seat has seen after a step, if the history is this then
 abbrev pub seen_after : (seen log : List Entry) → Told → List Entry
 seen_after seen log Silent = seen
+seen_after seen log Empties = seen
 seen_after seen log (Answers task outcome) = log
 seen_after seen log (Marks asked) = seen
 
@@ -117,6 +118,7 @@ pub record Extends (plan : Plan) (hands : List Hand) (seen : List Entry) (c : Ca
 -- what a step of worker m tells of the history
 abbrev pub Sees : View → (m : ℕ) → Told → View → Type 0
 Sees v m Silent w = w.seen ≡ v.seen
+Sees v m Empties w = w.seen ≡ v.seen
 Sees v m (Answers task outcome) w = Extends v.plan w.hands v.seen (worker_call m task outcome) w.seen
 Sees v m (Marks asked) w = w.seen ≡ v.seen
 
@@ -127,6 +129,7 @@ LiveByEnd o end = ⊤
 
 abbrev pub LiveWhereTold : Plain → Told → Type 0
 LiveWhereTold o Silent = ⊤
+LiveWhereTold o Empties = ⊤
 LiveWhereTold o (Answers task Done) = ⊤
 LiveWhereTold o (Answers task (Trap end)) = LiveByEnd o end
 LiveWhereTold o (Marks asked) = ⊤

@@ -29,8 +29,8 @@ pub struct Seats {
     pub scanners: Vec<Scanner>,
 }
 
-/// The words before the first step: both spaces are empty with so many pages in use, the epoch is traced, the board is open, and nothing is
-/// said of checkpoints.
+/// The words before the first step: both spaces are empty with so many pages in use, the epoch is traced and its turn was taken, the board is
+/// open, no cell is linked, and nothing is said of checkpoints.
 fn first_words(alloc: Global, spaces: Spaces, pages: u32) -> Result<Vec<u64>, AllocError>
     requires { pages ≤ spaces.pages }
     ensures { IfOk result (λ words. words.items ≡ opening_words spaces pages) }
@@ -44,6 +44,7 @@ fn first_words(alloc: Global, spaces: Spaces, pages: u32) -> Result<Vec<u64>, Al
     words[spaces.page_place(spaces.board_page())] = unprotect(0);
     words[spaces.size_place(1)] = u64::from(pages);
     words[spaces.size_place(0)] = u64::from(pages);
+    words[spaces.weak_turn_place()] = 1;
     words[spaces.area_place(1)] = area.pack();
     words[spaces.area_place(0)] = area.pack();
     words[spaces.traced_place()] = 1;

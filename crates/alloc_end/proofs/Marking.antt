@@ -12,7 +12,7 @@ use Rattle.atom_store.specs.StepOn.{Store}
 use Rattle.atom_store.proofs.Acting.{no_step}
 use Rattle.atom_store.proofs.Steps.{slice_index-words_after, slice_index-stored}
 use Rattle.heap_words.specs.declared.kind.Kind.{Kind}
-use Rattle.heap_words.specs.declared.kind.Kind.TheVariants.{Fields, Raw, Mixed}
+use Rattle.heap_words.specs.declared.kind.Kind.TheVariants.{Fields, Raw, Mixed, Weak}
 use Rattle.space_map.specs.declared.area_word.AreaWord.{AreaWord}
 use Rattle.space_map.specs.declared.page_word.PageWord.TheVariants.{Open}
 use Rattle.space_map.specs.declared.save_word.SaveWord.TheVariants.{New}
@@ -40,6 +40,7 @@ first_store : (p : Placing) (kind : Kind) (words : List ℕ) → AreMarked p (st
 first_store p Fields words = tt
 first_store p Raw words = tt
 first_store p Mixed words = tt
+first_store p Weak words = tt
 
 pub none_yet : NoneIsMarkedYet
 none_yet layout run header epoch fields snap words = by_test (nat_le (run.at + size_of header) run.end)

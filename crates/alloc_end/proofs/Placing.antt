@@ -12,7 +12,7 @@ use Rattle.atom_store.specs.Step.{words_after}
 use Rattle.atom_store.proofs.Acting.{no_step}
 use Rattle.atom_store.proofs.Steps.{slice_index-words_after, slice_index-stored}
 use Rattle.heap_words.specs.declared.kind.Kind.{Kind}
-use Rattle.heap_words.specs.declared.kind.Kind.TheVariants.{Fields, Raw, Mixed}
+use Rattle.heap_words.specs.declared.kind.Kind.TheVariants.{Fields, Raw, Mixed, Weak}
 use Rattle.heap_words.specs.Decoded.{encode}
 use Rattle.heap_words.specs.Word.{number_word}
 use Rattle.record_layout.specs.Layout.{header_says}
@@ -172,6 +172,7 @@ zeros_from-pos : (kind : Kind) → 0 < zeros_from kind
 zeros_from-pos Fields = omega arith
 zeros_from-pos Raw = omega arith
 zeros_from-pos Mixed = omega arith
+zeros_from-pos Weak = omega arith
 
 -- a run that is ready awaits the header of a record that isn't mixed
 header_next : (p : Placing) (words : List ℕ) → p.header.kind ≢ Mixed → p.run.at < p.run.end → IsRunReady p words → AwaitsHeader p words
@@ -187,6 +188,7 @@ ready_first : (p : Placing) (kind : Kind) (words : List ℕ) → p.header.kind �
 ready_first p Mixed words is room ready = ready
 ready_first p Fields words is room ready = header_next p words (λ mixed. cc) room ready
 ready_first p Raw words is room ready = header_next p words (λ mixed. cc) room ready
+ready_first p Weak words is room ready = header_next p words (λ mixed. cc) room ready
 
 ready_by_page : (p : Placing) (new : NewPages) (words : List ℕ) → AreZero p.layout.pages new.first (new.first + words_for p.header) words
     → AreOpen p.layout.pages p.epoch (page_of new.first) (new.next + 1) words → IsReady (after_opening p new) (after_opening p new).stage words
@@ -282,6 +284,7 @@ never_ends_at_first : (kind : Kind) (result : Allocated) → told_at (stores_fir
 never_ends_at_first Fields result e = cc
 never_ends_at_first Raw result e = cc
 never_ends_at_first Mixed result e = cc
+never_ends_at_first Weak result e = cc
 
 pub never_ends_at_page : (p : Placing) (new : NewPages) (result : Allocated) → told (after_opening p new) ≡ Finished result → ⊥
 never_ends_at_page p new result tells = by_test (nat_lt (new.next + 1) (page_of new.first + pages_for (size_of p.header))) tells

@@ -8,7 +8,7 @@ use Rattle.atom_store.specs.declared.turn.Turn.TheVariants.{More, Finished}
 use Rattle.atom_store.specs.Machine.{Machine}
 use Rattle.atom_store.specs.StepOn.{StepOn, Load, Store, Exchange, step_at}
 use Rattle.heap_words.specs.declared.kind.Kind.{Kind}
-use Rattle.heap_words.specs.declared.kind.Kind.TheVariants.{Fields, Raw, Mixed}
+use Rattle.heap_words.specs.declared.kind.Kind.TheVariants.{Fields, Raw, Mixed, Weak}
 use Rattle.heap_words.specs.Decoded.{encode}
 use Rattle.heap_words.specs.Word.{number_word}
 use Rattle.record_layout.specs.declared.header.Header.{Header}
@@ -61,6 +61,7 @@ abbrev pub stores_first : Kind → PlaceStage
 stores_first Fields = StoresHeader
 stores_first Raw = StoresHeader
 stores_first Mixed = StoresCount
+stores_first Weak = StoresHeader
 
 -- in the run, where the record fits there
 abbrev pub first_stage : Run → Header → PlaceStage

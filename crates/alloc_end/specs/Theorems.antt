@@ -5,7 +5,7 @@ use Rattle.atom_store.specs.declared.turn.Turn.TheVariants.{Finished}
 use Rattle.atom_store.specs.Acts.{MakesStep, after_next_step}
 use Rattle.atom_store.specs.StepOn.{Store}
 use Rattle.heap_words.specs.declared.kind.Kind.{Kind}
-use Rattle.heap_words.specs.declared.kind.Kind.TheVariants.{Fields, Raw, Mixed}
+use Rattle.heap_words.specs.declared.kind.Kind.TheVariants.{Fields, Raw, Mixed, Weak}
 use Rattle.heap_words.specs.Decoded.{encode}
 use Rattle.heap_words.specs.Word.{number_word}
 use Rattle.record_layout.specs.declared.header.Header.{Header}
@@ -99,6 +99,7 @@ abbrev pub zeros_from : Kind → ℕ
 zeros_from Fields = 1
 zeros_from Raw = 1
 zeros_from Mixed = 2
+zeros_from Weak = 1
 
 -- the count of a mixed record's fields stands behind the record's place
 abbrev pub IsCounted : Placing → (at : ℕ) → List ℕ → Type 0

@@ -331,7 +331,7 @@ fn first_store(kind: Kind) -> PlaceStage
 {
     match kind {
         Kind::Mixed => PlaceStage::StoresCount,
-        Kind::Fields | Kind::Raw => PlaceStage::StoresHeader,
+        Kind::Fields | Kind::Raw | Kind::Weak => PlaceStage::StoresHeader,
     }
 }
 

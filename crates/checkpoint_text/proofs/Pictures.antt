@@ -1,5 +1,5 @@
 -- What is read of a table that says a checkpoint: the records and the values that are kept of it.
-use Rattle.std.proofs.Common.{◌≡◌, ⊎_elim, ℕ, zero, suc, ◌+◌, ◌-◌, ◌*◌, ◌/◌, ◌^◌, ◌<◌, ◌≤◌, Bool, true, false, cond, List, [], ◌∷◌, ◌++◌, length, slice_get, slice_index, slice_index_or, take, Some, None, refl, sym, ap, ◌∙◌, subst, arith, add-zero, add-one}
+use Rattle.std.proofs.Common.{◌≡◌, ⊎_elim, ℕ, zero, suc, ◌+◌, ◌-◌, ◌*◌, ◌/◌, ◌^◌, ◌<◌, ◌≤◌, Bool, true, false, cond, List, [], ◌∷◌, ◌++◌, length, slice_get, slice_index, slice_index_or, take, codes, decimal, Some, None, refl, sym, ap, ◌∙◌, subst, arith, add-zero, add-one}
 use Rattle.std.proofs.lemmas.Bool.{cases_lt, le-ltb, lt-ltb}
 use Rattle.std.proofs.lemmas.List.{take_all, take_more}
 use Rattle.std.proofs.lemmas.Option.{get_or_from_slice_get, same_Some, slice_get-get_or}
@@ -11,15 +11,15 @@ use Rattle.record_layout.specs.declared.header.Header.{Header}
 use Rattle.record_layout.specs.Layout.{header_in}
 use Rattle.record_layout.proofs.Rereading.{header_in-said}
 use Rattle.plain_state.specs.declared.kind.Kind.{Kind}
-use Rattle.plain_state.specs.declared.kind.Kind.TheVariants.{Fields, Raw, Mixed}
+use Rattle.plain_state.specs.declared.kind.Kind.TheVariants.{Fields, Raw, Mixed, Weak}
 use Rattle.plain_state.specs.declared.value.Identity.{Identity}
 use Rattle.plain_state.specs.declared.value.Value.{Value}
 use Rattle.plain_state.specs.declared.value.Value.TheVariants.{Number, Reference}
-use Rattle.plain_state.specs.Layout.{is_field, is_raw, word_of_value, values_at as words_ahead}
+use Rattle.plain_state.specs.Layout.{is_field, is_raw, word_of_value, values_at as words_ahead, words_behind}
 use Rattle.plain_state.specs.State.{Record, Snapped}
 use Rattle.space_map.specs.Spaces.{board_page, first_word, page_of}
 use Rattle.space_map.specs.Table.{HeapWord, ImageOf, is_save_row, place_of, save_place_of}
-use Rattle.plain_heap.specs.Checkpoint.{kept_record}
+use Rattle.plain_heap.specs.Checkpoint.{identity_text, kept_record, kind_text, record_line, values_text, values_told}
 use Rattle.heap_state.specs.Memory.Table.{is_row, table_of, word_in}
 use Rattle.heap_state.specs.Invariant.Ghost.{header_kind}
 use Rattle.heap_state.specs.Meaning.Values.{CountShows, Shows, value_of, value_said}
@@ -29,8 +29,9 @@ use Rattle.heap_state.specs.Saving.Kept.{KeepsPicture}
 use Rattle.heap_state.specs.Saving.Said.{SaysCheckpoint}
 use Rattle.checkpoint_text.specs.declared.saved_record.SavedRecord.{SavedRecord}
 use Rattle.checkpoint_text.specs.Heap.{field_value, identity_there, identity_by, saved_word, value_by}
-use Rattle.checkpoint_text.specs.Records.{content_of, fields_by, first_value, kind_with, record_there, record_by, record_with, value_read, values_read, words_before}
-use Rattle.checkpoint_text.proofs.RecordKinds.{SaysCount, before_is, field_is, kind_is, raw_is, some_before}
+use Rattle.checkpoint_text.specs.Records.{content_of, fields_by, first_value, kind_with, record_there, record_by, record_with, told_by, value_read, values_read, words_after, words_before}
+use Rattle.checkpoint_text.proofs.Pieces.{length_values}
+use Rattle.checkpoint_text.proofs.RecordKinds.{SaysCount, after_is, before_is, field_is, field_told, kind_is, raw_is, read_told, some_before, taken_told, told-le}
 
 -- ---- a heap that is read so
 
@@ -81,17 +82,17 @@ module _ (n : ℕ) (words : List ℕ) (fit : (place : ℕ) → slice_index words
 -- ---- values
 
 -- the values that are read one by one are those of a list
-pub values_are : (heap : ℕ → ℕ) (first fields : ℕ) (vs : List Value) → ((x : ℕ) → x < length vs → Some (value_read heap (first + x) x fields) ≡ slice_get vs x) → (count : ℕ) → count ≤ length vs → values_read heap first fields count ≡ take count vs
-values_are heap first fields vs each zero within = refl
-values_are heap first fields vs each (suc x) within =
+pub values_are : (heap : ℕ → ℕ) (first fields : ℕ) (vs : List Value) (count : ℕ) → ((x : ℕ) → x < count → Some (value_read heap (first + x) x fields) ≡ slice_get vs x) → count ≤ length vs → values_read heap first fields count ≡ take count vs
+values_are heap first fields vs zero each within = refl
+values_are heap first fields vs (suc x) each within =
     let v = value_read heap (first + x) x fields in
-    let is : slice_index_or vs x v ≡ v = get_or_from_slice_get vs x v v (sym (each x (omega (arith, within)))) in
+    let is : slice_index_or vs x v ≡ v = get_or_from_slice_get vs x v v (sym (each x (omega arith))) in
     let more : take (x + 1) vs ≡ take x vs ++ slice_index_or vs x v ∷ [] = take_more vs x v (omega (arith, within)) in
-    ap (λ (xs : List Value). xs ++ v ∷ []) (values_are heap first fields vs each x (omega (arith, within)))
+    ap (λ (xs : List Value). xs ++ v ∷ []) (values_are heap first fields vs x (λ y before. each y (omega (arith, before))) (omega (arith, within)))
     ∙ ap (λ (w : Value). take x vs ++ w ∷ []) (sym is) ∙ sym more ∙ ap (λ (k : ℕ). take k vs) (add-one x)
 
 pub all_values : (heap : ℕ → ℕ) (first fields : ℕ) (vs : List Value) → ((x : ℕ) → x < length vs → Some (value_read heap (first + x) x fields) ≡ slice_get vs x) → (count : ℕ) → count ≡ length vs → values_read heap first fields count ≡ vs
-all_values heap first fields vs each count e = values_are heap first fields vs each count (omega (arith, e)) ∙ take_all count vs (omega (arith, e))
+all_values heap first fields vs each count e = values_are heap first fields vs count (λ x within. each x (omega (arith, within, e))) (omega (arith, e)) ∙ take_all count vs (omega (arith, e))
 
 -- a reference is said by a pointer alone
 pub reference_is : (identity : ℕ → Identity) (d : Decoded) (i : Identity) → value_said identity d ≡ Some (Reference i) → (b : ℕ) × (d ≡ PointerWord b) × (identity b ≡ i)
@@ -113,7 +114,8 @@ pub record IsSaved (heap : ℕ → ℕ) (z : Frozen) (kept : Snapped) (a : ℕ) 
   pub kind : kind_with r.kind r.fields ≡ z.kind a
   pub before : words_before r.kind ≡ words_ahead (z.kind a)
   pub front : (x : ℕ) → x < r.len → x < r.fields → is_field (z.kind a) (word_of_value (z.kind a) x) ≡ true
-  pub behind : (x : ℕ) → x < r.len → r.fields ≤ x → is_raw (z.kind a) (word_of_value (z.kind a) x) ≡ true
+  pub behind : (x : ℕ) → x < told_by r.kind r.len → r.fields ≤ x → is_raw (z.kind a) (word_of_value (z.kind a) x) ≡ true
+  pub told : (i : ℕ) → is_field (z.kind a) i ≡ true → told_by r.kind r.len ≡ r.len
   pub shown : Record
   pub is : kept_record kept (z.identity a) ≡ Some shown
   pub shows : Shows (value_of z.identity) z.heap a (z.kind a) (z.size a) shown
@@ -143,6 +145,7 @@ module _ (kept : Snapped) (p : Pictured kept) where
   count_is a (Mixed count) some long shows =
       let is : p.heap (a + 1) ≡ number_word count = word_is a 1 some (omega (arith, long)) ∙ shows in
       ap decode is ∙ decode-number_word count (count_below a count is)
+  count_is a Weak some long shows = tt
 
   same_identity : (h : Header) (i : Identity) → h.serial ≡ i.serial → h.mutator ≡ i.mutator → identity_by (Some h) ≡ i
   same_identity h i serial mutator = λ k. record { mutator = mutator k; serial = serial k }
@@ -164,8 +167,11 @@ module _ (kept : Snapped) (p : Pictured kept) where
       let k = p.frozen.kind a in
       let next = p.heap (a + 1) in
       let before : words_before h.kind ≡ words_ahead k = ap words_before kind ∙ before_is k in
-      let count = h.len + 1 - words_before h.kind in
+      let after : words_after h.kind ≡ words_behind k = ap words_after kind ∙ after_is k in
+      let count = h.len + 1 - (words_before h.kind + words_after h.kind) in
       let ahead : words_ahead s.shown.kind ≡ words_ahead k = ap words_ahead s.shows.kind in
+      let behind : words_behind s.shown.kind ≡ words_behind k = ap words_behind s.shows.kind in
+      let told : told_by h.kind count ≡ told_by (header_kind k) count = ap (λ q. told_by q count) kind in
       let long : words_ahead k ≤ p.frozen.size a = omega (arith, s.shows.size, ahead) in
       let counts : SaysCount k next = count_is a k some long s.shows.count in
       let fields : fields_by h.kind count next ≡ fields_by (header_kind k) count next = ap (λ q. fields_by q count next) kind in
@@ -177,11 +183,12 @@ module _ (kept : Snapped) (p : Pictured kept) where
         kind = ap (λ q. kind_with q (fields_by q count next)) kind ∙ kind_is k count next counts;
         before = before;
         front = λ x within low. field_is k count next x counts within (subst (λ (f : ℕ). x < f) fields low);
-        behind = λ x within high. raw_is k count next x counts within (subst (λ (f : ℕ). f ≤ x) fields high);
+        behind = λ x within high. raw_is k count next x counts (subst (λ (n : ℕ). x < n) told within) (subst (λ (f : ℕ). f ≤ x) fields high);
+        told = λ i field. told ∙ field_told k count i field;
         shown = s.shown;
         is = s.is;
         shows = s.shows;
-        len = omega (arith, len, before, ahead, s.shows.size, some_before k);
+        len = omega (arith, len, before, after, ahead, behind, s.shows.size, some_before k);
       }
 
   pub saved_at : (a : ℕ) → 0 < p.frozen.size a → (r : SavedRecord) × IsSaved p.heap p.frozen kept a r
@@ -243,8 +250,9 @@ module _ (kept : Snapped) (p : Pictured kept) where
         ∙ field_value_is (a + i) v (word_is a i s.some (place_within x within)) (s.shows.fields x (omega (arith, within, s.len)) field ∙ there)
         (λ b. p.picture.field_lands a i b (omega (arith, some_before (p.frozen.kind a))) (place_within x within) field)
 
-    value_here : (x : ℕ) → x < r.len → Some (value_read p.heap (first_value r + x) x r.fields) ≡ slice_get s.shown.values x
-    value_here x within =
+    value_here : (x : ℕ) → x < told_by r.kind r.len → Some (value_read p.heap (first_value r + x) x r.fields) ≡ slice_get s.shown.values x
+    value_here x printed =
+        let within : x < r.len = omega (arith, printed, told-le r.kind r.len) in
         let v = slice_index_or s.shown.values x (Number 0) in
         let y = first_value r + x in
         let there : slice_get s.shown.values x ≡ Some v = slice_get-get_or s.shown.values x (Number 0) (omega (arith, within, s.len)) in
@@ -253,12 +261,22 @@ module _ (kept : Snapped) (p : Pictured kept) where
         ap (λ (t : Bool). Some (cond t (field_value p.heap y) (Number (p.heap y)))) (lt-ltb x r.fields low) ∙ ap Some (front_value x v within low there) ∙ sym there)
         (λ (high : r.fields ≤ x).
         ap (λ (t : Bool). Some (cond t (field_value p.heap y) (Number (p.heap y)))) (le-ltb x r.fields high) ∙ ap (λ (w : ℕ). Some (Number w)) (value_word_is x within)
-        ∙ s.shows.numbers x (omega (arith, within, s.len)) (s.behind x within high))
+        ∙ s.shows.numbers x (omega (arith, within, s.len)) (s.behind x printed high))
         (cases_lt x r.fields)
 
-    pub content_is : (content_of p.heap r).content ≡ s.shown
-    content_is =
+    -- the values that are printed
+    values_here : values_told (kind_with r.kind r.fields) (values_read p.heap (first_value r) r.fields r.len) ≡ values_told s.shown.kind s.shown.values
+    values_here =
         let kind : kind_with r.kind r.fields ≡ s.shown.kind = s.kind ∙ sym s.shows.kind in
-        let values : values_read p.heap (first_value r) r.fields r.len ≡ s.shown.values =
-        all_values p.heap (first_value r) r.fields s.shown.values (λ x within. value_here x (omega (arith, within, s.len))) r.len s.len in
-        (λ k. record { kind = kind k; values = values k })
+        read_told r.kind p.heap (first_value r) r.fields r.len
+        ∙ values_are p.heap (first_value r) r.fields s.shown.values (told_by r.kind r.len) value_here (omega (arith, s.len, told-le r.kind r.len))
+        ∙ ap (λ (n : ℕ). take (told_by r.kind n) s.shown.values) s.len
+        ∙ sym (taken_told r.kind r.fields s.shown.values)
+        ∙ ap (λ k. values_told k s.shown.values) kind
+
+    -- its line is that of what is kept
+    pub line_is : record_line (content_of p.heap r) ≡ record_line (record { identity = r.identity; content = s.shown })
+    line_is =
+        let kind : kind_with r.kind r.fields ≡ s.shown.kind = s.kind ∙ sym s.shows.kind in
+        let len : length (values_read p.heap (first_value r) r.fields r.len) ≡ length s.shown.values = length_values p.heap (first_value r) r.fields r.len ∙ s.len in
+        (λ k. identity_text r.identity ++ codes " " ++ kind_text (kind k) ++ codes " " ++ decimal (len k) ++ codes ":" ++ values_text (values_here k) ++ codes "\n")

@@ -1,7 +1,7 @@
 -- The records of the last checkpoint, as they are read from its heap.
 use Rattle.std.specs.Prelude.{ℕ, zero, suc, ◌+◌, ◌-◌, ◌∷◌, [], ◌++◌, List, Option, Some, None, min, nat_lt, unwrap_or, if◌then◌else◌}
 use Rattle.heap_words.specs.declared.kind.Kind.{Kind}
-use Rattle.heap_words.specs.declared.kind.Kind.TheVariants.{Fields, Raw, Mixed}
+use Rattle.heap_words.specs.declared.kind.Kind.TheVariants.{Fields, Raw, Mixed, Weak}
 use Rattle.heap_words.specs.Decoded.{decode, number_in}
 use Rattle.plain_state.specs.declared.kind.Kind.{Kind as PlainKind}
 use Rattle.plain_state.specs.declared.kind.Kind.TheVariants as plain
@@ -20,12 +20,21 @@ abbrev pub words_before : Kind → ℕ
 words_before Fields = 1
 words_before Raw = 1
 words_before Mixed = 2
+words_before Weak = 1
+
+-- and how many behind the last one
+abbrev pub words_after : Kind → ℕ
+words_after Fields = 0
+words_after Raw = 0
+words_after Mixed = 0
+words_after Weak = 1
 
 -- how many of a record's values, from the first, are fields, by its values and its word 1
 abbrev pub fields_by : Kind → (len next : ℕ) → ℕ
 fields_by Fields len next = len
 fields_by Raw len next = 0
 fields_by Mixed len next = unwrap_or (number_in (decode next)) 0
+fields_by Weak len next = 0
 
 -- the record at an address with this header and this word 1
 abbrev pub record_with : (address next : ℕ) → Header → SavedRecord
@@ -33,8 +42,8 @@ record_with address next h = record {
   address = address;
   identity = identity_by (Some h);
   kind = h.kind;
-  fields = fields_by h.kind (h.len + 1 - words_before h.kind) next;
-  len = h.len + 1 - words_before h.kind;
+  fields = fields_by h.kind (h.len + 1 - (words_before h.kind + words_after h.kind)) next;
+  len = h.len + 1 - (words_before h.kind + words_after h.kind);
 }
 
 abbrev pub record_by : (address next : ℕ) → Option Header → Option SavedRecord
@@ -69,6 +78,14 @@ abbrev pub kind_with : Kind → (fields : ℕ) → PlainKind
 kind_with Fields fields = plain.Fields
 kind_with Raw fields = plain.Raw
 kind_with Mixed fields = plain.Mixed fields
+kind_with Weak fields = plain.Weak
+
+-- how many of a record's values are printed, by how many it has
+abbrev pub told_by : Kind → (len : ℕ) → ℕ
+told_by Fields len = len
+told_by Raw len = len
+told_by Mixed len = len
+told_by Weak len = 0
 
 -- the record as it is printed
 abbrev pub content_of : (heap : ℕ → ℕ) → SavedRecord → KeptRecord

@@ -58,6 +58,7 @@ fn push_kind(out: &mut String, kind: Kind, fields: u64) -> Result<(), NoMemory>
         Kind::Fields => out.push_str("fields")?,
         Kind::Raw => out.push_str("raw")?,
         Kind::Mixed => write!(out, "mixed {fields}")?,
+        Kind::Weak => out.push_str("weak")?,
     }
     Ok(())
 }
@@ -89,13 +90,7 @@ pub fn push_record(out: &mut String, words: &SavedWords, saved: SavedRecord) -> 
     out.push(' ')?;
     push_kind(out, saved.kind, saved.fields)?;
     write!(out, " {}:", saved.len)?;
-    push_values(
-        out,
-        words,
-        saved.first_value(),
-        saved.fields,
-        u64::from(saved.len),
-    )?;
+    push_values(out, words, saved.first_value(), saved.fields, saved.told())?;
     out.push('\n')?;
     Ok(())
 }

@@ -1,7 +1,7 @@
 //! A record of the checkpoint.
 
 ghost use Rattle.std.specs.Prelude.{◌≡◌};
-ghost use Rattle.checkpoint_text.specs.Records.{field_count, first_value, words_before};
+ghost use Rattle.checkpoint_text.specs.Records.{field_count, first_value, told_by, words_after, words_before};
 
 use heap_words::Kind;
 use plain_state::Identity;
@@ -33,6 +33,16 @@ impl SavedRecord {
     {
         self.fields.min(u64::from(self.len))
     }
+
+    /// How many of its values are printed: of a cell none.
+    pub fn told(self) -> u64
+        ensures { result ≡ told_by self.kind self.len }
+    {
+        match self.kind {
+            Kind::Fields | Kind::Raw | Kind::Mixed => u64::from(self.len),
+            Kind::Weak => 0,
+        }
+    }
 }
 
 /// How many words stand before the first value of a record.
@@ -40,7 +50,17 @@ pub fn words_before(kind: Kind) -> u16
     ensures { result ≡ words_before kind }
 {
     match kind {
-        Kind::Fields | Kind::Raw => 1,
+        Kind::Fields | Kind::Raw | Kind::Weak => 1,
         Kind::Mixed => 2,
+    }
+}
+
+/// And how many behind the last one.
+pub fn words_after(kind: Kind) -> u16
+    ensures { result ≡ words_after kind }
+{
+    match kind {
+        Kind::Fields | Kind::Raw | Kind::Mixed => 0,
+        Kind::Weak => 1,
     }
 }

@@ -8,7 +8,7 @@ ghost use Rattle.heap_state.specs.Saving.Words.{is_saved_for, reads_saved, saves
 ghost use Rattle.checkpoint_text.specs.Heap.{AreWholeTable, field_value, identity_there, saved_word};
 ghost use Rattle.checkpoint_text.specs.Records.{fields_by, record_there, record_with, value_read};
 
-use crate::saved_record::{SavedRecord, words_before};
+use crate::saved_record::{SavedRecord, words_after, words_before};
 use heap_words::{Kind, Word};
 use plain_state::{Identity, Value};
 use record_layout::Header;
@@ -128,7 +128,9 @@ impl<'t> SavedWords<'t> {
         ensures { result ≡ record_there (saved_heap self.now) address }
     {
         let header = self.header(address)?;
-        let len = (header.len + 1).saturating_sub(words_before(header.kind));
+        let len = (header.len + 1).saturating_sub(
+            words_before(header.kind) + words_after(header.kind),
+        );
         Some(SavedRecord {
             address,
             identity: identity_of(&header),
@@ -187,7 +189,7 @@ fn fields(kind: Kind, len: u16, next: u64) -> u64
 {
     match kind {
         Kind::Fields => u64::from(len),
-        Kind::Raw => 0,
+        Kind::Raw | Kind::Weak => 0,
         Kind::Mixed => Word(next).as_number().unwrap_or(0),
     }
 }

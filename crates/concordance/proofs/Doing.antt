@@ -1,16 +1,16 @@
 -- What the instructions of a clerk do to its records and registers, if their operands are what they ask for.
-use Rattle.std.proofs.Common.{◌≡◌, ℕ, ◌+◌, ◌-◌, ◌^◌, ◌<◌, ◌≤◌, List, [], ◌∷◌, ◌++◌, length, Some, None, Result, Ok, Err, slice_index_or, slice_set, refl, ap, sym, ◌∙◌, arith}
+use Rattle.std.proofs.Common.{◌≡◌, ℕ, ◌+◌, ◌-◌, ◌^◌, ◌<◌, ◌≤◌, false, List, [], ◌∷◌, ◌++◌, length, Some, None, Result, Ok, Err, slice_index_or, slice_set, refl, ap, sym, ◌∙◌, arith}
 use Rattle.std.specs.Prelude.{IsOk, IsTrue}
 use Rattle.std.specs.Option.{option_map}
 use Rattle.std.proofs.lemmas.Bool.{le-leb, lt-ltb}
 use Rattle.std.proofs.lemmas.List.{get_or-set_same, length-replicate}
 use Rattle.plain_state.specs.declared.end.End.{End}
 use Rattle.plain_state.specs.declared.kind.Kind.{Kind}
-use Rattle.plain_state.specs.declared.kind.Kind.TheVariants.{Fields, Raw}
+use Rattle.plain_state.specs.declared.kind.Kind.TheVariants.{Fields, Raw, Weak}
 use Rattle.plain_state.specs.declared.sizes.TheConstants.{LONGEST_RECORD}
 use Rattle.plain_state.specs.declared.value.Value.{Value}
 use Rattle.plain_state.specs.declared.value.Value.TheVariants.{Number}
-use Rattle.plain_state.specs.Layout.{values_at}
+use Rattle.plain_state.specs.Layout.{values_at, words_behind}
 use Rattle.plain_state.specs.State.{Heap, Mutator, Record, made_by}
 use Rattle.plain_state.specs.Writing.{stored, with_value, zeros}
 use Rattle.mutator_asm.specs.declared.instr.Instr.{Instr}
@@ -21,7 +21,7 @@ use Rattle.plain_heap.specs.declared.action.Action.{Action}
 use Rattle.plain_heap.specs.declared.action.Action.TheVariants.{Makes}
 use Rattle.plain_heap.specs.Action.{action, register}
 use Rattle.plain_heap.specs.Alone.{leaves_board}
-use Rattle.plain_heap.specs.Call.{After, allocated, call, loads, may_hold, set_register, went_on}
+use Rattle.plain_heap.specs.Call.{After, allocated, call, is_cell, loads, may_hold, set_register, went_on}
 use Rattle.plain_heap.specs.Step.{new_record, pages_for, pages_of, record_made}
 use Rattle.heap_state.specs.Worker.{Account}
 use Rattle.gc_worker.specs.Plain.Seen.{making_in, seen}
@@ -49,6 +49,11 @@ held_is kind x w is = by_outcome (may_hold kind x w) refl is
     by_outcome (Ok v) e is = e ∙ ap Ok (sym (held_same kind x w v e))
     by_outcome (Err why) e is = cc
 
+-- a cell holds nothing that is stored
+holds_no_cell : (kind : Kind) (x : ℕ) (w : Value) → IsOk (may_hold kind x w) → is_cell kind ≡ false
+holds_no_cell Weak x w is = cc
+holds_no_cell _ x w is = refl
+
 -- ---- the plain machine's call
 
 module _ (m : ℕ) (heap : Heap) (k : Mutator) where
@@ -63,10 +68,10 @@ module _ (m : ℕ) (heap : Heap) (k : Mutator) where
   unfolding call action
   call-mov d a = refl
 
-  pub call-ld : (d a x : ℕ) (r : Record) → LeadsTo here (register k a) r → x < length r.values
+  pub call-ld : (d a x : ℕ) (r : Record) → LeadsTo here (register k a) r → x < length r.values → is_cell r.kind ≡ false
       → call m heap k (instrs.Ld d a (operands.Number x)) ≡ Ok (loads heap k d (slice_index_or r.values x (Number 0)))
   unfolding call action
-  call-ld d a x r leads within = rw (leads.is, leads.found, lt-ltb x (length r.values) within) refl
+  call-ld d a x r leads within no_cell = rw (leads.is, leads.found, lt-ltb x (length r.values) within, no_cell) refl
 
   pub call-len : (d a : ℕ) (r : Record) → LeadsTo here (register k a) r → call m heap k (instrs.Len d a) ≡ Ok (loads heap k d (Number (length r.values)))
   unfolding call action
@@ -75,13 +80,13 @@ module _ (m : ℕ) (heap : Heap) (k : Mutator) where
   pub call-st : (a x b : ℕ) (r : Record) (leads : LeadsTo here (register k a) r) → x < length r.values → IsOk (may_hold r.kind x (register k b))
       → call m heap k (instrs.St a (operands.Number x) b) ≡ Ok (record { heap = stored heap (record { mutator = m; serial = leads.serial }) r x (register k b); mutator = went_on k })
   unfolding call action
-  call-st a x b r leads within holds = rw (leads.is, leads.found, lt-ltb x (length r.values) within, held_is r.kind x (register k b) holds) refl
+  call-st a x b r leads within holds = rw (leads.is, leads.found, lt-ltb x (length r.values) within, holds_no_cell r.kind x (register k b) holds, held_is r.kind x (register k b) holds) refl
 
-  pub call-new : (d n : ℕ) → n ≤ LONGEST_RECORD → call m heap k (instrs.New d (operands.Number n)) ≡ Ok (allocated m heap k Fields d n)
+  pub call-new : (d n : ℕ) → n ≤ LONGEST_RECORD → call m heap k (instrs.New d (operands.Number n)) ≡ Ok (allocated m heap k Fields d n (Number 0))
   unfolding call action
   call-new d n short = rw (le-leb n LONGEST_RECORD short) refl
 
-  pub call-raw : (d n : ℕ) → n ≤ LONGEST_RECORD → call m heap k (instrs.Raw d (operands.Number n)) ≡ Ok (allocated m heap k Raw d n)
+  pub call-raw : (d n : ℕ) → n ≤ LONGEST_RECORD → call m heap k (instrs.Raw d (operands.Number n)) ≡ Ok (allocated m heap k Raw d n (Number 0))
   unfolding call action
   call-raw d n short = rw (le-leb n LONGEST_RECORD short) refl
 
@@ -96,7 +101,7 @@ module _ (m : ℕ) (heap : Heap) (k : Mutator) where
   done-ld : (d a x : ℕ) → HasWord here (register k a) x → IsDone (instrs.Ld d a (operands.Number x))
   done-ld d a x has = record {
     after = loads heap k d (slice_index_or has.found.values x (Number 0));
-    ok = call-ld d a x has.found has.leads has.within;
+    ok = call-ld d a x has.found has.leads has.within has.no_cell;
     desk_is = ap (λ (v : Value). desk_at m heap (went_on (set_register k d v))) (sym (word_there here (register k a) has.found has.leads x));
   }
 
@@ -123,7 +128,7 @@ module _ (m : ℕ) (heap : Heap) (k : Mutator) where
           desk_is = ap with_list (made_there (slice_set (made_by heap m) (s - 1) (with_value may.found x w))) ∙ sym (with_word_there here (register k a) may.found may.leads x w);
         }
 
-    done-made : (kind : Kind) (d n : ℕ) → desk_at m (allocated m heap k kind d n).heap (allocated m heap k kind d n).mutator ≡ desk_with_record here kind d n
+    done-made : (kind : Kind) (d n : ℕ) → desk_at m (allocated m heap k kind d n (Number 0)).heap (allocated m heap k kind d n (Number 0)).mutator ≡ desk_with_record here kind d n
     done-made kind d n =
         ap (λ (records : List Record). let made : Desk = record { number = m; records = records; registers = slice_set k.registers d (own m (length (made_by heap m) + 1)) } in made)
         (made_there (made_by heap m ++ zeros kind n ∷ []))
@@ -137,8 +142,8 @@ module _ (m : ℕ) (heap : Heap) (k : Mutator) where
     does _ can = absurd can
 
     pub makes : (i : Instr) → CanMake here i → IsDone i
-    makes (instrs.New d (operands.Number n)) can = record { after = allocated m heap k Fields d n; ok = call-new d n can.0; desk_is = done-made Fields d n }
-    makes (instrs.Raw d (operands.Number n)) can = record { after = allocated m heap k Raw d n; ok = call-raw d n can.0; desk_is = done-made Raw d n }
+    makes (instrs.New d (operands.Number n)) can = record { after = allocated m heap k Fields d n (Number 0); ok = call-new d n can.0; desk_is = done-made Fields d n }
+    makes (instrs.Raw d (operands.Number n)) can = record { after = allocated m heap k Raw d n (Number 0); ok = call-raw d n can.0; desk_is = done-made Raw d n }
     makes _ can = absurd can
 
 -- ---- the board and new records
@@ -147,6 +152,7 @@ pub does_leave_board : (desk : Desk) (i : Instr) → CanDo desk i → IsTrue (le
 does_leave_board desk (instrs.Get d x) can = absurd can
 does_leave_board desk (instrs.Put x a) can = absurd can
 does_leave_board desk (instrs.Swap d x) can = absurd can
+does_leave_board desk (instrs.Weak d a) can = absurd can
 does_leave_board desk (instrs.Li d n) can = refl
 does_leave_board desk _ can = refl
 
@@ -154,24 +160,26 @@ pub makes_leave_board : (desk : Desk) (i : Instr) → CanMake desk i → IsTrue 
 makes_leave_board desk (instrs.Get d x) can = absurd can
 makes_leave_board desk (instrs.Put x a) can = absurd can
 makes_leave_board desk (instrs.Swap d x) can = absurd can
+makes_leave_board desk (instrs.Weak d a) can = absurd can
 makes_leave_board desk (instrs.Li d n) can = absurd can
 makes_leave_board desk _ can = refl
 
 record_none : (o : Result Action End) → making_in o ≡ None → record_made o ≡ None
-record_none (Ok (Makes kind d n)) none = cc
+record_none (Ok (Makes kind d n v)) none = cc
 record_none _ none = refl
 
 pub does_none : (k : Mutator) (desk : Desk) (i : Instr) → CanDo desk i → making_in (action k i) ≡ None
 does_none k desk (instrs.New d x) can = absurd can
 does_none k desk (instrs.Raw d x) can = absurd can
 does_none k desk (instrs.Mix d fields raw) can = absurd can
+does_none k desk (instrs.Weak d a) can = absurd can
 does_none k desk i can = made_of k i
 
 pub does_no_record : (k : Mutator) (desk : Desk) (i : Instr) → CanDo desk i → new_record k i ≡ None
 does_no_record k desk i can = record_none (action k i) (does_none k desk i can)
 
-zeros_pages : (kind : Kind) (n : ℕ) → pages_of (zeros kind n) ≡ pages_for (n + values_at kind)
-zeros_pages kind n = ap (λ (len : ℕ). pages_for (len + values_at kind)) (length-replicate n (Number 0))
+zeros_pages : (kind : Kind) (n : ℕ) → pages_of (zeros kind n) ≡ pages_for (n + (values_at kind + words_behind kind))
+zeros_pages kind n = ap (λ (len : ℕ). pages_for (len + (values_at kind + words_behind kind))) (length-replicate n (Number 0))
 
 -- the pages that are asked for
 pub makes_pages : (k : Mutator) (desk : Desk) (i : Instr) → CanMake desk i → option_map pages_of (new_record k i) ≡ Some (pages_for (desk_size_made i))

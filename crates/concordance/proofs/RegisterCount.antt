@@ -36,7 +36,7 @@ module _ (m : ℕ) (heap : Heap) (k : Mutator) where
   performed-count (Links d target) = length-set k.registers d _
   performed-count (Prints n) = refl
   performed-count Snaps = refl
-  performed-count (Makes kind d n) = length-set k.registers d _
+  performed-count (Makes kind d n v) = length-set k.registers d _
   performed-count (Measures d i) = length-set k.registers d _
   performed-count (Loads d i x) = if_ok-bind AsMany (value_in heap i x) _ (λ v. length-set k.registers d v)
   performed-count (Stores i x v) = if_ok-bind AsMany (value_in heap i x) _ (λ old. if_ok-bind AsMany (store_in heap i (record_of heap i) x v) _ (λ h. refl))

@@ -1,5 +1,5 @@
 -- What a clerk works with on the plain heap: the records that it made, and its registers.
-use Rattle.std.specs.Prelude.{◌≡◌, ⊤, ℕ, ◌+◌, ◌-◌, ◌^◌, ◌<◌, ◌≤◌, List, [], ◌∷◌, ◌++◌, length, Some, IsOk, slice_index_or, slice_set}
+use Rattle.std.specs.Prelude.{◌≡◌, ⊤, false, ℕ, ◌+◌, ◌-◌, ◌^◌, ◌<◌, ◌≤◌, List, [], ◌∷◌, ◌++◌, length, Some, IsOk, slice_index_or, slice_set}
 use Rattle.std.specs.Option.{option_map_or}
 use Rattle.plain_state.specs.declared.kind.Kind.{Kind}
 use Rattle.plain_state.specs.declared.kind.Kind.TheVariants.{Fields, Raw}
@@ -11,7 +11,7 @@ use Rattle.plain_state.specs.Writing.{with_value, zeros}
 use Rattle.mutator_asm.specs.declared.instr.Instr.{Instr}
 use Rattle.mutator_asm.specs.declared.instr.Instr.TheVariants as instrs
 use Rattle.mutator_asm.specs.declared.operand.Operand.TheVariants as operands
-use Rattle.plain_heap.specs.Call.{may_hold}
+use Rattle.plain_heap.specs.Call.{is_cell, may_hold}
 use Rattle.plain_heap.specs.Order.{fresh}
 
 -- a clerk's number, its records in the order in which it made them, and its registers
@@ -73,11 +73,12 @@ desk_with_record desk kind d n = record {
 
 -- ---- the instructions that a clerk executes
 
--- the value leads to an own record that has a value x
+-- the value leads to an own record that has a value x, and is no cell
 pub record HasWord (desk : Desk) (v : Value) (x : ℕ) : Type 0 where
   pub found : Record
   pub leads : LeadsTo desk v found
   pub within : x < length found.values
+  pub no_cell : is_cell found.kind ≡ false
 
 -- it leads to one that may hold w there
 pub record MayTake (desk : Desk) (v : Value) (x : ℕ) (w : Value) : Type 0 where

@@ -4,9 +4,9 @@ use Rattle.std.specs.List.{sum_by}
 use Rattle.plain_state.specs.declared.end.End.TheVariants.{HeapFull}
 use Rattle.plain_state.specs.declared.sizes.TheConstants.{PAGE_WORDS}
 use Rattle.plain_state.specs.Layout.{size_of}
+use Rattle.plain_state.specs.Reachable.{IsLive}
 use Rattle.plain_state.specs.State.{Heap, Plain, made_by, serial_of}
 use Rattle.mutator_asm.specs.declared.instr.Instr.{Instr}
-use Rattle.heap_state.specs.Meaning.Reachable.{IsLive}
 use Rattle.gc_worker.specs.declared.calls.did.Did.TheVariants.{Trap}
 use Rattle.gc_worker.specs.declared.task.Task.TheVariants.{Calls}
 use Rattle.ael_threads.specs.declared.view.Plan.{Plan}

@@ -1,5 +1,5 @@
 -- How a clerk that has taken in all others reads what each of them has noted.
-use Rattle.std.specs.Prelude.{◌≡◌, ◌≢◌, ℕ, ◌^◌, ◌<◌, List, [], ◌∷◌, length, reverse, Option, Some, None, slice_get, slice_index_or}
+use Rattle.std.specs.Prelude.{◌≡◌, ◌≢◌, ℕ, ◌^◌, ◌<◌, false, List, [], ◌∷◌, length, reverse, Option, Some, None, slice_get, slice_index_or}
 use Rattle.std.specs.List.{AllByRecursion}
 use Rattle.std.specs.Option.{option_map_or}
 use Rattle.plain_state.specs.declared.sizes.TheConstants.{BOARD_WORDS}
@@ -9,7 +9,7 @@ use Rattle.plain_state.specs.State.{Heap, Record, made_by, record_of}
 use Rattle.mutator_asm.specs.declared.instr.Instr.{Instr}
 use Rattle.mutator_asm.specs.declared.instr.Instr.TheVariants as instrs
 use Rattle.mutator_asm.specs.declared.operand.Operand.TheVariants as operands
-use Rattle.plain_heap.specs.Call.{board_word}
+use Rattle.plain_heap.specs.Call.{board_word, is_cell}
 use Rattle.plain_heap.specs.Order.{fresh}
 use Rattle.ael_threads.specs.Seats.{Seated, first_number, plain_after_seen}
 use Rattle.concordance_text.specs.declared.part.Part.{Part}
@@ -68,11 +68,12 @@ values_at heap v = option_map_or (λ (r : Record). r.values) (record_at heap v) 
 
 -- ---- the instructions that read
 
--- the value leads to a record that has a value x
+-- the value leads to a record that has a value x, and is no cell
 pub record HasValueAt (heap : Heap) (v : Value) (x : ℕ) : Type 0 where
   pub found : Record
   pub is : record_at heap v ≡ Some found
   pub within : x < length found.values
+  pub no_cell : is_cell found.kind ≡ false
 
 -- The instruction reads a word of the board, a value of a record or a record's length, and its operands are what it asks for.
 abbrev pub CanGet : WholeDesk → Instr → Type 0

@@ -20,6 +20,9 @@ const AREA_0: usize = 4;
 
 const AREA_1: usize = 5;
 
+/// The cell that was linked last.
+const WEAK: usize = 6;
+
 /// The pages in use of both spaces.
 const SIZE_0: usize = 12;
 
@@ -52,7 +55,7 @@ const ALL_OWED: u64 = 0x0000_1000_0400_0000;
 type Event = (u8, Step, Stepped, u64);
 
 /// Both ask for a flip, and mutator 0 is first.
-const EVENTS: [Event; 36] = [
+const EVENTS: [Event; 37] = [
     // The looks that begin the records. No words are free, and nothing is left to copy.
     (0, Load(GATE), Moved, BOTH_RUN),
     (0, Load(TRACED), Moved, BOTH_RUN),
@@ -80,6 +83,7 @@ const EVENTS: [Event; 36] = [
     (0, Load(AREA_0), Moved, BOTH_STAND),
     (0, Store(SIZE_1, ALL_PAGES), Moved, BOTH_STAND),
     (0, Store(AREA_1, ALL_OWED), Moved, BOTH_STAND),
+    (0, Store(WEAK, 0), Moved, BOTH_STAND),
     (
         0,
         Exchange(GATE, BOTH_STAND, BOTH_BEHIND),

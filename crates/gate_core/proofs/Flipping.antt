@@ -26,10 +26,10 @@ use Rattle.gate_core.specs.declared.reset.Reset.{Reset}
 use Rattle.gate_core.specs.declared.flipped.Flipped.{Flipped}
 use Rattle.gate_core.specs.declared.flipped.Flipped.TheVariants.{Went, NotYet}
 use Rattle.gate_core.specs.declared.flip_stage.FlipStage.{FlipStage}
-use Rattle.gate_core.specs.declared.flip_stage.FlipStage.TheVariants.{LoadsGate, LoadsSize, LoadsArea, StoresSize, StoresArea, Exchanges, Ended}
+use Rattle.gate_core.specs.declared.flip_stage.FlipStage.TheVariants.{LoadsGate, LoadsSize, LoadsArea, StoresSize, StoresArea, ResetsWeak, Exchanges, Ended}
 use Rattle.gate_core.specs.Flip.{Flipping, flip_machine, wanted, told_at, next_stage, looked, read_area, is_still, gate_flipped, next_size, area_reset}
 use Rattle.gate_core.specs.Soundness.{IsSoundFlipping, FitsReset, MayFlip}
-use Rattle.gate_core.specs.Theorems.{CountsUsed, IsSized, IsReset, StandsAt, FlipsHeap, ForbidsFlip, size_in}
+use Rattle.gate_core.specs.Theorems.{CountsUsed, IsSized, IsReset, IsUnlinked, StandsAt, FlipsHeap, ForbidsFlip, size_in}
 
 abbrev at : Flipping → FlipStage → Flipping
 at f stage = record f { stage = stage }
@@ -64,6 +64,16 @@ size_and_area_apart n one other one_below other_below = place_of-apart n (row.Si
 
 gate_and_size_apart : (n space : ℕ) → space < 2 → place_of n row.Gate ≢ place_of n (row.Size space)
 gate_and_size_apart n space below = place_of-apart n row.Gate (row.Size space) tt below (λ same. cc)
+
+-- the first cell of the chain is told in a word of its own
+gate_and_weak_apart : (n : ℕ) → place_of n row.Gate ≢ place_of n row.WeakHead
+gate_and_weak_apart n = place_of-apart n row.Gate row.WeakHead tt tt (λ same. cc)
+
+area_and_weak_apart : (n space : ℕ) → space < 2 → place_of n (row.Area space) ≢ place_of n row.WeakHead
+area_and_weak_apart n space below = place_of-apart n (row.Area space) row.WeakHead below tt (λ same. cc)
+
+size_and_weak_apart : (n space : ℕ) → space < 2 → place_of n (row.Size space) ≢ place_of n row.WeakHead
+size_and_weak_apart n space below = place_of-apart n (row.Size space) row.WeakHead below tt (λ same. cc)
 
 -- ---- gates
 
@@ -170,6 +180,23 @@ reset_stands f reset before after few fits whole counts sized makes =
     lit : 0 < 2 ^ 18
     lit = omega arith
 
+weak_stands : (f : Flipping) (reset : Reset) (before after : List ℕ) → HoldsTable f.layout.pages before → CountsUsed f reset before → IsSized f reset before → IsReset f reset before
+    → after ≡ words_after (Store (place_of f.layout.pages row.WeakHead) 0) before
+    → CountsUsed f reset after × IsSized f reset after × IsReset f reset after × IsUnlinked f after
+weak_stands f reset before after whole counts sized emptied makes =
+    let n : ℕ = f.layout.pages in
+    let other : ℕ = to_space (f.epoch + 1) in
+    let below : other < 2 = space_below (f.epoch + 1) in
+    let own : to_space f.epoch < 2 = space_below f.epoch in
+    let there : ℕ = place_of n row.WeakHead in
+    let inside = place_of-lt n row.WeakHead tt in (
+      still_counts f reset there 0 before after (gate_and_weak_apart n) (size_and_weak_apart n (to_space f.epoch) own) (area_and_weak_apart n (to_space f.epoch) own) counts makes,
+      ap (size_in f (f.epoch + 1)) makes ∙ slice_index-words_after (Store there 0) before (place_of n (row.Size other)) (size_and_weak_apart n other below) ∙ sized,
+      ap (λ ws. decode_area (area_of f (f.epoch + 1) ws)) makes
+          ∙ ap decode_area (slice_index-words_after (Store there 0) before (place_of n (row.Area other)) (area_and_weak_apart n other below)) ∙ emptied,
+      ap (row_word n row.WeakHead) makes ∙ slice_index-stored there 0 before (omega (arith, inside, whole)),
+    )
+
 ended_stands : (f : Flipping) (reset : Reset) (words : List ℕ) (b : Bool) (found : ℕ) → StandsAt f (next_stage f (Exchanges reset) (cond b reply.Won (reply.Lost found))) words
 ended_stands f reset words true found = tt
 ended_stands f reset words false found = tt
@@ -186,6 +213,7 @@ keeps f (LoadsArea g size) before after turn sound whole stands acts =
     (area_stands f before g size (decode_area (area_of f f.epoch before)) stands refl)
 keeps f (StoresSize reset) before after turn sound whole stands acts = size_stands f reset before after whole stands acts.makes
 keeps f (StoresArea reset) before after turn sound whole stands acts = reset_stands f reset before after sound.pages sound.stage whole stands.0 stands.1 acts.makes
+keeps f (ResetsWeak reset) before after turn sound whole stands acts = weak_stands f reset before after whole stands.0 stands.1 stands.2 acts.makes
 keeps f (Exchanges reset) before after turn sound whole stands acts = ended_stands f reset after _ _
 keeps f (Ended result) before after turn sound whole stands acts = absurd (no_step acts.has_step)
 
@@ -232,6 +260,10 @@ flips f (StoresSize reset) before after asked sound whole stands acts = absurd (
     never e = cc
 flips f (StoresArea reset) before after asked sound whole stands acts = absurd (never acts.tells)
   where
+    never : told_at (ResetsWeak reset) ≡ Finished (Went asked) → ⊥
+    never e = cc
+flips f (ResetsWeak reset) before after asked sound whole stands acts = absurd (never acts.tells)
+  where
     never : told_at (Exchanges reset) ≡ Finished (Went asked) → ⊥
     never e = cc
 flips f (Exchanges reset) before after asked sound whole stands acts =
@@ -258,6 +290,7 @@ flips f (Exchanges reset) before after asked sound whole stands acts =
         in_use = ap decode_area (others (place_of n (row.Area (to_space f.epoch))) (λ same. gate_apart n (to_space f.epoch) (space_below f.epoch) (sym same))) ∙ stands.0.read;
         empty = ap decode_area (others (place_of n (row.Area (to_space (f.epoch + 1)))) (λ same. gate_apart n (to_space (f.epoch + 1)) (space_below (f.epoch + 1)) (sym same)))
             ∙ stands.2 ∙ ap (λ used. Some (area_reset reset.next used)) stands.0.used ∙ sym (rw (next_is, size_is) refl);
+        unlinked = others (place_of n row.WeakHead) (λ same. gate_and_weak_apart n (sym same)) ∙ stands.3;
         others = others;
       },
       goes.1,
@@ -301,6 +334,10 @@ hindered f (StoresSize reset) before after word acts = absurd (never acts.tells)
     never : told_at (StoresArea reset) ≡ Finished (NotYet word) → ⊥
     never e = cc
 hindered f (StoresArea reset) before after word acts = absurd (never acts.tells)
+  where
+    never : told_at (ResetsWeak reset) ≡ Finished (NotYet word) → ⊥
+    never e = cc
+hindered f (ResetsWeak reset) before after word acts = absurd (never acts.tells)
   where
     never : told_at (Exchanges reset) ≡ Finished (NotYet word) → ⊥
     never e = cc

@@ -51,6 +51,8 @@ module _ (step : Step) (met : List ℕ) where
       subst (λ (s : Step). FlipHolds (flip_stage.StoresSize reset) (reply_of s met)) (same_Some _ _ wants) (λ stays. absurd (cc))
   flip_held f (flip_stage.StoresArea reset) wants =
       subst (λ (s : Step). FlipHolds (flip_stage.StoresArea reset) (reply_of s met)) (same_Some _ _ wants) (λ stays. absurd (cc))
+  flip_held f (flip_stage.ResetsWeak reset) wants =
+      subst (λ (s : Step). FlipHolds (flip_stage.ResetsWeak reset) (reply_of s met)) (same_Some _ _ wants) (λ stays. absurd (cc))
   flip_held f (flip_stage.Exchanges reset) wants =
       subst (λ (s : Step). FlipHolds (flip_stage.Exchanges reset) (reply_of s met)) (same_Some _ _ wants)
       (of_exchange (FlipHolds (flip_stage.Exchanges reset)) _ _ (λ stays. absurd (cc)) (λ stays. tt))

@@ -34,6 +34,7 @@ flip_rows_fit f (flip_stage.LoadsSize read) going = omega arith
 flip_rows_fit f (flip_stage.LoadsArea read size) going = omega arith
 flip_rows_fit f (flip_stage.StoresSize reset) going = omega arith
 flip_rows_fit f (flip_stage.StoresArea reset) going = omega arith
+flip_rows_fit f (flip_stage.ResetsWeak reset) going = tt
 flip_rows_fit f (flip_stage.Exchanges reset) going = tt
 flip_rows_fit f (flip_stage.Ended result) going = going
 

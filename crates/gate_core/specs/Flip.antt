@@ -12,11 +12,11 @@ use Rattle.space_map.specs.declared.gate_word.GateWord.{GateWord}
 use Rattle.space_map.specs.AreaWord.{encode_area, decode_area}
 use Rattle.space_map.specs.GateWord.{encode_gate, decode_gate}
 use Rattle.space_map.specs.Spaces.{Layout, to_space}
-use Rattle.space_map.specs.Table.{Row, Gate, Area, Size, place_of}
+use Rattle.space_map.specs.Table.{Row, Gate, Area, Size, WeakHead, place_of}
 use Rattle.gate_core.specs.declared.flipped.Flipped.{Flipped}
 use Rattle.gate_core.specs.declared.flipped.Flipped.TheVariants.{Went, NotYet}
 use Rattle.gate_core.specs.declared.flip_stage.FlipStage.{FlipStage}
-use Rattle.gate_core.specs.declared.flip_stage.FlipStage.TheVariants.{LoadsGate, LoadsSize, LoadsArea, StoresSize, StoresArea, Exchanges, Ended}
+use Rattle.gate_core.specs.declared.flip_stage.FlipStage.TheVariants.{LoadsGate, LoadsSize, LoadsArea, StoresSize, StoresArea, ResetsWeak, Exchanges, Ended}
 
 -- the flip out of an epoch, by the mutator that requested it because it asks for so many pages, and that has seen another flip
 -- since its instruction began or not
@@ -62,6 +62,7 @@ wants_at f (LoadsSize gate) = Some (Load (Size (to_space f.epoch)))
 wants_at f (LoadsArea gate size) = Some (Load (Area (to_space f.epoch)))
 wants_at f (StoresSize reset) = Some (Store (Size (to_space (f.epoch + 1))) reset.next)
 wants_at f (StoresArea reset) = Some (Store (Area (to_space (f.epoch + 1))) (encode_area (area_reset reset.next reset.used)))
+wants_at f (ResetsWeak reset) = Some (Store WeakHead 0)
 wants_at f (Exchanges reset) = Some (Exchange Gate (encode_gate reset.gate) (encode_gate (gate_flipped reset.gate)))
 wants_at f (Ended result) = None
 
@@ -88,7 +89,8 @@ next_stage f LoadsGate (Value word) = looked word (decode_gate word)
 next_stage f (LoadsSize gate) (Value word) = LoadsArea gate word
 next_stage f (LoadsArea gate size) (Value word) = read_area f.layout.pages f.seen gate size (decode_area word)
 next_stage f (StoresSize reset) Done = StoresArea reset
-next_stage f (StoresArea reset) Done = Exchanges reset
+next_stage f (StoresArea reset) Done = ResetsWeak reset
+next_stage f (ResetsWeak reset) Done = Exchanges reset
 next_stage f (Exchanges reset) Won = Ended (Went f.asked)
 next_stage f (Exchanges reset) (Lost word) = LoadsGate
 next_stage f stage answer = stage
@@ -112,11 +114,12 @@ flip_machine = record { wanted = wanted; taken = taken; told = told }
 -- ---- the steps that are left, no exchange being lost
 
 abbrev pub left_at : FlipStage → ℕ
-left_at LoadsGate = 6
-left_at (LoadsSize gate) = 5
-left_at (LoadsArea gate size) = 4
-left_at (StoresSize reset) = 3
-left_at (StoresArea reset) = 2
+left_at LoadsGate = 7
+left_at (LoadsSize gate) = 6
+left_at (LoadsArea gate size) = 5
+left_at (StoresSize reset) = 4
+left_at (StoresArea reset) = 3
+left_at (ResetsWeak reset) = 2
 left_at (Exchanges reset) = 1
 left_at (Ended result) = 0
 
@@ -130,6 +133,7 @@ advances_at (LoadsSize gate) (Value word) = true
 advances_at (LoadsArea gate size) (Value word) = is_some (decode_area word)
 advances_at (StoresSize reset) Done = true
 advances_at (StoresArea reset) Done = true
+advances_at (ResetsWeak reset) Done = true
 advances_at (Exchanges reset) Won = true
 advances_at stage answer = false
 

@@ -41,7 +41,7 @@ Requests =
 -- it flips: one page of four has words in use, so the other space, of as many pages, begins with 64 words owed
 abbrev pub FlipsSpaces : Type 0
 FlipsSpaces =
-    FlipRunsTo ((Load 0, Value 0x0100_0001_0000_0000) ∷ (Load 12, Value 4) ∷ (Load 4, Value 0x0000_0000_0300_0000) ∷ (Store 13 4, Done) ∷ (Store 5 0x0000_0400_0400_0000, Done) ∷ (Exchange 0 0x0100_0001_0000_0000 0x0001_0001_0000_0001, Won) ∷ []) (flipped.Went 1)
+    FlipRunsTo ((Load 0, Value 0x0100_0001_0000_0000) ∷ (Load 12, Value 4) ∷ (Load 4, Value 0x0000_0000_0300_0000) ∷ (Store 13 4, Done) ∷ (Store 5 0x0000_0400_0400_0000, Done) ∷ (Store 6 0, Done) ∷ (Exchange 0 0x0100_0001_0000_0000 0x0001_0001_0000_0001, Won) ∷ []) (flipped.Went 1)
 
 -- it has forwarded its registers
 abbrev pub TellsForwarded : Type 0
@@ -100,29 +100,29 @@ RunningHindersFlip =
 -- a flip whose exchange were lost would begin again
 abbrev pub LostFlipBeginsAgain : Type 0
 LostFlipBeginsAgain =
-    FlipRunsTo ((Load 0, Value 0x0100_0002_0000_0000) ∷ (Load 12, Value 4) ∷ (Load 4, Value 0x0000_0000_0300_0000) ∷ (Store 13 4, Done) ∷ (Store 5 0x0000_0400_0400_0000, Done) ∷ (Exchange 0 0x0100_0002_0000_0000 0x0002_0002_0000_0001, Lost 0x0100_0102_0000_0000) ∷ (Load 0, Value 0x0100_0102_0000_0000) ∷ []) (flipped.NotYet 0x0100_0102_0000_0000)
+    FlipRunsTo ((Load 0, Value 0x0100_0002_0000_0000) ∷ (Load 12, Value 4) ∷ (Load 4, Value 0x0000_0000_0300_0000) ∷ (Store 13 4, Done) ∷ (Store 5 0x0000_0400_0400_0000, Done) ∷ (Store 6 0, Done) ∷ (Exchange 0 0x0100_0002_0000_0000 0x0002_0002_0000_0001, Lost 0x0100_0102_0000_0000) ∷ (Load 0, Value 0x0100_0102_0000_0000) ∷ []) (flipped.NotYet 0x0100_0102_0000_0000)
 
 -- the other space has twice as many pages, once the mutator has seen a flip
 abbrev pub GrowsOnceSeen : Type 0
 GrowsOnceSeen =
-    LargerFlipRunsTo true ((Load 0, Value 0x0100_0001_0000_0000) ∷ (Load 12, Value 4) ∷ (Load 4, Value 0x0000_0000_0100_0000) ∷ (Store 13 8, Done) ∷ (Store 5 0x0000_0C00_0800_0000, Done) ∷ (Exchange 0 0x0100_0001_0000_0000 0x0001_0001_0000_0001, Won) ∷ []) (flipped.Went 1)
+    LargerFlipRunsTo true ((Load 0, Value 0x0100_0001_0000_0000) ∷ (Load 12, Value 4) ∷ (Load 4, Value 0x0000_0000_0100_0000) ∷ (Store 13 8, Done) ∷ (Store 5 0x0000_0C00_0800_0000, Done) ∷ (Store 6 0, Done) ∷ (Exchange 0 0x0100_0001_0000_0000 0x0001_0001_0000_0001, Won) ∷ []) (flipped.Went 1)
 
 -- it has as many at the first
 abbrev pub StaysAtFirst : Type 0
 StaysAtFirst =
-    LargerFlipRunsTo false ((Load 0, Value 0x0100_0001_0000_0000) ∷ (Load 12, Value 4) ∷ (Load 4, Value 0x0000_0000_0100_0000) ∷ (Store 13 4, Done) ∷ (Store 5 0x0000_0C00_0400_0000, Done) ∷ (Exchange 0 0x0100_0001_0000_0000 0x0001_0001_0000_0001, Won) ∷ []) (flipped.Went 1)
+    LargerFlipRunsTo false ((Load 0, Value 0x0100_0001_0000_0000) ∷ (Load 12, Value 4) ∷ (Load 4, Value 0x0000_0000_0100_0000) ∷ (Store 13 4, Done) ∷ (Store 5 0x0000_0C00_0400_0000, Done) ∷ (Store 6 0, Done) ∷ (Exchange 0 0x0100_0001_0000_0000 0x0001_0001_0000_0001, Won) ∷ []) (flipped.Went 1)
 
 -- it has twice as many too if more than half of the 256 words were copied, 129 of them
 abbrev pub GrowsPastHalf : Type 0
 GrowsPastHalf =
-    LargerFlipRunsTo false ((Load 0, Value 0x0100_0001_0000_0000) ∷ (Load 12, Value 4) ∷ (Load 4, Value 0x0000_0000_0400_0081) ∷ (Store 13 8, Done) ∷ (Store 5 0x0000_0810_0800_0000, Done) ∷ (Exchange 0 0x0100_0001_0000_0000 0x0001_0001_0000_0001, Won) ∷ []) (flipped.Went 1)
+    LargerFlipRunsTo false ((Load 0, Value 0x0100_0001_0000_0000) ∷ (Load 12, Value 4) ∷ (Load 4, Value 0x0000_0000_0400_0081) ∷ (Store 13 8, Done) ∷ (Store 5 0x0000_0810_0800_0000, Done) ∷ (Store 6 0, Done) ∷ (Exchange 0 0x0100_0001_0000_0000 0x0001_0001_0000_0001, Won) ∷ []) (flipped.Went 1)
 
 -- half isn't enough
 abbrev pub StaysAtHalf : Type 0
 StaysAtHalf =
-    LargerFlipRunsTo false ((Load 0, Value 0x0100_0001_0000_0000) ∷ (Load 12, Value 4) ∷ (Load 4, Value 0x0000_0000_0400_0080) ∷ (Store 13 4, Done) ∷ (Store 5 0x0000_0800_0400_0000, Done) ∷ (Exchange 0 0x0100_0001_0000_0000 0x0001_0001_0000_0001, Won) ∷ []) (flipped.Went 1)
+    LargerFlipRunsTo false ((Load 0, Value 0x0100_0001_0000_0000) ∷ (Load 12, Value 4) ∷ (Load 4, Value 0x0000_0000_0400_0080) ∷ (Store 13 4, Done) ∷ (Store 5 0x0000_0800_0400_0000, Done) ∷ (Store 6 0, Done) ∷ (Exchange 0 0x0100_0001_0000_0000 0x0001_0001_0000_0001, Won) ∷ []) (flipped.Went 1)
 
 -- it never has more pages than there are
 abbrev pub GrowsNoFurther : Type 0
 GrowsNoFurther =
-    LargerFlipRunsTo true ((Load 0, Value 0x0100_0001_0000_0000) ∷ (Load 12, Value 8) ∷ (Load 4, Value 0x0000_0000_0100_0000) ∷ (Store 13 8, Done) ∷ (Store 5 0x0000_1C00_0800_0000, Done) ∷ (Exchange 0 0x0100_0001_0000_0000 0x0001_0001_0000_0001, Won) ∷ []) (flipped.Went 1)
+    LargerFlipRunsTo true ((Load 0, Value 0x0100_0001_0000_0000) ∷ (Load 12, Value 8) ∷ (Load 4, Value 0x0000_0000_0100_0000) ∷ (Store 13 8, Done) ∷ (Store 5 0x0000_1C00_0800_0000, Done) ∷ (Store 6 0, Done) ∷ (Exchange 0 0x0100_0001_0000_0000 0x0001_0001_0000_0001, Won) ∷ []) (flipped.Went 1)

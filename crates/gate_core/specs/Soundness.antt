@@ -79,6 +79,7 @@ FitsFlipStage n seen (flip_stage.LoadsSize gate) = MayFlip gate
 FitsFlipStage n seen (flip_stage.LoadsArea gate size) = MayFlip gate × IsSizeWithin n size
 FitsFlipStage n seen (flip_stage.StoresSize reset) = FitsReset n seen reset
 FitsFlipStage n seen (flip_stage.StoresArea reset) = FitsReset n seen reset
+FitsFlipStage n seen (flip_stage.ResetsWeak reset) = FitsReset n seen reset
 FitsFlipStage n seen (flip_stage.Exchanges reset) = FitsReset n seen reset
 FitsFlipStage n seen (flip_stage.Ended result) = ⊤
 

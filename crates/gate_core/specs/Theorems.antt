@@ -17,7 +17,7 @@ use Rattle.gate_core.specs.declared.reset.Reset.{Reset}
 use Rattle.gate_core.specs.declared.flipped.Flipped.{Flipped}
 use Rattle.gate_core.specs.declared.flipped.Flipped.TheVariants as flipped
 use Rattle.gate_core.specs.declared.flip_stage.FlipStage.{FlipStage}
-use Rattle.gate_core.specs.declared.flip_stage.FlipStage.TheVariants.{LoadsGate, LoadsSize, LoadsArea, StoresSize, StoresArea, Exchanges, Ended}
+use Rattle.gate_core.specs.declared.flip_stage.FlipStage.TheVariants.{LoadsGate, LoadsSize, LoadsArea, StoresSize, StoresArea, ResetsWeak, Exchanges, Ended}
 use Rattle.gate_core.specs.Gate.{Passing, gate_after, gate_machine}
 use Rattle.gate_core.specs.Flip.{Flipping, gate_flipped, next_size, used_in, area_reset, flip_machine}
 use Rattle.gate_core.specs.Soundness.{IsSoundPassing, IsSoundFlipping}
@@ -95,6 +95,10 @@ IsSized f reset words = size_in f (f.epoch + 1) words ≡ reset.next
 abbrev pub IsReset : Flipping → Reset → List ℕ → Type 0
 IsReset f reset words = decode_area (row_word f.layout.pages (row.Area (to_space (f.epoch + 1))) words) ≡ Some (area_reset reset.next reset.used)
 
+-- no cell is linked
+abbrev pub IsUnlinked : Flipping → List ℕ → Type 0
+IsUnlinked f words = row_word f.layout.pages row.WeakHead words ≡ 0
+
 -- what the flip has read stands, and so does what it has stored
 abbrev pub StandsAt : Flipping → FlipStage → List ℕ → Type 0
 StandsAt f LoadsGate words = ⊤
@@ -102,7 +106,8 @@ StandsAt f (LoadsSize gate) words = decode_gate (row_word f.layout.pages row.Gat
 StandsAt f (LoadsArea gate size) words = (decode_gate (row_word f.layout.pages row.Gate words) ≡ Some gate) × (size_in f f.epoch words ≡ size)
 StandsAt f (StoresSize reset) words = CountsUsed f reset words
 StandsAt f (StoresArea reset) words = CountsUsed f reset words × IsSized f reset words
-StandsAt f (Exchanges reset) words = CountsUsed f reset words × IsSized f reset words × IsReset f reset words
+StandsAt f (ResetsWeak reset) words = CountsUsed f reset words × IsSized f reset words × IsReset f reset words
+StandsAt f (Exchanges reset) words = CountsUsed f reset words × IsSized f reset words × IsReset f reset words × IsUnlinked f words
 StandsAt f (Ended result) words = ⊤
 
 -- while mutators are stopped and none is behind, nobody else changes these words; and the flip's own steps keep it
@@ -113,7 +118,7 @@ FlipsKeepWhatTheyRead = (f : Flipping) (before after : List ℕ) (turn : Turn Fl
 
 -- Nobody ran and nobody was behind; then the epoch is the next one, all that are live are behind, and no flip is requested any
 -- more. The other space has the size that follows from that of the one that was copied into until now, is empty, and owes as
--- many words as are in use in that one.
+-- many words as are in use in that one. No cell is linked.
 pub record FlipsHeap (f : Flipping) (before after : List ℕ) : Type 0 where
   pub gate : GateWord
   pub was : decode_gate (row_word f.layout.pages row.Gate before) ≡ Some gate
@@ -124,6 +129,7 @@ pub record FlipsHeap (f : Flipping) (before after : List ℕ) : Type 0 where
   pub size : size_in f (f.epoch + 1) after ≡ next_size f.layout.pages f.seen (size_in f f.epoch after) area.front
   pub empty : decode_area (row_word f.layout.pages (row.Area (to_space (f.epoch + 1))) after)
       ≡ Some (area_reset (size_in f (f.epoch + 1) after) (used_in (size_in f f.epoch after) area))
+  pub unlinked : IsUnlinked f after
   pub others : ChangesOnly f.layout.pages row.Gate before after
 
 abbrev pub FlipsAreMade : Type 0

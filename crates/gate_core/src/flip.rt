@@ -82,6 +82,7 @@ impl Flip {
                 spaces.area_place(spaces.to_space(self.epoch + 1)),
                 empty_area(reset.next, reset.used).pack(),
             ),
+            FlipStage::ResetsWeak(_) => Step::Store(spaces.weak_place(), 0),
             FlipStage::Exchanges(reset) => Step::Exchange(
                 spaces.gate_place(),
                 reset.gate.pack(),
@@ -114,6 +115,10 @@ impl Flip {
                 Turn::More
             }
             (FlipStage::StoresArea(reset), Reply::Done) => {
+                self.stage = FlipStage::ResetsWeak(reset);
+                Turn::More
+            }
+            (FlipStage::ResetsWeak(reset), Reply::Done) => {
                 self.stage = FlipStage::Exchanges(reset);
                 Turn::More
             }

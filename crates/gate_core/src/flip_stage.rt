@@ -15,6 +15,8 @@ pub enum FlipStage {
     StoresSize(Reset),
     /// Store the area of the other space, which is empty yet.
     StoresArea(Reset),
+    /// Store 0 in WEAK: no cell of the next epoch is linked yet.
+    ResetsWeak(Reset),
     /// Exchange the gate that was read for that of the next epoch.
     Exchanges(Reset),
     /// Nothing more: it has come to this.

@@ -1,9 +1,6 @@
 -- What holds of all events and runs, from the laws of a worker's step.
-use Rattle.std.proofs.Common.{subst}
-use Rattle.plain_state.specs.State.{Plain}
-use Rattle.plain_heap.specs.Order.{Story, opening}
-use Rattle.plain_heap.proofs.Orders.Stories.{story_after-now}
-use Rattle.heap_state.specs.Saving.Said.{SaysCheckpoint}
+use Rattle.std.proofs.Common.{refl}
+use Rattle.plain_heap.specs.Order.{Story, opening, story_after}
 use Rattle.gc_worker.proofs.Between.Beginning.{tasks_may_begin}
 use Rattle.gc_worker.proofs.Between.GoingOn.{workers_go_on}
 use Rattle.gc_worker.proofs.Between.Pages.ByClaims.{pages_are_opened_by_claims}
@@ -14,9 +11,8 @@ use Rattle.gc_worker.proofs.Between.Standing.{what_stands_is_so}
 use Rattle.gc_worker.proofs.Between.Wanting.{workers_want}
 use Rattle.gc_worker.proofs.Saving.Won.{checkpoints_are_kept}
 use Rattle.gc_worker.proofs.StepKeeps.{steps_keep}
-use Rattle.gc_worker.specs.Laws.Represented.{HasKept}
 use Rattle.gc_core.specs.Core.{CoreState, opening_core}
-use Rattle.gc_core.specs.Law.{EventsKeep, EventsMeet}
+use Rattle.gc_core.specs.Law.{EventsKeep, EventsMeet, story_in}
 use Rattle.gc_core.specs.Run.{Ran, run_from}
 use Rattle.gc_core.specs.Whole.{RunsArePlainRuns, RunsFollow, NoPageIsWonTwice, CopiedPagesAreWonOnce, FlipsAreOfTracedCores}
 use Rattle.gc_core.proofs.Events.Law as events
@@ -34,23 +30,20 @@ events_meet = events.events_meet steps_keep readying_stands tasks_may_begin work
 
 pub runs_are_plain_runs : RunsArePlainRuns
 runs_are_plain_runs schedule at n s p lawful for_it =
-    let story : Story = record { flip = lawful.flip; now = p } in
+    let story : Story = story_in s lawful p in
     let stands = events.represented_lawful s p lawful for_it in
     let r : Ran = run_from schedule at n s in
+    let last : Story = story_after s.code s.turns story r.order in
     let law = run_law events_keep schedule at n s story lawful.steady stands in
-    let now = story_after-now s.code s.turns story r.order in
-    let all = what_stands_is_so r.last.heap _ _ law.stands in
+    let all = what_stands_is_so r.last.heap last.now last.flip law.stands in
     record {
-      lawful = record { steady = law.steady; plain = _; flip = _; stands = law.stands };
-      represents = rw now at all.sound.represents;
-      kept = subst (HasKept r.last.heap.checkpoints _) now (events.kept_itself _ _);
-      tells = λ room. record {
-        counted = law.stands.stands.size;
-        whole = law.steady.whole;
-        says = subst (λ (p : Plain). SaysCheckpoint r.last.heap.pages r.last.heap.words p.heap.snaps p.heap.snapped) now (checkpoints_are_kept r.last.heap _ _ law.stands room);
-      };
-      dump = told_represents r.last _ all.enough (rw now at all.sound.represents).dump;
-      seen = rw now at (stands_seen what_stands_is_so r.last _ _ law.stands);
+      lawful = record { steady = law.steady; plain = last.now; flip = last.flip; stands = law.stands };
+      flip = refl;
+      represents = all.sound.represents;
+      kept = events.kept_itself r.last.heap.checkpoints last.now;
+      tells = λ room. record { counted = law.stands.stands.size; whole = law.steady.whole; says = checkpoints_are_kept r.last.heap last.now last.flip law.stands room };
+      dump = told_represents r.last last.now all.enough all.sound.represents.dump;
+      seen = stands_seen what_stands_is_so r.last last.now last.flip law.stands;
       acts = run_acts events_keep schedule at n s story lawful.steady stands;
       full = run_full events_keep schedule at n s story lawful.steady stands;
     }

@@ -3,13 +3,13 @@
 use Rattle.std.specs.Prelude.{◌≡◌, ℕ, ◌+◌, ◌*◌, ◌-◌, ◌^◌, ◌<◌, ◌≤◌, ◌==◌, ◌&&◌, ◌⊎◌, Bool, List, Option, Some, None, if◌then◌else◌, zero, suc}
 use Rattle.plain_state.specs.declared.end.End.TheVariants as ends
 use Rattle.plain_state.specs.declared.sizes.TheConstants.{PAGE_WORDS}
+use Rattle.plain_state.specs.Reachable.{IsLive}
 use Rattle.plain_state.specs.State.{Plain}
 use Rattle.mutator_asm.specs.declared.instr.Instr.{Instr}
 use Rattle.plain_heap.specs.Order.{Story, story}
 use Rattle.atom_store.specs.declared.step.Step.{Step}
 use Rattle.atom_store.specs.Step.{reply_of}
 use Rattle.heap_state.specs.Cycles.Copies.{CopiedIsLive}
-use Rattle.heap_state.specs.Meaning.Reachable.{IsLive}
 use Rattle.gc_worker.specs.Laws.Copied.{IsTraced}
 use Rattle.gc_worker.specs.Laws.Claims.{epoch_of_heap}
 use Rattle.gc_worker.specs.Laws.Cycles.{Grows, words_claimed}
@@ -17,7 +17,7 @@ use Rattle.gc_worker.specs.Laws.Step.{read}
 use Rattle.gc_worker.specs.Steps.Wanted.{wanted}
 use Rattle.gc_worker.specs.declared.config.Config.{Config}
 use Rattle.gc_worker.specs.declared.steps.stepped.Stepped.{Stepped}
-use Rattle.gc_worker.specs.declared.steps.stepped.Stepped.TheVariants.{Idle, Moved, Effect, Flipped, Ended}
+use Rattle.gc_worker.specs.declared.steps.stepped.Stepped.TheVariants.{Idle, Moved, Effect, Flipped, Traced, Ended}
 use Rattle.gc_core.specs.Core.{CoreState, opening_core, size_in}
 use Rattle.gc_core.specs.Event.{core_after, event_of, ready}
 use Rattle.gc_core.specs.Law.{IsLawful}
@@ -57,6 +57,7 @@ CyclesKeepWhatIsLive = InEveryRun (λ code config schedule n. KeepsWhatIsLive (r
 abbrev pub SizeIsAfter : (limit size next : ℕ) → Stepped → Type 0
 SizeIsAfter limit size next Idle = next ≡ size
 SizeIsAfter limit size next Moved = next ≡ size
+SizeIsAfter limit size next Traced = next ≡ size
 SizeIsAfter limit size next (Effect m) = next ≡ size
 SizeIsAfter limit size next (Ended m why) = next ≡ size
 SizeIsAfter limit size next (Flipped asked) = Grows limit size next
@@ -86,6 +87,7 @@ claimed_by s w = claimed_if s w (wanted (ready s w))
 abbrev pub claims_after : (claims more : ℕ) → Stepped → ℕ
 claims_after claims more Idle = claims + more
 claims_after claims more Moved = claims + more
+claims_after claims more Traced = claims + more
 claims_after claims more (Effect m) = claims + more
 claims_after claims more (Ended m why) = claims + more
 claims_after claims more (Flipped asked) = 0
@@ -123,6 +125,7 @@ FullHeapsAreFilled = InEveryRun (λ code config schedule n. (w m asked room live
 abbrev pub flips_after : (m flips : ℕ) → (all_in_use : Bool) → (w : ℕ) → Stepped → ℕ
 flips_after m flips all_in_use w Idle = flips
 flips_after m flips all_in_use w Moved = flips
+flips_after m flips all_in_use w Traced = flips
 flips_after m flips all_in_use w (Effect j) = if j == m then 0 else flips
 flips_after m flips all_in_use w (Ended j why) = if j == m then 0 else flips
 flips_after m flips all_in_use w (Flipped asked) = if w == m && all_in_use then flips + 1 else flips

@@ -7,7 +7,7 @@ use Rattle.plain_state.specs.declared.end.End.TheVariants as ends
 use Rattle.plain_state.specs.State.{Plain}
 use Rattle.mutator_asm.specs.Program.{is_valid}
 use Rattle.plain_heap.specs.Step.{asked_by}
-use Rattle.plain_heap.specs.Order.{Story, state_after, story_after, end_of}
+use Rattle.plain_heap.specs.Order.{Story, story_after, end_of}
 use Rattle.space_map.specs.Table.{whole_length}
 use Rattle.heap_state.specs.Meaning.Represents.{Represents}
 use Rattle.gc_worker.specs.declared.config.TheConstants.{MOST_TURNS}
@@ -20,7 +20,7 @@ use Rattle.gc_worker.specs.Laws.Gone.{ScannersAreLast}
 use Rattle.gc_worker.specs.Laws.Represented.{HasKept}
 use Rattle.gc_worker.specs.Laws.Step.{Heap, WorkersStand, held_at, layout_of, read}
 use Rattle.gc_worker.specs.declared.steps.stepped.Stepped.{Stepped}
-use Rattle.gc_worker.specs.declared.steps.stepped.Stepped.TheVariants.{Idle, Moved, Effect, Flipped, Ended}
+use Rattle.gc_worker.specs.declared.steps.stepped.Stepped.TheVariants.{Idle, Moved, Effect, Flipped, Traced, Ended}
 use Rattle.gc_worker.specs.Plain.Marks.{mark_of}
 use Rattle.gc_core.specs.Core.{CoreState}
 use Rattle.gc_core.specs.Event.{Event, fetched_task, ready, event_of, core_after}
@@ -58,13 +58,13 @@ pub record StandsFor (s : CoreState) (lawful : IsLawful s) (p : Plain) : Type 0 
 
 -- ---- an event
 
--- the plain state after what is told of an event
-abbrev pub plain_after : CoreState → Plain → Stepped → Plain
-plain_after s p told = state_after s.code s.turns p (option_to_list (mark_of told))
-
--- the story after it
+-- the story after what is told of an event
 abbrev pub story_by : CoreState → Story → Stepped → Story
 story_by s story told = story_after s.code s.turns story (option_to_list (mark_of told))
+
+-- the plain state then
+abbrev pub plain_after : CoreState → Story → Stepped → Plain
+plain_after s story told = (story_by s story told).now
 
 -- An end for want of room comes only where the next step of mutator m asks for so many pages, and the worker finds no room for them.
 abbrev pub IsForWant : CoreState → Plain → ℕ → End → Type 0
@@ -73,6 +73,7 @@ IsForWant s p m ends.Halt = ⊤
 IsForWant s p m ends.NotPointer = ⊤
 IsForWant s p m ends.NotNumber = ⊤
 IsForWant s p m ends.OutOfRange = ⊤
+IsForWant s p m ends.WeakCell = ⊤
 IsForWant s p m ends.IntoRaw = ⊤
 IsForWant s p m ends.ZeroDivisor = ⊤
 IsForWant s p m ends.JumpOut = ⊤
@@ -90,28 +91,37 @@ AllHaveLeft h = (m : ℕ) → m < h.mutators → (held_at h m).stage ≡ Gone
 -- What is told of an event of worker w is so: an idle mutator has its end, of an idle scanner all mutators are gone, and nothing
 -- changed. An effect or an end is of mutator w, which had no end, and has just the end that is told. A flip is for the pages that the
 -- worker's task asks for, and comes into the next epoch; nothing else changes the epoch.
-abbrev pub IsTold : CoreState → ℕ → Plain → Heap → Stepped → Type 0
-IsTold s w p after Idle = (after ≡ s.heap) × (end_of p w ≢ Some None) × (IsScanner s.heap w → AllHaveLeft s.heap)
-IsTold s w p after Moved = epoch_of_heap after ≡ epoch_of_heap s.heap
-IsTold s w p after (Flipped asked) = (asked ≡ held.pages_needed (ready s w)) × (epoch_of_heap after ≡ epoch_of_heap s.heap + 1)
-IsTold s w p after (Effect m) = (m ≡ w) × (end_of p m ≡ Some None) × (end_of (plain_after s p (Effect m)) m ≡ Some None) × (epoch_of_heap after ≡ epoch_of_heap s.heap)
-IsTold s w p after (Ended m why) =
-    (m ≡ w) × (end_of p m ≡ Some None) × (end_of (plain_after s p (Ended m why)) m ≡ Some (Some why)) × IsForWant s p m why × (epoch_of_heap after ≡ epoch_of_heap s.heap)
+abbrev pub IsTold : CoreState → ℕ → Story → Heap → Stepped → Type 0
+IsTold s w story after Idle = (after ≡ s.heap) × (end_of story.now w ≢ Some None) × (IsScanner s.heap w → AllHaveLeft s.heap)
+IsTold s w story after Moved = epoch_of_heap after ≡ epoch_of_heap s.heap
+IsTold s w story after Traced = epoch_of_heap after ≡ epoch_of_heap s.heap
+IsTold s w story after (Flipped asked) = (asked ≡ held.pages_needed (ready s w)) × (epoch_of_heap after ≡ epoch_of_heap s.heap + 1)
+IsTold s w story after (Effect m) =
+    (m ≡ w) × (end_of story.now m ≡ Some None) × (end_of (plain_after s story (Effect m)) m ≡ Some None) × (epoch_of_heap after ≡ epoch_of_heap s.heap)
+IsTold s w story after (Ended m why) =
+    (m ≡ w) × (end_of story.now m ≡ Some None) × (end_of (plain_after s story (Ended m why)) m ≡ Some (Some why)) × IsForWant s story.now m why
+    × (epoch_of_heap after ≡ epoch_of_heap s.heap)
 
 -- The event of worker w, from a core that stands for a story: it stands for the story after what is told, which is so.
 pub record KeepsStory (s : CoreState) (w : ℕ) (story : Story) : Type 0 where
   pub steady : IsSteady (core_after s w)
   pub stands : WorkersStand (event_of s w).after (story_by s story (event_of s w).told).now (story_by s story (event_of s w).told).flip
-  pub told : IsTold s w story.now (event_of s w).after (event_of s w).told
+  pub told : IsTold s w story (event_of s w).after (event_of s w).told
 
 abbrev pub EventsKeep : Type 0
 EventsKeep = (s : CoreState) (w : ℕ) (story : Story) → IsSteady s → WorkersStand s.heap story.now story.flip → KeepsStory s w story
 
--- The event e of worker w, from a core that represents p, meets the law: the core after it is lawful, and represents p after what is told.
-pub record Meets (s : CoreState) (w : ℕ) (p : Plain) (e : Event) : Type 0 where
+-- The event e of worker w, from a core that stands for a story, meets the law: the core after it is lawful, stands for the story after what
+-- is told, and represents the plain state then.
+pub record Meets (s : CoreState) (w : ℕ) (story : Story) (e : Event) : Type 0 where
   pub lawful : IsLawful (record s { heap = e.after })
-  pub after : StandsFor (record s { heap = e.after }) lawful (plain_after s p e.told)
-  pub told : IsTold s w p e.after e.told
+  pub flip : lawful.flip ≡ (story_by s story e.told).flip
+  pub after : StandsFor (record s { heap = e.after }) lawful (plain_after s story e.told)
+  pub told : IsTold s w story e.after e.told
+
+-- the story of a lawful core that represents p
+abbrev pub story_in : (s : CoreState) → IsLawful s → Plain → Story
+story_in s lawful p = record { flip = lawful.flip; now = p }
 
 abbrev pub EventsMeet : Type 0
-EventsMeet = (s : CoreState) (w : ℕ) (p : Plain) (lawful : IsLawful s) → StandsFor s lawful p → Meets s w p (event_of s w)
+EventsMeet = (s : CoreState) (w : ℕ) (p : Plain) (lawful : IsLawful s) → StandsFor s lawful p → Meets s w (story_in s lawful p) (event_of s w)

@@ -61,7 +61,8 @@ abbrev pub LargeHeapsAreNeverFull : Type 0
 LargeHeapsAreNeverFull = InEveryRun (λ code config schedule n.
     IsLargeEnough config.limit config.pages code config.turns (run_of code config schedule n).order → HasNoFull (run_of code config schedule n).order)
 
--- where there is one mutator its heap is full right after a flip, so that no record was made between the two; or the epoch is the last
+-- where there is one mutator its heap is full right after a flip, but for the end of tracing, so that no record was made between the two; or the
+-- epoch is the last
 abbrev pub LoneFullsFollowTheirFlips : Type 0
 LoneFullsFollowTheirFlips = InEveryRun (λ code config schedule n. length code ≡ 1 → (front rest : List Mark) (m asked room live : ℕ)
     → (run_of code config schedule n).order ≡ front ++ Full m asked room live ∷ rest → flips_in 0 front < 2 ^ 32 - 1 → EndsWithFlip front)

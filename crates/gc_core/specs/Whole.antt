@@ -3,7 +3,7 @@
 use Rattle.std.specs.Prelude.{◌≡◌, true, false, ℕ, ◌≤◌, ◌<◌}
 use Rattle.plain_state.specs.declared.end.End.TheVariants as ends
 use Rattle.plain_state.specs.State.{Plain}
-use Rattle.plain_heap.specs.Order.{opening, state_after}
+use Rattle.plain_heap.specs.Order.{Story, first_story, story_after}
 use Rattle.plain_heap.specs.Print.{plain_seen}
 use Rattle.dump_text.specs.Said.{dump_said}
 use Rattle.heap_state.specs.Meaning.Represents.{DumpRepresents, Represents}
@@ -20,7 +20,7 @@ use Rattle.gc_core.specs.Event.{core_after, event_of, ready}
 use Rattle.gc_core.specs.Claims.{AreApart, PagesAreWon, wins_from}
 use Rattle.gc_worker.specs.History.Needs.{EachMayCome}
 use Rattle.gc_worker.specs.Laws.Claims.{epoch_of_heap}
-use Rattle.gc_core.specs.Law.{IsLawful, StandsFor}
+use Rattle.gc_core.specs.Law.{IsLawful, StandsFor, story_in}
 use Rattle.gc_core.specs.Readers.{seen_of}
 use Rattle.gc_core.specs.Run.{InEveryRun, run_from, run_of, EachEvent}
 
@@ -32,26 +32,27 @@ IsFull s w = (asked room live : ℕ) → (event_of s w).told ≡ Ended w (ends.H
 
 -- ---- a run
 
--- So many events by a schedule, from a core that represents p: the last core is lawful, and represents the plain machine that executed the
--- run's order from p on, which has kept the same checkpoint; if checkpoints can be begun, its words say it. So does what a dump tells of it;
--- what is seen of it is what is seen of that machine, each mark of the order acts, and heap full is told only where there is no room.
-pub record IsPlainRun (schedule : ℕ → ℕ) (at n : ℕ) (s : CoreState) (p : Plain) : Type 0 where
+-- So many events by a schedule, from a core that stands for a story: the last core is lawful, and represents the plain machine that executed
+-- the run's order from there on, which has kept the same checkpoint; if checkpoints can be begun, its words say it. So does what a dump tells
+-- of it; what is seen of it is what is seen of that machine, each mark of the order acts, and heap full is told only where there is no room.
+pub record IsPlainRun (schedule : ℕ → ℕ) (at n : ℕ) (s : CoreState) (story : Story) : Type 0 where
   pub lawful : IsLawful (run_from schedule at n s).last
-  pub represents : Represents (read (run_from schedule at n s).last.heap) (state_after s.code s.turns p (run_from schedule at n s).order)
-  pub kept : HasKept (run_from schedule at n s).last.heap.checkpoints lawful.plain (state_after s.code s.turns p (run_from schedule at n s).order)
-  pub tells : (run_from schedule at n s).last.heap.checkpoints ≡ true → TellsKept (run_from schedule at n s).last.heap (state_after s.code s.turns p (run_from schedule at n s).order)
-  pub dump : DumpRepresents (dump_said (dumped (run_from schedule at n s).last)) (state_after s.code s.turns p (run_from schedule at n s).order)
-  pub seen : seen_of (run_from schedule at n s).last ≡ plain_seen (state_after s.code s.turns p (run_from schedule at n s).order)
-  pub acts : EachActs s.code s.turns p (run_from schedule at n s).order
+  pub flip : lawful.flip ≡ (story_after s.code s.turns story (run_from schedule at n s).order).flip
+  pub represents : Represents (read (run_from schedule at n s).last.heap) (story_after s.code s.turns story (run_from schedule at n s).order).now
+  pub kept : HasKept (run_from schedule at n s).last.heap.checkpoints lawful.plain (story_after s.code s.turns story (run_from schedule at n s).order).now
+  pub tells : (run_from schedule at n s).last.heap.checkpoints ≡ true → TellsKept (run_from schedule at n s).last.heap (story_after s.code s.turns story (run_from schedule at n s).order).now
+  pub dump : DumpRepresents (dump_said (dumped (run_from schedule at n s).last)) (story_after s.code s.turns story (run_from schedule at n s).order).now
+  pub seen : seen_of (run_from schedule at n s).last ≡ plain_seen (story_after s.code s.turns story (run_from schedule at n s).order).now
+  pub acts : EachActs s.code s.turns story (run_from schedule at n s).order
   pub full : EachEvent IsFull schedule at n s
 
 -- from any lawful core and each plain state that it represents, by any schedule, from any place in it on and for any number of steps
 abbrev pub RunsArePlainRuns : Type 0
-RunsArePlainRuns = (schedule : ℕ → ℕ) (at n : ℕ) (s : CoreState) (p : Plain) (lawful : IsLawful s) → StandsFor s lawful p → IsPlainRun schedule at n s p
+RunsArePlainRuns = (schedule : ℕ → ℕ) (at n : ℕ) (s : CoreState) (p : Plain) (lawful : IsLawful s) → StandsFor s lawful p → IsPlainRun schedule at n s (story_in s lawful p)
 
 -- and so of each program, from its opening
 abbrev pub RunsFollow : Type 0
-RunsFollow = InEveryRun (λ code config schedule n. IsPlainRun schedule 0 n (opening_core code config) (opening code))
+RunsFollow = InEveryRun (λ code config schedule n. IsPlainRun schedule 0 n (opening_core code config) (first_story code))
 
 -- a worker that isn't there is idle, and its step changes nothing
 abbrev pub MissingWorkersAreIdle : Type 0

@@ -10,8 +10,8 @@ ghost use Rattle.gc_core.specs.Whole.{CopiedPagesAreWonOnce, FlipsAreOfTracedCor
 
 use crate::machine::Core;
 
-/// The event of any worker does to each plain state that the core represents what the mark of it does, and what is told of it is so. The core
-/// is lawful after it, so the same holds of the next event.
+/// The event of any worker does to each story that the core stands for what the mark of it does, and what is told of it is so. The core is
+/// lawful after it and stands for the story then, so the same holds of the next event.
 pub fn events_meet()
     ensures { EventsMeet }
 {}
@@ -27,9 +27,9 @@ impl<'p> Core<'p> {
 
 /// Whoever steps a core by hand, whichever worker comes next, makes a run of the plain machine. Up to the last mutator's end, from any
 /// lawful core and for each plain state that it represents, the core then represents what the plain machine comes to from there, which
-/// executes the same instructions in the order in which their marks came. It is lawful again, so the same holds of what follows; what
-/// is seen of each mutator is what is seen of its plain one, each mark acts, and a heap that is said to be full is. If checkpoints can be
-/// begun, a core represents those plain states alone that have kept the same one.
+/// executes the same instructions in the order in which their marks came. It is lawful again, with the state at the last flip then, so the
+/// same holds of what follows; what is seen of each mutator is what is seen of its plain one, each mark acts, and a heap that is said to be
+/// full is. If checkpoints can be begun, a core represents those plain states alone that have kept the same one.
 pub fn runs_are_plain_runs()
     ensures { RunsArePlainRuns }
 {}
@@ -100,7 +100,7 @@ pub fn claims_are_made_or_set_aside()
 {}
 
 /// In a run a mutator flips at most once for an instruction if as many pages as the limit are in use; and with one mutator the heap is full
-/// right after a flip, or in the last epoch.
+/// right after a flip, but for the end of tracing, or in the last epoch.
 pub fn instructions_flip_once()
     ensures once { InstructionsFlipOnce }
     ensures lone { LoneFullsFollowTheirFlips }

@@ -15,8 +15,8 @@ use mutator_asm::Program;
 use space_map::{AreaWord, PAGE_WORDS, Spaces};
 use std::alloc::{AllocError, Global};
 
-/// The words before the first step: both spaces are empty with so many pages in use, the epoch is traced, the board is open, and nothing is
-/// said of checkpoints.
+/// The words before the first step: both spaces are empty with so many pages in use, the epoch is traced and its turn was taken, the board is
+/// open, no cell is linked, and nothing is said of checkpoints.
 fn words(alloc: Global, spaces: Spaces, pages: u32) -> Result<PlainAtoms, NoMemory>
     requires { pages ≤ spaces.pages }
     ensures { IfOk result (λ atoms. atoms ≡ opening_words spaces pages) }
@@ -30,6 +30,7 @@ fn words(alloc: Global, spaces: Spaces, pages: u32) -> Result<PlainAtoms, NoMemo
     atoms.act(Step::Store(spaces.page_place(spaces.board_page()), unprotect(0)));
     atoms.act(Step::Store(spaces.size_place(1), u64::from(pages)));
     atoms.act(Step::Store(spaces.size_place(0), u64::from(pages)));
+    atoms.act(Step::Store(spaces.weak_turn_place(), 1));
     atoms.act(Step::Store(spaces.area_place(1), area.pack()));
     atoms.act(Step::Store(spaces.area_place(0), area.pack()));
     atoms.act(Step::Store(spaces.traced_place(), 1));

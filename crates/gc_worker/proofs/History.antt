@@ -9,6 +9,7 @@ pub mod Tasks
 pub mod Opening
 pub mod Orders
 pub mod Needs
+pub mod TracedLive
 pub mod Lone
 pub mod Large
 pub mod Loads

@@ -10,3 +10,4 @@ pub mod Registers
 pub mod Outcomes
 pub mod RecordsMade
 pub mod OnlySnap
+pub mod Quiet

@@ -30,7 +30,7 @@ use Rattle.gc_worker.specs.Steps.Goes.{Is, LeavesToPlain, StepsInTable, StepsSo,
 use Rattle.gc_worker.specs.Workers.Held.{Held, at_stage, has_seen_flip}
 use Rattle.gc_worker.specs.Workers.Knows.{knows}
 use Rattle.gc_worker.specs.Laws.Step.{Heap, read, nobody, held_at, layout_of, StandIf, WorkersStand, moved, at_flip, epoch_of, age, WinsOne, FlipsOnce, FlipsWhereTold, StepKeeps, StepsKeep}
-use Rattle.gc_worker.specs.Steps.Turned.{Told, Silent, Answers, Marks, PageWon, epoch_in_gate, turned, told, won}
+use Rattle.gc_worker.specs.Steps.Turned.{Told, Silent, Empties, Answers, Marks, PageWon, epoch_in_gate, turned, told, won}
 use Rattle.gc_worker.specs.Steps.Wanted.{wanted}
 use Rattle.gc_worker.proofs.Stages.Gate.Exchanging.{exchanges_gate}
 use Rattle.gc_worker.proofs.Stages.Look.Looking.{looks}
@@ -80,6 +80,7 @@ module _ (c : Configuration) (p : Plain) (s : Stands c p) (k : ℕ) (x : Held) w
   flips_own asked (flip_stage.LoadsArea gate size) is = resetting.loads_area c p s k x asked gate size is
   flips_own asked (flip_stage.StoresSize r) is = resetting.stores_size c p s k x asked r is
   flips_own asked (flip_stage.StoresArea r) is = resetting.stores_area c p s k x asked r is
+  flips_own asked (flip_stage.ResetsWeak r) is = resetting.resets_weak c p s k x asked r is
   flips_own asked (flip_stage.Exchanges r) is = flips_gate c p s k x asked r is
   flips_own asked (flip_stage.Ended result) is =
       rests c p s k (at_stage x (Flips (record { layout = x.layout; epoch = x.epoch; asked = asked; seen = has_seen_flip x; stage = flip_stage.Ended result }))) refl
@@ -176,6 +177,7 @@ module _ (h : Heap) (p o : Plain) (k : ℕ) (x : Held) (q : Step) (st : WorkersS
     stands_by : (t : Told) (e : Option Entry) → steps.entry ≡ e → (g : Ghost) → LeavesToPlain (read h) p st.stands.ghost k e y g t
         → Saved (after_told p k t) → WorkersStand (moved h k x q) (after_told p k t) (at_flip p o t)
     stands_by Silent e same g leads saved = stays p e same g leads saved
+    stands_by Empties e same g leads saved = stays p e same g leads saved
     stands_by (Answers task outcome) e same g leads saved = stays (after_told p k (Answers task outcome)) e same g leads saved
     stands_by (Marks asked) (Some (GateIs gate)) same g leads saved =
         let ours : Flipped (read h) gate k (knows y) p g = leads in
@@ -187,6 +189,8 @@ module _ (h : Heap) (p o : Plain) (k : ℕ) (x : Held) (q : Step) (st : WorkersS
     ages_by : (t : Told) (e : Option Entry) → steps.entry ≡ e → (g : Ghost) → LeavesToPlain (read h) p st.stands.ghost k e y g t
         → (page : ℕ) → age_of ((table (read h)).page page) ≤ age_of ((table later).page page)
     ages_by Silent e same g leads page =
+        (subst (λ (f : Option Entry). LeavesConfiguration (read h) f k (knows y) p st.stands.ghost g) (sym same) leads).ages page
+    ages_by Empties e same g leads page =
         (subst (λ (f : Option Entry). LeavesConfiguration (read h) f k (knows y) p st.stands.ghost g) (sym same) leads).ages page
     ages_by (Marks asked) (Some (GateIs gate)) same g leads page =
         let ours : Flipped (read h) gate k (knows y) p g = leads in
@@ -236,6 +240,7 @@ module _ (h : Heap) (p o : Plain) (k : ℕ) (x : Held) (q : Step) (st : WorkersS
     flips_by : (t : Told) → FlipIsOwn (read h) x t → WorkersStand (moved h k x q) (after_told p k t) (at_flip p o t) → LeavesToPlain (read h) p st.stands.ghost k steps.entry y steps.goes.ghost_after t
         → FlipsWhereTold h.pages h.words (words_after q h.words) x t
     flips_by Silent own w leads = same_epoch p o w steps.entry refl steps.goes.ghost_after leads
+    flips_by Empties own w leads = same_epoch p o w steps.entry refl steps.goes.ghost_after leads
     flips_by (Answers task outcome) own w leads = same_epoch (after_told p k (Answers task outcome)) o w steps.entry refl steps.goes.ghost_after leads
     flips_by (Marks asked) own w leads = next_epoch asked p p own w steps.entry refl steps.goes.ghost_after leads
 

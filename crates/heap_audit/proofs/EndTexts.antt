@@ -2,7 +2,7 @@
 use Rattle.std.proofs.Common.{◌≡◌, ℕ, decimal, List, [], ◌∷◌, ◌++◌, codes, Option, Some, None, refl, sym, ap, subst, ◌∙◌}
 use Rattle.std.proofs.lemmas.List.{append_assoc}
 use Rattle.plain_state.specs.declared.end.End.{End}
-use Rattle.plain_state.specs.declared.end.End.TheVariants.{Halt, NotPointer, NotNumber, OutOfRange, IntoRaw, ZeroDivisor, JumpOut, TurnsOut, OutputFull, HeapFull}
+use Rattle.plain_state.specs.declared.end.End.TheVariants.{Halt, NotPointer, NotNumber, OutOfRange, WeakCell, IntoRaw, ZeroDivisor, JumpOut, TurnsOut, OutputFull, HeapFull}
 use Rattle.plain_heap.specs.Print.{end_text}
 use Rattle.dump_text.specs.Pieces.{◌>>=◌, byte_at}
 use Rattle.dump_text.proofs.Options.{some_bind, some_is}
@@ -77,11 +77,12 @@ pub end_takes : (bytes : List ℕ) (end : Option End) (rest : List ℕ) → end_
 unfolding end_at
 end_takes bytes end rest e =
     let full = chosen (text_at (codes "heap full asked ") bytes) full_end_at None in
-    let o9 = told (Some OutputFull) bytes full in
-    let o8 = told (Some TurnsOut) bytes o9 in
-    let o7 = told (Some JumpOut) bytes o8 in
-    let o6 = told (Some ZeroDivisor) bytes o7 in
-    let o5 = told (Some IntoRaw) bytes o6 in
+    let o10 = told (Some OutputFull) bytes full in
+    let o9 = told (Some TurnsOut) bytes o10 in
+    let o8 = told (Some JumpOut) bytes o9 in
+    let o7 = told (Some ZeroDivisor) bytes o8 in
+    let o6 = told (Some IntoRaw) bytes o7 in
+    let o5 = told (Some WeakCell) bytes o6 in
     let o4 = told (Some OutOfRange) bytes o5 in
     let o3 = told (Some NotNumber) bytes o4 in
     let o2 = told (Some NotPointer) bytes o3 in
@@ -91,12 +92,13 @@ end_takes bytes end rest e =
     (told_takes (Some NotPointer) bytes o3 end rest tt
     (told_takes (Some NotNumber) bytes o4 end rest tt
     (told_takes (Some OutOfRange) bytes o5 end rest tt
-    (told_takes (Some IntoRaw) bytes o6 end rest tt
-    (told_takes (Some ZeroDivisor) bytes o7 end rest tt
-    (told_takes (Some JumpOut) bytes o8 end rest tt
-    (told_takes (Some TurnsOut) bytes o9 end rest tt
+    (told_takes (Some WeakCell) bytes o6 end rest tt
+    (told_takes (Some IntoRaw) bytes o7 end rest tt
+    (told_takes (Some ZeroDivisor) bytes o8 end rest tt
+    (told_takes (Some JumpOut) bytes o9 end rest tt
+    (told_takes (Some TurnsOut) bytes o10 end rest tt
     (told_takes (Some OutputFull) bytes full end rest tt
-    (last_takes bytes end rest)))))))))) e
+    (last_takes bytes end rest))))))))))) e
 
 -- ---- again
 
@@ -107,6 +109,7 @@ end_again (Some Halt) rest fits stop = refl
 end_again (Some NotPointer) rest fits stop = refl
 end_again (Some NotNumber) rest fits stop = refl
 end_again (Some OutOfRange) rest fits stop = refl
+end_again (Some WeakCell) rest fits stop = refl
 end_again (Some IntoRaw) rest fits stop = refl
 end_again (Some ZeroDivisor) rest fits stop = refl
 end_again (Some JumpOut) rest fits stop = refl
@@ -128,6 +131,7 @@ no_number limit (Some Halt) rest = refl
 no_number limit (Some NotPointer) rest = refl
 no_number limit (Some NotNumber) rest = refl
 no_number limit (Some OutOfRange) rest = refl
+no_number limit (Some WeakCell) rest = refl
 no_number limit (Some IntoRaw) rest = refl
 no_number limit (Some ZeroDivisor) rest = refl
 no_number limit (Some JumpOut) rest = refl

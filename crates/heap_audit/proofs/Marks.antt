@@ -5,10 +5,10 @@ use Rattle.dump_text.specs.Pieces.{◌>>=◌, byte_at}
 use Rattle.dump_text.proofs.Options.{some_bind, some_is}
 use Rattle.dump_text.proofs.Pieces.{byte_takes}
 use Rattle.plain_heap.specs.declared.mark.Mark.{Mark}
-use Rattle.plain_heap.specs.declared.mark.Mark.TheVariants.{Step, Flip, Full}
+use Rattle.plain_heap.specs.declared.mark.Mark.TheVariants.{Step, Flip, Full, Traced}
 use Rattle.plain_heap.specs.Print.{mark_text}
 use Rattle.heap_audit.specs.Order.{MarkFits}
-use Rattle.heap_audit.specs.Pieces.{amount_at, mutator_at, next_amount_at, step_mark_at, flip_mark_at, full_mark_at, chosen, mark_at}
+use Rattle.heap_audit.specs.Pieces.{amount_at, mutator_at, next_amount_at, step_mark_at, flip_mark_at, full_mark_at, traced_mark_at, chosen, mark_at}
 use Rattle.heap_audit.proofs.Numerals.{Stops, number_takes, number_again, first_digit, first_low}
 
 -- ---- its numbers
@@ -88,6 +88,12 @@ full_takes bytes mark rest e =
       fits = (m.1, asked.1, room.1, live.1);
     })
 
+traced_takes : (bytes : List ℕ) (mark : Mark) (rest : List ℕ) → traced_mark_at bytes ≡ Some (mark, rest) → Takes bytes (84 ∷ []) mark rest
+unfolding traced_mark_at
+traced_takes bytes mark rest e =
+    let P : Mark × List ℕ → Type 0 = λ q. Takes bytes (84 ∷ []) q.0 q.1 in
+    subst P (some_is {A = Mark × List ℕ} (Traced, bytes) (mark, rest) e) (record { text = refl; fits = tt })
+
 -- ---- a mark
 
 taken : (front bytes : List ℕ) (mark : Mark) (rest whole : List ℕ) → front ++ bytes ≡ whole → Takes bytes front mark rest → (whole ≡ mark_text mark ++ rest) × MarkFits mark
@@ -97,12 +103,18 @@ pub mark_takes : (bytes : List ℕ) (mark : Mark) (rest : List ℕ) → mark_at 
 unfolding mark_at
 mark_takes bytes mark rest e =
     let Goal : Type 0 = (bytes ≡ mark_text mark ++ rest) × MarkFits mark in
-    let P : Option (List ℕ) → Type 0 = λ o. byte_at 70 bytes ≡ o → chosen o flip_mark_at (chosen (byte_at 88 bytes) full_mark_at (step_mark_at bytes)) ≡ Some (mark, rest) → Goal in
-    let Q : Option (List ℕ) → Type 0 = λ o. byte_at 88 bytes ≡ o → chosen o full_mark_at (step_mark_at bytes) ≡ Some (mark, rest) → Goal in
-    let other : chosen (byte_at 88 bytes) full_mark_at (step_mark_at bytes) ≡ Some (mark, rest) → Goal =
+    let P : Option (List ℕ) → Type 0 = λ o. byte_at 70 bytes ≡ o → chosen o flip_mark_at (chosen (byte_at 88 bytes) full_mark_at (chosen (byte_at 84 bytes) traced_mark_at (step_mark_at bytes))) ≡ Some (mark, rest) → Goal in
+    let Q : Option (List ℕ) → Type 0 = λ o. byte_at 88 bytes ≡ o → chosen o full_mark_at (chosen (byte_at 84 bytes) traced_mark_at (step_mark_at bytes)) ≡ Some (mark, rest) → Goal in
+    let R : Option (List ℕ) → Type 0 = λ o. byte_at 84 bytes ≡ o → chosen o traced_mark_at (step_mark_at bytes) ≡ Some (mark, rest) → Goal in
+    let last : chosen (byte_at 84 bytes) traced_mark_at (step_mark_at bytes) ≡ Some (mark, rest) → Goal =
+    elim (byte_at 84 bytes) as R [
+      | Some r ↦ λ is h. taken (84 ∷ []) r mark rest bytes (sym (byte_takes 84 bytes r is)) (traced_takes r mark rest h)
+      | None ↦ λ _ h. taken [] bytes mark rest bytes refl (step_takes bytes mark rest h)
+    ] refl in
+    let other : chosen (byte_at 88 bytes) full_mark_at (chosen (byte_at 84 bytes) traced_mark_at (step_mark_at bytes)) ≡ Some (mark, rest) → Goal =
     elim (byte_at 88 bytes) as Q [
       | Some r ↦ λ is h. taken (88 ∷ []) r mark rest bytes (sym (byte_takes 88 bytes r is)) (full_takes r mark rest h)
-      | None ↦ λ _ h. taken [] bytes mark rest bytes refl (step_takes bytes mark rest h)
+      | None ↦ λ _ h. last h
     ] refl in
     elim (byte_at 70 bytes) as P [
       | Some r ↦ λ is h. taken (70 ∷ []) r mark rest bytes (sym (byte_takes 70 bytes r is)) (flip_takes r mark rest h)
@@ -119,14 +131,14 @@ step_again m rest lt stop = rw (mutator_again m rest lt stop) refl
 at_digit : (bytes : List ℕ) → 0 < length bytes → get_or bytes 0 0 < 58 → mark_at bytes ≡ step_mark_at bytes
 unfolding mark_at
 at_digit [] some low = absurd (omega (arith, some))
-at_digit (b ∷ bytes) some low = let f = first_digit b low in rw (f.0, f.1) refl
+at_digit (b ∷ bytes) some low = let f = first_digit b low in rw (f.0, f.1, f.2) refl
 
 step_whole : (m : ℕ) (rest : List ℕ) → m < 256 → Stops rest → mark_at (decimal m ++ rest) ≡ Some (Step m, rest)
 step_whole m rest lt stop = let f = first_low m rest (omega (arith, lt)) in at_digit (decimal m ++ rest) f.0 f.1 ∙ step_again m rest lt stop
 
 -- a mark is read by its text, where no digit stands behind it
 pub mark_again : (mark : Mark) (rest : List ℕ) → MarkFits mark → Stops rest → mark_at (mark_text mark ++ rest) ≡ Some (mark, rest)
-unfolding mark_at flip_mark_at full_mark_at
+unfolding mark_at flip_mark_at full_mark_at traced_mark_at
 mark_again (Step m) rest fits stop = step_whole m rest fits stop
 mark_again (Flip asked) rest fits stop = rw (amount_again asked rest fits stop) refl
 mark_again (Full m asked room live) rest fits stop =
@@ -137,3 +149,4 @@ mark_again (Full m asked room live) rest fits stop =
       next_again room (44 ∷ (decimal live ++ rest)) fits.2 refl,
       next_again live rest fits.3 stop,
     ) refl
+mark_again Traced rest fits stop = refl

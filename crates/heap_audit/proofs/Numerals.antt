@@ -139,8 +139,8 @@ low_of [] rest some h = absurd (omega (arith, some))
 low_of (d ∷ ds) rest some h = (omega arith, let r = in_range d (both_true (is_ascii_digit d) (list_all is_ascii_digit ds) h).0 in omega (arith, r.0, r.1))
 
 -- it is no letter
-pub first_digit : (b : ℕ) → b < 58 → (eqb b 70 ≡ false) × (eqb b 88 ≡ false)
-first_digit b low = (grind (arith, nat_tests), grind (arith, nat_tests))
+pub first_digit : (b : ℕ) → b < 58 → (eqb b 70 ≡ false) × (eqb b 88 ≡ false) × (eqb b 84 ≡ false)
+first_digit b low = (grind (arith, nat_tests), grind (arith, nat_tests), grind (arith, nat_tests))
 
 pub first_low : (n : ℕ) (rest : List ℕ) → n < 2 ^ 64 → (0 < length (decimal n ++ rest)) × (get_or (decimal n ++ rest) 0 0 < 58)
 first_low n rest lt = low_of (decimal n) rest (decimal_nonempty n lt) (decimal_digits n lt)

@@ -1,7 +1,7 @@
 -- The end of a mutator, read from the front by its text.
 use Rattle.std.specs.Prelude.{ℕ, ◌^◌, ◌<◌, List, [], ◌∷◌, codes, Option, Some, None}
 use Rattle.plain_state.specs.declared.end.End.{End}
-use Rattle.plain_state.specs.declared.end.End.TheVariants.{Halt, NotPointer, NotNumber, OutOfRange, IntoRaw, ZeroDivisor, JumpOut, TurnsOut, OutputFull, HeapFull}
+use Rattle.plain_state.specs.declared.end.End.TheVariants.{Halt, NotPointer, NotNumber, OutOfRange, WeakCell, IntoRaw, ZeroDivisor, JumpOut, TurnsOut, OutputFull, HeapFull}
 use Rattle.plain_heap.specs.Print.{end_text}
 use Rattle.dump_text.specs.Pieces.{Piece, ◌>>=◌, byte_at}
 use Rattle.heap_audit.specs.Pieces.{amount_at, chosen}
@@ -28,8 +28,8 @@ told end bytes other = chosen (text_at (end_text end) bytes) (λ rest. Some (end
 -- the end of a mutator, or none where it was stopped
 unfoldable pub end_at : Piece (Option End)
 end_at bytes =
-    told None bytes (told (Some Halt) bytes (told (Some NotPointer) bytes (told (Some NotNumber) bytes (told (Some OutOfRange) bytes (told (Some IntoRaw) bytes (told (Some ZeroDivisor) bytes (told (Some JumpOut) bytes (told (Some TurnsOut) bytes (told (Some OutputFull) bytes
-    (chosen (text_at (codes "heap full asked ") bytes) full_end_at None))))))))))
+    told None bytes (told (Some Halt) bytes (told (Some NotPointer) bytes (told (Some NotNumber) bytes (told (Some OutOfRange) bytes (told (Some WeakCell) bytes (told (Some IntoRaw) bytes (told (Some ZeroDivisor) bytes (told (Some JumpOut) bytes (told (Some TurnsOut) bytes (told (Some OutputFull) bytes
+    (chosen (text_at (codes "heap full asked ") bytes) full_end_at None)))))))))))
 
 -- the numbers of an end are those that its parts hold
 abbrev pub EndFits : Option End → Type 0

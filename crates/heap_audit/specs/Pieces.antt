@@ -3,7 +3,7 @@ use Rattle.std.specs.Prelude.{ℕ, ◌^◌, ◌==◌, ◌||◌, ◌&&◌, nat_lt
 use Rattle.std.specs.Str.Parse.{digits_value}
 use Rattle.dump_text.specs.Pieces.{Piece, ◌>>=◌, byte_at, digit_count}
 use Rattle.plain_heap.specs.declared.mark.Mark.{Mark}
-use Rattle.plain_heap.specs.declared.mark.Mark.TheVariants.{Step, Flip, Full}
+use Rattle.plain_heap.specs.declared.mark.Mark.TheVariants.{Step, Flip, Full, Traced}
 
 -- a number below this, in decimal digits of which the first is 0 in 0 alone
 unfoldable pub decimal_at : ℕ → Piece ℕ
@@ -44,6 +44,9 @@ full_mark_at bytes = do
   live ← next_amount_at room.1
   Some (Full m.0 asked.0 room.0 live.0, live.1)
 
+unfoldable pub traced_mark_at : Piece Mark
+traced_mark_at bytes = Some (Traced, bytes)
+
 -- what is read behind a byte that stands there, else the other
 abbrev pub chosen : {A : Type 0} → Option (List ℕ) → Piece A → Option (A × List ℕ) → Option (A × List ℕ)
 chosen (Some rest) piece other = piece rest
@@ -51,7 +54,7 @@ chosen None piece other = other
 
 -- a mark of an order
 unfoldable pub mark_at : Piece Mark
-mark_at bytes = chosen (byte_at 70 bytes) flip_mark_at (chosen (byte_at 88 bytes) full_mark_at (step_mark_at bytes))
+mark_at bytes = chosen (byte_at 70 bytes) flip_mark_at (chosen (byte_at 88 bytes) full_mark_at (chosen (byte_at 84 bytes) traced_mark_at (step_mark_at bytes)))
 
 -- the word `order`
 abbrev pub name_at : List ℕ → Option (List ℕ)

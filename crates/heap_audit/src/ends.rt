@@ -52,6 +52,9 @@ pub fn end(bytes: &[u8]) -> Option<(Option<End>, &[u8])>
     if let Some(rest) = text(b"out of range", bytes) {
         return Some((Some(End::OutOfRange), rest));
     }
+    if let Some(rest) = text(b"weak cell", bytes) {
+        return Some((Some(End::WeakCell), rest));
+    }
     if let Some(rest) = text(b"pointer into raw", bytes) {
         return Some((Some(End::IntoRaw), rest));
     }

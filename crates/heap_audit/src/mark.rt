@@ -1,7 +1,7 @@
 //! The marks of an order.
 
 ghost use Rattle.std.specs.Prelude.{◌≡◌, option_map};
-ghost use Rattle.heap_audit.specs.Pieces.{step_mark_at, flip_mark_at, full_mark_at, mark_at};
+ghost use Rattle.heap_audit.specs.Pieces.{step_mark_at, flip_mark_at, full_mark_at, traced_mark_at, mark_at};
 
 use crate::number::{amount, mutator, next};
 use dump_text::after;
@@ -42,6 +42,14 @@ fn full(bytes: &[u8]) -> Option<(Mark, &[u8])>
     Some((mark, rest))
 }
 
+/// What stands behind the `T` of an epoch that is traced.
+#[tactic(auto, unfolding(crate::specs::Pieces::traced_mark_at))]
+fn traced(bytes: &[u8]) -> Option<(Mark, &[u8])>
+    ensures { option_map (λ x. (x.0, x.1.now)) result ≡ traced_mark_at bytes.now }
+{
+    Some((Mark::Traced, bytes))
+}
+
 /// The mark at the front.
 #[tactic(auto, unfolding(crate::specs::Pieces::mark_at))]
 pub fn mark(bytes: &[u8]) -> Option<(Mark, &[u8])>
@@ -52,6 +60,9 @@ pub fn mark(bytes: &[u8]) -> Option<(Mark, &[u8])>
     }
     if let Some(rest) = after(b'X', bytes) {
         return full(rest);
+    }
+    if let Some(rest) = after(b'T', bytes) {
+        return traced(rest);
     }
     step(bytes)
 }

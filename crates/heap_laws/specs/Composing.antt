@@ -153,7 +153,7 @@ abbrev pub PlainStepsFollow : Type 0
 PlainStepsFollow = (E : Era) (m : Memory) (team : Team) (g : Ghost) (k : ℕ) (e : Option Entry) (v w : Worker) (h i : Ghost) (q : Plain)
     → (s : StepsTo E m team g k e v h q) → Steps E s.later (with_worker team k v) h k None w i → StepsTo E m team g k e w i q
 
--- ---- rows of checkpoints
+-- ---- rows that the epoch doesn't see
 
 -- a step that writes no row may write one of which the epoch sees nothing
 abbrev pub StepsWriteBeside : Type 0

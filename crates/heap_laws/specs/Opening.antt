@@ -6,19 +6,21 @@ use Rattle.space_map.specs.Spaces.{IsPageCount, board_page}
 use Rattle.space_map.specs.declared.page_word.PageWord.TheVariants.{Open}
 use Rattle.heap_state.specs.Configuration.{Configuration, Stands, era, memory, team}
 use Rattle.heap_state.specs.Cycles.Cycle.{Cycle}
-use Rattle.heap_state.specs.Memory.Entries.{Entry, TracedIs, AreaIs, SizeIs, PageIs, written}
+use Rattle.heap_state.specs.Memory.Entries.{Entry, TracedIs, AreaIs, WeakTurnIs, SizeIs, PageIs, written}
 use Rattle.heap_state.specs.Worker.{Worker, Outside, Scanner, fresh}
 use Rattle.heap_laws.specs.Flipping.Reset.{whole_area}
 use Rattle.space_map.specs.declared.spaces.TheConstants.{PAGE_WORDS, MOST_MUTATORS, MOST_SCANNERS}
 
 -- ---- the table
 
--- both spaces are empty with the least number of pages in use, the epoch is traced, the board is open, and every other word is 0
+-- both spaces are empty with the least number of pages in use, the epoch is traced and its turn was taken, the board is open, and
+-- every other word is 0
 abbrev pub opening_entries : (n least : ℕ) → List Entry
 opening_entries n least =
     TracedIs 1
     ∷ AreaIs 0 (whole_area (PAGE_WORDS * least) 0)
     ∷ AreaIs 1 (whole_area (PAGE_WORDS * least) 0)
+    ∷ WeakTurnIs 1
     ∷ SizeIs 0 least
     ∷ SizeIs 1 least
     ∷ PageIs (board_page n) (Open 0)

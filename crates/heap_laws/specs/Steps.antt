@@ -10,7 +10,7 @@ use Rattle.space_map.specs.PageWord.{PageFits, age_of}
 use Rattle.space_map.specs.SaveWord.{SaveFits}
 use Rattle.space_map.specs.Spaces.{to_space, page_of}
 use Rattle.heap_state.specs.Cycles.Cycle.{Cycle}
-use Rattle.heap_state.specs.Memory.Entries.{Entry, GateIs, TracedIs, AreaIs, PageIs, CrossIs, WordIs, AnnounceIs, SnapIs, DoneIs, SaveIs, ImageIs}
+use Rattle.heap_state.specs.Memory.Entries.{Entry, GateIs, TracedIs, AreaIs, WeakIs, WeakTurnIs, PageIs, CrossIs, WordIs, AnnounceIs, SnapIs, DoneIs, SaveIs, ImageIs}
 use Rattle.heap_state.specs.Memory.Era.{Era, Memory, IsLaidOut, from_space}
 use Rattle.heap_state.specs.Functions.{put}
 use Rattle.heap_state.specs.Invariant.Ghost.{Ghost}
@@ -71,8 +71,10 @@ with_word m addr word = record m { heap = put m.heap addr word }
 abbrev pub with_announced : Memory → (worker place : ℕ) → Memory
 with_announced m worker place = record m { announced = put m.announced worker place }
 
--- the row is one of checkpoints, of which the epoch sees nothing, and what is written fits its word
+-- the row is one of which the epoch sees nothing, of the chain of copied cells or of checkpoints, and what is written fits its word
 abbrev pub IsBeside : Era → Entry → Type 0
+IsBeside E (WeakIs word) = ⊤
+IsBeside E (WeakTurnIs word) = ⊤
 IsBeside E (SnapIs number) = ⊤
 IsBeside E (DoneIs number) = ⊤
 IsBeside E (SaveIs page word) = (page ≤ page_of E.board) × SaveFits word

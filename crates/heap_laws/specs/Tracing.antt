@@ -1,6 +1,7 @@
 -- The end of the copied area: it is looked at, TRACED is exchanged, and then nothing leads into the old space.
 use Rattle.std.specs.Prelude.{◌≡◌, ◌≢◌, ℕ, ◌+◌, ◌<◌, ◌≤◌, ◌⊎◌, true, false, Some, None}
 use Rattle.plain_state.specs.declared.value.Identity.{Identity}
+use Rattle.plain_state.specs.Reachable.{Reachable}
 use Rattle.plain_state.specs.State.{Plain}
 use Rattle.space_map.specs.declared.page_word.PageWord.{PageWord}
 use Rattle.space_map.specs.declared.page_word.PageWord.TheVariants.{Open}
@@ -9,7 +10,6 @@ use Rattle.heap_state.specs.Cycles.Cycle.{Cycle, IsCopied}
 use Rattle.heap_state.specs.Memory.Era.{Era, Memory, IsLaidOut}
 use Rattle.heap_state.specs.Invariant.Ghost.{Ghost, Here, Leads}
 use Rattle.heap_state.specs.Invariant.Inductive.{Invariant}
-use Rattle.heap_state.specs.Meaning.Reachable.{Reachable}
 use Rattle.heap_state.specs.Worker.{Worker, Team, Copy, Scan, Round, Claim, Look, LastLook, is_mutator}
 use Rattle.heap_state.specs.Memory.Entries.{TracedIs}
 use Rattle.heap_laws.specs.Steps.{Ready, Steps}

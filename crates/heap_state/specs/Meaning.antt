@@ -2,4 +2,3 @@ pub mod Values
 pub mod Denotes
 pub mod Dump
 pub mod Represents
-pub mod Reachable

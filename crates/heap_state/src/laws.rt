@@ -1,7 +1,7 @@
 //! What holds of all tables and configurations. Each function here does nothing: its contract is what is proved.
 
 ghost use Rattle.std.specs.Prelude.{ℕ};
-ghost use Rattle.heap_state.specs.Theorems.Rows.{ReadsRows, SpellsShared, StoresGate, StoresTraced, StoresArea, StoresSize, StoresPage, StoresCross, StoresHeapWord, StoresAnnounce, StoresBeside, StoresEntry, WritesTables, MemoryFollows};
+ghost use Rattle.heap_state.specs.Theorems.Rows.{ReadsRows, SpellsShared, StoresGate, StoresTraced, StoresArea, StoresWeak, StoresWeakTurn, StoresSize, StoresPage, StoresCross, StoresHeapWord, StoresAnnounce, StoresBeside, StoresEntry, WritesTables, MemoryFollows};
 ghost use Rattle.heap_state.specs.Theorems.Saves.{WritesWholeTables, WordsReadAreFrozen, CheckpointsAreSaid};
 ghost use Rattle.heap_state.specs.Theorems.Workers.{ChangesAt, SumsByTerms, TeamsByWorkers, FramesOfWorkers};
 ghost use Rattle.heap_state.specs.Theorems.Standing.{StandingIsSound, RepresentedStands, RepresentedStandsInCycle, QuietStandsStill};
@@ -19,6 +19,8 @@ pub fn rows_change_alone()
     ensures gate { StoresGate }
     ensures traced { StoresTraced }
     ensures area { StoresArea }
+    ensures weak { StoresWeak }
+    ensures weak_turn { StoresWeakTurn }
     ensures size { StoresSize }
     ensures page { StoresPage }
     ensures cross { StoresCross }

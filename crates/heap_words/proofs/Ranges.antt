@@ -5,7 +5,7 @@ use Rattle.std.proofs.lemmas.Bool.{ltb-true}
 use Rattle.heap_words.specs.declared.kind.Kind.{Kind}
 use Rattle.heap_words.specs.declared.word.TheConstants.{NUMBERS}
 use Rattle.heap_words.specs.Word.{tag_spelled, tag_of, number_word, header_word}
-use Rattle.heap_words.specs.Decoded.{Decoded, NumberWord, PointerWord, HeaderWord, ForwardWord, BusyWord, Malformed, kind_spelled, decode_as, decode_header, decode_forward, decode, IsInRange}
+use Rattle.heap_words.specs.Decoded.{Decoded, NumberWord, PointerWord, HeaderWord, ForwardWord, BusyWord, Malformed, decode_as, decode_forward, decode, IsInRange}
 use Rattle.heap_words.proofs.Spelling.{header_word-decode}
 
 -- the parts are in range but for one that reaches up to a word's end, the mutator
@@ -21,12 +21,6 @@ bounded_if : (b : Bool) (d : Decoded) → (b ≡ true → IsBounded d) → IsBou
 bounded_if true d bounded = bounded refl
 bounded_if false d bounded = tt
 
-bounded_header : (code w : ℕ) → IsBounded (decode_header (kind_spelled code) w)
-bounded_header zero w = (omega arith, omega arith)
-bounded_header (suc zero) w = (omega arith, omega arith)
-bounded_header (suc (suc zero)) w = (omega arith, omega arith)
-bounded_header (suc (suc (suc code))) w = tt
-
 bounded_forward : (form w : ℕ) → IsBounded (decode_forward form w)
 bounded_forward zero w =
     bounded_if (nat_lt w (2 ^ 48)) (ForwardWord (w / 2 ^ 4 % 2 ^ 12) (w / 2 ^ 16))
@@ -41,7 +35,7 @@ bounded_tagged zero w =
     bounded_if (nat_lt w (2 ^ 64)) (NumberWord (w / 4)) (λ short. let below = ltb-true w (2 ^ 64) short in omega arith)
 bounded_tagged (suc zero) w =
     bounded_if (nat_lt w (2 ^ 34)) (PointerWord (w / 4)) (λ short. let below = ltb-true w (2 ^ 34) short in omega arith)
-bounded_tagged (suc (suc zero)) w = bounded_header (w / 4 % 4) w
+bounded_tagged (suc (suc zero)) w = (omega arith, omega arith)
 bounded_tagged (suc (suc (suc bits))) w = bounded_forward (w / 4 % 4) w
 
 bounded : (w : ℕ) → IsBounded (decode w)

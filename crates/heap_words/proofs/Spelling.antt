@@ -2,8 +2,8 @@
 use Rattle.std.proofs.Common.{◌≡◌, ◌≢◌, ℕ, zero, suc, ◌/◌, ◌%◌, ◌^◌, ◌<◌, cond, Bool, true, false, refl, arith, ap, sym, ◌∙◌}
 use Rattle.heap_words.specs.declared.kind.Kind.{Kind}
 use Rattle.heap_words.specs.Word.{tag_spelled, tag_of, number_word, pointer_word, header_word, forward_word, busy_word}
-use Rattle.heap_words.specs.Decoded.{Decoded, NumberWord, PointerWord, HeaderWord, ForwardWord, BusyWord, Malformed, kind_spelled, decode_as, decode_header, decode_forward, decode, encode, IsInRange}
-use Rattle.heap_words.proofs.KindCodes.{kind_code-lt}
+use Rattle.heap_words.specs.Decoded.{Decoded, NumberWord, PointerWord, HeaderWord, ForwardWord, BusyWord, Malformed, kind_spelled, decode_as, decode_forward, decode, encode, IsInRange}
+use Rattle.heap_words.proofs.KindCodes.{kind_code-lt, kind_code-kind_spelled}
 use Rattle.heap_words.proofs.Decoding.{decode-number_word, decode-pointer_word, decode-header_word, decode-forward_word, decode-busy_word}
 
 -- ---- the spelling
@@ -16,12 +16,11 @@ spells_if : (b : Bool) (d : Decoded) (w : ℕ) → encode d ≡ w → Spells (co
 spells_if true d w spelled formed = spelled
 spells_if false d w spelled formed = absurd (formed refl)
 
-spells-header : (code w : ℕ) → w % 4 ≡ 2 → w / 4 % 4 ≡ code → Spells (decode_header (kind_spelled code) w) w
+spells-header : (w : ℕ) → w % 4 ≡ 2
+    → header_word (kind_spelled (w / 4 % 4)) (w / 2 ^ 4 % 2 ^ 12) (w / 2 ^ 16 % 2 ^ 40) (w / 2 ^ 56) ≡ w
 unfolding header_word
-spells-header zero w tag kind formed = omega arith
-spells-header (suc zero) w tag kind formed = omega arith
-spells-header (suc (suc zero)) w tag kind formed = omega arith
-spells-header (suc (suc (suc code))) w tag kind formed = absurd (formed refl)
+spells-header w tag =
+    let code = kind_code-kind_spelled (w / 4 % 4) (omega arith) in rw code (omega arith)
 
 spells-forward : (form w : ℕ) → w % 4 ≡ 3 → w / 4 % 4 ≡ form → Spells (decode_forward form w) w
 unfolding forward_word busy_word
@@ -33,7 +32,7 @@ spells-tagged : (bits w : ℕ) → w % 4 ≡ bits → Spells (decode_as (tag_spe
 unfolding number_word pointer_word
 spells-tagged zero w tag formed = spells_if _ (NumberWord (w / 4)) w (omega arith) formed
 spells-tagged (suc zero) w tag formed = spells_if _ (PointerWord (w / 4)) w (omega arith) formed
-spells-tagged (suc (suc zero)) w tag formed = spells-header (w / 4 % 4) w tag refl formed
+spells-tagged (suc (suc zero)) w tag formed = spells-header w tag
 spells-tagged (suc (suc (suc bits))) w tag formed = spells-forward (w / 4 % 4) w (omega arith) refl formed
 
 pub encode-decode : (w : ℕ) → decode w ≢ Malformed → encode (decode w) ≡ w

@@ -2,7 +2,7 @@
 use Rattle.std.specs.Prelude.{ℕ, ◌/◌, ◌%◌, ◌^◌, ◌<◌, ◌≤◌, ⊤, Option, Some, None, nat_lt, if◌then◌else◌}
 use Rattle.std.proofs.Common.{zero, suc}
 use Rattle.heap_words.specs.declared.kind.Kind.{Kind}
-use Rattle.heap_words.specs.declared.kind.Kind.TheVariants.{Fields, Raw, Mixed}
+use Rattle.heap_words.specs.declared.kind.Kind.TheVariants.{Fields, Raw, Mixed, Weak}
 use Rattle.heap_words.specs.declared.tag.Tag.{Tag}
 use Rattle.heap_words.specs.declared.tag.Tag.TheVariants.{Number, Pointer, Header, Forward}
 use Rattle.heap_words.specs.declared.word.TheConstants.{NUMBERS}
@@ -20,16 +20,11 @@ pub data Decoded : Type 0 where
 -- ---- from a word
 
 -- the kind that two bits of a header spell
-abbrev pub kind_spelled : ℕ → Option Kind
-kind_spelled zero = Some Fields
-kind_spelled (suc zero) = Some Raw
-kind_spelled (suc (suc zero)) = Some Mixed
-kind_spelled (suc (suc (suc bits))) = None
-
--- a header of this kind
-abbrev pub decode_header : Option Kind → ℕ → Decoded
-decode_header (Some kind) w = HeaderWord kind (w / 2 ^ 4 % 2 ^ 12) (w / 2 ^ 16 % 2 ^ 40) (w / 2 ^ 56)
-decode_header None w = Malformed
+abbrev pub kind_spelled : ℕ → Kind
+kind_spelled zero = Fields
+kind_spelled (suc zero) = Raw
+kind_spelled (suc (suc zero)) = Mixed
+kind_spelled (suc (suc (suc bits))) = Weak
 
 -- a word of tag 3 by its bits 2 and 3
 abbrev pub decode_forward : ℕ → ℕ → Decoded
@@ -41,7 +36,7 @@ decode_forward (suc (suc bits)) w = Malformed
 abbrev pub decode_as : Tag → ℕ → Decoded
 decode_as Number w = if nat_lt w (2 ^ 64) then NumberWord (w / 4) else Malformed
 decode_as Pointer w = if nat_lt w (2 ^ 34) then PointerWord (w / 4) else Malformed
-decode_as Header w = decode_header (kind_spelled (w / 4 % 4)) w
+decode_as Header w = HeaderWord (kind_spelled (w / 4 % 4)) (w / 2 ^ 4 % 2 ^ 12) (w / 2 ^ 16 % 2 ^ 40) (w / 2 ^ 56)
 decode_as Forward w = decode_forward (w / 4 % 4) w
 
 -- what a word says

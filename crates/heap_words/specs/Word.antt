@@ -2,7 +2,7 @@
 use Rattle.std.specs.Prelude.{ℕ, ◌+◌, ◌*◌, ◌%◌, ◌^◌}
 use Rattle.std.proofs.Common.{zero, suc}
 use Rattle.heap_words.specs.declared.kind.Kind.{Kind}
-use Rattle.heap_words.specs.declared.kind.Kind.TheVariants.{Fields, Raw, Mixed}
+use Rattle.heap_words.specs.declared.kind.Kind.TheVariants.{Fields, Raw, Mixed, Weak}
 use Rattle.heap_words.specs.declared.tag.Tag.{Tag}
 use Rattle.heap_words.specs.declared.tag.Tag.TheVariants.{Number, Pointer, Header, Forward}
 
@@ -22,6 +22,7 @@ abbrev pub kind_code : Kind → ℕ
 kind_code Fields = 0
 kind_code Raw = 1
 kind_code Mixed = 2
+kind_code Weak = 3
 
 -- a number: tag 0, then 62 bits
 unfoldable pub number_word : ℕ → ℕ

@@ -7,4 +7,6 @@ pub enum Kind {
     Raw,
     /// A count of fields, then that many tagged words, then plain numbers.
     Mixed,
+    /// A target, which is a tagged word that keeps nothing alive, and a link.
+    Weak,
 }

@@ -62,7 +62,7 @@ recall_cost = 2
 
 -- a save round that finds no checkpoint in progress, a request, the flip, eight registers, and the tracing of the new epoch
 abbrev pub flip_cost : ℕ → ℕ
-flip_cost n = longest_tracing n + save_round_cost n + 57
+flip_cost n = longest_tracing n + save_round_cost n + 58
 
 -- so many of these
 unfoldable pub flips_cost : (n flips : ℕ) → ℕ

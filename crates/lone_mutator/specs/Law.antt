@@ -19,7 +19,7 @@ use Rattle.gc_worker.specs.Workers.Saves.{saver_of}
 use Rattle.gc_worker.specs.Laws.Step.{Heap, WorkersStand, held_at, layout_of, moved}
 use Rattle.gc_worker.specs.Steps.Stepped.{awaits}
 use Rattle.gc_worker.specs.declared.calls.did.Did.TheVariants.{Done, Trap}
-use Rattle.gc_worker.specs.Steps.Turned.{Told, Silent, Answers, Marks, turned, told}
+use Rattle.gc_worker.specs.Steps.Turned.{Told, Silent, Empties, Answers, Marks, turned, told}
 use Rattle.gc_worker.specs.Steps.Wanted.{wanted}
 use Rattle.lone_mutator.specs.Bound.{most_steps_of}
 use Rattle.lone_mutator.specs.Lone.{IsLone, Remembers, NobodyElseAnnounces, potential}
@@ -36,6 +36,7 @@ pub record Lowers (n : ℕ) (s : Saves) (before after : Table) (x y : Held) : Ty
 -- An effect leaves it where it rests, where nobody announces a place; after an end nothing is asked.
 abbrev pub LowersWhereTold : ℕ → Saves → (before after : Table) → (x y : Held) → Told → Type 0
 LowersWhereTold n s before after x y Silent = Lowers n s before after x y
+LowersWhereTold n s before after x y Empties = Lowers n s before after x y
 LowersWhereTold n s before after x y (Answers task Done) = NobodyElseAnnounces after.announced false
 LowersWhereTold n s before after x y (Answers task (Trap end)) = ⊤
 LowersWhereTold n s before after x y (Marks asked) = Lowers n s before after x y
@@ -60,6 +61,7 @@ pub record Pays (n : ℕ) (checkpoints : Bool) (before after : Said) (x y : Held
 
 abbrev pub PaysWhereTold : (n : ℕ) (checkpoints : Bool) → (before after : Said) → (x y : Held) → Told → Type 0
 PaysWhereTold n checkpoints before after x y Silent = Pays n checkpoints before after x y
+PaysWhereTold n checkpoints before after x y Empties = Pays n checkpoints before after x y
 PaysWhereTold n checkpoints before after x y (Answers task Done) = NobodyElseAnnounces after.table.announced false
 PaysWhereTold n checkpoints before after x y (Answers task (Trap end)) = ⊤
 PaysWhereTold n checkpoints before after x y (Marks asked) = Pays n checkpoints before after x y
@@ -98,6 +100,7 @@ StepsLower c x = (q : Step) → wanted x ≡ Some q
 -- than the most steps of an instruction, and has executed one more. Else it has an end.
 abbrev pub AfterStep : (h later : Heap) → Told → Type 0
 AfterStep h later Silent = IsLone later × (potential later < potential h) × ((held_at later 0).account.executed ≡ (held_at h 0).account.executed)
+AfterStep h later Empties = IsLone later × (potential later < potential h) × ((held_at later 0).account.executed ≡ (held_at h 0).account.executed)
 AfterStep h later (Answers task Done) = IsLone later × (potential later < most_steps_of (layout_of h)) × ((held_at later 0).account.executed ≡ (held_at h 0).account.executed + 1)
 AfterStep h later (Answers task (Trap end)) = (held_at later 0).account.end ≡ Some end
 AfterStep h later (Marks asked) = IsLone later × (potential later < potential h) × ((held_at later 0).account.executed ≡ (held_at h 0).account.executed)

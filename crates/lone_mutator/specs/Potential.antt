@@ -129,7 +129,7 @@ after_left n growing due afters.Snaps = 0
 -- after its request: the flip and the tracing of the new epoch, with what the flips after it cost; or the beginning of a checkpoint
 abbrev pub request_left : (n later : ℕ) → After → ℕ
 request_left n later afters.Looks = 0
-request_left n later afters.Places = 51 + recall_cost + longest_placing + longest_tracing n + later
+request_left n later afters.Places = 52 + recall_cost + longest_placing + longest_tracing n + later
 request_left n later afters.Snaps = 2
 
 -- at the gate, where its epoch is the gate's or the one before; with what the flips after the next one cost, and those that make the

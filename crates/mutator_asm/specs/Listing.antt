@@ -3,7 +3,7 @@ use Rattle.std.specs.Prelude.{ℕ, ◌+◌, Bool, false, List, [], ◌∷◌, �
 use Rattle.std.specs.Option.{option_map_or}
 use Rattle.std.specs.List.{flat_map, join_with_byte, list_any}
 use Rattle.mutator_asm.specs.declared.instr.Instr.{Instr}
-use Rattle.mutator_asm.specs.declared.instr.Instr.TheVariants.{Li, Mov, Add, Sub, Mul, Div, Rem, Lt, Eq, Jmp, Jz, Jal, Jr, New, Raw, Mix, Ld, St, Cas, Len, Isp, Get, Put, Swap, Out, Snap, Halt}
+use Rattle.mutator_asm.specs.declared.instr.Instr.TheVariants.{Li, Mov, Add, Sub, Mul, Div, Rem, Lt, Eq, Jmp, Jz, Jal, Jr, New, Raw, Mix, Weak, Ld, St, Cas, Len, Isp, Get, Put, Swap, Out, Snap, Halt}
 use Rattle.mutator_asm.specs.declared.item.Item.{Item}
 use Rattle.mutator_asm.specs.declared.operand.Operand.{Operand}
 use Rattle.mutator_asm.specs.declared.operand.Operand.TheVariants.{Reg, Number}
@@ -62,6 +62,7 @@ instr_tokens (Jr a) = codes "jr" ∷ register_token a ∷ []
 instr_tokens (New d x) = codes "new" ∷ register_token d ∷ operand_token x ∷ []
 instr_tokens (Raw d x) = codes "raw" ∷ register_token d ∷ operand_token x ∷ []
 instr_tokens (Mix d f x) = codes "mix" ∷ register_token d ∷ operand_token f ∷ operand_token x ∷ []
+instr_tokens (Weak d a) = codes "weak" ∷ register_token d ∷ register_token a ∷ []
 instr_tokens (Ld d a x) = codes "ld" ∷ register_token d ∷ register_token a ∷ operand_token x ∷ []
 instr_tokens (St a x b) = codes "st" ∷ register_token a ∷ operand_token x ∷ register_token b ∷ []
 instr_tokens (Cas d a x b c) = codes "cas" ∷ register_token d ∷ register_token a ∷ operand_token x ∷ register_token b ∷ register_token c ∷ []

@@ -1,9 +1,9 @@
 -- What a program is.
-use Rattle.std.specs.Prelude.{ℕ, ◌≤◌, Bool, true, ◌&&◌, List, [], length, Option, slice_get, slice_index_or, nat_lt, nat_le, sum_by, IsTrue}
+use Rattle.std.specs.Prelude.{ℕ, ◌≤◌, Bool, true, false, ◌&&◌, List, [], length, Option, slice_get, slice_index_or, nat_lt, nat_le, sum_by, IsTrue}
 use Rattle.std.specs.List.{list_all}
 use Rattle.plain_state.specs.declared.sizes.TheConstants.{NUMBERS, REGISTERS}
 use Rattle.mutator_asm.specs.declared.instr.Instr.{Instr}
-use Rattle.mutator_asm.specs.declared.instr.Instr.TheVariants.{Li, Mov, Add, Sub, Mul, Div, Rem, Lt, Eq, Jmp, Jz, Jal, Jr, New, Raw, Mix, Ld, St, Cas, Len, Isp, Get, Put, Swap, Out, Snap, Halt}
+use Rattle.mutator_asm.specs.declared.instr.Instr.TheVariants.{Li, Mov, Add, Sub, Mul, Div, Rem, Lt, Eq, Jmp, Jz, Jal, Jr, New, Raw, Mix, Weak, Ld, St, Cas, Len, Isp, Get, Put, Swap, Out, Snap, Halt}
 use Rattle.mutator_asm.specs.declared.item.Item.{Item}
 use Rattle.mutator_asm.specs.declared.item.TheConstants.{LAST_WORKER, TIMES_MAX}
 use Rattle.mutator_asm.specs.declared.operand.Operand.{Operand}
@@ -48,6 +48,7 @@ is_valid (Jr a) = is_register a
 is_valid (New d x) = is_register d && is_operand x
 is_valid (Raw d x) = is_register d && is_operand x
 is_valid (Mix d f x) = is_register d && is_operand f && is_operand x
+is_valid (Weak d a) = is_register d && is_register a
 is_valid (Ld d a x) = is_register d && is_register a && is_operand x
 is_valid (St a x b) = is_register a && is_operand x && is_register b
 is_valid (Cas d a x b c) = is_register d && is_register a && is_operand x && is_register b && is_register c
@@ -59,6 +60,11 @@ is_valid (Swap d x) = is_register d && is_operand x
 is_valid (Out a) = is_register a
 is_valid Snap = true
 is_valid Halt = true
+
+-- the instruction is one that a line can be read as
+abbrev pub is_read : Instr → Bool
+is_read (Weak d a) = false
+is_read _ = true
 
 -- a jump in a section of n instructions leads to one of them or behind the last; of no other
 -- instruction anything is asked
@@ -82,6 +88,7 @@ pub record IsWellFormed (code : List (List Instr)) (schedule : List Item) : Type
   pub few_sections : length code ≤ 16
   pub few_instrs : sum_by length code ≤ 65536
   pub instrs : IsTrue (list_all (list_all is_valid) code)
+  pub read : IsTrue (list_all (list_all is_read) code)
   pub targets : IsTrue (list_all is_closed code)
   pub few_items : length schedule ≤ 65536
   pub items : IsTrue (list_all is_item schedule)

@@ -40,6 +40,8 @@ pub enum Instr {
     Raw(u8, Operand),
     /// `mix rd xf xr`: rd becomes a new record of xf fields, and behind them xr raw words.
     Mix(u8, Operand, Operand),
+    /// `weak rd ra`: rd becomes a new cell whose target is ra.
+    Weak(u8, u8),
     /// `ld rd ra x`: rd becomes word x of the record in ra.
     Ld(u8, u8, Operand),
     /// `st ra x rb`: word x of the record in ra becomes rb.
@@ -101,6 +103,7 @@ impl Instr {
             Instr::New(..) => "new",
             Instr::Raw(..) => "raw",
             Instr::Mix(..) => "mix",
+            Instr::Weak(..) => "weak",
             Instr::Ld(..) => "ld",
             Instr::St(..) => "st",
             Instr::Cas(..) => "cas",
@@ -127,7 +130,9 @@ impl fmt::Display for Instr {
         let name = self.name();
         match *self {
             Instr::Li(d, k) => two(f, name, Reg(d), Number(k)),
-            Instr::Mov(d, a) | Instr::Len(d, a) | Instr::Isp(d, a) => two(f, name, Reg(d), Reg(a)),
+            Instr::Mov(d, a) | Instr::Weak(d, a) | Instr::Len(d, a) | Instr::Isp(d, a) => {
+                two(f, name, Reg(d), Reg(a))
+            }
             Instr::Add(d, a, b)
             | Instr::Sub(d, a, b)
             | Instr::Mul(d, a, b)

@@ -9,7 +9,7 @@ use Rattle.atom_store.specs.declared.reply.Reply.TheVariants.{Value, Done}
 use Rattle.atom_store.specs.declared.step.Step.{Step}
 use Rattle.atom_store.specs.declared.turn.Turn.TheVariants.{Finished}
 use Rattle.plain_state.specs.declared.kind.Kind.{Kind}
-use Rattle.plain_state.specs.declared.kind.Kind.TheVariants.{Fields, Raw, Mixed}
+use Rattle.plain_state.specs.declared.kind.Kind.TheVariants.{Fields, Raw, Mixed, Weak}
 use Rattle.heap_state.specs.Memory.FieldSpan.{first_field}
 use Rattle.heap_words.specs.declared.kind.Kind.{Kind as HeaderKind}
 use Rattle.heap_words.specs.declared.kind.Kind.TheVariants as header
@@ -85,6 +85,7 @@ module _ (P : ScanStage → Type 0) where
   of_kind page in_place at header.Fields size entered mixed = entered Fields
   of_kind page in_place at header.Raw size entered mixed = entered Raw
   of_kind page in_place at header.Mixed size entered mixed = mixed
+  of_kind page in_place at header.Weak size entered mixed = entered Weak
 
   pub of_header : (page : ℕ) (in_place : Bool) (at : ℕ) (stage : ScanStage) (d : Decoded)
       → ((k : Kind) (size : ℕ) → P (enters page in_place at k size)) → ((size : ℕ) → P (LoadsCount (record { at = at; size = size })))

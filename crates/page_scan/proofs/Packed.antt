@@ -32,6 +32,7 @@ room-said header.Mixed len serial mutator next counted count is =
     let said : count_said (decode next) ≡ count = cc in
     let le = count-le (len + 1) (decode next) (counted len serial mutator refl) in
     omega arith
+room-said header.Weak len serial mutator next counted count is = absurd (cc)
 
 -- a record's fields begin and end within it
 said-within : (d : Decoded) (next : ℕ) → IsCounted d next → (first_said d next ≤ size_said d) × (fields_said d next ≤ size_said d)

@@ -195,6 +195,7 @@ module _ (l : Layout) (page epoch : ℕ) (in_place : Bool) (words : List ℕ) (f
   kind-Knows k header.Raw len serial mutator now says below replaced reaches = enters-Knows k header.Raw len serial mutator now says below replaced reaches
   kind-Knows k header.Mixed len serial mutator now says below replaced reaches =
       (k, record { serial = serial; mutator = mutator; len = len; says = says; is = refl; below = below; reaches = reaches }, replaced)
+  kind-Knows k header.Weak len serial mutator now says below replaced reaches = enters-Knows k header.Weak len serial mutator now says below replaced reaches
 
   header-Knows : (k : ℕ) (now : List ℕ) (stage : ScanStage) (d : Decoded) → decode (heap (at k)) ≡ d → IsTrue (is_header d) → at k < front
       → Below (max (at k) (64 * page)) now → 64 * page ≤ at (k + 1) → Knows (by_header page in_place (at k) stage d) now

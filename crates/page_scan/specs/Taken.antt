@@ -8,7 +8,7 @@ use Rattle.atom_store.specs.Machine.{Machine}
 use Rattle.heap_words.specs.declared.kind.Kind.{Kind as HeaderKind}
 use Rattle.heap_words.specs.declared.kind.Kind.TheVariants as header
 use Rattle.plain_state.specs.declared.kind.Kind.{Kind}
-use Rattle.plain_state.specs.declared.kind.Kind.TheVariants.{Fields, Raw, Mixed}
+use Rattle.plain_state.specs.declared.kind.Kind.TheVariants.{Fields, Raw, Mixed, Weak}
 use Rattle.heap_state.specs.Memory.FieldSpan.{first_field, fields_end}
 use Rattle.heap_words.specs.Decoded.{Decoded, NumberWord, PointerWord, HeaderWord, ForwardWord, BusyWord, Malformed, decode}
 use Rattle.space_map.specs.declared.area_word.AreaWord.{AreaWord}
@@ -78,6 +78,7 @@ abbrev pub by_kind : (page : ℕ) (in_place : Bool) (at : ℕ) → HeaderKind �
 by_kind page in_place at header.Fields size = enters page in_place at Fields size
 by_kind page in_place at header.Raw size = enters page in_place at Raw size
 by_kind page in_place at header.Mixed size = LoadsCount (record { at = at; size = size })
+by_kind page in_place at header.Weak size = enters page in_place at Weak size
 
 -- ---- what a word makes of it
 

@@ -255,7 +255,7 @@ impl Scan {
                 },
                 1,
             ),
-            Kind::Raw => self.enters(
+            Kind::Raw | Kind::Weak => self.enters(
                 ScannedRecord {
                     at,
                     fields_end: at + 1,

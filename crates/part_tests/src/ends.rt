@@ -19,5 +19,6 @@ fn ends_have_their_texts(rt: HostRuntime) -> Result<(), Fail> {
         live: 0,
     };
     check_text(&rt, rt.alloc(), full, "heap full asked 64 room 4032 live 0")?;
+    check_text(&rt, rt.alloc(), End::WeakCell, "weak cell")?;
     check_text(&rt, rt.alloc(), End::IntoRaw, "pointer into raw")
 }

@@ -97,6 +97,8 @@ fn places_of_every_heap(rt: HostRuntime) {
     assert_same(&rt, &spaces.traced_place(), &2);
     assert_same(&rt, &spaces.area_place(0), &4);
     assert_same(&rt, &spaces.area_place(1), &5);
+    assert_same(&rt, &spaces.weak_place(), &6);
+    assert_same(&rt, &spaces.weak_turn_place(), &7);
     assert_same(&rt, &spaces.size_place(0), &12);
     assert_same(&rt, &spaces.size_place(1), &13);
 }

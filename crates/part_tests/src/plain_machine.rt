@@ -159,14 +159,15 @@ fn full(asked: u32) -> Mark {
     }
 }
 
-/// An order for all rows. Of its first marks the fourth ends a mutator whose first instruction asks for 64 pages, and the
+/// An order for all rows. Of its first marks the fifth ends a mutator whose first instruction asks for 64 pages, and the
 /// others change nothing.
 fn long_order(alloc: Global) -> Result<Vec<Mark>, Fail> {
-    let mut order = vec![in alloc; Mark::Step(0); 4 + TURNS as usize + 1]?;
+    let mut order = vec![in alloc; Mark::Step(0); 5 + TURNS as usize + 1]?;
     order[0] = Mark::Step(1);
     order[1] = Mark::Flip(63);
-    order[2] = full(63);
-    order[3] = full(64);
+    order[2] = Mark::Traced;
+    order[3] = full(63);
+    order[4] = full(64);
     Ok(order)
 }
 
@@ -215,11 +216,11 @@ fn six_steps_print_the_number_and_the_end(rt: HostRuntime) -> Result<(), Fail> {
 fn an_order_has_its_line(rt: HostRuntime) -> Result<(), Fail> {
     let mut line = String::new(rt.alloc());
     push_order(&mut line, &[Mark::Step(0); 6])?;
-    push_order(&mut line, &[Mark::Flip(64), full(64)])?;
+    push_order(&mut line, &[Mark::Flip(64), Mark::Traced, full(64)])?;
     assert_same(
         &rt,
         &line.as_str(),
-        &"order 0 0 0 0 0 0\norder F64 X0,64,256,0\n",
+        &"order 0 0 0 0 0 0\norder F64 T X0,64,256,0\n",
     );
     Ok(())
 }

@@ -1,4 +1,5 @@
 pub mod Owned
+pub mod Marks
 pub mod Alike
 pub mod Runs
 pub mod Apart

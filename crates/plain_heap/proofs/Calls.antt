@@ -1,6 +1,7 @@
 pub mod Outcomes
 pub mod Rest
 pub mod Records
+pub mod Cells
 pub mod Named
 pub mod Counts
 pub mod Consistency

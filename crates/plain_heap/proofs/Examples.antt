@@ -3,13 +3,20 @@ use Rattle.std.proofs.Common.{◌≡◌, ℕ, true, false, List, [], ◌∷◌, 
 use Rattle.std.specs.Option.{option_map}
 use Rattle.plain_state.specs.declared.end.End.{End}
 use Rattle.plain_state.specs.declared.end.End.TheVariants.{Halt, TurnsOut}
+use Rattle.plain_state.specs.declared.value.Value.{Value}
+use Rattle.plain_state.specs.declared.value.Value.TheVariants.{Number, Reference}
+use Rattle.plain_state.specs.Cells.{cell_of}
 use Rattle.mutator_asm.specs.declared.instr.Instr.{Instr}
 use Rattle.mutator_asm.specs.declared.instr.Instr.TheVariants as instrs
 use Rattle.mutator_asm.specs.declared.operand.Operand.TheVariants as operands
+use Rattle.plain_heap.specs.declared.mark.Mark.{Mark}
+use Rattle.plain_heap.specs.declared.mark.Mark.TheVariants.{Step, Flip, Traced}
 use Rattle.plain_heap.specs.Action.{action}
 use Rattle.plain_heap.specs.Call.{call}
 use Rattle.plain_heap.specs.Step.{stepped}
-use Rattle.plain_heap.specs.Order.{marked}
+use Rattle.plain_heap.specs.Emptied.{emptied}
+use Rattle.plain_heap.specs.Order.{plain}
+use Rattle.plain_heap.specs.Reaching.{reaches}
 use Rattle.plain_heap.specs.Alone.{shares_nothing, run_alone}
 
 abbrev code : List (List Instr)
@@ -27,9 +34,49 @@ shown : ℕ → Option (List ℕ × Option End)
 shown m = option_map {U = List ℕ × Option End} (λ k. (k.printed, k.end)) (slice_get (run_alone code 5 m).mutators m)
 
 example-first_halts : shown 0 ≡ Some ((7 ∷ []), Some Halt)
-unfolding shown marked stepped call action
+unfolding shown stepped call action
 example-first_halts = refl
 
 example-second_turns_out : shown 1 ≡ Some ((8 ∷ 8 ∷ []), Some TurnsOut)
-unfolding shown marked stepped call action
+unfolding shown stepped call action
 example-second_turns_out = refl
+
+-- ---- cells
+
+-- its mutator makes a record, a cell that refers to it, and then drops the record
+abbrev dropping : List (List Instr)
+dropping = (instrs.New 0 (operands.Number 1) ∷ instrs.Weak 1 0 ∷ instrs.Li 0 0 ∷ instrs.Halt ∷ []) ∷ []
+
+-- what the cell has after an order
+cell_after : List Mark → Option Value
+cell_after order = cell_of (plain dropping 9 order).heap (record { mutator = 0; serial = 2 })
+
+abbrev to_record : Option Value
+to_record = Some (Reference (record { mutator = 0; serial = 1 }))
+
+abbrev step : Mark
+step = Step 0
+
+-- the record wasn't reachable at the flip
+example-emptied : cell_after (step ∷ step ∷ step ∷ Flip 2 ∷ Traced ∷ []) ≡ Some (Number 0)
+unfolding cell_after emptied reaches stepped call action
+example-emptied = refl
+
+-- it was, but is no more
+example-reachable : cell_after (step ∷ step ∷ Flip 2 ∷ step ∷ Traced ∷ []) ≡ to_record
+unfolding cell_after emptied reaches stepped call action
+example-reachable = refl
+
+-- the cell was made since the flip
+example-made_since : cell_after (step ∷ Flip 2 ∷ step ∷ step ∷ Traced ∷ []) ≡ to_record
+unfolding cell_after emptied reaches stepped call action
+example-made_since = refl
+
+-- no flip came, or tracing didn't end
+example-no_flip : cell_after (step ∷ step ∷ step ∷ Traced ∷ []) ≡ to_record
+unfolding cell_after emptied reaches stepped call action
+example-no_flip = refl
+
+example-untraced : cell_after (step ∷ step ∷ step ∷ Flip 2 ∷ []) ≡ to_record
+unfolding cell_after emptied reaches stepped call action
+example-untraced = refl

@@ -5,3 +5,5 @@ mod Examples
 pub mod Checkpoints
 pub mod WorkedCheckpoints
 pub mod Orders
+pub mod Reaching
+pub mod Found

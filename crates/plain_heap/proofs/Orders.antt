@@ -2,3 +2,5 @@ pub mod Stories
 pub mod Marks
 pub mod Words
 pub mod Checkpoints
+pub mod Cells
+pub mod Tracing

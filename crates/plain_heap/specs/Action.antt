@@ -3,7 +3,7 @@ use Rattle.std.specs.Prelude.{ℕ, ◌+◌, ◌%◌, Bool, true, false, ◌&&◌
 use Rattle.plain_state.specs.declared.end.End.{End}
 use Rattle.plain_state.specs.declared.end.End.TheVariants.{Halt, NotPointer, NotNumber, OutOfRange, OutputFull}
 use Rattle.plain_state.specs.declared.kind.Kind.{Kind}
-use Rattle.plain_state.specs.declared.kind.Kind.TheVariants.{Fields, Raw, Mixed}
+use Rattle.plain_state.specs.declared.kind.Kind.TheVariants.{Fields, Raw, Mixed, Weak}
 use Rattle.plain_state.specs.declared.operation.Operation.{Operation}
 use Rattle.plain_state.specs.declared.operation.Operation.TheVariants as operations
 use Rattle.plain_state.specs.declared.sizes.TheConstants.{NUMBERS, MOST_PRINTED, LONGEST_RECORD, BOARD_WORDS}
@@ -89,12 +89,12 @@ computes operation k d a b = do
   n ← applied operation a b
   Ok (Sets d (Number n))
 
--- register d refers to a new record, whose length an operand names
+-- register d refers to a new record of zeros, whose length an operand names
 abbrev pub allocates : Mutator → Kind → (d : ℕ) → Operand → Result Action End
 allocates k kind d x = do
   x ← operand k x
   n ← length_of x
-  Ok (Makes kind d n)
+  Ok (Makes kind d n (Number 0))
 
 -- register d refers to a new mixed record, of as many fields and as many plain numbers as two operands name
 abbrev pub mixes : Mutator → (d : ℕ) → (fields raw : Operand) → Result Action End
@@ -102,7 +102,7 @@ mixes k d fields raw = do
   fields ← operand k fields
   raw ← operand k raw
   n ← mixed_length fields raw
-  Ok (Makes (Mixed fields) d n)
+  Ok (Makes (Mixed fields) d n (Number 0))
 
 -- a word of the board, which an operand names
 abbrev pub board_place : Mutator → Operand → Result ℕ End
@@ -133,6 +133,9 @@ action k (instrs.Jr a) = do
 action k (instrs.New d x) = allocates k Fields d x
 action k (instrs.Raw d x) = allocates k Raw d x
 action k (instrs.Mix d fields raw) = mixes k d fields raw
+action k (instrs.Weak d a) = do
+  i ← reference_in (register k a)
+  Ok (Makes Weak d 1 (Reference i))
 action k (instrs.Ld d a x) = do
   i ← reference_in (register k a)
   x ← operand k x

@@ -11,14 +11,15 @@ use Rattle.plain_heap.specs.declared.mark.Mark.{Mark}
 use Rattle.plain_heap.specs.declared.mark.Mark.TheVariants.{Step}
 use Rattle.plain_heap.specs.Order.{plain}
 
--- the instruction leaves the board alone
+-- the instruction leaves the board alone, and makes no cell, whose target depends on the order
 abbrev pub leaves_board : Instr → Bool
 leaves_board (instrs.Get d x) = false
 leaves_board (instrs.Put x a) = false
 leaves_board (instrs.Swap d x) = false
+leaves_board (instrs.Weak d a) = false
 leaves_board _ = true
 
--- no instruction of the program names the board, by which alone mutators see each other
+-- no instruction of the program names the board, by which alone mutators see each other, or makes a cell
 abbrev pub shares_nothing : List (List Instr) → Bool
 shares_nothing code = list_all (list_all leaves_board) code
 

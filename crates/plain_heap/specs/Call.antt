@@ -2,14 +2,15 @@
 use Rattle.std.specs.Prelude.{ℕ, ◌+◌, List, [], ◌∷◌, ◌++◌, length, Option, Some, None, Result, Ok, Err, nat_lt, if◌then◌else◌, slice_index_or, slice_set}
 use Rattle.std.specs.Option.{option_map_or}
 use Rattle.plain_state.specs.declared.end.End.{End}
-use Rattle.plain_state.specs.declared.end.End.TheVariants.{OutOfRange, IntoRaw}
+use Rattle.plain_state.specs.declared.end.End.TheVariants.{OutOfRange, WeakCell, IntoRaw}
 use Rattle.plain_state.specs.declared.kind.Kind.{Kind}
-use Rattle.plain_state.specs.declared.kind.Kind.TheVariants.{Fields, Raw, Mixed}
+use Rattle.plain_state.specs.declared.kind.Kind.TheVariants.{Fields, Raw, Mixed, Weak}
 use Rattle.plain_state.specs.declared.value.Identity.{Identity}
 use Rattle.plain_state.specs.declared.value.Value.{Value}
 use Rattle.plain_state.specs.declared.value.Value.TheVariants.{Number, Reference}
 use Rattle.plain_state.specs.State.{Record, Heap, Mutator, record_of, serial_of}
-pub use Rattle.plain_state.specs.Writing.{zeros}
+pub use Rattle.plain_state.specs.Cells.{is_cell}
+pub use Rattle.plain_state.specs.Writing.{filled}
 use Rattle.plain_state.specs.Writing.{stored, with_board, gained, took}
 use Rattle.mutator_asm.specs.declared.instr.Instr.{Instr}
 use Rattle.plain_heap.specs.declared.action.Action.{Action}
@@ -27,11 +28,20 @@ pub record After : Type 0 where
 abbrev pub values_of : Heap → Identity → List Value
 values_of heap i = option_map_or (λ r. r.values) (record_of heap i) []
 
--- value x of a record, where it has so many
+-- the words of a record that are loaded and stored: all, unless it is a cell
+abbrev pub words_in : Record → List Value
+words_in r = if is_cell r.kind then [] else r.values
+
+-- a value of a record, unless it is a cell's
+abbrev pub unless_cell : Option Record → Value → Result Value End
+unless_cell None v = Ok v
+unless_cell (Some r) v = if is_cell r.kind then Err WeakCell else Ok v
+
+-- value x of a record, where it has so many and is no cell
 abbrev pub value_in : Heap → Identity → ℕ → Result Value End
 value_in heap i x = do
   x ← in_record (length (values_of heap i)) x
-  Ok (slice_index_or (values_of heap i) x (Number 0))
+  unless_cell (record_of heap i) (slice_index_or (values_of heap i) x (Number 0))
 
 -- word x of the board
 abbrev pub board_word : Heap → ℕ → Value
@@ -59,11 +69,12 @@ abbrev pub as_plain : Value → Result Value End
 as_plain (Number n) = Ok (Number n)
 as_plain (Reference i) = Err IntoRaw
 
--- nor where a record of this kind has plain numbers
+-- nor where a record of this kind has plain numbers; and nothing is stored in a cell
 abbrev pub may_hold : Kind → (x : ℕ) → Value → Result Value End
 may_hold Fields x v = Ok v
 may_hold Raw x v = as_plain v
 may_hold (Mixed count) x v = if nat_lt x count then Ok v else as_plain v
+may_hold Weak x v = Err WeakCell
 
 -- a value of the record with an identity is replaced, where the record is there and may hold it
 abbrev pub store_in : Heap → Identity → Option Record → ℕ → Value → Result Heap End
@@ -72,10 +83,10 @@ store_in heap i (Some r) x v = do
   v ← may_hold r.kind x v
   Ok (stored heap i r x v)
 
--- mutator m allocates a record of n values, all 0, and register d refers to it
-abbrev pub allocated : ℕ → Heap → Mutator → Kind → ℕ → ℕ → After
-allocated m heap k kind d n = record {
-  heap = gained heap m (zeros kind n);
+-- mutator m allocates a record of n values, each of them v, and register d refers to it
+abbrev pub allocated : ℕ → Heap → Mutator → Kind → (d n : ℕ) → (v : Value) → After
+allocated m heap k kind d n v = record {
+  heap = gained heap m (filled kind n v);
   mutator = went_on (set_register k d (Reference (record { mutator = m; serial = serial_of heap m + 1 })));
 }
 
@@ -87,7 +98,7 @@ performed m heap k (Sets d v) = Ok (loads heap k d v)
 performed m heap k (Jumps target) = Ok (record { heap = heap; mutator = jumped k target })
 performed m heap k (Links d target) = Ok (record { heap = heap; mutator = jumped (set_register k d (Number (next_of k))) target })
 performed m heap k (Prints n) = Ok (record { heap = heap; mutator = went_on (record k { printed = k.printed ++ n ∷ [] }) })
-performed m heap k (Makes kind d n) = Ok (allocated m heap k kind d n)
+performed m heap k (Makes kind d n v) = Ok (allocated m heap k kind d n v)
 performed m heap k (Measures d i) = Ok (loads heap k d (Number (length (values_of heap i))))
 performed m heap k (Loads d i x) = do
   v ← value_in heap i x

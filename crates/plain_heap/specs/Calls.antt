@@ -4,13 +4,14 @@ use Rattle.std.specs.Prelude.{◌≡◌, ◌≢◌, ℕ, List, length, Some, Non
 use Rattle.std.specs.Option.{option_map}
 use Rattle.plain_state.specs.declared.end.End.{End}
 use Rattle.plain_state.specs.declared.kind.Kind.{Kind}
+use Rattle.plain_state.specs.declared.value.Value.{Value}
 use Rattle.plain_state.specs.State.{Record, Heap, Mutator, Plain, serial_of}
 use Rattle.plain_state.specs.Writing.{took}
 use Rattle.mutator_asm.specs.declared.instr.Instr.{Instr}
 use Rattle.plain_heap.specs.declared.action.Action.{Action}
 use Rattle.plain_heap.specs.declared.action.Action.TheVariants.{Makes, Snaps}
 use Rattle.plain_heap.specs.Action.{action}
-use Rattle.plain_heap.specs.Call.{After, allocated, zeros, call}
+use Rattle.plain_heap.specs.Call.{After, allocated, filled, call}
 use Rattle.plain_heap.specs.Step.{fetch, settled, new_record, pages_of, asked_if}
 
 -- ---- the other mutators
@@ -28,16 +29,17 @@ CallKeepsCount = (s : Plain) (m : ℕ) (k : Mutator) (instr : Instr) → length 
 
 -- where the action of an instruction is to make a record, that record is allocated, and room is counted for it
 abbrev pub CallMakesNewRecord : Type 0
-CallMakesNewRecord = (m : ℕ) (heap : Heap) (k : Mutator) (instr : Instr) (kind : Kind) (d n : ℕ) → action k instr ≡ Ok (Makes kind d n)
-    → (call m heap k instr ≡ Ok (allocated m heap k kind d n)) × (new_record k instr ≡ Some (zeros kind n))
+CallMakesNewRecord = (m : ℕ) (heap : Heap) (k : Mutator) (instr : Instr) (kind : Kind) (d n : ℕ) (v : Value) → action k instr ≡ Ok (Makes kind d n v)
+    → (call m heap k instr ≡ Ok (allocated m heap k kind d n v)) × (new_record k instr ≡ Some (filled kind n v))
 
 -- the action is to make this record
 pub record IsMadeBy (act : Result Action End) (r : Record) : Type 0 where
   pub kind : Kind
   pub register : ℕ
   pub len : ℕ
-  pub makes : act ≡ Ok (Makes kind register len)
-  pub is : r ≡ zeros kind len
+  pub value : Value
+  pub makes : act ≡ Ok (Makes kind register len value)
+  pub is : r ≡ filled kind len value
 
 -- room is counted for no other
 abbrev pub NewRecordIsMade : Type 0

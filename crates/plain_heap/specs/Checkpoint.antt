@@ -2,7 +2,7 @@
 use Rattle.std.specs.Prelude.{◌≡◌, ◌⊎◌, ◌↔◌, ℕ, zero, suc, ◌<◌, true, List, [], ◌++◌, map, length, All, AllPairs, Contains, Option, Some, slice_get, slice_index_or, codes, decimal}
 use Rattle.std.specs.List.{flat_map}
 use Rattle.plain_state.specs.declared.kind.Kind.{Kind}
-use Rattle.plain_state.specs.declared.kind.Kind.TheVariants.{Fields, Raw, Mixed}
+use Rattle.plain_state.specs.declared.kind.Kind.TheVariants.{Fields, Raw, Mixed, Weak}
 use Rattle.plain_state.specs.declared.value.Identity.{Identity}
 use Rattle.plain_state.specs.declared.value.Value.{Value}
 use Rattle.plain_state.specs.declared.value.Value.TheVariants.{Number, Reference}
@@ -62,12 +62,20 @@ abbrev pub kind_text : Kind → List ℕ
 kind_text Fields = codes "fields"
 kind_text Raw = codes "raw"
 kind_text (Mixed count) = codes "mixed " ++ decimal count
+kind_text Weak = codes "weak"
+
+-- which values of a record of this kind are printed: of a cell none
+abbrev pub values_told : Kind → List Value → List Value
+values_told Fields values = values
+values_told Raw values = values
+values_told (Mixed count) values = values
+values_told Weak values = []
 
 -- a record: its identity, its kind, how many values it has, and these
 abbrev pub record_line : KeptRecord → List ℕ
 record_line r =
     identity_text r.identity ++ codes " " ++ kind_text r.content.kind ++ codes " " ++ decimal (length r.content.values)
-    ++ codes ":" ++ values_text r.content.values ++ codes "\n"
+    ++ codes ":" ++ values_text (values_told r.content.kind r.content.values) ++ codes "\n"
 
 abbrev pub board_line : List Value → List ℕ
 board_line board = codes "board" ++ values_text board ++ codes "\n"

@@ -9,7 +9,7 @@ use Rattle.mutator_asm.specs.declared.instr.Instr.{Instr}
 use Rattle.mutator_asm.specs.declared.instr.Instr.TheVariants.{Snap}
 use Rattle.plain_heap.specs.declared.mark.Mark.{Mark}
 use Rattle.plain_heap.specs.declared.mark.Mark.TheVariants.{Step}
-use Rattle.plain_heap.specs.Order.{marked, opening, plain}
+use Rattle.plain_heap.specs.Order.{Story, first_story, plain, story, story_marked}
 use Rattle.plain_heap.specs.Step.{fetch, mutator_in}
 
 -- ---- which marks execute `snap`
@@ -28,10 +28,10 @@ abbrev pub executes_snap : List (List Instr) → (turns : ℕ) → Plain → Mar
 executes_snap code turns p (Step m) = option_map_or (λ k. snaps_next code turns m k k.end) (mutator_in code p m) false
 executes_snap code turns p _ = false
 
--- how many marks of an order execute `snap`, if it is executed from this state on
-abbrev pub snaps_executed : List (List Instr) → (turns : ℕ) → Plain → List Mark → ℕ
-snaps_executed code turns p [] = 0
-snaps_executed code turns p (mark ∷ marks) = (if executes_snap code turns p mark then 1 else 0) + snaps_executed code turns (marked code turns p mark) marks
+-- how many marks of an order execute `snap`, if it is executed from this story on
+abbrev pub snaps_executed : List (List Instr) → (turns : ℕ) → Story → List Mark → ℕ
+snaps_executed code turns s [] = 0
+snaps_executed code turns s (mark ∷ marks) = (if executes_snap code turns s.now mark then 1 else 0) + snaps_executed code turns (story_marked code turns s mark) marks
 
 -- ---- the last one that began a checkpoint
 
@@ -51,14 +51,14 @@ pub record WasBegun (code : List (List Instr)) (turns : ℕ) (order : List Mark)
   pub rest : List Mark
   pub is : order ≡ before ++ Step m ∷ rest
   pub executes : executes_snap code turns (plain code turns before) (Step m) ≡ true
-  pub counted : snaps_executed code turns (opening code) before + 1 ≡ number
+  pub counted : snaps_executed code turns (first_story code) before + 1 ≡ number
   pub begins : BeginsBetween (plain code turns before).heap (plain code turns (before ++ Step m ∷ [])).heap number kept
-  pub last : number < MOST_CHECKPOINTS → snaps_executed code turns (plain code turns (before ++ Step m ∷ [])) rest ≡ 0
+  pub last : number < MOST_CHECKPOINTS → snaps_executed code turns (story code turns (before ++ Step m ∷ [])) rest ≡ 0
 
 -- no checkpoint was begun, and no mark of the order executes `snap`
 pub record NoneExecuted (code : List (List Instr)) (turns : ℕ) (order : List Mark) : Type 0 where
   pub number : (plain code turns order).heap.snaps ≡ 0
-  pub none : snaps_executed code turns (opening code) order ≡ 0
+  pub none : snaps_executed code turns (first_story code) order ≡ 0
 
 -- what the plain machine has kept after the order is its last checkpoint, if one was begun in it
 abbrev pub IsLastCheckpoint : List (List Instr) → (turns : ℕ) → List Mark → Type 0
@@ -71,4 +71,4 @@ OrdersKeepTheLastCheckpoint = (code : List (List Instr)) (turns : ℕ) (order : 
 -- as many are begun as marks execute `snap`, but no more than the most
 abbrev pub OrdersCountCheckpoints : Type 0
 OrdersCountCheckpoints = (code : List (List Instr)) (turns : ℕ) (order : List Mark)
-    → (plain code turns order).heap.snaps ≡ min (snaps_executed code turns (opening code) order) MOST_CHECKPOINTS
+    → (plain code turns order).heap.snaps ≡ min (snaps_executed code turns (first_story code) order) MOST_CHECKPOINTS

@@ -5,7 +5,11 @@ pub mod Step
 pub mod Calls
 pub mod Records
 pub mod Memory
+pub mod Reaching
+pub mod Emptied
 pub mod Order
+pub mod Tracing
+pub mod Search
 pub mod Print
 pub mod Checkpoint
 pub mod WorkedCheckpoint

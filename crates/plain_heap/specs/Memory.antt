@@ -11,7 +11,7 @@ use Rattle.plain_heap.specs.Step.{fetch}
 
 -- to make a record, to print a number or to begin a checkpoint takes memory
 abbrev pub takes_memory : Result Action End → Bool
-takes_memory (Ok (Makes kind d n)) = true
+takes_memory (Ok (Makes kind d n v)) = true
 takes_memory (Ok (Prints n)) = true
 takes_memory (Ok Snaps) = true
 takes_memory _ = false

@@ -9,7 +9,8 @@ use Rattle.plain_state.specs.declared.value.Value.TheVariants.{Number}
 use Rattle.plain_state.specs.State.{Mutator, Plain, none_snapped}
 use Rattle.mutator_asm.specs.declared.instr.Instr.{Instr}
 use Rattle.plain_heap.specs.declared.mark.Mark.{Mark}
-use Rattle.plain_heap.specs.declared.mark.Mark.TheVariants.{Step, Flip, Full}
+use Rattle.plain_heap.specs.declared.mark.Mark.TheVariants.{Step, Flip, Full, Traced}
+use Rattle.plain_heap.specs.Emptied.{emptied}
 use Rattle.plain_heap.specs.Step.{stepped, asked_by, ended}
 
 -- a mutator before its first instruction
@@ -28,57 +29,52 @@ abbrev pub is_asked : ℕ → Option ℕ → Bool
 is_asked asked None = false
 is_asked asked (Some pages) = pages == asked
 
--- What a mark does to the state. The end for want of room comes only where the next step asks for
--- just so many pages. Moving records changes nothing.
-unfoldable pub marked : List (List Instr) → ℕ → Plain → Mark → Plain
-marked code turns s (Step m) = stepped code turns s m
-marked code turns s (Flip asked) = s
-marked code turns s (Full m asked room live) =
+-- the end for want of room comes only where the next step of mutator m asks for just so many pages
+unfoldable pub ended_for_want : List (List Instr) → ℕ → Plain → (m asked room live : ℕ) → Plain
+ended_for_want code turns s m asked room live =
     if is_asked asked (asked_by code turns s m)
     then option_map_or (λ k. ended s m k (HeapFull asked room live)) (slice_get s.mutators m) s
     else s
 
--- the state after the marks of an order, one after another
-abbrev pub state_after : List (List Instr) → ℕ → Plain → List Mark → Plain
-state_after code turns s [] = s
-state_after code turns s (mark ∷ marks) = state_after code turns (marked code turns s mark) marks
-
--- the plain machine executing a program in an order, each mutator at most so many instructions
-abbrev pub plain : List (List Instr) → ℕ → List Mark → Plain
-plain code turns order = state_after code turns (opening code) order
-
--- ---- the state at the last flip
+-- ---- stories
 
 -- The plain state at the last flip, or the opening where there was none, and the present one.
 pub record Story : Type 0 where
   pub flip : Plain
   pub now : Plain
 
--- a flip keeps the present state as that of the last flip; any other mark changes the present one
+-- before the first mark
+abbrev pub first_story : List (List Instr) → Story
+first_story code = record { flip = opening code; now = opening code }
+
+-- What a mark does. A flip keeps the present state as that of the last flip; moving records changes nothing else. Tracing empties each cell
+-- whose target wasn't reachable then.
 abbrev pub story_marked : List (List Instr) → ℕ → Story → Mark → Story
-story_marked code turns s (Step m) = record { flip = s.flip; now = marked code turns s.now (Step m) }
+story_marked code turns s (Step m) = record { flip = s.flip; now = stepped code turns s.now m }
 story_marked code turns s (Flip asked) = record { flip = s.now; now = s.now }
-story_marked code turns s (Full m asked room live) = record { flip = s.flip; now = marked code turns s.now (Full m asked room live) }
+story_marked code turns s (Full m asked room live) = record { flip = s.flip; now = ended_for_want code turns s.now m asked room live }
+story_marked code turns s Traced = record { flip = s.flip; now = emptied s.flip s.now }
 
 -- the story after the marks of an order, one after another
 abbrev pub story_after : List (List Instr) → ℕ → Story → List Mark → Story
 story_after code turns s [] = s
 story_after code turns s (mark ∷ marks) = story_after code turns (story_marked code turns s mark) marks
 
--- the story of a program that is run by an order
+-- the story of a program that is run by an order, each mutator executing at most so many instructions
 abbrev pub story : List (List Instr) → ℕ → List Mark → Story
-story code turns order = story_after code turns (record { flip = opening code; now = opening code }) order
+story code turns order = story_after code turns (first_story code) order
+
+-- the state to which the plain machine comes that executes a program in an order
+abbrev pub plain : List (List Instr) → ℕ → List Mark → Plain
+plain code turns order = (story code turns order).now
 
 abbrev pub is_flip : Mark → Bool
 is_flip (Step m) = false
 is_flip (Flip asked) = true
 is_flip (Full m asked room live) = false
+is_flip Traced = false
 
--- the present state of a story is what the plain machine comes to
-abbrev pub StoryIsPlain : Type 0
-StoryIsPlain = (code : List (List Instr)) (turns : ℕ) (order : List Mark) → (story code turns order).now ≡ plain code turns order
-
--- where no spaces were flipped the other is the opening
+-- where no spaces were flipped the state at the last flip is the opening
 abbrev pub StoryHasOpening : Type 0
 StoryHasOpening = (code : List (List Instr)) (turns : ℕ) (order : List Mark) → list_any is_flip order ≡ false → (story code turns order).flip ≡ opening code
 
@@ -94,6 +90,6 @@ abbrev pub end_of : Plain → ℕ → Option (Option End)
 end_of s m = option_map (λ k. k.end) (slice_get s.mutators m)
 
 -- each mark of an order is so on the state that the marks before it leave
-abbrev pub EachMark : (Plain → Mark → Type 0) → List (List Instr) → ℕ → Plain → List Mark → Type 0
+abbrev pub EachMark : (Plain → Mark → Type 0) → List (List Instr) → ℕ → Story → List Mark → Type 0
 EachMark IsSo code turns s [] = ⊤
-EachMark IsSo code turns s (mark ∷ marks) = IsSo s mark × EachMark IsSo code turns (marked code turns s mark) marks
+EachMark IsSo code turns s (mark ∷ marks) = IsSo s.now mark × EachMark IsSo code turns (story_marked code turns s mark) marks

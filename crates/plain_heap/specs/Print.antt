@@ -5,7 +5,7 @@ use Rattle.plain_state.specs.declared.end.End.{End}
 use Rattle.plain_state.specs.End.{text_of}
 use Rattle.plain_state.specs.State.{Mutator, Plain}
 use Rattle.plain_heap.specs.declared.mark.Mark.{Mark}
-use Rattle.plain_heap.specs.declared.mark.Mark.TheVariants.{Step, Flip, Full}
+use Rattle.plain_heap.specs.declared.mark.Mark.TheVariants.{Step, Flip, Full, Traced}
 
 -- a line of mutator m
 abbrev pub printed_line : ℕ → List ℕ → List ℕ
@@ -46,6 +46,7 @@ mark_text (Step m) = decimal m
 mark_text (Flip asked) = codes "F" ++ decimal asked
 mark_text (Full m asked room live) =
     codes "X" ++ decimal m ++ codes "," ++ decimal asked ++ codes "," ++ decimal room ++ codes "," ++ decimal live
+mark_text Traced = codes "T"
 
 abbrev pub order_line : List Mark → List ℕ
 order_line marks = codes "order" ++ flat_map (λ mark. codes " " ++ mark_text mark) marks ++ codes "\n"

@@ -1,6 +1,6 @@
 -- What an instruction does to the records that are there: it changes a word only by storing in it, and no record's kind or length.
-use Rattle.std.specs.Prelude.{◌≡◌, ℕ, Bool, false, ◌==◌, ◌&&◌, length, Option, Some, Result, Ok, if◌then◌else◌, slice_index_or}
-use Rattle.std.specs.Option.{option_map}
+use Rattle.std.specs.Prelude.{◌≡◌, ℕ, Bool, true, false, ◌==◌, ◌&&◌, length, [], Option, Some, Result, Ok, if◌then◌else◌, slice_index_or}
+use Rattle.std.specs.Option.{option_map, option_map_or}
 use Rattle.plain_state.specs.declared.end.End.{End}
 use Rattle.plain_state.specs.declared.kind.Kind.{Kind}
 use Rattle.plain_state.specs.declared.value.Identity.{Identity}
@@ -12,13 +12,13 @@ use Rattle.mutator_asm.specs.declared.instr.Instr.{Instr}
 use Rattle.plain_heap.specs.declared.action.Action.{Action}
 use Rattle.plain_heap.specs.declared.action.Action.TheVariants.{Loads, Stores, Exchanges}
 use Rattle.plain_heap.specs.Action.{action, are_same}
-use Rattle.plain_heap.specs.Call.{After, values_of, set_register, went_on, loads, call}
+use Rattle.plain_heap.specs.Call.{After, is_cell, words_in, set_register, went_on, loads, call}
 
 -- ---- words
 
--- the word of a record at this index; if there is none, the number 0, with which it begins
+-- The word of a record at this index, if there is one that is loaded and stored; else the number 0. Such a word begins with it.
 abbrev pub record_word : Heap → Identity → (index : ℕ) → Value
-record_word heap identity index = slice_index_or (values_of heap identity) index (Number 0)
+record_word heap identity index = slice_index_or (option_map_or words_in (record_of heap identity) []) index (Number 0)
 
 -- whether that is word `at` of this target
 abbrev pub is_word : (target : Identity) → (at : ℕ) → Identity → (index : ℕ) → Bool
@@ -69,6 +69,11 @@ shape r = record { kind = r.kind; len = length r.values }
 -- that of a record, if it is there
 abbrev pub shape_of : Heap → Identity → Option RecordShape
 shape_of heap identity = option_map shape (record_of heap identity)
+
+-- no instruction changes a cell
+abbrev pub CellsStay : Type 0
+CellsStay = (number : ℕ) (heap : Heap) (mutator : Mutator) (instr : Instr) (after : After) (identity : Identity) (cell : Record) → call number heap mutator instr ≡ Ok after
+    → is_cell cell.kind ≡ true → record_of heap identity ≡ Some cell → record_of after.heap identity ≡ Some cell
 
 -- an instruction leaves each record there, with its kind and its length
 abbrev pub ShapesStay : Type 0

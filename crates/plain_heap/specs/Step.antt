@@ -12,7 +12,7 @@ use Rattle.mutator_asm.specs.Program.{instr_at}
 use Rattle.plain_heap.specs.declared.action.Action.{Action}
 use Rattle.plain_heap.specs.declared.action.Action.TheVariants.{Makes}
 use Rattle.plain_heap.specs.Action.{◌>>=◌, action}
-use Rattle.plain_heap.specs.Call.{After, call, zeros}
+use Rattle.plain_heap.specs.Call.{After, call, filled}
 
 -- the instruction that a mutator executes next, or the end that stands in its place
 abbrev pub fetch : List (List Instr) → ℕ → ℕ → Mutator → Result Instr End
@@ -54,7 +54,7 @@ stepped code turns s m = stepped_as code turns s m (mutator_in code s m)
 
 -- the record that an action makes
 abbrev pub record_made : Result Action End → Option Record
-record_made (Ok (Makes kind d n)) = Some (zeros kind n)
+record_made (Ok (Makes kind d n v)) = Some (filled kind n v)
 record_made _ = None
 
 -- the record that an instruction would allocate

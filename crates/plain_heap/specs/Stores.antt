@@ -11,10 +11,10 @@ use Rattle.mutator_asm.specs.declared.instr.Instr.{Instr}
 use Rattle.plain_heap.specs.declared.action.Action.{Action}
 use Rattle.plain_heap.specs.declared.action.Action.TheVariants.{Loads, Exchanges}
 use Rattle.plain_heap.specs.declared.mark.Mark.{Mark}
-use Rattle.plain_heap.specs.declared.mark.Mark.TheVariants.{Step, Flip, Full}
+use Rattle.plain_heap.specs.declared.mark.Mark.TheVariants.{Step, Flip, Full, Traced}
 use Rattle.plain_heap.specs.Action.{◌>>=◌, action}
 use Rattle.plain_heap.specs.Call.{set_register, went_on, call}
-use Rattle.plain_heap.specs.Order.{opening, marked, plain}
+use Rattle.plain_heap.specs.Order.{Story, first_story, plain, story_marked}
 use Rattle.plain_heap.specs.Records.{record_word, success, word_after}
 use Rattle.plain_heap.specs.Step.{fetch, mutator_in}
 
@@ -33,6 +33,7 @@ abbrev pub mark_does : List (List Instr) → ℕ → Plain → Mark → Option A
 mark_does code turns s (Step m) = option_and_then (λ k. turn_does code turns m s.heap k k.end) (mutator_in code s m)
 mark_does code turns s (Flip asked) = None
 mark_does code turns s (Full m asked room live) = None
+mark_does code turns s Traced = None
 
 -- a step of mutator m, which is this, does that
 pub record StepDoes (code : List (List Instr)) (turns : ℕ) (s : Plain) (m : ℕ) (own : Mutator) (act : Action) : Type 0 where
@@ -46,14 +47,14 @@ abbrev pub word_after_mark : List (List Instr) → ℕ → Plain → Mark → Id
 word_after_mark code turns s mark identity index now = option_map_or (λ act. word_after (Ok act) identity index now) (mark_does code turns s mark) now
 
 -- what the last store of these marks in that word wrote there; if there is none, what stood there first
-abbrev pub last_in_order : List (List Instr) → ℕ → Plain → List Mark → Identity → (index : ℕ) → (first : Value) → Value
+abbrev pub last_in_order : List (List Instr) → ℕ → Story → List Mark → Identity → (index : ℕ) → (first : Value) → Value
 last_in_order code turns s [] identity index first = first
 last_in_order code turns s (mark ∷ marks) identity index first =
-    last_in_order code turns (marked code turns s mark) marks identity index (word_after_mark code turns s mark identity index first)
+    last_in_order code turns (story_marked code turns s mark) marks identity index (word_after_mark code turns s.now mark identity index first)
 
 -- what the last store of an order in that word wrote there; if there is none, the number 0
 abbrev pub last_store : List (List Instr) → ℕ → List Mark → Identity → (index : ℕ) → Value
-last_store code turns order identity index = last_in_order code turns (opening code) order identity index (Number 0)
+last_store code turns order identity index = last_in_order code turns (first_story code) order identity index (Number 0)
 
 -- after an order each word of each record is what was stored last in it
 abbrev pub OrdersStoreWords : Type 0

@@ -14,8 +14,8 @@ pub enum Action {
     Links(u8, u64),
     /// It prints a number.
     Prints(u64),
-    /// A register refers to a new record of this kind with so many words.
-    Makes(Kind, u8, u16),
+    /// A register refers to a new record of this kind with so many words, each of them this value.
+    Makes(Kind, u8, u16, Value),
     /// A register takes the length of a record.
     Measures(u8, Identity),
     /// A register takes a word of a record.

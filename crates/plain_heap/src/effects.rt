@@ -38,8 +38,8 @@ pub fn perform(
             mutator.print(number)?;
             mutator.go_on();
         }
-        Action::Makes(kind, d, len) => {
-            let identity = heap.allocate(alloc, m, kind, usize::from(len))?;
+        Action::Makes(kind, d, len, value) => {
+            let identity = heap.allocate(alloc, m, kind, usize::from(len), value)?;
             mutator.load(d, Value::Reference(identity));
         }
         Action::Measures(d, i) => mutator.load(d, Value::Number(heap.len(i) as u64)),

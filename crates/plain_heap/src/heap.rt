@@ -1,6 +1,7 @@
 //! The plain heap, which never moves or frees a record.
 
 pub mod checkpoint;
+pub mod marks;
 pub mod record;
 pub mod record_list;
 
@@ -8,6 +9,7 @@ ghost use Rattle.std.specs.Prelude.{◌≡◌, ◌<◌, ◌+◌, [], length, IfO
 ghost use Rattle.plain_state.specs.declared.value.Value.TheVariants.{Number};
 
 use crate::heap::checkpoint::PlainCheckpoint;
+use crate::heap::marks::Marks;
 use crate::heap::record::PlainRecord;
 use crate::heap::record_list::RecordList;
 use plain_state::{BOARD_WORDS, End, Identity, Kind, MOST_CHECKPOINTS, NoMemory, Value};
@@ -42,9 +44,15 @@ impl Model for PlainHeap {
 }
 
 impl PlainHeap {
+    ghost use Rattle.std.specs.Prelude.{false, fold};
+    ghost use Rattle.std.specs.List.{list_any};
+    ghost use Rattle.std.specs.Option.{option_map_or};
+    ghost use Rattle.plain_state.specs.Cells.{is_cell};
     ghost use Rattle.plain_state.specs.State.{none_snapped, record_of, serial_of};
     ghost use Rattle.plain_state.specs.Writing.{stored, with_board, gained, took};
-    ghost use Rattle.plain_heap.specs.Call.{values_of, value_in, board_word, store_in, zeros};
+    ghost use Rattle.plain_heap.specs.Emptied.{emptied_cell};
+    ghost use Rattle.plain_heap.specs.Search.{lost_cells};
+    ghost use Rattle.plain_heap.specs.Call.{values_of, value_in, board_word, store_in, filled};
 
     /// The heap of so many mutators, none of which has allocated a record.
     pub fn new(alloc: Global, mutators: usize) -> Result<PlainHeap, NoMemory>
@@ -67,19 +75,38 @@ impl PlainHeap {
         })
     }
 
-    fn record(&self, i: Identity) -> Option<&PlainRecord>
+    /// The records of each mutator.
+    pub fn records(&self) -> &[RecordList]
+        ensures { result.now ≡ self.now.records }
+    {
+        self.records.as_slice()
+    }
+
+    /// The words of the board.
+    pub fn board(&self) -> &[Value]
+        ensures { result.now ≡ self.now.board }
+    {
+        &self.board
+    }
+
+    /// The record with an identity, if it is there.
+    pub fn record(&self, i: Identity) -> Option<&PlainRecord>
         ensures { option_copied result ≡ record_of self.now i }
     {
         let records = self.records.get(i.mutator as usize)?;
         records.get(i.serial)
     }
 
-    /// A word of a record, else the end for a word that isn't there.
+    /// A word of a record, else the end for a word that isn't there, or is a cell's.
     pub fn word(&self, i: Identity, x: u64) -> Result<Value, End>
         ensures { result ≡ value_in self.now i x }
     {
-        let word = self.record(i).and_then(|r| r.word(x));
-        word.ok_or(End::OutOfRange)
+        let record = self.record(i).ok_or(End::OutOfRange)?;
+        let word = record.word(x).ok_or(End::OutOfRange)?;
+        if record.is_cell() {
+            return Err(End::WeakCell);
+        }
+        Ok(word)
     }
 
     /// The length of a record.
@@ -115,6 +142,50 @@ impl PlainHeap {
         if let Some(records) = self.records.get_mut(i.mutator as usize) {
             records.set_word(i.serial, x, value);
         }
+    }
+
+    /// Whether a record is a cell.
+    fn is_cell(&self, i: Identity) -> bool
+        ensures { result ≡ option_map_or (λ r. is_cell r.kind) (record_of self.now i) false }
+    {
+        self.record(i).is_some_and(|r| r.is_cell())
+    }
+
+    /// Empties a cell. If the record is none, nothing changes.
+    fn empty(&mut self, i: Identity)
+        ensures { self.new ≡ emptied_cell self.old i }
+    {
+        if self.is_cell(i) {
+            self.set_word(i, 0, Value::Number(0));
+        }
+    }
+
+    /// Empties these cells.
+    pub fn empty_all(&mut self, cells: &[Identity])
+        ensures { self.new ≡ fold emptied_cell self.old cells.now }
+    {
+        for cell in cells {
+            self.empty(*cell);
+        }
+    }
+
+    /// Whether there is a cell.
+    pub fn has_cells(&self) -> bool
+        ensures { result ≡ list_any (list_any (λ r. is_cell r.kind)) self.now.records }
+    {
+        self.records.iter().any(|list| list.has_cells())
+    }
+
+    /// The cells that refer to a record whose mark isn't set.
+    pub fn lost_cells(&self, alloc: Global, marks: &Marks) -> Result<Vec<Identity>, NoMemory>
+        requires few { length self.now.records < 256 }
+        ensures { IfOk result (λ cells. cells.items ≡ lost_cells marks.now self.now) }
+    {
+        let mut cells = Vec::new(alloc);
+        for (m, list) in self.records().iter().enumerate() {
+            list.push_lost(m as u8, marks, &mut cells)?;
+        }
+        Ok(cells)
     }
 
     /// Whether a record may hold a value in a word, else the end for a value that it may not.
@@ -155,22 +226,23 @@ impl PlainHeap {
         Ok(())
     }
 
-    /// Allocates a record for a mutator, each of its words the number 0.
+    /// Allocates a record for a mutator, each of its words this value.
     pub fn allocate(
         &mut self,
         alloc: Global,
         m: u8,
         kind: Kind,
         len: usize,
+        value: Value,
     ) -> Result<Identity, NoMemory>
         requires { m < length self.old.records }
         ensures identity { IfOk result (λ i.
             i ≡ record { mutator = m; serial = serial_of self.old m + 1 }) }
-        ensures gained { OnOk result (self.new ≡ gained self.old m (zeros kind len)) }
+        ensures gained { OnOk result (self.new ≡ gained self.old m (filled kind len value)) }
         ensures unchanged { OnErr result (self.new ≡ self.old) }
     {
         let records = &mut self.records[m as usize];
-        records.push(PlainRecord::new(alloc, kind, len)?)?;
+        records.push(PlainRecord::new(alloc, kind, len, value)?)?;
         Ok(Identity {
             mutator: m,
             serial: records.len() as u64,

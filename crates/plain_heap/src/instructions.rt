@@ -16,7 +16,7 @@ use crate::effects::perform;
 use crate::heap::PlainHeap;
 use crate::instructions::numbers::{compute, jump_to, print};
 use crate::instructions::places::{
-    allocate, allocate_mixed, exchange, get, load, measure, put, store, swap,
+    allocate, allocate_mixed, exchange, get, load, make_cell, measure, put, store, swap,
 };
 use crate::instructions::values::{are_same, is_reference, target_if_zero};
 use crate::mutator::PlainMutator;
@@ -47,6 +47,7 @@ pub fn action_of(mutator: &PlainMutator, instr: Instr) -> Result<Action, End>
         Instr::New(d, x) => allocate(mutator, Kind::Fields, d, x),
         Instr::Raw(d, x) => allocate(mutator, Kind::Raw, d, x),
         Instr::Mix(d, fields, raw) => allocate_mixed(mutator, d, fields, raw),
+        Instr::Weak(d, a) => make_cell(mutator, d, a),
         Instr::Ld(d, a, x) => load(mutator, d, a, x),
         Instr::St(a, x, b) => store(mutator, a, x, b),
         Instr::Cas(d, a, x, b, c) => exchange(mutator, d, a, x, b, c),

@@ -4,13 +4,16 @@ ghost use Rattle.plain_heap.specs.Calls.{CallLeavesOthers, CallKeepsCount, CallM
 ghost use Rattle.plain_heap.specs.Checkpoint.{OneCheckpoint, OneText, SameIsPrinted, SameIsReached};
 ghost use Rattle.plain_heap.specs.LastCheckpoint.{OrdersCountCheckpoints, OrdersKeepTheLastCheckpoint};
 ghost use Rattle.plain_heap.specs.Consistent.{OpensConsistent, MarksKeepConsistent, RunsStayConsistent};
-ghost use Rattle.plain_heap.specs.Records.{ExchangesFindTheWord, LoadsTakeTheWord, OnlyStoresChangeWords, ShapesStay};
-ghost use Rattle.plain_heap.specs.Order.{StoryIsPlain, StoryHasOpening, StoryHasLastFlip};
+ghost use Rattle.plain_heap.specs.Records.{CellsStay, ExchangesFindTheWord, LoadsTakeTheWord, OnlyStoresChangeWords, ShapesStay};
+ghost use Rattle.plain_heap.specs.Emptied.{EmptiedOfLostCells};
+ghost use Rattle.plain_heap.specs.Reaching.{ReachesIsReachable};
+ghost use Rattle.plain_heap.specs.Tracing.{TracingIsDoneOnce, TracingNeedsCells, TracingNeedsFlip};
+ghost use Rattle.plain_heap.specs.Order.{StoryHasOpening, StoryHasLastFlip};
 ghost use Rattle.plain_heap.specs.Stores.{OrdersStoreWords, StepsCompareTheLastStore, StepsLoadTheLastStore};
 ghost use Rattle.plain_heap.specs.Alone.{AlwaysTheSame, EndsAlone};
 ghost use Rattle.plain_heap.specs.WorkedCheckpoint.{ArePrinted};
 
-/// In a program without `get`, `put` and `swap`, whatever the order, each mutator has printed the
+/// In a program without `get`, `put`, `swap` and `weak`, whatever the order, each mutator has printed the
 /// first of the numbers that it prints alone, and all of them where it has its end and that isn't
 /// for want of room.
 pub fn alone_mutators_are_independent()
@@ -21,7 +24,6 @@ pub fn alone_mutators_are_independent()
 /// A story of a run has beside the state that the run comes to the one in which its last flip came,
 /// or the opening where none came.
 pub fn stories_keep_the_last_flip()
-    ensures now { StoryIsPlain }
     ensures no_flip { StoryHasOpening }
     ensures last_flip { StoryHasLastFlip }
 {}
@@ -71,9 +73,24 @@ pub fn steps_find_the_last_store()
     ensures words { OrdersStoreWords }
 {}
 
-/// An instruction leaves each record there, with its kind and its length.
+/// An instruction leaves each record there, with its kind and its length, and each cell as it is.
 pub fn shapes_stay()
-    ensures { ShapesStay }
+    ensures shapes { ShapesStay }
+    ensures cells { CellsStay }
+{}
+
+/// A function tells which records are reachable.
+pub fn reaching_is_reachable()
+    ensures { ReachesIsReachable }
+{}
+
+/// A mark `Traced` empties the cells whose targets weren't reachable at the last flip, and changes nothing else. Before the first
+/// flip it changes nothing, nor does a second one after the same flip, nor any in a program without `weak`.
+pub fn tracing_empties_cells()
+    ensures emptied { EmptiedOfLostCells }
+    ensures no_flip { TracingNeedsFlip }
+    ensures once { TracingIsDoneOnce }
+    ensures no_cells { TracingNeedsCells }
 {}
 
 /// An instruction whose action it is to begin a checkpoint changes nothing else of the heap. Any other leaves

@@ -11,6 +11,7 @@ mod mark;
 mod mutator;
 mod order;
 mod printing;
+mod search;
 mod state;
 mod step;
 mod stop;
@@ -20,11 +21,11 @@ pub use laws::{
     alone_mutators_are_independent, call_leaves_the_others, call_makes_the_new_record,
     checkpoints_have_one_text, only_reached_records_are_printed, only_snap_begins_checkpoints,
     only_stores_change_words, orders_keep_the_last_checkpoint, reached_states_are_consistent,
-    shapes_stay, steps_find_the_last_store, stories_keep_the_last_flip,
-    worked_checkpoints_are_printed,
+    reaching_is_reachable, shapes_stay, steps_find_the_last_store, stories_keep_the_last_flip,
+    tracing_empties_cells, worked_checkpoints_are_printed,
 };
 pub use mark::Mark;
-pub use order::plain_run;
+pub use order::{has_weak, plain_run};
 pub use plain_state::{End, NoMemory};
 pub use printing::{print, push_lines, push_order};
 pub use state::{PlainState, plain_step};

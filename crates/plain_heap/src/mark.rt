@@ -17,6 +17,8 @@ pub enum Mark {
         room: u32,
         live: u32,
     },
+    /// All is copied that was reachable at the last flip.
+    Traced,
 }
 
 impl fmt::Display for Mark {
@@ -35,6 +37,7 @@ impl fmt::Display for Mark {
                 room,
                 live,
             } => write!(f, "X{m},{asked},{room},{live}"),
+            Mark::Traced => f.write_str("T"),
         }
     }
 }

@@ -59,6 +59,12 @@ impl PlainMutator {
         self.counter
     }
 
+    pub fn registers(&self) -> &[Value]
+        ensures { result.now ≡ self.now.registers }
+    {
+        &self.registers
+    }
+
     pub fn printed(&self) -> &[u64]
         ensures { result.now ≡ self.now.printed }
     {

@@ -1,17 +1,21 @@
 //! The state of the plain machine, and its step.
 
-ghost use Rattle.std.specs.Prelude.{◌≡◌, ◌<◌, length, Some, IfOk, OnOk, OnErr, option_map, replicate, slice_get};
+ghost use Rattle.std.specs.Prelude.{◌≡◌, ◌<◌, fold, length, Some, IfOk, OnOk, OnErr, option_map, replicate, slice_get};
 ghost use Rattle.std.specs.Option.{option_map_or};
+ghost use Rattle.plain_state.specs.Consistent.{IsConsistent};
+ghost use Rattle.plain_state.specs.Writing.{with_heap};
+ghost use Rattle.plain_heap.specs.Emptied.{cells_to_empty, emptied_cell};
 ghost use Rattle.plain_heap.specs.Order.{fresh, opening};
 ghost use Rattle.plain_heap.specs.Memory.{StepTakesMemory};
 ghost use Rattle.plain_heap.specs.Step.{stepped, asked_by, ended};
 
 use crate::heap::PlainHeap;
 use crate::mutator::PlainMutator;
+use crate::search::mark_reachable;
 use crate::step::{asked, take_turn};
 use crate::stop::Stop;
 use mutator_asm::{Code, Program};
-use plain_state::{End, NoMemory};
+use plain_state::{End, Identity, NoMemory};
 use std::alloc::Global;
 use std::marker::Model;
 
@@ -76,6 +80,26 @@ impl PlainState {
         ensures { option_map (λ k. k.end) (slice_get self.now.mutators m) ≡ Some result }
     {
         self.mutators[m as usize].end()
+    }
+
+    /// The cells that refer to what isn't reachable. If there are no cells, no memory is taken.
+    pub(crate) fn cells_to_empty(&self, alloc: Global) -> Result<Vec<Identity>, NoMemory>
+        requires consistent { IsConsistent self.now }
+        requires few { length self.now.mutators < 256 }
+        ensures { IfOk result (λ cells. cells.items ≡ cells_to_empty self.now) }
+    {
+        if !self.heap.has_cells() {
+            return Ok(Vec::new(alloc));
+        }
+        let marks = mark_reachable(alloc, &self.heap, self.mutators.as_slice())?;
+        self.heap.lost_cells(alloc, &marks)
+    }
+
+    /// Empties these cells.
+    pub(crate) fn empty(&mut self, cells: &[Identity])
+        ensures { self.new ≡ with_heap self.old (fold emptied_cell self.old.heap cells.now) }
+    {
+        self.heap.empty_all(cells);
     }
 
     /// The mutators by their numbers.

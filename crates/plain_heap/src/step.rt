@@ -1,7 +1,7 @@
 //! What a mutator does next.
 
-ghost use Rattle.std.specs.Prelude.{◌≡◌, ◌<◌, ◌≤◌, ◌^◌, length, Ok, Err, IfErr, IfSome, OnOk, OnErr, option_map};
-ghost use Rattle.plain_state.specs.Layout.{size_of, values_at};
+ghost use Rattle.std.specs.Prelude.{◌≡◌, ◌<◌, ◌≤◌, ◌^◌, ◌+◌, length, Ok, Err, IfErr, IfSome, OnOk, OnErr, option_map};
+ghost use Rattle.plain_state.specs.Layout.{size_of, values_at, words_behind};
 ghost use Rattle.plain_heap.specs.declared.stop.Stop.TheVariants.{OutOfMemory};
 ghost use Rattle.plain_heap.specs.Memory.{TurnTakesMemory};
 ghost use Rattle.plain_heap.specs.Outcome.{Leaves, StopsBy};
@@ -54,19 +54,19 @@ fn size_allocated(mutator: &PlainMutator, instr: Instr) -> Option<usize>
     ensures short { IfSome result (λ size. size ≤ 2 ^ 17) }
 {
     match action_of(mutator, instr) {
-        Ok(Action::Makes(kind, _, len)) => Some(usize::from(len) + values_at(kind)),
+        Ok(Action::Makes(kind, _, len, _)) => Some(usize::from(len) + words_beside(kind)),
         _ => None,
     }
 }
 
-/// The words of a record of this kind before its values.
-fn values_at(kind: Kind) -> usize
-    ensures word { result ≡ values_at kind }
+/// The words of a record of this kind before and behind its values.
+fn words_beside(kind: Kind) -> usize
+    ensures exact { result ≡ values_at kind + words_behind kind }
     ensures few { result ≤ 2 }
 {
     match kind {
         Kind::Fields | Kind::Raw => 1,
-        Kind::Mixed(_) => 2,
+        Kind::Mixed(_) | Kind::Weak => 2,
     }
 }
 

@@ -1,7 +1,7 @@
 -- The text of an end.
 use Rattle.std.specs.Prelude.{ℕ, List, ◌++◌, codes, decimal}
 use Rattle.plain_state.specs.declared.end.End.{End}
-use Rattle.plain_state.specs.declared.end.End.TheVariants.{Halt, NotPointer, NotNumber, OutOfRange, IntoRaw, ZeroDivisor, JumpOut, TurnsOut, OutputFull, HeapFull}
+use Rattle.plain_state.specs.declared.end.End.TheVariants.{Halt, NotPointer, NotNumber, OutOfRange, WeakCell, IntoRaw, ZeroDivisor, JumpOut, TurnsOut, OutputFull, HeapFull}
 
 -- what is printed for an end, without the line end
 abbrev pub text_of : End → List ℕ
@@ -9,6 +9,7 @@ text_of Halt = codes "halt"
 text_of NotPointer = codes "not a pointer"
 text_of NotNumber = codes "not a number"
 text_of OutOfRange = codes "out of range"
+text_of WeakCell = codes "weak cell"
 text_of IntoRaw = codes "pointer into raw"
 text_of ZeroDivisor = codes "zero divisor"
 text_of JumpOut = codes "jump out"

@@ -4,3 +4,5 @@ pub mod Operation
 pub mod Layout
 pub mod Writing
 pub mod Consistent
+pub mod Cells
+pub mod Reachable

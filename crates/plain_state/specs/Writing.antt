@@ -24,9 +24,13 @@ stored heap i r x v = with_records heap i.mutator (slice_set (made_by heap i.mut
 abbrev pub with_board : Heap → ℕ → Value → Heap
 with_board heap x v = record heap { board = slice_set heap.board x v }
 
--- a record of this kind with n values, each the number 0
+-- a record of this kind with n values, each of them this
+abbrev pub filled : Kind → ℕ → Value → Record
+filled kind n v = record { kind = kind; values = replicate n v }
+
+-- each the number 0
 abbrev pub zeros : Kind → ℕ → Record
-zeros kind n = record { kind = kind; values = replicate n (Number 0) }
+zeros kind n = filled kind n (Number 0)
 
 -- mutator m has one more record
 abbrev pub gained : Heap → ℕ → Record → Heap

@@ -17,6 +17,8 @@ pub enum End {
     /// A length over 4095, or over 4094 of a mixed record, an index past a record's length, or a board
     /// word past 15.
     OutOfRange,
+    /// A word of a weak cell was loaded, stored or exchanged.
+    WeakCell,
     /// A reference was to be stored in a raw record, or behind the fields of a mixed one.
     IntoRaw,
     /// A division by 0.
@@ -41,6 +43,7 @@ impl fmt::Display for End {
             End::NotPointer => f.write_str("not a pointer"),
             End::NotNumber => f.write_str("not a number"),
             End::OutOfRange => f.write_str("out of range"),
+            End::WeakCell => f.write_str("weak cell"),
             End::IntoRaw => f.write_str("pointer into raw"),
             End::ZeroDivisor => f.write_str("zero divisor"),
             End::JumpOut => f.write_str("jump out"),

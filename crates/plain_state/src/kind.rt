@@ -9,4 +9,6 @@ pub enum Kind {
     Raw,
     /// So many words are each a number or a reference, and those behind them are numbers.
     Mixed(u16),
+    /// One word, a reference that keeps nothing alive, or the number 0 once what it led to was lost.
+    Weak,
 }

@@ -8,7 +8,7 @@ use Rattle.heap_words.specs.declared.tag.Tag.TheVariants.{Header, Forward}
 use Rattle.heap_words.specs.Word.{tag_of, tag_spelled, kind_code, header_word, forward_word, busy_word}
 use Rattle.heap_words.specs.Decoded.{kind_spelled}
 use Rattle.heap_words.proofs.Tags.{tag_bits, tag_bits-tag_of}
-use Rattle.heap_words.proofs.KindCodes.{kind_code-spelled, kind_spelled-kind_code, kind_code-lt}
+use Rattle.heap_words.proofs.KindCodes.{kind_code-kind_spelled}
 
 -- ---- a part, read as a narrower number
 
@@ -22,20 +22,14 @@ too_wide (Err e) bound v wide is = grind arith
 
 -- ---- headers
 
-pub header_word-parts : (w : ℕ) (kind : Kind) → tag_of w ≡ Header → Some kind ≡ kind_spelled (bit_and (w / 4) 3)
+pub header_word-parts : (w : ℕ) (kind : Kind) → tag_of w ≡ Header → kind ≡ kind_spelled (bit_and (w / 4) 3)
     → w ≡ header_word kind (bit_and (w / 16) 4095) (bit_and (w / 65536) 1099511627775) (w / 72057594037927936)
 unfolding header_word
 header_word-parts w kind tag spelled =
     let tag_is : 2 ≡ w % 4 = sym (ap tag_bits tag) ∙ tag_bits-tag_of w in
-    let kind_is = kind_code-spelled (bit_and (w / 4) 3) kind spelled in
+    let code : kind_code kind ≡ bit_and (w / 4) 3 =
+    rw spelled (kind_code-kind_spelled (bit_and (w / 4) 3) (omega (arith, and_mask (w / 4) 2))) in
     omega (arith, and_mask (w / 4) 2, and_mask (w / 16) 12, and_mask (w / 65536) 40)
-
-pub header_word-kind : (w : ℕ) (kind : Kind) (len serial mutator : ℕ) → w ≡ header_word kind len serial mutator
-    → kind_spelled (bit_and (w / 4) 3) ≡ Some kind
-unfolding header_word
-header_word-kind w kind len serial mutator is =
-    let code : bit_and (w / 4) 3 ≡ kind_code kind = omega (arith, and_mask (w / 4) 2, kind_code-lt kind) in
-    ap kind_spelled code ∙ kind_spelled-kind_code kind
 
 -- ---- forwards and busy words: the lowest four bits
 

@@ -57,5 +57,6 @@ fn kind_bits(kind: Kind) -> u64
         Kind::Fields => 0,
         Kind::Raw => 1,
         Kind::Mixed => 2,
+        Kind::Weak => 3,
     }
 }

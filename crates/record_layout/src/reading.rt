@@ -1,4 +1,4 @@
-ghost use Rattle.std.specs.Prelude.{◌≡◌, ℕ, ◌^◌, ◌<◌, ◌↔◌, ◌⊎◌, IsSome, IfSome};
+ghost use Rattle.std.specs.Prelude.{◌≡◌, ℕ, ◌^◌, ◌<◌, ◌↔◌, IsSome, IfSome};
 ghost use Rattle.std.specs.Int.{bit_at};
 ghost use Rattle.heap_words.specs.Word.{tag_of};
 ghost use Rattle.heap_words.specs.Decoded.{decode, encode, kind_spelled};
@@ -17,12 +17,12 @@ use heap_words::{Kind, Tag, Word};
 #[inline(always)]
 pub fn read(w: u64) -> Option<Header>
     ensures decoded { result ≡ header_in (decode w) }
-    ensures only_headers { IsSome result ↔ ((tag_of w ≡ Tag.Header) × ((bit_at w 2 ≡ 0) ⊎ (bit_at w 3 ≡ 0))) }
+    ensures only_headers { IsSome result ↔ (tag_of w ≡ Tag.Header) }
     ensures one_spelling { IfSome result (λ h. w ≡ encode (header_says h)) }
 {
     match Word(w).tag() {
         Tag::Header => Some(Header {
-            kind: kind_of(w >> KIND_AT & KIND_MASK)?,
+            kind: kind_of(w >> KIND_AT & KIND_MASK),
             len: (w >> LEN_AT & LEN_MASK) as u16,
             serial: w >> SERIAL_AT & SERIAL_MASK,
             mutator: (w >> MUTATOR_AT) as u8,
@@ -63,14 +63,14 @@ pub fn read_busy(w: u64) -> Option<Busy>
     })
 }
 
-/// The kind that these bits of a header spell, if they spell one.
-fn kind_of(bits: u64) -> Option<Kind>
+/// The kind that these bits of a header spell.
+fn kind_of(bits: u64) -> Kind
     ensures { result ≡ kind_spelled bits }
 {
     match bits {
-        0 => Some(Kind::Fields),
-        1 => Some(Kind::Raw),
-        2 => Some(Kind::Mixed),
-        _ => None,
+        0 => Kind::Fields,
+        1 => Kind::Raw,
+        2 => Kind::Mixed,
+        _ => Kind::Weak,
     }
 }

@@ -2,13 +2,15 @@
 use Rattle.std.proofs.Common.{◌≡◌, ◌≢◌, ℕ, ◌==◌, ◌<◌, ◌≤◌, Bool, true, false, Decides, refl, arith, ap}
 use Rattle.std.proofs.lemmas.Bool.Decides.{Decides-eqb, Decides-like, nat_tests}
 use Rattle.space_map.specs.Spaces.{Layout}
-use Rattle.space_map.specs.Table.{Row, Gate, Traced, Area, Size, SnapNumber, DoneNumber, Page, Cross, HeapWord, Announce, IsRow, is_row, place_of, table_length}
+use Rattle.space_map.specs.Table.{Row, Gate, Traced, Area, WeakHead, WeakTurn, Size, SnapNumber, DoneNumber, Page, Cross, HeapWord, Announce, IsRow, is_row, place_of, table_length}
 use Rattle.space_map.specs.Table.{SaveRow, SaveOf, ImageOf, IsSaveRow, is_save_row, save_place_of, whole_length}
 
 -- the test tells whether the table has the row
 pub is_row-decides : (n : ℕ) (row : Row) → Decides (is_row n row) (IsRow n row)
 is_row-decides n Gate = (λ test. tt, λ is. refl)
 is_row-decides n Traced = (λ test. tt, λ is. refl)
+is_row-decides n WeakHead = (λ test. tt, λ is. refl)
+is_row-decides n WeakTurn = (λ test. tt, λ is. refl)
 is_row-decides n SnapNumber = (λ test. tt, λ is. refl)
 is_row-decides n DoneNumber = (λ test. tt, λ is. refl)
 is_row-decides n _ = (λ test. grind (arith, nat_tests), λ is. grind (arith, nat_tests))
@@ -19,6 +21,8 @@ is_row-decides n _ = (λ test. grind (arith, nat_tests), λ is. grind (arith, na
 abbrev pub row_eq : Row → Row → Bool
 row_eq Gate Gate = true
 row_eq Traced Traced = true
+row_eq WeakHead WeakHead = true
+row_eq WeakTurn WeakTurn = true
 row_eq SnapNumber SnapNumber = true
 row_eq DoneNumber DoneNumber = true
 row_eq (Area x) (Area y) = x == y
@@ -32,6 +36,8 @@ row_eq _ _ = false
 pub row_eq-decides : (a b : Row) → Decides (row_eq a b) (a ≡ b)
 row_eq-decides Gate Gate = (λ test. refl, λ same. refl)
 row_eq-decides Traced Traced = (λ test. refl, λ same. refl)
+row_eq-decides WeakHead WeakHead = (λ test. refl, λ same. refl)
+row_eq-decides WeakTurn WeakTurn = (λ test. refl, λ same. refl)
 row_eq-decides SnapNumber SnapNumber = (λ test. refl, λ same. refl)
 row_eq-decides DoneNumber DoneNumber = (λ test. refl, λ same. refl)
 row_eq-decides (Area x) (Area y) = Decides-like (x == y) (ap Area) (λ same. cc) (Decides-eqb x y)
@@ -49,6 +55,8 @@ pub same_row : (n : ℕ) (a b : Row) → IsRow n a → IsRow n b → place_of n 
 unfolding place_of
 same_row n Gate Gate a b same = refl
 same_row n Traced Traced a b same = refl
+same_row n WeakHead WeakHead a b same = refl
+same_row n WeakTurn WeakTurn a b same = refl
 same_row n SnapNumber SnapNumber a b same = refl
 same_row n DoneNumber DoneNumber a b same = refl
 same_row n (Area x) (Area y) a b same = let e : x ≡ y = omega arith in ap Area e
@@ -65,6 +73,8 @@ place_of-apart n a b a_is b_is apart same = apart (same_row n a b a_is b_is same
 pub place_of-lt : (n : ℕ) (row : Row) → IsRow n row → place_of n row < table_length n
 unfolding place_of
 place_of-lt n Gate is = omega arith
+place_of-lt n WeakHead is = omega arith
+place_of-lt n WeakTurn is = omega arith
 place_of-lt n SnapNumber is = omega arith
 place_of-lt n DoneNumber is = omega arith
 place_of-lt n _ is = omega arith

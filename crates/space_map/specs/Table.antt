@@ -8,6 +8,8 @@ pub data Row : Type 0 where
   Gate : Row
   Traced : Row
   Area : (space : ℕ) → Row
+  WeakHead : Row
+  WeakTurn : Row
   Size : (space : ℕ) → Row
   SnapNumber : Row
   DoneNumber : Row
@@ -21,6 +23,8 @@ abbrev pub IsRow : ℕ → Row → Type 0
 IsRow n Gate = ⊤
 IsRow n Traced = ⊤
 IsRow n (Area space) = space < 2
+IsRow n WeakHead = ⊤
+IsRow n WeakTurn = ⊤
 IsRow n (Size space) = space < 2
 IsRow n SnapNumber = ⊤
 IsRow n DoneNumber = ⊤
@@ -34,6 +38,8 @@ abbrev pub is_row : ℕ → Row → Bool
 is_row n Gate = true
 is_row n Traced = true
 is_row n (Area space) = nat_lt space 2
+is_row n WeakHead = true
+is_row n WeakTurn = true
 is_row n (Size space) = nat_lt space 2
 is_row n SnapNumber = true
 is_row n DoneNumber = true
@@ -47,6 +53,8 @@ unfoldable pub place_of : ℕ → Row → ℕ
 place_of n Gate = 0
 place_of n Traced = 2
 place_of n (Area space) = 4 + space
+place_of n WeakHead = 6
+place_of n WeakTurn = 7
 place_of n (Size space) = 12 + space
 place_of n SnapNumber = 14
 place_of n DoneNumber = 15

@@ -1,6 +1,6 @@
 ghost use Rattle.std.specs.Prelude.{◌≡◌, ◌<◌, ◌≤◌, ◌+◌, ◌*◌, ◌↔◌, IsTrue, IsOk, IfOk, true, false};
 ghost use Rattle.space_map.specs.Spaces.{IsPageCount, IsInSpace, board_page, first_word, page_of, space_start, to_space};
-ghost use Rattle.space_map.specs.Table.{Gate, Traced, Area, Size, SnapNumber, DoneNumber, Page, Cross, HeapWord, Announce, SaveOf, ImageOf, IsRow, place_of, save_place_of, table_length, whole_length};
+ghost use Rattle.space_map.specs.Table.{Gate, Traced, Area, WeakHead, WeakTurn, Size, SnapNumber, DoneNumber, Page, Cross, HeapWord, Announce, SaveOf, ImageOf, IsRow, place_of, save_place_of, table_length, whole_length};
 
 use crate::bad_pages::BadPages;
 use std::marker::Model;
@@ -28,6 +28,10 @@ const GATE_PLACE: usize = 0;
 const TRACED_PLACE: usize = 2;
 
 const AREA_START: usize = 4;
+
+const WEAK_PLACE: usize = 6;
+
+const WEAK_TURN_PLACE: usize = 7;
 
 const SIZE_START: usize = 12;
 
@@ -201,6 +205,22 @@ impl Spaces {
         ensures in_table { result < table_length self.pages }
     {
         AREA_START + usize::from(space)
+    }
+
+    /// The place of the word that says where the cell is that was linked last.
+    pub fn weak_place(self) -> usize
+        ensures place { result ≡ place_of self.pages WeakHead }
+        ensures in_table { result < table_length self.pages }
+    {
+        WEAK_PLACE
+    }
+
+    /// The place of the word that says in which epoch a worker took the turn to walk over the linked cells.
+    pub fn weak_turn_place(self) -> usize
+        ensures place { result ≡ place_of self.pages WeakTurn }
+        ensures in_table { result < table_length self.pages }
+    {
+        WEAK_TURN_PLACE
     }
 
     /// The place of the word that says how many pages of a space are in use.

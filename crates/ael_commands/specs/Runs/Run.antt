@@ -2,7 +2,7 @@
 use Rattle.std.specs.Prelude.{◌≡◌, ℕ, Bool, true, false, List, [], ◌++◌, if◌then◌else◌}
 use Rattle.mutator_asm.specs.declared.instr.Instr.{Instr}
 use Rattle.mutator_asm.specs.declared.item.Item.{Item}
-use Rattle.plain_heap.specs.Order.{opening, plain, story}
+use Rattle.plain_heap.specs.Order.{first_story, plain, story}
 use Rattle.plain_heap.specs.Print.{print_of, order_line, plain_seen}
 use Rattle.gc_worker.specs.Plain.Marks.{EachActs}
 use Rattle.gc_core.specs.Checkpoints.{TellsLastCheckpoint}
@@ -47,7 +47,7 @@ IsMadeInManner (Threaded options) program items ran = IsThreaded options program
 -- of the core say the last one of the order. What was copied in a traced epoch, and is told as live, was live at the last exchange of the spaces.
 pub record IsRunOf (manner : Manner) (program : List (List Instr)) (items : List Item) (ran : Ran) : Type 0 where
   pub made : IsMadeInManner manner program items ran
-  pub acts : EachActs program (options_by manner).turns (opening program) ran.order
+  pub acts : EachActs program (options_by manner).turns (first_story program) ran.order
   pub dump : IsTrueDump ran.last (plain program (options_by manner).turns ran.order)
   pub checkpoint : (options_by manner).snap ≡ true → TellsLastCheckpoint program (options_by manner).turns ran.order ran.last
   pub live : KeepsWhatIsLive ran.last (story program (options_by manner).turns ran.order).flip

@@ -45,7 +45,11 @@ fn is_over(core: &Core, told: Stepped) -> bool
 {
     match told {
         Stepped::Ended(..) => core.all_ended(),
-        Stepped::Idle | Stepped::Moved | Stepped::Effect(_) | Stepped::Flipped(_) => false,
+        Stepped::Idle
+        | Stepped::Moved
+        | Stepped::Effect(_)
+        | Stepped::Flipped(_)
+        | Stepped::Traced => false,
     }
 }
 

@@ -10,6 +10,7 @@ use Rattle.std.proofs.lemmas.List.{get_or_past, get_or-set_same, get_or-set_othe
 use Rattle.std.proofs.lemmas.List.Elements.{All-nil, All-set, All-push, All-replicate}
 use Rattle.plain_state.specs.declared.end.End.{End}
 use Rattle.plain_state.specs.declared.kind.Kind.{Kind}
+use Rattle.plain_state.specs.declared.kind.Kind.TheVariants.{Weak}
 use Rattle.plain_state.specs.declared.value.Identity.{Identity}
 use Rattle.plain_state.specs.declared.value.Value.{Value}
 use Rattle.plain_state.specs.declared.value.Value.TheVariants.{Number, Reference}
@@ -21,9 +22,9 @@ use Rattle.mutator_asm.specs.declared.instr.Instr.TheVariants as instrs
 use Rattle.plain_heap.specs.declared.action.Action.{Action}
 use Rattle.plain_heap.specs.declared.action.Action.TheVariants.{Sets, Jumps, Links, Prints, Makes, Measures, Loads, Stores, Exchanges, Gets, Puts, Swaps, Snaps}
 use Rattle.plain_heap.specs.Action.{◌>>=◌, action, in_record, next_of, register}
-use Rattle.plain_heap.specs.Call.{After, board_word, call, jumped, may_hold, performed, set_register, store_in, value_in, values_of, went_on, zeros}
-use Rattle.plain_heap.proofs.Calls.Named.{Names, Spells, named}
-use Rattle.plain_heap.proofs.Calls.Outcomes.{if_ok-bind, if_ok-then, performed_exchange}
+use Rattle.plain_heap.specs.Call.{After, board_word, call, jumped, may_hold, performed, set_register, store_in, value_in, values_of, went_on, filled}
+use Rattle.plain_heap.proofs.Calls.Named.{FillsKind, Names, Spells, named}
+use Rattle.plain_heap.proofs.Calls.Outcomes.{if_ok-bind, if_ok-then, performed_exchange, unless_cell-then}
 use Rattle.plain_heap.proofs.Alone.Owned.{found_serial, read_all}
 use Rattle.plain_heap.proofs.Calls.Records.{held_same}
 
@@ -63,6 +64,11 @@ computed : (o : Result ℕ End) → IfOk o (λ n. ⊤)
 computed (Ok n) = tt
 computed (Err why) = tt
 
+-- what fills a new record leads to a record of another, if it leads to one
+fills_else : (m : ℕ) (kind : Kind) (v : Value) → FillsKind (IsElse m) kind v → IsElse m v
+fills_else m Weak v fills = fills
+fills_else m _ v fills = subst (IsElse m) (sym fills) tt
+
 spells : (m : ℕ) (i : Instr) → Spells (IsElse m) ⊤ i
 spells m (instrs.Li d n) = tt
 spells m _ = tt
@@ -82,7 +88,7 @@ module _ (m j : ℕ) (other : j ≢ m) (heap : Heap) (k : Mutator) (spared : IsS
 
   word_else : (i : Identity) (x : ℕ) → i.mutator ≢ m → IfOk (value_in heap i x) (IsElse m)
   word_else i x else =
-      if_ok-bind (IsElse m) (in_record (length (values_of heap i)) x) _ (λ y. read_all (IsElse m) (values_of heap i) y (Number 0) (values_as i (record_of heap i) else refl) tt)
+      if_ok-bind (IsElse m) (in_record (length (values_of heap i)) x) _ (λ y. unless_cell-then (IsElse m) (record_of heap i) _ (read_all (IsElse m) (values_of heap i) y (Number 0) (values_as i (record_of heap i) else refl) tt))
 
   -- ---- what is written
 
@@ -112,9 +118,9 @@ module _ (m j : ℕ) (other : j ≢ m) (heap : Heap) (k : Mutator) (spared : IsS
           (set_read (All (AllElse m)) heap.records n records [] all (All-nil (AllElse m)) (cases_lt n (length heap.records)))
       reads i apart (inr elsewhere) = subst (All (AllElse m)) (sym (get_or-set_other heap.records n i records [] elsewhere)) (spared.records i apart)
 
-  makes_so : (kind : Kind) (d n : ℕ) → IfOk (performed j heap k (Makes kind d n)) (Spares m heap)
-  makes_so kind d n = writes j (made_by heap j ++ zeros kind n ∷ []) _ other
-      (All-push (AllElse m) (made_by heap j) (zeros kind n) (spared.records j other) (All-replicate (IsElse m) n (Number 0) tt))
+  makes_so : (kind : Kind) (d n : ℕ) (v : Value) → IsElse m v → IfOk (performed j heap k (Makes kind d n v)) (Spares m heap)
+  makes_so kind d n v is = writes j (made_by heap j ++ filled kind n v ∷ []) _ other
+      (All-push (AllElse m) (made_by heap j) (filled kind n v) (spared.records j other) (All-replicate (IsElse m) n v is))
       (All-set (IsElse m) k.registers d (Reference (record { mutator = j; serial = serial_of heap j + 1 })) other registers)
 
   -- a store, after which the mutator is this
@@ -142,7 +148,7 @@ module _ (m j : ℕ) (other : j ≢ m) (heap : Heap) (k : Mutator) (spared : IsS
   performed_spares (Links d target) is = loads_so d target (Number (next_of k)) tt
   performed_spares Snaps is = record { same = refl; as_many = refl; spared = record { board = spared.board; records = spared.records }; registers = registers }
   performed_spares (Prints n) is = stays (went_on (record k { printed = k.printed ++ n ∷ [] })) registers
-  performed_spares (Makes kind d n) is = makes_so kind d n
+  performed_spares (Makes kind d n v) is = makes_so kind d n v (fills_else m kind v is.1)
   performed_spares (Measures d i) is = loads_so d (next_of k) (Number (length (values_of heap i))) tt
   performed_spares (Loads d i x) is = if_ok-then (IsElse m) (Spares m heap) (value_in heap i x) _ (word_else i x is) (λ v is_v. loads_so d (next_of k) v is_v)
   performed_spares (Stores i x v) is = if_ok-bind (Spares m heap) (value_in heap i x) _ (λ old. stores_so (went_on k) registers i (record_of heap i) x v is.0 refl is.1)

@@ -2,10 +2,10 @@
 use Rattle.std.proofs.Common.{◌≡◌, ℕ, ◌+◌, ◌<◌, ◌≤◌, List, [], ◌∷◌, ◌++◌, drop, Option, Some, None, slice_get, refl, sym, ◌∙◌, ap, subst}
 use Rattle.std.proofs.lemmas.Bool.{lt-leb, le-leb}
 use Rattle.plain_state.specs.declared.end.End.{End}
-use Rattle.plain_state.specs.declared.end.End.TheVariants.{Halt, NotPointer, NotNumber, OutOfRange, IntoRaw, ZeroDivisor, JumpOut, TurnsOut, OutputFull, HeapFull}
+use Rattle.plain_state.specs.declared.end.End.TheVariants.{Halt, NotPointer, NotNumber, OutOfRange, WeakCell, IntoRaw, ZeroDivisor, JumpOut, TurnsOut, OutputFull, HeapFull}
+use Rattle.plain_state.specs.Reachable.{IsLive}
 use Rattle.plain_state.specs.State.{Mutator, Plain}
 use Rattle.plain_heap.specs.Step.{fetch}
-use Rattle.heap_state.specs.Meaning.Reachable.{IsLive}
 use Rattle.mutator_asm.specs.declared.instr.Instr.{Instr}
 use Rattle.mutator_asm.specs.Program.{instr_at}
 use Rattle.gc_worker.specs.Plain.Answer.{ComesTo, MayCome}
@@ -143,6 +143,7 @@ module _ (w : Work) (m count : ℕ) (a : Seated) (h : Executing w m count a) whe
   full_by b task NotPointer c = tt
   full_by b task NotNumber c = tt
   full_by b task OutOfRange c = tt
+  full_by b task WeakCell c = tt
   full_by b task IntoRaw c = tt
   full_by b task ZeroDivisor c = tt
   full_by b task JumpOut c = tt

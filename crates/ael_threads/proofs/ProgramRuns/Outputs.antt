@@ -12,7 +12,7 @@ use Rattle.atomic_table.specs.Seated.{TableId}
 use Rattle.plain_state.specs.declared.end.End.{End}
 use Rattle.plain_state.specs.State.{Mutator, Plain}
 use Rattle.mutator_asm.specs.declared.instr.Instr.{Instr}
-use Rattle.plain_heap.specs.Order.{opening}
+use Rattle.plain_heap.specs.Order.{first_story, opening}
 use Rattle.plain_heap.proofs.Orders.Checkpoints.{orders_keep_the_last_checkpoint}
 use Rattle.heap_state.specs.Cycles.Copies.{CopiedIsLive}
 use Rattle.heap_state.specs.Kept as kept
@@ -52,7 +52,6 @@ use Rattle.ael_threads.specs.Running.{EachFrom, EndFoundFull, FullIn, HasRun, Ha
 use Rattle.ael_threads.specs.Seats.{Closes, Seated, Stays, all_hands, first_number, first_own}
 use Rattle.ael_threads.proofs.Lists.Elements.{each_apart, each_both}
 use Rattle.gc_worker.specs.History.Needs.{EachFullIs, EachMayCome}
-use Rattle.gc_worker.specs.History.Needs as needs
 use Rattle.gc_worker.specs.History.Order.{order_of}
 use Rattle.gc_worker.specs.History.Tally.{size_now, tally, tasks_held}
 use Rattle.gc_worker.specs.Laws.Cycles.{size_of}
@@ -301,7 +300,7 @@ module _ (code : List (List Instr)) (config : Config) (t : TableId) (ms : List S
         }
 
     -- each full heap of its order
-    fulls : EachFullIs config.limit config.pages code config.turns (needs.first_story code) 0 0 (order_of c.log) × EachMayCome (λ j. false) 0 (order_of c.log)
+    fulls : EachFullIs config.limit config.pages code config.turns (first_story code) 0 0 (order_of c.log) × EachMayCome (λ j. false) 0 (order_of c.log)
     fulls =
         let sections : length p.mutators ≡ length code = length-replicate (length code) opening_mutator in
         subst (λ (z : Plain × ℕ × ℕ). EachFullIs z.1 z.2 code config.turns (record { flip = z.0; now = z.0 }) 0 0 (order_of c.log) × EachMayCome (λ j. false) 0 (order_of c.log))

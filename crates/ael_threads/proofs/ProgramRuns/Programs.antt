@@ -3,7 +3,7 @@ use Rattle.std.proofs.Common.{◌≡◌, ℕ, ◌<◌, ◌^◌, List, [], ◌∷
 use Rattle.std.specs.Prelude.{IsTrue}
 use mathlib.Core.List.{IsPrefix}
 use Rattle.atomic_table.specs.Seated.{TableId}
-use Rattle.plain_state.specs.declared.end.End.TheVariants.{Halt, NotPointer, NotNumber, OutOfRange, IntoRaw, ZeroDivisor, JumpOut, TurnsOut, OutputFull, HeapFull}
+use Rattle.plain_state.specs.declared.end.End.TheVariants.{Halt, NotPointer, NotNumber, OutOfRange, WeakCell, IntoRaw, ZeroDivisor, JumpOut, TurnsOut, OutputFull, HeapFull}
 use Rattle.plain_state.specs.State.{Mutator}
 use Rattle.mutator_asm.specs.declared.instr.Instr.{Instr}
 use Rattle.mutator_asm.specs.Program.{is_valid}
@@ -38,6 +38,7 @@ short_by n words x (Trap Halt) h = tt
 short_by n words x (Trap NotPointer) h = tt
 short_by n words x (Trap NotNumber) h = tt
 short_by n words x (Trap OutOfRange) h = tt
+short_by n words x (Trap WeakCell) h = tt
 short_by n words x (Trap IntoRaw) h = tt
 short_by n words x (Trap ZeroDivisor) h = tt
 short_by n words x (Trap JumpOut) h = tt

@@ -16,6 +16,7 @@ use Rattle.alloc_end.specs.declared.allocated.Allocated.TheVariants.{Placed, Ful
 use Rattle.alloc_end.specs.declared.run.Run.{Run}
 use Rattle.alloc_end.specs.declared.shortage.Shortage.{Shortage}
 use Rattle.alloc_end.specs.Place as place
+use Rattle.fault_duty.specs.Duty as duty
 use Rattle.gate_core.specs.declared.flipped.Flipped.{Flipped}
 use Rattle.gate_core.specs.declared.flipped.Flipped.TheVariants as flipped
 use Rattle.gate_core.specs.declared.passage.Passage.TheVariants.{Park}
@@ -41,8 +42,9 @@ use Rattle.gc_worker.specs.declared.steps.allocating.Making.{Making}
 use Rattle.gc_worker.specs.Plain.Seen.{seen}
 use Rattle.gc_worker.specs.declared.calls.did.Did.{Did}
 use Rattle.gc_worker.specs.declared.calls.did.Did.TheVariants.{Done}
-use Rattle.gc_worker.specs.Steps.Turned.{Told, Silent, Answers, Marks, acted, acts, begins, begins_checkpoint, end_by_shortage, ended, full_by, is_full, looked_by, passes, started, told, told_access, told_acted, told_action, told_at, told_effect, told_end, told_flip, told_full, told_gate, told_look, told_place, told_snap, told_start, turned, turned_access, turned_at, turned_flip, turned_look, turned_place, turned_snap, went_on, with_record}
+use Rattle.gc_worker.specs.Steps.Turned.{Told, Silent, Empties, Answers, Marks, acted, acts, begins, begins_checkpoint, end_by_shortage, ended, full_by, is_full, looked_by, passes, started, told, told_access, told_acted, told_action, told_at, told_effect, told_end, told_flip, told_full, told_gate, told_look, told_place, told_snap, told_start, turned, turned_access, turned_at, turned_flip, turned_look, turned_place, turned_snap, went_on, with_record}
 use Rattle.gc_worker.proofs.Between.Pages.Claims.{flips_at}
+use Rattle.gc_worker.proofs.Plain.Quiet.{IsQuiet, rounds_are_quiet}
 use Rattle.gc_worker.proofs.Workers.ApartFromCount.{counted_fit}
 
 -- ---- a flip
@@ -58,6 +60,7 @@ module _ (n mutators m count : ℕ) (x : Held) (reply : Reply) (fits : Fits n mu
 
   pub flips_by : (t : Told) → told x reply ≡ t → FlipsWhereTold n words later (counted count x) t → FlipsWhereTold n words later x t
   flips_by Silent e h = h
+  flips_by Empties e h = h
   flips_by (Answers task outcome) e h = h
   flips_by (Marks asked) e h = record { asked_is = h.asked_is ∙ same_asked asked e; epoch = h.epoch; next = h.next }
 
@@ -66,6 +69,7 @@ module _ (n mutators m count : ℕ) (x : Held) (reply : Reply) (fits : Fits n mu
 -- who answers stays in its epoch, and if it has begun the task before, keeps the one in which it did
 abbrev Stays : (past : Type 0) (was now : Held) → Told → Type 0
 Stays past was now Silent = ⊤
+Stays past was now Empties = ⊤
 Stays past was now (Answers task outcome) = (now.epoch ≡ was.epoch) × (past → now.begun ≡ was.begun)
 Stays past was now (Marks asked) = ⊤
 
@@ -90,7 +94,7 @@ module _ (x : Held) where
   by_action task (Links d target) = (refl, λ past. absurd past)
   by_action task (Prints n) = (refl, λ past. absurd past)
   by_action task Snaps = snap_stays task (may_snap x) _
-  by_action task (Makes kind d n) = tt
+  by_action task (Makes kind d n v) = tt
   by_action task (Measures d i) = tt
   by_action task (Loads d i n) = tt
   by_action task (Stores i n v) = tt
@@ -160,6 +164,12 @@ module _ (x : Held) where
   begun_stays s (Finished (snapped.Begun seen)) = effect_stays (begins_checkpoint x seen) refl refl x.task
   begun_stays s (Finished (snapped.NotYet word)) = tt
 
+  quiet_stays : (past : Type 0) (y : Held) (t : Told) → IsQuiet t → Stays past x y t
+  quiet_stays past y Silent quiet = tt
+  quiet_stays past y Empties quiet = tt
+  quiet_stays past y (Answers task outcome) quiet = absurd quiet
+  quiet_stays past y (Marks asked) quiet = tt
+
   -- ---- each stage
 
   by_stage : (stage : Stage) (reply : Reply) → Stays (IsPastLook stage) x (turned_at x stage reply) (told_at x stage reply)
@@ -169,7 +179,7 @@ module _ (x : Held) where
   by_stage (Places p) reply = place_stays (place.taken p reply) (place.told (place.taken p reply))
   by_stage (Passes g after) reply = tt
   by_stage (Forwards w) reply = tt
-  by_stage (Serves d back) reply = tt
+  by_stage (Serves d back) reply = quiet_stays (IsPastLook (Serves d back)) (turned_at x (Serves d back) reply) (told_at x (Serves d back) reply) (rounds_are_quiet (duty.told (duty.taken d reply)))
   by_stage (Scans s back) reply = tt
   by_stage (Evacuates v s back) reply = tt
   by_stage (Opens o s back) reply = tt

@@ -11,7 +11,7 @@ use Rattle.gc_worker.specs.declared.calls.entry.Entry.TheVariants.{Exchanged, Ma
 use Rattle.gc_worker.specs.declared.task.Task.{Task}
 use Rattle.gc_worker.specs.History.Legal.{IsLegal, after_all, after_call, extra, worker_call}
 use Rattle.gc_worker.specs.Plain.Answer.{ComesTo}
-use Rattle.gc_worker.specs.Steps.Turned.{Answers, Marks, Silent, Told}
+use Rattle.gc_worker.specs.Steps.Turned.{Answers, Marks, Silent, Empties, Told}
 use Rattle.gc_worker.proofs.Between.Others.{answers_leave_the_others}
 use Rattle.ael_threads.proofs.Lists.Elements.{not_empty}
 use Rattle.ael_threads.proofs.WorkerSeats.Shown.{ended_is}
@@ -28,6 +28,7 @@ told_or_before m k t task did (x ∷ xs) rest (z ∷ zs) e =
     ⊎_elim (λ (old : (more : List Entry) × (xs ++ Made (worker_call m task did) ∷ more ≡ zs)). inl (old.0, λ i. head i ∷ old.1 i))
     (λ (new : (xs ≡ zs) × (m ≡ k) × (t ≡ Answers task did)). inr ((λ i. head i ∷ new.0 i), new.1, new.2)) (told_or_before m k t task did xs rest zs tail)
 told_or_before m k Silent task did front rest [] e = absurd (not_empty front rest (Made (worker_call m task did)) e)
+told_or_before m k Empties task did front rest [] e = absurd (not_empty front rest (Made (worker_call m task did)) e)
 told_or_before m k (Answers other came) task did [] rest [] e =
     let same : worker_call m task did ≡ worker_call k other came = cc in
     inr (refl, ap (λ (c : Call). c.by) same, λ i. Answers (sym same i).task (sym same i).did)

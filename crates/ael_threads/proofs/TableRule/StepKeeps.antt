@@ -23,7 +23,7 @@ use Rattle.gc_worker.specs.Laws.Gone.{ScannersAreLast}
 use Rattle.gc_worker.specs.Laws.Step.{FlipsWhereTold, Heap, StepKeeps, WorkersStand, at_flip, held_at, nobody}
 use Rattle.gc_worker.specs.Steps.Stepped.{IsBeginningCheckpoint, uncounted}
 use Rattle.gc_worker.specs.declared.calls.did.Did.TheVariants.{Done, Trap}
-use Rattle.gc_worker.specs.Steps.Turned.{Told, Silent, Answers, Marks, told, turned, won}
+use Rattle.gc_worker.specs.Steps.Turned.{Told, Silent, Empties, Answers, Marks, told, turned, won}
 use Rattle.gc_worker.specs.Steps.Wanted.{wanted}
 use Rattle.gc_worker.proofs.Between.GoingOn.{workers_go_on}
 use Rattle.gc_worker.proofs.Between.Last.{scanners_last_with, scanners_stay_last}
@@ -68,12 +68,14 @@ Came plan id v m x r s later = (w : View) × RuleHolds plan (record { words = la
 
 seen_fits : (seen log : List Entry) (m : ℕ) (t : Told) → IsPrefix seen log → IsPrefix (seen_after seen (log ++ extra m t) t) (log ++ extra m t)
 seen_fits seen log m Silent h = prefix_more seen log [] h
+seen_fits seen log m Empties h = prefix_more seen log [] h
 seen_fits seen log m (Answers task outcome) h = prefix_self (log ++ Made (worker_call m task outcome) ∷ [])
 seen_fits seen log m (Marks asked) h = prefix_more seen log (Exchanged m asked ∷ []) h
 
 sees : (v w : View) (log : List Entry) (m : ℕ) (t : Told) → IsPrefix v.seen log → w.seen ≡ seen_after v.seen (log ++ extra m t) t
     → IsLegal (first_plain v.plan) (log ++ extra m t) → HasOwnCalls (log ++ extra m t) w.hands → Sees v m t w
 sees v w log m Silent pre is legal own = is
+sees v w log m Empties pre is legal own = is
 sees v w log m (Answers task outcome) pre is legal own = record {
   between = pre.0;
   is = is ∙ ap (λ (z : List Entry). z ++ Made (worker_call m task outcome) ∷ []) (sym pre.1);
@@ -85,12 +87,14 @@ sees v w log m (Marks asked) pre is legal own = is
 -- where the seat's worker had all its calls in what was seen, it has them in what is seen now
 mine_after : (seen log : List Entry) (m : ℕ) (own : List Call) (t : Told) → calls_of m seen ≡ own → calls_of m (log ++ extra m t) ≡ own_after m own t → calls_of m (seen_after seen (log ++ extra m t) t) ≡ own_after m own t
 mine_after seen log m own Silent was is = was
+mine_after seen log m own Empties was is = was
 mine_after seen log m own (Answers task outcome) was is = is
 mine_after seen log m own (Marks asked) was is = was
 
 -- an answer is no flip
 live_seen : (p : Plain) (seen log : List Entry) (m : ℕ) (t : Told) → LiveWhereTold (last_flip p log) t → LiveWhereTold (last_flip p (seen_after seen (log ++ extra m t) t)) t
 live_seen p seen log m Silent h = tt
+live_seen p seen log m Empties h = tt
 live_seen p seen log m (Answers task Done) h = tt
 live_seen p seen log m (Answers task (Trap end)) h = subst (λ (o : Plain). LiveByEnd o end) (sym (flip_more p p log m (Answers task (Trap end)))) h
 live_seen p seen log m (Marks asked) h = tt
@@ -276,6 +280,7 @@ module _ (plan : Plan) (id : ℕ) (was : Hand) (x : Held) (others : List Hand) (
 
   shows_ended : (w : Mutator) (end : End) (u : Told) → t ≡ u → slice_get (after_told p m u).mutators m ≡ Some w → slice_get p'.mutators m ≡ Some w → w.end ≡ Some end → ShowsRegisters z.registers w
   shows_ended w end Silent is was_its its e = stays_ended w end was_its e
+  shows_ended w end Empties is was_its its e = stays_ended w end was_its e
   shows_ended w end (Marks asked) is was_its its e = stays_ended w end was_its e
   shows_ended w end (Answers task Done) is was_its its e = let a = as_plain w its in a.shows (sym a.account.end ∙ (goes_present task is).0)
   shows_ended w end (Answers task (Trap why)) is was_its its e =

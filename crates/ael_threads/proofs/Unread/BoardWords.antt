@@ -106,7 +106,7 @@ module _ (m : ℕ) (heap : Heap) (k : Mutator) where
   performed-long (Links d target) = refl
   performed-long (Prints n) = refl
   performed-long Snaps = refl
-  performed-long (Makes kind d n) = refl
+  performed-long (Makes kind d n v) = refl
   performed-long (Measures d i) = refl
   performed-long (Loads d i x) = if_ok-bind (λ (a : After). AsLong a.heap) (value_in heap i x) _ (λ v. refl)
   performed-long (Stores i x v) = if_ok-bind (λ (a : After). AsLong a.heap) (value_in heap i x) _

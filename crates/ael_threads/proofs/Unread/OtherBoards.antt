@@ -65,7 +65,7 @@ module _ (m : ℕ) (heap there : Heap) (k : Mutator) where
   performed-same (Jumps target) is = record { mutator = refl; records = refl; board = refl }
   performed-same (Links d target) is = record { mutator = refl; records = refl; board = refl }
   performed-same (Prints n) is = record { mutator = refl; records = refl; board = refl }
-  performed-same (Makes kind d n) is = record { mutator = refl; records = refl; board = refl }
+  performed-same (Makes kind d n v) is = record { mutator = refl; records = refl; board = refl }
   performed-same (Measures d i) is = record { mutator = refl; records = refl; board = refl }
   performed-same (Loads d i x) is = same-bind (KeepsBoard heap) (value_in heap i x) _ _ (λ v at. record { mutator = refl; records = refl; board = refl })
   performed-same (Stores i x v) is = same-bind (KeepsBoard heap) (value_in heap i x) _ _ (λ old at. stores_same i (record_of heap i) x v)

@@ -70,6 +70,7 @@ goes_by a b c r s g h = record {
 pub goes_more : (a b c : Seated) (s : Stepped) → GoesOn a b → Acts b s c → GoesOn a c
 goes_more a b c stepped.Idle g h = subst (GoesOn a) (sym h.0) g
 goes_more a b c stepped.Moved g h = goes_by a b c h.0 stepped.Moved g h.1
+goes_more a b c stepped.Traced g h = goes_by a b c h.0 stepped.Traced g h.1
 goes_more a b c (stepped.Effect m) g h = goes_by a b c h.0 (stepped.Effect m) g h.1
 goes_more a b c (stepped.Flipped n) g h = goes_by a b c h.0 (stepped.Flipped n) g h.1
 goes_more a b c (stepped.Ended m end) g h = goes_by a b c h.0 (stepped.Ended m end) g h.1

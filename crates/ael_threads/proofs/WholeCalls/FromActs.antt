@@ -26,7 +26,7 @@ use Rattle.gc_worker.specs.Laws.Between.{AreAlike, IsNoAnswer, RegistersLand, wi
 use Rattle.gc_worker.specs.Plain.Full.{FullWhereTold}
 use Rattle.gc_worker.specs.Workers.Held.{Held}
 use Rattle.gc_worker.specs.Steps.Stepped.{stepped_by, uncounted}
-use Rattle.gc_worker.specs.Steps.Turned.{Told, Silent, Answers, Marks, told, turned, PageWon, won}
+use Rattle.gc_worker.specs.Steps.Turned.{Told, Silent, Empties, Answers, Marks, told, turned, PageWon, won}
 use Rattle.gc_worker.specs.declared.calls.call.Call.{Call}
 use Rattle.ael_threads.specs.declared.view.WonClaim.{WonClaim}
 use Rattle.gc_worker.specs.declared.calls.did.Did.{Did}
@@ -90,11 +90,13 @@ under_way a b task begins same first = record {
 
 own_kept : (m : ℕ) (own : List Call) (t : Told) → IsNoAnswer t → own_after m own t ≡ own
 own_kept m own Silent n = refl
+own_kept m own Empties n = refl
 own_kept m own (Answers task outcome) n = absurd n
 own_kept m own (Marks asked) n = refl
 
 seen_kept : (v w : View) (m : ℕ) (t : Told) → IsNoAnswer t → Sees v m t w → w.seen ≡ v.seen
 seen_kept v w m Silent n s = s
+seen_kept v w m Empties n s = s
 seen_kept v w m (Answers task outcome) n s = absurd n
 seen_kept v w m (Marks asked) n s = s
 
@@ -115,6 +117,7 @@ IsNeither s = ((m : ℕ) → s ≡ stepped.Effect m → ⊥) × ((m : ℕ) (end 
 
 no_answer : (k : ℕ) (t : Told) (s : Stepped) → s ≡ stepped_by k t → IsNeither s → IsNoAnswer t
 no_answer k Silent s is n = tt
+no_answer k Empties s is n = tt
 no_answer k (Answers task Done) s is n = absurd (n.0 k is)
 no_answer k (Answers task (Trap end)) s is n = absurd (n.1 k end is)
 no_answer k (Marks asked) s is n = tt
@@ -137,6 +140,7 @@ pub way_more : (a b c : Seated) (task : Task) (s : Stepped) → IsUnderWay a tas
     → IsUnderWay a task c
 way_more a b c task stepped.Idle u h no_effect no_end = subst (IsUnderWay a task) (sym h.0) u
 way_more a b c task stepped.Moved u h no_effect no_end = way_by a b c task h.0 stepped.Moved u h.1 (no_effect, no_end)
+way_more a b c task stepped.Traced u h no_effect no_end = way_by a b c task h.0 stepped.Traced u h.1 (no_effect, no_end)
 way_more a b c task (stepped.Effect m) u h no_effect no_end = absurd (no_effect m refl)
 way_more a b c task (stepped.Flipped n) u h no_effect no_end = way_by a b c task h.0 (stepped.Flipped n) u h.1 (no_effect, no_end)
 way_more a b c task (stepped.Ended m end) u h no_effect no_end = absurd (no_end m end refl)
@@ -233,12 +237,14 @@ calls a b c task r s did u h other is =
 
 by_effect : (a b c : Seated) (task : Task) (r : Reply) (m : ℕ) → IsUnderWay a task b → ActsBy b r (stepped.Effect m) c → (t : Told) → told b.worker r ≡ t → stepped.Effect m ≡ stepped_by b.worker.number t → Called a task Done c
 by_effect a b c task r m w h Silent is e = absurd (cc)
+by_effect a b c task r m w h Empties is e = absurd (cc)
 by_effect a b c task r m w h (Answers other Done) is e = calls a b c task r (stepped.Effect m) Done w h other is
 by_effect a b c task r m w h (Answers other (Trap end)) is e = absurd (cc)
 by_effect a b c task r m w h (Marks asked) is e = absurd (cc)
 
 by_end : (a b c : Seated) (task : Task) (r : Reply) (m : ℕ) (end : End) → IsUnderWay a task b → ActsBy b r (stepped.Ended m end) c → (t : Told) → told b.worker r ≡ t → stepped.Ended m end ≡ stepped_by b.worker.number t → Called a task (Trap end) c
 by_end a b c task r m end w h Silent is e = absurd (cc)
+by_end a b c task r m end w h Empties is e = absurd (cc)
 by_end a b c task r m end w h (Answers other Done) is e = absurd (cc)
 by_end a b c task r m end w h (Answers other (Trap why)) is e = let same : why ≡ end = cc in calls a b c task r (stepped.Ended m end) (Trap end) w h other (is ∙ ap (λ (z : End). Answers other (Trap z)) same)
 by_end a b c task r m end w h (Marks asked) is e = absurd (cc)
@@ -281,6 +287,7 @@ quiet_by a b c r s q h = by_told (told b.worker r) refl
 
     by_told : (t : Told) → told b.worker r ≡ t → StaysSilent a c
     by_told Silent is = by_none (subst IsNoAnswer (sym is) tt)
+    by_told Empties is = by_none (subst IsNoAnswer (sym is) tt)
     by_told (Answers task outcome) is = absurd (let some = (h.goes_on.answers task outcome is).asked in let none = q.none in cc)
     by_told (Marks asked) is = by_none (subst IsNoAnswer (sym is) tt)
 
@@ -290,6 +297,7 @@ quiet_first a none = record { none = none; rests = rests_same a a refl; ended = 
 pub quiet_more : (a b c : Seated) (s : Stepped) → StaysSilent a b → Acts b s c → StaysSilent a c
 quiet_more a b c stepped.Idle q h = subst (StaysSilent a) (sym h.0) q
 quiet_more a b c stepped.Moved q h = quiet_by a b c h.0 stepped.Moved q h.1
+quiet_more a b c stepped.Traced q h = quiet_by a b c h.0 stepped.Traced q h.1
 quiet_more a b c (stepped.Effect m) q h = quiet_by a b c h.0 (stepped.Effect m) q h.1
 quiet_more a b c (stepped.Flipped n) q h = quiet_by a b c h.0 (stepped.Flipped n) q h.1
 quiet_more a b c (stepped.Ended m end) q h = quiet_by a b c h.0 (stepped.Ended m end) q h.1

@@ -10,7 +10,7 @@ use Rattle.plain_state.specs.declared.value.Identity.{Identity}
 use Rattle.plain_state.specs.declared.value.Value.{Value}
 use Rattle.plain_state.specs.State.{Record, Heap, Mutator, Plain, made_by, record_of, serial_of}
 use Rattle.plain_state.specs.State as plain
-use Rattle.plain_state.specs.Writing.{zeros}
+use Rattle.plain_state.specs.Writing.{filled}
 use Rattle.plain_state.proofs.Lists.{slice_get-replicate, slice_get-set_same}
 use Rattle.mutator_asm.specs.declared.instr.Instr.{Instr}
 use Rattle.plain_heap.specs.declared.action.Action.{Action}
@@ -57,7 +57,7 @@ module _ (m : ℕ) (heap : Heap) (k : Mutator) where
   performed-makers (Links d target) = refl
   performed-makers (Prints n) = refl
   performed-makers Snaps = refl
-  performed-makers (Makes kind d n) = length-set heap.records m (made_by heap m ++ zeros kind n ∷ [])
+  performed-makers (Makes kind d n v) = length-set heap.records m (made_by heap m ++ filled kind n v ∷ [])
   performed-makers (Measures d i) = refl
   performed-makers (Loads d i x) = if_ok-bind (λ (a : After). AsMany a.heap) (value_in heap i x) _ (λ v. refl)
   performed-makers (Stores i x v) = if_ok-bind (λ (a : After). AsMany a.heap) (value_in heap i x) _

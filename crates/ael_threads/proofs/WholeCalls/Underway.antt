@@ -2,7 +2,7 @@
 use Rattle.std.proofs.Common.{◌≡◌, ℕ, ◌<◌, ◌≤◌, inl, inr, List, length, Some, refl, sym, ◌∙◌, ap, subst, arith, ⊎_elim}
 use mathlib.Core.List.{IsPrefix}
 use Rattle.atom_store.specs.declared.reply.Reply.{Reply}
-use Rattle.plain_state.specs.declared.end.End.TheVariants.{Halt, NotPointer, NotNumber, OutOfRange, IntoRaw, ZeroDivisor, JumpOut, TurnsOut, OutputFull, HeapFull}
+use Rattle.plain_state.specs.declared.end.End.TheVariants.{Halt, NotPointer, NotNumber, OutOfRange, WeakCell, IntoRaw, ZeroDivisor, JumpOut, TurnsOut, OutputFull, HeapFull}
 use Rattle.space_map.specs.declared.gate_word.GateWord.{GateWord}
 use Rattle.std.specs.Prelude.{Option}
 use Rattle.gc_worker.specs.declared.calls.call.Call.{Call}
@@ -195,6 +195,7 @@ module _ (a b c : Seated) (task : Task) (r : Reply) (s : Stepped) (u : IsUnderWa
   flipped_by other (Trap NotPointer) e = tt
   flipped_by other (Trap NotNumber) e = tt
   flipped_by other (Trap OutOfRange) e = tt
+  flipped_by other (Trap WeakCell) e = tt
   flipped_by other (Trap IntoRaw) e = tt
   flipped_by other (Trap ZeroDivisor) e = tt
   flipped_by other (Trap JumpOut) e = tt

@@ -2,7 +2,7 @@
 use Rattle.std.proofs.Common.{◌≡◌, ◌⊎◌, inl, inr, ℕ, zero, suc, ◌<◌, Bool, true, false, nat_lt, ltb-true, Option, Some, None, List, [], ◌∷◌, length, slice_get, refl, sym, ◌∙◌, ap, subst, arith}
 use Rattle.std.specs.Option.{is_some}
 use Rattle.plain_state.specs.declared.end.End.{End}
-use Rattle.plain_state.specs.declared.end.End.TheVariants.{Halt, NotPointer, NotNumber, OutOfRange, IntoRaw, ZeroDivisor, JumpOut, TurnsOut, OutputFull, HeapFull}
+use Rattle.plain_state.specs.declared.end.End.TheVariants.{Halt, NotPointer, NotNumber, OutOfRange, WeakCell, IntoRaw, ZeroDivisor, JumpOut, TurnsOut, OutputFull, HeapFull}
 use Rattle.plain_state.specs.State.{Mutator, Plain}
 use Rattle.plain_state.proofs.Lists.{slice_get-set_same}
 use Rattle.std.proofs.lemmas.Option.{same_Some, slice_get_within}
@@ -31,7 +31,7 @@ use Rattle.gc_worker.proofs.Plain.OnlySnap.{snaps_alone}
 use Rattle.gate_core.specs.declared.passage.Passage.{Passage}
 use Rattle.mutator_asm.specs.declared.instr.Instr.{Instr}
 use Rattle.mutator_asm.specs.declared.instr.Instr.TheVariants.{Snap}
-use Rattle.gc_worker.specs.Steps.Turned.{Told, Silent, Answers, Marks}
+use Rattle.gc_worker.specs.Steps.Turned.{Told, Silent, Empties, Answers, Marks}
 use Rattle.ael_threads.specs.Seats.{IsPresent, IsRunning, IsShown, LiveByEnd, LiveWhereTold}
 
 pub shown_by : (h : Heap) (p : Plain) (m count : ℕ) (z : Held) (q : Mutator) → IsAsPlain h p m (counted count z) q → ShowsRegisters z.registers q → IsShown p.heap m (uncounted z) q
@@ -208,6 +208,7 @@ full_end n words count x Halt h = tt
 full_end n words count x NotPointer h = tt
 full_end n words count x NotNumber h = tt
 full_end n words count x OutOfRange h = tt
+full_end n words count x WeakCell h = tt
 full_end n words count x IntoRaw h = tt
 full_end n words count x ZeroDivisor h = tt
 full_end n words count x JumpOut h = tt
@@ -216,6 +217,7 @@ full_end n words count x OutputFull h = tt
 
 pub full_by : (n : ℕ) (words : List ℕ) (count : ℕ) (x : Held) (t : Told) → FullWhereTold n words (counted count x) t → FullWhereTold n words x t
 full_by n words count x Silent h = tt
+full_by n words count x Empties h = tt
 full_by n words count x (Answers task Done) h = tt
 full_by n words count x (Answers task (Trap end)) h = full_end n words count x end h
 full_by n words count x (Marks asked) h = tt
@@ -248,6 +250,7 @@ module _ (h : Heap) (p o : Plain) (stands : WorkersStand h p o) (x : Held) where
   live_end NotPointer f = tt
   live_end NotNumber f = tt
   live_end OutOfRange f = tt
+  live_end WeakCell f = tt
   live_end IntoRaw f = tt
   live_end ZeroDivisor f = tt
   live_end JumpOut f = tt
@@ -256,6 +259,7 @@ module _ (h : Heap) (p o : Plain) (stands : WorkersStand h p o) (x : Held) where
 
   pub live_by : (t : Told) → FullWhereTold h.pages h.words x t → LiveWhereTold o t
   live_by Silent f = tt
+  live_by Empties f = tt
   live_by (Answers task Done) f = tt
   live_by (Answers task (Trap end)) f = live_end end f
   live_by (Marks asked) f = tt

@@ -26,6 +26,8 @@ fn dump_line(number: usize, gate: &'static str) -> &'static str {
         // The areas of both spaces.
         8 => "0000000003000000",
         9 => "0000000004000000",
+        // The turn of epoch 0 was taken.
+        11 => "0000000000000001",
         // All pages of both spaces are in use.
         16 | 17 => "0000000000000004",
         // The page of the record, and that of the board, are open.

@@ -1,11 +1,12 @@
 -- What is read at an entry.
-use Rattle.std.proofs.Common.{◌≡◌, ℕ, ◌<◌, List, length, get_or, sym, ap, ◌∙◌, subst}
+use Rattle.std.proofs.Common.{◌≡◌, ℕ, ◌<◌, false, List, length, get_or, sym, ap, ◌∙◌, subst}
 use Rattle.plain_state.specs.declared.sizes.TheConstants.{REGISTERS}
 use Rattle.plain_state.specs.declared.value.Value.{Value}
 use Rattle.plain_state.specs.declared.value.Value.TheVariants.{Number}
 use Rattle.plain_state.specs.State.{Record, at_serial}
 use Rattle.mutator_asm.specs.declared.instr.Instr.TheVariants.{Ld, Len}
 use Rattle.mutator_asm.specs.declared.operand.Operand.TheVariants as operands
+use Rattle.plain_heap.specs.Call.{is_cell}
 use Rattle.concordance.specs.Desk.{CanDo, Desk, LeadsTo, desk_after, desk_register, desk_word, own}
 use Rattle.concordance.specs.Notes.Records.{IsEntry, IsLetters, IsLine, Note, entry_record, letters_record, line_record}
 use Rattle.concordance.proofs.Doing.{values_there, word_there}
@@ -15,8 +16,8 @@ use Rattle.concordance.proofs.Desks.Instructions.{Loads, loads}
 
 -- a record to which a register leads, and its value x is taken into another
 module _ (a : Desk) (count : length a.registers ≡ REGISTERS) (from : ℕ) (r : Record) (leads : LeadsTo a (desk_register a from) r) (x : ℕ) where
-  pub can_load : (d : ℕ) → x < length r.values → CanDo a (Ld d from (operands.Number x))
-  can_load d within = record { found = r; leads = leads; within = within }
+  pub can_load : (d : ℕ) → x < length r.values → is_cell r.kind ≡ false → CanDo a (Ld d from (operands.Number x))
+  can_load d within no_cell = record { found = r; leads = leads; within = within; no_cell = no_cell }
 
   pub loaded : (d : ℕ) (v : Value) (b : Desk) → d < REGISTERS → get_or r.values x (Number 0) ≡ v → b ≡ desk_after a (Ld d from (operands.Number x)) → Loads a d v b
   loaded d v b within value is = subst (λ (w : Value). Loads a d w b) (word_there a (desk_register a from) r leads x ∙ value) (loads a d (desk_word a (desk_register a from) x) b count within is)

@@ -49,7 +49,7 @@ module _ (a : Seated) (notes : List Note) (noted : List Mention) (word : List â„
   leads = record { serial = serial; is = at.is; found = entry.is.entry }
 
   pub can_load_line : CanDo (desk_of a) (Ld NEXT HERE (operands.Number 1))
-  can_load_line = can_load (desk_of a) (all_registers a) HERE here leads 1 NEXT (omega arith)
+  can_load_line = can_load (desk_of a) (all_registers a) HERE here leads 1 NEXT (omega arith) refl
 
   -- its latest line is loaded
   module _ (b : Seated) (one : desk_of b â‰¡ desk_after (desk_of a) (Ld NEXT HERE (operands.Number 1))) where
@@ -67,7 +67,7 @@ module _ (a : Seated) (notes : List Note) (noted : List Mention) (word : List â„
     }
 
     pub can_load_number : CanDo (desk_of b) (Ld NUMBER NEXT (operands.Number 0))
-    can_load_number = can_load (desk_of b) (all_registers b) NEXT before to_before 0 NUMBER (omega arith)
+    can_load_number = can_load (desk_of b) (all_registers b) NEXT before to_before 0 NUMBER (omega arith) refl
 
     -- and its number
     module _ (c : Seated) (two : desk_of c â‰¡ desk_after (desk_of b) (Ld NUMBER NEXT (operands.Number 0))) where

@@ -1,5 +1,5 @@
 -- A desk on which a word's entry is looked for.
-use Rattle.std.proofs.Common.{◌≡◌, ◌≢◌, ℕ, ◌<◌, Bool, true, false, List, Some, sym, ap, ◌∙◌, subst, arith}
+use Rattle.std.proofs.Common.{◌≡◌, ◌≢◌, ℕ, ◌<◌, Bool, true, false, List, Some, refl, sym, ap, ◌∙◌, subst, arith}
 use Rattle.plain_state.specs.declared.value.Value.{Value}
 use Rattle.plain_state.specs.declared.value.Value.TheVariants.{Number}
 use Rattle.plain_state.specs.State.{Record, at_serial}
@@ -73,7 +73,7 @@ module _ (a : Seated) (notes : List Note) (noted : List Mention) (holds : HasNot
 
     -- it is of another
     pub can_turn : (right : Bool) → CanDo (desk_of s) (Ld NEXT HERE (operands.Number (side right)))
-    can_turn right = let e = entry_here its_entry in can_load (desk_of s) (all_registers s) HERE (entry_record e.letters e.line e.left e.right its_entry.before) (to_entry (desk_of s) here on.note its_entry.before e) (side right) NEXT (side_within right)
+    can_turn right = let e = entry_here its_entry in can_load (desk_of s) (all_registers s) HERE (entry_record e.letters e.line e.left e.right its_entry.before) (to_entry (desk_of s) here on.note its_entry.before e) (side right) NEXT (side_within right) refl
 
     pub turns : (right : Bool) (u : Seated) → desk_of u ≡ desk_after (desk_of s) (Ld NEXT HERE (operands.Number (side right))) → Loads (desk_of s) NEXT (turn_from records (own m on.note.serial) right) (desk_of u)
     turns right u is =

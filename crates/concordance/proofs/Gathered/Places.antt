@@ -30,7 +30,7 @@ module _ (heap : Heap) where
       entry_at = ap (record_at heap) e.is ∙ e.entry
 
       pub entry_has : (x : ℕ) → x < 5 → HasValueAt heap v x
-      entry_has x within = record { found = entry_record e.letters e.line e.left e.right before; is = entry_at; within = within }
+      entry_has x within = record { found = entry_record e.letters e.line e.left e.right before; is = entry_at; within = within; no_cell = refl }
 
       pub letters_got : slice_index_or (values_at heap v) 0 (Number 0) ≡ e.letters
       letters_got = value_of_record v _ 0 entry_at
@@ -48,7 +48,7 @@ module _ (heap : Heap) where
       letters_at = ap (record_at heap) l.is ∙ l.letters
 
       pub letter_there : (x : ℕ) → x < length word → HasValueAt heap v x
-      letter_there x within = record { found = letters_record word; is = letters_at; within = subst (λ (n : ℕ). x < n) (sym (length-map word Number)) within }
+      letter_there x within = record { found = letters_record word; is = letters_at; within = subst (λ (n : ℕ). x < n) (sym (length-map word Number)) within; no_cell = refl }
 
       pub letter_got : (x : ℕ) → x < length word → slice_index_or (values_at heap v) x (Number 0) ≡ Number (slice_index_or word x 0)
       letter_got x within = value_of_record v (letters_record word) x letters_at ∙ get_or-map Number word x 0 (Number 0) within
@@ -63,7 +63,7 @@ module _ (heap : Heap) where
       line_at = ap (record_at heap) l.is ∙ l.line
 
       pub line_has : (x : ℕ) → x < 2 → HasValueAt heap v x
-      line_has x within = record { found = line_record (Number n) before; is = line_at; within = within }
+      line_has x within = record { found = line_record (Number n) before; is = line_at; within = within; no_cell = refl }
 
       pub line_number_got : slice_index_or (values_at heap v) 0 (Number 0) ≡ Number n
       line_number_got = value_of_record v _ 0 line_at

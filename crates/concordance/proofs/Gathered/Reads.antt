@@ -59,7 +59,7 @@ module _ (m : ℕ) (heap : Heap) (k : Mutator) where
   unfolding call action
   call-ld d a x has =
       let there = reference_there heap (register k a) has.found has.is in
-      rw (there.1, there.2, lt-ltb x (length has.found.values) has.within) refl
+      rw (there.1, there.2, lt-ltb x (length has.found.values) has.within, has.no_cell) refl
 
   call-len : (d a : ℕ) (r : Record) → record_at heap (register k a) ≡ Some r → call m heap k (instrs.Len d a) ≡ Ok (loads heap k d (Number (length r.values)))
   unfolding call action
@@ -82,7 +82,7 @@ makes_none q desk (instrs.Len d a) can = made_of q (instrs.Len d a)
 makes_none q desk _ can = absurd can
 
 pub record_none : (o : Result Action End) → making_in o ≡ None → record_made o ≡ None
-record_none (Ok (Makes kind d n)) none = cc
+record_none (Ok (Makes kind d n v)) none = cc
 record_none _ none = refl
 
 pub not_ended : (m : ℕ) (heap : Heap) (k : Mutator) (i : Instr) (end : End) (after : After) → call m heap k i ≡ Ok after → new_record k i ≡ None → MayEnd m heap k i end → ⊥

@@ -6,7 +6,7 @@ use Rattle.std.proofs.lemmas.List.{length-replicate}
 use Rattle.std.proofs.lemmas.Option.{slice_get_within}
 use Rattle.plain_state.specs.declared.end.End.{End}
 use Rattle.plain_state.specs.State.{Mutator, Plain, Record, serial_of}
-use Rattle.plain_state.specs.Writing.{zeros}
+use Rattle.plain_state.specs.Writing.{filled}
 use Rattle.plain_state.proofs.Gained.{gained_serial}
 use Rattle.mutator_asm.specs.declared.instr.Instr.{Instr}
 use Rattle.plain_heap.specs.Call.{After, call}
@@ -50,8 +50,8 @@ module _ (p : Plain) (m : ℕ) (q : Mutator) (there : m < length p.heap.records)
       by_call (Err why) is ok = cc
   settled_grows instr (Some r) some executed =
       let made = new_record-made q instr r some in
-      let makes = call-makes m p.heap q instr made.kind made.register made.len made.makes in
-      let more = gained_serial p.heap m (zeros made.kind made.len) there in
+      let makes = call-makes m p.heap q instr made.kind made.register made.len made.value made.makes in
+      let more = gained_serial p.heap m (filled made.kind made.len made.value) there in
       subst (λ (o : Result After End). serial_of p.heap m + 1 ≤ serial_of (settled p m q o).heap m) (sym makes.0) (omega (arith, more))
 
   grows : (task : Task) → MayCome m p.heap q task Done → serial_of p.heap m + count_made q task ≤ serial_of (after_outcome p m q task Done).heap m

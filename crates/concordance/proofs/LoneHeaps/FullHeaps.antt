@@ -3,10 +3,10 @@ use Rattle.std.proofs.Common.{◌≡◌, ℕ, ◌+◌, ◌-◌, ◌*◌, ◌^◌
 use Rattle.std.proofs.lemmas.List.{append_cancel_right, length-replicate}
 use Rattle.plain_state.specs.declared.end.End.TheVariants.{HeapFull}
 use Rattle.plain_state.specs.declared.sizes.TheConstants.{PAGE_WORDS}
+use Rattle.plain_state.specs.Reachable.{IsLive}
 use Rattle.plain_state.specs.State.{Plain, Record, serial_of}
 use Rattle.mutator_asm.specs.declared.instr.Instr.{Instr}
 use Rattle.heap_state.specs.Functions.{sum_below}
-use Rattle.heap_state.specs.Meaning.Reachable.{IsLive}
 use Rattle.heap_laws.specs.Opening.{opening_mutator}
 use Rattle.gc_worker.specs.declared.calls.call.Call.{Call}
 use Rattle.gc_worker.specs.declared.calls.did.Did.TheVariants.{Trap}

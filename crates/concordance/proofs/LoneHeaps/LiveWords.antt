@@ -7,8 +7,8 @@ use Rattle.std.proofs.lemmas.List.{get_or_past, get_or-set_other}
 use Rattle.std.proofs.lemmas.List.Sums.{sum_by-cons, sum_by-set}
 use Rattle.plain_state.specs.declared.value.Identity.{Identity}
 use Rattle.plain_state.specs.Layout.{size_of}
+use Rattle.plain_state.specs.Reachable.{sum_of_records, words_of}
 use Rattle.plain_state.specs.State.{Record, Heap, at_serial, made_by}
-use Rattle.heap_state.specs.Meaning.Reachable.{sum_of_records, words_of}
 use Rattle.ael_threads.specs.Histories.{Each}
 use Rattle.ael_threads.proofs.Lists.Elements.{each_to_map}
 use Rattle.concordance.specs.Full.{LiveIsMade}

@@ -36,6 +36,7 @@ shows_by b c s h = subst (λ (x : Held). ShowsSeen x c.knows) (sym h.1.worker) h
 shows_more : (b c : Seated) (s : Stepped) → Acts b s c → ShowsSeen b.worker b.knows → ShowsSeen c.worker c.knows
 shows_more b c stepped.Idle h shows = subst (λ (s : Seated). ShowsSeen s.worker s.knows) (sym h.0) shows
 shows_more b c stepped.Moved h shows = shows_by b c stepped.Moved h
+shows_more b c stepped.Traced h shows = shows_by b c stepped.Traced h
 shows_more b c (stepped.Effect m) h shows = shows_by b c (stepped.Effect m) h
 shows_more b c (stepped.Flipped n) h shows = shows_by b c (stepped.Flipped n) h
 shows_more b c (stepped.Ended m end) h shows = shows_by b c (stepped.Ended m end) h

@@ -22,7 +22,7 @@ use Rattle.gc_worker.specs.History.Tally.{FitsTally, Tally, Tasks, after_entry, 
 use Rattle.gc_worker.specs.Laws.Cycles.{SetsAside, low_of, set_aside, size_of, words_claimed}
 use Rattle.gc_worker.specs.Laws.Step.{Heap, held_at, nobody}
 use Rattle.gc_worker.specs.Steps.Stepped.{stepped_by}
-use Rattle.gc_worker.specs.Steps.Turned.{Told, Silent, Answers, Marks, told, turned}
+use Rattle.gc_worker.specs.Steps.Turned.{Told, Silent, Empties, Answers, Marks, told, turned}
 use Rattle.gc_worker.specs.Steps.Wanted.{wanted}
 use Rattle.gc_worker.specs.Workers.Fits.{Fits}
 use Rattle.gc_worker.specs.Workers.Held.{Held}
@@ -51,6 +51,7 @@ story_leads code turns t (Exchanged by asked ∷ es) legal sections own = story_
 -- who ends has nothing set aside
 ended_aside : (w : ℕ) (t : Told) (was : Held) (claims : ℕ) (now : Held) → SetsAside was claims now t → (m : ℕ) (why : End) → stepped_by w t ≡ Ended m why → set_aside was ≡ 0
 ended_aside w Silent was claims now sets m why e = absurd (cc)
+ended_aside w Empties was claims now sets m why e = absurd (cc)
 ended_aside w (Answers task Done) was claims now sets m why e = absurd (cc)
 ended_aside w (Answers task (Trap end)) was claims now sets m why e = omega (arith, sets)
 ended_aside w (Marks asked) was claims now sets m why e = absurd (cc)

@@ -17,7 +17,7 @@ use Rattle.gc_worker.specs.Workers.Held.{Held}
 use Rattle.gc_worker.specs.History.Tally.{tally}
 use Rattle.gc_worker.specs.Laws.Step.{WorkersStand, epoch_of, nobody}
 use Rattle.gc_worker.specs.Steps.Stepped.{stepped_by}
-use Rattle.gc_worker.specs.Steps.Turned.{Told, Silent, Answers, Marks, epoch_in_gate, told}
+use Rattle.gc_worker.specs.Steps.Turned.{Told, Silent, Empties, Answers, Marks, epoch_in_gate, told}
 use Rattle.gc_worker.specs.Steps.Wanted.{wanted}
 use Rattle.gc_worker.proofs.Between.Pages.Copied.{full_tells_live}
 use Rattle.gc_worker.proofs.Cycles.Lows.{low_falls_by_claims}
@@ -44,6 +44,7 @@ module _ (limit : ℕ) (s : CoreState) (w claims : ℕ) (fills : HasClaimed limi
   by_told : (t : Told) (later : List ℕ) (more : ℕ) → LowGoes s.heap.pages s.heap.words later more t → SizeGoes s.heap.pages s.heap.words later t
       → low_of s.heap.pages later + claims_after claims more (stepped_by w t) ≡ PAGE_WORDS * size_of s.heap.pages later
   by_told Silent later more goes same = let l = fills.low in omega (arith, goes, l, same)
+  by_told Empties later more goes same = let l = fills.low in omega (arith, goes, l, same)
   by_told (Answers task Done) later more goes same = let l = fills.low in omega (arith, goes, l, same)
   by_told (Answers task (Trap why)) later more goes same = let l = fills.low in omega (arith, goes, l, same)
   by_told (Marks asked) later more goes grows = omega (arith, goes)

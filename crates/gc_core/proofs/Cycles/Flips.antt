@@ -11,7 +11,7 @@ use Rattle.gc_worker.specs.History.Tally.{FitsTally, Tally, tally}
 use Rattle.gc_worker.specs.Laws.Cycles.{IsFirst, size_of}
 use Rattle.gc_worker.specs.Laws.Step.{FlipsOnce, FlipsWhereTold, nobody}
 use Rattle.gc_worker.specs.Steps.Stepped.{stepped_by}
-use Rattle.gc_worker.specs.Steps.Turned.{Told, Silent, Answers, Marks, told}
+use Rattle.gc_worker.specs.Steps.Turned.{Told, Silent, Empties, Answers, Marks, told}
 use Rattle.gc_worker.specs.Steps.Wanted.{wanted}
 use Rattle.gc_worker.specs.Workers.Held.{Held}
 use Rattle.gc_worker.proofs.Cycles.Flips.{flips_are_first}
@@ -44,6 +44,7 @@ module _ (m w flips : ℕ) (t : Tally) (once : FlippedOnce m t flips) where
 
   stays_once : (all : Bool) (u : Told) → ((pages : ℕ) → u ≡ Marks pages → all ≡ true → t.asked w ≡ false) → FlippedOnce m (tally t (extra w u)) (flips_after m flips all w (stepped_by w u))
   stays_once all Silent first = once
+  stays_once all Empties first = once
   stays_once all (Answers task Done) first = by_answer (w == m) refl
   stays_once all (Answers task (Trap why)) first = by_answer (w == m) refl
   stays_once all (Marks pages) first = by_flip all (w == m) (first pages refl) refl

@@ -2,6 +2,7 @@
 use Rattle.std.proofs.Common.{◌≡◌, ℕ, ◌+◌, Bool, cond, Option, Some, None, ap, sym, subst, ◌∙◌, arith}
 use Rattle.std.specs.Option.{option_map}
 use Rattle.std.proofs.lemmas.Bool.{eq-eqb, ne_eqb}
+use Rattle.plain_state.specs.Reachable.{IsLive}
 use Rattle.plain_state.specs.State.{Plain}
 use Rattle.space_map.specs.declared.area_word.AreaWord.{AreaWord}
 use Rattle.space_map.specs.AreaWord.{decode_area}
@@ -9,7 +10,6 @@ use Rattle.space_map.specs.Spaces.{to_space}
 use Rattle.space_map.specs.Table.{Traced}
 use Rattle.heap_state.specs.Configuration.{Configuration, table, era}
 use Rattle.heap_state.specs.Cycles.Copies.{CopiedIsLive, words_copied}
-use Rattle.heap_state.specs.Meaning.Reachable.{IsLive}
 use Rattle.heap_state.specs.Memory.Table.{word_in}
 use Rattle.heap_laws.proofs.Steps.Answers.{areas_are_read}
 use Rattle.gc_worker.specs.Laws.Copied.{CopiedWasLive, IsTraced}

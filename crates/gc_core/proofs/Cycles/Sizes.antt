@@ -6,11 +6,11 @@ use Rattle.atom_store.specs.declared.step.Step.{Step}
 use Rattle.atom_store.specs.Step.{reply_of, words_after}
 use Rattle.gc_worker.specs.declared.calls.did.Did.TheVariants.{Done, Trap}
 use Rattle.gc_worker.specs.declared.steps.stepped.Stepped.{Stepped}
-use Rattle.gc_worker.specs.declared.steps.stepped.Stepped.TheVariants.{Idle, Moved, Effect, Flipped, Ended}
+use Rattle.gc_worker.specs.declared.steps.stepped.Stepped.TheVariants.{Idle, Moved, Effect, Flipped, Traced, Ended}
 use Rattle.gc_worker.specs.Laws.Cycles.{SizeGoes, size_of}
 use Rattle.gc_worker.specs.Laws.Step.{nobody}
 use Rattle.gc_worker.specs.Steps.Stepped.{stepped_by}
-use Rattle.gc_worker.specs.Steps.Turned.{Told, Silent, Answers, Marks, told}
+use Rattle.gc_worker.specs.Steps.Turned.{Told, Silent, Empties, Answers, Marks, told}
 use Rattle.gc_worker.specs.Steps.Wanted.{wanted}
 use Rattle.gc_worker.specs.Workers.Held.{Held}
 use Rattle.gc_worker.proofs.Between.Beginning.{tasks_may_begin}
@@ -33,6 +33,7 @@ module _ (s : CoreState) (w : ℕ) (l : IsLawful s) where
 
   by_told : (t : Told) (later : List ℕ) → SizeGoes s.heap.pages s.heap.words later t → SizeIsAfter s.heap.pages (size_in s) (size_of s.heap.pages later) (stepped_by w t)
   by_told Silent later goes = goes
+  by_told Empties later goes = goes
   by_told (Answers task Done) later goes = goes
   by_told (Answers task (Trap why)) later goes = goes
   by_told (Marks asked) later goes = goes
@@ -54,6 +55,7 @@ module _ (s : CoreState) (w : ℕ) (l : IsLawful s) where
 never_fewer : (limit size next : ℕ) (t : Stepped) → size ≤ limit → SizeIsAfter limit size next t → size ≤ next
 never_fewer limit size next Idle few same = omega (arith, same)
 never_fewer limit size next Moved few same = omega (arith, same)
+never_fewer limit size next Traced few same = omega (arith, same)
 never_fewer limit size next (Effect m) few same = omega (arith, same)
 never_fewer limit size next (Ended m why) few same = omega (arith, same)
 never_fewer limit size next (Flipped asked) few grows = (grown_within limit size next few grows).0

@@ -8,12 +8,12 @@ use Rattle.mutator_asm.specs.declared.item.Item.{Item}
 use Rattle.mutator_asm.specs.Program.{IsWellFormed}
 use Rattle.plain_heap.specs.declared.mark.Mark.{Mark}
 use Rattle.plain_heap.specs.declared.mark.Mark.TheVariants.{Full}
-use Rattle.plain_heap.specs.Order.{Story, opening, story}
+use Rattle.plain_heap.specs.Order.{Story, first_story, opening, story}
 use Rattle.gc_worker.specs.declared.config.Config.{Config}
 use Rattle.gc_worker.specs.declared.calls.entry.Entry.{Entry}
 use Rattle.gc_worker.specs.declared.steps.stepped.Stepped.{Stepped}
-use Rattle.gc_worker.specs.declared.steps.stepped.Stepped.TheVariants.{Idle, Moved, Effect, Flipped, Ended}
-use Rattle.gc_worker.specs.History.Needs.{EachFullIs, EachMayCome, being_made, made_since, first_story}
+use Rattle.gc_worker.specs.declared.steps.stepped.Stepped.TheVariants.{Idle, Moved, Effect, Flipped, Traced, Ended}
+use Rattle.gc_worker.specs.History.Needs.{EachFullIs, EachMayCome, being_made, made_since}
 use Rattle.gc_worker.specs.History.Order.{order_of}
 use Rattle.gc_worker.specs.History.Tally.{aside_in, tally}
 use Rattle.gc_worker.specs.Laws.Step.{WorkersStand}
@@ -63,7 +63,7 @@ module _ (code : List (List Instr)) (items : List Item) (config : Config) (sched
   law : IsRunOf events_keep s (first_story code) r
   law = run_law events_keep schedule 0 n s (first_story code) steady stands
 
-  acts : EachActs code config.turns (opening code) r.order
+  acts : EachActs code config.turns (first_story code) r.order
   acts = run_acts events_keep schedule 0 n s (first_story code) steady stands
 
   -- ---- its history
@@ -136,8 +136,8 @@ module _ (code : List (List Instr)) (items : List Item) (config : Config) (sched
   -- ---- a full heap at its end
 
   module _ (w m asked room live : ℕ) (told : (event_of r.last w).told ≡ Ended m (ends.HeapFull asked room live)) where
-    told_so : IsTold r.last w now.now (event_of r.last w).after (Ended m (ends.HeapFull asked room live))
-    told_so = subst (IsTold r.last w now.now (event_of r.last w).after) told (events_keep r.last w now law.steady law.stands).told
+    told_so : IsTold r.last w now (event_of r.last w).after (Ended m (ends.HeapFull asked room live))
+    told_so = subst (IsTold r.last w now (event_of r.last w).after) told (events_keep r.last w now law.steady law.stands).told
 
     grown : HasGrown config.limit r.last
     grown = full_has_grown config.limit r.last m now.now now.flip (claims_of code config schedule n) asked room live law.stands has_last.3 told_so.3.1
@@ -156,12 +156,14 @@ module _ (code : List (List Instr)) (items : List Item) (config : Config) (sched
 told_full : (told : Stepped) (m asked room live : ℕ) → mark_of told ≡ Some (Full m asked room live) → told ≡ Ended m (ends.HeapFull asked room live)
 told_full Idle m asked room live e = cc
 told_full Moved m asked room live e = cc
+told_full Traced m asked room live e = cc
 told_full (Effect j) m asked room live e = cc
 told_full (Flipped pages) m asked room live e = cc
 told_full (Ended j ends.Halt) m asked room live e = cc
 told_full (Ended j ends.NotPointer) m asked room live e = cc
 told_full (Ended j ends.NotNumber) m asked room live e = cc
 told_full (Ended j ends.OutOfRange) m asked room live e = cc
+told_full (Ended j ends.WeakCell) m asked room live e = cc
 told_full (Ended j ends.IntoRaw) m asked room live e = cc
 told_full (Ended j ends.ZeroDivisor) m asked room live e = cc
 told_full (Ended j ends.JumpOut) m asked room live e = cc

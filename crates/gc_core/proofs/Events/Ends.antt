@@ -6,10 +6,10 @@ use Rattle.std.proofs.lemmas.List.Folds.{list_all_at}
 use Rattle.std.proofs.lemmas.Option.{same_Some, slice_get-map, slice_get_within, unwrap_or-slice_get}
 use Rattle.plain_state.specs.declared.end.End.{End}
 use Rattle.plain_state.specs.State.{Mutator, Plain}
-use Rattle.plain_heap.specs.Order.{Story, marked, end_of}
+use Rattle.plain_heap.specs.Order.{Story, end_of}
 use Rattle.plain_heap.specs.Print.{Seen, plain_seen}
 use Rattle.gc_worker.specs.declared.steps.stepped.Stepped.{Stepped}
-use Rattle.gc_worker.specs.declared.steps.stepped.Stepped.TheVariants.{Idle, Moved, Effect, Flipped, Ended}
+use Rattle.gc_worker.specs.declared.steps.stepped.Stepped.TheVariants.{Idle, Moved, Effect, Flipped, Traced, Ended}
 use Rattle.gc_worker.proofs.Between.Standing.{what_stands_is_so}
 use Rattle.gc_core.specs.Core.{CoreState}
 use Rattle.gc_core.specs.Event.{core_after, event_of}
@@ -38,7 +38,6 @@ not_all p m none = by_mutator (slice_get p.mutators m) refl none
         ∙ ap (λ (end : Option End). is_some end) (same_Some q.end None none))
 
 pub ends_are_told : (s : CoreState) (w : ℕ) → IsLawful s → ((m : ℕ) (why : End) → (event_of s w).told ≢ Ended m why) → all_ended (core_after s w) ≡ all_ended s
-unfolding marked
 ends_are_told s w l untold =
     let keeps = events_keep s w story l.steady l.stands in
     ap (list_all has_end) (stands_seen what_stands_is_so (core_after s w) _ _ keeps.stands)
@@ -48,10 +47,11 @@ ends_are_told s w l untold =
     story : Story
     story = record { flip = l.flip; now = l.plain }
 
-    by_told : (t : Stepped) → (event_of s w).told ≡ t → IsTold s w l.plain (event_of s w).after t
+    by_told : (t : Stepped) → (event_of s w).told ≡ t → IsTold s w story (event_of s w).after t
         → list_all has_end (plain_seen (story_by s story t).now) ≡ list_all has_end (plain_seen l.plain)
     by_told Idle e told = refl
     by_told Moved e told = refl
+    by_told Traced e told = refl
     by_told (Flipped asked) e told = refl
     by_told (Effect m) e told = not_all (story_by s story (Effect m)).now m told.2 ∙ sym (not_all l.plain m told.1)
     by_told (Ended m why) e told = absurd (untold m why e)

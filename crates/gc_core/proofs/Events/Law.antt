@@ -1,6 +1,6 @@
 -- The law of an event, from the law of a worker's step.
 use Rattle.std.proofs.Common.{◌≡◌, ◌≢◌, ℕ, ◌+◌, ◌<◌, ◌≤◌, Bool, true, false, nat_lt, length, Option, Some, None, slice_get, get_or, refl, ap, sym, subst, ◌∙◌, arith, get_or-set_same, get_or-set_other, length-set, lt-ltb, ⊎_elim}
-use Rattle.std.specs.Option.{is_some, option_map, option_to_list}
+use Rattle.std.specs.Option.{is_some, option_map}
 use Rattle.std.proofs.lemmas.Bool.{cases_eq, cases_lt}
 use Rattle.std.proofs.lemmas.List.{get_or_past}
 use Rattle.std.proofs.lemmas.Option.{slice_get_within, slice_get-get_or, slice_get_past}
@@ -9,9 +9,7 @@ use Rattle.plain_state.specs.declared.end.End.TheVariants as ends
 use Rattle.plain_state.specs.State.{Plain, Mutator}
 use Rattle.plain_heap.specs.Order.{Story, fresh, end_of}
 use Rattle.plain_heap.specs.Step.{fetch, asked_by}
-use Rattle.plain_heap.proofs.Orders.Stories.{story_after-now}
 use Rattle.space_map.specs.Table.{whole_length}
-use Rattle.heap_state.specs.Meaning.Represents.{Represents}
 use Rattle.heap_state.specs.Meaning.Values.{Accounts}
 use Rattle.heap_state.proofs.Puts.{none≢some}
 use Rattle.atom_store.specs.declared.step.Step.{Step}
@@ -26,23 +24,23 @@ use Rattle.gc_worker.specs.Plain.Full.{FullByEnd, FullWhereTold}
 use Rattle.gc_worker.specs.Laws.Gone.{ScannersAreLast}
 use Rattle.gc_worker.specs.Laws.Represented.{HasKept}
 use Rattle.gc_worker.specs.Workers.Held.{Held}
-use Rattle.gc_worker.specs.Laws.Step.{Heap, nobody, held_at, layout_of, read, moved, WorkersStand, StepKeeps, StepsKeep, FlipsWhereTold, epoch_of, at_flip}
+use Rattle.gc_worker.specs.Laws.Step.{Heap, nobody, held_at, layout_of, moved, WorkersStand, StepKeeps, StepsKeep, FlipsWhereTold, epoch_of, at_flip}
 use Rattle.gc_worker.specs.declared.calls.did.Did.{Did}
 use Rattle.gc_worker.specs.declared.calls.did.Did.TheVariants.{Done, Trap}
-use Rattle.gc_worker.specs.Steps.Turned.{Told, Silent, Answers, Marks, turned, told}
+use Rattle.gc_worker.specs.Steps.Turned.{Told, Silent, Empties, Answers, Marks, turned, told}
 use Rattle.gc_worker.specs.Steps.Wanted.{wanted}
-use Rattle.gc_worker.specs.declared.steps.stepped.Stepped.{Stepped}
 use Rattle.gc_worker.specs.declared.steps.stepped.Stepped.TheVariants as tells
-use Rattle.gc_worker.specs.Plain.Marks.{mark_of, task_of}
+use Rattle.gc_worker.specs.History.Order.{mark_by}
+use Rattle.gc_worker.specs.Plain.Marks.{task_of}
 use Rattle.gc_core.specs.Core.{CoreState}
 use Rattle.gc_core.specs.Event.{event_of, ready}
 use Rattle.gc_worker.specs.Steps.Stepped.{stepped_by}
 use Rattle.gc_worker.specs.Laws.Claims.{epoch_of_heap}
-use Rattle.gc_core.specs.Law.{AllHaveLeft, IsLawful, IsOnTask, IsScanner, IsSteady, IsForWant, IsTold, KeepsStory, EventsKeep, EventsMeet, StandsFor, plain_after, story_by}
+use Rattle.gc_core.specs.Law.{AllHaveLeft, IsLawful, IsOnTask, IsScanner, IsSteady, IsForWant, IsTold, KeepsStory, EventsKeep, EventsMeet, StandsFor, story_by, story_in}
 use Rattle.gc_core.specs.Whole.{MissingWorkersAreIdle}
 use Rattle.gc_worker.proofs.Between.Last.{scanners_last_with, scanners_stay_last}
 use Rattle.gc_worker.proofs.Plain.Represented.{represented_workers}
-use Rattle.gc_worker.proofs.Plain.Outcomes.{Sort, IsFull, IsStep, sort, comes, end_then, asks_then, counted_then, was_running}
+use Rattle.gc_worker.proofs.Plain.Outcomes.{comes, end_then, asks_then, counted_then, no_flip, now_marked, was_running}
 use Rattle.gc_core.proofs.Events.Readied.{ReadyToStep, readied_stands, same_task, ready_task, ready_account, ready_stage}
 
 -- ---- idle
@@ -59,13 +57,9 @@ module _ (s : CoreState) (w : ℕ) (story : Story) (steady : IsSteady s) (stands
 
 -- an answer is no flip
 answer_story : (s : CoreState) (story : Story) (w : ℕ) (task : Task) (outcome : Did)
-    → story_by s story (stepped_by w (Answers task outcome)) ≡ record { flip = story.flip; now = plain_after s story.now (stepped_by w (Answers task outcome)) }
-answer_story s story w task Done = refl
-answer_story s story w task (Trap why) = by_sort (sort w why)
-  where
-    by_sort : Sort w why → story_by s story (tells.Ended w why) ≡ record { flip = story.flip; now = plain_after s story.now (tells.Ended w why) }
-    by_sort (IsStep e c) = rw e refl
-    by_sort (IsFull asked room live e) = rw e refl
+    → story_by s story (stepped_by w (Answers task outcome)) ≡ record { flip = story.flip; now = now_marked s.code s.turns story.now (mark_by w outcome) }
+answer_story s story w task Done = no_flip s.code s.turns story.now story.flip w Done
+answer_story s story w task (Trap why) = no_flip s.code s.turns story.now story.flip w (Trap why)
 
 -- an end for want of room comes for want of room
 for_want : (s : CoreState) (p : Plain) (w : ℕ) (why : End) → ((asked room live : ℕ) → why ≡ ends.HeapFull asked room live → asked_by s.code s.turns p w ≡ Some asked)
@@ -74,6 +68,7 @@ for_want s p w ends.Halt asks full = tt
 for_want s p w ends.NotPointer asks full = tt
 for_want s p w ends.NotNumber asks full = tt
 for_want s p w ends.OutOfRange asks full = tt
+for_want s p w ends.WeakCell asks full = tt
 for_want s p w ends.IntoRaw asks full = tt
 for_want s p w ends.ZeroDivisor asks full = tt
 for_want s p w ends.JumpOut asks full = tt
@@ -177,6 +172,7 @@ module _ (law : StepsKeep) (goes : WorkersGoOn) (wants : WorkersWant) (so : What
 
     story_stands : (u : Told) → t ≡ u → IsAnswered p w u → Stands u
     story_stands Silent e answered = (refl, refl)
+    story_stands Empties e answered = (refl, refl)
     story_stands (Marks asked) e answered = (refl, refl)
     story_stands (Answers task outcome) e answered =
         answers_stand task outcome answered.mutator answered.is answered.no_end (own_task task outcome answered.mutator e answered.is) answered.may
@@ -205,8 +201,9 @@ module _ (law : StepsKeep) (goes : WorkersGoOn) (wants : WorkersWant) (so : What
         asks_then s.code s.turns p w k (has_code k is) is none asked room live (subst (λ (e : End). MayCome w p.heap k (task_of (fetch s.code s.turns w k)) (Trap e)) f may)
 
     told_by : (u : Told) → t ≡ u → IsAnswered p w u → FullWhereTold r.heap.pages r.heap.words y u → FlipsWhereTold r.heap.pages r.heap.words (words_after q r.heap.words) y u
-        → IsTold s w p after (stepped_by w u)
+        → IsTold s w story after (stepped_by w u)
     told_by Silent e answered full flips = epoch_same flips
+    told_by Empties e answered full flips = epoch_same flips
     told_by (Marks asked) e answered full flips =
         (flips.asked_is, flips.next ∙ ap (λ n. n + 1) (sym flips.epoch ∙ (λ i. epoch_of (r.pages i) (r.words i))))
     told_by (Answers task Done) e answered full flips =
@@ -217,7 +214,8 @@ module _ (law : StepsKeep) (goes : WorkersGoOn) (wants : WorkersWant) (so : What
         let comes_to = may task (Trap why) e answered in (
           refl,
           was task (Trap why) e answered,
-          end_then s.code s.turns p w k (has_code k answered.is) answered.is answered.no_end (Trap why) comes_to,
+          ap (λ (z : Story). end_of z.now w) (answer_story s story w task (Trap why))
+              ∙ end_then s.code s.turns p w k (has_code k answered.is) answered.is answered.no_end (Trap why) comes_to,
           for_want s p w why
               (full_asks k answered.is answered.no_end why comes_to)
               (rw (r.pages, r.words) at full),
@@ -280,6 +278,7 @@ module _ (law : StepsKeep) (goes : WorkersGoOn) (wants : WorkersWant) (so : What
 
     own_on : w < s.heap.mutators → (u : Told) → t ≡ u → IsAnswered p w u → IsOnTask later w
     own_on l Silent e answered = still_task l (rw e refl) (rw e tt)
+    own_on l Empties e answered = still_task l (rw e refl) (rw e tt)
     own_on l (Marks asked) e answered = still_task l (rw e refl) (rw e tt)
     own_on l (Answers task outcome) e answered = answered_task l task outcome e answered
 
@@ -351,19 +350,17 @@ module _ (law : StepsKeep) (readies : ReadyingStands) (tasks : TasksMayBegin) (g
 
   -- ---- of each plain state that is represented
 
-  story_now : (s : CoreState) (story : Story) (told : Stepped) → (story_by s story told).now ≡ plain_after s story.now told
-  story_now s story told = story_after-now s.code s.turns story (option_to_list (mark_of told))
-
   pub events_meet : EventsMeet
   events_meet s w p lawful for_it =
-      let story : Story = record { flip = lawful.flip; now = p } in
+      let story : Story = story_in s lawful p in
       let stands = represented_lawful s p lawful for_it in
       let k = events_keep s w story lawful.steady stands in
-      let later = so (event_of s w).after (story_by s story (event_of s w).told).now (story_by s story (event_of s w).told).flip k.stands in
-      let now = story_now s story (event_of s w).told in
+      let later : Story = story_by s story (event_of s w).told in
+      let is_so = so (event_of s w).after later.now later.flip k.stands in
       record {
-        lawful = record { steady = k.steady; plain = _; flip = _; stands = k.stands };
-        after = record { represents = subst (Represents (read (event_of s w).after)) now later.sound.represents; kept = subst (HasKept (event_of s w).after.checkpoints _) now (kept_itself _ _) };
+        lawful = record { steady = k.steady; plain = later.now; flip = later.flip; stands = k.stands };
+        flip = refl;
+        after = record { represents = is_so.sound.represents; kept = kept_itself (event_of s w).after.checkpoints later.now };
         told = k.told;
       }
 

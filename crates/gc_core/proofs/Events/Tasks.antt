@@ -16,7 +16,7 @@ use Rattle.gc_worker.specs.Workers.Counted.{CountsApart, counted, count_after}
 use Rattle.gc_worker.specs.Steps.Stepped.{IsSound, awaits, awaits_at, stepped_by, uncounted}
 use Rattle.gc_worker.specs.declared.steps.stepped.Stepped.TheVariants as steps
 use Rattle.gc_worker.specs.declared.calls.did.Did.TheVariants.{Done, Trap}
-use Rattle.gc_worker.specs.Steps.Turned.{Told, Silent, Answers, Marks, told, turned}
+use Rattle.gc_worker.specs.Steps.Turned.{Told, Silent, Empties, Answers, Marks, told, turned}
 use Rattle.atom_store.specs.declared.reply.Reply.{Reply}
 use Rattle.atom_store.specs.declared.step.Step.{Step}
 use Rattle.atom_store.specs.Step.{reply_of}
@@ -86,6 +86,7 @@ counts_effect : (k m count : ℕ) (t : Told) → stepped_by k t ≡ steps.Effect
 counts_effect k m count (Answers task Done) is = refl
 counts_effect k m count (Answers task (Trap end)) is = absurd (cc)
 counts_effect k m count Silent is = absurd (cc)
+counts_effect k m count Empties is = absurd (cc)
 counts_effect k m count (Marks asked) is = absurd (cc)
 
 -- and nothing else is
@@ -93,6 +94,7 @@ counts_no_other : (k count : ℕ) (t : Told) → ((m : ℕ) → stepped_by k t �
 counts_no_other k count (Answers task Done) other = absurd (other k refl)
 counts_no_other k count (Answers task (Trap end)) other = refl
 counts_no_other k count Silent other = refl
+counts_no_other k count Empties other = refl
 counts_no_other k count (Marks asked) other = refl
 
 -- ---- its step with the count beside it

@@ -24,7 +24,7 @@ use Rattle.gc_worker.specs.Laws.Step.{Heap, StepKeeps, WorkersStand, held_at, mo
 use Rattle.gc_worker.specs.Plain.Marks.{mark_of, task_of}
 use Rattle.gc_worker.specs.Plain.Seen.{seen}
 use Rattle.gc_worker.specs.Steps.Stepped.{stepped_by}
-use Rattle.gc_worker.specs.Steps.Turned.{Told, Silent, Answers, Marks, told}
+use Rattle.gc_worker.specs.Steps.Turned.{Told, Silent, Empties, Answers, Marks, told}
 use Rattle.gc_worker.specs.Steps.Wanted.{wanted}
 use Rattle.gc_worker.proofs.Between.Beginning.{tasks_may_begin}
 use Rattle.gc_worker.proofs.Between.GoingOn.{workers_go_on}
@@ -60,6 +60,7 @@ adds s w = adds_by s w (wanted (ready s w))
 
 order_more : (w : ℕ) (t : Told) → order_of (extra w t) ≡ option_to_list (mark_of (stepped_by w t))
 order_more w Silent = refl
+order_more w Empties = refl
 order_more w (Answers task Done) = refl
 order_more w (Answers task (Trap end)) = refl
 order_more w (Marks asked) = refl
@@ -157,6 +158,7 @@ module _ (least : ℕ) (s : CoreState) (w : ℕ) (log : List Entry) (h : HasHist
 
     fetches : (m : ℕ) (v : Told) → u ≡ v → IsAnswered t.now w v → AreFetched s.code s.turns m (after_all (opening s.code) log) (extra w v)
     fetches m Silent e comes = tt
+    fetches m Empties e comes = tt
     fetches m (Marks pages) e comes = tt
     fetches m (Answers task did) e comes = (own, tt)
       where

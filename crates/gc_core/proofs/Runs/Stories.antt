@@ -10,16 +10,16 @@ use Rattle.plain_state.specs.State as plain
 use Rattle.plain_heap.specs.Order.{Story, story_after}
 use Rattle.plain_heap.specs.Print.{Seen, plain_seen}
 use Rattle.plain_heap.proofs.Orders.Marks.{EachMark-append}
-use Rattle.plain_heap.proofs.Orders.Stories.{story_after-now, story_after-append}
+use Rattle.plain_heap.proofs.Orders.Stories.{story_after-append}
 use Rattle.gc_worker.specs.Laws.Between.{WhatStandsIsSo}
 use Rattle.gc_worker.specs.Workers.Held.{Held}
 use Rattle.gc_worker.specs.Laws.Step.{Heap, WorkersStand, nobody, held_at}
 use Rattle.gc_worker.specs.declared.steps.stepped.Stepped.{Stepped}
-use Rattle.gc_worker.specs.declared.steps.stepped.Stepped.TheVariants.{Idle, Moved, Effect, Flipped, Ended}
+use Rattle.gc_worker.specs.declared.steps.stepped.Stepped.TheVariants.{Idle, Moved, Effect, Flipped, Traced, Ended}
 use Rattle.gc_worker.specs.Plain.Marks.{MarkActs, EachActs, mark_of}
 use Rattle.gc_core.specs.Core.{CoreState}
 use Rattle.gc_core.specs.Event.{core_after, event_of}
-use Rattle.gc_core.specs.Law.{IsSteady, IsTold, EventsKeep, plain_after, story_by}
+use Rattle.gc_core.specs.Law.{IsSteady, IsTold, EventsKeep, story_by}
 use Rattle.gc_core.specs.Readers.{seen_of}
 use Rattle.gc_core.specs.Run.{Ran, run_from, all_ended, EachEvent, Unless}
 use Rattle.gc_core.specs.Whole.{IsFull}
@@ -27,29 +27,31 @@ use Rattle.gc_core.specs.Whole.{IsFull}
 -- ---- marks
 
 -- the mark of an end acts
-end_acts : (s : CoreState) (w : ℕ) (p : plain.Plain) (after : Heap) (m : ℕ) (why : End) → IsTold s w p after (Ended m why) → EachActs s.code s.turns p (option_to_list (mark_of (Ended m why)))
-end_acts s w p after m ends.Halt t = (t.1, tt)
-end_acts s w p after m ends.NotPointer t = (t.1, tt)
-end_acts s w p after m ends.NotNumber t = (t.1, tt)
-end_acts s w p after m ends.OutOfRange t = (t.1, tt)
-end_acts s w p after m ends.IntoRaw t = (t.1, tt)
-end_acts s w p after m ends.ZeroDivisor t = (t.1, tt)
-end_acts s w p after m ends.JumpOut t = (t.1, tt)
-end_acts s w p after m ends.TurnsOut t = (t.1, tt)
-end_acts s w p after m ends.OutputFull t = (t.1, tt)
-end_acts s w p after m (ends.HeapFull asked room live) t = ((t.1, t.3.0, t.3.1.short), tt)
+end_acts : (s : CoreState) (w : ℕ) (story : Story) (after : Heap) (m : ℕ) (why : End) → IsTold s w story after (Ended m why) → EachActs s.code s.turns story (option_to_list (mark_of (Ended m why)))
+end_acts s w story after m ends.Halt t = (t.1, tt)
+end_acts s w story after m ends.NotPointer t = (t.1, tt)
+end_acts s w story after m ends.NotNumber t = (t.1, tt)
+end_acts s w story after m ends.OutOfRange t = (t.1, tt)
+end_acts s w story after m ends.WeakCell t = (t.1, tt)
+end_acts s w story after m ends.IntoRaw t = (t.1, tt)
+end_acts s w story after m ends.ZeroDivisor t = (t.1, tt)
+end_acts s w story after m ends.JumpOut t = (t.1, tt)
+end_acts s w story after m ends.TurnsOut t = (t.1, tt)
+end_acts s w story after m ends.OutputFull t = (t.1, tt)
+end_acts s w story after m (ends.HeapFull asked room live) t = ((t.1, t.3.0, t.3.1.short), tt)
 
 -- the mark of whatever is told acts
-told_acts : (s : CoreState) (w : ℕ) (p : plain.Plain) (after : Heap) (told : Stepped) → IsTold s w p after told → EachActs s.code s.turns p (option_to_list (mark_of told))
-told_acts s w p after Idle t = tt
-told_acts s w p after Moved t = tt
-told_acts s w p after (Flipped asked) t = (tt, tt)
-told_acts s w p after (Effect m) t = (t.1, tt)
-told_acts s w p after (Ended m why) t = end_acts s w p after m why t
+told_acts : (s : CoreState) (w : ℕ) (story : Story) (after : Heap) (told : Stepped) → IsTold s w story after told → EachActs s.code s.turns story (option_to_list (mark_of told))
+told_acts s w story after Idle t = tt
+told_acts s w story after Moved t = tt
+told_acts s w story after Traced t = tt
+told_acts s w story after (Flipped asked) t = (tt, tt)
+told_acts s w story after (Effect m) t = (t.1, tt)
+told_acts s w story after (Ended m why) t = end_acts s w story after m why t
 
 -- and where it says that the heap is full it is
-told_full : (s : CoreState) (w : ℕ) (p : plain.Plain) → IsTold s w p (event_of s w).after (event_of s w).told → IsFull s w
-told_full s w p t asked room live e = (subst (IsTold s w p (event_of s w).after) e t).3.1
+told_full : (s : CoreState) (w : ℕ) (story : Story) → IsTold s w story (event_of s w).after (event_of s w).told → IsFull s w
+told_full s w story t asked room live e = (subst (IsTold s w story (event_of s w).after) e t).3.1
 
 -- ---- runs
 
@@ -79,24 +81,23 @@ module _ (keep : EventsKeep) where
 
   -- ---- each mark acts
 
-  acts_as : (schedule : ℕ → ℕ) (at n : ℕ) (s : CoreState) (p : plain.Plain) (b : Bool) → all_ended s ≡ b
-      → EachActs s.code s.turns p (option_to_list (mark_of (event_of s (schedule at)).told))
-      → EachActs s.code s.turns (plain_after s p (event_of s (schedule at)).told) (run_from schedule (at + 1) n (core_after s (schedule at))).order
-      → EachActs s.code s.turns p (run_from schedule at (suc n) s).order
+  acts_as : (schedule : ℕ → ℕ) (at n : ℕ) (s : CoreState) (story : Story) (b : Bool) → all_ended s ≡ b
+      → EachActs s.code s.turns story (option_to_list (mark_of (event_of s (schedule at)).told))
+      → EachActs s.code s.turns (story_by s story (event_of s (schedule at)).told) (run_from schedule (at + 1) n (core_after s (schedule at))).order
+      → EachActs s.code s.turns story (run_from schedule at (suc n) s).order
   unfolding run_from
-  acts_as schedule at n s p true is now rest = rw is tt
-  acts_as schedule at n s p false is now rest = rw is
-      (EachMark-append (MarkActs s.code s.turns) s.code s.turns p (option_to_list (mark_of (event_of s (schedule at)).told)) (run_from schedule (at + 1) n (core_after s (schedule at))).order now rest)
+  acts_as schedule at n s story true is now rest = rw is tt
+  acts_as schedule at n s story false is now rest = rw is
+      (EachMark-append (MarkActs s.code s.turns) s.code s.turns story (option_to_list (mark_of (event_of s (schedule at)).told)) (run_from schedule (at + 1) n (core_after s (schedule at))).order now rest)
 
-  pub run_acts : (schedule : ℕ → ℕ) (at n : ℕ) (s : CoreState) (story : Story) → IsSteady s → WorkersStand s.heap story.now story.flip → EachActs s.code s.turns story.now (run_from schedule at n s).order
+  pub run_acts : (schedule : ℕ → ℕ) (at n : ℕ) (s : CoreState) (story : Story) → IsSteady s → WorkersStand s.heap story.now story.flip → EachActs s.code s.turns story (run_from schedule at n s).order
   unfolding run_from
   run_acts schedule at zero s story steady stands = tt
   run_acts schedule at (suc n) s story steady stands =
       let k = keep s (schedule at) story steady stands in
       let told = (event_of s (schedule at)).told in
-      let rest : EachActs s.code s.turns (story_by s story told).now (run_from schedule (at + 1) n (core_after s (schedule at))).order = run_acts schedule (at + 1) n (core_after s (schedule at)) (story_by s story told) k.steady k.stands in
-      acts_as schedule at n s story.now (all_ended s) refl (told_acts s (schedule at) story.now (event_of s (schedule at)).after told k.told)
-      (rw (story_after-now s.code s.turns story (option_to_list (mark_of told))) at rest)
+      acts_as schedule at n s story (all_ended s) refl (told_acts s (schedule at) story (event_of s (schedule at)).after told k.told)
+      (run_acts schedule (at + 1) n (core_after s (schedule at)) (story_by s story told) k.steady k.stands)
 
   -- ---- each end for want of room is one
 
@@ -110,7 +111,7 @@ module _ (keep : EventsKeep) where
   run_full schedule at (suc n) s story steady stands =
       let k = keep s (schedule at) story steady stands in
       unless (all_ended s) (IsFull s (schedule at) × EachEvent IsFull schedule (at + 1) n (core_after s (schedule at)))
-      (told_full s (schedule at) story.now k.told, run_full schedule (at + 1) n (core_after s (schedule at)) (story_by s story (event_of s (schedule at)).told) k.steady k.stands)
+      (told_full s (schedule at) story k.told, run_full schedule (at + 1) n (core_after s (schedule at)) (story_by s story (event_of s (schedule at)).told) k.steady k.stands)
 
 -- ---- what is seen
 

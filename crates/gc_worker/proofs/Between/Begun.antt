@@ -68,8 +68,9 @@ use Rattle.gc_worker.specs.Workers.Fits.{FitsTask, FitsTaskAsking, FitsTaskBefor
 use Rattle.gc_worker.specs.Workers.Held.{Held, at_stage, making_for, may_snap}
 use Rattle.gc_worker.specs.Plain.Seen.{Making, seen}
 use Rattle.gc_worker.specs.declared.calls.did.Did.TheVariants.{Done, Trap}
-use Rattle.gc_worker.specs.Steps.Turned.{Answers, Marks, Pointed, Silent, Told, acted, acts, asks_flip, begins, checkpoints, end_by_shortage, ended, epoch_said, first_pointer, forwards_from, forwards_it, full_by, goes_back, goes_on, in_epoch, is_full, looked_by, of_round, passed_by, passes, recalled, rounded, runs_on, served_by, serves_snap, started, told_acted, told_action, told_at, told_gate, told_look, told_start, traced_by, turned_access, turned_at, turned_copy, turned_flip, turned_gate, turned_guard, turned_look, turned_opening, turned_place, turned_recall, turned_register, turned_round, turned_save_round, turned_scan, turned_snap, went_on, with_copy, with_evac, with_record}
+use Rattle.gc_worker.specs.Steps.Turned.{Answers, Marks, Pointed, Silent, Empties, Told, acted, acts, asks_flip, begins, checkpoints, end_by_shortage, ended, epoch_said, first_pointer, forwards_from, forwards_it, full_by, goes_back, goes_on, in_epoch, is_full, looked_by, of_round, passed_by, passes, recalled, rounded, runs_on, served_by, serves_snap, started, told_acted, told_action, told_at, told_gate, told_look, told_start, traced_by, turned_access, turned_at, turned_copy, turned_flip, turned_gate, turned_guard, turned_look, turned_opening, turned_place, turned_recall, turned_register, turned_round, turned_save_round, turned_scan, turned_snap, went_on, with_copy, with_evac, with_record}
 use Rattle.gc_worker.proofs.Stages.Look.Ends.{Stops as StopsRight, action_stops}
+use Rattle.gc_worker.proofs.Plain.Quiet.{IsQuiet, rounds_are_quiet}
 
 -- ---- past the look
 
@@ -230,7 +231,7 @@ module _ (x : Held) where
   by_action (Links d target) = refl
   by_action (Prints n) = refl
   by_action Snaps = begun_if x.epoch (may_snap x) (at_stage (begins x) (serves_snap (begins x))) (went_on (begins x)) refl refl
-  by_action (Makes kind d n) = refl
+  by_action (Makes kind d n v) = refl
   by_action (Measures d i) = refl
   by_action (Loads d i n) = refl
   by_action (Stores i n v) = refl
@@ -308,6 +309,7 @@ rests_before was stage rests past = rests
 
 abbrev NotFull : Told → Type 0
 NotFull Silent = ⊤
+NotFull Empties = ⊤
 NotFull (Answers task Done) = ⊤
 NotFull (Answers task (Trap end)) = MayStop end
 NotFull (Marks asked) = ⊤
@@ -355,7 +357,7 @@ full_by_stage x reply task asked room live (Accesses a) fits e = tt
 full_by_stage x reply task asked room live (Places p) fits e = tt
 full_by_stage x reply task asked room live (Passes g after) fits e = absurd (let e = e in cc)
 full_by_stage x reply task asked room live (Forwards w) fits e = absurd (let e = e in cc)
-full_by_stage x reply task asked room live (Serves d back) fits e = absurd (let e = e in cc)
+full_by_stage x reply task asked room live (Serves d back) fits e = absurd (subst IsQuiet e (rounds_are_quiet (duty.told (duty.taken d reply))))
 full_by_stage x reply task asked room live (Scans s back) fits e = absurd (let e = e in cc)
 full_by_stage x reply task asked room live (Evacuates v s back) fits e = absurd (let e = e in cc)
 full_by_stage x reply task asked room live (Opens o s back) fits e = absurd (let e = e in cc)

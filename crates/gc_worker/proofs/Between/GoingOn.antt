@@ -65,13 +65,14 @@ use Rattle.gc_worker.specs.Workers.Held.{Held, at_stage, making_for, may_snap}
 use Rattle.gc_worker.specs.Plain.Seen.{Making, seen}
 use Rattle.gc_worker.specs.declared.calls.did.Did.TheVariants.{Done, Trap}
 use Rattle.gc_worker.specs.Steps.Stepped.{IsBeginningCheckpoint}
-use Rattle.gc_worker.specs.Steps.Turned.{Answers, Marks, Silent, Told, acted, acts, asks_flip, begins, begins_checkpoint, end_by_shortage, ended, full_by, is_full, looked_by, of_round, passed_by, passes, served_by, serves_snap, started, told, told_access, told_acted, told_action, told_at, told_effect, told_end, told_flip, told_full, told_gate, told_look, told_place, told_snap, told_start, traced_by, turned, turned_access, turned_at, turned_copy, turned_flip, turned_gate, turned_guard, turned_look, turned_opening, turned_place, turned_recall, turned_register, turned_round, turned_save_round, turned_scan, turned_snap, went_on, with_evac, with_record}
+use Rattle.gc_worker.specs.Steps.Turned.{Answers, Marks, Silent, Empties, Told, acted, acts, asks_flip, begins, begins_checkpoint, end_by_shortage, ended, full_by, is_full, looked_by, of_round, passed_by, passes, served_by, serves_snap, started, told, told_access, told_acted, told_action, told_at, told_effect, told_end, told_flip, told_full, told_gate, told_look, told_place, told_snap, told_start, traced_by, turned, turned_access, turned_at, turned_copy, turned_flip, turned_gate, turned_guard, turned_look, turned_opening, turned_place, turned_recall, turned_register, turned_round, turned_save_round, turned_scan, turned_snap, went_on, with_evac, with_record, told_round}
 use Rattle.gc_worker.proofs.Plain.NewRecords.{made_is}
 
 -- ---- what becomes of the task
 
 abbrev Comes : (x y : Held) → Told → Type 0
 Comes x y Silent = y.task ≡ x.task
+Comes x y Empties = y.task ≡ x.task
 Comes x y (Answers task outcome) = IsAnswerOf x y task outcome
 Comes x y (Marks asked) = y.task ≡ x.task
 
@@ -115,7 +116,7 @@ module _ (x : Held) where
     by_action (Links d target) = at_once (acts (begins x) (Links d target)) (refl, refl, refl) refl tt
     by_action (Prints n) = at_once (acts (begins x) (Prints n)) (refl, refl, refl) refl tt
     by_action Snaps = snap_if (may_snap x)
-    by_action (Makes kind d n) = turns (acts (begins x) (Makes kind d n)) Silent (refl, refl, refl) refl
+    by_action (Makes kind d n v) = turns (acts (begins x) (Makes kind d n v)) Silent (refl, refl, refl) refl
     by_action (Measures d i) = turns (acts (begins x) (Measures d i)) Silent (refl, refl, refl) refl
     by_action (Loads d i n) = turns (acts (begins x) (Loads d i n)) Silent (refl, refl, refl) refl
     by_action (Stores i n v) = turns (acts (begins x) (Stores i n v)) Silent (refl, refl, refl) refl
@@ -217,15 +218,15 @@ module _ (x : Held) where
   traced_so d ToSnap = turns (traced_by (of_round x d) ToSnap) Silent (refl, refl, refl) refl
   traced_so d ToScanner = turns (traced_by (of_round x d) ToScanner) Silent (refl, refl, refl) refl
 
-  served_so : (d : duty.Round) (back : Back) (result : RoundEnd) → Turns x (served_by x d back result) Silent
+  served_so : (d : duty.Round) (back : Back) (result : RoundEnd) → Turns x (served_by x d back result) (told_round (Finished result))
   served_so d back (ScanPage page) = turns (served_by x d back (ScanPage page)) Silent (refl, refl, refl) refl
   served_so d back (ScanInPlace page) = turns (served_by x d back (ScanInPlace page)) Silent (refl, refl, refl) refl
-  served_so d back Marked = turns (served_by x d back Marked) Silent (refl, refl, refl) refl
+  served_so d back Marked = turns (served_by x d back Marked) Empties (refl, refl, refl) refl
   served_so d back Traced = traced_so d back
   served_so d back (NothingNow word) = turns (served_by x d back (NothingNow word)) Silent (refl, refl, refl) refl
   served_so d back (AllLeft word) = turns (served_by x d back (AllLeft word)) Silent (refl, refl, refl) refl
 
-  round_by : (d : duty.Round) (back : Back) (turn : Turn RoundEnd) → Turns x (turned_round x d back turn) Silent
+  round_by : (d : duty.Round) (back : Back) (turn : Turn RoundEnd) → Turns x (turned_round x d back turn) (told_round turn)
   round_by d back More = turns (turned_round x d back More) Silent (refl, refl, refl) refl
   round_by d back (Finished result) = served_so d back result
 
@@ -324,6 +325,7 @@ module _ (x : Held) where
 
 kept_by : (x y : Held) (t : Told) → Comes x y t → IsNoAnswer t → y.task ≡ x.task
 kept_by x y Silent comes none = comes
+kept_by x y Empties comes none = comes
 kept_by x y (Answers task outcome) comes none = absurd none
 kept_by x y (Marks asked) comes none = comes
 

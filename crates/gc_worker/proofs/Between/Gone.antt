@@ -178,7 +178,7 @@ module _ (x : Held) (here : IsHere x.stage) where
   acts_here y (Links d target) = tt
   acts_here y (Prints n) = tt
   acts_here y Snaps = either_here (may_snap y) (at_stage y (serves_snap y)) (went_on y) tt tt
-  acts_here y (Makes kind d n) = placing y (header_for y)
+  acts_here y (Makes kind d n v) = placing y (header_for y)
   acts_here y (Measures d i) = tt
   acts_here y (Loads d i n) = tt
   acts_here y (Stores i n v) = tt

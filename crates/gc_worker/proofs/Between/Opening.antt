@@ -127,7 +127,7 @@ entries_fit n least size some short = (
   tt,
   (
     (omega arith, record { front_fits = omega arith; low_fits = omega (arith, size, short); owed_fits = omega arith }),
-    ((omega arith, record { front_fits = omega arith; low_fits = omega (arith, size, short); owed_fits = omega arith }), ((omega arith, some, short), ((omega arith, some, short), ((omega arith, omega arith), tt)))),
+    ((omega arith, record { front_fits = omega arith; low_fits = omega (arith, size, short); owed_fits = omega arith }), (tt, ((omega arith, some, short), ((omega arith, some, short), ((omega arith, omega arith), tt))))),
   ),
 )
 
@@ -146,7 +146,7 @@ module _ (n least : ℕ) (size : IsPageCount n) (some : 4 ≤ least) (short : le
   opened = opening_written n least size some short
 
   opened_whole : WrittenWhole n (opening_entries n least)
-  opened_whole = writes_whole_tables n (opening_entries n least) (entries_fit n least size some short) (record { first = (least, (3, omega arith, refl)); second = (least, (4, omega arith, refl)) })
+  opened_whole = writes_whole_tables n (opening_entries n least) (entries_fit n least size some short) (record { first = (least, (4, omega arith, refl)); second = (least, (5, omega arith, refl)) })
 
   pub are_opening : (room : Bool) → AreOpening n least room (opening_words (layout n room) least)
   are_opening true = record { formed = opened_whole.formed; says = opened_whole.says; whole = opened_whole.saves_formed.whole }

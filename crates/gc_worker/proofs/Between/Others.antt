@@ -5,7 +5,7 @@ use Rattle.plain_state.specs.State.{Mutator, Plain, Record, made_by, serial_of}
 use Rattle.plain_state.proofs.Lists.{slice_get-set_other}
 use Rattle.mutator_asm.specs.declared.instr.Instr.{Instr}
 use Rattle.plain_heap.specs.Action.{action}
-use Rattle.plain_heap.specs.Call.{After, call, zeros}
+use Rattle.plain_heap.specs.Call.{After, call, filled}
 use Rattle.plain_heap.specs.Calls.{IsMadeBy}
 use Rattle.plain_heap.specs.Step.{ended, new_record, settled}
 use Rattle.plain_heap.proofs.Calls.Rest.{call-others, call-count, call-makes, call-none, new_record-made}
@@ -15,7 +15,7 @@ use Rattle.gc_worker.specs.Plain.Answer.{after_answer, after_outcome}
 use Rattle.gc_worker.specs.Laws.Between.{AnswersLeaveTheOthers, LeavesTheOthers}
 use Rattle.gc_worker.specs.declared.calls.did.Did.{Did}
 use Rattle.gc_worker.specs.declared.calls.did.Did.TheVariants.{Done, Trap}
-use Rattle.gc_worker.specs.Steps.Turned.{Silent, Answers, Marks}
+use Rattle.gc_worker.specs.Steps.Turned.{Silent, Empties, Answers, Marks}
 
 module _ (p : Plain) (k : ℕ) where
   as_it_was : LeavesTheOthers p p k
@@ -34,7 +34,7 @@ module _ (p : Plain) (k : ℕ) where
 
     -- a record is made by the mutator itself
     by_made : (r : Record) → IsMadeBy (action q instr) r → Kept (call k p.heap q instr)
-    by_made r m = subst Kept (sym (call-makes k p.heap q instr m.kind m.register m.len m.makes).0) (ap length (get_or-set_other p.heap.records k j (made_by p.heap k ++ zeros m.kind m.len ∷ []) [] d))
+    by_made r m = subst Kept (sym (call-makes k p.heap q instr m.kind m.register m.len m.value m.makes).0) (ap length (get_or-set_other p.heap.records k j (made_by p.heap k ++ filled m.kind m.len m.value ∷ []) [] d))
 
     by_record : (made : Option Record) → new_record q instr ≡ made → (r : Result After End) → call k p.heap q instr ≡ r → Kept r
     by_record made is (Err why) comes = refl
@@ -58,5 +58,6 @@ module _ (p : Plain) (k : ℕ) where
 
 pub answers_leave_the_others : AnswersLeaveTheOthers
 answers_leave_the_others p k Silent = as_it_was p k
+answers_leave_the_others p k Empties = as_it_was p k
 answers_leave_the_others p k (Answers task outcome) = by_answer p k task outcome (slice_get p.mutators k)
 answers_leave_the_others p k (Marks asked) = as_it_was p k

@@ -295,7 +295,7 @@ module _ (n size : ℕ) where
         snaps_first : (b : Bool) → First (cond b (at_stage x (serves_snap x)) (went_on x))
         snaps_first true = tt
         snaps_first false = tt
-    by_action (Makes kind d n) own = placing (acts x (Makes kind d n)) x (header_for x)
+    by_action (Makes kind d n v) own = placing (acts x (Makes kind d n v)) x (header_for x)
     by_action act own = access_begins (access.begun act) own
 
     by_result : (r : Result Action End) → First x → First (acted x r)

@@ -31,7 +31,7 @@ use Rattle.gc_worker.specs.declared.stage.goal.Goal.TheVariants.{ForFlip, ForSna
 use Rattle.gc_worker.specs.declared.stage.Stage.{Stage}
 use Rattle.gc_worker.specs.declared.stage.Stage.TheVariants.{Looks, Passes, Flips, Forwards, Accesses, Places, Serves, Scans, Evacuates, Opens, Recalls, Guards, Checkpoints, BeginsCheckpoint, Gone}
 use Rattle.gc_worker.specs.Workers.Held.{Held, at_stage}
-use Rattle.gc_worker.specs.Steps.Turned.{Told, Silent, Answers, Marks, told, told_at, told_flip, turned, turned_at, turned_flip}
+use Rattle.gc_worker.specs.Steps.Turned.{Told, Silent, Empties, Answers, Marks, told, told_at, told_flip, turned, turned_at, turned_flip}
 use Rattle.gc_worker.proofs.Between.Pages.Claims.{flips_at}
 use Rattle.gc_worker.proofs.Cycles.Lows.{of_now}
 use Rattle.gc_worker.proofs.Cycles.Sizes.{sizes_are_within, sizes_stay}
@@ -202,6 +202,7 @@ module _ (h : Heap) (p o : Plain) (k : ℕ) (x : Held) (q : Step) (st : WorkersS
 
   own_first : (t : Told) → u ≡ t → SizeGoes n h.words later t → IsFirst n later (turned x reply)
   own_first Silent e same = subst (λ (s : ℕ). IsFirstAt n s (turned x reply) (turned x reply).stage) (sym same) turned_first
+  own_first Empties e same = subst (λ (s : ℕ). IsFirstAt n s (turned x reply) (turned x reply).stage) (sym same) turned_first
   own_first (Answers task outcome) e same = subst (λ (s : ℕ). IsFirstAt n s (turned x reply) (turned x reply).stage) (sym same) turned_first
   own_first (Marks pages) e grows = flipper_first pages e
 
@@ -229,6 +230,7 @@ module _ (h : Heap) (p o : Plain) (k : ℕ) (x : Held) (q : Step) (st : WorkersS
 
     other_first : (t : Told) → u ≡ t → SizeGoes n h.words later t → IsFirst n later y
     other_first Silent e same = subst (λ (s : ℕ). IsFirstAt n s y y.stage) (sym same) (all j inside)
+    other_first Empties e same = subst (λ (s : ℕ). IsFirstAt n s y y.stage) (sym same) (all j inside)
     other_first (Answers task outcome) e same = subst (λ (s : ℕ). IsFirstAt n s y y.stage) (sym same) (all j inside)
     other_first (Marks pages) e grows = first_beside n size (size_of n later) y y.stage (none_asks pages e) (all j inside)
 

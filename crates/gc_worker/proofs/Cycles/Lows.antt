@@ -62,7 +62,7 @@ use Rattle.gc_worker.specs.declared.stage.Stage.TheVariants.{Looks, Passes, Flip
 use Rattle.gc_worker.specs.Steps.Goes.{Is}
 use Rattle.gc_worker.specs.Workers.Held.{Held, at_stage}
 use Rattle.gc_worker.specs.Laws.Step.{Heap, FlipsWhereTold, WorkersStand, read, held_at, epoch_of}
-use Rattle.gc_worker.specs.Steps.Turned.{Told, Silent, Answers, Marks, epoch_in_gate, told, told_at, told_flip}
+use Rattle.gc_worker.specs.Steps.Turned.{Told, Silent, Empties, Answers, Marks, epoch_in_gate, told, told_at, told_flip}
 use Rattle.gc_worker.specs.Steps.Wanted.{wanted, wanted_at}
 use Rattle.gc_worker.proofs.Stages.Access.RowsFit as access_rows
 use Rattle.gc_worker.proofs.Words.Areas.{area_says, is_space}
@@ -355,6 +355,12 @@ store_unmarked f r replies.Done = tt
 store_unmarked f r replies.Won = tt
 store_unmarked f r (replies.Lost word) = tt
 
+weak_unmarked : (f : Flipping) (r : resets.Reset) (reply : Reply) → NoMark (told_flip (flip.told_at (flip.next_stage f (flip_stage.ResetsWeak r) reply)))
+weak_unmarked f r (replies.Value word) = tt
+weak_unmarked f r replies.Done = tt
+weak_unmarked f r replies.Won = tt
+weak_unmarked f r (replies.Lost word) = tt
+
 pub exchanges_at : (f : Flipping) (stage : FlipStage) (q : Step) (reply : Reply) (pages : ℕ) → flip.wanted_at f stage ≡ Some q → told_flip (flip.told_at (flip.next_stage f stage reply)) ≡ Marks pages
     → (r : resets.Reset) × (stage ≡ flip_stage.Exchanges r)
 exchanges_at f (flip_stage.Exchanges r) q reply pages wants tells = (r, refl)
@@ -364,6 +370,7 @@ exchanges_at f (flip_stage.LoadsSize gate) q reply pages wants tells = absurd (s
 exchanges_at f (flip_stage.LoadsArea gate size) q reply pages wants tells = absurd (subst NoMark tells (area_unmarked f gate size reply))
 exchanges_at f (flip_stage.StoresSize r) q reply pages wants tells = absurd (subst NoMark tells (sizing_unmarked f r reply))
 exchanges_at f (flip_stage.StoresArea r) q reply pages wants tells = absurd (subst NoMark tells (store_unmarked f r reply))
+exchanges_at f (flip_stage.ResetsWeak r) q reply pages wants tells = absurd (subst NoMark tells (weak_unmarked f r reply))
 
 -- ---- by what is told
 
@@ -397,6 +404,7 @@ module _ (h : Heap) (p o : Plain) (k : ℕ) (x : Held) (q : Step) (st : WorkersS
 
   by_told : (t : Told) → told x reply ≡ t → FlipsWhereTold h.pages h.words later x t → LowGoes h.pages h.words later (words_claimed x reply) t
   by_told Silent e flips = same_epoch flips
+  by_told Empties e flips = same_epoch flips
   by_told (Answers task outcome) e flips = same_epoch flips
   by_told (Marks pages) e flips =
       let f = flips_at x reply pages x.stage e in

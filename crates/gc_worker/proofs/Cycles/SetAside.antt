@@ -6,7 +6,7 @@ use Rattle.atom_store.specs.declared.reply.Reply.TheVariants as replies
 use Rattle.space_map.specs.declared.spaces.TheConstants.{PAGE_WORDS}
 use Rattle.space_map.specs.Spaces.{page_of}
 use Rattle.heap_words.specs.declared.kind.Kind.{Kind}
-use Rattle.heap_words.specs.declared.kind.Kind.TheVariants.{Fields, Raw, Mixed}
+use Rattle.heap_words.specs.declared.kind.Kind.TheVariants.{Fields, Raw, Mixed, Weak}
 use Rattle.record_layout.specs.declared.header.Header.{Header}
 use Rattle.atom_store.specs.declared.turn.Turn.{Turn}
 use Rattle.atom_store.specs.declared.turn.Turn.TheVariants.{More, Finished}
@@ -34,18 +34,20 @@ use Rattle.gc_worker.specs.Workers.Held.{Held, at_stage, pages_needed, header_fo
 use Rattle.gc_worker.specs.Workers.Knows.{post_in}
 use Rattle.gc_worker.specs.Laws.Step.{Heap, WorkersStand, read}
 use Rattle.gc_worker.specs.declared.calls.did.Did.TheVariants.{Done, Trap}
-use Rattle.gc_worker.specs.Steps.Turned.{Told, Silent, Answers, Marks, guards, told, told_effect, told_place, turned, turned_guard, turned_place}
+use Rattle.gc_worker.specs.Steps.Turned.{Told, Silent, Empties, Answers, Marks, guards, told, told_effect, told_place, turned, turned_guard, turned_place}
 use Rattle.gc_worker.proofs.Plain.AnswerSteps.{its_mutator}
 use Rattle.gc_worker.proofs.Stages.Gate.Resuming.{end_none}
 use Rattle.gc_worker.proofs.Plain.NewRecords.{asked_is, plain_pages}
 use Rattle.gc_worker.proofs.Workers.Members.{member}
 use Rattle.gc_worker.proofs.Stages.Place.Acts.{makes_alike}
+use Rattle.gc_worker.proofs.Plain.Actions.{plain_value}
 
 -- ---- a step
 
 -- nothing is claimed, and nothing was set aside
 nothing : (x y : Held) (claims : ℕ) → claims ≡ 0 → set_aside x ≡ 0 → (t : Told) → SetsAside x claims y t
 nothing x y claims none empty Silent = omega (arith, none, empty)
+nothing x y claims none empty Empties = omega (arith, none, empty)
 nothing x y claims none empty (Answers task Done) = none
 nothing x y claims none empty (Answers task (Trap end)) = omega (arith, none, empty)
 nothing x y claims none empty (Marks asked) = tt
@@ -95,6 +97,7 @@ module _ (x : Held) (z : Placing) (task : IsMaking x.account x.registers x.task)
   opens new other run Fields false = within (OpensPage new) 0 (record z { run = run; stage = StoresHeader }) refl (omega arith)
   opens new other run Raw false = within (OpensPage new) 0 (record z { run = run; stage = StoresHeader }) refl (omega arith)
   opens new other run Mixed false = within (OpensPage new) 0 (record z { run = run; stage = StoresCount }) refl (omega arith)
+  opens new other run Weak false = within (OpensPage new) 0 (record z { run = run; stage = StoresHeader }) refl (omega arith)
 
   places : After StoresHeader 0 (place.placed z)
   places =
@@ -178,7 +181,7 @@ module _ (h : Heap) (p o : Plain) (k : ℕ) (y : Held) (st : WorkersStand h p o)
         no_end = its.1.no_end;
         instr = making.executes.instr;
         task = making.executes.task_is;
-        pages_are = plain_pages y making its.0 acts ∙ ap (λ (n : ℕ). Some n) (sym (asked_is y making));
+        pages_are = plain_pages y making its.0 (plain_value st.stands.ghost.identity making.value) acts ∙ ap (λ (n : ℕ). Some n) (sym (asked_is y making));
       }
 
   few_by : (stage : PlaceStage) → set_aside_by z stage ≤ PAGE_WORDS * pages_needed y

@@ -52,7 +52,7 @@ use Rattle.gc_worker.specs.declared.stage.Stage.TheVariants.{Looks, Passes, Flip
 use Rattle.gc_worker.specs.Steps.Goes.{Is}
 use Rattle.gc_worker.specs.Workers.Held.{Held, at_stage, has_seen_flip}
 use Rattle.gc_worker.specs.Laws.Step.{Heap, FlipsOnce, FlipsWhereTold, WorkersStand, read, held_at, epoch_of}
-use Rattle.gc_worker.specs.Steps.Turned.{Told, Silent, Answers, Marks, told, told_at, told_flip}
+use Rattle.gc_worker.specs.Steps.Turned.{Told, Silent, Empties, Answers, Marks, told, told_at, told_flip}
 use Rattle.gc_worker.specs.Steps.Wanted.{wanted, wanted_at}
 use Rattle.gc_worker.proofs.Stages.Access.RowsFit as access_rows
 use Rattle.gc_worker.proofs.Words.Areas.{is_space}
@@ -256,6 +256,7 @@ module _ (h : Heap) (p o : Plain) (k : ℕ) (x : Held) (q : Step) (st : WorkersS
 
   by_told : (t : Told) → told x reply ≡ t → FlipsWhereTold h.pages h.words later x t → SizeGoes h.pages h.words later t
   by_told Silent e flips = same_epoch flips
+  by_told Empties e flips = same_epoch flips
   by_told (Answers task outcome) e flips = same_epoch flips
   by_told (Marks pages) e flips = grows (at_flip pages e flips)
 

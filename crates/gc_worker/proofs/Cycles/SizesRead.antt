@@ -55,6 +55,7 @@ module _ (size : ℕ) (p : place.Placing) where
   by_kind header_kinds.Fields = tt
   by_kind header_kinds.Raw = tt
   by_kind header_kinds.Mixed = tt
+  by_kind header_kinds.Weak = tt
 
   by_opened : (new : NewPages) (b : Bool)
       → IsSized size (place.told (cond b (place.at_stage (at (OpensPage new)) (place.readies p.snap (record { first = new.first; next = new.next + 1 })))

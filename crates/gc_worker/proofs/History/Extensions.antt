@@ -7,7 +7,7 @@ use Rattle.plain_state.specs.State.{Plain, serial_of}
 use Rattle.gc_worker.specs.Plain.Answer.{ComesTo, IsAnswered, after_told}
 use Rattle.gc_worker.specs.Laws.Step.{at_flip}
 use Rattle.gc_worker.specs.declared.calls.did.Did.TheVariants.{Done, Trap}
-use Rattle.gc_worker.specs.Steps.Turned.{Told, Silent, Answers, Marks}
+use Rattle.gc_worker.specs.Steps.Turned.{Told, Silent, Empties, Answers, Marks}
 use Rattle.gc_worker.specs.Laws.Between.{LeavesTheOthers}
 use Rattle.gc_worker.proofs.Between.Others.{answers_leave_the_others}
 use Rattle.gc_worker.specs.declared.calls.call.Call.{Call}
@@ -17,6 +17,7 @@ use Rattle.gc_worker.specs.History.Legal.{IsLegal, after_all, after_call, worker
 
 pub legal_more : (p : Plain) (log : List Entry) (m : ℕ) (t : Told) → IsLegal p log → IsAnswered (after_all p log) m t → IsLegal p (log ++ extra m t)
 legal_more p [] m Silent h e = tt
+legal_more p [] m Empties h e = tt
 legal_more p [] m (Answers task Done) h e = (e, tt)
 legal_more p [] m (Answers task (Trap end)) h e = (e, tt)
 legal_more p [] m (Marks asked) h e = tt
@@ -30,6 +31,7 @@ legal_last p (Exchanged by asked ∷ es) c h = legal_last p es c h
 
 pub after_more : (p : Plain) (log : List Entry) (m : ℕ) (t : Told) → after_all p (log ++ extra m t) ≡ after_told (after_all p log) m t
 after_more p [] m Silent = refl
+after_more p [] m Empties = refl
 after_more p [] m (Answers task Done) = refl
 after_more p [] m (Answers task (Trap end)) = refl
 after_more p [] m (Marks asked) = refl
@@ -38,6 +40,7 @@ after_more p (Exchanged by asked ∷ es) m t = after_more p es m t
 
 pub flip_more : (p o : Plain) (log : List Entry) (m : ℕ) (t : Told) → flip_from p o (log ++ extra m t) ≡ at_flip (after_all p log) (flip_from p o log) t
 flip_more p o [] m Silent = refl
+flip_more p o [] m Empties = refl
 flip_more p o [] m (Answers task outcome) = refl
 flip_more p o [] m (Marks asked) = refl
 flip_more p o (Made c ∷ es) m t = flip_more (after_call p c) o es m t
@@ -60,12 +63,14 @@ no_more xs ys m e = append_cancel_left (calls_of m xs) (calls_of m ys) [] (e ∙
 
 pub calls_other : (n : ℕ) (log : List Entry) (m : ℕ) (t : Told) → n ≢ m → calls_of n (log ++ extra m t) ≡ calls_of n log
 calls_other n log m Silent other = ap (calls_of n) (append-nil log)
+calls_other n log m Empties other = ap (calls_of n) (append-nil log)
 calls_other n log m (Answers task outcome) other = calls_append n log (Made (worker_call m task outcome) ∷ [])
     ∙ (ap (λ (b : Bool). calls_of n log ++ cond b (worker_call m task outcome ∷ []) []) (ne_eqb m n (λ e. other (sym e))) ∙ append-nil (calls_of n log))
 calls_other n log m (Marks asked) other = calls_append n log (Exchanged m asked ∷ []) ∙ append-nil (calls_of n log)
 
 pub calls_more : (log : List Entry) (m : ℕ) (t : Told) (own : List Call) → calls_of m log ≡ own → calls_of m (log ++ extra m t) ≡ own_after m own t
 calls_more log m Silent own is = ap (calls_of m) (append-nil log) ∙ is
+calls_more log m Empties own is = ap (calls_of m) (append-nil log) ∙ is
 calls_more log m (Answers task outcome) own is = calls_append m log (Made (worker_call m task outcome) ∷ [])
     ∙ (ap (λ (b : Bool). calls_of m log ++ cond b (worker_call m task outcome ∷ []) []) (eq-eqb m m refl) ∙ ap (λ (z : List Call). z ++ worker_call m task outcome ∷ []) is)
 calls_more log m (Marks asked) own is = calls_append m log (Exchanged m asked ∷ []) ∙ (append-nil (calls_of m log) ∙ is)

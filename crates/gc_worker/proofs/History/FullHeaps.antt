@@ -7,6 +7,7 @@ use Rattle.mutator_asm.specs.declared.instr.Instr.{Instr}
 use Rattle.atom_store.specs.declared.reply.Reply.{Reply}
 use Rattle.gate_core.specs.declared.passage.Passage.{Passage}
 use Rattle.gate_core.specs.declared.passage.Passage.TheVariants.{Look, Attach, Park, Request, Resume, Forwarded, Leave, Clear}
+use Rattle.fault_duty.specs.Duty as duty
 use Rattle.gc_worker.specs.declared.stage.after.After.{After}
 use Rattle.gc_worker.specs.declared.stage.Stage.{Stage}
 use Rattle.gc_worker.specs.declared.stage.Stage.TheVariants.{Looks, Passes, Flips, Forwards, Accesses, Places, Serves, Scans, Evacuates, Opens, Recalls, Guards, Checkpoints, BeginsCheckpoint, Gone}
@@ -23,6 +24,7 @@ use Rattle.gc_worker.proofs.Between.Begun.{full_is_found_later}
 use Rattle.gc_worker.proofs.Between.GoingOn.{workers_go_on}
 use Rattle.gc_worker.specs.History.Tally.{asked_by_task}
 use Rattle.gc_worker.proofs.History.Tallies.{asks_as}
+use Rattle.gc_worker.proofs.Plain.Quiet.{IsQuiet, rounds_are_quiet}
 
 -- ---- who is in a call has begun its instruction
 
@@ -82,7 +84,7 @@ module _ (n mutators k : ℕ) (y : Held) (reply : Reply) (fits : Fits n mutators
       by_stage (Flips f) at fit tells = by_task fit.0.executes.instr fit.0.executes.task_is
       by_stage (Passes g after) at fit tells = absurd (cc)
       by_stage (Forwards w) at fit tells = absurd (cc)
-      by_stage (Serves d back) at fit tells = absurd (cc)
+      by_stage (Serves d back) at fit tells = absurd (subst IsQuiet tells (rounds_are_quiet (duty.told (duty.taken d reply))))
       by_stage (Scans s back) at fit tells = absurd (cc)
       by_stage (Evacuates v s back) at fit tells = absurd (cc)
       by_stage (Opens o s back) at fit tells = absurd (cc)

@@ -6,13 +6,13 @@ use Rattle.std.proofs.lemmas.List.{length-replicate}
 use Rattle.std.proofs.lemmas.Option.{slice_get_within}
 use Rattle.plain_state.specs.State.{Mutator, Plain}
 use Rattle.mutator_asm.specs.declared.instr.Instr.{Instr}
-use Rattle.plain_heap.specs.Order.{Story, marked, opening, plain, state_after, story, story_after, story_marked}
+use Rattle.plain_heap.specs.Order.{Story, first_story, opening, plain, story, story_after, story_marked}
 use Rattle.plain_heap.specs.Step.{fetch}
 use Rattle.heap_laws.specs.Opening.{opening_mutator, opening_plain}
 use Rattle.gc_worker.specs.declared.task.Task.{Task}
 use Rattle.gc_worker.specs.Plain.Answer.{ComesTo, MayCome}
 use Rattle.gc_worker.specs.Plain.Marks.{MarkActs, EachActs, task_of}
-use Rattle.gc_worker.proofs.Plain.Outcomes.{Sort, IsFull, IsStep, sort, comes, asks_then, opens_so, was_running}
+use Rattle.gc_worker.proofs.Plain.Outcomes.{Sort, IsFull, IsStep, sort, comes, asks_then, no_flip, now_marked, opens_so, was_running}
 use Rattle.gc_worker.specs.declared.calls.call.Call.{Call}
 use Rattle.gc_worker.specs.declared.calls.did.Did.{Did}
 use Rattle.gc_worker.specs.declared.calls.did.Did.TheVariants.{Done, Trap}
@@ -51,14 +51,13 @@ module _ (m : ℕ) where
 
 -- What the order of a history does to the plain machine, from this state and that of the last flip.
 pub record IsOrder (code : List (List Instr)) (turns : ℕ) (p o : Plain) (log : List Entry) : Type 0 where
-  pub state : state_after code turns p (order_of log) ≡ after_all p log
-  pub acts : EachActs code turns p (order_of log)
-  pub flip : (story_after code turns (record { flip = o; now = p }) (order_of log)).flip ≡ flip_from p o log
+  pub story : story_after code turns (record { flip = o; now = p }) (order_of log) ≡ record { flip = flip_from p o log; now = after_all p log }
+  pub acts : EachActs code turns (record { flip = o; now = p }) (order_of log)
 
 -- the same of a history from the opening on, and of the program's own
 pub record IsProgramOrder (code : List (List Instr)) (turns mutators : ℕ) (log : List Entry) : Type 0 where
   pub plain : plain code turns (order_of log) ≡ after_all (opening_plain mutators) log
-  pub acts : EachActs code turns (opening code) (order_of log)
+  pub acts : EachActs code turns (first_story code) (order_of log)
   pub flip : (story code turns (order_of log)).flip ≡ last_flip (opening_plain mutators) log
 
 module _ (code : List (List Instr)) (turns : ℕ) where
@@ -67,7 +66,7 @@ module _ (code : List (List Instr)) (turns : ℕ) where
   -- of mutator m, which is q, and has the task that it fetches
   module _ (p : Plain) (m : ℕ) (q : Mutator) (has : m < length code) (is : slice_get p.mutators m ≡ Some q) (running : q.end ≡ None) (task : Task) (own : task ≡ task_of (fetch code turns m q)) where
     -- its mark does what it does
-    marks_so : (did : Did) → MayCome m p.heap q task did → marked code turns p (mark_by m did) ≡ after_call p (record { by = m; task = task; did = did })
+    marks_so : (did : Did) → MayCome m p.heap q task did → now_marked code turns p (mark_by m did) ≡ after_call p (record { by = m; task = task; did = did })
     marks_so Done may = comes code turns p m q has is running Done (rw own at may) ∙ rw (is, own) refl
     marks_so (Trap why) may = comes code turns p m q has is running (Trap why) (rw own at may) ∙ rw is refl
 
@@ -80,15 +79,6 @@ module _ (code : List (List Instr)) (turns : ℕ) where
         by_sort (IsStep s c) = rw s (was_running code turns p m q has is running)
         by_sort (IsFull asked room live e) = rw e (was_running code turns p m q has is running, asks_then code turns p m q has is running asked room live (rw (own, e) at may), rw e at short)
 
-  -- it is no flip
-  no_flip : (p o : Plain) (m : ℕ) (did : Did) → story_marked code turns (record { flip = o; now = p }) (mark_by m did) ≡ record { flip = o; now = marked code turns p (mark_by m did) }
-  no_flip p o m Done = refl
-  no_flip p o m (Trap why) = by_sort (sort m why)
-    where
-      by_sort : Sort m why → story_marked code turns (record { flip = o; now = p }) (mark_by m (Trap why)) ≡ record { flip = o; now = marked code turns p (mark_by m (Trap why)) }
-      by_sort (IsStep s c) = rw s refl
-      by_sort (IsFull asked room live e) = rw e refl
-
   -- what a call does to the story its mark does
   pub call_turns : (p o : Plain) (c : Call) → ComesTo p c.by c.task c.did → length p.mutators ≡ length code
       → ((q : Mutator) → slice_get p.mutators c.by ≡ Some q → c.task ≡ task_of (fetch code turns c.by q))
@@ -96,22 +86,23 @@ module _ (code : List (List Instr)) (turns : ℕ) where
   call_turns p o c h sections own =
       let within = slice_get_within p.mutators c.by h.mutator h.is in
       let same = marks_so p c.by h.mutator (omega (arith, within, sections)) h.is h.no_end c.task (own h.mutator h.is) c.did h.may in
-      no_flip p o c.by c.did ∙ (λ i. record { flip = o; now = same i })
+      no_flip code turns p o c.by c.did ∙ (λ i. record { flip = o; now = same i })
 
   -- ---- a history
 
   -- one call more at its beginning
-  first : (p o : Plain) (c : Call) (es : List Entry) → marked code turns p (mark_by c.by c.did) ≡ after_call p c → MarkActs code turns p (mark_by c.by c.did) → IsOrder code turns (after_call p c) o es
-      → IsOrder code turns p o (Made c ∷ es)
-  first p o c es same act rest = record {
-    state = ap (λ (z : Plain). state_after code turns z (order_of es)) same ∙ rest.state;
-    acts = (act, subst (λ (z : Plain). EachActs code turns z (order_of es)) (sym same) rest.acts);
-    flip = ap (λ (s : Story). (story_after code turns s (order_of es)).flip) (no_flip p o c.by c.did ∙ (λ i. record { flip = o; now = same i })) ∙ rest.flip;
-  }
+  first : (p o : Plain) (c : Call) (es : List Entry) → now_marked code turns p (mark_by c.by c.did) ≡ after_call p c → MarkActs code turns p (mark_by c.by c.did)
+      → IsOrder code turns (after_call p c) o es → IsOrder code turns p o (Made c ∷ es)
+  first p o c es same act rest =
+      let to : story_marked code turns (record { flip = o; now = p }) (mark_by c.by c.did) ≡ record { flip = o; now = after_call p c } =
+      no_flip code turns p o c.by c.did ∙ (λ i. record { flip = o; now = same i }) in
+      record {
+        story = ap (λ (s : Story). story_after code turns s (order_of es)) to ∙ rest.story;
+        acts = (act, subst (λ (s : Story). EachActs code turns s (order_of es)) (sym to) rest.acts);
+      }
 
   pub orders_act : (p o : Plain) (log : List Entry) → IsLegal p log → length p.mutators ≡ length code → ((m : ℕ) → AreFetched code turns m p log) → ((m : ℕ) → AreShort m log) → IsOrder code turns p o log
-  unfolding marked
-  orders_act p o [] legal sections fetched short = record { state = refl; acts = tt; flip = refl }
+  orders_act p o [] legal sections fetched short = record { story = refl; acts = tt }
   orders_act p o (Made c ∷ es) legal sections fetched short =
       let h : ComesTo p c.by c.task c.did = legal.0 in
       let within = slice_get_within p.mutators c.by h.mutator h.is in
@@ -123,7 +114,7 @@ module _ (code : List (List Instr)) (turns : ℕ) where
       (orders_act (after_call p c) o es legal.1 (as_many p (Made c ∷ []) ∙ sections) (λ m. (fetched m).1) (λ m. (short m).1))
   orders_act p o (Exchanged by asked ∷ es) legal sections fetched short =
       let rest = orders_act p p es legal sections fetched short in
-      record { state = rest.state; acts = (tt, rest.acts); flip = rest.flip }
+      record { story = rest.story; acts = (tt, rest.acts) }
 
   -- ---- mutators that there are
 
@@ -147,7 +138,7 @@ module _ (code : List (List Instr)) (turns : ℕ) where
       (fetched_each p log legal (λ m l. fetched m (omega (arith, l, many))))
       (short_each p log legal (λ m l. short m (omega (arith, l, many)))) in
       record {
-        plain = ap (λ (z : Plain). state_after code turns z (order_of log)) (sym opens) ∙ h.state;
-        acts = subst (λ (z : Plain). EachActs code turns z (order_of log)) opens h.acts;
-        flip = ap (λ (z : Plain). (story_after code turns (record { flip = z; now = z }) (order_of log)).flip) (sym opens) ∙ h.flip;
+        plain = ap (λ (z : Plain). (story_after code turns (record { flip = z; now = z }) (order_of log)).now) (sym opens) ∙ ap (λ (s : Story). s.now) h.story;
+        acts = subst (λ (z : Plain). EachActs code turns (record { flip = z; now = z }) (order_of log)) opens h.acts;
+        flip = ap (λ (z : Plain). (story_after code turns (record { flip = z; now = z }) (order_of log)).flip) (sym opens) ∙ ap (λ (s : Story). s.flip) h.story;
       }

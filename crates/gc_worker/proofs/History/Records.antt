@@ -9,11 +9,13 @@ use Rattle.heap_words.specs.Decoded.{Decoded, NumberWord, PointerWord, HeaderWor
 use Rattle.plain_state.specs.declared.end.End.{End}
 use Rattle.plain_state.specs.declared.end.End.TheVariants.{OutputFull}
 use Rattle.plain_state.specs.declared.kind.Kind.{Kind}
-use Rattle.plain_state.specs.declared.kind.Kind.TheVariants.{Fields, Raw, Mixed}
+use Rattle.plain_state.specs.declared.kind.Kind.TheVariants.{Fields, Raw, Mixed, Weak}
 use Rattle.plain_state.specs.declared.operation.Operation.{Operation}
 use Rattle.plain_state.specs.declared.operation.Operation.TheVariants as operations
 use Rattle.plain_state.specs.declared.sizes.TheConstants.{MOST_PRINTED, REGISTERS}
-use Rattle.plain_state.specs.declared.value.Value.TheVariants.{Number}
+use Rattle.plain_state.specs.declared.value.Identity.{Identity}
+use Rattle.plain_state.specs.declared.value.Value.{Value}
+use Rattle.plain_state.specs.declared.value.Value.TheVariants.{Number, Reference}
 use Rattle.plain_state.specs.Operation.{applied}
 use Rattle.plain_state.specs.State.{Mutator}
 use Rattle.mutator_asm.specs.declared.instr.Instr.{Instr}
@@ -30,9 +32,9 @@ use Rattle.gc_worker.specs.Workers.Fits.{IsMaking}
 use Rattle.gc_worker.specs.Workers.Held.{Held}
 use Rattle.gc_worker.specs.Plain.Seen.{IsValueAs, IsValueWord, seen, seen_as, value_seen}
 
--- a record that is made is made there too
+-- a record that is made is made there too, of whatever value
 abbrev IsSameRecord : Result Action End → Action → Type 0
-IsSameRecord theirs (Makes kind d n) = theirs ≡ Ok (Makes kind d n)
+IsSameRecord theirs (Makes kind d n v) = (w : Value) × (theirs ≡ Ok (Makes kind d n w))
 IsSameRecord theirs act = ⊤
 
 module _ (x : Held) (q : Mutator) (eight : length x.registers ≡ REGISTERS) (values : (r : ℕ) → r < REGISTERS → IsValueWord (slice_index x.registers r)) (shows : ShowsRegisters x.registers q) where
@@ -61,22 +63,33 @@ module _ (x : Held) (q : Mutator) (eight : length x.registers ≡ REGISTERS) (va
   operand_of (operands.Reg r) n valid e = number_of r n (ltb-true r REGISTERS valid) e
   operand_of (operands.Number m) n valid e = e
 
+  refers_of : (r : ℕ) (i : Identity) → r < REGISTERS → reference_in (register sight r) ≡ Ok i → (j : Identity) × (reference_in (register q r) ≡ Ok j)
+  refers_of r i small e = by_word (decode (word r)) refl (values r small) (sym (ap reference_in (sees r small)) ∙ e)
+    where
+      by_word : (d : Decoded) → decode (word r) ≡ d → IsValueAs d → reference_in (seen_as d) ≡ Ok i → (j : Identity) × (reference_in (register q r) ≡ Ok j)
+      by_word (PointerWord a) is value e = let p = shows.pointers r a small is in (p.0, ap reference_in (get_or_from_slice_get q.registers r (Reference p.0) (Number 0) p.1))
+      by_word (NumberWord m) is value e = absurd (let never = e in cc)
+      by_word (HeaderWord kind len serial mutator) is value e = absurd value
+      by_word (ForwardWord len a) is value e = absurd value
+      by_word (BusyWord len k) is value e = absurd value
+      by_word Malformed is value e = absurd value
+
   -- ---- by instructions
 
   allocated : (kind : Kind) (d : ℕ) (y : Operand) → is_operand y ≡ true → IfOk (allocates sight kind d y) (IsSameRecord (allocates q kind d y))
   allocated kind d y valid = by_operand (operand sight y) refl
     where
-      by_length : (o : Result ℕ End) → IfOk (o >>= (λ len. Ok (Makes kind d len))) (IsSameRecord (o >>= (λ len. Ok (Makes kind d len))))
-      by_length (Ok len) = refl
+      by_length : (o : Result ℕ End) → IfOk (o >>= (λ len. Ok (Makes kind d len (Number 0)))) (IsSameRecord (o >>= (λ len. Ok (Makes kind d len (Number 0)))))
+      by_length (Ok len) = (Number 0, refl)
       by_length (Err why) = tt
 
-      by_operand : (o : Result ℕ End) → operand sight y ≡ o → IfOk (o >>= (λ n. length_of n >>= (λ len. Ok (Makes kind d len)))) (IsSameRecord (allocates q kind d y))
+      by_operand : (o : Result ℕ End) → operand sight y ≡ o → IfOk (o >>= (λ n. length_of n >>= (λ len. Ok (Makes kind d len (Number 0))))) (IsSameRecord (allocates q kind d y))
       by_operand (Ok n) is = rw (operand_of y n valid is) (by_length (length_of n))
       by_operand (Err why) is = tt
 
   -- a mixed record of so many fields and of this length, and of so many fields and raw words
   abbrev of_length : (d f : ℕ) → Result ℕ End → Result Action End
-  of_length d f o = o >>= (λ n. Ok (Makes (Mixed f) d n))
+  of_length d f o = o >>= (λ n. Ok (Makes (Mixed f) d n (Number 0)))
 
   abbrev of_raw : (d f : ℕ) → Result ℕ End → Result Action End
   of_raw d f o = o >>= (λ r. of_length d f (mixed_length f r))
@@ -85,7 +98,7 @@ module _ (x : Held) (q : Mutator) (eight : length x.registers ≡ REGISTERS) (va
   mixed d y z valid_y valid_z = by_fields (operand sight y) refl
     where
       by_length : (f : ℕ) (o : Result ℕ End) → IfOk (of_length d f o) (IsSameRecord (of_length d f o))
-      by_length f (Ok n) = refl
+      by_length f (Ok n) = (Number 0, refl)
       by_length f (Err why) = tt
 
       by_raw : (f : ℕ) (o : Result ℕ End) → operand sight z ≡ o → IfOk (of_raw d f o) (IsSameRecord (of_raw d f (operand q z)))
@@ -95,6 +108,14 @@ module _ (x : Held) (q : Mutator) (eight : length x.registers ≡ REGISTERS) (va
       by_fields : (o : Result ℕ End) → operand sight y ≡ o → IfOk (o >>= (λ f. of_raw d f (operand sight z))) (IsSameRecord (mixes q d y z))
       by_fields (Ok f) is = rw (operand_of y f valid_y is) (by_raw f (operand sight z) refl)
       by_fields (Err why) is = tt
+
+  cell : (d a : ℕ) → a < REGISTERS → IfOk (reference_in (register sight a) >>= (λ i. Ok (Makes Weak d 1 (Reference i)))) (IsSameRecord (reference_in (register q a) >>= (λ i. Ok (Makes Weak d 1 (Reference i)))))
+  cell d a small = by_reference (reference_in (register sight a)) refl
+    where
+      by_reference : (o : Result Identity End) → reference_in (register sight a) ≡ o
+          → IfOk (o >>= (λ i. Ok (Makes Weak d 1 (Reference i)))) (IsSameRecord (reference_in (register q a) >>= (λ i. Ok (Makes Weak d 1 (Reference i)))))
+      by_reference (Ok i) is = let r = refers_of a i small is in (Reference r.0, ap (λ (o : Result Identity End). o >>= (λ i. Ok (Makes Weak d 1 (Reference i)))) r.1)
+      by_reference (Err why) is = tt
 
   -- what makes no record
   module _ (theirs : Result Action End) where
@@ -117,6 +138,7 @@ module _ (x : Held) (q : Mutator) (eight : length x.registers ≡ REGISTERS) (va
   makes_same (instrs.New d y) valid = allocated Fields d y (second d _ valid)
   makes_same (instrs.Raw d y) valid = allocated Raw d y (second d _ valid)
   makes_same (instrs.Mix d y z) valid = let l = and_parts (is_register d && is_operand y) (is_operand z) valid in mixed d y z (second d (is_operand y) l.0) l.1
+  makes_same (instrs.Weak d a) valid = cell d a (ltb-true a REGISTERS (second d _ valid))
   makes_same (instrs.Li d n) valid = tt
   makes_same (instrs.Mov d a) valid = tt
   makes_same (instrs.Add d a b) valid = computed _ operations.Add d a b
@@ -142,7 +164,7 @@ module _ (x : Held) (q : Mutator) (eight : length x.registers ≡ REGISTERS) (va
   makes_same instrs.Snap valid = tt
   makes_same instrs.Halt valid = tt
 
-  pub makes_its_record : (making : IsMaking x.account x.registers x.task) → action q making.executes.instr ≡ Ok (Makes making.making.kind making.making.into making.making.len)
+  pub makes_its_record : (making : IsMaking x.account x.registers x.task) → (v : Value) × (action q making.executes.instr ≡ Ok (Makes making.making.kind making.making.into making.making.len v))
   makes_its_record making =
-      if_ok-is (IsSameRecord (action q making.executes.instr)) (action sight making.executes.instr) (Makes making.making.kind making.making.into making.making.len)
+      if_ok-is (IsSameRecord (action q making.executes.instr)) (action sight making.executes.instr) (Makes making.making.kind making.making.into making.making.len making.value)
       (makes_same making.executes.instr making.executes.call.valid) making.executes.acts

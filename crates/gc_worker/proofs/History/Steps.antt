@@ -28,7 +28,7 @@ use Rattle.gc_worker.specs.Workers.Held.{Held}
 use Rattle.gc_worker.specs.Workers.Knows.{post_in}
 use Rattle.gc_worker.specs.Laws.Step.{FlipsOnce, FlipsWhereTold, Heap, StepKeeps, WorkersStand, epoch_of, held_at, moved, nobody}
 use Rattle.gc_worker.specs.declared.calls.did.Did.TheVariants.{Done, Trap}
-use Rattle.gc_worker.specs.Steps.Turned.{Told, Silent, Answers, Marks, epoch_in_gate, told, turned}
+use Rattle.gc_worker.specs.Steps.Turned.{Told, Silent, Empties, Answers, Marks, epoch_in_gate, told, turned}
 use Rattle.gc_worker.specs.Steps.Wanted.{wanted}
 use Rattle.gc_worker.proofs.Between.Begun.{beginnings_are_kept, full_is_found_later, rests_before}
 use Rattle.gc_worker.proofs.Between.Pages.Claims.{flips_at}
@@ -116,6 +116,7 @@ module _ (h : Heap) (k : ℕ) (y : Held) (q : Step) (below : k < length h.worker
 
   abbrev claims_after : Told → ℕ
   claims_after Silent = c.claims + words_claimed y reply
+  claims_after Empties = c.claims + words_claimed y reply
   claims_after (Answers task outcome) = c.claims + words_claimed y reply
   claims_after (Marks asked) = 0
 
@@ -137,12 +138,14 @@ module _ (h : Heap) (k : ℕ) (y : Held) (q : Step) (below : k < length h.worker
 
   size_after : (u : Told) → SizeGoes n h.words words' u → size_of n words' ≡ size_now sizes_after (then_by u)
   size_after Silent same = same ∙ (c.size ∙ sym (agree t.flips (omega arith)))
+  size_after Empties same = same ∙ (c.size ∙ sym (agree t.flips (omega arith)))
   size_after (Answers task Done) same = same ∙ (c.size ∙ sym (agree t.flips (omega arith)))
   size_after (Answers task (Trap end)) same = same ∙ (c.size ∙ sym (agree t.flips (omega arith)))
   size_after (Marks asked) grows = sym next_size
 
   least_after : (u : Told) → SizeGoes n h.words words' u → b.sizes.least ≤ size_of n words'
   least_after Silent same = let was = c.least in let size = c.size in omega (arith, was, size, same)
+  least_after Empties same = let was = c.least in let size = c.size in omega (arith, was, size, same)
   least_after (Answers task outcome) same = let was = c.least in let size = c.size in omega (arith, was, size, same)
   least_after (Marks asked) grows =
       let was = c.least in let size = c.size in let within = (sizes_are_within h p o st).1 in
@@ -151,6 +154,7 @@ module _ (h : Heap) (k : ℕ) (y : Held) (q : Step) (below : k < length h.worker
 
   low_after : (u : Told) → SizeGoes n h.words words' u → LowGoes n h.words words' (words_claimed y reply) u → low_of n words' + claims_after u ≡ PAGE_WORDS * size_of n words'
   low_after Silent same low = let was = c.low in let size = c.size in omega (arith, low, was, same, size)
+  low_after Empties same low = let was = c.low in let size = c.size in omega (arith, low, was, same, size)
   low_after (Answers task outcome) same low = let was = c.low in let size = c.size in omega (arith, low, was, same, size)
   low_after (Marks asked) grows low = omega (arith, low)
 
@@ -161,6 +165,7 @@ module _ (h : Heap) (k : ℕ) (y : Held) (q : Step) (below : k < length h.worker
 
   covers_after : (u : Told) → told y reply ≡ u → SetsAside y (words_claimed y reply) z u → claims_after u ≤ PAGE_WORDS * (then_by u).made + aside_in after
   covers_after Silent e sets = let was = c.for_records in let change = aside_changes h k y q below holds in omega (arith, sets, was, change)
+  covers_after Empties e sets = let was = c.for_records in let change = aside_changes h k y q below holds in omega (arith, sets, was, change)
   covers_after (Answers task Done) e sets =
       let was = c.for_records in
       let change = aside_changes h k y q below holds in
@@ -172,6 +177,7 @@ module _ (h : Heap) (k : ℕ) (y : Held) (q : Step) (below : k < length h.worker
   -- where all have a flip since their last call no record was made since it
   none_after : (u : Told) → told y reply ≡ u → ((m : ℕ) → m < h.mutators → (then_by u).since m ≡ true) → (then_by u).made ≡ 0
   none_after Silent e all = c.none_made all
+  none_after Empties e all = c.none_made all
   none_after (Answers task outcome) e all =
       let comes = subst (IsAnswered p k) e law.answered in
       let inside = slice_get_within p.mutators k comes.mutator comes.is in
@@ -185,6 +191,7 @@ module _ (h : Heap) (k : ℕ) (y : Held) (q : Step) (below : k < length h.worker
 
   epoch_after : (u : Told) → FlipsWhereTold n h.words words' y u → epoch_of n words' ≡ (then_by u).flips
   epoch_after Silent f = f ∙ c.epoch
+  epoch_after Empties f = f ∙ c.epoch
   epoch_after (Answers task outcome) f = f ∙ c.epoch
   epoch_after (Marks asked) f = let is = f.epoch in let next = f.next in let was = c.epoch in omega (arith, is, next, was)
 
@@ -224,6 +231,7 @@ module _ (h : Heap) (k : ℕ) (y : Held) (q : Step) (below : k < length h.worker
 
   more_flips : (u : Told) → t.flips ≤ (then_by u).flips
   more_flips Silent = omega arith
+  more_flips Empties = omega arith
   more_flips (Answers task outcome) = omega arith
   more_flips (Marks asked) = omega arith
 
@@ -259,6 +267,7 @@ module _ (h : Heap) (k : ℕ) (y : Held) (q : Step) (below : k < length h.worker
   since_after : (u : Told) → told y reply ≡ u → (m : ℕ) → m < h.mutators → (held_at after m).account.end ≡ None → IsPastLook (held_at after m).stage
       → (held_at after m).begun < (then_by u).flips → (then_by u).since m ≡ true
   since_after Silent e = all_since t.since (λ m other. refl) own_since
+  since_after Empties e = all_since t.since (λ m other. refl) own_since
   since_after (Answers task Done) e = all_since since_call beside_call (λ few none past early. absurd (rests_before y.stage z.stage (goes.answers task Done e).after past))
   since_after (Answers task (Trap end)) e = all_since since_call beside_call
       (λ few none past early. absurd (let ended : None ≡ Some end = sym none ∙ ap (λ (a : Account). a.end) (goes.answers task (Trap end) e).after.0 in cc))
@@ -355,6 +364,7 @@ module _ (h : Heap) (k : ℕ) (y : Held) (q : Step) (below : k < length h.worker
 
   call_after : (u : Told) → told y reply ≡ u → (m : ℕ) → (then_by u).asked m ≡ true → HasSeen (then_by u).flips (held_at after m)
   call_after Silent e = all_call Silent t.asked (λ m other. refl) (λ has. let was = its_call has in own_call t.flips (subst IsNoAnswer (sym e) tt) was.0 was.1 was.2)
+  call_after Empties e = all_call Empties t.asked (λ m other. refl) (λ has. let was = its_call has in own_call t.flips (subst IsNoAnswer (sym e) tt) was.0 was.1 was.2)
   call_after (Answers task outcome) e = all_call (Answers task outcome) (then_by (Answers task outcome)).asked (λ m other. ap (λ (s : Bool). cond s false (t.asked m)) (ne_eqb m k other))
       (λ has. absurd (let not : cond (k == k) false (t.asked k) ≡ false = ap (λ (s : Bool). cond s false (t.asked k)) (eq-eqb k k refl) in let never = sym not ∙ has in cc))
   call_after (Marks asked) e = all_call (Marks asked) (then_by (Marks asked)).asked (λ m other. ap (λ (s : Bool). cond s true (t.asked m)) (ne_eqb m k other)) (λ has. flipper_seen asked e)
@@ -454,6 +464,7 @@ module _ (h : Heap) (k : ℕ) (y : Held) (q : Step) (below : k < length h.worker
   end_is task ends.NotPointer e = tt
   end_is task ends.NotNumber e = tt
   end_is task ends.OutOfRange e = tt
+  end_is task ends.WeakCell e = tt
   end_is task ends.IntoRaw e = tt
   end_is task ends.ZeroDivisor e = tt
   end_is task ends.JumpOut e = tt
@@ -469,7 +480,8 @@ module _ (h : Heap) (k : ℕ) (y : Held) (q : Step) (below : k < length h.worker
         let plain = as_plain w.0 w.1 in
         let none : w.0.end ≡ None = sym plain.account.end ∙ unended asked e in
         let makes = making asked e in
-        let pages = plain_pages y makes w.0 (makes_its_record y w.0 fits.eight fits.registers (plain.shows none) makes) in
+        let its = makes_its_record y w.0 fits.eight fits.registers (plain.shows none) makes in
+        let pages = plain_pages y makes w.0 its.0 its.1 in
         ap (asked_by_task p k) makes.executes.task_is ∙ asks_as p k w.0 makes.executes.instr asked w.1 none (pages ∙ ap (λ (a : ℕ). Some a) (sym ((once asked e).asked_is ∙ asked_is y makes)))
 
     is_asked_for : IsAskedFor sizes_after tasks t k asked []
@@ -491,6 +503,7 @@ module _ (h : Heap) (k : ℕ) (y : Held) (q : Step) (below : k < length h.worker
 
   entry_is : (u : Told) → told y reply ≡ u → EachEntry (EntryIs sizes_after tasks) t (extra k u)
   entry_is Silent e = tt
+  entry_is Empties e = tt
   entry_is (Answers task Done) e = (tt, tt)
   entry_is (Answers task (Trap end)) e = (end_is task end e, tt)
   entry_is (Marks asked) e = (is_asked_for asked e, tt)
@@ -505,6 +518,7 @@ module _ (h : Heap) (k : ℕ) (y : Held) (q : Step) (below : k < length h.worker
 
   tasks_go_on : (u : Told) → told y reply ≡ u → (j : ℕ) (task : Task) → tasks_held h.workers j ≡ Some task → next_task j (extra k u) (tasks j) ≡ Some task
   tasks_go_on Silent e j task is = same_task (subst IsNoAnswer (sym e) tt) j ∙ is
+  tasks_go_on Empties e j task is = same_task (subst IsNoAnswer (sym e) tt) j ∙ is
   tasks_go_on (Marks asked) e j task is = same_task (subst IsNoAnswer (sym e) tt) j ∙ is
   tasks_go_on (Answers done outcome) e j task is = ⊎_elim
       (λ (same : j ≡ k).

@@ -18,7 +18,7 @@ use Rattle.gc_worker.specs.Laws.Cycles.{Grows}
 use Rattle.gc_worker.specs.Plain.Answer.{after_told}
 use Rattle.gc_worker.specs.History.Legal.{after_all, extra, flip_from}
 use Rattle.gc_worker.specs.Laws.Step.{at_flip}
-use Rattle.gc_worker.specs.Steps.Turned.{Told, Silent, Answers, Marks}
+use Rattle.gc_worker.specs.Steps.Turned.{Told, Silent, Empties, Answers, Marks}
 
 -- ---- two histories, one after the other
 
@@ -38,11 +38,13 @@ tally_flip t (Exchanged by asked ∷ es) = tally_flip (after_entry t (Exchanged 
 
 pub tally_more-now : (t : Tally) (m : ℕ) (u : Told) → (tally t (extra m u)).now ≡ after_told t.now m u
 tally_more-now t m Silent = refl
+tally_more-now t m Empties = refl
 tally_more-now t m (Answers task did) = refl
 tally_more-now t m (Marks asked) = refl
 
 pub tally_more-flip : (t : Tally) (m : ℕ) (u : Told) → (tally t (extra m u)).flip ≡ at_flip t.now t.flip u
 tally_more-flip t m Silent = refl
+tally_more-flip t m Empties = refl
 tally_more-flip t m (Answers task did) = refl
 tally_more-flip t m (Marks asked) = refl
 
@@ -150,6 +152,7 @@ module _ (tasks later : Tasks) (more : List Entry) (z : Sizes) (in_use : ℕ →
   end_on t m task ends.NotPointer es few f = tt
   end_on t m task ends.NotNumber es few f = tt
   end_on t m task ends.OutOfRange es few f = tt
+  end_on t m task ends.WeakCell es few f = tt
   end_on t m task ends.IntoRaw es few f = tt
   end_on t m task ends.ZeroDivisor es few f = tt
   end_on t m task ends.JumpOut es few f = tt

@@ -35,7 +35,7 @@ plain_action identity (Jumps target) = Jumps target
 plain_action identity (Links d target) = Links d target
 plain_action identity (Prints n) = Prints n
 plain_action identity Snaps = Snaps
-plain_action identity (Makes kind d n) = Makes kind d n
+plain_action identity (Makes kind d n v) = Makes kind d n (plain_value identity v)
 plain_action identity (Measures d i) = Measures d (identity i.serial)
 plain_action identity (Loads d i x) = Loads d (identity i.serial) x
 plain_action identity (Stores i x v) = Stores (identity i.serial) x (plain_value identity v)
@@ -168,6 +168,7 @@ module _ (identity : ℕ → Identity) (m q : Mutator) (alike : AreAlikeBy ident
   acts_alike (instrs.New d x) valid = allocated Fields d x (second d _ valid)
   acts_alike (instrs.Raw d x) valid = allocated Raw d x (second d _ valid)
   acts_alike (instrs.Mix d fields raw) valid = let l = and_parts (is_register d && is_operand fields) (is_operand raw) valid in mixed d fields raw (second d (is_operand fields) l.0) l.1
+  acts_alike (instrs.Weak d a) valid = with_reference a (is_small a (second d _ valid)) _ _ (λ i. refl)
   acts_alike (instrs.Ld d a x) valid = let l = and_parts (is_register d && is_register a) (is_operand x) valid in
       with_reference a (is_small a (second d (is_register a) l.0)) _ _ (λ i. with_operand x l.1 _ _ (λ n. refl))
   acts_alike (instrs.St a x b) valid =

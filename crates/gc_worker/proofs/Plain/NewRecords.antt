@@ -6,11 +6,11 @@ use Rattle.std.specs.Option.{option_and_then, option_map}
 use Rattle.std.specs.Result.{IfOk}
 use Rattle.plain_state.specs.declared.end.End.{End}
 use Rattle.plain_state.specs.declared.kind.Kind.{Kind}
-use Rattle.plain_state.specs.declared.kind.Kind.TheVariants.{Fields, Raw, Mixed}
+use Rattle.plain_state.specs.declared.kind.Kind.TheVariants.{Fields, Raw, Mixed, Weak}
 use Rattle.heap_words.specs.declared.kind.Kind.TheVariants as headers
 use Rattle.plain_state.specs.declared.sizes.TheConstants.{LONGEST_RECORD}
-use Rattle.plain_state.specs.declared.value.Value.TheVariants.{Number}
-use Rattle.plain_state.specs.Layout.{values_at}
+use Rattle.plain_state.specs.declared.value.Value.{Value}
+use Rattle.plain_state.specs.Layout.{values_at, words_behind}
 use Rattle.plain_state.specs.Operation.{applied}
 use Rattle.plain_state.specs.State.{Mutator}
 use Rattle.mutator_asm.specs.declared.instr.Instr.{Instr}
@@ -19,7 +19,7 @@ use Rattle.plain_heap.specs.declared.action.Action.{Action}
 use Rattle.plain_heap.specs.declared.action.Action.TheVariants.{Makes}
 use Rattle.plain_heap.specs.Action.{action}
 use Rattle.plain_heap.specs.Step.{new_record, record_made, pages_of}
-use Rattle.plain_heap.proofs.Calls.Named.{FitsKind, Spells, Names, named}
+use Rattle.plain_heap.proofs.Calls.Named.{FitsKind, FillsKind, Spells, Names, named}
 use Rattle.record_layout.specs.declared.header.Header.{Header}
 use Rattle.record_layout.proofs.Rereading.{header_in-header_says}
 use Rattle.alloc_end.specs.Place.{size_of, pages_for}
@@ -56,6 +56,7 @@ spelled (instrs.Jr a) = tt
 spelled (instrs.New d x) = tt
 spelled (instrs.Raw d x) = tt
 spelled (instrs.Mix d fields raw) = tt
+spelled (instrs.Weak d a) = tt
 spelled (instrs.Ld d a x) = tt
 spelled (instrs.St a x b) = tt
 spelled (instrs.Cas d a x b c) = tt
@@ -68,8 +69,9 @@ spelled (instrs.Out a) = tt
 spelled instrs.Snap = tt
 spelled instrs.Halt = tt
 
-pub makes_short : (q : Mutator) (i : Instr) (m : Making) → action q i ≡ Ok (Makes m.kind m.into m.len) → FitsKind m.kind m.len
-makes_short q i m is =
+-- a new record may have so many values, and is one of zeros unless it is a cell
+pub makes_named : (q : Mutator) (i : Instr) (m : Making) (v : Value) → action q i ≡ Ok (Makes m.kind m.into m.len v) → FitsKind m.kind m.len × FillsKind (λ v. ⊤) m.kind v
+makes_named q i m v is =
     subst (λ (o : Result Action End). IfOk o (Names (λ v. ⊤) ⊤ q)) is
     (named (λ v. ⊤) ⊤ q (λ r. tt) tt (λ b. tt) (λ operation a b is_a is_b. computed (applied operation a b)) i (spelled i))
 
@@ -78,26 +80,30 @@ pub header_short : (kind : Kind) (n : ℕ) → FitsKind kind n → header_len ki
 header_short Fields n fits = omega (arith, fits)
 header_short Raw n fits = omega (arith, fits)
 header_short (Mixed fields) n fits = omega (arith, fits)
+header_short Weak n fits = omega (arith, fits)
 
 -- it holds its fields
 pub fields_held : (kind : Kind) (n : ℕ) → FitsKind kind n → fields_end kind (header_len kind n + 1) ≤ header_len kind n + 1
 fields_held Fields n fits = omega arith
 fields_held Raw n fits = omega arith
 fields_held (Mixed fields) n fits = omega (arith, fits)
+fields_held Weak n fits = omega arith
 
 holds_by : (kind : Kind) (n : ℕ) → FitsKind kind n → header_kind kind ≡ headers.Mixed → fields_of kind < header_len kind n
 holds_by Fields n fits mixed = absurd (cc)
 holds_by Raw n fits mixed = absurd (cc)
 holds_by (Mixed fields) n fits mixed = omega (arith, fits)
+holds_by Weak n fits mixed = absurd (cc)
 
 -- its kind is the one that its header says, with its fields
 pub kind_said : (kind : Kind) → kind_with (header_kind kind) (fields_of kind) ≡ kind
 kind_said Fields = refl
 kind_said Raw = refl
 kind_said (Mixed fields) = refl
+kind_said Weak = refl
 
 -- with the header it has as many words as the plain record
-pub sized : (kind : Kind) (n : ℕ) → n + values_at kind ≡ header_len kind n + 1
+pub sized : (kind : Kind) (n : ℕ) → n + (values_at kind + words_behind kind) ≡ header_len kind n + 1
 sized kind n = omega (arith, values_behind_header kind)
 
 -- ---- the record that a worker makes
@@ -113,7 +119,7 @@ module _ (x : Held) (making : IsMaking x.account x.registers x.task) where
   made_is = ap (making_for x) making.executes.task_is ∙ made_as
 
   pub fits_kind : FitsKind made.kind made.len
-  fits_kind = makes_short (seen x.account x.registers) making.executes.instr made making.executes.acts
+  fits_kind = (makes_named (seen x.account x.registers) making.executes.instr made making.value making.executes.acts).0
 
   -- its header
   abbrev pub header_made : Header
@@ -141,11 +147,11 @@ module _ (x : Held) (making : IsMaking x.account x.registers x.task) where
   asked_is = ap pages_asked header_is
 
   -- they are those of the plain machine's record
-  pub plain_pages : (q : Mutator) → action q making.executes.instr ≡ Ok (Makes made.kind made.into made.len)
+  pub plain_pages : (q : Mutator) (v : Value) → action q making.executes.instr ≡ Ok (Makes made.kind made.into made.len v)
       → option_map pages_of (new_record q making.executes.instr) ≡ Some (pages_for (size_of header_made))
-  plain_pages q is =
+  plain_pages q v is =
       ap (λ (o : Result Action End). option_map pages_of (record_made o)) is
-      ∙ ap (λ (n : ℕ). Some (pages_for (n + values_at made.kind))) (length-replicate made.len (Number 0)) ∙ ap (λ (n : ℕ). Some (pages_for n)) (sized made.kind made.len)
+      ∙ ap (λ (n : ℕ). Some (pages_for (n + (values_at made.kind + words_behind made.kind)))) (length-replicate made.len v) ∙ ap (λ (n : ℕ). Some (pages_for n)) (sized made.kind made.len)
 
 -- a worker that makes a record has its header
 pub makes_header : (n mutators k : ℕ) (x : Held) (f : Fits n mutators k x) (making : IsMaking x.account x.registers x.task) → header_for x ≡ None → ⊥

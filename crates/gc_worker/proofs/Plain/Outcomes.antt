@@ -1,6 +1,6 @@
 -- What a task comes to is what the mark of it does to the plain machine.
 use Rattle.std.proofs.Common.{◌≡◌, ℕ, ◌+◌, ◌<◌, ◌≤◌, Bool, true, false, nat_le, List, length, Option, Some, None, Result, Ok, Err, slice_get, slice_set, refl, ap, sym, ◌∙◌, arith, lt-ltb, leb-false, eq-eqb}
-use Rattle.std.specs.Option.{option_map, option_to_list, ok_or}
+use Rattle.std.specs.Option.{option_map, ok_or}
 use Rattle.std.specs.Prelude.{IfOk, IsOk, if◌then◌else◌, [], ◌∷◌, map, replicate}
 use Rattle.std.proofs.lemmas.Option.{slice_get_within}
 use Rattle.plain_state.specs.declared.end.End.{End}
@@ -9,18 +9,19 @@ use Rattle.plain_state.specs.State.{Record, Heap, Mutator, Plain, none_snapped, 
 use Rattle.plain_state.specs.declared.value.Identity.{Identity}
 use Rattle.plain_state.specs.declared.value.Value.{Value}
 use Rattle.plain_state.specs.declared.value.Value.TheVariants.{Number}
-use Rattle.plain_state.specs.Writing.{zeros, stored}
+use Rattle.plain_state.specs.Writing.{filled, stored}
 use Rattle.plain_state.proofs.Lists.{slice_get-set_same}
 use Rattle.plain_state.proofs.Gained.{gained_serial}
 use Rattle.plain_state.proofs.Stored.{stored_serial}
 use Rattle.mutator_asm.specs.declared.instr.Instr.{Instr}
 use Rattle.mutator_asm.specs.Program.{instr_at}
+use Rattle.plain_heap.specs.declared.mark.Mark.{Mark}
 use Rattle.plain_heap.specs.declared.mark.Mark.TheVariants as marks
 use Rattle.plain_heap.specs.declared.action.Action.{Action}
 use Rattle.plain_heap.specs.declared.action.Action.TheVariants.{Sets, Jumps, Links, Prints, Makes, Measures, Loads, Stores, Exchanges, Gets, Puts, Swaps, Snaps}
 use Rattle.plain_heap.specs.Action.{◌>>=◌, action}
 use Rattle.plain_heap.specs.Call.{After, call, performed, value_in, store_in, may_hold, set_register, went_on}
-use Rattle.plain_heap.specs.Order.{marked, state_after, end_of}
+use Rattle.plain_heap.specs.Order.{ended_for_want, end_of, story_marked}
 use Rattle.plain_heap.specs.Step.{fetch, executes, ended, settled, stepped, asked_by, new_record, pages_of}
 use Rattle.plain_heap.proofs.Calls.Counts.{Went, call-went}
 use Rattle.plain_heap.proofs.Calls.Outcomes.{if_ok-bind, performed_exchange}
@@ -29,9 +30,8 @@ use Rattle.plain_heap.specs.Order as order
 use Rattle.gc_worker.specs.Plain.Answer.{MayEnd, MayCome, after_outcome}
 use Rattle.gc_worker.specs.declared.calls.did.Did.{Did}
 use Rattle.gc_worker.specs.declared.calls.did.Did.TheVariants.{Done, Trap}
-use Rattle.gc_worker.specs.Steps.Turned.{Answers}
-use Rattle.gc_worker.specs.Steps.Stepped.{stepped_by}
-use Rattle.gc_worker.specs.Plain.Marks.{end_mark, mark_of, task_of}
+use Rattle.gc_worker.specs.History.Order.{mark_by}
+use Rattle.gc_worker.specs.Plain.Marks.{end_mark, task_of}
 
 -- ---- the opening
 
@@ -58,6 +58,7 @@ sort m ends.Halt = IsStep refl (λ heap q instr y. y)
 sort m ends.NotPointer = IsStep refl (λ heap q instr y. y)
 sort m ends.NotNumber = IsStep refl (λ heap q instr y. y)
 sort m ends.OutOfRange = IsStep refl (λ heap q instr y. y)
+sort m ends.WeakCell = IsStep refl (λ heap q instr y. y)
 sort m ends.IntoRaw = IsStep refl (λ heap q instr y. y)
 sort m ends.ZeroDivisor = IsStep refl (λ heap q instr y. y)
 sort m ends.JumpOut = IsStep refl (λ heap q instr y. y)
@@ -86,7 +87,7 @@ module _ (m : ℕ) (heap : Heap) (k : Mutator) (made : m < length heap.records) 
   performed-counted (Links d target) = omega arith
   performed-counted (Prints n) = omega arith
   performed-counted Snaps = omega arith
-  performed-counted (Makes kind d n) = let g = gained_serial heap m (zeros kind n) made in omega (arith, g)
+  performed-counted (Makes kind d n v) = let g = gained_serial heap m (filled kind n v) made in omega (arith, g)
   performed-counted (Measures d i) = omega arith
   performed-counted (Loads d i x) = if_ok-bind Counted (value_in heap i x) _ (λ v. omega arith)
   performed-counted (Stores i x v) = if_ok-bind Counted (value_in heap i x) _ (λ old. stores (went_on k) i x v (record_of heap i) refl)
@@ -99,6 +100,24 @@ module _ (m : ℕ) (heap : Heap) (k : Mutator) (made : m < length heap.records) 
   pub call-counted : (i : Instr) → IfOk (call m heap k i) Counted
   unfolding call
   call-counted i = if_ok-bind Counted (action k i) (performed m heap k) performed-counted
+
+-- ---- the mark of a call
+
+-- the plain state after a step, or after the end that stands in its place
+abbrev pub now_marked : List (List Instr) → ℕ → Plain → Mark → Plain
+now_marked code turns p (marks.Step m) = stepped code turns p m
+now_marked code turns p (marks.Full m asked room live) = ended_for_want code turns p m asked room live
+now_marked code turns p mark = p
+
+-- such a mark is no flip
+pub no_flip : (code : List (List Instr)) (turns : ℕ) (p o : Plain) (m : ℕ) (did : Did)
+    → story_marked code turns (record { flip = o; now = p }) (mark_by m did) ≡ record { flip = o; now = now_marked code turns p (mark_by m did) }
+no_flip code turns p o m Done = refl
+no_flip code turns p o m (Trap why) = by_sort (sort m why)
+  where
+    by_sort : Sort m why → story_marked code turns (record { flip = o; now = p }) (mark_by m (Trap why)) ≡ record { flip = o; now = now_marked code turns p (mark_by m (Trap why)) }
+    by_sort (IsStep s c) = rw s refl
+    by_sort (IsFull asked room live e) = rw e refl
 
 -- ---- a mutator without an end, and its next task
 
@@ -123,13 +142,9 @@ module _ (code : List (List Instr)) (turns : ℕ) (p : Plain) (m : ℕ) (q : Mut
   unfolding asked_by action
   asks instr asked e may = rw (is, running, e) may
 
-  fills : (asked room live : ℕ) → asked_by code turns p m ≡ Some asked → marked code turns p (marks.Full m asked room live) ≡ ended p m q (ends.HeapFull asked room live)
-  unfolding marked
+  fills : (asked room live : ℕ) → asked_by code turns p m ≡ Some asked → ended_for_want code turns p m asked room live ≡ ended p m q (ends.HeapFull asked room live)
+  unfolding ended_for_want
   fills asked room live e = rw (e, eq-eqb asked asked refl, is) refl
-
-  does_step : marked code turns p (marks.Step m) ≡ settled p m q (executes code turns m p.heap q)
-  unfolding marked
-  does_step = steps
 
   executes-ok : (instr : Instr) → fetch code turns m q ≡ Ok instr → executes code turns m p.heap q ≡ call m p.heap q instr
   executes-ok instr e = rw e refl
@@ -139,10 +154,10 @@ module _ (code : List (List Instr)) (turns : ℕ) (p : Plain) (m : ℕ) (q : Mut
 
   -- the plain state after what it comes to
   abbrev Then : Did → Plain
-  Then outcome = state_after code turns p (option_to_list (mark_of (stepped_by m (Answers (task_of (fetch code turns m q)) outcome))))
+  Then outcome = now_marked code turns p (mark_by m outcome)
 
   by_end : (instr : Instr) (why : End) → fetch code turns m q ≡ Ok instr → MayEnd m p.heap q instr why → Sort m why → Then (Trap why) ≡ ended p m q why
-  by_end instr why e may (IsStep s c) = rw (s, does_step, executes-ok instr e, c p.heap q instr may) refl
+  by_end instr why e may (IsStep s c) = rw (s, steps, executes-ok instr e, c p.heap q instr may) refl
   by_end instr why e may (IsFull asked room live y) =
       rw y (fills asked room live (asks instr asked e (rw y at may)))
 
@@ -156,11 +171,11 @@ module _ (code : List (List Instr)) (turns : ℕ) (p : Plain) (m : ℕ) (q : Mut
       by_turns false (Some instr) y = cc
 
   by_stop : (why : End) → fetch code turns m q ≡ Err why → Sort m why → Then (Trap why) ≡ ended p m q why
-  by_stop why e (IsStep s c) = rw (s, does_step, executes-err why e) refl
+  by_stop why e (IsStep s c) = rw (s, steps, executes-err why e) refl
   by_stop why e (IsFull asked room live y) = absurd (no_full asked room live (rw y at e))
 
   comes_by : (f : Result Instr End) → fetch code turns m q ≡ f → (outcome : Did) → MayCome m p.heap q (task_of f) outcome → Then outcome ≡ after_outcome p m q (task_of f) outcome
-  comes_by (Ok instr) e Done may = does_step ∙ ap (settled p m q) (executes-ok instr e)
+  comes_by (Ok instr) e Done may = steps ∙ ap (settled p m q) (executes-ok instr e)
   comes_by (Ok instr) e (Trap why) may = by_end instr why e may (sort m why)
   comes_by (Err why) e Done may = absurd may
   comes_by (Err why) e (Trap other) may = rw may (by_stop why e (sort m why))
@@ -168,6 +183,11 @@ module _ (code : List (List Instr)) (turns : ℕ) (p : Plain) (m : ℕ) (q : Mut
   -- what its task comes to is what the mark of it does
   pub comes : (outcome : Did) → MayCome m p.heap q (task_of (fetch code turns m q)) outcome → Then outcome ≡ after_outcome p m q (task_of (fetch code turns m q)) outcome
   comes = comes_by (fetch code turns m q) refl
+
+  -- so it is in a story
+  pub story_comes : (o : Plain) (outcome : Did) → MayCome m p.heap q (task_of (fetch code turns m q)) outcome
+      → story_marked code turns (record { flip = o; now = p }) (mark_by m outcome) ≡ record { flip = o; now = after_outcome p m q (task_of (fetch code turns m q)) outcome }
+  story_comes o outcome may = no_flip code turns p o m outcome ∙ (λ i. record { flip = o; now = comes outcome may i })
 
   -- ---- the mutator then
 

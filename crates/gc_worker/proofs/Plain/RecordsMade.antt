@@ -1,4 +1,4 @@
--- The record that an instruction makes: `new`, `raw` and `mix` make one, of the length that their operands name, and no other does.
+-- The record that an instruction makes: `new`, `raw` and `mix` make one, of the length that their operands name, `weak` makes a cell, and no other does.
 use Rattle.std.proofs.Common.{◌≡◌, ℕ, ◌+◌, Bool, true, false, Option, Some, None, Result, Ok, Err, nat_lt, if◌then◌else◌, length, refl, ap, sym, subst, ◌∙◌}
 use Rattle.std.specs.Bool.{⊤}
 use Rattle.mutator_asm.specs.declared.operand.Operand.{Operand}
@@ -11,6 +11,7 @@ use Rattle.plain_state.specs.declared.kind.Kind.TheVariants as kinds
 use Rattle.plain_state.specs.declared.operation.Operation.{Operation}
 use Rattle.plain_state.specs.declared.operation.Operation.TheVariants as operations
 use Rattle.plain_state.specs.declared.sizes.TheConstants.{MOST_PRINTED}
+use Rattle.plain_state.specs.declared.value.Value.TheVariants.{Number}
 use Rattle.plain_state.specs.Operation.{applied}
 use Rattle.plain_state.specs.State.{Mutator}
 use Rattle.plain_heap.specs.declared.action.Action.{Action}
@@ -19,7 +20,7 @@ use Rattle.plain_heap.specs.Action.{◌>>=◌, action, allocates, board_place, c
 use Rattle.heap_words.specs.Word.{pointer_word}
 use Rattle.alloc_end.specs.declared.run.Run.{Run}
 use Rattle.gc_worker.specs.declared.task.Task.{Task}
-use Rattle.gc_worker.specs.Plain.Seen.{Making, making_in, mixed_made, mixed_named, register_for}
+use Rattle.gc_worker.specs.Plain.Seen.{Making, cell_made, making_in, mixed_made, mixed_named, register_for}
 use Rattle.gc_worker.specs.Workers.Fits.{IsMaking}
 use Rattle.gc_worker.specs.Workers.Held.{Held, making_for}
 use Rattle.gc_worker.specs.Steps.Stepped.{IsCall, instr_due, seen_by}
@@ -39,21 +40,21 @@ prints_no_record n false = refl
 
 -- the action that makes a mixed record of these fields and this length
 abbrev made_mixed : (d : ℕ) → ℕ × ℕ → Result Action End
-made_mixed d m = Ok (Makes (kinds.Mixed m.0) d m.1)
+made_mixed d m = Ok (Makes (kinds.Mixed m.0) d m.1 (Number 0))
 
 -- `mix` makes a record of the fields and the length that its operands name
-pub mixed_makes : (q : Mutator) (d : ℕ) (fields raw : Operand) → mixes q d fields raw ≡ (mixed_named q fields raw >>= (λ m. Ok (Makes (kinds.Mixed m.0) d m.1)))
+pub mixed_makes : (q : Mutator) (d : ℕ) (fields raw : Operand) → mixes q d fields raw ≡ (mixed_named q fields raw >>= (λ m. Ok (Makes (kinds.Mixed m.0) d m.1 (Number 0))))
 mixed_makes q d fields raw = by_fields (operand q fields)
   where
-    by_length : (f : ℕ) (o : Result ℕ End) → (o >>= (λ n. Ok (Makes (kinds.Mixed f) d n))) ≡ ((o >>= (λ n. Ok (f, n))) >>= made_mixed d)
+    by_length : (f : ℕ) (o : Result ℕ End) → (o >>= (λ n. Ok (Makes (kinds.Mixed f) d n (Number 0)))) ≡ ((o >>= (λ n. Ok (f, n))) >>= made_mixed d)
     by_length f (Ok n) = refl
     by_length f (Err why) = refl
 
-    by_raw : (f : ℕ) (o : Result ℕ End) → (o >>= (λ r. mixed_length f r >>= (λ n. Ok (Makes (kinds.Mixed f) d n)))) ≡ ((o >>= (λ r. mixed_length f r >>= (λ n. Ok (f, n)))) >>= made_mixed d)
+    by_raw : (f : ℕ) (o : Result ℕ End) → (o >>= (λ r. mixed_length f r >>= (λ n. Ok (Makes (kinds.Mixed f) d n (Number 0))))) ≡ ((o >>= (λ r. mixed_length f r >>= (λ n. Ok (f, n)))) >>= made_mixed d)
     by_raw f (Ok r) = by_length f (mixed_length f r)
     by_raw f (Err why) = refl
 
-    by_fields : (o : Result ℕ End) → (o >>= (λ f. operand q raw >>= (λ r. mixed_length f r >>= (λ n. Ok (Makes (kinds.Mixed f) d n)))))
+    by_fields : (o : Result ℕ End) → (o >>= (λ f. operand q raw >>= (λ r. mixed_length f r >>= (λ n. Ok (Makes (kinds.Mixed f) d n (Number 0))))))
         ≡ ((o >>= (λ f. operand q raw >>= (λ r. mixed_length f r >>= (λ n. Ok (f, n))))) >>= made_mixed d)
     by_fields (Ok f) = by_raw f (operand q raw)
     by_fields (Err why) = refl
@@ -63,6 +64,7 @@ abbrev pub makes_of : Mutator → Instr → Option Making
 makes_of q (instrs.New d x) = making_in (allocates q kinds.Fields d x)
 makes_of q (instrs.Raw d x) = making_in (allocates q kinds.Raw d x)
 makes_of q (instrs.Mix d fields raw) = mixed_made q d fields raw
+makes_of q (instrs.Weak d a) = cell_made q d a
 makes_of q instr = None
 
 pub made_of : (q : Mutator) (instr : Instr) → making_in (action q instr) ≡ makes_of q instr
@@ -83,6 +85,7 @@ made_of q (instrs.Jr a) = no_record_then (as_number (register q a)) _ (λ n. ref
 made_of q (instrs.New d x) = refl
 made_of q (instrs.Raw d x) = refl
 made_of q (instrs.Mix d fields raw) = ap making_in (mixed_makes q d fields raw)
+made_of q (instrs.Weak d a) = refl
 made_of q (instrs.Ld d a x) = no_record_then (reference_in (register q a)) _ (λ i. no_record_then (operand q x) _ (λ n. refl))
 made_of q (instrs.St a x b) = no_record_then (reference_in (register q a)) _ (λ i. no_record_then (operand q x) _ (λ n. refl))
 made_of q (instrs.Cas d a x b c) = no_record_then (reference_in (register q a)) _ (λ i. no_record_then (operand q x) _ (λ n. refl))
@@ -113,6 +116,7 @@ makes_for : (q : Mutator) (instr : Instr) → IsFor (register_for instr) (makes_
 makes_for q (instrs.New d x) = allocates_for q kinds.Fields d x
 makes_for q (instrs.Raw d x) = allocates_for q kinds.Raw d x
 makes_for q (instrs.Mix d fields raw) = is_for_then d (mixed_named q fields raw) _ (λ m. refl)
+makes_for q (instrs.Weak d a) = is_for_then d (reference_in (register q a)) _ (λ i. refl)
 makes_for q instr = tt
 
 -- who makes a record executes an instruction

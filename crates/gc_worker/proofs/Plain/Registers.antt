@@ -237,6 +237,7 @@ module _ (c : Configuration) (p : Plain) (s : Stands c p) (k : ℕ) (x : Held) (
     spells (instrs.New d y) valid = tt
     spells (instrs.Raw d y) valid = tt
     spells (instrs.Mix d y z) valid = tt
+    spells (instrs.Weak d a) valid = tt
     spells (instrs.Ld d a y) valid = tt
     spells (instrs.St a y b) valid = tt
     spells (instrs.Cas d a y b e) valid = tt

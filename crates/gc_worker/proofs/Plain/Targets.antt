@@ -24,7 +24,7 @@ use Rattle.plain_heap.proofs.Calls.Outcomes.{if_ok-bind}
 abbrev pub WritesRegister : Action → Type 0
 WritesRegister (Sets d v) = d < REGISTERS
 WritesRegister (Links d target) = d < REGISTERS
-WritesRegister (Makes kind d n) = d < REGISTERS
+WritesRegister (Makes kind d n v) = d < REGISTERS
 WritesRegister (Measures d i) = d < REGISTERS
 WritesRegister (Loads d i x) = d < REGISTERS
 WritesRegister (Exchanges d i x expected v) = d < REGISTERS
@@ -75,6 +75,7 @@ module _ (q : Mutator) where
   writes_register (instrs.New d x) valid = allocated Fields d x (first d _ valid)
   writes_register (instrs.Raw d x) valid = allocated Raw d x (first d _ valid)
   writes_register (instrs.Mix d fields raw) valid = mixed d fields raw (first d (is_operand fields) (and_parts (is_register d && is_operand fields) (is_operand raw) valid).0)
+  writes_register (instrs.Weak d a) valid = if_ok-bind WritesRegister (reference_in (register q a)) _ (λ i. first d _ valid)
   writes_register (instrs.Ld d a x) valid = if_ok-bind WritesRegister (reference_in (register q a)) _ (λ i. if_ok-bind WritesRegister (operand q x) _ (λ y. first_of_three d a (is_operand x) valid))
   writes_register (instrs.St a x b) valid = if_ok-bind WritesRegister (reference_in (register q a)) _ (λ i. if_ok-bind WritesRegister (operand q x) _ (λ y. tt))
   writes_register (instrs.Cas d a x b c) valid =

@@ -34,7 +34,7 @@ use Rattle.gc_worker.specs.declared.access.record_access.RecordAccess.{RecordAcc
 use Rattle.gc_worker.specs.declared.access.record_access.RecordUse.{RecordUse}
 use Rattle.gc_worker.specs.declared.access.record_access.RecordUse.TheVariants as record_uses
 use Rattle.gc_worker.specs.Plain.Seen.{value_seen}
-use Rattle.gc_worker.specs.Steps.Access.{Answered, advances_at, at_stage, by_kind, count_at, counted_by, counting, field_at, field_of, goes_by, goes_to_field, is_header, kind_of, left, left_at, let_through, loading, looked, may_store, read_before, read_count, read_header, role_by_count, storing, taken, told, turn_by, used_by, uses_board, uses_field, valued, Comes, GoesTo, compared, role_of, with_new, word_as}
+use Rattle.gc_worker.specs.Steps.Access.{Answered, advances_at, at_stage, by_kind, count_at, counted_by, counting, field_at, field_of, goes_by, goes_to_field, is_header, kind_of, left, left_at, let_through, loading, looked, may_store, read_before, read_count, read_header, refused_by, role_by_count, storing, taken, told, turn_by, used_by, uses_board, uses_field, valued, Comes, GoesTo, compared, role_of, with_new, word_as}
 
 by_use : (f : FieldAccess) (usage : FieldUse) → left_at (uses_field f usage) < 3
 by_use f (field_uses.Loads into) = omega arith
@@ -93,10 +93,17 @@ module _ (a : Access) where
   by_mixed r len (record_uses.Stores new) more = by_counting r.at (field_uses.Stores new) (in_record len r.value) more
   by_mixed r len (record_uses.Exchanges e) more = by_counting r.at (field_uses.Exchanges e) (in_record len r.value) more
 
+  by_refusal : (r : RecordAccess) (len : ℕ) (usage : RecordUse) → Lowers (refused_by r len usage) 6
+  by_refusal r len (record_uses.TellsLength into) more = absurd (cc)
+  by_refusal r len (record_uses.Loads into) more = absurd (cc)
+  by_refusal r len (record_uses.Stores new) more = absurd (cc)
+  by_refusal r len (record_uses.Exchanges e) more = absurd (cc)
+
   by_head : (r : RecordAccess) (head : Kind) (len : ℕ) → Lowers (by_kind r head len) 6
   by_head r headers.Fields len = by_usage r roles.Field len r.usage
   by_head r headers.Raw len = by_usage r roles.Number len r.usage
   by_head r headers.Mixed len = by_mixed r (len - 1) r.usage
+  by_head r headers.Weak len = by_refusal r (len - 1) r.usage
 
   by_header : (r : RecordAccess) (d : Decoded) → is_header d ≡ true → Lowers (read_header r d) 6
   by_header r (HeaderWord head len serial mutator) t = by_head r head len

@@ -4,6 +4,7 @@ use Rattle.std.specs.Prelude.{⊤}
 use Rattle.atom_store.specs.declared.reply.Reply.TheVariants.{Value}
 use Rattle.plain_state.specs.declared.end.End.{End}
 use Rattle.plain_state.specs.declared.kind.Kind.{Kind}
+use Rattle.plain_state.specs.declared.value.Value as values
 use Rattle.record_layout.specs.declared.header.Header.{Header}
 use Rattle.mutator_asm.specs.declared.instr.Instr.{Instr}
 use Rattle.plain_heap.specs.declared.action.Action.{Action}
@@ -48,14 +49,14 @@ no_snapping y task true again = absurd again
 no_snapping y task false again = refl
 
 -- an action of which more than one step is to come begins another machine
-acts_done : (y : Held) (task : Task) (act : Action) → ((kind : Kind) (d n : ℕ) → act ≡ Makes kind d n → is_some (header_for y) ≡ true)
+acts_done : (y : Held) (task : Task) (act : Action) → ((kind : Kind) (d n : ℕ) (v : values.Value) → act ≡ Makes kind d n v → is_some (header_for y) ≡ true)
     → LooksAgain (acts y act) → told_action y task act ≡ Answers task Done
 acts_done y task (Sets d v) has again = refl
 acts_done y task (Jumps target) has again = refl
 acts_done y task (Links d target) has again = refl
 acts_done y task (Prints n) has again = refl
 acts_done y task Snaps has again = no_snapping y task (may_snap y) again
-acts_done y task (Makes kind d n) has again = absurd (no_placing y (header_for y) (has kind d n refl) again)
+acts_done y task (Makes kind d n v) has again = absurd (no_placing y (header_for y) (has kind d n v refl) again)
 acts_done y task (Measures d i) has again = absurd again
 acts_done y task (Loads d i n) has again = absurd again
 acts_done y task (Stores i n v) has again = absurd again
@@ -69,10 +70,10 @@ module _ (x : Held) where
       → LooksAgain (acted (begins x) r) → told_acted x (Calls instr) r ≡ Answers (Calls instr) Done
   calls_done instr task call (Ok act) is again = acts_done (begins x) (Calls instr) act has again
     where
-      has : (kind : Kind) (d n : ℕ) → act ≡ Makes kind d n → is_some (header_for (begins x)) ≡ true
-      has kind d n e =
+      has : (kind : Kind) (d n : ℕ) (v : values.Value) → act ≡ Makes kind d n v → is_some (header_for (begins x)) ≡ true
+      has kind d n v e =
           let making : IsMaking x.account x.registers x.task =
-          record { making = record { kind = kind; into = d; len = n }; executes = record { instr = instr; task_is = task; call = call; acts = is ∙ ap Ok e } } in
+          record { making = record { kind = kind; into = d; len = n }; value = v; executes = record { instr = instr; task_is = task; call = call; acts = is ∙ ap Ok e } } in
           ap is_some (header_is x making)
   calls_done instr task call (Err why) is again = absurd again
 

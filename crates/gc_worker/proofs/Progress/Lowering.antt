@@ -5,7 +5,7 @@ use Rattle.std.proofs.lemmas.Bool.Decides.{nat_tests}
 use Rattle.atom_store.specs.declared.reply.Reply.{Reply}
 use Rattle.atom_store.specs.declared.reply.Reply.TheVariants.{Value, Done, Won}
 use Rattle.heap_words.specs.declared.kind.Kind.{Kind}
-use Rattle.heap_words.specs.declared.kind.Kind.TheVariants.{Fields, Raw, Mixed}
+use Rattle.heap_words.specs.declared.kind.Kind.TheVariants.{Fields, Raw, Mixed, Weak}
 use Rattle.space_map.specs.declared.area_word.AreaWord.{AreaWord}
 use Rattle.space_map.specs.declared.gate_word.GateWord.{GateWord}
 use Rattle.space_map.specs.AreaWord.{decode_area}
@@ -62,15 +62,15 @@ passages_lower passage stage r t = cc
 
 -- ---- flips
 
-by_still : (word : ℕ) (read : GateWord) (b : Bool) → flip.left_at (cond b (flip_stage.LoadsSize read) (flip_stage.Ended (flipped.NotYet word))) < 6
+by_still : (word : ℕ) (read : GateWord) (b : Bool) → flip.left_at (cond b (flip_stage.LoadsSize read) (flip_stage.Ended (flipped.NotYet word))) < 7
 by_still word read true = omega arith
 by_still word read false = omega arith
 
-by_flip_gate : (word : ℕ) (o : Option GateWord) → is_some o ≡ true → flip.left_at (flip.looked word o) < 6
+by_flip_gate : (word : ℕ) (o : Option GateWord) → is_some o ≡ true → flip.left_at (flip.looked word o) < 7
 by_flip_gate word (Some read) t = by_still word read (flip.is_still read)
 by_flip_gate word None t = absurd (cc)
 
-by_flip_area : (n : ℕ) (seen : Bool) (read : GateWord) (size : ℕ) (o : Option AreaWord) → is_some o ≡ true → flip.left_at (flip.read_area n seen read size o) < 4
+by_flip_area : (n : ℕ) (seen : Bool) (read : GateWord) (size : ℕ) (o : Option AreaWord) → is_some o ≡ true → flip.left_at (flip.read_area n seen read size o) < 5
 by_flip_area n seen read size (Some area) t = omega arith
 by_flip_area n seen read size None t = absurd (cc)
 
@@ -80,6 +80,7 @@ flips_lower f (flip_stage.LoadsSize read) (Value word) t = omega arith
 flips_lower f (flip_stage.LoadsArea read size) (Value word) t = by_flip_area f.layout.pages f.seen read size (decode_area word) t
 flips_lower f (flip_stage.StoresSize reset) Done t = omega arith
 flips_lower f (flip_stage.StoresArea reset) Done t = omega arith
+flips_lower f (flip_stage.ResetsWeak reset) Done t = omega arith
 flips_lower f (flip_stage.Exchanges reset) Won t = omega arith
 flips_lower f stage r t = cc
 
@@ -111,6 +112,7 @@ module _ (p : place.Placing) where
   by_first Fields = omega arith
   by_first Raw = omega arith
   by_first Mixed = omega arith
+  by_first Weak = omega arith
 
   by_opened : (new : NewPages) → FitsPlaceStage p.layout.pages asked p.snap p.run p.header (place_stage.OpensPage new) → place.left (place.after_opening p new) < 2 * asked + 1 - 2 * (new.next - page_of new.first)
   by_opened new fits = let first = by_first p.header.kind in grind (arith, nat_tests, first)

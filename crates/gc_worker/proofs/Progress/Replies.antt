@@ -125,6 +125,7 @@ module _ (c : Configuration) (p : Plain) (s : Stands c p) (k : ℕ) where
   flipping f (flip_stage.LoadsArea read size) q same asked = subst (On (flip.advances_at (flip_stage.LoadsArea read size))) (same_Some _ q asked) (Advances (says_area f.layout.pages same f.epoch))
   flipping f (flip_stage.StoresSize reset) q same asked = subst (On (flip.advances_at (flip_stage.StoresSize reset))) (same_Some _ q asked) (Advances refl)
   flipping f (flip_stage.StoresArea reset) q same asked = subst (On (flip.advances_at (flip_stage.StoresArea reset))) (same_Some _ q asked) (Advances refl)
+  flipping f (flip_stage.ResetsWeak reset) q same asked = subst (On (flip.advances_at (flip_stage.ResetsWeak reset))) (same_Some _ q asked) (Advances refl)
   flipping f (flip_stage.Exchanges reset) q same asked = subst (On (flip.advances_at (flip_stage.Exchanges reset))) (same_Some _ q asked) (won_or_lost _ _ _ _ refl)
   flipping f (flip_stage.Ended result) q same asked = absurd (cc)
 

@@ -4,7 +4,7 @@ use Rattle.std.proofs.lemmas.Bool.{cases_lt, ne_eqb}
 use Rattle.atom_store.specs.declared.reply.Reply.{Reply}
 use Rattle.atom_store.specs.declared.reply.Reply.TheVariants.{Value, Done}
 use Rattle.plain_state.specs.declared.kind.Kind.{Kind}
-use Rattle.plain_state.specs.declared.kind.Kind.TheVariants.{Fields, Raw, Mixed}
+use Rattle.plain_state.specs.declared.kind.Kind.TheVariants.{Fields, Raw, Mixed, Weak}
 use Rattle.heap_words.specs.declared.kind.Kind.{Kind as HeaderKind}
 use Rattle.heap_words.specs.declared.kind.Kind.TheVariants as header_kinds
 use Rattle.heap_words.specs.Decoded.{Decoded, NumberWord, PointerWord, HeaderWord, ForwardWord, BusyWord, Malformed, decode}
@@ -80,6 +80,7 @@ module _ (l : Layout) (p : ℕ) (in_place : Bool) where
   first-lt at header_kinds.Fields size reaches = first_entered-lt at Fields size reaches
   first-lt at header_kinds.Raw size reaches = first_entered-lt at Raw size reaches
   first-lt at header_kinds.Mixed size reaches = counts-lt end (record { at = at; size = size })
+  first-lt at header_kinds.Weak size reaches = first_entered-lt at Weak size reaches
 
   next_entered-lt : (r : ScannedRecord) (kind : Kind) (len : ℕ) → 0 < first_field kind → NextIsOnPage l.pages p r → left_at end (enters p in_place r.next kind (len + 1)) < 7 * (end - r.next) - 1
   next_entered-lt r kind len first on_page =
@@ -97,6 +98,7 @@ module _ (l : Layout) (p : ℕ) (in_place : Bool) where
       let below = on_page.3 in
       let c = counts-on end (record { at = r.next; size = len + 1 }) (omega (arith, e, above)) in
       omega (arith, c, e, below)
+  next-lt r header_kinds.Weak len on_page = next_entered-lt r Weak len (omega arith) on_page
 
   by_next : (r : ScannedRecord) (d : Decoded) → NextIsOnPage l.pages p r → is_header d ≡ true → left_at end (by_header p in_place r.next (LoadsNext r) d) < 7 * (end - r.next) - 1
   by_next r (HeaderWord kind len serial mutator) on_page t = next-lt r kind len on_page

@@ -10,7 +10,7 @@ use Rattle.space_map.specs.GateWord.{encode_gate}
 use Rattle.space_map.specs.Spaces.{to_space}
 use Rattle.space_map.specs.Table.{Row, Area, Gate, Size, place_of}
 use Rattle.gate_core.specs.declared.flip_stage.FlipStage.{FlipStage}
-use Rattle.gate_core.specs.declared.flip_stage.FlipStage.TheVariants.{LoadsGate, LoadsSize, LoadsArea, StoresSize, StoresArea, Exchanges, Ended}
+use Rattle.gate_core.specs.declared.flip_stage.FlipStage.TheVariants.{LoadsGate, LoadsSize, LoadsArea, StoresSize, StoresArea, ResetsWeak, Exchanges, Ended}
 use Rattle.gate_core.specs.declared.flipped.Flipped.{Flipped}
 use Rattle.gate_core.specs.declared.flipped.Flipped.TheVariants.{Went, NotYet}
 use Rattle.gate_core.specs.declared.reset.Reset as resets
@@ -18,14 +18,14 @@ use Rattle.gate_core.specs.Flip.{Flipping, area_reset, gate_flipped, told}
 use Rattle.gate_core.specs.Flip as flip
 use Rattle.heap_state.specs.Configuration.{Configuration, table, team}
 use Rattle.heap_state.specs.Functions.{put}
-use Rattle.heap_state.specs.Memory.Entries.{Entry, AreaIs, EntryFits, GateIs, SizeIs, row_of, whole_place_of, word_of}
+use Rattle.heap_state.specs.Memory.Entries.{Entry, AreaIs, EntryFits, GateIs, SizeIs, WeakIs, row_of, whole_place_of, word_of}
 use Rattle.heap_state.specs.Saving.Frozen.{Frozen}
 use Rattle.heap_state.specs.Saving.Parts.{SavingStands}
 use Rattle.heap_state.specs.Saving.Savers.{Saver}
 use Rattle.heap_state.specs.Worker.{Reset}
 use Rattle.heap_laws.specs.Lifting.{table_after}
 use Rattle.heap_laws.specs.Saving.Rounds.{KnowsNoMore}
-use Rattle.heap_laws.specs.Saving.Rows.{Spares, SparesArea, SparesSize, saver_after_flip}
+use Rattle.heap_laws.specs.Saving.Rows.{Spares, SparesArea, SparesSize, SparesWeak, saver_after_flip}
 use Rattle.heap_laws.proofs.Lifting.Laws.{flips_are_lifted}
 use Rattle.heap_laws.proofs.Saving.Passing.{flippers_keep_saving}
 use Rattle.gc_worker.specs.declared.stage.Stage.TheVariants.{Flips}
@@ -147,6 +147,9 @@ module _ (c : Configuration) (p : Plain) (z : Frozen) (saver : ℕ → Saver) (k
       stores (StoresArea r) b (AreaIs other (area_reset r.next r.used)) (is_space (y.epoch + 1), resetting.fresh_fits c p b.stands k y asked r b.is)
       (SparesArea other (area_reset r.next r.used)) refl
 
+  resets_weak : (r : resets.Reset) → Before c p z saver k (at (ResetsWeak r)) → SavesSo c p saver k (at (ResetsWeak r))
+  resets_weak r b = stores (ResetsWeak r) b (WeakIs 0) tt (SparesWeak 0) refl
+
   -- ---- the exchange
 
   module _ (r : resets.Reset) (b : Before c p z saver k (at (Exchanges r))) where
@@ -185,6 +188,7 @@ module _ (c : Configuration) (p : Plain) (z : Frozen) (saver : ℕ → Saver) (k
   by_stage (LoadsArea gate size) b = loads (LoadsArea gate size) b (Area (to_space y.epoch)) refl
   by_stage (StoresSize r) b = stores_size r b
   by_stage (StoresArea r) b = stores_area r b
+  by_stage (ResetsWeak r) b = resets_weak r b
   by_stage (Exchanges r) b = exchanges_gate r b
   by_stage (Ended result) b = absurd b.is.fits.stage.going
 

@@ -50,9 +50,11 @@ use Rattle.gc_worker.specs.Workers.Counted.{counted, count_after, CountsAreApart
 use Rattle.gc_worker.specs.Workers.Fits.{ExecutesAction, Fits, FitsCall, FitsCopy, FitsPlace, FitsRound, FitsScan, FitsStage, FitsTask, FitsTaskAfter, FitsTaskAsking, FitsTaskBack, FitsTaskBefore, FitsTaskFor, FitsTaskWrite, FitsWrite, IsAccessing, IsMaking, IsRoundFor, IsRoundOfMutator, MayBegin}
 use Rattle.gc_worker.specs.Workers.Held.{Held, at_stage, may_snap}
 use Rattle.gc_worker.specs.Plain.Seen.{making_in, seen}
-use Rattle.gc_worker.specs.Steps.Turned.{Answers, Silent, Told, acted, begins, looked_by, passes, serves_snap, started, told_acted, told_at, told_full, told_gate, told_place, told_start, turned_at, turned_flip, turned_register, went_on, with_evac}
+use Rattle.gc_worker.specs.Steps.Turned.{Answers, Silent, Told, acted, begins, looked_by, passes, serves_snap, started, told_acted, told_at, told_full, told_gate, told_place, told_start, turned_at, turned_flip, turned_register, went_on, with_evac, told_round, turned_round}
 use Rattle.gc_worker.specs.Steps.Wanted.{wanted_at}
 use Rattle.gc_worker.proofs.Workers.CountedTurns.{accessing, copying, flip_count, flipping, gating, guarding, opening, placed, placing, recalling, same_acts, same_asked, same_fields, same_header, saving_round, scanning, serving, snapping}
+use Rattle.gc_worker.proofs.Plain.Quiet.{quiet_counts, rounds_are_quiet}
+use Rattle.fault_duty.specs.declared.round_end.RoundEnd.{RoundEnd}
 
 -- ---- a look
 
@@ -70,7 +72,7 @@ module _ (count : ℕ) (x : Held) where
   acting instr (Ok (Links d target)) = refl
   acting instr (Ok (Prints n)) = refl
   acting instr (Ok Snaps) = snapping_by (Calls instr) (may_snap x)
-  acting instr (Ok (Makes kind d n)) = ap (λ (stage : Stage). counted count (at_stage (begins x) stage)) (placing count (begins x))
+  acting instr (Ok (Makes kind d n v)) = ap (λ (stage : Stage). counted count (at_stage (begins x) stage)) (placing count (begins x))
   acting instr (Ok (Measures d i)) = refl
   acting instr (Ok (Loads d i n)) = refl
   acting instr (Ok (Stores i n v)) = refl
@@ -129,7 +131,10 @@ module _ (count : ℕ) (x : Held) where
       forwarding (Finished to) = refl
   turns_at (Accesses a) reply task = accessing count x (access.taken a reply) task.executes.instr task.executes.task_is (access.told a reply)
   turns_at (Places p) reply task = placed count x (place.taken p reply) task.0 (place.told (place.taken p reply))
-  turns_at (Serves d back) reply task = serving count x (duty.taken d reply) back (duty.told (duty.taken d reply))
+  turns_at (Serves d back) reply task =
+      let t : Turn RoundEnd = duty.told (duty.taken d reply) in
+      serving count x (duty.taken d reply) back t
+      ∙ ap (λ (n : ℕ). counted n (turned_round x (duty.taken d reply) back t)) (sym (quiet_counts count (told_round t) (rounds_are_quiet t)))
   turns_at (Scans s back) reply task = scanning count x (scan_taken.taken s reply) back (scan_taken.told (scan_taken.taken s reply).stage)
   turns_at (Evacuates v s back) reply task = copying count x (evac_taken.taken v reply) s back (evac_taken.told (evac_taken.taken v reply).stage)
   turns_at (Opens o s back) reply task = opening count x (open_page.taken o reply) s back (open_page.told (open_page.taken o reply))
@@ -205,7 +210,7 @@ module _ (count : ℕ) (x : Held) where
   executing act e = record { instr = e.instr; task_is = e.task_is; call = calling e.instr e.call; acts = same_acts count x e.instr ∙ e.acts }
 
   making : IsMaking x.account x.registers x.task → IsMaking z.account z.registers z.task
-  making m = record { making = m.making; executes = executing _ m.executes }
+  making m = record { making = m.making; value = m.value; executes = executing _ m.executes }
 
   accesses : (stage : AccessStage) → IsAccessing x.account x.registers x.task stage → IsAccessing z.account z.registers z.task stage
   accesses stage a = record { act = a.act; executes = executing a.act a.executes; is = a.is }

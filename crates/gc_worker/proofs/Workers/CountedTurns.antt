@@ -87,6 +87,7 @@ same_action m count (instrs.Mix d (operands.Reg f) (operands.Reg r)) = refl
 same_action m count (instrs.Mix d (operands.Reg f) (operands.Number n)) = refl
 same_action m count (instrs.Mix d (operands.Number n) (operands.Reg r)) = refl
 same_action m count (instrs.Mix d (operands.Number n) (operands.Number o)) = refl
+same_action m count (instrs.Weak d a) = refl
 same_action m count (instrs.Ld d a (operands.Reg r)) = refl
 same_action m count (instrs.Ld d a (operands.Number n)) = refl
 same_action m count (instrs.St a (operands.Reg r) b) = refl

@@ -3,7 +3,7 @@ use Rattle.std.proofs.Common.{◌≡◌, ℕ, ◌+◌, ◌<◌, Bool, true, fals
 use Rattle.std.proofs.lemmas.Bool.{leb-true}
 use Rattle.std.proofs.lemmas.Option.{same_Some}
 use Rattle.heap_words.specs.declared.kind.Kind.{Kind}
-use Rattle.heap_words.specs.declared.kind.Kind.TheVariants.{Fields, Raw, Mixed}
+use Rattle.heap_words.specs.declared.kind.Kind.TheVariants.{Fields, Raw, Mixed, Weak}
 use Rattle.alloc_end.specs.declared.place_stage.PlaceStage.{PlaceStage}
 use Rattle.alloc_end.specs.declared.place_stage.PlaceStage.TheVariants.{LoadsTraced, StoresHeader}
 use Rattle.alloc_end.specs.declared.run.Run.{Run}
@@ -31,17 +31,20 @@ pub first_fits : (n asked snap fields : ℕ) (run : Run) (header : Header) (kind
 first_fits n asked snap fields run header Fields is holds room = room
 first_fits n asked snap fields run header Raw is holds room = room
 first_fits n asked snap fields run header Mixed is holds room = let some = holds is in (is, omega (arith, some), room)
+first_fits n asked snap fields run header Weak is holds room = room
 
 -- and leaves less than a page of a short one
 pub first_rest : (run : Run) (header : Header) (kind : Kind) → run.end < run.at + place.size_of header + 64 → LeavesShortRun run header (place.stores_first kind)
 first_rest run header Fields rest = rest
 first_rest run header Raw rest = rest
 first_rest run header Mixed rest = rest
+first_rest run header Weak rest = rest
 
 pub first_going : (kind : Kind) → IsPlacingGoing (place.stores_first kind)
 first_going Fields = tt
 first_going Raw = tt
 first_going Mixed = tt
+first_going Weak = tt
 
 abbrev first_at : Kind → Bool → PlaceStage
 first_at kind b = cond b (place.stores_first kind) LoadsTraced
@@ -66,6 +69,7 @@ module _ (x : Held) (header : Header) where
   known_by Fields is true room = λ i. record (known_at x Looks) { stock = held_first Fields is refl room i }
   known_by Raw is true room = λ i. record (known_at x Looks) { stock = held_first Raw is refl room i }
   known_by Mixed is true room = λ i. record (known_at x Looks) { stock = held x.run room i }
+  known_by Weak is true room = λ i. record (known_at x Looks) { stock = held_first Weak is refl room i }
   known_by kind is false room = refl
 
   stage_by : HoldsFields header (fields_for x) → (b : Bool) → nat_le ((run_held x).at + place.size_of header) (run_held x).end ≡ b

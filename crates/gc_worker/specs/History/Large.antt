@@ -2,7 +2,7 @@
 use Rattle.std.specs.Prelude.{◌≡◌, ◌≢◌, ℕ, ◌+◌, ◌-◌, ◌*◌, ◌^◌, ◌≤◌, ◌==◌, ◌⊎◌, if◌then◌else◌, true, List, ◌∷◌, ◌++◌, Some}
 use Rattle.plain_state.specs.declared.end.End.TheVariants.{HeapFull}
 use Rattle.plain_state.specs.declared.sizes.TheConstants.{PAGE_WORDS}
-use Rattle.heap_state.specs.Meaning.Reachable.{IsLive}
+use Rattle.plain_state.specs.Reachable.{IsLive}
 use Rattle.gc_worker.specs.declared.calls.did.Did.TheVariants.{Trap}
 use Rattle.gc_worker.specs.declared.calls.entry.Entry.{Entry}
 use Rattle.gc_worker.specs.declared.calls.entry.Entry.TheVariants.{Made}

@@ -7,7 +7,7 @@ use Rattle.gc_worker.specs.declared.calls.entry.Entry.{Entry}
 use Rattle.gc_worker.specs.declared.calls.entry.Entry.TheVariants.{Made, Exchanged}
 use Rattle.gc_worker.specs.declared.task.Task.{Task}
 use Rattle.gc_worker.specs.Plain.Answer.{ComesTo, after_told}
-use Rattle.gc_worker.specs.Steps.Turned.{Told, Silent, Answers, Marks}
+use Rattle.gc_worker.specs.Steps.Turned.{Told, Silent, Empties, Answers, Marks}
 
 -- ---- calls
 
@@ -49,11 +49,13 @@ calls_of n (Exchanged by asked ∷ es) = calls_of n es
 -- what a step of worker m adds to the history
 abbrev pub extra : ℕ → Told → List Entry
 extra m Silent = []
+extra m Empties = []
 extra m (Answers task did) = Made (worker_call m task did) ∷ []
 extra m (Marks asked) = Exchanged m asked ∷ []
 
 -- what worker m has made after it
 abbrev pub own_after : ℕ → List Call → Told → List Call
 own_after m own Silent = own
+own_after m own Empties = own
 own_after m own (Answers task did) = own ++ worker_call m task did ∷ []
 own_after m own (Marks asked) = own

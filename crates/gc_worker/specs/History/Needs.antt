@@ -1,15 +1,18 @@
 -- What heap a program needs, by the order of its run alone: the pages of the records that it makes between two flips, beside what was
 -- live at the first of them.
 use Rattle.std.specs.Prelude.{◌≡◌, ◌≢◌, ⊤, ℕ, ◌+◌, ◌*◌, ◌<◌, ◌≤◌, ◌-◌, ◌^◌, ◌==◌, ◌⊎◌, Bool, true, false, List, [], ◌∷◌, ◌++◌, Some, if◌then◌else◌, length, unwrap_or}
+use Rattle.std.specs.List.{list_all}
 use Rattle.plain_state.specs.declared.sizes.TheConstants.{PAGE_WORDS}
+use Rattle.plain_state.specs.Reachable.{IsLive}
 use Rattle.plain_state.specs.State.{Plain}
 use Rattle.mutator_asm.specs.declared.instr.Instr.{Instr}
 use Rattle.plain_heap.specs.declared.mark.Mark.{Mark}
-use Rattle.plain_heap.specs.declared.mark.Mark.TheVariants.{Step, Flip, Full}
-use Rattle.plain_heap.specs.Order.{Story, opening, plain, story, story_marked}
+use Rattle.plain_heap.specs.declared.mark.Mark.TheVariants.{Step, Flip, Full, Traced}
+pub use Rattle.plain_heap.specs.Order.{first_story}
+use Rattle.plain_heap.specs.Order.{Story, plain, story, story_marked}
 use Rattle.plain_heap.specs.Step.{asked_by}
+use Rattle.plain_heap.specs.Tracing.{is_traced}
 use Rattle.heap_state.specs.Functions.{sum_below}
-use Rattle.heap_state.specs.Meaning.Reachable.{IsLive}
 use Rattle.gc_worker.specs.History.Large.{pages_full}
 
 -- ---- flips
@@ -19,12 +22,14 @@ abbrev pub since_by : (ℕ → Bool) → Mark → ℕ → Bool
 since_by since (Step j) = λ m. if m == j then false else since m
 since_by since (Flip asked) = λ m. true
 since_by since (Full j asked room live) = since
+since_by since Traced = since
 
 -- how many flips came
 abbrev pub flips_by : ℕ → Mark → ℕ
 flips_by flips (Step j) = flips
 flips_by flips (Flip asked) = flips + 1
 flips_by flips (Full j asked room live) = flips
+flips_by flips Traced = flips
 
 -- the same after marks
 abbrev pub since_in : (ℕ → Bool) → List Mark → ℕ → Bool
@@ -40,6 +45,7 @@ abbrev pub FullMayCome : (ℕ → Bool) → ℕ → Mark → Type 0
 FullMayCome since flips (Step j) = ⊤
 FullMayCome since flips (Flip asked) = ⊤
 FullMayCome since flips (Full j asked room live) = (since j ≡ true) ⊎ (flips ≡ 2 ^ 32 - 1)
+FullMayCome since flips Traced = ⊤
 
 -- so does each mark of an order, after marks of which this is so
 unfoldable pub EachMayCome : (ℕ → Bool) → ℕ → List Mark → Type 0
@@ -61,14 +67,11 @@ abbrev pub made_after_mark : List (List Instr) → ℕ → Plain → (made : ℕ
 made_after_mark code turns p made (Step m) = made + pages_next code turns p m
 made_after_mark code turns p made (Flip asked) = 0
 made_after_mark code turns p made (Full m asked room live) = made
+made_after_mark code turns p made Traced = made
 
 abbrev pub made_after : List (List Instr) → ℕ → Story → (made : ℕ) → List Mark → ℕ
 made_after code turns s made [] = made
 made_after code turns s made (mark ∷ marks) = made_after code turns (story_marked code turns s mark) (made_after_mark code turns s.now made mark) marks
-
--- before the first mark
-abbrev pub first_story : List (List Instr) → Story
-first_story code = record { flip = opening code; now = opening code }
 
 -- in the order of a program
 abbrev pub made_since : List (List Instr) → ℕ → List Mark → ℕ
@@ -94,6 +97,7 @@ abbrev pub IsFullMark : (limit least : ℕ) → List (List Instr) → ℕ → St
 IsFullMark limit least code turns s flips made (Step m) = ⊤
 IsFullMark limit least code turns s flips made (Flip asked) = ⊤
 IsFullMark limit least code turns s flips made (Full m asked room live) = IsFullAt limit least code turns s flips made m asked room live
+IsFullMark limit least code turns s flips made Traced = ⊤
 
 -- so is each mark of an order
 abbrev pub EachFullIs : (limit least : ℕ) → List (List Instr) → ℕ → Story → (flips made : ℕ) → List Mark → Type 0
@@ -124,11 +128,13 @@ HasNoFull order = (front rest : List Mark) (m asked room live : ℕ) → front +
 
 -- ---- with one mutator
 
--- it ends with a flip
+-- it ends with a flip, but for marks that tell that the epoch is traced
 pub record EndsWithFlip (front : List Mark) : Type 0 where
   pub before : List Mark
   pub asked : ℕ
-  pub is : front ≡ before ++ Flip asked ∷ []
+  pub traced : List Mark
+  pub is : front ≡ before ++ Flip asked ∷ traced
+  pub all : list_all is_traced traced ≡ true
 
 -- the record that mutator m's next step makes, if it makes one, fits beside what is live now
 abbrev pub HasRoomNow : (pages : ℕ) → List (List Instr) → ℕ → Plain → (m : ℕ) → Type 0

@@ -4,10 +4,10 @@ use Rattle.std.specs.Option.{option_and_then, option_map}
 use Rattle.plain_state.specs.declared.end.End.{End}
 use Rattle.plain_state.specs.declared.end.End.TheVariants.{HeapFull}
 use Rattle.plain_state.specs.declared.sizes.TheConstants.{PAGE_WORDS}
+use Rattle.plain_state.specs.Reachable.{IsLive}
 use Rattle.plain_state.specs.State.{Mutator, Plain}
 use Rattle.plain_heap.specs.Step.{new_record, pages_of}
 use Rattle.heap_state.specs.Functions.{sum_below}
-use Rattle.heap_state.specs.Meaning.Reachable.{IsLive}
 use Rattle.gc_worker.specs.declared.calls.did.Did.{Did}
 use Rattle.gc_worker.specs.declared.calls.did.Did.TheVariants.{Done, Trap}
 use Rattle.gc_worker.specs.declared.calls.entry.Entry.{Entry}

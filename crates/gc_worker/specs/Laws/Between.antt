@@ -35,7 +35,7 @@ use Rattle.gc_worker.specs.Laws.Step.{Heap, read, held_at, WorkersStand, epoch_o
 use Rattle.gc_worker.specs.declared.calls.did.Did.{Did}
 use Rattle.gc_worker.specs.declared.calls.did.Did.TheVariants.{Done, Trap}
 use Rattle.gc_worker.specs.Steps.Stepped.{IsBeginningCheckpoint}
-use Rattle.gc_worker.specs.Steps.Turned.{Told, Silent, Answers, Marks, passes, turned, told}
+use Rattle.gc_worker.specs.Steps.Turned.{Told, Silent, Empties, Answers, Marks, passes, turned, told}
 use Rattle.gc_worker.specs.Steps.Wanted.{wanted}
 
 -- ---- how it begins
@@ -128,6 +128,7 @@ TasksMayBegin = (n mutators k : ℕ) (x : Held) (task : Task) → Fits n mutator
 
 abbrev pub IsNoAnswer : Told → Type 0
 IsNoAnswer Silent = ⊤
+IsNoAnswer Empties = ⊤
 IsNoAnswer (Answers task outcome) = ⊥
 IsNoAnswer (Marks asked) = ⊤
 

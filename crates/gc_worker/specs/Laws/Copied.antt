@@ -1,9 +1,9 @@
 -- What the collector has copied, once an epoch is traced, and what a mutator that finds the heap full says of it.
 use Rattle.std.specs.Prelude.{◌≡◌, ℕ, ◌+◌}
+use Rattle.plain_state.specs.Reachable.{IsLive}
 use Rattle.plain_state.specs.State.{Plain}
 use Rattle.space_map.specs.Table.{Traced}
 use Rattle.heap_state.specs.Cycles.Copies.{CopiedIsLive}
-use Rattle.heap_state.specs.Meaning.Reachable.{IsLive}
 use Rattle.heap_state.specs.Memory.Table.{word_in}
 use Rattle.gc_worker.specs.Plain.Full.{FindsNoRoom}
 use Rattle.gc_worker.specs.Workers.Held.{Held}

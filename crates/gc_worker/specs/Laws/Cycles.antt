@@ -35,7 +35,7 @@ use Rattle.gc_worker.specs.Workers.Fits.{Fits}
 use Rattle.gc_worker.specs.Workers.Held.{Held, has_seen_flip, may_snap, pages_needed}
 use Rattle.gc_worker.specs.Laws.Step.{Heap, WorkersStand, held_at, epoch_of, moved}
 use Rattle.gc_worker.specs.declared.calls.did.Did.TheVariants.{Done, Trap}
-use Rattle.gc_worker.specs.Steps.Turned.{Told, Silent, Answers, Marks, turned, told}
+use Rattle.gc_worker.specs.Steps.Turned.{Told, Silent, Empties, Answers, Marks, turned, told}
 use Rattle.gc_worker.specs.Steps.Wanted.{wanted}
 
 -- ---- claims of pages for records
@@ -71,6 +71,7 @@ size_of n words = word_in n words (Size (to_space (epoch_of n words)))
 -- within an epoch LOW falls by the words claimed, and after a flip it is the end of the space
 abbrev pub LowGoes : (n : ℕ) → (words later : List ℕ) → (claims : ℕ) → Told → Type 0
 LowGoes n words later claims Silent = low_of n later + claims ≡ low_of n words
+LowGoes n words later claims Empties = low_of n later + claims ≡ low_of n words
 LowGoes n words later claims (Answers task outcome) = low_of n later + claims ≡ low_of n words
 LowGoes n words later claims (Marks asked) = low_of n later ≡ PAGE_WORDS * size_of n later
 
@@ -100,6 +101,7 @@ set_aside x = set_aside_at x.stage
 -- What is claimed is set aside, until the record stands for which it was claimed; who ends has nothing set aside. Of a flip nothing is said.
 abbrev pub SetsAside : (was : Held) → (claims : ℕ) → (now : Held) → Told → Type 0
 SetsAside was claims now Silent = claims + set_aside was ≤ set_aside now
+SetsAside was claims now Empties = claims + set_aside was ≤ set_aside now
 SetsAside was claims now (Answers task Done) = claims ≡ 0
 SetsAside was claims now (Answers task (Trap end)) = claims + set_aside was ≡ 0
 SetsAside was claims now (Marks asked) = ⊤
@@ -133,6 +135,7 @@ Grows n size next = (next ≡ size) ⊎ (next ≡ min n (2 * size))
 -- within an epoch the pages in use stay
 abbrev pub SizeGoes : (n : ℕ) → (words later : List ℕ) → Told → Type 0
 SizeGoes n words later Silent = size_of n later ≡ size_of n words
+SizeGoes n words later Empties = size_of n later ≡ size_of n words
 SizeGoes n words later (Answers task outcome) = size_of n later ≡ size_of n words
 SizeGoes n words later (Marks asked) = Grows n (size_of n words) (size_of n later)
 

@@ -33,7 +33,7 @@ use Rattle.gc_worker.specs.Plain.Full.{FullWhereTold}
 use Rattle.gc_worker.specs.Workers.Held.{Held, pages_needed}
 use Rattle.gc_worker.specs.Workers.Knows.{knows}
 use Rattle.gc_worker.specs.Workers.Saves.{saver_of}
-use Rattle.gc_worker.specs.Steps.Turned.{Told, Silent, Answers, Marks, PageWon, epoch_said, turned, told, won}
+use Rattle.gc_worker.specs.Steps.Turned.{Told, Silent, Empties, Answers, Marks, PageWon, epoch_said, turned, told, won}
 use Rattle.gc_worker.specs.Steps.Wanted.{wanted}
 
 -- ---- a heap with its workers
@@ -108,6 +108,7 @@ moved h k x q = record h { words = words_after q h.words; workers = slice_set h.
 -- the plain state at the last flip, after a step that is this to the plain machine
 abbrev pub at_flip : (p o : Plain) → Told → Plain
 at_flip p o Silent = o
+at_flip p o Empties = o
 at_flip p o (Answers task outcome) = o
 at_flip p o (Marks asked) = p
 
@@ -136,6 +137,7 @@ pub record FlipsOnce (n : ℕ) (words later : List ℕ) (x : Held) (asked : ℕ)
 
 abbrev pub FlipsWhereTold : (n : ℕ) → (words later : List ℕ) → Held → Told → Type 0
 FlipsWhereTold n words later x Silent = epoch_of n later ≡ epoch_of n words
+FlipsWhereTold n words later x Empties = epoch_of n later ≡ epoch_of n words
 FlipsWhereTold n words later x (Answers task outcome) = epoch_of n later ≡ epoch_of n words
 FlipsWhereTold n words later x (Marks asked) = FlipsOnce n words later x asked
 

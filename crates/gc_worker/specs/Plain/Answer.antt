@@ -11,7 +11,7 @@ use Rattle.gc_worker.specs.declared.task.Task.{Task}
 use Rattle.gc_worker.specs.declared.task.Task.TheVariants.{Calls, Stops}
 use Rattle.gc_worker.specs.declared.calls.did.Did.{Did}
 use Rattle.gc_worker.specs.declared.calls.did.Did.TheVariants.{Done, Trap}
-use Rattle.gc_worker.specs.Steps.Turned.{Told, Silent, Answers, Marks}
+use Rattle.gc_worker.specs.Steps.Turned.{Told, Silent, Empties, Answers, Marks}
 
 -- ---- what it may be
 
@@ -36,6 +36,7 @@ pub record ComesTo (p : Plain) (k : ℕ) (task : Task) (outcome : Did) : Type 0 
 
 abbrev pub IsAnswered : Plain → (k : ℕ) → Told → Type 0
 IsAnswered p k Silent = ⊤
+IsAnswered p k Empties = ⊤
 IsAnswered p k (Answers task outcome) = ComesTo p k task outcome
 IsAnswered p k (Marks asked) = ⊤
 
@@ -52,5 +53,6 @@ after_answer p k task outcome None = p
 
 abbrev pub after_told : Plain → (k : ℕ) → Told → Plain
 after_told p k Silent = p
+after_told p k Empties = p
 after_told p k (Answers task outcome) = after_answer p k task outcome (slice_get p.mutators k)
 after_told p k (Marks asked) = p

@@ -13,7 +13,7 @@ use Rattle.heap_state.specs.Memory.Table.{word_in}
 use Rattle.gc_worker.specs.Workers.Held.{Held}
 use Rattle.gc_worker.specs.declared.calls.did.Did.{Did}
 use Rattle.gc_worker.specs.declared.calls.did.Did.TheVariants.{Done, Trap}
-use Rattle.gc_worker.specs.Steps.Turned.{Told, Silent, Answers, Marks}
+use Rattle.gc_worker.specs.Steps.Turned.{Told, Silent, Empties, Answers, Marks}
 
 -- In its epoch, which is the gate's and is traced, the words between FRONT and LOW are too few for the pages that it asks for, and as many
 -- as are told to be live are below FRONT; and no flip can help: one came since it began its instruction, and all pages of the space are
@@ -43,5 +43,6 @@ FullByOutcome n words x (Trap end) = FullByEnd n words x end
 -- where a step tells that the heap is full it is
 abbrev pub FullWhereTold : (n : ℕ) → List ℕ → Held → Told → Type 0
 FullWhereTold n words x Silent = ⊤
+FullWhereTold n words x Empties = ⊤
 FullWhereTold n words x (Answers task outcome) = FullByOutcome n words x outcome
 FullWhereTold n words x (Marks asked) = ⊤

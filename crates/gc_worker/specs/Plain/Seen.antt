@@ -5,16 +5,17 @@ use Rattle.heap_words.specs.Decoded.{Decoded, NumberWord, PointerWord, HeaderWor
 use Rattle.heap_words.specs.Word.{number_word, pointer_word}
 use Rattle.plain_state.specs.declared.end.End.{End}
 use Rattle.plain_state.specs.declared.kind.Kind.TheVariants.{Mixed}
+use Rattle.plain_state.specs.declared.kind.Kind.TheVariants as kinds
 use Rattle.plain_state.specs.declared.value.Identity.{Identity}
 use Rattle.plain_state.specs.declared.value.Value.{Value}
 use Rattle.plain_state.specs.declared.value.Value.TheVariants.{Number, Reference}
 use Rattle.plain_state.specs.State.{Mutator}
 use Rattle.mutator_asm.specs.declared.instr.Instr.{Instr}
-use Rattle.mutator_asm.specs.declared.instr.Instr.TheVariants.{New, Raw, Mix}
+use Rattle.mutator_asm.specs.declared.instr.Instr.TheVariants.{New, Raw, Mix, Weak}
 use Rattle.mutator_asm.specs.declared.operand.Operand.{Operand}
 use Rattle.plain_heap.specs.declared.action.Action.{Action}
 use Rattle.plain_heap.specs.declared.action.Action.TheVariants.{Makes}
-use Rattle.plain_heap.specs.Action.{◌>>=◌, length_of, mixed_length, operand}
+use Rattle.plain_heap.specs.Action.{◌>>=◌, length_of, mixed_length, operand, reference_in, register}
 use Rattle.heap_state.specs.Worker.{Account}
 pub use Rattle.gc_worker.specs.declared.steps.allocating.Making.{Making}
 
@@ -76,7 +77,7 @@ mixed_named k fields raw = do
 
 -- the record that an instruction makes: its kind, the register that gets it, and its length
 abbrev pub making_in : Result Action End → Option Making
-making_in (Ok (Makes kind d n)) = Some (record { kind = kind; into = d; len = n })
+making_in (Ok (Makes kind d n v)) = Some (record { kind = kind; into = d; len = n })
 making_in other = None
 
 -- the register that is to lead to the record that an instruction makes, or 0 if it makes none
@@ -84,8 +85,13 @@ abbrev pub register_for : Instr → ℕ
 register_for (New d x) = d
 register_for (Raw d x) = d
 register_for (Mix d fields raw) = d
+register_for (Weak d a) = d
 register_for instr = 0
 
 -- the mixed record that two operands name
 abbrev pub mixed_made : Mutator → (d : ℕ) → (fields raw : Operand) → Option Making
-mixed_made k d fields raw = making_in (mixed_named k fields raw >>= (λ m. Ok (Makes (Mixed m.0) d m.1)))
+mixed_made k d fields raw = making_in (mixed_named k fields raw >>= (λ m. Ok (Makes (Mixed m.0) d m.1 (Number 0))))
+
+-- the cell whose target a register names
+abbrev pub cell_made : Mutator → (d a : ℕ) → Option Making
+cell_made k d a = making_in (reference_in (register k a) >>= (λ i. Ok (Makes kinds.Weak d 1 (Reference i))))

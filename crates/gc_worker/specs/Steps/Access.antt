@@ -11,6 +11,7 @@ use Rattle.heap_words.specs.declared.kind.Kind.TheVariants as headers
 use Rattle.heap_words.specs.Decoded.{Decoded, NumberWord, PointerWord, HeaderWord, ForwardWord, BusyWord, Malformed, decode, number_in}
 use Rattle.heap_words.specs.Word.{number_word}
 use Rattle.plain_state.specs.declared.end.End.{End}
+use Rattle.plain_state.specs.declared.end.End.TheVariants.{WeakCell}
 use Rattle.plain_state.specs.declared.kind.Kind as kinds
 use Rattle.plain_state.specs.declared.kind.Kind.TheVariants as kind
 use Rattle.plain_state.specs.declared.value.Value.{Value}
@@ -206,11 +207,23 @@ counted_by r len (record_uses.Loads into) = counting r.at (field_uses.Loads into
 counted_by r len (record_uses.Stores new) = counting r.at (field_uses.Stores new) (in_record len r.value)
 counted_by r len (record_uses.Exchanges e) = counting r.at (field_uses.Exchanges e) (in_record len r.value)
 
--- by the header: the count is no value
+-- a cell: its value is neither loaded nor replaced
+abbrev pub refusal : Result ℕ End → End
+refusal (Ok x) = WeakCell
+refusal (Err why) = why
+
+abbrev pub refused_by : RecordAccess → (len : ℕ) → RecordUse → Answered
+refused_by r len (record_uses.TellsLength into) = Comes (Brings into (number_word len))
+refused_by r len (record_uses.Loads into) = Comes (Fails (refusal (in_record len r.value)))
+refused_by r len (record_uses.Stores new) = Comes (Fails (refusal (in_record len r.value)))
+refused_by r len (record_uses.Exchanges e) = Comes (Fails (refusal (in_record len r.value)))
+
+-- by the header: a mixed record's count and a cell's link are no values
 abbrev pub by_kind : RecordAccess → Kind → (len : ℕ) → Answered
 by_kind r headers.Fields len = used_by r roles.Field len r.usage
 by_kind r headers.Raw len = used_by r roles.Number len r.usage
 by_kind r headers.Mixed len = counted_by r (len - 1) r.usage
+by_kind r headers.Weak len = refused_by r (len - 1) r.usage
 
 -- what is no header can't be there, and leaves it where it is
 abbrev pub read_header : RecordAccess → Decoded → Answered
@@ -392,7 +405,7 @@ begun (Jumps target) = None
 begun (Links d target) = None
 begun (Prints n) = None
 begun Snaps = None
-begun (Makes kind d n) = None
+begun (Makes kind d n v) = None
 
 -- a field is that of the action: its value, or what stands there for it
 abbrev pub IsFieldOfAction : Action → FieldAccess → FieldUse → Type 0

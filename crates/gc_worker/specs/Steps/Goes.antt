@@ -19,7 +19,7 @@ use Rattle.gc_worker.specs.Workers.Held.{Held, pages_needed}
 use Rattle.gc_worker.specs.Workers.Knows.{knows}
 use Rattle.gc_worker.specs.Workers.Saves.{saver_of}
 use Rattle.gc_worker.specs.Steps.Wanted.{wanted}
-use Rattle.gc_worker.specs.Steps.Turned.{Told, Silent, Answers, Marks, PageWon, turned, told, won}
+use Rattle.gc_worker.specs.Steps.Turned.{Told, Silent, Empties, Answers, Marks, PageWon, turned, told, won}
 
 -- worker k of a configuration that stands holds this; its table is whole, and SNAP is as it has read it while it runs
 pub record Is (c : Configuration) (k : ℕ) (x : Held) : Type 0 where
@@ -33,6 +33,7 @@ pub record Is (c : Configuration) (k : ℕ) (x : Held) : Type 0 where
 -- instruction; or a flip.
 abbrev pub LeavesToPlain : (c : Configuration) (p : Plain) (g : Ghost) (k : ℕ) → Option Entry → Held → Ghost → Told → Type 0
 LeavesToPlain c p g k e y h Silent = LeavesConfiguration c e k (knows y) p g h
+LeavesToPlain c p g k e y h Empties = LeavesConfiguration c e k (knows y) p g h
 LeavesToPlain c p g k (Some (GateIs gate)) y h (Marks asked) = Flipped c gate k (knows y) p h
 LeavesToPlain c p g k e y h (Marks asked) = ⊥
 LeavesToPlain c p g k e y h (Answers task outcome) = LeavesConfiguration c e k (knows y) (after_told p k (Answers task outcome)) g h
@@ -50,6 +51,7 @@ Wins c e k y (Some w) = IsWon c e k y w
 -- a flip is for the pages that the flipper's task asks for, and in its own epoch
 abbrev pub FlipIsOwn : Configuration → Held → Told → Type 0
 FlipIsOwn c x Silent = ⊤
+FlipIsOwn c x Empties = ⊤
 FlipIsOwn c x (Answers task outcome) = ⊤
 FlipIsOwn c x (Marks asked) = (asked ≡ pages_needed x) × ((table c).gate.epoch ≡ x.epoch)
 

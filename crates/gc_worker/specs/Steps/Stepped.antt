@@ -13,6 +13,7 @@ use Rattle.gc_worker.specs.declared.calls.did.Did.TheVariants.{Done, Trap}
 use Rattle.gc_worker.specs.declared.task.due.Due.{Due}
 use Rattle.gc_worker.specs.declared.task.due.Due.TheVariants as due
 use Rattle.gc_worker.specs.declared.steps.stepped.Stepped.{Stepped}
+use Rattle.gc_worker.specs.declared.steps.stepped.Stepped.TheVariants as stepped
 use Rattle.gc_worker.specs.declared.steps.stepped.Stepped.TheVariants.{Moved, Effect, Flipped, Ended}
 use Rattle.gc_worker.specs.declared.task.Task.{Task}
 use Rattle.gc_worker.specs.declared.task.Task.TheVariants.{Calls, Stops}
@@ -73,6 +74,7 @@ HasRoomToPrint number mutators capacity = nat_lt number mutators ≡ true → MO
 -- what is told of a step of worker k
 abbrev pub stepped_by : (k : ℕ) → turned.Told → Stepped
 stepped_by k turned.Silent = Moved
+stepped_by k turned.Empties = stepped.Traced
 stepped_by k (turned.Answers task Done) = Effect k
 stepped_by k (turned.Answers task (Trap end)) = Ended k end
 stepped_by k (turned.Marks asked) = Flipped asked

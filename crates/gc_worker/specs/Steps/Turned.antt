@@ -277,7 +277,7 @@ acts x (Jumps target) = jumped x target
 acts x (Links d target) = jumped (with_register_word x d (number_word (next_of x))) target
 acts x (Prints n) = prints x n
 acts x Snaps = snaps x
-acts x (Makes kind d n) = at_stage x (places x (header_for x))
+acts x (Makes kind d n v) = at_stage x (places x (header_for x))
 acts x act = accesses x (access.begun act)
 
 abbrev pub acted : Held → Result Action End → Held
@@ -498,11 +498,12 @@ turned x reply = turned_at x x.stage reply
 
 -- ---- what the step is to the plain machine
 
--- nothing; this came of the task; or a flip, for which so many pages were asked
+-- nothing; this came of the task; a flip, for which so many pages were asked; or, once the epoch is traced, that cells are emptied
 pub data Told : Type 0 where
   Silent : Told
   Answers : Task → Did → Told
   Marks : (asked : ℕ) → Told
+  Empties : Told
 
 abbrev pub told_flip : Turn Flipped → Told
 told_flip (Finished (flipped.Went asked)) = Marks asked
@@ -539,6 +540,16 @@ told_snap task (Finished (snapped.Begun seen)) = told_effect task
 told_snap task (Finished (snapped.NotYet word)) = Silent
 told_snap task More = Silent
 
+-- a round that exchanges TRACED ends the tracing of the epoch
+abbrev pub told_round : Turn RoundEnd → Told
+told_round (Finished (ScanPage page)) = Silent
+told_round (Finished (ScanInPlace page)) = Silent
+told_round (Finished Marked) = Empties
+told_round (Finished Traced) = Silent
+told_round (Finished (NothingNow word)) = Silent
+told_round (Finished (AllLeft word)) = Silent
+told_round More = Silent
+
 -- an action that the registers alone decide is the effect
 abbrev pub told_action : Held → Task → Action → Told
 told_action x task (Sets d v) = Answers task Done
@@ -570,6 +581,7 @@ told_at x Looks reply = told_look x reply
 told_at x (Flips f) reply = told_flip (flip.told (flip.taken f reply))
 told_at x (Accesses a) reply = told_access x.task (access.told a reply)
 told_at x (Places p) reply = told_place x (place.told (place.taken p reply))
+told_at x (Serves d back) reply = told_round (duty.told (duty.taken d reply))
 told_at x (BeginsCheckpoint s) reply = told_snap x.task (snap.told (snap.taken s reply))
 told_at x stage reply = Silent
 

@@ -4,7 +4,7 @@ use Rattle.atom_store.specs.declared.reply.Reply.{Reply}
 use Rattle.gc_worker.specs.Workers.Fits.{Fits}
 use Rattle.gc_worker.specs.Workers.Held.{Held}
 use Rattle.gc_worker.specs.declared.calls.did.Did.TheVariants.{Done, Trap}
-use Rattle.gc_worker.specs.Steps.Turned.{Told, Silent, Answers, Marks, turned, told}
+use Rattle.gc_worker.specs.Steps.Turned.{Told, Silent, Empties, Answers, Marks, turned, told}
 use Rattle.gc_worker.specs.Steps.Wanted.{wanted}
 
 -- the worker with this count
@@ -16,6 +16,7 @@ abbrev pub count_after : ℕ → Told → ℕ
 count_after count (Answers task Done) = count + 1
 count_after count (Answers task (Trap end)) = count
 count_after count Silent = count
+count_after count Empties = count
 count_after count (Marks asked) = count
 
 -- with another count it wants, tells and becomes the same

@@ -61,6 +61,7 @@ use Rattle.gc_worker.specs.Workers.Held.{Held, may_snap, has_seen_flip, pages_ne
 use Rattle.plain_state.specs.declared.end.End.{End}
 use Rattle.plain_state.specs.declared.end.End.TheVariants.{HeapFull}
 use Rattle.plain_state.specs.declared.sizes.TheConstants.{REGISTERS, MOST_PRINTED}
+use Rattle.plain_state.specs.declared.value.Value as values
 use Rattle.mutator_asm.specs.declared.instr.Instr.{Instr}
 use Rattle.mutator_asm.specs.Program.{is_valid}
 use Rattle.plain_heap.specs.declared.action.Action.{Action}
@@ -299,7 +300,7 @@ FitsEnd stage ended = ended ≡ false
 
 -- ---- the task, by a worker's account and registers
 
--- An instruction that may be begun: one that a text can have; and where it makes a record, the record's serial fits a header.
+-- An instruction that may be begun: its operands are ones that their places allow; and where it makes a record, the record's serial fits a header.
 pub record FitsCall (account : Account) (registers : List ℕ) (instr : Instr) : Type 0 where
   pub valid : IsTrue (is_valid instr)
   pub serial : (m : Making) → making_in (action (seen account registers) instr) ≡ Some m → account.serial + 1 < 2 ^ 40
@@ -324,7 +325,8 @@ pub record ExecutesAction (account : Account) (registers : List ℕ) (task : Opt
 -- it executes one that makes a record
 pub record IsMaking (account : Account) (registers : List ℕ) (task : Option Task) : Type 0 where
   pub making : Making
-  pub executes : ExecutesAction account registers task (Makes making.kind making.into making.len)
+  pub value : values.Value
+  pub executes : ExecutesAction account registers task (Makes making.kind making.into making.len value)
 
 -- it executes `snap`
 abbrev pub IsSnapping : Account → (registers : List ℕ) → Option Task → Type 0

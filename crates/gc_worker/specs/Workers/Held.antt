@@ -3,7 +3,7 @@ use Rattle.std.specs.Prelude.{ℕ, ◌+◌, ◌^◌, ◌&&◌, Bool, List, Optio
 use Rattle.std.specs.Option.{option_and_then}
 use Rattle.heap_words.specs.Decoded.{HeaderWord}
 use Rattle.plain_state.specs.declared.kind.Kind.{Kind}
-use Rattle.plain_state.specs.declared.kind.Kind.TheVariants.{Fields, Raw, Mixed}
+use Rattle.plain_state.specs.declared.kind.Kind.TheVariants.{Fields, Raw, Mixed, Weak}
 use Rattle.record_layout.specs.declared.header.Header.{Header}
 use Rattle.record_layout.specs.Layout.{header_in}
 use Rattle.space_map.specs.Spaces.{Layout}
@@ -66,6 +66,7 @@ abbrev pub fields_of : Kind → ℕ
 fields_of Fields = 0
 fields_of Raw = 0
 fields_of (Mixed fields) = fields
+fields_of Weak = 0
 
 abbrev pub fields_made : Option Making → ℕ
 fields_made (Some m) = fields_of m.kind

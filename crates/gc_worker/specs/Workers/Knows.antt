@@ -3,7 +3,7 @@ use Rattle.std.specs.Prelude.{ℕ, ◌+◌, ◌-◌, ◌/◌, ◌==◌, ◌||◌
 use Rattle.heap_words.specs.declared.kind.Kind.{Kind as HeaderKind}
 use Rattle.heap_words.specs.declared.kind.Kind.TheVariants as headers
 use Rattle.plain_state.specs.declared.kind.Kind.{Kind}
-use Rattle.plain_state.specs.declared.kind.Kind.TheVariants.{Fields, Raw, Mixed}
+use Rattle.plain_state.specs.declared.kind.Kind.TheVariants.{Fields, Raw, Mixed, Weak}
 use Rattle.space_map.specs.declared.spaces.TheConstants.{LAST_WORKER, PAGE_WORDS}
 use Rattle.space_map.specs.Spaces.{Layout, page_of, first_word, board_page}
 use Rattle.alloc_end.specs.declared.place_stage.PlaceStage.{PlaceStage}
@@ -141,6 +141,7 @@ reset_at (flip_stage.LoadsSize read) = Some (record { read = read; size = None; 
 reset_at (flip_stage.LoadsArea read size) = Some (record { read = read; size = Some size; grown = None; used = None; sized = false; stored = false })
 reset_at (flip_stage.StoresSize r) = Some (record { read = r.gate; size = Some r.size; grown = Some r.next; used = Some r.used; sized = false; stored = false })
 reset_at (flip_stage.StoresArea r) = Some (record { read = r.gate; size = Some r.size; grown = Some r.next; used = Some r.used; sized = true; stored = false })
+reset_at (flip_stage.ResetsWeak r) = Some (record { read = r.gate; size = Some r.size; grown = Some r.next; used = Some r.used; sized = true; stored = true })
 reset_at (flip_stage.Exchanges r) = Some (record { read = r.gate; size = Some r.size; grown = Some r.next; used = Some r.used; sized = true; stored = true })
 reset_at (flip_stage.Ended result) = None
 
@@ -196,6 +197,7 @@ abbrev pub kind_with : HeaderKind → (fields : ℕ) → Kind
 kind_with headers.Fields fields = Fields
 kind_with headers.Raw fields = Raw
 kind_with headers.Mixed fields = Mixed fields
+kind_with headers.Weak fields = Weak
 
 -- a run in which all stands ahead of a record's header
 abbrev pub counted_in : Placing → Stock

@@ -3,7 +3,7 @@
 ghost use Rattle.std.specs.Prelude.{◌≡◌, ◌+◌, ◌^◌, ◌<◌, ◌≤◌, ℕ};
 ghost use Rattle.heap_words.specs.Decoded.{decode, number_in};
 ghost use Rattle.plain_heap.specs.Action.{in_record};
-ghost use Rattle.gc_worker.specs.Steps.Access.{FitsMixedUse, FitsRecordUse, IsHeapAddress, at_stage, by_kind, counted_by, counting, field_at, field_of, goes_by, goes_to_field, kind_of, loading, may_store, read_count, storing, turn_by, used_by, valued};
+ghost use Rattle.gc_worker.specs.Steps.Access.{FitsMixedUse, FitsRecordUse, IsHeapAddress, at_stage, by_kind, counted_by, counting, field_at, field_of, goes_by, goes_to_field, kind_of, loading, may_store, read_count, refusal, refused_by, storing, turn_by, used_by, valued};
 ghost use Rattle.gc_worker.specs.Steps.StoredWord.{goes_on_if};
 ghost use Rattle.plain_heap.specs.Call.{may_hold};
 ghost use Rattle.gc_worker.specs.Plain.Seen.{IsValueWord, value_seen};
@@ -23,7 +23,7 @@ use plain_state::End;
 use record_layout::Header;
 
 impl Access {
-    /// A record is used by its header's kind. The count of a mixed one is no value.
+    /// A record is used by its header's kind. The count of a mixed one and the link of a cell are no values.
     #[inline(always)]
     pub(super) fn use_record(&mut self, r: RecordAccess, header: Header) -> Turn<Accessed>
         requires in_heap { IsHeapAddress self.old.spaces.pages r.at }
@@ -35,6 +35,7 @@ impl Access {
             Kind::Fields => self.use_words(r, Role::Field, header.len),
             Kind::Raw => self.use_words(r, Role::Number, header.len),
             Kind::Mixed => self.use_mixed(r, header.len.saturating_sub(1)),
+            Kind::Weak => self.use_cell(r, header.len.saturating_sub(1)),
         }
     }
 
@@ -138,6 +139,20 @@ impl Access {
             RecordUse::Loads(into) => self.go_to_count(r, len, FieldUse::Loads(into)),
             RecordUse::Stores(new) => self.go_to_count(r, len, FieldUse::Stores(new)),
             RecordUse::Exchanges(e) => self.go_to_count(r, len, FieldUse::Exchanges(e)),
+        }
+    }
+
+    /// A cell has the value or not by its header, and it is neither loaded nor replaced.
+    #[inline(always)]
+    fn use_cell(&self, r: RecordAccess, len: u16) -> Turn<Accessed>
+        ensures state { goes_by self.now (refused_by r len r.usage) ≡ self.now }
+        ensures tells { result ≡ turn_by (refused_by r len r.usage) }
+    {
+        match r.usage {
+            RecordUse::TellsLength(into) => tells_length(into, len),
+            RecordUse::Loads(_) | RecordUse::Stores(_) | RecordUse::Exchanges(_) => {
+                Turn::Finished(Accessed::Fails(refusal(r.value, len)))
+            }
         }
     }
 
@@ -246,5 +261,16 @@ impl Access {
         } else {
             self.go_to(AccessStage::LooksAtField(f, usage))
         }
+    }
+}
+
+/// The end of a mutator that loads or replaces a value of a cell which has so many.
+fn refusal(value: u64, len: u16) -> End
+    ensures { result ≡ refusal (in_record len value) }
+{
+    if value < u64::from(len) {
+        End::WeakCell
+    } else {
+        End::OutOfRange
     }
 }

@@ -6,7 +6,7 @@ ghost use Rattle.record_layout.specs.Layout.{header_in};
 ghost use Rattle.heap_state.specs.Invariant.Ghost.{header_kind, header_len};
 ghost use Rattle.gc_worker.specs.Workers.Fits.{FitsStage, IsMaking, Takes};
 ghost use Rattle.gc_worker.specs.Workers.Held.{pages_needed, at_stage, header_for, fields_for, fields_of, making_for};
-ghost use Rattle.gc_worker.specs.Plain.Seen.{mixed_made, register_for};
+ghost use Rattle.gc_worker.specs.Plain.Seen.{cell_made, mixed_made, register_for};
 ghost use Rattle.gc_worker.specs.Steps.Stepped.{IsCall, IsPlacing, IsSound, instr_due, seen_by, stepped_by, uncounted};
 ghost use Rattle.gc_worker.specs.Steps.Turned.{full_by, is_full, places, told, told_effect, told_full, turned, with_record};
 
@@ -73,6 +73,7 @@ impl State {
             Instr::New(into, len) => (Kind::Fields, into, len),
             Instr::Raw(into, len) => (Kind::Raw, into, len),
             Instr::Mix(into, fields, raw) => return self.mixed(into, fields, raw),
+            Instr::Weak(into, a) => return self.cell(into, a),
             _ => return None,
         };
         match self.length(len) {
@@ -90,6 +91,20 @@ impl State {
                 kind: Kind::Mixed(fields),
                 into,
                 len,
+            }),
+            Err(_) => None,
+        }
+    }
+
+    /// The cell whose target a register names.
+    fn cell(&self, into: u8, a: u8) -> Option<Making>
+        ensures { result ≡ cell_made (seen_by self.now) into a }
+    {
+        match self.reference(a) {
+            Ok(_) => Some(Making {
+                kind: Kind::Weak,
+                into,
+                len: 1,
             }),
             Err(_) => None,
         }
@@ -174,7 +189,7 @@ impl State {
     {
         let Due::Call = self.due else { unreachable!() };
         match self.instr {
-            Instr::New(d, _) | Instr::Raw(d, _) | Instr::Mix(d, _, _) => d,
+            Instr::New(d, _) | Instr::Raw(d, _) | Instr::Mix(d, _, _) | Instr::Weak(d, _) => d,
             _ => 0,
         }
     }
@@ -239,7 +254,7 @@ fn header_len(kind: Kind, count: u16) -> u32
 {
     match kind {
         Kind::Fields | Kind::Raw => u32::from(count),
-        Kind::Mixed(_) => u32::from(count) + 1,
+        Kind::Mixed(_) | Kind::Weak => u32::from(count) + 1,
     }
 }
 
@@ -248,7 +263,7 @@ fn fields_of(kind: Kind) -> u16
     ensures { result ≡ fields_of kind }
 {
     match kind {
-        Kind::Fields | Kind::Raw => 0,
+        Kind::Fields | Kind::Raw | Kind::Weak => 0,
         Kind::Mixed(fields) => fields,
     }
 }
@@ -260,5 +275,6 @@ fn header_kind(kind: Kind) -> HeaderKind
         Kind::Fields => HeaderKind::Fields,
         Kind::Raw => HeaderKind::Raw,
         Kind::Mixed(_) => HeaderKind::Mixed,
+        Kind::Weak => HeaderKind::Weak,
     }
 }

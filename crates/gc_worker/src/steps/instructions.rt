@@ -62,6 +62,7 @@ impl State {
             Instr::New(_, x) => self.allocate(x),
             Instr::Raw(_, x) => self.allocate(x),
             Instr::Mix(_, fields, raw) => self.allocate_mixed(fields, raw),
+            Instr::Weak(_, a) => self.allocate_cell(a),
             Instr::Ld(d, a, x) => self.load_from(d, a, x),
             Instr::St(a, x, b) => self.store_to(a, x, b),
             Instr::Cas(d, a, x, b, c) => self.exchange_in(d, a, x, b, c),
@@ -152,6 +153,25 @@ impl State {
     {
         self.known();
         match self.mixed_length(fields, raw) {
+            Ok(_) => {
+                self.begin_placing();
+                Stepped::Moved
+            }
+            Err(why) => self.end_with(why),
+        }
+    }
+
+    /// `weak rd ra`
+    #[tactic(auto, unfolding(plain_heap::specs::Action::action))]
+    #[inline(always)]
+    fn allocate_cell(&mut self, a: u8) -> Stepped
+        requires at { self.old.stage ≡ Stage.Looks }
+        requires after { (d : ℕ) × FitsStage (acted self.old (action (seen_by self.old) (Instr.Weak d a))) (acted self.old (action (seen_by self.old) (Instr.Weak d a))).stage }
+        ensures state { (d : ℕ) → self.new ≡ uncounted (acted self.old (action (seen_by self.old) (Instr.Weak d a))) }
+        ensures tells { (task : Task) (d : ℕ) → result ≡ stepped_by self.old.number (told_acted self.old task (action (seen_by self.old) (Instr.Weak d a))) }
+    {
+        self.known();
+        match self.reference(a) {
             Ok(_) => {
                 self.begin_placing();
                 Stepped::Moved

@@ -34,10 +34,7 @@ impl State {
             }
             Stage::Accesses(_) => self.access_on(on),
             Stage::Places(_) => self.place_on(on),
-            Stage::Serves(..) => {
-                self.serve_on(on);
-                Stepped::Moved
-            }
+            Stage::Serves(..) => self.serve_on(on),
             Stage::Scans(..) => {
                 self.scan_on(on);
                 Stepped::Moved
@@ -186,18 +183,19 @@ impl State {
     }
 
     #[inline(always)]
-    fn serve_on(&mut self, on: &mut PlainAtoms)
+    fn serve_on(&mut self, on: &mut PlainAtoms) -> Stepped
         requires at { IsServing self.old.stage }
         requires sound { IsSound self.old }
         requires may { MayMake self.old on.old }
         ensures state { self.new ≡ uncounted (step_made self.old on.old).held }
         ensures words { on.new ≡ (step_made self.old on.old).words }
+        ensures tells { result ≡ (step_made self.old on.old).told }
     {
         let Stage::Serves(duty, _) = &self.stage else {
             unreachable!()
         };
         let reply = on.act(duty.want());
-        self.serve(reply);
+        self.serve(reply)
     }
 
     #[inline(always)]

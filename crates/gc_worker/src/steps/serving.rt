@@ -5,7 +5,7 @@ ghost use Rattle.space_map.specs.Spaces.{board_page};
 ghost use Rattle.gc_worker.specs.declared.access.access_stage.AccessStage.{AccessStage};
 ghost use Rattle.gc_worker.specs.Workers.Fits.{FitsStage, IsAccessing, Takes};
 ghost use Rattle.gc_worker.specs.Steps.Stepped.{IsAtAccess, IsEvacuating, IsOpening, IsAtScan, IsServing, IsSound, MayBeginAnew, back_at, served_in, stepped_by, uncounted};
-ghost use Rattle.gc_worker.specs.Steps.Turned.{accessed_at, back_from, goes_back, scans, told, told_access, traced_by, turned};
+ghost use Rattle.gc_worker.specs.Steps.Turned.{accessed_at, back_from, goes_back, scans, told, told_access, told_round, traced_by, turned};
 
 use crate::access::accessed::Accessed;
 use crate::stage::Stage;
@@ -88,37 +88,47 @@ impl State {
     /// A step of a round.
     #[tactic(auto, using(crate::proofs::Words::Read::served_after, crate::proofs::Words::Read::served_fits))]
     #[inline(always)]
-    pub fn serve(&mut self, reply: Reply)
+    pub fn serve(&mut self, reply: Reply) -> Stepped
         requires at { IsServing self.old.stage }
         requires fits { IsSound self.old }
         requires takes { Takes self.old reply }
         requires after { IsSound (turned self.old reply) }
-        ensures { self.new ≡ uncounted (turned self.old reply) }
+        ensures state { self.new ≡ uncounted (turned self.old reply) }
+        ensures tells { result ≡ stepped_by self.old.number (told self.old reply) }
     {
         let Stage::Serves(duty, _) = &mut self.stage else {
             unreachable!()
         };
-        if let Turn::Finished(end) = duty.take(reply) {
-            let epoch = duty.epoch();
-            self.has_served(epoch, end);
+        match duty.take(reply) {
+            Turn::More => Stepped::Moved,
+            Turn::Finished(end) => {
+                let epoch = duty.epoch();
+                self.has_served(epoch, end)
+            }
         }
     }
 
     /// What a round of an epoch comes to.
     #[inline(always)]
-    fn has_served(&mut self, epoch: u32, end: RoundEnd)
+    fn has_served(&mut self, epoch: u32, end: RoundEnd) -> Stepped
         requires at { IsServing self.old.stage }
         requires round { MayBeginAnew self.old.layout self.old.mutators self.old.number self.old.stage }
         requires fits { FitsStage (served_in self.old epoch (back_at self.old.stage) end) (served_in self.old epoch (back_at self.old.stage) end).stage }
-        ensures { self.new ≡ served_in self.old epoch (back_at self.old.stage) end }
+        ensures state { self.new ≡ served_in self.old epoch (back_at self.old.stage) end }
+        ensures tells { result ≡ stepped_by self.old.number (told_round (Turn.Finished end)) }
     {
         match end {
             RoundEnd::ScanPage(page) => self.scan_page(epoch, page, false),
             RoundEnd::ScanInPlace(page) => self.scan_page(epoch, page, true),
-            RoundEnd::Marked | RoundEnd::NothingNow(_) => self.go_back(epoch),
+            RoundEnd::Marked => {
+                self.go_back(epoch);
+                return Stepped::Traced;
+            }
+            RoundEnd::NothingNow(_) => self.go_back(epoch),
             RoundEnd::Traced => self.has_found_traced(epoch),
             RoundEnd::AllLeft(_) => self.stage = Stage::Gone,
         }
+        Stepped::Moved
     }
 
     /// A page was claimed: its scan begins, in the epoch of the round.

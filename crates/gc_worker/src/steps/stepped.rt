@@ -11,6 +11,8 @@ pub enum Stepped {
     Effect(u8),
     /// The spaces were exchanged, since a mutator had asked for so many pages.
     Flipped(u32),
+    /// TRACED was exchanged: the epoch is traced.
+    Traced,
     /// This mutator got its end.
     Ended(u8, End),
 }

@@ -143,10 +143,7 @@ impl State {
             }
             Stage::Accesses(_) => self.access(reply),
             Stage::Places(_) => self.place(reply),
-            Stage::Serves(..) => {
-                self.serve(reply);
-                Stepped::Moved
-            }
+            Stage::Serves(..) => self.serve(reply),
             Stage::Scans(..) => {
                 self.scan(reply);
                 Stepped::Moved

@@ -2,7 +2,7 @@
 use Rattle.std.proofs.Common.{◌≡◌, ◌≢◌, ℕ, ◌+◌, ◌/◌, ◌<◌, ◌≤◌, refl, sym, ap, ◌∙◌, arith, ⊎_elim, ◌⊎◌, inl, inr, Some, [], ◌%◌, ◌-◌, slice_get, subst}
 use Rattle.std.proofs.lemmas.Bool.{cases_eq, cases_lt, ltb-true}
 use Rattle.plain_state.specs.declared.kind.Kind.{Kind}
-use Rattle.plain_state.specs.declared.kind.Kind.TheVariants.{Fields, Raw, Mixed}
+use Rattle.plain_state.specs.declared.kind.Kind.TheVariants.{Fields, Raw, Mixed, Weak}
 use Rattle.plain_state.specs.declared.sizes.TheConstants.{NUMBERS}
 use Rattle.plain_state.specs.Layout.{values_at}
 use Rattle.heap_words.specs.Word.{number_word}
@@ -37,6 +37,7 @@ unfolding number_word
 count_small Fields heap a z j len room shows f l = absurd (omega arith)
 count_small Raw heap a z j len room shows f l = absurd (omega arith)
 count_small (Mixed count) heap a z j len room shows f l = let e : j ≡ 1 = omega arith in let w : heap (a + j) ≡ heap (a + 1) = ap (λ i. heap (a + i)) e in omega (arith, w, shows, len, room)
+count_small Weak heap a z j len room shows f l = absurd (omega arith)
 
 -- worker k has one record more, and its run begins behind it
 abbrev pub placed : Team → ℕ → Stock → ℕ → Worker
@@ -119,6 +120,7 @@ module _ (E : Era) (m : Memory) (team : Team) (g : Ghost) (k : ℕ) (q : Stock) 
       by_kind Fields e = tt
       by_kind Raw e = tt
       by_kind (Mixed count) e = ap m.heap (omega arith) ∙ ok.ahead 0 (number_word count) (ap (λ xs. slice_get xs 0) e)
+      by_kind Weak e = tt
 
   small : (j : ℕ) → 0 < j → j < z → heap (q.at + j) < NUMBERS
   small j f l = ⊎_elim

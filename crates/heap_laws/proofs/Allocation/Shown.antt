@@ -7,7 +7,7 @@ use Rattle.plain_state.specs.declared.kind.Kind.{Kind}
 use Rattle.plain_state.specs.State as plain
 use Rattle.plain_state.specs.declared.value.Identity.{Identity}
 use Rattle.plain_state.specs.declared.value.Value.TheVariants.{Number}
-use Rattle.plain_state.specs.Layout.{values_at, word_of_value}
+use Rattle.plain_state.specs.Layout.{values_at, words_behind, word_of_value}
 use Rattle.plain_state.specs.Writing.{with_heap, gained, zeros as zeros_made}
 use Rattle.heap_state.specs.Memory.Era.{Era, IsLaidOut, Memory}
 use Rattle.heap_state.specs.Functions.{put}
@@ -177,7 +177,7 @@ zeros_show E m team g k q c z v ready places' = record {
 }
   where
     count : ℕ
-    count = z - values_at c
+    count = z - (values_at c + words_behind c)
 
     places : Places E team k q c z v
     places = places_of q c z v ready places'

@@ -3,7 +3,7 @@ use Rattle.std.proofs.Common.{◌≡◌, ◌≢◌, ℕ, ◌+◌, ◌-◌, ◌*�
 use Rattle.std.proofs.lemmas.Bool.{cases_eq, cases_lt}
 use Rattle.heap_words.specs.Decoded.{HeaderWord, decode}
 use Rattle.plain_state.specs.declared.kind.Kind.{Kind}
-use Rattle.plain_state.specs.declared.kind.Kind.TheVariants.{Fields, Raw, Mixed}
+use Rattle.plain_state.specs.declared.kind.Kind.TheVariants.{Fields, Raw, Mixed, Weak}
 use Rattle.plain_state.specs.Layout.{values_at}
 use Rattle.heap_state.specs.Memory.Era.{Era, Memory}
 use Rattle.heap_state.specs.Invariant.Ghost.{Ghost, header_kind}
@@ -44,6 +44,7 @@ as_far : (c : Kind) → length (stored_ahead c) + 1 ≡ values_at c
 as_far Fields = refl
 as_far Raw = refl
 as_far (Mixed count) = refl
+as_far Weak = refl
 
 -- ---- stocks of the epoch
 
@@ -82,7 +83,7 @@ pub opens_of : {E : Era} {m : Memory} {team : Team} {g : Ghost} {k : ℕ} (q : S
 opens_of q page ready opens = record { own = owns q ready opens.own; blank = omega (arith, opens.blank); at = opens.at; more = opens.more }
 
 pub places_of : {E : Era} {m : Memory} {team : Team} {g : Ghost} {k : ℕ} (q : Stock) (c : Kind) (z v : ℕ) → Ready E m team g k → PlacesNext team k q c z v → Places E team k q c z v
-places_of q c z v ready places = record { own = owns q ready places.own; runs = places.own.runs; run = places.run; some = (let b = values_behind_header c in let s = places.some in omega (arith, b, s)); fields = places.fields; fits = places.fits; rest = places.rest; room = places.some; ahead = places.ahead; behind = ap (λ xs. length xs + 1) places.ahead ∙ as_far c; header = places.header }
+places_of q c z v ready places = record { own = owns q ready places.own; runs = places.own.runs; run = places.run; some = (let b = values_behind_header c in let s = places.some in omega (arith, b, s)); fields = places.fields; fits = places.fits; rest = places.rest; room = (let s = places.some in omega (arith, s)); ahead = places.ahead; behind = ap (λ xs. length xs + 1) places.ahead ∙ as_far c; header = places.header }
 
 -- the team in which worker k has this stock
 abbrev pub with_stock : Team → ℕ → Stock → Team

@@ -3,6 +3,7 @@ use Rattle.std.proofs.Common.{◌≡◌, ◌≢◌, ℕ, ◌+◌, ◌-◌, ◌<�
 use Rattle.std.proofs.lemmas.Bool.{cases_eq}
 use Rattle.heap_words.specs.Decoded.{HeaderWord, BusyWord, ForwardWord, decode}
 use Rattle.heap_words.specs.declared.kind.Kind.{Kind as HeaderKind}
+use Rattle.plain_state.specs.Reachable.{Reachable}
 use Rattle.plain_state.specs.State as plain
 use Rattle.heap_state.specs.Cycles.Cycle.{Copying}
 use Rattle.heap_state.specs.Memory.Era.{Era, Memory}
@@ -13,7 +14,6 @@ use Rattle.heap_state.specs.Invariant.Parts.Copies.{Copied, Keepers}
 use Rattle.heap_state.specs.Invariant.Parts.Copying.{IsOrigin, Copies, Licensed, Keeps}
 use Rattle.heap_state.specs.Invariant.Parts.OldSpace.{OldSpace}
 use Rattle.heap_state.specs.Invariant.Parts.Records.{Headed}
-use Rattle.heap_state.specs.Meaning.Reachable.{Reachable}
 use Rattle.heap_state.specs.Worker.{Worker, Team, Quest, Copy, Scan, Origin, Register, Scanned, is_late}
 use Rattle.heap_state.proofs.Workers.Frames.{counted_put, staffed_put, scanned_put, stocks_put, numbered_put, accounts_put, registers_put, rooted_put}
 use Rattle.heap_state.proofs.Records.Holding.{First, OwnHeader, KeptBy, GoneTo, first}

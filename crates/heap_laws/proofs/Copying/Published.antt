@@ -3,6 +3,7 @@ use Rattle.std.proofs.Common.{◌≡◌, ◌≢◌, ℕ, ◌+◌, ◌-◌, ◌<�
 use Rattle.std.proofs.lemmas.Bool.{cases_eq}
 use Rattle.std.proofs.lemmas.Option.{slice_get_within}
 use Rattle.heap_words.specs.Decoded.{PointerWord, decode, ForwardWord}
+use Rattle.plain_state.specs.Reachable.{Reachable, FromRecord}
 use Rattle.plain_state.specs.State as plain
 use Rattle.plain_state.specs.declared.value.Identity.{Identity}
 use Rattle.plain_state.specs.declared.value.Value.TheVariants.{Reference}
@@ -12,12 +13,11 @@ use Rattle.heap_state.specs.Memory.Era.{Era, Memory}
 use Rattle.heap_state.specs.Functions.{put}
 use Rattle.heap_state.specs.Invariant.Ghost.{Ghost, Here}
 use Rattle.heap_state.specs.Invariant.Inductive.{Invariant}
-use Rattle.heap_state.specs.Meaning.Reachable.{Reachable, FromRecord}
 use Rattle.heap_state.specs.Meaning.Values.{ShowsAll, Shows, value_of}
 use Rattle.heap_state.specs.Worker.{Worker, Team, Quest, Copy}
 use Rattle.heap_state.proofs.Workers.Frames.{accounts_put, registers_put, rooted_put}
 use Rattle.heap_state.proofs.Puts.{put_at, put_other, some_same}
-use Rattle.heap_state.proofs.Records.Layouts.{count_stays, field_is_value, value_within, values_behind_header}
+use Rattle.heap_state.proofs.Records.Layouts.{count_stays, field_is_value, field_within, value_within, values_behind_header}
 use Rattle.heap_laws.specs.Copying.{published}
 use Rattle.heap_laws.specs.Steps.{with_worker, with_word, Preserves, Ready}
 use Rattle.heap_laws.proofs.Copying.Forward.{Publishing, mine, placed, from_written, unread_word, twin, copied_word, was_written, written_on, here_cases, old_target, invariant}
@@ -88,12 +88,10 @@ module _ {E : Era} {m : Memory} {team : Team} {g : Ghost} {k : ℕ} {c : Copy} {
     led : (i b : ℕ) → 0 < i → i < c.size → is_field (g.kind c.from) i ≡ true → decode (m.heap (c.from + i)) ≡ PointerWord b → Reachable p (g.identity b)
     led i b f l y d =
         let s : Shows (value_of g.identity) m.heap c.from (g.kind c.from) (g.size c.from) (source.0) = source.2 in
-        let z = s.size in
-        let k = ap values_at s.kind in
         let n : ℕ = i - values_at (g.kind c.from) in
         let e : word_of_value (g.kind c.from) n ≡ i = omega (arith, field_is_value (g.kind c.from) i f y) in
         let y' : is_field (g.kind c.from) (word_of_value (g.kind c.from) n) ≡ true = rw e y in
-        let u : value_of g.identity (m.heap (c.from + i)) ≡ slice_get source.0.values n = rw e at (s.fields n (omega (arith, e, l, z, k, old.3)) y') in
+        let u : value_of g.identity (m.heap (c.from + i)) ≡ slice_get source.0.values n = rw e at (s.fields n (field_within source.0 s n y' (omega (arith, e, l, old.3))) y') in
         FromRecord (g.identity c.from) source.0 n (g.identity b) reached source.1 (rw s.kind y') (sym u ∙ value_from_pointer g.identity (m.heap (c.from + i)) b d)
 
     sound : (x : ℕ) (i : Identity) → Here E g'.size g'.writer g'.kind x → StillLeads E g'.identity (heap' x) i → Reachable p i

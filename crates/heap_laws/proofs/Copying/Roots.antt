@@ -1,6 +1,7 @@
 -- Who is late is a mutator that has no end; and what a worker asks for was reachable at the flip.
 use Rattle.std.proofs.Common.{◌≡◌, ℕ, ◌+◌, ◌<◌, ◌≤◌, Bool, true, false, Option, Some, None, is_some, refl, arith, ⊎_elim, ◌&&◌, eqb}
 use Rattle.std.proofs.lemmas.Bool.{eqb-true}
+use Rattle.plain_state.specs.Reachable.{Reachable}
 use Rattle.plain_state.specs.State as plain
 use Rattle.plain_state.specs.declared.end.End.{End}
 use Rattle.heap_state.specs.Cycles.Cycle.{Cycle}
@@ -8,7 +9,6 @@ use Rattle.heap_state.specs.Memory.Era.{Era, Memory}
 use Rattle.heap_state.specs.Invariant.Ghost.{Ghost}
 use Rattle.heap_state.specs.Invariant.Inductive.{Invariant, Knows}
 use Rattle.heap_state.specs.Invariant.Parts.Copying.{IsOrigin}
-use Rattle.heap_state.specs.Meaning.Reachable.{Reachable}
 use Rattle.heap_state.specs.Worker.{Worker, Team, Post, Scanner, Outside, Running, Stopped, Flipping, Gone, Quest, Origin, Register, Scanned, is_mutator, is_live, is_running, is_gone, is_late, Snapping}
 
 left_of : (x y : Bool) → x && y ≡ true → (x ≡ true) × (y ≡ true)

@@ -3,6 +3,7 @@ use Rattle.space_map.specs.declared.page_word.PageWord.TheVariants.{Open}
 use Rattle.heap_state.specs.Memory.Era.{IsLaidOut}
 use Rattle.std.proofs.Common.{◌≡◌, ◌≢◌, ℕ, ◌+◌, ◌<◌, ◌≤◌, refl, arith, ⊎_elim, ◌⊎◌, inl, inr, ◌/◌}
 use Rattle.std.proofs.lemmas.Bool.{cases_eq}
+use Rattle.plain_state.specs.Reachable.{Reachable}
 use Rattle.plain_state.specs.State as plain
 use Rattle.plain_state.specs.declared.value.Value.TheVariants.{Reference}
 use Rattle.plain_state.specs.declared.value.Identity.{Identity}
@@ -12,7 +13,6 @@ use Rattle.heap_state.specs.Memory.Era.{Era, Memory}
 use Rattle.heap_state.specs.Functions.{put}
 use Rattle.heap_state.specs.Invariant.Ghost.{Ghost, Here}
 use Rattle.heap_state.specs.Invariant.Inductive.{Invariant}
-use Rattle.heap_state.specs.Meaning.Reachable.{Reachable}
 use Rattle.heap_state.specs.Meaning.Values.{value_of, Shows}
 use Rattle.heap_state.specs.Worker.{Team}
 use Rattle.heap_state.proofs.Puts.{put_other, each_put}

@@ -6,7 +6,7 @@ use Rattle.heap_words.proofs.Decoding.{decode-number_word}
 use Rattle.heap_words.specs.Decoded.{Decoded, NumberWord, PointerWord, HeaderWord, ForwardWord, BusyWord, Malformed, decode, number_in}
 use Rattle.plain_state.specs.declared.sizes.TheConstants.{NUMBERS}
 use Rattle.heap_words.specs.Word.{number_word}
-use Rattle.plain_state.specs.Layout.{is_field, values_at, word_of_value}
+use Rattle.plain_state.specs.Layout.{is_field, values_at, words_behind, word_of_value}
 use Rattle.plain_state.specs.State as plain
 use Rattle.plain_state.specs.declared.kind.Kind.{Kind}
 use Rattle.plain_state.specs.declared.value.Identity.{Identity}
@@ -19,7 +19,7 @@ use Rattle.heap_state.specs.Meaning.Values.{value_of, Shown, Shows}
 use Rattle.heap_state.specs.Worker.{Team, Role, FieldRole, NumberRole, UnknownRole, Access}
 use Rattle.heap_state.proofs.Records.Headers.{said_there}
 use Rattle.heap_state.proofs.Records.Holding.{uncopied_here}
-use Rattle.heap_state.proofs.Records.Layouts.{raw_is_no_field}
+use Rattle.heap_state.proofs.Records.Layouts.{raw_is_no_field, field_within, number_within}
 use Rattle.heap_state.proofs.Puts.{some_same, true_false, none≢some}
 use Rattle.heap_laws.specs.Fields.Effects.{MutatorsAreShown, RegistersHold, HeadersSay, CountsAreRead, word_held, word_stored, FitsRole, IsValueOf, AccessesAreValues, BoardWordsAreValues}
 use Rattle.heap_laws.specs.Fields.Words.{IsWordOf, IsAccessed, MayStore, StandsFor}
@@ -119,7 +119,7 @@ counts_are_read E m team g p k f ready s has unknown =
       count = mixed.0;
       kind = kind_is;
       says = ap decode counted.0 ∙ decode-number_word mixed.0 (number_short (m.heap (f.at + 1)) mixed.0 (inv.raw_words.raw f.at 1 a.stands a.written (omega arith) (let l = counted.1 in omega (arith, l)) (ap (λ (k : Kind). is_field k 1) mixed.1)) counted.0);
-      within = let z = shown.2.size in let b = ap values_at kind_is in let l = a.word.1 in omega (arith, z, b, l);
+      within = let z = shown.2.size in let b = ap values_at kind_is in let n = ap words_behind kind_is in let l = a.word.1 in omega (arith, z, b, n, l);
       access = λ role is. record { stands = a.stands; written = a.written; inside = a.inside; first = a.first; word = a.word; role = subst (λ (k : Kind). HasRole k f.word role) (sym mixed.1) is };
     }
 
@@ -151,8 +151,16 @@ module _ (E : Era) (m : Memory) (team : Team) (g : Ghost) (p : plain.Plain) (k :
   abbrev y : Value
   y = get_or r.values x (Number 0)
 
+  role_there : HasRole kind (word_of_value kind x) f.role
+  role_there = rw at at there.role
+
   within : x < length r.values
-  within = let z = shows.size in let b = ap values_at shows.kind in let l = word.last in omega arith
+  within = by_role f.role known role_there
+    where
+      by_role : (role : Role) → role ≢ UnknownRole → HasRole kind (word_of_value kind x) role → x < length r.values
+      by_role FieldRole is t = field_within r shows x t word.last
+      by_role NumberRole is t = number_within r shows x t word.last
+      by_role UnknownRole is t = absurd (is refl)
 
   value_is : slice_get r.values x ≡ Some y
   value_is = slice_get-get_or r.values x (Number 0) within
@@ -180,9 +188,6 @@ module _ (E : Era) (m : Memory) (team : Team) (g : Ghost) (p : plain.Plain) (k :
         record { denotes = λ o. true_false n o; number = λ _. some_same (sym (value_of_number g.identity w v d) ∙ holds.denotes) },
       )
   stored UnknownRole t w v u holds e fits = none≢some e
-
-  role_there : HasRole kind (word_of_value kind x) f.role
-  role_there = rw at at there.role
 
   is_value : IsValueOf E m g p f x
   is_value = record {

@@ -8,7 +8,7 @@ use Rattle.plain_state.specs.State as plain
 use Rattle.plain_state.specs.declared.value.Identity.{Identity}
 use Rattle.plain_state.specs.declared.value.Value.{Value}
 use Rattle.plain_state.specs.Writing.{stored, with_heap, with_value}
-use Rattle.plain_state.specs.Layout.{values_at, word_of_value}
+use Rattle.plain_state.specs.Layout.{word_of_value}
 use Rattle.heap_state.specs.Memory.Era.{Era, IsLaidOut, Memory}
 use Rattle.heap_state.specs.Functions.{put}
 use Rattle.heap_state.specs.Invariant.Ghost.{Ghost, Leads, Lands}
@@ -82,8 +82,8 @@ module _ (E : Era) (m : Memory) (team : Team) (g : Ghost) (p : plain.Plain) (a x
       let e : q.0 ≡ r = some_same (sym q.1 ∙ is) in
       rw (← e) q.2
 
-  value_there : (j : ℕ) → j ≡ x → slice_get changed.values j ≡ Some y
-  value_there j e = rw e (slice_get-set_same r.values x y (let z = was.size in let b = ap values_at was.kind in omega (arith, z, b, f.last)))
+  value_there : (j : ℕ) → j ≡ x → j < length r.values → slice_get changed.values j ≡ Some y
+  value_there j e l = rw e (slice_get-set_same r.values x y (rw e at l))
 
   value_elsewhere : (j : ℕ) → j ≢ x → slice_get changed.values j ≡ slice_get r.values j
   value_elsewhere j d = slice_get-set_other r.values x j y d
@@ -96,11 +96,11 @@ module _ (E : Era) (m : Memory) (team : Team) (g : Ghost) (p : plain.Plain) (a x
     kind = was.kind;
     size = let z = was.size in omega (arith, as_many);
     fields = λ j l t. ⊎_elim
-        (λ (e : j ≡ x). rw (put_at m.heap (a + i) v (a + word_of_value (g.kind a) j) (omega (arith, e)), value_there j e) (may.denotes (rw e at t)))
+        (λ (e : j ≡ x). rw (put_at m.heap (a + i) v (a + word_of_value (g.kind a) j) (omega (arith, e)), value_there j e (rw as_many at l)) (may.denotes (rw e at t)))
         (λ (d : j ≢ x). rw (put_other m.heap (a + i) v (a + word_of_value (g.kind a) j) (λ e. d (omega (arith, e))), value_elsewhere j d) (was.fields j (rw as_many at l) t))
         (cases_eq j x);
     numbers = λ j l t. ⊎_elim
-        (λ (e : j ≡ x). rw (put_at m.heap (a + i) v (a + word_of_value (g.kind a) j) (omega (arith, e)), value_there j e) (ap Some (may.number (rw e at t))))
+        (λ (e : j ≡ x). rw (put_at m.heap (a + i) v (a + word_of_value (g.kind a) j) (omega (arith, e)), value_there j e (rw as_many at l)) (ap Some (may.number (rw e at t))))
         (λ (d : j ≢ x). rw (put_other m.heap (a + i) v (a + word_of_value (g.kind a) j) (λ e. d (omega (arith, e))), value_elsewhere j d) (was.numbers j (rw as_many at l) t))
         (cases_eq j x);
     count = count_stays r was h a (λ two _ _. put_other m.heap (a + i) v (a + 1) (λ e. omega (arith, two, e)));

@@ -6,6 +6,7 @@ use Rattle.std.proofs.lemmas.Option.{slice_get_within}
 use Rattle.plain_state.specs.declared.value.Identity.{Identity}
 use Rattle.plain_state.specs.declared.value.Value.{Value}
 use Rattle.plain_state.specs.declared.value.Value.TheVariants.{Reference}
+use Rattle.plain_state.specs.Reachable.{Reachable, FromRegister, FromBoard}
 use Rattle.plain_state.specs.State as plain
 use Rattle.space_map.specs.declared.gate_word.GateWord.{GateWord}
 use Rattle.heap_state.specs.Cycles.Cycle.{Cycle, Copying, Rooted, RootLeads, ByBoard, ByRegister, IsRoot, InRegister, OnTheBoard, StillLeads}
@@ -15,7 +16,6 @@ use Rattle.heap_state.specs.Invariant.Ghost.{Ghost, Here, OnBoard, Lands, Leads}
 use Rattle.heap_state.specs.Invariant.Inductive.{Invariant, Knows}
 use Rattle.heap_state.specs.Invariant.Parts.Gate.{Counted, Staffed}
 use Rattle.heap_state.specs.Invariant.Parts.Stocks.{Stocks, Numbered}
-use Rattle.heap_state.specs.Meaning.Reachable.{Reachable, FromRegister, FromBoard}
 use Rattle.heap_state.specs.Memory.Table.{Table}
 use Rattle.heap_state.specs.Meaning.Values.{Shown, value_of}
 use Rattle.heap_state.specs.Worker.{Worker, Team, Post, Stopped, Reset, is_mutator, is_live, is_running, is_gone, is_behind, is_late, is_asking}

@@ -4,6 +4,7 @@ use Rattle.std.specs.Prelude.{slice_get}
 use Rattle.std.proofs.lemmas.Bool.{cases_eq}
 use Rattle.heap_words.specs.Decoded.{PointerWord, decode}
 use Rattle.plain_state.specs.declared.value.Identity.{Identity}
+use Rattle.plain_state.specs.Reachable.{Reachable}
 use Rattle.plain_state.specs.State as plain
 use Rattle.space_map.specs.declared.gate_word.GateWord.{GateWord}
 use Rattle.heap_state.specs.Cycles.Cycle.{Rooted, RootLeads, ByBoard, ByRegister, IsCopied, StillLeads}
@@ -13,7 +14,6 @@ use Rattle.heap_state.specs.Invariant.Ghost.{Ghost, Leads, Lands}
 use Rattle.heap_state.specs.Invariant.Inductive.{Invariant, Knows}
 use Rattle.heap_state.specs.Invariant.Parts.Copying.{IsOrigin, Seeks, Licensed}
 use Rattle.heap_state.specs.Invariant.Parts.Knowledge.{Clean, Passes, Timely}
-use Rattle.heap_state.specs.Meaning.Reachable.{Reachable}
 use Rattle.heap_state.specs.Meaning.Values.{Shown, RegistersShow, value_of}
 use Rattle.heap_state.specs.Worker.{Worker, Team, Post, Passage, Outside, Enter, Park, Request, Forwarded, Resume, Leave, Origin, Register, Quest, Copy, is_mutator, is_live, is_late, GateStep, RequestSnap, Clear}
 use Rattle.heap_state.proofs.Workers.Frames.{counted_put, staffed_put, scanned_put, stocks_put, numbered_put, accounts_put}

@@ -5,7 +5,7 @@ use Rattle.space_map.specs.Spaces.{to_space, space_start}
 use Rattle.space_map.specs.GateWord.{GateFits}
 use Rattle.space_map.specs.Table.{Size}
 use Rattle.heap_state.specs.Configuration.{Configuration, table, era, memory, team}
-use Rattle.heap_state.specs.Memory.Entries.{Entry, GateIs, SizeIs, SnapIs, DoneIs, SaveIs, ImageIs}
+use Rattle.heap_state.specs.Memory.Entries.{Entry, GateIs, WeakIs, WeakTurnIs, SizeIs, SnapIs, DoneIs, SaveIs, ImageIs}
 use Rattle.heap_state.specs.Memory.Era.{Memory, IsLaidOut, era_of, era_at, memory_of, from_space}
 use Rattle.heap_state.specs.Memory.Table.{Table, word_in}
 use Rattle.heap_state.proofs.Table.LaidOut.{laid_out, table_in_use}
@@ -44,8 +44,10 @@ memory_at t gate epoch = record {
   announced = t.announced;
 }
 
--- a row of checkpoints is no part of the table
+-- of the chain of copied cells and of checkpoints it sees nothing
 seen_beside : (c : Configuration) (e : Entry) → IsBeside (era c) e → RowSeen c (Some e) (memory c)
+seen_beside c (WeakIs word) beside = record { fits = tt; era_stays = refl; memory_is = refl }
+seen_beside c (WeakTurnIs word) beside = record { fits = tt; era_stays = refl; memory_is = refl }
 seen_beside c (SnapIs number) beside = record { fits = tt; era_stays = refl; memory_is = refl }
 seen_beside c (DoneIs number) beside = record { fits = tt; era_stays = refl; memory_is = refl }
 seen_beside c (SaveIs page word) beside = record { fits = (let b = board_at c in omega (arith, b, beside.0), beside.1); era_stays = refl; memory_is = refl }

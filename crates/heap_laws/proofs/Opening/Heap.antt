@@ -224,11 +224,11 @@ module _ (n least : ℕ) where
 -- ---- the words
 
 entries_fit : (n least : ℕ) → IsPageCount n → 4 ≤ least → least ≤ n → EachFits n (opening_entries n least)
-entries_fit n least size some short = (tt, ((omega arith, record { front_fits = omega arith; low_fits = omega (arith, size, short); owed_fits = omega arith }), ((omega arith, record { front_fits = omega arith; low_fits = omega (arith, size, short); owed_fits = omega arith }), ((omega arith, some, short), ((omega arith, some, short), ((omega arith, omega arith), tt))))))
+entries_fit n least size some short = (tt, ((omega arith, record { front_fits = omega arith; low_fits = omega (arith, size, short); owed_fits = omega arith }), ((omega arith, record { front_fits = omega arith; low_fits = omega (arith, size, short); owed_fits = omega arith }), (tt, ((omega arith, some, short), ((omega arith, some, short), ((omega arith, omega arith), tt)))))))
 
 pub opening_written : (n least : ℕ) → IsPageCount n → 4 ≤ least → least ≤ n → Written n (opening_entries n least)
 opening_written n least size some short =
-    writes_tables n (opening_entries n least) (entries_fit n least size some short) (record { first = (least, (3, omega arith, refl)); second = (least, (4, omega arith, refl)) })
+    writes_tables n (opening_entries n least) (entries_fit n least size some short) (record { first = (least, (4, omega arith, refl)); second = (least, (5, omega arith, refl)) })
 
 pub opening_stands : OpeningStands
 opening_stands n least mutators scanners size some short few all =

@@ -8,7 +8,7 @@ use Rattle.heap_state.specs.Saving.Frozen.{Frozen}
 use Rattle.heap_state.specs.Saving.Savers.{Saver}
 use Rattle.heap_state.proofs.Puts.{put_at, put_other, true_false, none≢some}
 use Rattle.heap_laws.specs.Lifting.{table_after}
-use Rattle.heap_laws.specs.Saving.Rows.{RowsAreSpared, Spares, SparesNone, SparesCross, SparesAnnounce, SparesArea, SparesSize, SparesWord, SparesPage, SparesTraced, SparesGate}
+use Rattle.heap_laws.specs.Saving.Rows.{RowsAreSpared, Spares, SparesNone, SparesCross, SparesAnnounce, SparesArea, SparesWeak, SparesWeakTurn, SparesSize, SparesWord, SparesPage, SparesTraced, SparesGate}
 use Rattle.heap_laws.proofs.Saving.Tables.{Leaves, words_after, knows_after}
 
 -- a table of which no part changes that is read of checkpoints
@@ -29,6 +29,8 @@ module _ (t : Table) (s : Saves) (z : Frozen) (count : ℕ) (saver : ℕ → Sav
   leaves _ (SparesCross page place) = nothing_read t _ s z refl refl refl refl refl
   leaves _ (SparesAnnounce worker place) = nothing_read t _ s z refl refl refl refl refl
   leaves _ (SparesArea space area) = nothing_read t _ s z refl refl refl refl refl
+  leaves _ (SparesWeak word) = nothing_read t _ s z refl refl refl refl refl
+  leaves _ (SparesWeakTurn word) = nothing_read t _ s z refl refl refl refl refl
   leaves _ (SparesSize space pages) = nothing_read t _ s z refl refl refl refl refl
   leaves _ (SparesWord addr word saved) = record {
     pages = refl;
@@ -72,6 +74,8 @@ module _ (t : Table) (s : Saves) (z : Frozen) (count : ℕ) (saver : ℕ → Sav
   gate_after _ (SparesCross page place) k in_team gate is = refl
   gate_after _ (SparesAnnounce worker place) k in_team gate is = refl
   gate_after _ (SparesArea space area) k in_team gate is = refl
+  gate_after _ (SparesWeak word) k in_team gate is = refl
+  gate_after _ (SparesWeakTurn word) k in_team gate is = refl
   gate_after _ (SparesSize space pages) k in_team gate is = refl
   gate_after _ (SparesWord addr word saved) k in_team gate is = refl
   gate_after _ (SparesPage page word loose opens) k in_team gate is = refl

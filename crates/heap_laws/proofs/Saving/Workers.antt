@@ -12,7 +12,7 @@ use Rattle.heap_state.specs.Saving.Frozen.{Frozen, MayBeSaved}
 use Rattle.heap_state.specs.Saving.Savers.{Saver, SaveRound, FirstReads, NoReads, GateRead, SnapRead, DoneRead}
 use Rattle.heap_state.specs.Saving.Parts.{SavingWords, Settles, ReadsTell, SavesRound, KnowsSaving, HasWonSave}
 use Rattle.heap_state.proofs.Puts.{each_put, team_put, true_false, none≢some}
-use Rattle.heap_laws.specs.Saving.Rows.{NobodyIsStill, Spares, SparesNone, SparesCross, SparesAnnounce, SparesArea, SparesSize, SparesWord, SparesPage, SparesTraced, SparesGate, SaverChanges, StepsAreSpared, SettledMayFlip, FlipsAreSpared, saver_after_flip, KnowsNothing, SavesOpen}
+use Rattle.heap_laws.specs.Saving.Rows.{NobodyIsStill, Spares, SparesNone, SparesCross, SparesAnnounce, SparesArea, SparesWeak, SparesWeakTurn, SparesSize, SparesWord, SparesPage, SparesTraced, SparesGate, SaverChanges, StepsAreSpared, SettledMayFlip, FlipsAreSpared, saver_after_flip, KnowsNothing, SavesOpen}
 use Rattle.heap_laws.proofs.Saving.Rows.{rows_are_spared}
 
 pub saver_changes : SaverChanges
@@ -67,6 +67,8 @@ module _ (t : Table) (s : Saves) (z : Frozen) (count : ℕ) (saver : ℕ → Sav
   spares_after _ (SparesCross page place) = SparesCross page place
   spares_after _ (SparesAnnounce worker place) = SparesAnnounce worker place
   spares_after _ (SparesArea space area) = SparesArea space area
+  spares_after _ (SparesWeak word) = SparesWeak word
+  spares_after _ (SparesWeakTurn word) = SparesWeakTurn word
   spares_after _ (SparesSize space pages) = SparesSize space pages
   spares_after _ (SparesWord addr word saved) = SparesWord addr word saved
   spares_after _ (SparesPage page word loose opens) = SparesPage page word loose opens

@@ -6,6 +6,7 @@ use Rattle.std.proofs.lemmas.List.{get_or-map, length-map}
 use Rattle.std.proofs.lemmas.List.Elements.{All-map, All-head, All-tail, All-contains_itself, All-weaker}
 use Rattle.std.proofs.lemmas.Option.{slice_get_within, slice_get-map, get_or_from_slice_get, same_Some}
 use Rattle.plain_state.specs.declared.value.Identity.{Identity}
+use Rattle.plain_state.specs.Reachable.{Reachable, IsLive, words_of, sum_of_records}
 use Rattle.plain_state.specs.State.{Plain, Heap, record_of}
 use Rattle.heap_state.specs.Configuration.{Configuration, era, memory, team}
 use Rattle.heap_state.specs.Cycles.Copies.{copied_of, words_copied, name_of, CopiedIsLive}
@@ -14,7 +15,6 @@ use Rattle.heap_state.specs.Meaning.Denotes.{named_by}
 use Rattle.heap_state.specs.Memory.Era.{IsLaidOut}
 use Rattle.heap_state.specs.Invariant.Ghost.{Ghost}
 use Rattle.heap_state.specs.Invariant.Inductive.{Invariant}
-use Rattle.heap_state.specs.Meaning.Reachable.{Reachable, IsLive, words_of, sum_of_records}
 use Rattle.heap_state.specs.Sums.{sum_of_sizes}
 use Rattle.heap_state.specs.Theorems.Standing.{StandsInCycle}
 use Rattle.heap_state.specs.Memory.Walk.{Walked}

@@ -6,7 +6,7 @@ use Rattle.plain_state.specs.declared.kind.Kind.TheVariants.{Mixed}
 use Rattle.heap_words.specs.Decoded.{HeaderWord, decode}
 use Rattle.heap_words.specs.Word.{number_word}
 use Rattle.plain_state.specs.declared.value.Identity.{Identity}
-use Rattle.plain_state.specs.Layout.{values_at}
+use Rattle.plain_state.specs.Layout.{values_at, words_behind}
 use Rattle.plain_state.specs.Writing.{zeros}
 use Rattle.heap_state.specs.Memory.Era.{Era, Memory}
 use Rattle.heap_state.specs.Functions.{put}
@@ -39,7 +39,7 @@ stored_ahead _ = []
 pub record PlacesNext (team : Team) (k : ℕ) (q : Stock) (c : Kind) (z v : ℕ) : Type 0 where
   pub own : HasStock team k q
   pub run : (q.zeroed ≡ q.end) × (q.opened ≡ q.end)
-  pub some : values_at c ≤ z
+  pub some : values_at c + words_behind c ≤ z
   pub fields : fields_end c z ≤ z
   pub fits : q.at + z ≤ q.end
   pub rest : q.end < q.at + z + PAGE_WORDS
@@ -49,4 +49,4 @@ pub record PlacesNext (team : Team) (k : ℕ) (q : Stock) (c : Kind) (z v : ℕ)
 -- the words of a run, which are 0 but for the count that is stored ahead, show a record whose values all are 0
 abbrev pub ZerosShow : Type 0
 ZerosShow = (E : Era) (m : Memory) (team : Team) (g : Ghost) (k : ℕ) (q : Stock) (c : Kind) (z v : ℕ) → Ready E m team g k
-    → PlacesNext team k q c z v → Shows (value_of g.identity) m.heap q.at c z (zeros c (z - values_at c))
+    → PlacesNext team k q c z v → Shows (value_of g.identity) m.heap q.at c z (zeros c (z - (values_at c + words_behind c)))

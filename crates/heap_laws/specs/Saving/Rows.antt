@@ -10,7 +10,7 @@ use Rattle.space_map.specs.declared.save_word.SaveWord.TheVariants.{Unsaved, Sav
 use Rattle.space_map.specs.SaveWord.{number_of}
 use Rattle.space_map.specs.Spaces.{page_of, to_space}
 use Rattle.heap_state.specs.Functions.{put}
-use Rattle.heap_state.specs.Memory.Entries.{Entry, GateIs, TracedIs, AreaIs, SizeIs, PageIs, CrossIs, WordIs, AnnounceIs}
+use Rattle.heap_state.specs.Memory.Entries.{Entry, GateIs, TracedIs, AreaIs, WeakIs, WeakTurnIs, SizeIs, PageIs, CrossIs, WordIs, AnnounceIs}
 use Rattle.heap_state.specs.Memory.Table.{Table}
 use Rattle.heap_state.specs.Saving.Words.{Saves, IsInProgress, IsAtRest}
 use Rattle.heap_state.specs.Saving.Frozen.{Frozen}
@@ -32,6 +32,8 @@ pub data Spares (t : Table) (s : Saves) (z : Frozen) (count : ℕ) (saver : ℕ 
   SparesCross : (page place : ℕ) → Spares t s z count saver (Some (CrossIs page place))
   SparesAnnounce : (worker place : ℕ) → Spares t s z count saver (Some (AnnounceIs worker place))
   SparesArea : (space : ℕ) (area : AreaWord) → Spares t s z count saver (Some (AreaIs space area))
+  SparesWeak : (word : ℕ) → Spares t s z count saver (Some (WeakIs word))
+  SparesWeakTurn : (word : ℕ) → Spares t s z count saver (Some (WeakTurnIs word))
   SparesSize : (space pages : ℕ) → Spares t s z count saver (Some (SizeIs space pages))
   SparesWord : (addr word : ℕ) → (s.done < s.snap → z.held (page_of addr) ≡ true → s.save (page_of addr) ≡ Saved s.snap)
       → Spares t s z count saver (Some (WordIs addr word))

@@ -1,5 +1,5 @@
 -- Why the steps that store in a row of the table spare the checkpoints: what stands beside the heap's law for each of them. Of the
--- rows of areas, sizes, crossings and announced places nobody reads anything of checkpoints.
+-- rows of areas, sizes, crossings, announced places and the chain of copied cells nobody reads anything of checkpoints.
 use Rattle.std.specs.Prelude.{◌≡◌, ◌≢◌, ℕ, ◌+◌, ◌<◌, true, false, Some, None}
 use Rattle.space_map.specs.declared.gate_word.GateWord.{GateWord}
 use Rattle.space_map.specs.declared.page_word.PageWord.TheVariants.{Open, Scanning}

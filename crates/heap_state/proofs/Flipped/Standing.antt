@@ -137,10 +137,10 @@ shows = record {
 -- ---- the words
 
 entries_fit : EachFits 4 flipped_entries
-entries_fit = (omega arith, (omega arith, (omega arith, (record { epoch_fits = omega arith; live_fits = omega arith; running_fits = omega arith; behind_fits = omega arith; left_fits = omega arith }, (tt, ((omega arith, record { front_fits = omega arith; low_fits = omega arith; owed_fits = omega arith }), ((omega arith, record { front_fits = omega arith; low_fits = omega arith; owed_fits = omega arith }), ((omega arith, omega arith, omega arith), ((omega arith, omega arith, omega arith), ((omega arith, omega arith), ((omega arith, omega arith), tt)))))))))))
+entries_fit = (omega arith, (omega arith, (omega arith, (record { epoch_fits = omega arith; live_fits = omega arith; running_fits = omega arith; behind_fits = omega arith; left_fits = omega arith }, (tt, ((omega arith, record { front_fits = omega arith; low_fits = omega arith; owed_fits = omega arith }), ((omega arith, record { front_fits = omega arith; low_fits = omega arith; owed_fits = omega arith }), (tt, ((omega arith, omega arith, omega arith), ((omega arith, omega arith, omega arith), ((omega arith, omega arith), ((omega arith, omega arith), tt))))))))))))
 
 has_sizes : HasSizes flipped_entries
-has_sizes = record { first = (4, (7, omega arith, refl)); second = (4, (8, omega arith, refl)) }
+has_sizes = record { first = (4, (8, omega arith, refl)); second = (4, (9, omega arith, refl)) }
 
 table_is : Written 4 flipped_entries
 table_is = writes_tables 4 flipped_entries entries_fit has_sizes

@@ -2,7 +2,7 @@
 use Rattle.std.proofs.Common.{◌≡◌, ℕ, ◌+◌, ◌-◌, ◌<◌, ◌≤◌, ◌↔◌, max, true, nat_le, nat_lt, refl, arith, lt-ltb, le-ltb, ⊎_elim}
 use Rattle.std.proofs.lemmas.Bool.{and_parts, cases_lt, le-leb, leb-true, ltb-true}
 use Rattle.plain_state.specs.declared.kind.Kind.{Kind}
-use Rattle.plain_state.specs.declared.kind.Kind.TheVariants.{Fields, Raw, Mixed}
+use Rattle.plain_state.specs.declared.kind.Kind.TheVariants.{Fields, Raw, Mixed, Weak}
 use Rattle.plain_state.specs.Layout.{is_field}
 use Rattle.heap_state.specs.Memory.FieldSpan.{first_field, fields_end, next_scanned, entry_of}
 use Rattle.heap_state.specs.Worker.{SeenRecord}
@@ -15,12 +15,14 @@ field-span (Mixed count) i size f l = (
   λ e. let p = and_parts (nat_le 2 i) (nat_lt i (count + 2)) e in (leb-true 2 i p.0, ltb-true i (count + 2) p.1),
   λ o. rw (le-leb 2 i o.0, lt-ltb i (count + 2) o.1) refl,
 )
+field-span Weak i size f l = (λ e. absurd (cc), λ o. absurd (omega (arith, o)))
 
 -- no field is a record's first word, and none lies behind the record
 pub span-within : (k : Kind) (size : ℕ) → 0 < size → ((count : ℕ) → k ≡ Mixed count → count + 2 ≤ size) → (0 < first_field k) × (first_field k ≤ size) × (fields_end k size ≤ size)
 span-within Fields size s room = (omega arith, omega arith, omega arith)
 span-within Raw size s room = (omega arith, omega arith, omega arith)
 span-within (Mixed count) size s room = let r = room count refl in (omega arith, omega (arith, r), r)
+span-within Weak size s room = (omega arith, omega arith, omega arith)
 
 module _ (r : SeenRecord) (k : Kind) (size : ℕ) (fields : r.fields_end ≡ r.at + fields_end k size) (whole : r.next ≡ r.at + size) where
   -- a scan goes on not before y, and not behind the record

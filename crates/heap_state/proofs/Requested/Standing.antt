@@ -57,10 +57,10 @@ shows = snaps_show (era_of requested_table) (memory_of requested_table) (team re
 -- ---- the words
 
 entries_fit : EachFits 4 requested_entries
-entries_fit = (omega arith, (omega arith, (omega arith, (record { epoch_fits = omega arith; live_fits = omega arith; running_fits = omega arith; behind_fits = omega arith; left_fits = omega arith }, (tt, ((omega arith, record { front_fits = omega arith; low_fits = omega arith; owed_fits = omega arith }), ((omega arith, record { front_fits = omega arith; low_fits = omega arith; owed_fits = omega arith }), ((omega arith, omega arith, omega arith), ((omega arith, omega arith, omega arith), ((omega arith, omega arith), ((omega arith, omega arith), (tt, tt))))))))))))
+entries_fit = (omega arith, (omega arith, (omega arith, (record { epoch_fits = omega arith; live_fits = omega arith; running_fits = omega arith; behind_fits = omega arith; left_fits = omega arith }, (tt, ((omega arith, record { front_fits = omega arith; low_fits = omega arith; owed_fits = omega arith }), ((omega arith, record { front_fits = omega arith; low_fits = omega arith; owed_fits = omega arith }), (tt, ((omega arith, omega arith, omega arith), ((omega arith, omega arith, omega arith), ((omega arith, omega arith), ((omega arith, omega arith), (tt, tt)))))))))))))
 
 has_sizes : HasSizes requested_entries
-has_sizes = record { first = (4, (7, omega arith, refl)); second = (4, (8, omega arith, refl)) }
+has_sizes = record { first = (4, (8, omega arith, refl)); second = (4, (9, omega arith, refl)) }
 
 table_is : WrittenWhole 4 requested_entries
 table_is = writes_whole_tables 4 requested_entries entries_fit has_sizes
@@ -88,7 +88,7 @@ running_entries = GateIs (record { epoch = 0; live = 1; running = 1; behind = 0;
 running_is : WrittenWhole 4 running_entries
 running_is = writes_whole_tables 4 running_entries
     (record { epoch_fits = omega arith; live_fits = omega arith; running_fits = omega arith; behind_fits = omega arith; left_fits = omega arith }, entries_fit)
-    (record { first = (4, (8, omega arith, refl)); second = (4, (9, omega arith, refl)) })
+    (record { first = (4, (9, omega arith, refl)); second = (4, (10, omega arith, refl)) })
 
 pub runs_on : ¬ (GateHolds running_on)
 unfolding sum_below

@@ -17,10 +17,10 @@ use Rattle.heap_state.proofs.Saving.Picture.{picture}
 use Rattle.heap_state.proofs.Table.Writing.{writes_whole_tables}
 
 pub entries_fit : EachFits 4 saving_entries
-entries_fit = (omega arith, (omega arith, (omega arith, (omega arith, (record { epoch_fits = omega arith; live_fits = omega arith; running_fits = omega arith; behind_fits = omega arith; left_fits = omega arith }, (tt, ((omega arith, record { front_fits = omega arith; low_fits = omega arith; owed_fits = omega arith }), ((omega arith, record { front_fits = omega arith; low_fits = omega arith; owed_fits = omega arith }), ((omega arith, omega arith, omega arith), ((omega arith, omega arith, omega arith), ((omega arith, omega arith), ((omega arith, omega arith), ((omega arith, omega arith), (tt, (tt, ((omega arith, omega arith), ((omega arith, omega arith), ((omega arith, (omega arith, omega arith)), (omega arith, (omega arith, (omega arith, tt)))))))))))))))))))))
+entries_fit = (omega arith, (omega arith, (omega arith, (omega arith, (record { epoch_fits = omega arith; live_fits = omega arith; running_fits = omega arith; behind_fits = omega arith; left_fits = omega arith }, (tt, ((omega arith, record { front_fits = omega arith; low_fits = omega arith; owed_fits = omega arith }), ((omega arith, record { front_fits = omega arith; low_fits = omega arith; owed_fits = omega arith }), (tt, ((omega arith, omega arith, omega arith), ((omega arith, omega arith, omega arith), ((omega arith, omega arith), ((omega arith, omega arith), ((omega arith, omega arith), (tt, (tt, ((omega arith, omega arith), ((omega arith, omega arith), ((omega arith, (omega arith, omega arith)), (omega arith, (omega arith, (omega arith, tt))))))))))))))))))))))
 
 pub has_sizes : HasSizes saving_entries
-has_sizes = record { first = (4, (8, omega arith, refl)); second = (4, (9, omega arith, refl)) }
+has_sizes = record { first = (4, (9, omega arith, refl)); second = (4, (10, omega arith, refl)) }
 
 table_is : WrittenWhole 4 saving_entries
 table_is = writes_whole_tables 4 saving_entries entries_fit has_sizes

@@ -6,11 +6,11 @@ use Rattle.std.proofs.lemmas.Bool.{cases_Bool, cases_eq}
 use Rattle.std.proofs.lemmas.List.{get_or-replicate, length-replicate}
 use Rattle.space_map.specs.declared.save_word.SaveWord.{SaveWord}
 use Rattle.space_map.specs.SaveWord.{SaveFits, encode_save, decode_save}
-use Rattle.space_map.specs.Table.{Row, Gate, Traced, Area, Size, SnapNumber, DoneNumber, Page, Cross, HeapWord, Announce, SaveRow, SaveOf, ImageOf, IsRow, is_row, IsSaveRow, is_save_row, place_of, save_place_of}
+use Rattle.space_map.specs.Table.{Row, Gate, Traced, Area, WeakHead, WeakTurn, Size, SnapNumber, DoneNumber, Page, Cross, HeapWord, Announce, SaveRow, SaveOf, ImageOf, IsRow, is_row, IsSaveRow, is_save_row, place_of, save_place_of}
 use Rattle.space_map.proofs.Rows.{is_row-decides, is_save_row-decides, place_of-lt, place_of-apart, save_place_of-ge, save_place_of-lt, same_save_row}
 use Rattle.space_map.proofs.SaveWords.{decode_save-encode_save}
 use Rattle.heap_state.specs.Functions.{put}
-use Rattle.heap_state.specs.Memory.Entries.{Entry, GateIs, TracedIs, AreaIs, SizeIs, PageIs, CrossIs, WordIs, AnnounceIs, SnapIs, DoneIs, SaveIs, ImageIs, EntryFits, row_of, word_of, whole_place_of}
+use Rattle.heap_state.specs.Memory.Entries.{Entry, GateIs, TracedIs, AreaIs, WeakIs, WeakTurnIs, SizeIs, PageIs, CrossIs, WordIs, AnnounceIs, SnapIs, DoneIs, SaveIs, ImageIs, EntryFits, row_of, word_of, whole_place_of}
 use Rattle.heap_state.specs.Memory.Table.{word_in, table_by, table_of}
 use Rattle.heap_state.specs.Saving.Words.{Saves, save_word_in, save_said_in, saves_of, AreFormedSaves}
 use Rattle.heap_state.specs.Saving.Written.{saves_with, blank_saves, blank_whole}
@@ -60,6 +60,8 @@ read_words f DoneNumber = 0
 read_words f Gate = f Gate
 read_words f Traced = f Traced
 read_words f (Area space) = f (Area space)
+read_words f WeakHead = f WeakHead
+read_words f WeakTurn = f WeakTurn
 read_words f (Size space) = f (Size space)
 read_words f (Page page) = f (Page page)
 read_words f (Cross page) = f (Cross page)
@@ -73,6 +75,8 @@ same_read f g same DoneNumber = refl
 same_read f g same Gate = same Gate (λ e. cc) (λ e. cc)
 same_read f g same Traced = same Traced (λ e. cc) (λ e. cc)
 same_read f g same (Area space) = same (Area space) (λ e. cc) (λ e. cc)
+same_read f g same WeakHead = same WeakHead (λ e. cc) (λ e. cc)
+same_read f g same WeakTurn = same WeakTurn (λ e. cc) (λ e. cc)
 same_read f g same (Size space) = same (Size space) (λ e. cc) (λ e. cc)
 same_read f g same (Page page) = same (Page page) (λ e. cc) (λ e. cc)
 same_read f g same (Cross page) = same (Cross page) (λ e. cc) (λ e. cc)
@@ -224,6 +228,8 @@ pub said_after : (n : ℕ) (words : List ℕ) (e : Entry) → AreFormedSaves n w
 said_after n words (GateIs gate) formed fits = said_in_table n words Gate _ formed tt (λ e. cc) (λ e. cc)
 said_after n words (TracedIs word) formed fits = said_in_table n words Traced _ formed tt (λ e. cc) (λ e. cc)
 said_after n words (AreaIs space area) formed fits = said_in_table n words (Area space) _ formed fits.0 (λ e. cc) (λ e. cc)
+said_after n words (WeakIs word) formed fits = said_in_table n words WeakHead _ formed tt (λ e. cc) (λ e. cc)
+said_after n words (WeakTurnIs word) formed fits = said_in_table n words WeakTurn _ formed tt (λ e. cc) (λ e. cc)
 said_after n words (SizeIs space pages) formed fits = said_in_table n words (Size space) _ formed fits.0 (λ e. cc) (λ e. cc)
 said_after n words (PageIs page word) formed fits = said_in_table n words (Page page) _ formed fits.0 (λ e. cc) (λ e. cc)
 said_after n words (CrossIs page place) formed fits = said_in_table n words (Cross page) _ formed fits (λ e. cc) (λ e. cc)

@@ -6,10 +6,10 @@ use Rattle.heap_words.specs.Decoded.{decode}
 use Rattle.heap_words.specs.Word.{header_word, pointer_word, forward_word, busy_word, number_word, tag_of}
 use Rattle.plain_state.specs.declared.value.Identity.{Identity}
 use Rattle.plain_state.specs.declared.value.Value.TheVariants.{Number, Reference}
+use Rattle.plain_state.specs.Reachable.{Reachable, FromRegister, FromBoard, FromRecord, IsLive}
 use Rattle.plain_state.specs.State as plain
 use Rattle.heap_state.specs.Meaning.Denotes.{denoted, denoted_in}
 use Rattle.heap_state.specs.Functions.{put}
-use Rattle.heap_state.specs.Meaning.Reachable.{Reachable, FromRegister, FromBoard, FromRecord, IsLive}
 use Rattle.heap_state.specs.Sums.{uncopied}
 use Rattle.heap_state.specs.Theorems.Rows.{Written}
 use Rattle.heap_state.specs.Theorems.Standing.{IsSound}

@@ -160,11 +160,11 @@ shows = record {
 
 -- each entry fits its word
 pub entries_fit : EachFits 4 worked_entries
-entries_fit = (omega arith, (omega arith, (omega arith, (omega arith, (omega arith, (omega arith, (omega arith, (omega arith, (omega arith, (omega arith, (record { epoch_fits = omega arith; live_fits = omega arith; running_fits = omega arith; behind_fits = omega arith; left_fits = omega arith }, (tt, ((omega arith, record { front_fits = omega arith; low_fits = omega arith; owed_fits = omega arith }), ((omega arith, record { front_fits = omega arith; low_fits = omega arith; owed_fits = omega arith }), ((omega arith, omega arith, omega arith), ((omega arith, omega arith, omega arith), ((omega arith, omega arith), ((omega arith, (omega arith, omega arith)), ((omega arith, omega arith), ((omega arith, omega arith), ((omega arith, omega arith), ((omega arith, omega arith), (omega arith, (omega arith, tt))))))))))))))))))))))))
+entries_fit = (omega arith, (omega arith, (omega arith, (omega arith, (omega arith, (omega arith, (omega arith, (omega arith, (omega arith, (omega arith, (record { epoch_fits = omega arith; live_fits = omega arith; running_fits = omega arith; behind_fits = omega arith; left_fits = omega arith }, (tt, ((omega arith, record { front_fits = omega arith; low_fits = omega arith; owed_fits = omega arith }), ((omega arith, record { front_fits = omega arith; low_fits = omega arith; owed_fits = omega arith }), (tt, ((omega arith, omega arith, omega arith), ((omega arith, omega arith, omega arith), ((omega arith, omega arith), ((omega arith, (omega arith, omega arith)), ((omega arith, omega arith), ((omega arith, omega arith), ((omega arith, omega arith), ((omega arith, omega arith), (omega arith, (omega arith, tt)))))))))))))))))))))))))
 
--- the sizes stand behind the words of records, the gate, TRACED and the areas
+-- the sizes stand behind the words of records, the gate, TRACED, the areas and the turn
 pub has_sizes : HasSizes worked_entries
-has_sizes = record { first = (4, (14, omega arith, refl)); second = (4, (15, omega arith, refl)) }
+has_sizes = record { first = (4, (15, omega arith, refl)); second = (4, (16, omega arith, refl)) }
 
 abbrev pub stands : Stands worked worked_plain
 stands =

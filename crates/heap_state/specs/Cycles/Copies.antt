@@ -2,12 +2,12 @@
 use Rattle.std.specs.Prelude.{◌≡◌, ℕ, ◌+◌, ◌-◌, true, false, List, Contains, Option, Some, slice_get}
 use Rattle.heap_words.specs.Decoded.{decode}
 use Rattle.plain_state.specs.declared.value.Identity.{Identity}
+use Rattle.plain_state.specs.Reachable.{Reachable, IsLive, words_of}
 use Rattle.plain_state.specs.State.{Plain, record_of}
 use Rattle.heap_state.specs.Configuration.{Configuration, table, era, memory}
 use Rattle.heap_state.specs.Meaning.Denotes.{named_by}
 use Rattle.heap_state.specs.Memory.Era.{era_of, memory_of}
 use Rattle.heap_state.specs.Kept.{Kept, kept_of, reserved_in}
-use Rattle.heap_state.specs.Meaning.Reachable.{Reachable, IsLive, words_of}
 use Rattle.heap_state.specs.Sums.{sum_of_sizes}
 use Rattle.heap_state.specs.Memory.Table.{Table}
 use Rattle.heap_state.specs.Memory.Walk.{Walked, walk}

@@ -10,7 +10,7 @@ use Rattle.plain_state.specs.declared.value.Value.TheVariants.{Number, Reference
 use Rattle.plain_state.specs.State as plain
 use Rattle.space_map.specs.declared.page_word.PageWord.TheVariants.{Open}
 use Rattle.heap_state.specs.Configuration.{Configuration}
-use Rattle.heap_state.specs.Memory.Entries.{Entry, GateIs, TracedIs, AreaIs, SizeIs, PageIs, WordIs, written}
+use Rattle.heap_state.specs.Memory.Entries.{Entry, GateIs, TracedIs, AreaIs, WeakTurnIs, SizeIs, PageIs, WordIs, written}
 use Rattle.heap_state.specs.Examples.Worked.{made, zeros_after}
 use Rattle.heap_state.specs.Worker.{Worker, fresh, Stopped}
 
@@ -24,6 +24,7 @@ flipped_entries =
     ∷ TracedIs 1
     ∷ AreaIs 0 (record { front = 0; low = 192; owed = 0 })
     ∷ AreaIs 1 (record { front = 0; low = 256; owed = 64 })
+    ∷ WeakTurnIs 1
     ∷ SizeIs 0 4
     ∷ SizeIs 1 4
     ∷ PageIs 3 (Open 0)

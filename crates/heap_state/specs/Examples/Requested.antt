@@ -12,7 +12,7 @@ use Rattle.space_map.specs.declared.gate_word.GateWord.{GateWord}
 use Rattle.space_map.specs.declared.page_word.PageWord.TheVariants.{Open}
 use Rattle.heap_state.specs.Configuration.{Configuration}
 use Rattle.heap_state.specs.Examples.Flipped.{flipped_plain}
-use Rattle.heap_state.specs.Memory.Entries.{Entry, GateIs, TracedIs, AreaIs, SizeIs, PageIs, WordIs, SnapIs}
+use Rattle.heap_state.specs.Memory.Entries.{Entry, GateIs, TracedIs, AreaIs, WeakTurnIs, SizeIs, PageIs, WordIs, SnapIs}
 use Rattle.heap_state.specs.Saving.Written.{written_whole}
 use Rattle.heap_state.specs.Worker.{Worker, fresh, Running, Snapping, Clear}
 
@@ -29,6 +29,7 @@ requested_entries =
     ∷ TracedIs 1
     ∷ AreaIs 0 (record { front = 0; low = 192; owed = 0 })
     ∷ AreaIs 1 (record { front = 0; low = 256; owed = 0 })
+    ∷ WeakTurnIs 1
     ∷ SizeIs 0 4
     ∷ SizeIs 1 4
     ∷ PageIs 3 (Open 0)

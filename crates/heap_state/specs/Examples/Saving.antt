@@ -14,7 +14,7 @@ use Rattle.plain_state.specs.declared.value.Value.TheVariants.{Number, Reference
 use Rattle.plain_state.specs.State.{Record}
 use Rattle.space_map.specs.declared.page_word.PageWord.TheVariants.{Open}
 use Rattle.space_map.specs.declared.save_word.SaveWord.TheVariants.{Unsaved, Saving, Saved, New}
-use Rattle.heap_state.specs.Memory.Entries.{Entry, GateIs, TracedIs, AreaIs, SizeIs, PageIs, WordIs, SnapIs, DoneIs, SaveIs, ImageIs}
+use Rattle.heap_state.specs.Memory.Entries.{Entry, GateIs, TracedIs, AreaIs, WeakTurnIs, SizeIs, PageIs, WordIs, SnapIs, DoneIs, SaveIs, ImageIs}
 use Rattle.heap_state.specs.Memory.Table.{table_of}
 use Rattle.heap_state.specs.Saving.Words.{saves_of}
 use Rattle.heap_state.specs.Saving.Frozen.{Frozen}
@@ -36,6 +36,7 @@ saving_entries =
     ∷ TracedIs 1
     ∷ AreaIs 0 (record { front = 0; low = 128; owed = 0 })
     ∷ AreaIs 1 (record { front = 0; low = 256; owed = 0 })
+    ∷ WeakTurnIs 1
     ∷ SizeIs 0 4
     ∷ SizeIs 1 4
     ∷ PageIs 2 (Open 0)

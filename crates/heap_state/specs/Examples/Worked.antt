@@ -14,7 +14,7 @@ use Rattle.plain_state.specs.declared.value.Value.TheVariants.{Number, Reference
 use Rattle.plain_state.specs.State as plain
 use Rattle.space_map.specs.declared.page_word.PageWord.TheVariants.{Open, Scanning}
 use Rattle.heap_state.specs.Configuration.{Configuration}
-use Rattle.heap_state.specs.Memory.Entries.{Entry, GateIs, TracedIs, AreaIs, SizeIs, PageIs, CrossIs, WordIs, AnnounceIs, written}
+use Rattle.heap_state.specs.Memory.Entries.{Entry, GateIs, TracedIs, AreaIs, WeakTurnIs, SizeIs, PageIs, CrossIs, WordIs, AnnounceIs, written}
 use Rattle.heap_state.specs.Worker.{Worker, fresh, Running, Scanner, Scanned}
 
 -- ---- the table
@@ -27,6 +27,7 @@ worked_shared =
     ∷ TracedIs 1
     ∷ AreaIs 0 (record { front = 0; low = 192; owed = 0 })
     ∷ AreaIs 1 (record { front = 5; low = 64; owed = 59 })
+    ∷ WeakTurnIs 1
     ∷ SizeIs 0 4
     ∷ SizeIs 1 4
     ∷ PageIs 3 (Open 0)

@@ -5,8 +5,8 @@ use Rattle.heap_words.specs.declared.kind.Kind.{Kind as HeaderKind}
 use Rattle.heap_words.specs.declared.kind.Kind.TheVariants as header
 use Rattle.heap_words.specs.Decoded.{Decoded, NumberWord, PointerWord, decode}
 use Rattle.plain_state.specs.declared.value.Identity.{Identity}
-use Rattle.plain_state.specs.declared.kind.Kind.TheVariants.{Fields, Raw, Mixed}
-use Rattle.plain_state.specs.Layout.{is_field, values_at}
+use Rattle.plain_state.specs.declared.kind.Kind.TheVariants.{Fields, Raw, Mixed, Weak}
+use Rattle.plain_state.specs.Layout.{is_field, values_at, words_behind}
 use Rattle.heap_state.specs.Memory.Era.{Era}
 
 -- By place: the size of the record or of the place reserved for one that begins there, or 0 where none does; the worker
@@ -29,6 +29,7 @@ abbrev pub header_kind : Kind → HeaderKind
 header_kind Fields = header.Fields
 header_kind Raw = header.Raw
 header_kind (Mixed count) = header.Mixed
+header_kind Weak = header.Weak
 
 -- the count that word 1 of a mixed record says
 abbrev pub count_said : Decoded → ℕ
@@ -37,13 +38,14 @@ count_said _ = 0
 
 -- the length that the header of a record of this kind with so many values has: the words behind it
 abbrev pub header_len : Kind → (count : ℕ) → ℕ
-header_len kind count = count + (values_at kind - 1)
+header_len kind count = count + (values_at kind - 1 + words_behind kind)
 
 -- the kind of a record whose header has this kind, and whose next word is this
 abbrev pub said_kind : HeaderKind → (next : ℕ) → Kind
 said_kind header.Fields next = Fields
 said_kind header.Raw next = Raw
 said_kind header.Mixed next = Mixed (count_said (decode next))
+said_kind header.Weak next = Weak
 
 -- the word is a pointer into the old space
 unfoldable pub Leads : Era → ℕ → Type 0

@@ -9,7 +9,7 @@ use Rattle.space_map.specs.AreaWord.{AreaFits, encode_area}
 use Rattle.space_map.specs.GateWord.{GateFits, encode_gate}
 use Rattle.space_map.specs.PageWord.{PageFits, encode_page}
 use Rattle.space_map.specs.SaveWord.{SaveFits, encode_save}
-use Rattle.space_map.specs.Table.{Gate, Traced, Area, Size, SnapNumber, DoneNumber, Page, Cross, HeapWord, Announce, SaveOf, ImageOf, IsRow, IsSaveRow, save_place_of, table_length}
+use Rattle.space_map.specs.Table.{Gate, Traced, Area, WeakHead, WeakTurn, Size, SnapNumber, DoneNumber, Page, Cross, HeapWord, Announce, SaveOf, ImageOf, IsRow, IsSaveRow, save_place_of, table_length}
 pub use Rattle.space_map.specs.WholeTable.{WholeRow, Within, Behind, IsWholeRow, whole_place_of}
 use Rattle.heap_state.specs.Functions.{put}
 use Rattle.heap_state.specs.Memory.Table.{Table, word_in}
@@ -26,6 +26,8 @@ pub data Entry : Type 0 where
   GateIs : GateWord → Entry
   TracedIs : ℕ → Entry
   AreaIs : (space : ℕ) → AreaWord → Entry
+  WeakIs : (word : ℕ) → Entry
+  WeakTurnIs : (word : ℕ) → Entry
   SizeIs : (space pages : ℕ) → Entry
   PageIs : (page : ℕ) → PageWord → Entry
   CrossIs : (page place : ℕ) → Entry
@@ -40,6 +42,8 @@ abbrev pub row_of : Entry → WholeRow
 row_of (GateIs gate) = Within Gate
 row_of (TracedIs word) = Within Traced
 row_of (AreaIs space area) = Within (Area space)
+row_of (WeakIs word) = Within WeakHead
+row_of (WeakTurnIs word) = Within WeakTurn
 row_of (SizeIs space pages) = Within (Size space)
 row_of (PageIs page word) = Within (Page page)
 row_of (CrossIs page place) = Within (Cross page)
@@ -55,6 +59,8 @@ abbrev pub word_of : Entry → ℕ
 word_of (GateIs gate) = encode_gate gate
 word_of (TracedIs word) = word
 word_of (AreaIs space area) = encode_area area
+word_of (WeakIs word) = word
+word_of (WeakTurnIs word) = word
 word_of (SizeIs space pages) = pages
 word_of (PageIs page word) = encode_page word
 word_of (CrossIs page place) = place
@@ -70,6 +76,8 @@ abbrev pub EntryFits : ℕ → Entry → Type 0
 EntryFits n (GateIs gate) = GateFits gate
 EntryFits n (TracedIs word) = ⊤
 EntryFits n (AreaIs space area) = (space < 2) × AreaFits area
+EntryFits n (WeakIs word) = ⊤
+EntryFits n (WeakTurnIs word) = ⊤
 EntryFits n (SizeIs space pages) = (space < 2) × (4 ≤ pages) × (pages ≤ n)
 EntryFits n (PageIs page word) = (page ≤ 2 * n) × PageFits word
 EntryFits n (CrossIs page place) = IsRow n (Cross page)
@@ -85,6 +93,8 @@ abbrev pub with_entry : Entry → Table → Table
 with_entry (GateIs gate) t = record t { gate = gate }
 with_entry (TracedIs word) t = record t { traced = word }
 with_entry (AreaIs space area) t = record t { area = put t.area space area }
+with_entry (WeakIs word) t = record t { weak = word }
+with_entry (WeakTurnIs word) t = record t { weak_turn = word }
 with_entry (SizeIs space pages) t = record t { in_use = put t.in_use space pages }
 with_entry (PageIs page word) t = record t { page = put t.page page word }
 with_entry (CrossIs page place) t = record t { cross = put t.cross page place }
@@ -109,6 +119,8 @@ blank_table n = record {
   gate = record { epoch = 0; live = 0; running = 0; behind = 0; request = false; left = 0 };
   traced = 0;
   area = λ space. record { front = 0; low = 0; owed = 0 };
+  weak = 0;
+  weak_turn = 0;
   page = λ page. Unset;
   cross = λ page. 0;
   heap = λ addr. 0;

@@ -1,7 +1,7 @@
 -- Where the fields of a record lie, and how a scan passes over the rest.
 use Rattle.std.specs.Prelude.{ℕ, ◌+◌, max, nat_lt, if◌then◌else◌, Option, Some, None}
 use Rattle.plain_state.specs.declared.kind.Kind.{Kind}
-use Rattle.plain_state.specs.declared.kind.Kind.TheVariants.{Fields, Raw, Mixed}
+use Rattle.plain_state.specs.declared.kind.Kind.TheVariants.{Fields, Raw, Mixed, Weak}
 use Rattle.heap_state.specs.Worker.{SeenRecord}
 
 -- The fields of a record are its words from the first field up to the fields' end, counted from its header.
@@ -9,11 +9,13 @@ abbrev pub first_field : Kind → ℕ
 first_field Fields = 1
 first_field Raw = 1
 first_field (Mixed count) = 2
+first_field Weak = 1
 
 abbrev pub fields_end : Kind → (size : ℕ) → ℕ
 fields_end Fields size = size
 fields_end Raw size = 1
 fields_end (Mixed count) size = count + 2
+fields_end Weak size = 1
 
 -- a record of this kind and size as a scan sees it
 abbrev pub seen_at : (at : ℕ) → Kind → (size : ℕ) → SeenRecord

@@ -7,7 +7,7 @@ use Rattle.space_map.specs.declared.page_word.PageWord.TheVariants.{Unset}
 use Rattle.space_map.specs.AreaWord.{area_in}
 use Rattle.space_map.specs.GateWord.{gate_in}
 use Rattle.space_map.specs.PageWord.{decode_page}
-use Rattle.space_map.specs.Table.{Row, Gate, Traced, Area, Size, Page, Cross, HeapWord, Announce, IsRow, place_of, table_length}
+use Rattle.space_map.specs.Table.{Row, Gate, Traced, Area, WeakHead, WeakTurn, Size, Page, Cross, HeapWord, Announce, IsRow, place_of, table_length}
 pub use Rattle.space_map.specs.Table.{is_row}
 
 -- ---- one word
@@ -30,13 +30,16 @@ HasForm row word = ⊤
 -- ---- the table
 
 -- The table: the pages that each space may have and those that it has in use, the gate, TRACED, each space's area word,
--- each page's word and crossing, each word of the heap, and the place that each worker announces, and one more.
+-- the head of the chain of copied cells and the turn to walk it, each page's word and crossing, each word of the heap, and
+-- the place that each worker announces, and one more.
 pub record Table : Type 0 where
   pub pages : ℕ
   pub in_use : ℕ → ℕ
   pub gate : GateWord
   pub traced : ℕ
   pub area : ℕ → AreaWord
+  pub weak : ℕ
+  pub weak_turn : ℕ
   pub page : ℕ → PageWord
   pub cross : ℕ → ℕ
   pub heap : ℕ → ℕ
@@ -50,6 +53,8 @@ table_by n word = record {
   gate = gate_in (word Gate);
   traced = word Traced;
   area = λ space. area_in (word (Area space));
+  weak = word WeakHead;
+  weak_turn = word WeakTurn;
   page = λ page. page_word_in (word (Page page));
   cross = λ page. word (Cross page);
   heap = λ addr. word (HeapWord addr);

@@ -2,6 +2,7 @@
 use Rattle.std.specs.Prelude.{◌≡◌, ℕ, [], ◌∷◌, true, Some, None}
 use Rattle.heap_words.specs.Word.{number_word, pointer_word}
 use Rattle.plain_state.specs.declared.value.Value.TheVariants.{Number, Reference}
+use Rattle.plain_state.specs.Reachable.{IsLive}
 use Rattle.plain_state.specs.State.{Plain}
 use Rattle.heap_state.specs.Meaning.Denotes.{denoted}
 use Rattle.heap_state.specs.Examples.Flipped.{flipped, flipped_plain, late_mutator}
@@ -14,7 +15,6 @@ use Rattle.heap_state.specs.Saving.Savers.{Saver}
 use Rattle.heap_state.specs.Saving.Kept.{KeepsPicture}
 use Rattle.heap_state.specs.Saving.Written.{written_whole}
 use Rattle.space_map.specs.Table.{SaveOf}
-use Rattle.heap_state.specs.Meaning.Reachable.{IsLive}
 use Rattle.heap_state.specs.Sums.{uncopied}
 use Rattle.heap_state.specs.Memory.Walk.{walk_of, old_walk_of}
 use Rattle.heap_state.specs.Worker.{is_late}

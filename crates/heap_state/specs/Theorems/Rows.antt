@@ -7,7 +7,7 @@ use Rattle.space_map.specs.declared.spaces.TheConstants.{LAST_WORKER, PAGE_WORDS
 use Rattle.space_map.specs.AreaWord.{AreaFits, encode_area}
 use Rattle.space_map.specs.GateWord.{GateFits, encode_gate}
 use Rattle.space_map.specs.PageWord.{PageFits, encode_page}
-use Rattle.space_map.specs.Table.{Row, Gate, Traced, Area, Size, SnapNumber, DoneNumber, Page, Cross, HeapWord, Announce, IsRow, place_of}
+use Rattle.space_map.specs.Table.{Row, Gate, Traced, Area, WeakHead, WeakTurn, Size, SnapNumber, DoneNumber, Page, Cross, HeapWord, Announce, IsRow, place_of}
 use Rattle.heap_state.specs.Memory.Entries.{WholeRow, Within, Behind, whole_place_of, IsWholeRow, Entry, row_of, word_of, EntryFits, with_entry, written, table_with, EachFits, HasSizes}
 use Rattle.heap_state.specs.Memory.Era.{era_of, memory_of, from_space, IsLaidOut}
 use Rattle.space_map.specs.Spaces.{to_space}
@@ -51,6 +51,14 @@ StoresTraced = (n : ℕ) (words : List ℕ) (word : ℕ) → IsFormed n words
 abbrev pub StoresArea : Type 0
 StoresArea = (n : ℕ) (words : List ℕ) (space : ℕ) (area : AreaWord) → IsFormed n words → space < 2 → AreaFits area
     → Stored n words (Within (Area space)) (encode_area area) (record (table_of n words) { area = put (table_of n words).area space area })
+
+abbrev pub StoresWeak : Type 0
+StoresWeak = (n : ℕ) (words : List ℕ) (word : ℕ) → IsFormed n words
+    → Stored n words (Within WeakHead) word (record (table_of n words) { weak = word })
+
+abbrev pub StoresWeakTurn : Type 0
+StoresWeakTurn = (n : ℕ) (words : List ℕ) (word : ℕ) → IsFormed n words
+    → Stored n words (Within WeakTurn) word (record (table_of n words) { weak_turn = word })
 
 abbrev pub StoresSize : Type 0
 StoresSize = (n : ℕ) (words : List ℕ) (space pages : ℕ) → IsFormed n words → space < 2 → 4 ≤ pages → pages ≤ n

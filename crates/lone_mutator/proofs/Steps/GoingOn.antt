@@ -2,7 +2,7 @@
 -- on to a write, by a look at the page or without.
 use Rattle.std.proofs.Common.{◌≡◌, ℕ, ◌+◌, ◌≤◌, ◌==◌, inl, Bool, true, false, cond, Option, Some, None, nat_le, refl, sym, subst, arith}
 use Rattle.heap_words.specs.declared.kind.Kind.{Kind}
-use Rattle.heap_words.specs.declared.kind.Kind.TheVariants.{Fields, Raw, Mixed}
+use Rattle.heap_words.specs.declared.kind.Kind.TheVariants.{Fields, Raw, Mixed, Weak}
 use Rattle.record_layout.specs.declared.header.Header.{Header}
 use Rattle.space_map.specs.Spaces.{Layout}
 use Rattle.page_saves.specs.Guard as guard
@@ -70,6 +70,7 @@ module _ (n : ℕ) (s : Saves) (t : Table) (x : Held) (pages : x.layout.pages �
     begins_by Fields true = header_first
     begins_by Raw true = header_first
     begins_by Mixed true = count_first
+    begins_by Weak true = header_first
     begins_by kind false = record { remembers = record { began = λ past. began; quiet = quiet; stands = tt }; within = omega arith }
 
     pub begins : Goes (places x (Some header))

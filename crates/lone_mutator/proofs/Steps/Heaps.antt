@@ -24,7 +24,7 @@ use Rattle.gc_worker.specs.Plain.Answer.{IsAnswered, after_told}
 use Rattle.gc_worker.specs.Laws.Between.{KeepsToTask, IsSo, RestsAt}
 use Rattle.gc_worker.specs.Laws.Step.{CheckpointsStand, Heap, StandIf, StepKeeps, WorkersStand, at_flip, held_at, layout_of, moved, nobody, read, saves_in}
 use Rattle.gc_worker.specs.Steps.Stepped.{awaits}
-use Rattle.gc_worker.specs.Steps.Turned.{Told, Silent, Answers, Marks, turned, told}
+use Rattle.gc_worker.specs.Steps.Turned.{Told, Silent, Empties, Answers, Marks, turned, told}
 use Rattle.gc_worker.specs.Steps.Wanted.{wanted}
 use Rattle.gc_worker.specs.Workers.Begun.{IsPastLook}
 use Rattle.gc_worker.specs.Workers.Fits.{Fits, FitsGate, FitsStage}
@@ -226,6 +226,7 @@ module _ (owed : Owed) (h : Heap) (p o : Plain) (x : Held) (q : Step) (st : Work
 
   after_by : (t : Told) → told x r ≡ t → PaysWhereTold h.pages h.checkpoints (said h.pages h.words) (said h.pages later.words) x y t → WorkersStand later (after_told p 0 t) (at_flip p o t) → AfterStep h later t
   after_by Silent is l stands = lowers o stands l
+  after_by Empties is l stands = lowers o stands l
   after_by (Marks n) is l stands = lowers p stands l
   after_by (Answers task Done) is quiet stands = effect task is quiet
   after_by (Answers task (Trap end)) is l stands =

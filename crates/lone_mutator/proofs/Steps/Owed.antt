@@ -14,8 +14,9 @@ use Rattle.heap_state.specs.Saving.Words.{AreFormedSaves, Saves}
 use Rattle.heap_state.specs.Saving.Written.{saves_with}
 use Rattle.gc_worker.specs.declared.calls.did.Did.TheVariants as did
 use Rattle.gc_worker.specs.Workers.Held.{Held}
-use Rattle.gc_worker.specs.Steps.Turned.{Told, Silent, Answers, Marks, turned, told}
+use Rattle.gc_worker.specs.Steps.Turned.{Told, Silent, Empties, Answers, Marks, turned, told}
 use Rattle.gc_worker.specs.Steps.Wanted.{wanted}
+use Rattle.gc_worker.proofs.Plain.Quiet.{IsQuiet}
 use Rattle.lone_mutator.specs.Law.{Lowers, LowersWhereTold, Pays, PaysWhereTold, Said, StepsLower, said, saves}
 use Rattle.lone_mutator.proofs.Steps.Rows as steps
 use Rattle.lone_mutator.proofs.Steps.Rows.{SaysNoSaves}
@@ -32,6 +33,18 @@ module _ (c : Configuration) (p : Plain) (s : Stands c p) (x : Held) where
   abbrev pub OwesBy : Step → Type 0
   OwesBy q = steps.HoldsBy c p s OwesAll q
 
+  -- a step that neither answers a task nor flips
+  module _ (after : Table) (y : Held) (lower : Lowers c.pages (saves c) (table c) after x y) where
+    lowers_quietly : (t : Told) → IsQuiet t → LowersWhereTold c.pages (saves c) (table c) after x y t
+    lowers_quietly Silent quiet = lower
+    lowers_quietly Empties quiet = lower
+    lowers_quietly (Answers task outcome) quiet = absurd quiet
+    lowers_quietly (Marks asked) quiet = absurd quiet
+
+  pub owes_quietly : (after : Table) (reply : Reply) (y : Held) → turned x reply ≡ y → IsQuiet (told x reply) → Lowers c.pages (saves c) (table c) after x y → Owes after reply
+  owes_quietly after reply y turns quiet lower =
+      subst (λ (z : Held). LowersWhereTold c.pages (saves c) (table c) after x z (told x reply)) (sym turns) (lowers_quietly after y lower (told x reply) quiet)
+
   -- ---- what is said of checkpoints stays
 
   module _ (after : Table) (y : Held) where
@@ -43,6 +56,7 @@ module _ (c : Configuration) (p : Plain) (s : Stands c p) (x : Held) where
 
     pays_by : (t : Told) → LowersWhereTold c.pages (saves c) (table c) after x y t → PaysWhereTold c.pages x.layout.checkpoints (said c.pages c.words) then x y t
     pays_by Silent l = lowers_pays l
+    pays_by Empties l = lowers_pays l
     pays_by (Answers task did.Done) quiet = quiet
     pays_by (Answers task (did.Trap end)) l = tt
     pays_by (Marks asked) l = lowers_pays l

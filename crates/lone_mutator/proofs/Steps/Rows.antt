@@ -8,9 +8,9 @@ use Rattle.atom_store.specs.declared.reply.Reply.TheVariants.{Value, Done, Won}
 use Rattle.atom_store.specs.declared.step.Step.{Step}
 use Rattle.atom_store.specs.declared.step.Step.TheVariants.{Load, Store, Exchange}
 use Rattle.atom_store.specs.Step.{words_after, reply_of}
-use Rattle.space_map.specs.Table.{Row, Gate, Traced, Area, Size, Page, Cross, HeapWord, Announce, IsRow, place_of}
+use Rattle.space_map.specs.Table.{Row, Gate, Traced, Area, WeakHead, WeakTurn, Size, Page, Cross, HeapWord, Announce, IsRow, place_of}
 use Rattle.heap_state.specs.Configuration.{Configuration, Stands, table}
-use Rattle.heap_state.specs.Memory.Entries.{WholeRow, Within, Behind, whole_place_of, IsWholeRow, word_in_whole, Entry, GateIs, TracedIs, AreaIs, SizeIs, PageIs, CrossIs, WordIs, AnnounceIs, SnapIs, DoneIs, SaveIs, ImageIs, EntryFits, with_entry, row_of, word_of}
+use Rattle.heap_state.specs.Memory.Entries.{WholeRow, Within, Behind, whole_place_of, IsWholeRow, word_in_whole, Entry, GateIs, TracedIs, AreaIs, WeakIs, WeakTurnIs, SizeIs, PageIs, CrossIs, WordIs, AnnounceIs, SnapIs, DoneIs, SaveIs, ImageIs, EntryFits, with_entry, row_of, word_of}
 use Rattle.heap_state.specs.Memory.Table.{Table, table_of, word_in}
 use Rattle.heap_state.specs.Saving.Words.{AreFormedSaves, Saves, saves_of}
 use Rattle.heap_state.specs.Saving.Written.{saves_with}
@@ -34,6 +34,8 @@ leaves_saves : (n : ℕ) (words : List ℕ) (e : Entry) → EntryFits n e → Sa
 leaves_saves n words (GateIs gate) fits says = (saves_stay n words Gate (word_of (GateIs gate)) (entry_has_row n (GateIs gate) fits) (λ e. cc) (λ e. cc)).says
 leaves_saves n words (TracedIs word) fits says = (saves_stay n words Traced (word_of (TracedIs word)) (entry_has_row n (TracedIs word) fits) (λ e. cc) (λ e. cc)).says
 leaves_saves n words (AreaIs space area) fits says = (saves_stay n words (Area space) (word_of (AreaIs space area)) (entry_has_row n (AreaIs space area) fits) (λ e. cc) (λ e. cc)).says
+leaves_saves n words (WeakIs word) fits says = (saves_stay n words WeakHead (word_of (WeakIs word)) (entry_has_row n (WeakIs word) fits) (λ e. cc) (λ e. cc)).says
+leaves_saves n words (WeakTurnIs word) fits says = (saves_stay n words WeakTurn (word_of (WeakTurnIs word)) (entry_has_row n (WeakTurnIs word) fits) (λ e. cc) (λ e. cc)).says
 leaves_saves n words (SizeIs space pages) fits says = (saves_stay n words (Size space) (word_of (SizeIs space pages)) (entry_has_row n (SizeIs space pages) fits) (λ e. cc) (λ e. cc)).says
 leaves_saves n words (PageIs page word) fits says = (saves_stay n words (Page page) (word_of (PageIs page word)) (entry_has_row n (PageIs page word) fits) (λ e. cc) (λ e. cc)).says
 leaves_saves n words (CrossIs page place) fits says = (saves_stay n words (Cross page) (word_of (CrossIs page place)) (entry_has_row n (CrossIs page place) fits) (λ e. cc) (λ e. cc)).says

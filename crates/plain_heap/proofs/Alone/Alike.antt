@@ -17,10 +17,10 @@ use Rattle.mutator_asm.specs.declared.instr.Instr.TheVariants as instrs
 use Rattle.plain_heap.specs.declared.action.Action.{Action}
 use Rattle.plain_heap.specs.declared.action.Action.TheVariants.{Sets, Jumps, Links, Prints, Makes, Measures, Loads, Stores, Exchanges, Gets, Puts, Swaps, Snaps}
 use Rattle.plain_heap.specs.Action.{◌>>=◌, are_same, next_of, action}
-use Rattle.plain_heap.specs.Call.{After, value_in, values_of, may_hold, store_in, zeros, jumped, went_on, set_register, loads, allocated, performed, call}
+use Rattle.plain_heap.specs.Call.{After, value_in, values_of, may_hold, store_in, filled, jumped, went_on, set_register, loads, allocated, performed, call}
 use Rattle.plain_heap.specs.Alone.{leaves_board}
 use Rattle.plain_heap.proofs.Calls.Named.{Spells, Names, named}
-use Rattle.plain_heap.proofs.Alone.Owned.{LeadsToOwn, OwnsRecords, register-own, word-own, held-own, loads-own, jumps-own, stores-own, gains-own}
+use Rattle.plain_heap.proofs.Alone.Owned.{LeadsToOwn, OwnsRecords, register-own, word-own, held-own, loads-own, jumps-own, stores-own, fills-own, gains-own}
 
 -- two outcomes with the same end, or both with none
 abbrev pub Same : (After → After → Type 0) → Result After End → Result After End → Type 0
@@ -83,14 +83,14 @@ module _ (m : ℕ) (heap other : Heap) (k : Mutator) (same : made_by other m ≡
   loads-alike : (d : ℕ) (v : Value) → LeadsToOwn m v → GoAlike m heap other (loads heap k d v) (loads other k d v)
   loads-alike d v is = stays (went_on (set_register k d v)) (loads-own m (made_by heap m) k d (next_of k) v own is)
 
-  allocated-alike : (kind : Kind) (d n : ℕ) → GoAlike m heap other (allocated m heap k kind d n) (allocated m other k kind d n)
-  allocated-alike kind d n = rw same (record {
-    records = made_by heap m ++ zeros kind n ∷ [];
+  allocated-alike : (kind : Kind) (d n : ℕ) (v : Value) → LeadsToOwn m v → GoAlike m heap other (allocated m heap k kind d n v) (allocated m other k kind d n v)
+  allocated-alike kind d n v is = rw same (record {
+    records = made_by heap m ++ filled kind n v ∷ [];
     heap_is = has_records heap m _;
     other_is = has_records other m _;
     mutator_is = refl;
     own = loads-own m _ k d (next_of k) (Reference (record { mutator = m; serial = serial_of heap m + 1 }))
-        (record { registers = own.registers; words = gains-own m (made_by heap m) kind n own.words }) refl;
+        (record { registers = own.registers; words = gains-own m (made_by heap m) kind n v own.words is }) refl;
   })
 
   abbrev own_record : ℕ → Identity
@@ -169,7 +169,7 @@ module _ (m : ℕ) (heap other : Heap) (k : Mutator) (same : made_by other m ≡
   performed-alike (Jumps target) is = stays (jumped k target) (jumps-own m (made_by heap m) k target own)
   performed-alike (Links d target) is = stays (jumped (set_register k d (Number (next_of k))) target) (loads-own m (made_by heap m) k d target (Number (next_of k)) own tt)
   performed-alike (Prints n) is = stays (went_on (record k { printed = k.printed ++ n ∷ [] })) (record { registers = own.registers; words = own.words })
-  performed-alike (Makes kind d n) is = allocated-alike kind d n
+  performed-alike (Makes kind d n v) is = allocated-alike kind d n v (fills-own m kind v is.1)
   performed-alike (Measures d i) is = owned (Measures d) i is (λ n. measures-alike d n)
   performed-alike (Loads d i x) is = owned (λ i. Loads d i x) i is (λ n. word-alike n x _ _ (λ v is_v. loads-alike d v is_v))
   performed-alike (Stores i x v) is = owned (λ i. Stores i x v) i is.0 (λ n. word-alike n x _ _ (λ old is_old. stores-alike n x v (went_on k) is.1 (jumps-own m (made_by heap m) k (next_of k) own)))

@@ -13,11 +13,12 @@ use Rattle.mutator_asm.specs.Program.{instr_at}
 use Rattle.plain_heap.specs.Call.{After, call}
 use Rattle.plain_heap.specs.Step.{fetch, executes, ended, settled, stepped, asked_by, asked_if}
 use Rattle.plain_heap.specs.declared.mark.Mark.{Mark}
-use Rattle.plain_heap.specs.declared.mark.Mark.TheVariants.{Step, Flip, Full}
-use Rattle.plain_heap.specs.Order.{fresh, is_asked, marked}
+use Rattle.plain_heap.specs.declared.mark.Mark.TheVariants.{Step, Flip, Full, Traced}
+use Rattle.plain_heap.specs.Order.{ended_for_want, fresh, is_asked}
 use Rattle.plain_heap.specs.Alone.{leaves_board, shares_nothing}
 use Rattle.plain_heap.proofs.States.Steps.{stepped-past}
 use Rattle.plain_heap.proofs.Alone.Owned.{OwnsRecords, found_all, read_all}
+use Rattle.plain_heap.proofs.Alone.Marks.{marked}
 use Rattle.plain_heap.proofs.Alone.Alike.{Same, GoAlike, HasRecords, call-alike, same-bind, unchanged}
 use Rattle.plain_heap.proofs.Alone.Runs.{mutator_of, stepped-rests, stepped-goes}
 use Rattle.plain_heap.proofs.Alone.Apart.{IsApart, IsMoved, MovesMutator, HasSameMutator, moves-other, moved-meets, moves-apart, moves-mutator, stays-moves, full-moves}
@@ -105,11 +106,12 @@ module _ (code : List (List Instr)) (turns : ℕ) (alone : shares_nothing code �
 
 -- ---- a mark
 
--- the mutator whose mark it is; an exchange of the spaces changes none
+-- the mutator whose mark it is; the exchange of the spaces and tracing change none
 abbrev pub mover : Mark → ℕ
 mover (Step m) = m
 mover (Flip asked) = 0
 mover (Full m asked room live) = m
+mover Traced = 0
 
 -- the mark changes nothing, or one mutator of the program moves
 abbrev pub MovesAtMostOne : List (List Instr) → ℕ → Plain → Plain → Type 0
@@ -148,7 +150,7 @@ module _ (code : List (List Instr)) (turns : ℕ) (alone : shares_nothing code �
   )
 
   fills_as : (m asked room live : ℕ) (asks : Bool) → is_asked asked (asked_by code turns s m) ≡ asks → (marked code turns s (Full m asked room live) ≡ s) ⊎ GetsFullEnd code turns s m asked room live
-  unfolding marked
+  unfolding ended_for_want
   fills_as m asked room live false is = inl (rw is refl)
   fills_as m asked room live true is =
       let found = found_as m asked (slice_get s.mutators m) refl is in
@@ -162,10 +164,10 @@ module _ (code : List (List Instr)) (turns : ℕ) (alone : shares_nothing code �
   full_acts m asked room live (inr fills) = inr (fills.0, rw fills.2 (full-moves code s apart m (HeapFull asked room live) fills.1))
 
   acts : (mark : Mark) → MovesAtMostOne code (mover mark) s (marked code turns s mark)
-  unfolding marked
   acts (Step m) = step_acts m (cases_lt m (length code))
   acts (Flip asked) = inl refl
   acts (Full m asked room live) = full_acts m asked room live (fills m asked room live)
+  acts Traced = inl refl
 
   apart_after : (m : ℕ) (after : Plain) → MovesAtMostOne code m s after → IsApart code after
   apart_after m after (inl same) = rw same apart

@@ -9,11 +9,12 @@ use Rattle.plain_state.specs.State.{Mutator, Plain}
 use Rattle.mutator_asm.specs.declared.instr.Instr.{Instr}
 use Rattle.plain_heap.specs.Step.{ended, stepped}
 use Rattle.plain_heap.specs.declared.mark.Mark.{Mark}
-use Rattle.plain_heap.specs.declared.mark.Mark.TheVariants.{Step, Flip, Full}
-use Rattle.plain_heap.specs.Order.{fresh, opening, marked, state_after, plain}
+use Rattle.plain_heap.specs.declared.mark.Mark.TheVariants.{Step, Flip, Full, Traced}
+use Rattle.plain_heap.specs.Order.{fresh, opening, plain}
 use Rattle.plain_heap.specs.Alone.{shares_nothing, run_alone, is_heap_full, IsAsAlone}
 use Rattle.plain_heap.proofs.States.Steps.{stepped-past}
 use Rattle.plain_heap.proofs.Calls.Counts.{Grown}
+use Rattle.plain_heap.proofs.Alone.Marks.{marked, plain-alone, state_after, steps-alone}
 use Rattle.plain_heap.proofs.Alone.Runs.{mutator_of, after_steps, stepped-rests, steps-come, steps-end}
 use Rattle.plain_heap.proofs.Alone.Apart.{IsApart, HasSameMutator, moves-apart, full-moves, ended-mutator, opening-apart, opening-begun}
 use Rattle.plain_heap.proofs.Alone.Moves.{step-alike, mover, GetsFullEnd, fills, marked-apart, marked-other, marked-rests}
@@ -69,7 +70,6 @@ module _ (code : List (List Instr)) (turns : ℕ) (alone : shares_nothing code �
   -- m makes a step both times
   agree-step : (marks : List Mark) → Agree marks → (n : ℕ) (s u : Plain) → IsApart code s → IsApart code u → HasSameMutator m s u → is_some (mutator_of s m).end ≡ false
       → is_some (mutator_of (after_steps code turns u n m) m).end ≡ true → IsFrontOf (mutator_of (state_after code turns (stepped code turns s m) marks) m) (mutator_of (after_steps code turns u n m) m)
-  unfolding marked
   agree-step marks rest zero s u apart other meets no_end is = absurd (apart_ends (sym is ∙ ap (λ k. is_some k.end) meets.mutator ∙ no_end))
   agree-step marks rest (suc n) s u apart other meets no_end is =
       let alike = step-alike code turns alone m s u apart other meets has no_end in
@@ -103,10 +103,10 @@ module _ (code : List (List Instr)) (turns : ℕ) (alone : shares_nothing code �
 
   -- a mark of m itself
   agree-own : (mark : Mark) (marks : List Mark) → Agree marks → m ≡ mover mark → Agree (mark ∷ marks)
-  unfolding marked
   agree-own (Step j) marks rest e n s u apart other meets is = subst (λ j. IsFrontOf (mutator_of (state_after code turns (stepped code turns s j) marks) m) (mutator_of (after_steps code turns u n m) m)) e
       (agree-step_as marks rest n s u apart other meets (is_some (mutator_of s m).end) refl is)
   agree-own (Flip asked) marks rest e n s u apart other meets is = rest n s u apart other meets is
+  agree-own Traced marks rest e n s u apart other meets is = rest n s u apart other meets is
   agree-own (Full j asked room live) marks rest e n s u apart other meets is =
       subst (λ j. IsFrontOf (mutator_of (state_after code turns (marked code turns s (Full j asked room live)) marks) m) (mutator_of (after_steps code turns u n m) m)) e
       (agree-full_as marks rest n asked room live s u apart other meets (fills code turns alone s apart m asked room live) is)
@@ -124,36 +124,41 @@ module _ (code : List (List Instr)) (turns : ℕ) (alone : shares_nothing code �
 
 -- ---- from the opening on
 
-same_from_opening : (code : List (List Instr)) (turns : ℕ) (order : List Mark) (m : ℕ) (k : Mutator) → shares_nothing code ≡ true → slice_get (plain code turns order).mutators m ≡ Some k → m < length code
-    → IsAsAlone code turns m k
+-- what mutator m comes to alone
+abbrev alone_after : (code : List (List Instr)) → ℕ → ℕ → Plain
+alone_after code turns m = after_steps code turns (opening code) (turns + 1) m
+
+same_from_opening : (code : List (List Instr)) (turns : ℕ) (order : List Mark) (m : ℕ) (k : Mutator) → shares_nothing code ≡ true → slice_get (state_after code turns (opening code) order).mutators m ≡ Some k
+    → m < length code → IsAsAlone code turns m k
 same_from_opening code turns order m k alone found has =
     let opened = opening-apart code in
     let ends = steps-end code turns m (opening code) has opened.counted (opening-begun code m) in
     let agrees = agree code turns alone m has order (turns + 1) (opening code) (opening code) opened opened (record { mutator = refl; records = refl }) ends in
-    let is = get_or_from_slice_get (plain code turns order).mutators m k fresh found in
+    let is = get_or_from_slice_get (state_after code turns (opening code) order).mutators m k fresh found in
     let counted = (order-apart code turns alone (replicate (turns + 1) (Step m)) (opening code) opened).counted in
     rw (← is) (record {
-      alone = mutator_of (run_alone code turns m) m;
-      reached = slice_get-get_or (run_alone code turns m).mutators m fresh (subst (λ n. m < n) (sym counted) has);
+      alone = mutator_of (alone_after code turns m) m;
+      reached = ap (λ (s : Plain). slice_get s.mutators m) (steps-alone code turns m (turns + 1))
+          ∙ slice_get-get_or (alone_after code turns m).mutators m fresh (subst (λ n. m < n) (sym counted) has);
       numbers = rw agrees.numbers.is (take-append_seam _ agrees.numbers.rest);
       whole = agrees.whole;
     })
 
 -- each mutator of an order is as it is alone
 pub order-same : (code : List (List Instr)) (turns : ℕ) (order : List Mark) (m : ℕ) (k : Mutator) → shares_nothing code ≡ true → slice_get (plain code turns order).mutators m ≡ Some k → IsAsAlone code turns m k
-order-same code turns order m k alone found =
+order-same code turns order m k alone is =
+    let found : slice_get (state_after code turns (opening code) order).mutators m ≡ Some k = sym (ap (λ (s : Plain). slice_get s.mutators m) (plain-alone code turns alone order)) ∙ is in
     let counted = (order-apart code turns alone order (opening code) (opening-apart code)).counted in
-    same_from_opening code turns order m k alone found (subst (λ n. m < n) counted (slice_get_within (plain code turns order).mutators m k found))
+    same_from_opening code turns order m k alone found (subst (λ n. m < n) counted (slice_get_within (state_after code turns (opening code) order).mutators m k found))
 
 -- where the program has no such mutator nothing changes
 steps-past : (code : List (List Instr)) (turns m n : ℕ) (s : Plain) → length code ≤ m → after_steps code turns s n m ≡ s
-unfolding marked
 steps-past code turns m zero s past = refl
 steps-past code turns m (suc n) s past = ap (λ t. after_steps code turns t n m) (stepped-past code turns s m past) ∙ steps-past code turns m n s past
 
-ends_as : (code : List (List Instr)) (turns m : ℕ) (k : Mutator) → slice_get (run_alone code turns m).mutators m ≡ Some k → (m < length code) ⊎ (length code ≤ m) → is_some k.end ≡ true
+ends_as : (code : List (List Instr)) (turns m : ℕ) (k : Mutator) → slice_get (alone_after code turns m).mutators m ≡ Some k → (m < length code) ⊎ (length code ≤ m) → is_some k.end ≡ true
 ends_as code turns m k found (inl has) =
-    subst (λ k. is_some k.end ≡ true) (get_or_from_slice_get (run_alone code turns m).mutators m k fresh found)
+    subst (λ k. is_some k.end ≡ true) (get_or_from_slice_get (alone_after code turns m).mutators m k fresh found)
     (steps-end code turns m (opening code) has (opening-apart code).counted (opening-begun code m))
 ends_as code turns m k found (inr past) =
     let none = slice_get_past (opening code).mutators m (subst (λ n. n ≤ m) (sym (opening-apart code).counted) past) in
@@ -165,4 +170,5 @@ ends_as code turns m k found (inr past) =
 
 -- a mutator that is run alone has its end
 pub run_alone-ends : (code : List (List Instr)) (turns m : ℕ) (k : Mutator) → slice_get (run_alone code turns m).mutators m ≡ Some k → is_some k.end ≡ true
-run_alone-ends code turns m k found = ends_as code turns m k found (cases_lt m (length code))
+run_alone-ends code turns m k found =
+    ends_as code turns m k (sym (ap (λ (s : Plain). slice_get s.mutators m) (steps-alone code turns m (turns + 1))) ∙ found) (cases_lt m (length code))

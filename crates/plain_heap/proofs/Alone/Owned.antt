@@ -1,5 +1,5 @@
 -- What a mutator holds that shares nothing: numbers, and references to records of its own.
-use Rattle.std.proofs.Common.{◌≡◌, ℕ, zero, suc, ◌-◌, ◌<◌, ◌≤◌, ◌⊎◌, inl, inr, List, [], ◌∷◌, ◌++◌, length, Option, Some, None, Result, Ok, Err, slice_get, slice_set, slice_index_or, get_or, refl, subst}
+use Rattle.std.proofs.Common.{◌≡◌, ℕ, zero, suc, ◌-◌, ◌<◌, ◌≤◌, ◌⊎◌, inl, inr, List, [], ◌∷◌, ◌++◌, length, Option, Some, None, Result, Ok, Err, slice_get, slice_set, slice_index_or, get_or, refl, sym, subst}
 use Rattle.std.specs.Bool.{⊤}
 use Rattle.std.specs.Option.{option_map_or}
 use Rattle.std.specs.List.{All}
@@ -9,13 +9,15 @@ use Rattle.std.proofs.lemmas.List.Elements.{All-get_or, All-nil, All-set, All-pu
 use Rattle.std.proofs.lemmas.Option.{slice_get_within, get_or_from_slice_get}
 use Rattle.plain_state.specs.declared.end.End.{End}
 use Rattle.plain_state.specs.declared.kind.Kind.{Kind}
+use Rattle.plain_state.specs.declared.kind.Kind.TheVariants.{Weak}
 use Rattle.plain_state.specs.declared.value.Value.{Value}
 use Rattle.plain_state.specs.declared.value.Value.TheVariants.{Number, Reference}
 use Rattle.plain_state.specs.State.{Record, Heap, Mutator, made_by, at_serial}
 use Rattle.plain_state.specs.Writing.{with_value}
 use Rattle.plain_heap.specs.Action.{◌>>=◌, register, in_record}
-use Rattle.plain_heap.specs.Call.{values_of, value_in, may_hold, zeros, jumped, set_register}
-use Rattle.plain_heap.proofs.Calls.Outcomes.{ok_same}
+use Rattle.plain_heap.specs.Call.{values_of, value_in, may_hold, unless_cell, filled, jumped, set_register}
+use Rattle.plain_heap.proofs.Calls.Outcomes.{unless_cell-same}
+use Rattle.plain_heap.proofs.Calls.Named.{FillsKind}
 use Rattle.plain_heap.proofs.Calls.Records.{held_same}
 
 -- a number, or a reference to a record of mutator m
@@ -56,15 +58,15 @@ values_as : (m : ℕ) (records : List Record) (n : ℕ) (o : Option Record) → 
 values_as m records n None all is = All-nil (LeadsToOwn m)
 values_as m records n (Some r) all is = found_serial (AllOf m) records n r all is
 
-word_as : (m : ℕ) (values : List Value) (o : Result ℕ End) (v : Value) → All (LeadsToOwn m) values → (o >>= (λ y. Ok (slice_index_or values y (Number 0)))) ≡ Ok v → LeadsToOwn m v
-word_as m values (Ok y) v all is = subst (LeadsToOwn m) (ok_same _ (slice_index_or values y (Number 0)) v refl is) (read_all (LeadsToOwn m) values y (Number 0) all tt)
-word_as m values (Err why) v all is = cc
+word_as : (m : ℕ) (values : List Value) (r : Option Record) (o : Result ℕ End) (v : Value) → All (LeadsToOwn m) values → (o >>= (λ y. unless_cell r (slice_index_or values y (Number 0)))) ≡ Ok v → LeadsToOwn m v
+word_as m values r (Ok y) v all is = subst (LeadsToOwn m) (unless_cell-same r (slice_index_or values y (Number 0)) v is) (read_all (LeadsToOwn m) values y (Number 0) all tt)
+word_as m values r (Err why) v all is = cc
 
 -- a word that is read of the record of mutator m with a serial
 pub word-own : (m : ℕ) (heap : Heap) (n x : ℕ) (v : Value) → All (AllOf m) (made_by heap m) → value_in heap (record { mutator = m; serial = n }) x ≡ Ok v → LeadsToOwn m v
 word-own m heap n x v all is =
     let values = values_of heap (record { mutator = m; serial = n }) in
-    word_as m values (in_record (length values) x) v (values_as m (made_by heap m) n (at_serial (made_by heap m) n) all refl) is
+    word_as m values (at_serial (made_by heap m) n) (in_record (length values) x) v (values_as m (made_by heap m) n (at_serial (made_by heap m) n) all refl) is
 
 -- ---- what is written
 
@@ -84,6 +86,10 @@ pub stores-own : (m : ℕ) (records : List Record) (n : ℕ) (r : Record) (x : �
 stores-own m records n r x v all found is =
     All-set (AllOf m) records (n - 1) (with_value r x v) (All-set (LeadsToOwn m) r.values x v is (found_serial (AllOf m) records n r all found)) all
 
--- a new record holds zeros
-pub gains-own : (m : ℕ) (records : List Record) (kind : Kind) (n : ℕ) → All (AllOf m) records → All (AllOf m) (records ++ zeros kind n ∷ [])
-gains-own m records kind n all = All-push (AllOf m) records (zeros kind n) all (All-replicate (LeadsToOwn m) n (Number 0) tt)
+-- so is what fills a new record
+pub fills-own : (m : ℕ) (kind : Kind) (v : Value) → FillsKind (LeadsToOwn m) kind v → LeadsToOwn m v
+fills-own m Weak v fills = fills
+fills-own m _ v fills = subst (LeadsToOwn m) (sym fills) tt
+
+pub gains-own : (m : ℕ) (records : List Record) (kind : Kind) (n : ℕ) (v : Value) → All (AllOf m) records → LeadsToOwn m v → All (AllOf m) (records ++ filled kind n v ∷ [])
+gains-own m records kind n v all is = All-push (AllOf m) records (filled kind n v) all (All-replicate (LeadsToOwn m) n v is)

@@ -12,7 +12,8 @@ use Rattle.plain_heap.specs.Action.{◌>>=◌}
 use Rattle.plain_heap.specs.Call.{After, call}
 use Rattle.plain_heap.specs.Step.{fetch, executes, settled, stepped_if, stepped_as, mutator_in, stepped}
 use Rattle.plain_heap.specs.declared.mark.Mark.TheVariants.{Step}
-use Rattle.plain_heap.specs.Order.{fresh, marked, state_after}
+use Rattle.plain_heap.specs.Order.{fresh}
+use Rattle.plain_heap.proofs.Alone.Marks.{state_after}
 use Rattle.plain_heap.proofs.Calls.Rest.{settled-count}
 use Rattle.plain_heap.proofs.Calls.Counts.{Grown, grown-refl, grown-trans, Went, call-went}
 
@@ -128,7 +129,6 @@ comes-next turns n k l final first rest = record {
 
 pub steps-come : (code : List (List Instr)) (turns m n : ℕ) (s : Plain) → m < length code → length s.mutators ≡ length code
     → Comes turns n (mutator_of s m) (mutator_of (after_steps code turns s n m) m)
-unfolding marked
 steps-come code turns m zero s has counted = record { printed = grown-refl (mutator_of s m).printed; rests = λ is. refl; goes = λ no_end few. omega (arith, few) }
 steps-come code turns m (suc n) s has counted =
     comes-next turns n (mutator_of s m) (mutator_of (stepped code turns s m) m) _ (stepped-follows code turns s m has counted)

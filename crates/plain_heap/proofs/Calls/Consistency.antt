@@ -11,7 +11,7 @@ use Rattle.std.proofs.lemmas.List.Elements.{All-nil, All-set, All-push, All-repl
 use Rattle.std.proofs.lemmas.Option.{slice_get_within}
 use Rattle.plain_state.specs.declared.end.End.{End}
 use Rattle.plain_state.specs.declared.kind.Kind.{Kind}
-use Rattle.plain_state.specs.declared.kind.Kind.TheVariants.{Fields, Raw, Mixed}
+use Rattle.plain_state.specs.declared.kind.Kind.TheVariants.{Fields, Raw, Mixed, Weak}
 use Rattle.plain_state.specs.declared.operation.Operation.{Operation}
 use Rattle.plain_state.specs.declared.operation.Operation.TheVariants as operations
 use Rattle.plain_state.specs.declared.sizes.TheConstants.{NUMBERS, MOST_PRINTED, LONGEST_RECORD}
@@ -32,9 +32,9 @@ use Rattle.mutator_asm.specs.Program.{is_valid, is_register, is_number, is_targe
 use Rattle.plain_heap.specs.declared.action.Action.{Action}
 use Rattle.plain_heap.specs.declared.action.Action.TheVariants.{Sets, Jumps, Links, Prints, Makes, Measures, Loads, Stores, Exchanges, Gets, Puts, Swaps, Snaps}
 use Rattle.plain_heap.specs.Action.{◌>>=◌, register, next_of, in_record, action}
-use Rattle.plain_heap.specs.Call.{After, values_of, value_in, board_word, as_plain, may_hold, store_in, zeros, jumped, went_on, set_register, loads, allocated, performed, call}
-use Rattle.plain_heap.proofs.Calls.Named.{Spells, Names, named, fits-short}
-use Rattle.plain_heap.proofs.Calls.Outcomes.{if_ok-bind, if_ok-then, performed_exchange}
+use Rattle.plain_heap.specs.Call.{After, values_of, value_in, board_word, as_plain, may_hold, store_in, filled, jumped, went_on, set_register, loads, allocated, performed, call}
+use Rattle.plain_heap.proofs.Calls.Named.{Spells, Names, FillsKind, named, fits-short}
+use Rattle.plain_heap.proofs.Calls.Outcomes.{if_ok-bind, if_ok-then, performed_exchange, unless_cell-then}
 use Rattle.plain_heap.proofs.Alone.Owned.{read_all, found_serial}
 
 -- ---- a heap with more records
@@ -103,6 +103,7 @@ held-plain heap (Reference i) Q is = tt
 held-value : (heap : Heap) (kind : Kind) (x : ℕ) (v : Value) → IsValue heap v → IfOk (may_hold kind x v) (λ w. IsValue heap w × (is_raw kind (word_of_value kind x) ≡ true → IsNumber w))
 held-value heap Fields x v is = (is, λ raw. cc)
 held-value heap Raw x v is = held-plain heap v _ is
+held-value heap Weak x v is = tt
 held-value heap (Mixed count) x v is = by_place (nat_lt x count) refl
   where
     by_place : (b : Bool) → nat_lt x count ≡ b → IfOk (cond b (Ok v) (as_plain v)) (λ w. IsValue heap w × (nat_le (count + 2) (x + 2) ≡ true → IsNumber w))
@@ -125,7 +126,8 @@ module _ (heap : Heap) (is_heap : IsHeap heap) where
 
   value_in-value : (i : Identity) (x : ℕ) → IfOk (value_in heap i x) (IsValue heap)
   value_in-value i x =
-      if_ok-bind (IsValue heap) (in_record (length (values_of heap i)) x) _ (λ y. read_all (IsValue heap) (values_of heap i) y (Number 0) (values-found i (record_of heap i) refl).0 zero-value)
+      if_ok-bind (IsValue heap) (in_record (length (values_of heap i)) x) _
+      (λ y. unless_cell-then (IsValue heap) (record_of heap i) _ (read_all (IsValue heap) (values_of heap i) y (Number 0) (values-found i (record_of heap i) refl).0 zero-value))
 
   board_word-value : (x : ℕ) → IsValue heap (board_word heap x)
   board_word-value x = read_all (IsValue heap) heap.board x (Number 0) is_heap.board zero-value
@@ -172,23 +174,32 @@ module _ (heap : Heap) (is_heap : IsHeap heap) where
               (All-set (All (IsRecord heap)) heap.records i.mutator _ (All-set (IsRecord heap) (made_by heap i.mutator) _ (with_value r x v) written-record (list-records i.mutator)) is_heap.records);
         }
 
-  -- a record of zeros
-  module _ (m n : ℕ) (kind : Kind) (within : m < length heap.records) (short : n ≤ LONGEST_RECORD) where
-    zeros-record : IsRecord heap (zeros kind n)
-    zeros-record = record {
-      short = rw (length-replicate n (Number 0)) short;
-      values = All-replicate (IsValue heap) n (Number 0) zero-value;
-      raw = λ x v at raw. subst IsNumber (sym (slice_get-replicate n x (Number 0) v at)) (omega arith);
+  -- what fills a record is a value, and a number where the record has plain numbers
+  filled-value : (kind : Kind) (v : Value) → FillsKind (IsValue heap) kind v → IsValue heap v
+  filled-value Weak v fills = fills
+  filled-value _ v fills = subst (IsValue heap) (sym fills) zero-value
+
+  filled-raw : (kind : Kind) (word : ℕ) (v : Value) → FillsKind (IsValue heap) kind v → is_raw kind word ≡ true → IsNumber v
+  filled-raw Weak word v fills raw = absurd cc
+  filled-raw _ word v fills raw = subst IsNumber (sym fills) (omega arith)
+
+  -- a record that is filled
+  module _ (m n : ℕ) (kind : Kind) (v : Value) (within : m < length heap.records) (short : n ≤ LONGEST_RECORD) (fills : FillsKind (IsValue heap) kind v) where
+    filled-record : IsRecord heap (filled kind n v)
+    filled-record = record {
+      short = rw (length-replicate n v) short;
+      values = All-replicate (IsValue heap) n v (filled-value kind v fills);
+      raw = λ x u at raw. subst IsNumber (sym (slice_get-replicate n x v u at)) (filled-raw kind (word_of_value kind x) v fills raw);
     }
 
-    pub gained-kept : IsHeap (gained heap m (zeros kind n))
+    pub gained-kept : IsHeap (gained heap m (filled kind n v))
     gained-kept =
-        let grows = gained_made heap m (zeros kind n) within in
+        let grows = gained_made heap m (filled kind n v) within in
         record {
           board_words = is_heap.board_words;
-          board = All-weaker (IsValue heap) (IsValue (gained heap m (zeros kind n))) (value-grows heap (gained heap m (zeros kind n)) grows) heap.board is_heap.board;
-          records = records-grow heap (gained heap m (zeros kind n)) grows (gained heap m (zeros kind n)).records
-              (All-set (All (IsRecord heap)) heap.records m _ (All-push (IsRecord heap) (made_by heap m) (zeros kind n) (list-records m) zeros-record) is_heap.records);
+          board = All-weaker (IsValue heap) (IsValue (gained heap m (filled kind n v))) (value-grows heap (gained heap m (filled kind n v)) grows) heap.board is_heap.board;
+          records = records-grow heap (gained heap m (filled kind n v)) grows (gained heap m (filled kind n v)).records
+              (All-set (All (IsRecord heap)) heap.records m _ (All-push (IsRecord heap) (made_by heap m) (filled kind n v) (list-records m) filled-record) is_heap.records);
         }
 
 -- ---- the instructions
@@ -236,13 +247,13 @@ module _ (m : ℕ) (heap : Heap) (k : Mutator) (is_heap : IsHeap heap) (is_mutat
   loads-kept : (d : ℕ) (v : Value) → IsValue heap v → AfterIsConsistent heap (loads heap k d v)
   loads-kept d v is = links-kept d (next_of k) v is next_of-small
 
-  allocated-kept : (kind : Kind) (d n : ℕ) → n ≤ LONGEST_RECORD → AfterIsConsistent heap (allocated m heap k kind d n)
-  allocated-kept kind d n short = record {
-    heap = gained-kept heap is_heap m n kind within short;
-    mutator = jumped-kept (gained heap m (zeros kind n)) d (next_of k) (Reference (record { mutator = m; serial = serial_of heap m + 1 }))
-        (gained_made heap m (zeros kind n) within) (gained_newest heap m (zeros kind n) within) next_of-small;
-    grows = gained_made heap m (zeros kind n) within;
-    as_many = gained_makers heap m (zeros kind n) within;
+  allocated-kept : (kind : Kind) (d n : ℕ) (v : Value) → n ≤ LONGEST_RECORD → FillsKind (IsValue heap) kind v → AfterIsConsistent heap (allocated m heap k kind d n v)
+  allocated-kept kind d n v short fills = record {
+    heap = gained-kept heap is_heap m n kind v within short fills;
+    mutator = jumped-kept (gained heap m (filled kind n v)) d (next_of k) (Reference (record { mutator = m; serial = serial_of heap m + 1 }))
+        (gained_made heap m (filled kind n v) within) (gained_newest heap m (filled kind n v) within) next_of-small;
+    grows = gained_made heap m (filled kind n v) within;
+    as_many = gained_makers heap m (filled kind n v) within;
   }
 
   -- a store, after which the mutator is this
@@ -288,7 +299,7 @@ module _ (m : ℕ) (heap : Heap) (k : Mutator) (is_heap : IsHeap heap) (is_mutat
   performed-kept (Jumps target) is = jumps-kept target is
   performed-kept (Links d target) is = links-kept d target (Number (next_of k)) next_of-small is
   performed-kept (Prints n) is = printed-kept n is.0 is.1
-  performed-kept (Makes kind d n) is = allocated-kept kind d n (fits-short kind n is)
+  performed-kept (Makes kind d n v) is = allocated-kept kind d n v (fits-short kind n is.0) is.1
   performed-kept (Measures d i) is = loads-kept d (Number (length (values_of heap i))) (omega (arith, (values-found heap is_heap i (record_of heap i) refl).1))
   performed-kept (Loads d i x) is = if_ok-then (IsValue heap) (AfterIsConsistent heap) (value_in heap i x) _ (value_in-value heap is_heap i x) (λ v is_v. loads-kept d v is_v)
   performed-kept (Stores i x v) is = if_ok-bind (AfterIsConsistent heap) (value_in heap i x) _ (λ old. stores-kept (went_on k) (jumps-kept (next_of k) next_of-small).mutator i (record_of heap i) x v refl is.1)

@@ -39,7 +39,7 @@ module _ (m : ℕ) (heap : Heap) (k : Mutator) where
   performed-went (Jumps target) = quiet _ refl refl refl
   performed-went (Links d target) = quiet _ refl refl refl
   performed-went (Prints n) = record { printed = record { rest = n ∷ []; is = refl }; executed = refl; going = refl }
-  performed-went (Makes kind d n) = quiet _ refl refl refl
+  performed-went (Makes kind d n v) = quiet _ refl refl refl
   performed-went (Measures d i) = quiet _ refl refl refl
   performed-went (Loads d i x) = if_ok-bind WentOn (value_in heap i x) _ (λ v. quiet _ refl refl refl)
   performed-went (Stores i x v) = if_ok-bind WentOn (value_in heap i x) _ (λ old. if_ok-bind WentOn (store_in heap i (record_of heap i) x v) _ (λ h. quiet _ refl refl refl))

@@ -5,7 +5,7 @@ use Rattle.std.specs.Result.{IfOk}
 use Rattle.std.proofs.lemmas.Bool.{ltb-true, leb-true}
 use Rattle.plain_state.specs.declared.end.End.{End}
 use Rattle.plain_state.specs.declared.kind.Kind.{Kind}
-use Rattle.plain_state.specs.declared.kind.Kind.TheVariants.{Fields, Raw, Mixed}
+use Rattle.plain_state.specs.declared.kind.Kind.TheVariants.{Fields, Raw, Mixed, Weak}
 use Rattle.plain_state.specs.declared.operation.Operation.{Operation}
 use Rattle.plain_state.specs.declared.operation.Operation.TheVariants as operations
 use Rattle.plain_state.specs.declared.sizes.TheConstants.{MOST_PRINTED, LONGEST_RECORD, BOARD_WORDS}
@@ -33,15 +33,22 @@ Spells P B (instrs.Put x a) = B
 Spells P B (instrs.Swap d x) = B
 Spells P B _ = ⊤
 
--- a new record of this kind may have so many values: a mixed one has its fields among them, and a word more for their count
+-- a new record of this kind may have so many values: a mixed one has its fields among them, and a word more for their count; a cell has one
 abbrev pub FitsKind : Kind → (values : ℕ) → Type 0
 FitsKind (Mixed fields) values = (values < LONGEST_RECORD) × (fields ≤ values)
+FitsKind Weak values = values ≡ 1
 FitsKind _ values = values ≤ LONGEST_RECORD
 
 pub fits-short : (kind : Kind) (values : ℕ) → FitsKind kind values → values ≤ LONGEST_RECORD
 fits-short Fields values fits = fits
 fits-short Raw values fits = fits
 fits-short (Mixed fields) values fits = omega (arith, fits)
+fits-short Weak values fits = omega (arith, fits)
+
+-- each value of a new record of this kind is one of which P holds, if it is a cell, else the number 0
+abbrev pub FillsKind : (Value → Type 0) → Kind → Value → Type 0
+FillsKind P Weak v = P v
+FillsKind P _ v = v ≡ Number 0
 
 -- P holds of the values, targets and records that an action names, and B where it names the board;
 -- lengths, words of the board and what is printed are in range
@@ -50,7 +57,7 @@ Names P B k (Sets d v) = P v
 Names P B k (Jumps target) = P (Number target)
 Names P B k (Links d target) = P (Number target)
 Names P B k (Prints n) = P (Number n) × (length k.printed < MOST_PRINTED)
-Names P B k (Makes kind d n) = FitsKind kind n
+Names P B k (Makes kind d n v) = FitsKind kind n × FillsKind P kind v
 Names P B k (Measures d i) = P (Reference i)
 Names P B k (Loads d i x) = P (Reference i)
 Names P B k (Stores i x v) = P (Reference i) × P v
@@ -92,14 +99,14 @@ module _ (P : Value → Type 0) (B : Type 0) (k : Mutator) (held : (r : ℕ) →
   computes-named operation d a b =
       with_number a _ (λ x is_x. with_number b _ (λ y is_y. if_ok-then (λ n. P (Number n)) Named (applied operation x y) _ (computed operation x y is_x is_y) (λ n is. is)))
 
-  allocates-named : (kind : Kind) (d : ℕ) (x : Operand) → ((n : ℕ) → n ≤ LONGEST_RECORD → FitsKind kind n) → IfOk (allocates k kind d x) Named
+  allocates-named : (kind : Kind) (d : ℕ) (x : Operand) → ((n : ℕ) → n ≤ LONGEST_RECORD → FitsKind kind n × FillsKind P kind (Number 0)) → IfOk (allocates k kind d x) Named
   allocates-named kind d x fits =
       if_ok-bind Named (operand k x) _ (λ y. if_ok-then (λ n. n ≤ LONGEST_RECORD) Named (length_of y) _ (length_of-short y (nat_le y LONGEST_RECORD) refl) fits)
 
   mixes-named : (d : ℕ) (fields raw : Operand) → IfOk (mixes k d fields raw) Named
   mixes-named d fields raw =
       if_ok-bind Named (operand k fields) _ (λ f. if_ok-bind Named (operand k raw) _ (λ r.
-      if_ok-then (FitsKind (Mixed f)) Named (mixed_length f r) _ (mixed_length-fits f r (nat_lt (f + r) LONGEST_RECORD) refl) (λ n fits. fits)))
+      if_ok-then (FitsKind (Mixed f)) Named (mixed_length f r) _ (mixed_length-fits f r (nat_lt (f + r) LONGEST_RECORD) refl) (λ n fits. (fits, refl))))
 
   with_reference : (a : ℕ) (f : Identity → Result Action End) → ((i : Identity) → P (Reference i) → IfOk (f i) Named) → IfOk (reference_in (register k a) >>= f) Named
   with_reference a f next = if_ok-then (λ i. P (Reference i)) Named (reference_in (register k a)) f (reference_as (register k a) (held a)) next
@@ -133,9 +140,10 @@ module _ (P : Value → Type 0) (B : Type 0) (k : Mutator) (held : (r : ℕ) →
   named (instrs.Jz a target) is = target_as target (is_zero (register k a)) is
   named (instrs.Jal d target) is = is
   named (instrs.Jr a) is = with_number a _ (λ n is_n. is_n)
-  named (instrs.New d x) is = allocates-named Fields d x (λ n short. short)
-  named (instrs.Raw d x) is = allocates-named Raw d x (λ n short. short)
+  named (instrs.New d x) is = allocates-named Fields d x (λ n short. (short, refl))
+  named (instrs.Raw d x) is = allocates-named Raw d x (λ n short. (short, refl))
   named (instrs.Mix d fields raw) is = mixes-named d fields raw
+  named (instrs.Weak d a) is = with_reference a _ (λ i is_i. (refl, is_i))
   named (instrs.Ld d a x) is = with_reference a _ (λ i is_i. if_ok-bind Named (operand k x) _ (λ y. is_i))
   named (instrs.St a x b) is = with_reference a _ (λ i is_i. if_ok-bind Named (operand k x) _ (λ y. (is_i, held b)))
   named (instrs.Cas d a x b c) is = with_reference a _ (λ i is_i. if_ok-bind Named (operand k x) _ (λ y. (is_i, held b, held c)))

@@ -66,6 +66,7 @@ module _ (m : Mutator) where
   acts (instrs.Raw d x) other = allocated _ d x
   acts (instrs.Mix d fields raw) other =
       if_ok-bind Other (operand m fields) _ (λ f. if_ok-bind Other (operand m raw) _ (λ r. if_ok-bind Other (mixed_length f r) _ (λ n. refl)))
+  acts (instrs.Weak d a) other = if_ok-bind Other (reference_in (register m a)) _ (λ i. refl)
   acts (instrs.Ld d a x) other = if_ok-bind Other (reference_in (register m a)) _ (λ i. if_ok-bind Other (operand m x) _ (λ n. refl))
   acts (instrs.St a x b) other = if_ok-bind Other (reference_in (register m a)) _ (λ i. if_ok-bind Other (operand m x) _ (λ n. refl))
   acts (instrs.Cas d a x b c) other = if_ok-bind Other (reference_in (register m a)) _ (λ i. if_ok-bind Other (operand m x) _ (λ n. refl))

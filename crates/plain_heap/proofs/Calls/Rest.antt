@@ -13,7 +13,7 @@ use Rattle.plain_state.proofs.Stored.{stored_serial}
 use Rattle.plain_heap.specs.declared.action.Action.{Action}
 use Rattle.plain_heap.specs.declared.action.Action.TheVariants.{Makes, Loads, Stores, Exchanges}
 use Rattle.plain_heap.specs.Action.{◌>>=◌, action}
-use Rattle.plain_heap.specs.Call.{After, value_in, may_hold, store_in, zeros, set_register, performed, call, went_on}
+use Rattle.plain_heap.specs.Call.{After, value_in, may_hold, store_in, filled, set_register, performed, call, went_on}
 use Rattle.plain_heap.specs.Calls.{CallLeavesOthers, CallKeepsCount, CallMakesNewRecord, IsMadeBy, NewRecordIsMade, ElseNoneIsMade, AsksForNewRecord}
 use Rattle.plain_heap.specs.Step.{settled, record_made}
 use Rattle.plain_heap.proofs.Calls.Outcomes.{if_ok-bind, if_ok-is, performed_exchange}
@@ -38,10 +38,10 @@ call-count s m k instr = settled-count s m k (call m s.heap k instr)
 
 pub call-makes : CallMakesNewRecord
 unfolding call
-call-makes m heap k instr kind d n is = rw is (refl, refl)
+call-makes m heap k instr kind d n v is = rw is (refl, refl)
 
 made_as : (o : Result Action End) (r : Record) → record_made o ≡ Some r → IsMadeBy o r
-made_as (Ok (Makes kind d n)) r is = record { kind = kind; register = d; len = n; makes = refl; is = sym (same_Some (zeros kind n) r is) }
+made_as (Ok (Makes kind d n v)) r is = record { kind = kind; register = d; len = n; value = v; makes = refl; is = sym (same_Some (filled kind n v) r is) }
 made_as _ r is = cc
 
 pub new_record-made : NewRecordIsMade
@@ -60,7 +60,7 @@ module _ (m j : ℕ) (heap : Heap) (k : Mutator) where
       held-none (Err why) = tt
 
   performed-none : (act : Action) → record_made (Ok act) ≡ None → IfOk (performed m heap k act) MakesNone
-  performed-none (Makes kind d n) none = cc
+  performed-none (Makes kind d n v) none = cc
   performed-none (Loads d i x) none = if_ok-bind MakesNone (value_in heap i x) _ (λ v. refl)
   performed-none (Stores i x v) none = if_ok-bind MakesNone (value_in heap i x) _ (λ old. stores-none (went_on k) i (record_of heap i) x v refl)
   performed-none (Exchanges d i x expected new) none =

@@ -8,15 +8,16 @@ use Rattle.plain_state.specs.declared.sizes.TheConstants.{MOST_CHECKPOINTS}
 use Rattle.plain_state.specs.State.{Mutator, Plain, Snapped}
 use Rattle.mutator_asm.specs.declared.instr.Instr.{Instr}
 use Rattle.plain_heap.specs.declared.mark.Mark.{Mark}
-use Rattle.plain_heap.specs.declared.mark.Mark.TheVariants.{Step, Flip, Full}
+use Rattle.plain_heap.specs.declared.mark.Mark.TheVariants.{Step, Flip, Full, Traced}
 use Rattle.plain_heap.specs.Action.{◌>>=◌}
 use Rattle.plain_heap.specs.Call.{After, call}
 use Rattle.plain_heap.specs.Calls.{KeepsCheckpoint}
 use Rattle.plain_heap.specs.LastCheckpoint.{IsLastCheckpoint, OrdersCountCheckpoints, OrdersKeepTheLastCheckpoint, WasBegun, executes_snap, is_snap, snaps_executed, snaps_next}
-use Rattle.plain_heap.specs.Order.{is_asked, marked, opening, plain, state_after}
+use Rattle.plain_heap.specs.Order.{Story, ended_for_want, first_story, is_asked, plain, story, story_after, story_marked}
 use Rattle.plain_heap.specs.Step.{asked_by, ended, fetch, mutator_in, settled, stepped, stepped_as, stepped_if}
 use Rattle.plain_heap.proofs.Calls.Checkpoints.{SnapBegins, SnapLeaves, begun_counted, counted_more, if_snaps, left_as_it_is, snap_leaves}
-use Rattle.plain_heap.proofs.Orders.Words.{state_after-append}
+use Rattle.plain_heap.proofs.Orders.Stories.{story_after-append}
+use Rattle.plain_heap.proofs.Reaching.Emptying.{emptied_of_lost_cells}
 
 module _ (code : List (List Instr)) (turns : ℕ) where
   -- ---- one mark
@@ -48,23 +49,26 @@ module _ (code : List (List Instr)) (turns : ℕ) where
     by_full m asked room live true (Some k) = left_as_it_is s.heap
     by_full m asked room live false o = left_as_it_is s.heap
 
-    mark_leaves : (mark : Mark) → Leaves (marked code turns s mark) (executes_snap code turns s mark)
-    unfolding marked stepped
-    mark_leaves (Step m) = by_mutator m (mutator_in code s m)
-    mark_leaves (Flip asked) = left_as_it_is s.heap
-    mark_leaves (Full m asked room live) = by_full m asked room live (is_asked asked (asked_by code turns s m)) (slice_get s.mutators m)
+  mark_leaves : (s : Story) (mark : Mark) → SnapLeaves s.now.heap (story_marked code turns s mark).now.heap (executes_snap code turns s.now mark)
+  unfolding ended_for_want stepped
+  mark_leaves s (Step m) = by_mutator s.now m (mutator_in code s.now m)
+  mark_leaves s (Flip asked) = left_as_it_is s.now.heap
+  mark_leaves s (Full m asked room live) = by_full s.now m asked room live (is_asked asked (asked_by code turns s.now m)) (slice_get s.now.mutators m)
+  mark_leaves s Traced =
+      let emptied = emptied_of_lost_cells s.flip s.now in
+      inl (record { is = refl; keeps = record { snaps = emptied.snaps; snapped = emptied.snapped } })
 
   -- ---- how many marks execute `snap`
 
-  executed-append : (p : Plain) (front marks : List Mark)
-      → snaps_executed code turns p (front ++ marks) ≡ snaps_executed code turns p front + snaps_executed code turns (state_after code turns p front) marks
-  executed-append p [] marks = omega arith
-  executed-append p (mark ∷ front) marks =
-      let rest = executed-append (marked code turns p mark) front marks in
+  executed-append : (s : Story) (front marks : List Mark)
+      → snaps_executed code turns s (front ++ marks) ≡ snaps_executed code turns s front + snaps_executed code turns (story_after code turns s front) marks
+  executed-append s [] marks = omega arith
+  executed-append s (mark ∷ front) marks =
+      let rest = executed-append (story_marked code turns s mark) front marks in
       omega (arith, rest)
 
   abbrev executed : List Mark → ℕ
-  executed order = snaps_executed code turns (opening code) order
+  executed order = snaps_executed code turns (first_story code) order
 
   -- ---- an order
 
@@ -73,6 +77,9 @@ module _ (code : List (List Instr)) (turns : ℕ) where
     counted : (plain code turns order).heap.snaps ≡ min (executed order) MOST_CHECKPOINTS
 
   module _ (front : List Mark) (mark : Mark) where
+    abbrev before : Story
+    before = story code turns front
+
     abbrev there : Plain
     there = plain code turns front
 
@@ -83,25 +90,25 @@ module _ (code : List (List Instr)) (turns : ℕ) where
     snaps = executes_snap code turns there mark
 
     leaves : SnapLeaves there.heap next.heap snaps
-    leaves = subst (λ (z : Plain). SnapLeaves there.heap z.heap snaps) (sym (state_after-append code turns (opening code) front (mark ∷ []))) (mark_leaves there mark)
+    leaves = subst (λ (z : Story). SnapLeaves there.heap z.now.heap snaps) (sym (story_after-append code turns (first_story code) front (mark ∷ []))) (mark_leaves before mark)
 
     executed_more : executed (front ++ mark ∷ []) ≡ executed front + if_snaps snaps
-    executed_more = let e = executed-append (opening code) front (mark ∷ []) in omega (arith, e)
+    executed_more = let e = executed-append (first_story code) front (mark ∷ []) in omega (arith, e)
 
     -- the mark has no effect on what is kept
     module _ (number : ℕ) (kept : Snapped) (few : number < MOST_CHECKPOINTS → if_snaps snaps ≡ 0) where
-      none_later : (p : Plain) (rest : List Mark) → state_after code turns p rest ≡ there → snaps_executed code turns p rest ≡ 0 → if_snaps snaps ≡ 0
-          → snaps_executed code turns p (rest ++ mark ∷ []) ≡ 0
-      none_later p rest comes none other =
-          let e = executed-append p rest (mark ∷ []) in
-          let f : if_snaps (executes_snap code turns (state_after code turns p rest) mark) ≡ 0 = subst (λ (z : Plain). if_snaps (executes_snap code turns z mark) ≡ 0) (sym comes) other in
+      none_later : (s : Story) (rest : List Mark) → story_after code turns s rest ≡ before → snaps_executed code turns s rest ≡ 0 → if_snaps snaps ≡ 0
+          → snaps_executed code turns s (rest ++ mark ∷ []) ≡ 0
+      none_later s rest comes none other =
+          let e = executed-append s rest (mark ∷ []) in
+          let f : if_snaps (executes_snap code turns (story_after code turns s rest).now mark) ≡ 0 = subst (λ (z : Story). if_snaps (executes_snap code turns z.now mark) ≡ 0) (sym comes) other in
           omega (arith, e, f, none)
 
       was_begun-more : WasBegun code turns front number kept → WasBegun code turns (front ++ mark ∷ []) number kept
       was_begun-more begun =
           let upto : List Mark = begun.before ++ Step begun.m ∷ [] in
-          let comes : state_after code turns (plain code turns upto) begun.rest ≡ there =
-          sym (state_after-append code turns (opening code) upto begun.rest) ∙ ap (plain code turns) (append_assoc begun.before (Step begun.m ∷ []) begun.rest ∙ sym begun.is) in
+          let comes : story_after code turns (story code turns upto) begun.rest ≡ before =
+          sym (story_after-append code turns (first_story code) upto begun.rest) ∙ ap (story code turns) (append_assoc begun.before (Step begun.m ∷ []) begun.rest ∙ sym begun.is) in
           record {
             before = begun.before;
             m = begun.m;
@@ -110,7 +117,7 @@ module _ (code : List (List Instr)) (turns : ℕ) where
             executes = begun.executes;
             counted = begun.counted;
             begins = begun.begins;
-            last = λ l. none_later (plain code turns upto) begun.rest comes (begun.last l) (few l);
+            last = λ l. none_later (story code turns upto) begun.rest comes (begun.last l) (few l);
           }
 
     kept_more : (next.heap.snaps < MOST_CHECKPOINTS → if_snaps snaps ≡ 0) → KeepsCheckpoint there.heap next.heap → IsLastCheckpoint code turns front
@@ -140,6 +147,7 @@ module _ (code : List (List Instr)) (turns : ℕ) where
   }
   begun_here front (Flip asked) counted leaves = let never = leaves.is in absurd (cc)
   begun_here front (Full m asked room live) counted leaves = let never = leaves.is in absurd (cc)
+  begun_here front Traced counted leaves = let never = leaves.is in absurd (cc)
 
   more : (front : List Mark) (mark : Mark) → Stands front → Stands (front ++ mark ∷ [])
   more front mark h = record {

@@ -10,20 +10,24 @@ use Rattle.plain_state.specs.declared.end.End.TheVariants.{HeapFull}
 use Rattle.plain_state.specs.declared.value.Identity.{Identity}
 use Rattle.plain_state.specs.declared.value.Value.{Value}
 use Rattle.plain_state.specs.declared.value.Value.TheVariants.{Number}
-use Rattle.plain_state.specs.State.{Mutator, Plain, Record, at_serial, made_by, none_snapped}
+use Rattle.plain_state.specs.State.{Heap, Mutator, Plain, Record, at_serial, made_by, none_snapped, record_of}
+use Rattle.plain_state.specs.Writing.{stored}
 use Rattle.plain_state.proofs.Lists.{slice_get-set_same}
 use Rattle.mutator_asm.specs.declared.instr.Instr.{Instr}
 use Rattle.plain_heap.specs.declared.action.Action.{Action}
 use Rattle.plain_heap.specs.declared.action.Action.TheVariants.{Loads, Exchanges}
 use Rattle.plain_heap.specs.declared.mark.Mark.{Mark}
-use Rattle.plain_heap.specs.declared.mark.Mark.TheVariants.{Step, Flip, Full}
+use Rattle.plain_heap.specs.declared.mark.Mark.TheVariants.{Step, Flip, Full, Traced}
 use Rattle.plain_heap.specs.Action.{◌>>=◌, action}
-use Rattle.plain_heap.specs.Call.{After, call, set_register, went_on}
-use Rattle.plain_heap.specs.Order.{is_asked, marked, opening, plain, state_after}
+use Rattle.plain_heap.specs.Call.{After, call, is_cell, set_register, went_on, words_in}
+use Rattle.plain_heap.specs.Emptied.{emptied}
+use Rattle.plain_heap.specs.Order.{Story, ended_for_want, first_story, is_asked, opening, plain, story_after, story_marked}
 use Rattle.plain_heap.specs.Records.{record_word, success, word_after}
 use Rattle.plain_heap.specs.Step.{asked_by, ended, fetch, mutator_in, settled, stepped, stepped_as, stepped_if}
 use Rattle.plain_heap.specs.Stores.{OrdersStoreWords, StepDoes, StepsCompareTheLastStore, StepsLoadTheLastStore, last_in_order, turn_does, word_after_mark}
-use Rattle.plain_heap.proofs.Calls.Records.{exchanges_find_the_word, loads_take_the_word, only_stores_change_words}
+use Rattle.plain_heap.proofs.Calls.Records.{cell_word, exchanges_find_the_word, loads_take_the_word, only_stores_change_words}
+use Rattle.plain_heap.proofs.Orders.Stories.{story_after-append}
+use Rattle.plain_heap.proofs.Reaching.Emptying.{emptied_heap_keeps}
 use Rattle.plain_heap.proofs.States.Opening.{opening-replicate}
 
 -- ---- stores
@@ -61,18 +65,28 @@ module _ (code : List (List Instr)) (turns : ℕ) (s : Plain) (i : Identity) (x 
   by_full m asked room live true (Some k) = refl
   by_full m asked room live false o = refl
 
-  mark_word : (mark : Mark) → record_word (marked code turns s mark).heap i x ≡ word_after_mark code turns s mark i x word
-  unfolding marked stepped
-  mark_word (Step m) = by_mutator m (mutator_in code s m)
-  mark_word (Flip asked) = refl
-  mark_word (Full m asked room live) = by_full m asked room live (is_asked asked (asked_by code turns s m)) (slice_get s.mutators m)
+-- what is emptied is no word that is loaded and stored
+emptied_word : (i : Identity) (x : ℕ) (o p : Plain) → record_word (emptied o p).heap i x ≡ record_word p.heap i x
+emptied_word i x o p = emptied_heap_keeps (λ h. record_word h i x ≡ record_word p.heap i x) stays o p refl
+  where
+    stays : (heap : Heap) (j : Identity) (r : Record) → record_of heap j ≡ Some r → is_cell r.kind ≡ true → record_word heap i x ≡ record_word p.heap i x
+        → record_word (stored heap j r 0 (Number 0)) i x ≡ record_word p.heap i x
+    stays heap j r found cell same = cell_word heap j r 0 (Number 0) found i cell x ∙ same
 
-marks_store_words : (code : List (List Instr)) (turns : ℕ) (s : Plain) (order : List Mark) (i : Identity) (x : ℕ)
-    → record_word (state_after code turns s order).heap i x ≡ last_in_order code turns s order i x (record_word s.heap i x)
+mark_word : (code : List (List Instr)) (turns : ℕ) (s : Story) (i : Identity) (x : ℕ) (mark : Mark)
+    → record_word (story_marked code turns s mark).now.heap i x ≡ word_after_mark code turns s.now mark i x (record_word s.now.heap i x)
+unfolding ended_for_want stepped
+mark_word code turns s i x (Step m) = by_mutator code turns s.now i x m (mutator_in code s.now m)
+mark_word code turns s i x (Flip asked) = refl
+mark_word code turns s i x (Full m asked room live) = by_full code turns s.now i x m asked room live (is_asked asked (asked_by code turns s.now m)) (slice_get s.now.mutators m)
+mark_word code turns s i x Traced = emptied_word i x s.flip s.now
+
+marks_store_words : (code : List (List Instr)) (turns : ℕ) (s : Story) (order : List Mark) (i : Identity) (x : ℕ)
+    → record_word (story_after code turns s order).now.heap i x ≡ last_in_order code turns s order i x (record_word s.now.heap i x)
 marks_store_words code turns s [] i x = refl
 marks_store_words code turns s (mark ∷ marks) i x =
-    marks_store_words code turns (marked code turns s mark) marks i x
-    ∙ ap (λ (first : Value). last_in_order code turns (marked code turns s mark) marks i x first) (mark_word code turns s i x mark)
+    marks_store_words code turns (story_marked code turns s mark) marks i x
+    ∙ ap (λ (first : Value). last_in_order code turns (story_marked code turns s mark) marks i x first) (mark_word code turns s i x mark)
 
 -- a heap without a record
 pub no_words : (mutators : ℕ) (board : List Value) (i : Identity) (x : ℕ) → record_word (record { records = replicate mutators []; board = board; snaps = 0; snapped = none_snapped }) i x ≡ Number 0
@@ -86,7 +100,7 @@ no_words mutators board i x = rw none (by_serial i.serial)
         (λ (l : mutators ≤ i.mutator). get_or_past (replicate mutators no_records) i.mutator no_records (rw (length-replicate mutators no_records) l))
         (cases_lt i.mutator mutators)
 
-    by_serial : (serial : ℕ) → slice_index_or (option_map_or (λ (r : Record). r.values) (at_serial [] serial) []) x (Number 0) ≡ Number 0
+    by_serial : (serial : ℕ) → slice_index_or (option_map_or words_in (at_serial [] serial) []) x (Number 0) ≡ Number 0
     by_serial zero = refl
     by_serial (suc n) = refl
 
@@ -95,7 +109,7 @@ opening_word code i x = ap (λ (s : Plain). record_word s.heap i x) (opening-rep
 
 pub orders_store_words : OrdersStoreWords
 orders_store_words code turns order i x =
-    marks_store_words code turns (opening code) order i x ∙ ap (λ (first : Value). last_in_order code turns (opening code) order i x first) (opening_word code i x)
+    marks_store_words code turns (first_story code) order i x ∙ ap (λ (first : Value). last_in_order code turns (first_story code) order i x first) (opening_word code i x)
 
 -- ---- loads and exchanges
 
@@ -137,23 +151,19 @@ module _ (code : List (List Instr)) (turns : ℕ) (s : Plain) (m : ℕ) (k : Mut
   does_turn None does = does_fetched (fetch code turns m k) does
   does_turn (Some why) does = absurd (cc)
 
-  executed : Executed m s k act (marked code turns s (Step m))
-  unfolding marked stepped
+  executed : Executed m s k act (stepped code turns s m)
+  unfolding stepped
   executed = rw step.mutator (does_turn k.end step.does)
-
-pub state_after-append : (code : List (List Instr)) (turns : ℕ) (s : Plain) (front rest : List Mark) → state_after code turns s (front ++ rest) ≡ state_after code turns (state_after code turns s front) rest
-state_after-append code turns s [] rest = refl
-state_after-append code turns s (mark ∷ front) rest = state_after-append code turns (marked code turns s mark) front rest
 
 module _ (code : List (List Instr)) (turns : ℕ) (front : List Mark) (m : ℕ) (k : Mutator) (act : Action) (step : StepDoes code turns (plain code turns front) m k act) where
   abbrev there : Plain
   there = plain code turns front
 
-  abbrev does : Executed m there k act (marked code turns there (Step m))
+  abbrev does : Executed m there k act (stepped code turns there m)
   does = executed code turns there m k act step
 
   goes_on : slice_get (plain code turns (front ++ Step m ∷ [])).mutators m ≡ Some does.after.mutator
-  goes_on = ap (λ (s : Plain). slice_get s.mutators m) (state_after-append code turns (opening code) front (Step m ∷ [])) ∙ does.mutator
+  goes_on = ap (λ (s : Story). slice_get s.now.mutators m) (story_after-append code turns (first_story code) front (Step m ∷ [])) ∙ does.mutator
 
 pub steps_load_the_last_store : StepsLoadTheLastStore
 steps_load_the_last_store code turns front m k d i x step =

@@ -1,5 +1,5 @@
 -- Each state that a program comes to is consistent.
-use Rattle.std.proofs.Common.{◌≡◌, ℕ, ◌<◌, Bool, true, false, nat_lt, nat_le, List, [], ◌∷◌, length, replicate, Option, Some, None, Result, Ok, Err, slice_get, refl, sym, ◌∙◌, arith, length-set}
+use Rattle.std.proofs.Common.{◌≡◌, ℕ, ◌<◌, Bool, true, false, nat_lt, nat_le, List, [], ◌∷◌, length, replicate, Option, Some, None, Result, Ok, Err, slice_get, refl, ap, sym, ◌∙◌, arith, length-set}
 use Rattle.std.specs.Bool.{IsTrue}
 use Rattle.std.specs.List.{All, list_all}
 use Rattle.std.specs.Option.{ok_or, option_map_or, IfSome}
@@ -11,18 +11,24 @@ use Rattle.plain_state.specs.declared.end.End.{End}
 use Rattle.plain_state.specs.declared.end.End.TheVariants.{HeapFull, JumpOut}
 use Rattle.plain_state.specs.declared.sizes.TheConstants.{NUMBERS, REGISTERS, BOARD_WORDS}
 use Rattle.plain_state.specs.declared.value.Value.TheVariants.{Number}
-use Rattle.plain_state.specs.Consistent.{IsRecord, IsMutator, IsConsistent}
-use Rattle.plain_state.specs.State.{Heap, Mutator, Plain, IsValue, none_snapped}
+use Rattle.plain_state.specs.declared.value.Identity.{Identity}
+use Rattle.plain_state.specs.Cells.{is_cell}
+use Rattle.plain_state.specs.Consistent.{IsHeap, IsRecord, IsMutator, IsConsistent}
+use Rattle.plain_state.specs.State.{Heap, Mutator, Plain, Record, IsValue, none_snapped, record_of}
+use Rattle.plain_state.specs.Writing.{stored}
+use Rattle.plain_state.proofs.Stored.{stored_made, stored_makers}
 use Rattle.mutator_asm.specs.declared.instr.Instr.{Instr}
 use Rattle.mutator_asm.specs.Program.{instr_at, is_valid}
 use Rattle.mutator_asm.proofs.Programs.Instructions.{valid_at}
 use Rattle.plain_heap.specs.Call.{After, call}
 use Rattle.plain_heap.specs.Step.{fetch, executes, ended, settled, stepped_if, stepped_as, stepped, asked_by}
 use Rattle.plain_heap.specs.declared.mark.Mark.{Mark}
-use Rattle.plain_heap.specs.declared.mark.Mark.TheVariants.{Step, Flip, Full}
-use Rattle.plain_heap.specs.Order.{fresh, opening, is_asked, marked, state_after, plain}
-use Rattle.plain_heap.proofs.Calls.Consistency.{AfterIsConsistent, mutator-grows, call-kept}
+use Rattle.plain_heap.specs.declared.mark.Mark.TheVariants.{Step, Flip, Full, Traced}
+use Rattle.plain_heap.specs.Order.{Story, ended_for_want, first_story, fresh, is_asked, opening, plain, story_after, story_marked}
+use Rattle.plain_heap.specs.Emptied.{emptied}
+use Rattle.plain_heap.proofs.Calls.Consistency.{AfterIsConsistent, HeapGrows, mutator-grows, call-kept, stored-kept}
 use Rattle.plain_heap.proofs.Calls.Outcomes.{if_ok-then}
+use Rattle.plain_heap.proofs.Reaching.Emptying.{emptied_heap_keeps, emptied_of_lost_cells}
 use Rattle.plain_heap.proofs.States.Opening.{opening-replicate}
 use Rattle.plain_heap.proofs.Alone.Owned.{found_all}
 
@@ -106,25 +112,48 @@ module _ (code : List (List Instr)) (turns : ℕ) (valid : list_all (list_all is
     full-consistent m asked room live None found = is
     full-consistent m asked room live (Some k) found = ended-consistent m k (HeapFull asked room live) (found-mutator m k found)
 
-    full_if-consistent : (m asked room live : ℕ) (asks : Bool) → is_asked asked (asked_by code turns s m) ≡ asks → IsConsistent (marked code turns s (Full m asked room live))
-    unfolding marked
+    full_if-consistent : (m asked room live : ℕ) (asks : Bool) → is_asked asked (asked_by code turns s m) ≡ asks → IsConsistent (ended_for_want code turns s m asked room live)
+    unfolding ended_for_want
     full_if-consistent m asked room live true asks = rw asks (full-consistent m asked room live (slice_get s.mutators m) refl)
     full_if-consistent m asked room live false asks = rw asks is
 
-    pub marked-consistent : (mark : Mark) → IsConsistent (marked code turns s mark)
-    unfolding marked
-    marked-consistent (Step m) = stepped-consistent m (nat_lt m (length code)) refl
-    marked-consistent (Flip asked) = is
-    marked-consistent (Full m asked room live) = full_if-consistent m asked room live (is_asked asked (asked_by code turns s m)) refl
+    -- what was allocated is still there, and each record with it
+    record EmptiedIs (heap : Heap) : Type 0 where
+      is_heap : IsHeap heap
+      grows : HeapGrows s.heap heap
+      as_many : length heap.records ≡ length s.heap.records
 
-  state_after-consistent : (s : Plain) (order : List Mark) → IsConsistent s → IsConsistent (state_after code turns s order)
-  state_after-consistent s [] is = is
-  state_after-consistent s (mark ∷ marks) is = state_after-consistent (marked code turns s mark) marks (marked-consistent s is mark)
+    emptied-consistent : (o : Plain) → IsConsistent (emptied o s)
+    emptied-consistent o =
+        let mutators = (emptied_of_lost_cells o s).mutators in
+        let kept = emptied_heap_keeps EmptiedIs more o s (record { is_heap = is.heap; grows = λ i made. made; as_many = refl }) in
+        record {
+          heap = kept.is_heap;
+          mutators = rw mutators (All-weaker (IsMutator s.heap) (IsMutator (emptied o s).heap) (mutator-grows s.heap (emptied o s).heap kept.grows) s.mutators is.mutators);
+          as_many = kept.as_many ∙ is.as_many ∙ sym (ap length mutators);
+        }
+      where
+        more : (heap : Heap) (i : Identity) (r : Record) → record_of heap i ≡ Some r → is_cell r.kind ≡ true → EmptiedIs heap → EmptiedIs (stored heap i r 0 (Number 0))
+        more heap i r found cell kept = record {
+          is_heap = stored-kept heap kept.is_heap i r 0 (Number 0) found (omega arith) (λ raw. omega arith);
+          grows = λ j made. stored_made heap i r 0 (Number 0) found j (kept.grows j made);
+          as_many = stored_makers heap i r 0 (Number 0) found ∙ kept.as_many;
+        }
+
+  pub marked-consistent : (s : Story) → IsConsistent s.now → (mark : Mark) → IsConsistent (story_marked code turns s mark).now
+  marked-consistent s is (Step m) = stepped-consistent s.now is m (nat_lt m (length code)) refl
+  marked-consistent s is (Flip asked) = is
+  marked-consistent s is (Full m asked room live) = full_if-consistent s.now is m asked room live (is_asked asked (asked_by code turns s.now m)) refl
+  marked-consistent s is Traced = emptied-consistent s.now is s.flip
+
+  story_after-consistent : (s : Story) (order : List Mark) → IsConsistent s.now → IsConsistent (story_after code turns s order).now
+  story_after-consistent s [] is = is
+  story_after-consistent s (mark ∷ marks) is = story_after-consistent (story_marked code turns s mark) marks (marked-consistent s is mark)
 
 -- ---- a run
 
-pub marks-keep : (code : List (List Instr)) (turns : ℕ) (s : Plain) (mark : Mark) → list_all (list_all is_valid) code ≡ true → IsConsistent s → IsConsistent (marked code turns s mark)
+pub marks-keep : (code : List (List Instr)) (turns : ℕ) (s : Story) (mark : Mark) → list_all (list_all is_valid) code ≡ true → IsConsistent s.now → IsConsistent (story_marked code turns s mark).now
 marks-keep code turns s mark valid is = marked-consistent code turns valid s is mark
 
 pub plain-consistent : (code : List (List Instr)) (turns : ℕ) (order : List Mark) → list_all (list_all is_valid) code ≡ true → IsConsistent (plain code turns order)
-plain-consistent code turns order valid = state_after-consistent code turns valid (opening code) order (opening-consistent code)
+plain-consistent code turns order valid = story_after-consistent code turns valid (first_story code) order (opening-consistent code)

@@ -1,9 +1,11 @@
 //! The records that a mutator has allocated.
 
+ghost use Rattle.plain_heap.specs.Search.{is_lost};
 ghost use Rattle.std.specs.Prelude.{◌≡◌, ◌<◌, ◌+◌, ◌-◌, ◌^◌, [], ◌∷◌, ◌++◌, length, IfOk, IfSome, OnOk, OnErr, option_copied, slice_set};
 
+use crate::heap::marks::Marks;
 use crate::heap::record::PlainRecord;
-use plain_state::{NoMemory, Value};
+use plain_state::{Identity, NoMemory, Value};
 use std::alloc::Global;
 use std::marker::Model;
 
@@ -23,8 +25,11 @@ impl Model for RecordList {
 }
 
 impl RecordList {
+    ghost use Rattle.std.specs.List.{list_any};
+    ghost use Rattle.plain_state.specs.Cells.{is_cell};
     ghost use Rattle.plain_state.specs.State.{at_serial};
     ghost use Rattle.plain_state.specs.Writing.{with_value};
+    ghost use Rattle.plain_heap.specs.Search.{lost_among};
 
     pub fn new(alloc: Global) -> RecordList
         ensures { result ≡ [] }
@@ -52,12 +57,41 @@ impl RecordList {
         self.records.len()
     }
 
+    /// The records in the order of their serials.
+    pub fn as_slice(&self) -> &[PlainRecord]
+        ensures { result.now ≡ self.now }
+    {
+        self.records.as_slice()
+    }
+
     /// The record with a serial. Serials count from 1.
     pub fn get(&self, serial: u64) -> Option<&PlainRecord>
         ensures { option_copied result ≡ at_serial self.now serial }
     {
         let place = serial.checked_sub(1)?;
         self.records.get(place as usize)
+    }
+
+    /// Whether one is a cell.
+    pub fn has_cells(&self) -> bool
+        ensures { result ≡ list_any (λ r. is_cell r.kind) self.now }
+    {
+        self.records.iter().any(|record| record.is_cell())
+    }
+
+    /// Adds the cells that refer to a record whose mark isn't set; these are the records of mutator m.
+    pub fn push_lost(&self, m: u8, marks: &Marks, cells: &mut Vec<Identity>) -> Result<(), NoMemory>
+        ensures { OnOk result (cells.new.items ≡ cells.old.items ++ lost_among marks.now m self.now) }
+    {
+        for (place, record) in self.as_slice().iter().enumerate() {
+            if is_lost(record, marks) {
+                cells.push(Identity {
+                    mutator: m,
+                    serial: place as u64 + 1,
+                })?;
+            }
+        }
+        Ok(())
     }
 
     /// Adds a record. Where memory is out, nothing changes.
@@ -80,5 +114,15 @@ impl RecordList {
         if let Some(record) = self.records.get_mut(place as usize) {
             record.set_word(x, value);
         }
+    }
+}
+
+/// Whether the record is a cell that refers to a record whose mark isn't set.
+fn is_lost(content: &PlainRecord, marks: &Marks) -> bool
+    ensures { result ≡ is_lost marks.now content.now }
+{
+    match content.target() {
+        Some(Value::Reference(target)) => marks.get(target) == Some(false),
+        _ => false,
     }
 }

@@ -1,13 +1,13 @@
 //! Numbers that have to be lengths, or places in a list.
 
 ghost use Rattle.std.specs.Prelude.{◌≡◌};
-ghost use Rattle.mutator_asm.specs.declared.instr.Instr.TheVariants.{Cas, Get, Ld, Len, Put, St, Swap};
+ghost use Rattle.mutator_asm.specs.declared.instr.Instr.TheVariants.{Cas, Get, Ld, Len, Put, St, Swap, Weak};
 ghost use Rattle.plain_heap.specs.Action.{action, length_of, mixed_length, allocates, mixes, in_record, board_place};
 
 use crate::action::Action;
 use crate::mutator::PlainMutator;
 use mutator_asm::Operand;
-use plain_state::{BOARD_WORDS, End, Kind, LONGEST_RECORD};
+use plain_state::{BOARD_WORDS, End, Kind, LONGEST_RECORD, Value};
 
 /// The number as the length of a record, else the end for one that is too long.
 fn length_of(number: u64) -> Result<u16, End>
@@ -56,7 +56,7 @@ pub fn allocate(mutator: &PlainMutator, kind: Kind, d: u8, x: Operand) -> Result
 {
     let number = mutator.operand(x)?;
     let len = length_of(number)?;
-    Ok(Action::Makes(kind, d, len))
+    Ok(Action::Makes(kind, d, len, Value::Number(0)))
 }
 
 /// `mix rd xf xr`
@@ -71,7 +71,17 @@ pub fn allocate_mixed(
     let fields = mutator.operand(fields)?;
     let raw = mutator.operand(raw)?;
     let len = mixed_length(fields, raw)?;
-    Ok(Action::Makes(Kind::Mixed(fields as u16), d, len))
+    let kind = Kind::Mixed(fields as u16);
+    Ok(Action::Makes(kind, d, len, Value::Number(0)))
+}
+
+/// `weak rd ra`
+#[tactic(auto, unfolding(crate::specs::Action::action))]
+pub fn make_cell(mutator: &PlainMutator, d: u8, a: u8) -> Result<Action, End>
+    ensures { result ≡ action mutator.now (Weak d a) }
+{
+    let identity = mutator.reference(a)?;
+    Ok(Action::Makes(Kind::Weak, d, 1, Value::Reference(identity)))
 }
 
 /// `ld rd ra x`

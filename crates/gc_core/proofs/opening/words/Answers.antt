@@ -6,5 +6,5 @@ use Rattle.gc_core.proofs.opening.words.Goals as goal
 
 pub returns : goal.returns
 returns c =
-    let stored : c.act-6.new.self ≡ written_in c.args.spaces.pages (replicate (whole_length c.args.spaces) 0) (opening_entries c.args.spaces.pages c.args.pages) = search rules in
+    let stored : c.act-7.new.self ≡ written_in c.args.spaces.pages (replicate (whole_length c.args.spaces) 0) (opening_entries c.args.spaces.pages c.args.pages) = search rules in
     stored ∙ sym (opening_words_are c.args.spaces c.args.pages)

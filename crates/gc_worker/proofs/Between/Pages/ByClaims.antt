@@ -12,7 +12,7 @@ use Rattle.heap_laws.proofs.Steps.Answers.{areas_are_read}
 use Rattle.gc_worker.specs.Workers.Held.{Held}
 use Rattle.gc_worker.specs.Laws.Claims.{IsBelowLow, IsForCopies, IsOfEpoch, ComesByClaim, PagesAreOpenedByClaims, LowRisesAtFlips}
 use Rattle.gc_worker.specs.Laws.Step.{Heap, read, held_at, WorkersStand, moved, epoch_of, FlipsWhereTold, StepKeeps}
-use Rattle.gc_worker.specs.Steps.Turned.{PageWon, Told, Silent, Answers, Marks, told, won}
+use Rattle.gc_worker.specs.Steps.Turned.{PageWon, Told, Silent, Empties, Answers, Marks, told, won}
 use Rattle.gc_worker.specs.Steps.Wanted.{wanted}
 use Rattle.gc_worker.proofs.Words.Areas.{area_says, is_space}
 use Rattle.gc_worker.proofs.Words.Eras.{board_is, start_is}
@@ -28,6 +28,7 @@ use Rattle.gc_worker.proofs.Between.Pages.Leaving.{ByClaim, Same, New, Wins, Lea
 -- a step keeps the epoch, or raises it by one
 epoch_goes : (n : ℕ) (words later : List ℕ) (x : Held) (t : Told) → FlipsWhereTold n words later x t → (epoch_of n later ≡ epoch_of n words) ⊎ (epoch_of n later ≡ epoch_of n words + 1)
 epoch_goes n words later x Silent is = inl is
+epoch_goes n words later x Empties is = inl is
 epoch_goes n words later x (Answers task outcome) is = inl is
 epoch_goes n words later x (Marks asked) is = inr (let a = is.epoch in let b = is.next in omega (arith, a, b))
 

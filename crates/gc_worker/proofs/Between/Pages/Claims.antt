@@ -32,6 +32,7 @@ use Rattle.heap_state.specs.Invariant.Parts.Pages.{Quiet}
 use Rattle.heap_state.specs.Worker.{Worker}
 use Rattle.heap_laws.specs.Answers.{AreaAnswers}
 use Rattle.heap_laws.proofs.Steps.Answers.{areas_are_read}
+use Rattle.fault_duty.specs.Duty as duty
 use Rattle.gc_worker.specs.declared.access.accessed.Accessed.{Accessed}
 use Rattle.gc_worker.specs.declared.access.accessed.Accessed.TheVariants.{Faults, Brings, Stored, Fails}
 use Rattle.gc_worker.specs.declared.stage.Stage.{Stage}
@@ -46,13 +47,14 @@ use Rattle.gc_worker.specs.Workers.Held.{Held, may_snap}
 use Rattle.gc_worker.specs.Workers.Knows.{traced_seen_in}
 use Rattle.gc_worker.specs.Laws.Step.{Heap, read, WorkersStand}
 use Rattle.gc_worker.specs.Plain.Seen.{seen}
-use Rattle.gc_worker.specs.Steps.Turned.{Told, Silent, Answers, Marks, told_at, told_look, told_gate, told_start, told_acted, told_action, told_access, told_place, told_snap, told_full, told_effect, told_end, is_full, end_by_shortage}
+use Rattle.gc_worker.specs.Steps.Turned.{Told, Silent, Empties, Answers, Marks, told_at, told_look, told_gate, told_start, told_acted, told_action, told_access, told_place, told_snap, told_full, told_effect, told_end, is_full, end_by_shortage}
 use Rattle.gc_worker.specs.Steps.Turned as turning
 use Rattle.gc_worker.proofs.Words.Areas.{area_now, area_says, is_space}
 use Rattle.gc_worker.proofs.Words.Eras.{board_is, start_is}
 use Rattle.gc_worker.proofs.Stages.Gate.Words.{gate_says}
 use Rattle.gc_worker.proofs.Workers.Members.{member}
 use Rattle.gc_worker.proofs.Stages.Rounds.Words.{page_now, page_says, traced_word}
+use Rattle.gc_worker.proofs.Plain.Quiet.{IsQuiet, rounds_are_quiet}
 
 -- ---- the pages
 
@@ -143,6 +145,7 @@ copied_pages_are_below_low h p o page st copied = copied_below h p o st page cop
 
 abbrev pub NoMark : Told → Type 0
 NoMark Silent = ⊤
+NoMark Empties = ⊤
 NoMark (Answers task outcome) = ⊤
 NoMark (Marks asked) = ⊥
 
@@ -206,6 +209,12 @@ snaps_unmarked o (Finished (snapped.Begun seen)) = effects_unmarked o
 snaps_unmarked o (Finished (snapped.NotYet word)) = tt
 snaps_unmarked o More = tt
 
+quiet_unmarked : (t : Told) → IsQuiet t → NoMark t
+quiet_unmarked Silent quiet = tt
+quiet_unmarked Empties quiet = tt
+quiet_unmarked (Answers task outcome) quiet = tt
+quiet_unmarked (Marks asked) quiet = quiet
+
 -- who flips is at a flip
 pub flips_at : (x : Held) (reply : Reply) (asked : ℕ) (stage : Stage) → told_at x stage reply ≡ Marks asked → (f : Flipping) × (stage ≡ Flips f)
 flips_at x reply asked (Flips f) e = (f, refl)
@@ -214,7 +223,7 @@ flips_at x reply asked (Accesses a) e = absurd (subst NoMark e (accesses_unmarke
 flips_at x reply asked (Places p) e = absurd (subst NoMark e (places_unmarked x (place.told (place.taken p reply))))
 flips_at x reply asked (Passes g after) e = absurd (subst NoMark e tt)
 flips_at x reply asked (Forwards w) e = absurd (subst NoMark e tt)
-flips_at x reply asked (Serves d back) e = absurd (subst NoMark e tt)
+flips_at x reply asked (Serves d back) e = absurd (subst NoMark e (quiet_unmarked _ (rounds_are_quiet (duty.told (duty.taken d reply)))))
 flips_at x reply asked (Scans s back) e = absurd (subst NoMark e tt)
 flips_at x reply asked (Evacuates v s back) e = absurd (subst NoMark e tt)
 flips_at x reply asked (Opens o s back) e = absurd (subst NoMark e tt)

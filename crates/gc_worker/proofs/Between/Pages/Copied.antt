@@ -1,13 +1,13 @@
 -- What a traced epoch has copied is what was live at its flip.
 use Rattle.std.proofs.Common.{◌≡◌, ℕ, ◌+◌, Option, sym, ap, subst, ◌∙◌, arith}
 use Rattle.std.proofs.lemmas.Option.{same_Some}
+use Rattle.plain_state.specs.Reachable.{IsLive}
 use Rattle.plain_state.specs.State.{Plain}
 use Rattle.space_map.specs.declared.area_word.AreaWord.{AreaWord}
 use Rattle.space_map.specs.declared.gate_word.GateWord.{GateWord}
 use Rattle.space_map.specs.Spaces.{to_space}
 use Rattle.heap_state.specs.Configuration.{Configuration, table, era}
 use Rattle.heap_state.specs.Cycles.Copies.{CopiedIsLive, words_copied}
-use Rattle.heap_state.specs.Meaning.Reachable.{IsLive}
 use Rattle.heap_laws.proofs.Steps.Answers.{areas_are_read}
 use Rattle.heap_laws.proofs.Tracing.Live.{traced_is_live}
 use Rattle.gc_worker.specs.Laws.Copied.{CopiedWasLive, FullTellsLive}

@@ -92,13 +92,13 @@ module _ (x : Held) (room : x.layout.checkpoints ≡ true) where
 forgetful : (y : Held) (v : Evacuation) (o : Host) (stage : EvacStage) → y.layout.checkpoints ≡ true → IsForgetful (at y o v stage)
 forgetful y v (ForScan s back) stage room = record {
   less = λ reply. let w : Evacuation = evac_taken.taken (machine_at y (ForScan s back) v stage) reply in copy_less (at y (ForScan s back) v stage) room back w s (evac_taken.told w.stage);
-  silent = λ reply. refl;
+  quiet = λ reply. tt;
 }
 forgetful y v (ForRegister r after) stage room = record {
   less = λ reply.
       let w : Evacuation = evac_taken.taken (machine_at y (ForRegister r after) v stage) reply in
       register_less (at y (ForRegister r after) v stage) room (record { register = r; evac = machine_at y (ForRegister r after) v stage; after = after }) (record { register = r; evac = w; after = after }) (evac_taken.told w.stage);
-  silent = λ reply. refl;
+  quiet = λ reply. tt;
 }
 
 -- the area past a copy fits its word

@@ -39,7 +39,7 @@ module _ (c : Configuration) (p : Plain) (z : Frozen) (saver : ℕ → Saver) (k
     forgets : IsForgetful x
     forgets = record {
       less = λ reply. let q : Opening = open_page.taken (record o { stage = stage }) reply in opening_less x b.room back q s (open_page.told q);
-      silent = λ reply. refl;
+      quiet = λ reply. tt;
     }
 
     pages : o.layout.pages ≡ c.pages

@@ -31,6 +31,7 @@ use Rattle.gc_worker.proofs.Saving.Frame.Rounding.{round_less}
 use Rattle.gc_worker.proofs.Saving.Frame.Step.{Before, prepared, saves}
 use Rattle.gc_worker.proofs.Stages.Rounds.Winning as winning
 use Rattle.gc_worker.proofs.Stages.Rounds.Words.{page_now, traced_now, traced_word}
+use Rattle.gc_worker.proofs.Plain.Quiet.{rounds_are_quiet}
 
 module _ (c : Configuration) (p : Plain) (z : Frozen) (saver : ℕ → Saver) (k : ℕ) (y : Held) (d : Round) (back : Back) where
   abbrev here : DutyStage → Held
@@ -46,7 +47,7 @@ module _ (c : Configuration) (p : Plain) (z : Frozen) (saver : ℕ → Saver) (k
     forgets : IsForgetful x
     forgets = record {
       less = λ reply. let r : Round = duty.taken (record d { stage = stage }) reply in round_less x b.room back r (duty.told r);
-      silent = λ reply. refl;
+      quiet = λ reply. rounds_are_quiet (duty.told (duty.taken (record d { stage = stage }) reply));
     }
 
     pages : d.layout.pages ≡ c.pages

@@ -52,7 +52,7 @@ module _ (c : Configuration) (p : Plain) (z : Frozen) (saver : ℕ → Saver) (k
     forgets : IsForgetful x
     forgets = record {
       less = λ reply. let s : Scanning = scan_taken.taken (record u { stage = stage }) reply in scan_less x b.room back s (scan_taken.told s.stage);
-      silent = λ reply. refl;
+      quiet = λ reply. tt;
     }
 
     loads : (at : ℕ) → wanted x ≡ Some (Load at) → Owes

@@ -12,18 +12,20 @@ use Rattle.heap_state.specs.Saving.Savers.{Saver}
 use Rattle.heap_state.proofs.Table.Stores.{entry_has_row}
 use Rattle.heap_laws.specs.Saving.Rounds.{KnowsNoMore}
 use Rattle.heap_laws.specs.Saving.Rows.{Spares}
-use Rattle.gc_worker.specs.Steps.Turned.{Silent, turned, told}
+use Rattle.gc_worker.specs.Steps.Turned.{turned, told}
 use Rattle.gc_worker.specs.Steps.Wanted.{wanted}
 use Rattle.gc_worker.specs.Workers.Held.{Held}
 use Rattle.gc_worker.specs.Workers.Saves.{saver_of}
 use Rattle.gc_worker.proofs.Saving.Frame.Rows.{exchanges_so, forgets_by, loads_so, stores_by, stores_so}
-use Rattle.gc_worker.proofs.Saving.Mutators.Saves.{asked_so, silently}
+use Rattle.gc_worker.proofs.Plain.Quiet.{IsQuiet}
+use Rattle.gc_worker.proofs.Saving.Frame.Answers.{quiet_keeps}
+use Rattle.gc_worker.proofs.Saving.Mutators.Saves.{asked_so}
 use Rattle.gc_worker.proofs.Saving.Frame.Step.{Before, KeepsSnaps, SavesStep, saves}
 
 -- it is such a worker
 pub record IsForgetful (x : Held) : Type 0 where
   pub less : (reply : Reply) → KnowsNoMore (saver_of (turned x reply)) (saver_of x)
-  pub silent : (reply : Reply) → told x reply ≡ Silent
+  pub quiet : (reply : Reply) → IsQuiet (told x reply)
 
 -- what each step that a worker wants keeps
 abbrev pub SavesSo : (c : Configuration) (p : Plain) (saver : ℕ → Saver) (k : ℕ) → Held → Type 0
@@ -31,7 +33,7 @@ SavesSo c p saver k x = (q : Step) → wanted x ≡ Some q → SavesStep c p sav
 
 module _ (c : Configuration) (p : Plain) (z : Frozen) (saver : ℕ → Saver) (k : ℕ) (x : Held) (b : Before c p z saver k x) (f : IsForgetful x) where
   keeps : (reply : Reply) → KeepsSnaps p k (told x reply)
-  keeps reply = silently c p z saver k x b reply (f.silent reply)
+  keeps reply = quiet_keeps p k (told x reply) (f.quiet reply)
 
   abbrev Saves : Type 0
   Saves = SavesSo c p saver k x

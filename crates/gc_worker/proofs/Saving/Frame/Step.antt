@@ -15,7 +15,7 @@ use Rattle.heap_state.specs.Saving.Words.{Saves, AreFormedSaves, saves_of}
 use Rattle.heap_state.proofs.Puts.{true_false, none≢some}
 use Rattle.heap_laws.specs.Lifting.{words_after_row, table_after, RowFits}
 use Rattle.heap_laws.specs.Saving.Rounds.{KnowsNoMore}
-use Rattle.heap_laws.specs.Saving.Rows.{Spares, SparesNone, SparesCross, SparesAnnounce, SparesArea, SparesSize, SparesWord, SparesPage, SparesTraced, SparesGate}
+use Rattle.heap_laws.specs.Saving.Rows.{Spares, SparesNone, SparesCross, SparesAnnounce, SparesArea, SparesWeak, SparesWeakTurn, SparesSize, SparesWord, SparesPage, SparesTraced, SparesGate}
 use Rattle.heap_laws.specs.Saving.Snapping.{FollowPosts}
 use Rattle.heap_laws.specs.Saving.Stores.{saves_after}
 use Rattle.heap_laws.specs.Steps.{Ready}
@@ -73,6 +73,8 @@ spares_leave t s z count saver _ SparesNone = refl
 spares_leave t s z count saver _ (SparesCross page place) = refl
 spares_leave t s z count saver _ (SparesAnnounce worker place) = refl
 spares_leave t s z count saver _ (SparesArea space area) = refl
+spares_leave t s z count saver _ (SparesWeak word) = refl
+spares_leave t s z count saver _ (SparesWeakTurn word) = refl
 spares_leave t s z count saver _ (SparesSize space pages) = refl
 spares_leave t s z count saver _ (SparesWord addr word saved) = refl
 spares_leave t s z count saver _ (SparesPage page word loose opens) = refl

@@ -57,7 +57,7 @@ module _ (x : Held) (room : x.layout.checkpoints ≡ true) where
   acts_on (Links d target) = looks_run (acts x (Links d target)) room
   acts_on (Prints n) = looks_run (acts x (Prints n)) room
   acts_on Snaps = snaps_by (may_snap x)
-  acts_on (Makes kind d n) = places_run x room (header_for x)
+  acts_on (Makes kind d n v) = places_run x room (header_for x)
   acts_on (Measures d i) = rw (room, guarded_none x.running) refl
   acts_on (Loads d i n) = rw (room, guarded_none x.running) refl
   acts_on (Stores i n v) = rw (room, guarded_none x.running) refl

@@ -188,7 +188,7 @@ module _ (c : Configuration) (p : Plain) (s : Stands c p) (k : ℕ) (y : Held) w
   by_action m (Links d target) executes e is = absurd (cc)
   by_action m (Prints n) executes e is = absurd (cc)
   by_action m Snaps executes e is = absurd (cc)
-  by_action m (Makes kind d n) executes e is = absurd (cc)
+  by_action m (Makes kind d n v) executes e is = absurd (cc)
   by_action m (Gets d x) executes e is = absurd (cc)
   by_action m (Puts x v) executes e is = absurd (cc)
   by_action m (Swaps d x v) executes e is = absurd (cc)

@@ -155,7 +155,7 @@ module _ (c : Configuration) (p : Plain) (s : Stands c p) (k : ℕ) (y : Held) w
     of_action P e (Links d target) executes of so = absurd of
     of_action P e (Prints n) executes of so = absurd of
     of_action P e Snaps executes of so = absurd of
-    of_action P e (Makes kind d n) executes of so = absurd of
+    of_action P e (Makes kind d n v) executes of so = absurd of
     of_action P e (Measures d j) executes of so = absurd of
     of_action P e (Gets d x) executes of so = absurd of
     of_action P e (Puts x v) executes of so = absurd of

@@ -1,5 +1,5 @@
 -- The load and the store of a value of a record, whose page was found open: the instruction's effect.
-use Rattle.std.proofs.Common.{◌≡◌, ℕ, ◌+◌, ◌*◌, ◌<◌, ◌≤◌, true, [], length, Option, None, Some, Ok, slice_get, refl, ap, sym, subst, ◌∙◌, ◌≢◌, arith, le-ltb}
+use Rattle.std.proofs.Common.{◌≡◌, ℕ, ◌+◌, ◌*◌, ◌<◌, ◌≤◌, true, [], length, Option, None, Some, Ok, slice_get, refl, ap, sym, subst, ◌∙◌, ◌≢◌, arith, le-ltb, false}
 use Rattle.std.specs.Prelude.{Result, nat_le, nat_lt, slice_set}
 use Rattle.std.specs.Option.{option_map_or}
 use Rattle.std.proofs.lemmas.Bool.{and_parts, leb-true, lt-ltb, ltb-true}
@@ -18,7 +18,7 @@ use Rattle.plain_heap.specs.declared.action.Action.{Action}
 use Rattle.plain_heap.specs.declared.action.Action.TheVariants.{Sets, Jumps, Links, Prints, Makes, Measures, Loads, Stores, Exchanges, Gets, Puts, Swaps, Snaps}
 use Rattle.plain_heap.specs.Action.{◌>>=◌}
 use Rattle.plain_heap.specs.Call as plain
-use Rattle.plain_heap.specs.Call.{After, performed, values_of, value_in, store_in, may_hold, went_on}
+use Rattle.plain_heap.specs.Call.{After, is_cell, performed, values_of, value_in, store_in, may_hold, went_on}
 use Rattle.atom_store.specs.declared.step.Step.TheVariants.{Load, Store}
 use Rattle.atom_store.specs.declared.reply.Reply.TheVariants as replies
 use Rattle.heap_words.specs.Decoded.{number_in}
@@ -74,6 +74,16 @@ held_by_role (kind.Mixed count) roles.Field x v has =
 held_by_role (kind.Mixed count) roles.Number x v has =
     let behind = leb-true (count + 2) (x + 2) has in
     rw (le-ltb x count (omega (arith, behind))) refl
+held_by_role kind.Weak roles.Field x v has = absurd (cc)
+held_by_role kind.Weak roles.Number x v has = absurd (cc)
+
+-- a record with such a value is no cell
+no_cell : (of : kinds.Kind) (o : Role) (word : ℕ) → parts.HasRole of word (role_of o) → is_cell of ≡ false
+no_cell kind.Fields o word has = refl
+no_cell kind.Raw o word has = refl
+no_cell (kind.Mixed count) o word has = refl
+no_cell kind.Weak roles.Field word has = absurd (cc)
+no_cell kind.Weak roles.Number word has = absurd (cc)
 
 known_role : (o : Role) → role_of o ≢ workers.UnknownRole
 known_role roles.Field same = absurd (cc)
@@ -97,12 +107,12 @@ fits_as roles.Number x (Reference i) small may = absurd (cc)
 
 -- ---- the plain heap
 
-module _ (heap : Heap) (i : Identity) (r : Record) (x : ℕ) (v : Value) (there : record_of heap i ≡ Some r) (is : slice_get r.values x ≡ Some v) where
+module _ (heap : Heap) (i : Identity) (r : Record) (x : ℕ) (v : Value) (there : record_of heap i ≡ Some r) (is : slice_get r.values x ≡ Some v) (other : is_cell r.kind ≡ false) where
   value_there : value_in heap i x ≡ Ok v
   value_there =
       let values : values_of heap i ≡ r.values = ap (λ (o : Option Record). option_map_or (λ (r : Record). r.values) o []) there in
       let within : nat_lt x (length r.values) ≡ true = lt-ltb x (length r.values) (slice_get_within r.values x v is) in
-      rw (values, within) (ap Ok (get_or_from_slice_get r.values x v (Number 0) is))
+      rw (values, within, there, other) (ap Ok (get_or_from_slice_get r.values x v (Number 0) is))
 
 module _ (c : Configuration) (p : Plain) (s : Stands c p) (k : ℕ) (y : Held) where
   -- a field of the record that an action names
@@ -123,7 +133,9 @@ module _ (c : Configuration) (p : Plain) (s : Stands c p) (k : ℕ) (y : Held) w
       held_is v = held_by_role value_is.record_there.kind role x v value_is.role
 
       pub there_in_plain : value_in p.heap (s.ghost.identity j.serial) x ≡ Ok value_is.value
-      there_in_plain = value_there p.heap (s.ghost.identity j.serial) value_is.record_there x value_is.value value_is.is value_is.there
+      there_in_plain =
+          value_there p.heap (s.ghost.identity j.serial) value_is.record_there x value_is.value value_is.is value_is.there
+          (no_cell value_is.record_there.kind role (word_of_value value_is.record_there.kind x) value_is.role)
 
       -- ---- the load
 
@@ -234,7 +246,7 @@ module _ (c : Configuration) (p : Plain) (s : Stands c p) (k : ℕ) (y : Held) w
     loads_by into (Links d target) executes of is = absurd of
     loads_by into (Prints n) executes of is = absurd of
     loads_by into Snaps executes of is = absurd of
-    loads_by into (Makes kind d n) executes of is = absurd of
+    loads_by into (Makes kind d n v) executes of is = absurd of
     loads_by into (Measures d j) executes of is = absurd of
     loads_by into (Gets d x) executes of is = absurd of
     loads_by into (Puts x v) executes of is = absurd of
@@ -259,7 +271,7 @@ module _ (c : Configuration) (p : Plain) (s : Stands c p) (k : ℕ) (y : Held) w
     stores_by new (Links d target) executes of is = absurd of
     stores_by new (Prints n) executes of is = absurd of
     stores_by new Snaps executes of is = absurd of
-    stores_by new (Makes kind d n) executes of is = absurd of
+    stores_by new (Makes kind d n v) executes of is = absurd of
     stores_by new (Measures d j) executes of is = absurd of
     stores_by new (Gets d x) executes of is = absurd of
     stores_by new (Puts x v) executes of is = absurd of

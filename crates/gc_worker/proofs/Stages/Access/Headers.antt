@@ -5,14 +5,14 @@ use Rattle.std.specs.Option.{option_map_or}
 use Rattle.std.proofs.lemmas.Bool.{ltb-true}
 use Rattle.std.proofs.lemmas.Option.{same_Some}
 use Rattle.plain_state.specs.declared.end.End.{End}
-use Rattle.plain_state.specs.declared.end.End.TheVariants.{OutOfRange, IntoRaw}
+use Rattle.plain_state.specs.declared.end.End.TheVariants.{OutOfRange, WeakCell, IntoRaw}
 use Rattle.plain_state.specs.declared.kind.Kind as kinds
 use Rattle.plain_state.specs.declared.kind.Kind.TheVariants as kind
 use Rattle.plain_state.specs.declared.sizes.TheConstants.{NUMBERS}
 use Rattle.plain_state.specs.declared.value.Identity.{Identity}
 use Rattle.plain_state.specs.declared.value.Value.{Value}
 use Rattle.plain_state.specs.declared.value.Value.TheVariants.{Number, Reference}
-use Rattle.plain_state.specs.Layout.{values_at, word_of_value}
+use Rattle.plain_state.specs.Layout.{values_at, words_behind, word_of_value}
 use Rattle.plain_state.specs.State.{Plain, Record}
 use Rattle.plain_heap.specs.declared.action.Action.{Action}
 use Rattle.plain_heap.specs.declared.action.Action.TheVariants.{Sets, Jumps, Links, Prints, Makes, Measures, Loads, Stores, Exchanges, Gets, Puts, Swaps, Snaps}
@@ -49,7 +49,7 @@ use Rattle.gc_worker.specs.declared.access.field_access.Role.TheVariants as role
 use Rattle.gc_worker.specs.declared.access.mixed_access.MixedAccess.{MixedAccess}
 use Rattle.gc_worker.specs.declared.access.record_access.RecordAccess.{RecordAccess}
 use Rattle.gc_worker.specs.declared.access.record_access.RecordUse.TheVariants as record_uses
-use Rattle.gc_worker.specs.Steps.Access.{GoesTo, Comes, IsHeapAddress, before_header, begun, by_kind, counted_by, counting, IsFieldOfAction, FitsFieldUse, FitsMixedUse, answered, field_of, kind_of, role_of, read_header, record_use, used_by, to_field, storing, may_store, word_as}
+use Rattle.gc_worker.specs.Steps.Access.{GoesTo, Comes, IsHeapAddress, before_header, begun, by_kind, counted_by, counting, IsFieldOfAction, FitsFieldUse, FitsMixedUse, answered, field_of, kind_of, role_of, read_header, record_use, refused_by, used_by, to_field, storing, may_store, word_as}
 use Rattle.gc_worker.specs.Workers.Fits.{ExecutesAction}
 use Rattle.gc_worker.specs.Steps.Goes.{Is, Goes, StepsSo}
 use Rattle.gc_worker.specs.Workers.Held.{Held}
@@ -64,15 +64,19 @@ use Rattle.gc_worker.proofs.Words.RowSteps.{loads}
 use Rattle.gc_worker.proofs.Stages.Access.Acting.{q, calls, led, names, is_small, Held_value, IsSmall, decode_number, number_held}
 use Rattle.gc_worker.proofs.Stages.Access.Going.{own, at, ready, knew_opened, it_only, same_page, learns, goes_to, goes_on_to_field}
 use Rattle.gc_worker.proofs.Stages.Access.Outcomes.{goes_loading, goes_ending}
-use Rattle.gc_worker.proofs.Stages.Access.Storing.{Condition, begins, counted_so, fits_field, fits_mixed, into_raw, is_field, is_value, names_both, out_of_range, renewed, storing_action, storing_use, used_so}
+use Rattle.gc_worker.proofs.Stages.Access.Storing.{Condition, begins, counted_so, fits_field, fits_mixed, into_raw, is_field, is_value, names_both, out_of_range, refused_so, renewed, storing_action, storing_use, used_so, weak_cell}
 
 -- ---- kinds and roles
 
--- all values of a record have one role, or it is mixed
-kinds_are : (of : kinds.Kind) → ((role : Role) × (of ≡ kind_of role)) ⊎ ((count : ℕ) × (of ≡ kind.Mixed count))
+-- all values of a record have one role, or it is mixed, or a cell
+abbrev Sorted : kinds.Kind → Type 0
+Sorted of = ((role : Role) × (of ≡ kind_of role)) ⊎ (((count : ℕ) × (of ≡ kind.Mixed count)) ⊎ (of ≡ kind.Weak))
+
+kinds_are : (of : kinds.Kind) → Sorted of
 kinds_are kind.Fields = inl (roles.Field, refl)
 kinds_are kind.Raw = inl (roles.Number, refl)
-kinds_are (kind.Mixed count) = inr (count, refl)
+kinds_are (kind.Mixed count) = inr (inl (count, refl))
+kinds_are kind.Weak = inr (inr refl)
 
 said_by : (role : Role) (next : ℕ) → said_kind (header_kind (kind_of role)) next ≡ kind_of role
 said_by roles.Field next = refl
@@ -82,6 +86,11 @@ said_by roles.Number next = refl
 first_by : (role : Role) → values_at (kind_of role) ≡ 1
 first_by roles.Field = refl
 first_by roles.Number = refl
+
+-- and no word stands behind them
+none_behind : (role : Role) → words_behind (kind_of role) ≡ 0
+none_behind roles.Field = refl
+none_behind roles.Number = refl
 
 read_by : (r : RecordAccess) (role : Role) (len : ℕ) → by_kind r (header_kind (kind_of role)) len ≡ used_by r role len r.usage
 read_by r roles.Field len = refl
@@ -153,7 +162,7 @@ module _ (c : Configuration) (p : Plain) (s : Stands c p) (k : ℕ) (y : Held) (
     reads_it = reads (kind_of role) of ∙ read_by r role len
 
     count_is : length says.record_there.values ≡ len
-    count_is = let n = says.long in omega (arith, n, first_is)
+    count_is = let n = says.long in let b = ap words_behind kind_is ∙ none_behind role in omega (arith, n, first_is, b)
 
     long : length (values_of p.heap i) ≡ len
     long = ap length values_are ∙ count_is
@@ -184,7 +193,7 @@ module _ (c : Configuration) (p : Plain) (s : Stands c p) (k : ℕ) (y : Held) (
     reads_mixed = reads (kind.Mixed count) of
 
     count_mixed : length says.record_there.values ≡ len - 1
-    count_mixed = let n = says.long in let b = ap values_at kind_mixed in omega (arith, n, b)
+    count_mixed = let n = says.long in let b = ap values_at kind_mixed in let e = ap words_behind kind_mixed in omega (arith, n, b, e)
 
     long_mixed : length (values_of p.heap i) ≡ len - 1
     long_mixed = ap length values_are ∙ count_mixed
@@ -212,6 +221,18 @@ module _ (c : Configuration) (p : Plain) (s : Stands c p) (k : ℕ) (y : Held) (
       goes_to_count : begun act ≡ Some (LooksAtRecord (before_header m)) → FitsMixedUse usage → answered (own c p s k y stage) (replies.Value word) ≡ counting a usage (Ok x_at)
           → Goes c p s k None x (replies.Value word)
       goes_to_count of fits comes = count_by (page_of a == page_of (a + 1)) refl of fits comes
+
+  -- ---- a cell
+
+  module _ (of : s.ghost.kind a ≡ kind.Weak) where
+    kind_weak : says.record_there.kind ≡ kind.Weak
+    kind_weak = kind_said kind.Weak of
+
+    reads_weak : answered (own c p s k y stage) (replies.Value word) ≡ refused_by r (len - 1) r.usage
+    reads_weak = reads kind.Weak of
+
+    long_weak : length (values_of p.heap i) ≡ len - 1
+    long_weak = let n = says.long in let b = ap values_at kind_weak in let e = ap words_behind kind_weak in ap length values_are ∙ omega (arith, n, b, e)
 
 -- ---- what may be stored
 
@@ -273,9 +294,10 @@ module _ (c : Configuration) (p : Plain) (s : Stands c p) (k : ℕ) (y : Held) w
           fits : len c p s k y of_length is (Measures d j) executes holds_measured < NUMBERS
           fits = short c p s k y of_length is (Measures d j) executes holds_measured
 
-          by_kinds : ((role : Role) × (s.ghost.kind j.serial ≡ kind_of role)) ⊎ ((count : ℕ) × (s.ghost.kind j.serial ≡ kind.Mixed count)) → Answers of_length
+          by_kinds : Sorted (s.ghost.kind j.serial) → Answers of_length
           by_kinds (inl t) = tells _ fits (long c p s k y of_length is (Measures d j) executes holds_measured t.0 t.1) (reads_it c p s k y of_length is (Measures d j) executes holds_measured t.0 t.1)
-          by_kinds (inr t) = tells _ (omega (arith, fits)) (long_mixed c p s k y of_length is (Measures d j) executes holds_measured t.0 t.1) (reads_mixed c p s k y of_length is (Measures d j) executes holds_measured t.0 t.1)
+          by_kinds (inr (inl t)) = tells _ (omega (arith, fits)) (long_mixed c p s k y of_length is (Measures d j) executes holds_measured t.0 t.1) (reads_mixed c p s k y of_length is (Measures d j) executes holds_measured t.0 t.1)
+          by_kinds (inr (inr t)) = tells _ (omega (arith, fits)) (long_weak c p s k y of_length is (Measures d j) executes holds_measured t) (reads_weak c p s k y of_length is (Measures d j) executes holds_measured t)
 
   -- a value of it
   module _ (d : ℕ) (j : Identity) (at_value : ℕ) where
@@ -311,9 +333,21 @@ module _ (c : Configuration) (p : Plain) (s : Stands c p) (k : ℕ) (y : Held) w
           no_value (so_long - 1) (long_mixed c p s k y of_value is (Loads d j at_value) executes holds_it count of) test
           (reads_mixed c p s k y of_value is (Loads d j at_value) executes holds_it count of ∙ rw test refl)
 
-      loads_it : ((role : Role) × (s.ghost.kind j.serial ≡ kind_of role)) ⊎ ((count : ℕ) × (s.ghost.kind j.serial ≡ kind.Mixed count)) → Answers of_value
+      loads_cell : (of : s.ghost.kind j.serial ≡ kind.Weak) (b : Bool) → nat_lt at_value (so_long - 1) ≡ b → Answers of_value
+      loads_cell of true test =
+          let there = says c p s k y of_value is (Loads d j at_value) executes holds_it in
+          goes_ending c p s k y (LoadsHeader of_value) is (Loads d j at_value) executes (replies.Value (word_in c.pages c.words (HeapWord j.serial))) WeakCell
+          (reads_weak c p s k y of_value is (Loads d j at_value) executes holds_it of ∙ rw test refl)
+          (calls c p s k y (LoadsHeader of_value) is (Loads d j at_value) executes (Err WeakCell)
+          (rw (long_weak c p s k y of_value is (Loads d j at_value) executes holds_it of, test, there.is, kind_weak c p s k y of_value is (Loads d j at_value) executes holds_it of) refl)) tt tt
+      loads_cell of false test =
+          no_value (so_long - 1) (long_weak c p s k y of_value is (Loads d j at_value) executes holds_it of) test
+          (reads_weak c p s k y of_value is (Loads d j at_value) executes holds_it of ∙ rw test refl)
+
+      loads_it : Sorted (s.ghost.kind j.serial) → Answers of_value
       loads_it (inl t) = loads_by t.0 t.1 (nat_lt at_value so_long) refl
-      loads_it (inr t) = loads_mixed t.0 t.1 (nat_lt at_value (so_long - 1)) refl
+      loads_it (inr (inl t)) = loads_mixed t.0 t.1 (nat_lt at_value (so_long - 1)) refl
+      loads_it (inr (inr t)) = loads_cell t (nat_lt at_value (so_long - 1)) refl
 
   -- a value of it becomes another
   module _ (o : Condition) (j : Identity) (at_value : ℕ) (v : Value) where
@@ -375,9 +409,21 @@ module _ (c : Configuration) (p : Plain) (s : Stands c p) (k : ℕ) (y : Held) w
           no_new_value (length_there - 1) (long_mixed c p s k y of_new is act_new executes holds_both.0 count of) test
           (reads_mixed c p s k y of_new is act_new executes holds_both.0 count of ∙ counted_so o of_new (length_there - 1) (word_for v) ∙ rw test refl)
 
-      stores_it : ((role : Role) × (s.ghost.kind j.serial ≡ kind_of role)) ⊎ ((count : ℕ) × (s.ghost.kind j.serial ≡ kind.Mixed count)) → Answers of_new
+      stores_cell : (of : s.ghost.kind j.serial ≡ kind.Weak) (b : Bool) → nat_lt at_value (length_there - 1) ≡ b → Answers of_new
+      stores_cell of true test =
+          let there = says c p s k y of_new is act_new executes holds_both.0 in
+          ends_new WeakCell (reads_weak c p s k y of_new is act_new executes holds_both.0 of ∙ refused_so o of_new (length_there - 1) (word_for v) ∙ rw test refl)
+          (calls c p s k y (LoadsHeader of_new) is act_new executes (Err WeakCell)
+          (weak_cell o j at_value v s.ghost.identity k p.heap (q c p s k y (LoadsHeader of_new) is) there.record_there
+          (rw (long_weak c p s k y of_new is act_new executes holds_both.0 of) test) there.is (kind_weak c p s k y of_new is act_new executes holds_both.0 of))) tt
+      stores_cell of false test =
+          no_new_value (length_there - 1) (long_weak c p s k y of_new is act_new executes holds_both.0 of) test
+          (reads_weak c p s k y of_new is act_new executes holds_both.0 of ∙ refused_so o of_new (length_there - 1) (word_for v) ∙ rw test refl)
+
+      stores_it : Sorted (s.ghost.kind j.serial) → Answers of_new
       stores_it (inl t) = stores_by t.0 t.1 (nat_lt at_value length_there) refl
-      stores_it (inr t) = stores_mixed t.0 t.1 (nat_lt at_value (length_there - 1)) refl
+      stores_it (inr (inl t)) = stores_mixed t.0 t.1 (nat_lt at_value (length_there - 1)) refl
+      stores_it (inr (inr t)) = stores_cell t (nat_lt at_value (length_there - 1)) refl
 
   -- ---- the stage
 
@@ -410,7 +456,7 @@ module _ (c : Configuration) (p : Plain) (s : Stands c p) (k : ℕ) (y : Held) w
   by_action r (Links d target) executes e is = absurd (cc)
   by_action r (Prints n) executes e is = absurd (cc)
   by_action r Snaps executes e is = absurd (cc)
-  by_action r (Makes kind d n) executes e is = absurd (cc)
+  by_action r (Makes kind d n v) executes e is = absurd (cc)
   by_action r (Gets d x) executes e is = absurd (cc)
   by_action r (Puts x v) executes e is = absurd (cc)
   by_action r (Swaps d x v) executes e is = absurd (cc)

@@ -45,7 +45,7 @@ module _ (c : Configuration) (p : Plain) (s : Stands c p) (k : ℕ) (x : Held) w
     named_by (Links d target) executes e = absurd (cc)
     named_by (Prints n) executes e = absurd (cc)
     named_by Snaps executes e = absurd (cc)
-    named_by (Makes kind d n) executes e = absurd (cc)
+    named_by (Makes kind d n v) executes e = absurd (cc)
     named_by (Gets d y) executes e = absurd (cc)
     named_by (Puts y v) executes e = absurd (cc)
     named_by (Swaps d y v) executes e = absurd (cc)

@@ -1,4 +1,5 @@
--- Before a flip: the gate must be still, the size and the words in use are read, and the other space's size and area are stored.
+-- Before a flip: the gate must be still, the size and the words in use are read, and the other space's size and area are stored, and
+-- the word that tells which cell was linked last.
 use Rattle.std.proofs.Common.{◌≡◌, ℕ, ◌+◌, ◌*◌, ◌^◌, ◌<◌, ◌≤◌, ◌&&◌, Bool, true, false, cond, nat_eq, Option, Some, None, refl, ap, sym, subst, ◌∙◌, arith}
 use Rattle.std.proofs.lemmas.Bool.Decides.{nat_tests}
 use Rattle.plain_state.specs.State.{Plain}
@@ -9,15 +10,15 @@ use Rattle.space_map.specs.declared.gate_word.GateWord.{GateWord}
 use Rattle.space_map.specs.AreaWord.{AreaFits, decode_area, encode_area}
 use Rattle.space_map.specs.GateWord.{decode_gate}
 use Rattle.space_map.specs.Spaces.{to_space}
-use Rattle.space_map.specs.Table.{Gate, Area, Size, place_of}
+use Rattle.space_map.specs.Table.{Gate, Area, Size, WeakHead, place_of}
 use Rattle.gate_core.specs.declared.flip_stage.FlipStage.{FlipStage}
-use Rattle.gate_core.specs.declared.flip_stage.FlipStage.TheVariants.{LoadsGate, LoadsSize, LoadsArea, StoresSize, StoresArea, Exchanges, Ended}
+use Rattle.gate_core.specs.declared.flip_stage.FlipStage.TheVariants.{LoadsGate, LoadsSize, LoadsArea, StoresSize, StoresArea, ResetsWeak, Exchanges, Ended}
 use Rattle.gate_core.specs.declared.flipped.Flipped.TheVariants.{NotYet}
 use Rattle.gate_core.specs.declared.reset.Reset as resets
 use Rattle.gate_core.specs.Flip.{Flipping, is_still, looked, next_size, read_area, used_in, area_reset, told_at}
 use Rattle.gate_core.specs.Soundness.{IsFlippingGoing, IsSizeWithin, FitsFlipStage, FitsReset, MayFlip}
 use Rattle.heap_state.specs.Configuration.{Configuration, Stands, table, era, memory, team}
-use Rattle.heap_state.specs.Memory.Entries.{AreaIs, SizeIs}
+use Rattle.heap_state.specs.Memory.Entries.{AreaIs, SizeIs, WeakIs}
 use Rattle.heap_state.specs.Memory.Era.{from_space}
 use Rattle.heap_state.specs.Worker.{Reset, Worker}
 use Rattle.heap_state.proofs.Puts.{some_same}
@@ -40,7 +41,7 @@ use Rattle.gc_worker.proofs.Words.Eras.{span_is}
 use Rattle.gc_worker.proofs.Words.Sizes.{grown_within, next_grows, size_now, size_within}
 use Rattle.gc_worker.proofs.Workers.Parts.{refit}
 use Rattle.gc_worker.proofs.Stages.Gate.Words.{wants, gate_now, gate_says}
-use Rattle.gc_worker.proofs.Words.RowSteps.{Law, becomes, loads, stores, nothing, prepared}
+use Rattle.gc_worker.proofs.Words.RowSteps.{Law, becomes, loads, stores, nothing, prepared, untaught_beside}
 
 still_says : (g : GateWord) → is_still g ≡ true → (g.running ≡ 0) × (g.behind ≡ 0)
 still_says g is = by_running (nat_eq g.running 0) refl is
@@ -277,10 +278,10 @@ module _ (c : Configuration) (p : Plain) (s : Stands c p) (k : ℕ) (y : Held) (
     is_other : from_space (era c).epoch ≡ to_space (y.epoch + 1)
     is_other = ap (λ (e : ℕ). to_space (e + 1)) (sym (now (StoresArea r) is))
 
-    stored : Law c p s k (at (StoresArea r)) (Some (AreaIs (to_space (y.epoch + 1)) fresh_area)) (knows (at (Exchanges r))) s.ghost
+    stored : Law c p s k (at (StoresArea r)) (Some (AreaIs (to_space (y.epoch + 1)) fresh_area)) (knows (at (ResetsWeak r))) s.ghost
     stored =
-        subst (λ (n : ℕ). Law c p s k (at (StoresArea r)) (Some (AreaIs n fresh_area)) (knows (at (Exchanges r))) s.ghost) is_other
-        (subst (λ (a : AreaWord). Law c p s k (at (StoresArea r)) (Some (AreaIs (from_space (era c).epoch) a)) (knows (at (Exchanges r))) s.ghost) is_whole
+        subst (λ (n : ℕ). Law c p s k (at (StoresArea r)) (Some (AreaIs n fresh_area)) (knows (at (ResetsWeak r))) s.ghost) is_other
+        (subst (λ (a : AreaWord). Law c p s k (at (StoresArea r)) (Some (AreaIs (from_space (era c).epoch) a)) (knows (at (ResetsWeak r))) s.ghost) is_whole
         (subst (λ (w : Worker). Law c p s k (at (StoresArea r)) (Some (AreaIs (from_space (era c).epoch) (whole_area (era c).old_span r.used))) (resetting w (record unstored { stored = true })) s.ghost) is.as_known
         (reset_laws.stores_area_word (era c) (memory c) (team c) s.ghost k unstored r.used (prepared c p s k (at (StoresArea r)) is) (rw is.as_known refl) refl refl
         (subst AreaFits (sym is_whole) fresh_fits))))
@@ -290,6 +291,21 @@ module _ (c : Configuration) (p : Plain) (s : Stands c p) (k : ℕ) (y : Held) (
         wants c p s k (at (StoresArea r)) (Store (place_of c.pages (Area (to_space (y.epoch + 1)))) (encode_area fresh_area))
         (ap (λ n. Some (Store (place_of n (Area (to_space (y.epoch + 1)))) (encode_area fresh_area))) is.fits.pages)
         (stores c p s k (at (StoresArea r)) (AreaIs (to_space (y.epoch + 1)) fresh_area) (is_space (y.epoch + 1))
-        (becomes c p s k (at (StoresArea r)) (Some (AreaIs (to_space (y.epoch + 1)) fresh_area)) Done (at (Exchanges r)) s.ghost refl is.below stored refl refl
+        (becomes c p s k (at (StoresArea r)) (Some (AreaIs (to_space (y.epoch + 1)) fresh_area)) Done (at (ResetsWeak r)) s.ghost refl is.below stored refl refl
         (record { pages = is.fits.stage.sound.pages; epoch = is.fits.stage.sound.epoch; stage = is.fits.stage.sound.stage })
-        (reflip (StoresArea r) (Exchanges r) is tt is.fits.stage.sound.stage)))
+        (reflip (StoresArea r) (ResetsWeak r) is tt is.fits.stage.sound.stage)))
+
+  -- ---- the chain of cells
+
+  module _ (r : resets.Reset) (is : Is c k (at (ResetsWeak r))) where
+    pub resets_weak : StepsSo c p s k (at (ResetsWeak r))
+    resets_weak =
+        wants c p s k (at (ResetsWeak r)) (Store (place_of c.pages WeakHead) 0) (ap (λ n. Some (Store (place_of n WeakHead) 0)) is.fits.pages)
+        (stores c p s k (at (ResetsWeak r)) (WeakIs 0) tt
+        (untaught_beside c p s k (at (ResetsWeak r)) is (WeakIs 0) Done tt (record {
+          same = refl;
+          silent = refl;
+          none = refl;
+          takes = record { pages = is.fits.stage.sound.pages; epoch = is.fits.stage.sound.epoch; stage = is.fits.stage.sound.stage };
+          fits = reflip (ResetsWeak r) (Exchanges r) is tt is.fits.stage.sound.stage;
+        })))

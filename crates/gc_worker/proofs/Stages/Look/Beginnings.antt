@@ -51,9 +51,9 @@ module _ (c : Configuration) (p : Plain) (s : Stands c p) (k : ℕ) (y : Held) w
 
     -- ---- an allocation
 
-    pub makes : (kind : Kind) (d n : ℕ) → Acts (Makes kind d n) → turned x reply ≡ at_stage (begins x) (places (begins x) (header_for (begins x))) → Goes c p s k None x reply
-    makes kind d n is_act same =
-        let making : IsMaking x.account x.registers x.task = record { making = record { kind = kind; into = d; len = n }; executes = executes (Makes kind d n) is_act } in
+    pub makes : (kind : Kind) (d n : ℕ) (v : Value) → Acts (Makes kind d n v) → turned x reply ≡ at_stage (begins x) (places (begins x) (header_for (begins x))) → Goes c p s k None x reply
+    makes kind d n v is_act same =
+        let making : IsMaking x.account x.registers x.task = record { making = record { kind = kind; into = d; len = n }; value = v; executes = executes (Makes kind d n v) is_act } in
         becomes c p s k x None reply (at_stage (begins x) (places (begins x) (header_for (begins x)))) s.ghost same is.below
         (nothing c p s k x is (knows (at_stage (begins x) (places (begins x) (header_for (begins x))))) (sym (places_known (begins x) (header_for (begins x))))) silent refl tt
         (places_fit c.pages c.mutators k (begins x) (begun_fits c.pages c.mutators k y is.fits) is.fits.end is.fits.side making)

@@ -93,6 +93,7 @@ module _ (m : Mutator) where
   action_stops (instrs.New d x) = allocates_stops Fields d x
   action_stops (instrs.Raw d x) = allocates_stops Raw d x
   action_stops (instrs.Mix d fields raw) = mixes_stops d fields raw
+  action_stops (instrs.Weak d a) = bind (reference_in (register m a)) _ (reference_stops (register m a)) (λ i. tt)
   action_stops (instrs.Ld d a x) = bind (reference_in (register m a)) _ (reference_stops (register m a)) (λ i. bind (operand m x) _ (operand_stops x) (λ n. tt))
   action_stops (instrs.St a x b) = bind (reference_in (register m a)) _ (reference_stops (register m a)) (λ i. bind (operand m x) _ (operand_stops x) (λ n. tt))
   action_stops (instrs.Cas d a x b c) = bind (reference_in (register m a)) _ (reference_stops (register m a)) (λ i. bind (operand m x) _ (operand_stops x) (λ n. tt))

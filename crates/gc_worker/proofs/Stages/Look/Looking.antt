@@ -128,7 +128,7 @@ module _ (c : Configuration) (p : Plain) (s : Stands c p) (k : ℕ) (y : Held) w
       acts_so (Links d target) e so = effect.links c p s k y is unended q mutator.1 instr task valid reply so.tells d target e so.turns
       acts_so (Prints n) e so = effect.prints c p s k y is unended q mutator.1 instr task valid reply so.tells n e so.turns
       acts_so Snaps e so = snaps_if (may_snap x) refl e so
-      acts_so (Makes kind d n) e so = beginning.makes c p s k y is unended q mutator.1 instr task reply so.tells kind d n e so.turns
+      acts_so (Makes kind d n v) e so = beginning.makes c p s k y is unended q mutator.1 instr task reply so.tells kind d n v e so.turns
       acts_so (Measures d i) e so = beginning.measures c p s k y is unended q mutator.1 instr task reply so.tells d i e so.turns
       acts_so (Loads d i n) e so = beginning.loads c p s k y is unended q mutator.1 instr task reply so.tells d i n e so.turns
       acts_so (Stores i n v) e so = beginning.stores c p s k y is unended q mutator.1 instr task reply so.tells i n v e so.turns

@@ -9,12 +9,12 @@ use Rattle.gc_worker.specs.Workers.Fits.{IsMaking}
 use Rattle.gc_worker.specs.Steps.Goes.{Is}
 use Rattle.gc_worker.specs.Workers.Held.{Held}
 use Rattle.gc_worker.specs.Workers.Knows.{post_in}
-use Rattle.gc_worker.proofs.Plain.Actions.{plain_outcome}
+use Rattle.gc_worker.proofs.Plain.Actions.{plain_outcome, plain_value}
 use Rattle.gc_worker.proofs.Plain.AnswerSteps.{IsIts}
 use Rattle.gc_worker.proofs.Plain.Registers.{alike}
 
 pub makes_alike : (c : Configuration) (p : Plain) (s : Stands c p) (k : ℕ) (x : Held) (is : Is c k x) (running : is_running (post_in x x.stage) ≡ true) (unended : x.account.end ≡ None)
     (q : Mutator) (its : IsIts c p s k x q) (making : IsMaking x.account x.registers x.task)
-    → action q making.executes.instr ≡ Ok (Makes making.making.kind making.making.into making.making.len)
+    → action q making.executes.instr ≡ Ok (Makes making.making.kind making.making.into making.making.len (plain_value s.ghost.identity making.value))
 makes_alike c p s k x is running unended q its making =
     alike c p s k x is running unended q its making.executes.instr making.executes.call.valid ∙ ap (plain_outcome s.ghost.identity) making.executes.acts

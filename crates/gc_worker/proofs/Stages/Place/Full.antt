@@ -4,6 +4,7 @@ use Rattle.std.specs.Prelude.{◌⊎◌}
 use Rattle.std.proofs.lemmas.Bool.{and_parts, leb-false, ltb-true, eqb-true, or_cases}
 use Rattle.plain_state.specs.declared.end.End.{End}
 use Rattle.plain_state.specs.State.{Mutator, Plain}
+use Rattle.plain_state.specs.declared.value.Value as values
 use Rattle.mutator_asm.specs.declared.instr.Instr.{Instr}
 use Rattle.plain_heap.specs.declared.action.Action.TheVariants.{Makes}
 use Rattle.plain_heap.specs.Action.{action}
@@ -98,7 +99,7 @@ module _ (c : Configuration) (p : Plain) (s : Stands c p) (k : ℕ) (y : Held) (
     order : area.front ≤ area.low
     order = ((areas_are_read c p s).each space (is_space y.epoch)).order.0
 
-    module _ (q : Mutator) (its : IsIts c p s k x q) (acts : action q instr ≡ Ok (Makes making.making.kind making.making.into making.making.len)) where
+    module _ (q : Mutator) (its : IsIts c p s k x q) (v : values.Value) (acts : action q instr ≡ Ok (Makes making.making.kind making.making.into making.making.len v)) where
       finds : EndsFull (era c) (memory c) (team c) s.ghost p k q asked (area.low - area.front) area.front
       finds =
           let l = leb-false (words_for header + 0) (area.low - area.front) short in
@@ -150,6 +151,6 @@ module _ (c : Configuration) (p : Plain) (s : Stands c p) (k : ℕ) (y : Held) (
       pub finds_no_room : Goes c p s k None x (Value (area_now c space))
       finds_no_room =
           answers c p s k x None (Value (area_now c space)) after s.ghost q (Calls instr) (Trap end) comes answer refl is.below its.is its.no_end
-          (plain_pages y making q acts) law no_room
+          (plain_pages y making q v acts) law no_room
           (record { pages = is.fits.stage.sound.pages; run = is.fits.stage.sound.run; fields = is.fits.stage.sound.fields; epoch = is.fits.stage.sound.epoch; snap = is.fits.stage.sound.snap; room = is.fits.stage.sound.room; stage = subst (FitsPlaceStage y.layout.pages asked y.snap run header) (sym reads) tt })
           (ended_fits c.pages c.mutators k x is.fits is.fits.side end)

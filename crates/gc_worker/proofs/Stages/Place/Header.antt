@@ -1,20 +1,26 @@
 -- A new record's header is stored: the record stands, and the register that the instruction names leads to it.
-use Rattle.std.proofs.Common.{◌≡◌, ℕ, ◌+◌, ◌-◌, ◌<◌, ◌≤◌, length, Some, None, Result, Ok, refl, ap, sym, subst, ◌∙◌, arith, length-set}
+use Rattle.std.proofs.Common.{◌≡◌, ℕ, ◌+◌, ◌-◌, ◌<◌, ◌≤◌, length, Option, Some, None, Result, Ok, refl, ap, sym, subst, ◌∙◌, arith, length-set}
 use Rattle.std.specs.Prelude.{slice_set, IsOk}
+use Rattle.std.specs.Bool.{⊤}
 use Rattle.std.specs.Result.{IfOk}
 use Rattle.heap_words.specs.Decoded.{PointerWord, HeaderWord, decode, encode}
 use Rattle.heap_words.specs.Word.{pointer_word}
 use Rattle.heap_words.proofs.Decoding.{decode-pointer_word, decode-header_word}
 use Rattle.plain_state.specs.declared.end.End.{End}
-use Rattle.plain_state.specs.Layout.{values_at}
+use Rattle.plain_state.specs.declared.kind.Kind.{Kind}
+use Rattle.plain_state.specs.declared.kind.Kind.TheVariants.{Fields, Raw, Mixed, Weak}
+use Rattle.plain_state.specs.declared.value.Value.{Value}
+use Rattle.plain_state.specs.declared.value.Value.TheVariants.{Number}
+use Rattle.plain_state.specs.Layout.{values_at, words_behind}
 use Rattle.plain_state.specs.State.{Mutator, Plain}
-use Rattle.plain_state.specs.Writing.{zeros}
+use Rattle.plain_state.specs.Writing.{filled, zeros}
 use Rattle.mutator_asm.specs.declared.instr.Instr.{Instr}
 use Rattle.plain_heap.specs.declared.action.Action.{Action}
 use Rattle.plain_heap.specs.declared.action.Action.TheVariants.{Makes}
 use Rattle.plain_heap.specs.Action.{◌>>=◌, action, next_of}
 use Rattle.plain_heap.specs.Call.{After, call, performed, went_on, allocated as plain_allocated}
 use Rattle.plain_heap.specs.Step.{settled}
+use Rattle.plain_heap.proofs.Calls.Named.{FillsKind}
 use Rattle.atom_store.specs.declared.step.Step.TheVariants.{Store}
 use Rattle.atom_store.specs.declared.reply.Reply.TheVariants as replies
 use Rattle.record_layout.specs.declared.header.Header.{Header}
@@ -43,21 +49,37 @@ use Rattle.gc_worker.specs.Plain.Seen.{Making, IsValueAs, seen}
 use Rattle.gc_worker.specs.declared.calls.did.Did.TheVariants.{Done}
 use Rattle.gc_worker.specs.Steps.Turned.{Answers, turned, told, told_effect}
 use Rattle.gc_worker.specs.Steps.Turned as turning
+use Rattle.gc_worker.proofs.Plain.Actions.{plain_value}
 use Rattle.gc_worker.proofs.Plain.AnswerSteps.{LawTo, IsIts, answers, its_mutator, row_fits_to}
 use Rattle.gc_worker.proofs.Plain.Effects.{moved, moved_goes, moved_as}
 use Rattle.gc_worker.proofs.Stages.Gate.Resuming.{end_none}
 use Rattle.gc_worker.proofs.Stages.Gate.Words.{wants}
-use Rattle.gc_worker.proofs.Plain.NewRecords.{made, made_is, fields_held, fields_is, fits_kind, header_made, kind_said, sized}
+use Rattle.gc_worker.proofs.Plain.NewRecords.{made, made_is, fields_held, fields_is, fits_kind, header_made, kind_said, makes_named, sized}
 use Rattle.gc_worker.proofs.Stages.Place.Acts.{makes_alike}
 use Rattle.gc_worker.proofs.Stages.Place.Claiming.{placing, at}
 use Rattle.gc_worker.proofs.Workers.Answered.{registers_put, values_set, settled_as, settled_fits}
 use Rattle.gc_worker.proofs.Words.RowSteps.{stores, prepared}
 use Rattle.gc_worker.proofs.Plain.Targets.{WritesRegister, writes_register}
+use Rattle.std.proofs.lemmas.List.{length-replicate}
 
 -- a call is its action, performed
 called : (k : ℕ) (p : Plain) (q : Mutator) (i : Instr) (act : Action) → action q i ≡ Ok act → call k p.heap q i ≡ performed k p.heap q act
 unfolding call
 called k p q i act is = ap (λ (o : Result Action End). o >>= performed k p.heap q) is
+
+-- the words that show a record of zeros show a cell whatever its value is: nothing is said of it
+filled_show : (denotes : ℕ → Option Value) (heap : ℕ → ℕ) (a : ℕ) (kind : Kind) (z n : ℕ) (v : Value) → FillsKind (λ v. ⊤) kind v
+    → Shows denotes heap a kind z (zeros kind n) → Shows denotes heap a kind z (filled kind n v)
+filled_show denotes heap a Weak z n v fills shows = record {
+  kind = refl;
+  size = let e = length-replicate n v in let f = length-replicate n (Number 0) in let size = shows.size in omega (arith, e, f, size);
+  fields = λ x l t. absurd (cc);
+  numbers = λ x l t. absurd (cc);
+  count = tt;
+}
+filled_show denotes heap a Fields z n v fills shows = subst (λ (w : Value). Shows denotes heap a Fields z (filled Fields n w)) (sym fills) shows
+filled_show denotes heap a Raw z n v fills shows = subst (λ (w : Value). Shows denotes heap a Raw z (filled Raw n w)) (sym fills) shows
+filled_show denotes heap a (Mixed count) z n v fills shows = subst (λ (w : Value). Shows denotes heap a (Mixed count) z (filled (Mixed count) n w)) (sym fills) shows
 
 module _ (c : Configuration) (p : Plain) (s : Stands c p) (k : ℕ) (y : Held) (run : Run) (making : IsMaking y.account y.registers y.task) where
   abbrev m : Making
@@ -153,11 +175,12 @@ module _ (c : Configuration) (p : Plain) (s : Stands c p) (k : ℕ) (y : Held) (
       header = says;
     }
 
-    shows : Shows (value_of s.ghost.identity) (memory c).heap run.at m.kind size (zeros m.kind m.len)
-    shows =
-        let len : size - values_at m.kind ≡ m.len = (let e = sized m.kind m.len in omega (arith, e)) in
-        subst (λ (n : ℕ). Shows (value_of s.ghost.identity) (memory c).heap run.at m.kind size (zeros m.kind n)) len
-        (zeros_show (era c) (memory c) (team c) s.ghost k stock m.kind size word (prepared c p s k x is) places)
+    shows : (v : Value) → FillsKind (λ v. ⊤) m.kind v → Shows (value_of s.ghost.identity) (memory c).heap run.at m.kind size (filled m.kind m.len v)
+    shows v fills =
+        let len : size - (values_at m.kind + words_behind m.kind) ≡ m.len = (let e = sized m.kind m.len in omega (arith, e)) in
+        filled_show (value_of s.ghost.identity) (memory c).heap run.at m.kind size m.len v fills
+        (subst (λ (n : ℕ). Shows (value_of s.ghost.identity) (memory c).heap run.at m.kind size (zeros m.kind n)) len
+        (zeros_show (era c) (memory c) (team c) s.ghost k stock m.kind size word (prepared c p s k x is) places))
 
     unended : y.account.end ≡ None
     unended = end_none y.account.end is.fits.end
@@ -169,16 +192,16 @@ module _ (c : Configuration) (p : Plain) (s : Stands c p) (k : ℕ) (y : Held) (
     known : with_record next stock size m.into (pointer_word run.at) ≡ knows after
     known = let set = registers_put y.registers m.into (pointer_word run.at) inside in λ i. record (knows after) { registers = sym set i }
 
-    module _ (q : Mutator) (its : IsIts c p s k x q) (acts : action q instr ≡ Ok (Makes m.kind m.into m.len)) where
-      calls : call k p.heap q instr ≡ Ok (plain_allocated k p.heap q m.kind m.into m.len)
-      calls = called k p q instr (Makes m.kind m.into m.len) acts
+    module _ (q : Mutator) (its : IsIts c p s k x q) (v : Value) (acts : action q instr ≡ Ok (Makes m.kind m.into m.len v)) where
+      calls : call k p.heap q instr ≡ Ok (plain_allocated k p.heap q m.kind m.into m.len v)
+      calls = called k p q instr (Makes m.kind m.into m.len v) acts
 
       law : LawTo c p s k x (Some entry) (knows after) ghost_after (after_outcome p k q (Calls instr) Done)
       law =
-          let placed = mutators_place (era c) (memory c) (team c) s.ghost p k next (went_on q) stock m.kind size word m.into (pointer_word run.at) (zeros m.kind m.len)
-          (prepared c p s k x is) s.shown places shows small points (moved_goes c p s k x is refl unended q its) (moved_as c p s k x is refl unended q its) in
+          let placed = mutators_place (era c) (memory c) (team c) s.ghost p k next (went_on q) stock m.kind size word m.into (pointer_word run.at) (filled m.kind m.len v)
+          (prepared c p s k x is) s.shown places (shows v (makes_named q instr m v acts).1) small points (moved_goes c p s k x is refl unended q its) (moved_as c p s k x is refl unended q its) in
           subst (λ (o : Result After End). LawTo c p s k x (Some entry) (knows after) ghost_after (settled p k q o)) (sym calls)
-          (subst (λ (w : Worker). LawTo c p s k x (Some entry) w ghost_after (settled p k q (Ok (plain_allocated k p.heap q m.kind m.into m.len)))) known placed)
+          (subst (λ (w : Worker). LawTo c p s k x (Some entry) w ghost_after (settled p k q (Ok (plain_allocated k p.heap q m.kind m.into m.len v)))) known placed)
 
       goes : Goes c p s k (Some entry) x replies.Done
       goes =
@@ -193,4 +216,4 @@ module _ (c : Configuration) (p : Plain) (s : Stands c p) (k : ℕ) (y : Held) (
     pub stores_header : StepsSo c p s k x
     stores_header =
         let its = its_mutator c p s k x is refl unended in
-        stores_for its.0 its.1 (makes_alike c p s k x is refl unended its.0 its.1 making)
+        stores_for its.0 its.1 (plain_value s.ghost.identity making.value) (makes_alike c p s k x is refl unended its.0 its.1 making)

@@ -2,7 +2,7 @@
 use Rattle.std.proofs.Common.{◌≡◌, ℕ, ◌+◌, ◌%◌, Bool, true, false, cond, Some, List, [], refl, ap, sym, subst, ◌∙◌, arith}
 use Rattle.std.specs.Prelude.{nat_lt}
 use Rattle.heap_words.specs.declared.kind.Kind.{Kind}
-use Rattle.heap_words.specs.declared.kind.Kind.TheVariants.{Fields, Raw, Mixed}
+use Rattle.heap_words.specs.declared.kind.Kind.TheVariants.{Fields, Raw, Mixed, Weak}
 use Rattle.std.proofs.lemmas.Bool.{ltb-true, ltb-false}
 use Rattle.plain_state.specs.State.{Plain}
 use Rattle.atom_store.specs.declared.step.Step.TheVariants.{Store}
@@ -104,12 +104,14 @@ module _ (c : Configuration) (p : Plain) (s : Stands c p) (k : ℕ) (y : Held) (
     comes Fields false = refl
     comes Raw false = refl
     comes Mixed false = refl
+    comes Weak false = refl
 
     silent : (kind : Kind) (b : Bool) → told_place x (told (pick_for kind b)) ≡ Silent
     silent kind true = readied_silent c p s k y run header further (OpensPage new)
     silent Fields false = refl
     silent Raw false = refl
     silent Mixed false = refl
+    silent Weak false = refl
 
     abbrev test_of : Bool
     test_of = nat_lt (new.next + 1) (page_of new.first + asked)
@@ -150,6 +152,7 @@ module _ (c : Configuration) (p : Plain) (s : Stands c p) (k : ℕ) (y : Held) (
     stock_first Fields is e = λ i. record (knows (at_stage y (Places (first_for Fields)))) { stock = Some (stock_with (e i) (ahead_for (sym is i))) }
     stock_first Raw is e = λ i. record (knows (at_stage y (Places (first_for Raw)))) { stock = Some (stock_with (e i) (ahead_for (sym is i))) }
     stock_first Mixed is e = λ i. record (knows (at_stage y (Places (first_for Mixed)))) { stock = Some (stock_with (e i) []) }
+    stock_first Weak is e = λ i. record (knows (at_stage y (Places (first_for Weak)))) { stock = Some (stock_with (e i) (ahead_for (sym is i))) }
 
     stock_then : (b : Bool) → test_of ≡ b → stocked (knows x) (opened_further stock) ≡ knows (then b)
     stock_then true test =

@@ -40,6 +40,7 @@ use Rattle.gc_worker.proofs.Stages.Place.Acts.{makes_alike}
 use Rattle.gc_worker.proofs.Stages.Place.Claiming.{placing, at, replace}
 use Rattle.gc_worker.proofs.Stages.Place.Full.{finds_no_room}
 use Rattle.gc_worker.proofs.Words.RowSteps.{becomes, loads, less}
+use Rattle.gc_worker.proofs.Plain.Actions.{plain_value}
 
 module _ (c : Configuration) (p : Plain) (s : Stands c p) (k : ℕ) (y : Held) (run : Run) (size : ℕ) (making : IsMaking y.account y.registers y.task) where
   abbrev header : Header
@@ -129,7 +130,7 @@ module _ (c : Configuration) (p : Plain) (s : Stands c p) (k : ℕ) (y : Held) (
     goes false test true is_so =
         let unended = end_none y.account.end is.fits.end in
         let its = its_mutator c p s k x is refl unended in
-        finds_no_room c p s k y run size making is is_so test its.0 its.1 (makes_alike c p s k x is refl unended its.0 its.1 making)
+        finds_no_room c p s k y run size making is is_so test its.0 its.1 (plain_value s.ghost.identity making.value) (makes_alike c p s k x is refl unended its.0 its.1 making)
 
     pub loads_area : StepsSo c p s k x
     loads_area =

@@ -28,7 +28,7 @@ use Rattle.gc_worker.specs.declared.stage.Stage.TheVariants.{Serves, Gone}
 use Rattle.gc_worker.specs.Steps.Goes.{Is, Goes, StepsSo}
 use Rattle.gc_worker.specs.Workers.Held.{Held, at_stage}
 use Rattle.gc_worker.specs.Workers.Knows.{knows, own_stock, post_gone}
-use Rattle.gc_worker.specs.Steps.Turned.{turned_round}
+use Rattle.gc_worker.specs.Steps.Turned.{turned_round, told_round}
 use Rattle.gc_worker.proofs.Workers.Parts.{refit}
 use Rattle.gc_worker.proofs.Stages.Gate.Words.{gate_now, gate_says}
 use Rattle.gc_worker.proofs.Stages.Rounds.Going.{round, at, sound_at, goes_on, ends, loads_it}
@@ -102,7 +102,7 @@ module _ (c : Configuration) (p : Plain) (s : Stands c p) (k : ℕ) (y : Held) w
         → Goes c p s k None scanner (Value (gate_now c))
     gone taken = becomes c p s k scanner None (Value (gate_now c)) (at_stage scanner Gone) s.ghost
         (ap (λ (r : Round). turned_round scanner r ToScanner (duty.told r)) taken) is.below
-        (nothing c p s k scanner is (knows (at_stage scanner Gone)) (λ i. record (knows scanner) { post = ap post_gone (sym no_mutator) i })) refl refl
+        (nothing c p s k scanner is (knows (at_stage scanner Gone)) (λ i. record (knows scanner) { post = ap post_gone (sym no_mutator) i })) (ap (λ (r : Round). told_round (duty.told r)) taken) refl
         (subst IsSoundRound (sym taken) (sound_at c p s k y d ToScanner LoadsGate is (Ended (AllLeft (gate_now c))) tt))
         (refit c.pages c.mutators k scanner is.fits Gone tt (rw is.fits.side tt) is.fits.task tt)
 
@@ -120,7 +120,7 @@ module _ (c : Configuration) (p : Plain) (s : Stands c p) (k : ℕ) (y : Held) w
         (ap (λ (r : Round). turned_round scanner r ToScanner (duty.told r)) taken) is.below
         (subst (λ (w : Worker). Law c p s k scanner None w s.ghost) (ap (λ (w : Worker). gate_laws.into_epoch w gate.epoch) is.as_known ∙ knows_taking)
         (takes_epoch_of_gate (era c) (memory c) (team c) s.ghost k (prepared c p s k scanner is) (ap (λ (w : Worker). w.post) is.as_known) (ap (λ (w : Worker). w.scan) is.as_known)))
-        refl refl (subst IsSoundRound (sym taken) sound_taking)
+        (ap (λ (r : Round). told_round (duty.told r)) taken) refl (subst IsSoundRound (sym taken) sound_taking)
         (refit c.pages c.mutators k scanner is.fits (Serves with_gate ToScanner) is.fits.end is.fits.side is.fits.task
         (record { layout = is.fits.stage.0.layout; worker = is.fits.stage.0.worker; caller = is.fits.stage.0.caller; epoch = tt; going = tt; sound = sound_taking }, no_run))
 

@@ -40,7 +40,7 @@ use Rattle.gc_worker.proofs.Words.Areas.{area_now, area_says, is_space}
 use Rattle.gc_worker.proofs.Stages.Gate.Words.{wants, gate_now, gate_says}
 use Rattle.fault_duty.proofs.Lowering.{to_start-le}
 use Rattle.gc_worker.proofs.Stages.Rounds.Choosing.{front_for, first_choice}
-use Rattle.gc_worker.proofs.Stages.Rounds.Going.{round, at, done, goes_on, ends, ends_with, ended_known, own_stock_same, loads_it, same_pages}
+use Rattle.gc_worker.proofs.Stages.Rounds.Going.{round, at, done, goes_on, ends, ends_marked, ended_known, own_stock_same, loads_it, same_pages}
 use Rattle.gc_worker.proofs.Stages.Rounds.Words.{traced_now, traced_word, page_now, page_says}
 use Rattle.gc_worker.proofs.Words.RowSteps.{Law, exchanges, nothing, prepared}
 
@@ -83,7 +83,7 @@ module _ (c : Configuration) (p : Plain) (s : Stands c p) (k : ℕ) (y : Held) (
     exchanges_traced =
         wants c p s k x (Exchange (place_of c.pages Traced) traced (d.epoch + 1)) (ap (λ n. Some (Exchange (place_of n Traced) traced (d.epoch + 1))) (same_pages c p s k y d back (Traces traced) is))
         (exchanges c p s k x entry traced tt
-        (λ same. ends_with c p s k y d back (Traces traced) is (Some entry) Won Marked s.ghost refl refl refl (wins same))
+        (λ same. ends_marked c p s k y d back (Traces traced) is (Some entry) Won s.ghost refl refl (wins same))
         (λ other. ends c p s k y d back (Traces traced) is (Lost (traced_now c)) (traced_now c) refl refl refl))
 
   -- ---- AREA

@@ -8,7 +8,7 @@ use Rattle.fault_duty.specs.declared.caller.Caller.TheVariants as callers
 use Rattle.fault_duty.specs.declared.duty_stage.DutyStage.{DutyStage}
 use Rattle.fault_duty.specs.declared.duty_stage.DutyStage.TheVariants.{LoadsGate, LoadsTraced, LoadsWanted, LoadsFrontFor, LoadsFront, LoadsPage, Claims, EndGate, EndArea, EndPage, EndFilling, EndAreaAgain, Traces, Ended}
 use Rattle.fault_duty.specs.declared.round_end.RoundEnd.{RoundEnd}
-use Rattle.fault_duty.specs.declared.round_end.RoundEnd.TheVariants.{NothingNow}
+use Rattle.fault_duty.specs.declared.round_end.RoundEnd.TheVariants.{NothingNow, Marked}
 use Rattle.fault_duty.specs.Duty as duty
 use Rattle.fault_duty.specs.Duty.{Round}
 use Rattle.fault_duty.specs.Soundness.{IsRoundGoing, IsSoundRound, FitsDutyStage}
@@ -30,11 +30,11 @@ use Rattle.gc_worker.specs.Workers.Fits.{Fits, FitsBack, IsCallerOf, IsEpochOf}
 use Rattle.gc_worker.specs.Steps.Goes.{Is, Goes, StepsSo}
 use Rattle.gc_worker.specs.Workers.Held.{Held, header_for}
 use Rattle.gc_worker.specs.Workers.Knows.{knows, own_stock, epoch_at}
-use Rattle.gc_worker.specs.Steps.Turned.{turned_round, back_from, won_in}
+use Rattle.gc_worker.specs.Steps.Turned.{turned_round, back_from, won_in, told_round, Silent, Empties}
 use Rattle.gc_worker.proofs.Workers.Parts.{with_parts, refit}
 use Rattle.gc_worker.proofs.Workers.GoingOn.{places_known}
 use Rattle.gc_worker.proofs.Workers.GoingBack.{back_fits}
-use Rattle.gc_worker.proofs.Words.RowSteps.{Law, becomes, loads, prepared}
+use Rattle.gc_worker.proofs.Words.RowSteps.{Law, becomes, loads, prepared, becomes_so}
 use Rattle.gc_worker.proofs.Stages.Gate.Words.{wants}
 
 -- a round that has more to do goes on
@@ -86,7 +86,7 @@ module _ (c : Configuration) (p : Plain) (s : Stands c p) (k : ℕ) (y : Held) (
         → won_in stage reply ≡ None → FitsDutyStage (round next) next → Law c p s k x e (knows (at next)) h → Goes c p s k e x reply
     goes_on e reply next h taken more none fits law = becomes c p s k x e reply (at next) h
         (ap (λ (r : Round). turned_round x r back (duty.told r)) taken ∙ ap (turned_round x (round next) back) more)
-        is.below law refl none (subst IsSoundRound (sym taken) (sound_at next fits)) (fits_at next (going_on next more) fits)
+        is.below law (ap (λ (r : Round). told_round (duty.told r)) taken ∙ ap told_round more) none (subst IsSoundRound (sym taken) (sound_at next fits)) (fits_at next (going_on next more) fits)
 
     -- a round of a mutator is of its own epoch, and a scanner has no run
     abbrev SameStock : Type 0
@@ -171,35 +171,34 @@ module _ (c : Configuration) (p : Plain) (s : Stands c p) (k : ℕ) (y : Held) (
     pub own_stock_same : SameStock
     own_stock_same = same_stock back is.fits.stage.0.epoch is.fits.stage.1
 
-    -- it ends: what becomes of the worker
-    pub ends_with : (e : Option Entry) (reply : Reply) (result : RoundEnd) (h : Ghost) → duty.taken_at (round stage) stage reply ≡ round (Ended result)
-        → turned_round x (round (Ended result)) back (Finished result) ≡ back_from done back → won_in stage reply ≡ None
+    -- it ends, since the epoch is traced by it: what becomes of the worker
+    pub ends_marked : (e : Option Entry) (reply : Reply) (h : Ghost) → duty.taken_at (round stage) stage reply ≡ round (Ended Marked) → won_in stage reply ≡ None
         → Law c p s k x e (knows (back_from done back)) h → Goes c p s k e x reply
-    ends_with e reply result h taken comes none law = becomes c p s k x e reply (back_from done back) h
-        (ap (λ (r : Round). turned_round x r back (duty.told r)) taken ∙ comes)
-        is.below law refl none (subst IsSoundRound (sym taken) (sound_at (Ended result) tt)) ended_fits
+    ends_marked e reply h taken none law = becomes_so c p s k x Empties tt e reply (back_from done back) h
+        (ap (λ (r : Round). turned_round x r back (duty.told r)) taken)
+        is.below law (ap (λ (r : Round). told_round (duty.told r)) taken) none (subst IsSoundRound (sym taken) (sound_at (Ended Marked) tt)) ended_fits
 
     -- it becomes this with nothing, and what the round has read is forgotten
     pub ends_as : (reply : Reply) (result : RoundEnd) (next : Held) → duty.taken_at (round stage) stage reply ≡ round (Ended result)
-        → turned_round x (round (Ended result)) back (Finished result) ≡ next → won_in stage reply ≡ None
+        → turned_round x (round (Ended result)) back (Finished result) ≡ next → told_round (Finished result) ≡ Silent → won_in stage reply ≡ None
         → knows next ≡ ends_round (knows x) → Fits c.pages c.mutators k next → Goes c p s k None x reply
-    ends_as reply result next taken comes none known fits = becomes c p s k x None reply next s.ghost
+    ends_as reply result next taken comes silent none known fits = becomes c p s k x None reply next s.ghost
         (ap (λ (r : Round). turned_round x r back (duty.told r)) taken ∙ comes)
         is.below
         (subst (λ (w : Worker). Law c p s k x None w s.ghost) (ap ends_round is.as_known ∙ sym known)
         (rounds_end (era c) (memory c) (team c) s.ghost k (prepared c p s k x is)))
-        refl none (subst IsSoundRound (sym taken) (sound_at (Ended result) tt)) fits
+        (ap (λ (r : Round). told_round (duty.told r)) taken ∙ silent) none (subst IsSoundRound (sym taken) (sound_at (Ended result) tt)) fits
 
     -- the worker goes back
     pub goes_back_with : (reply : Reply) (result : RoundEnd) → duty.taken_at (round stage) stage reply ≡ round (Ended result)
-        → turned_round x (round (Ended result)) back (Finished result) ≡ back_from done back → won_in stage reply ≡ None
+        → turned_round x (round (Ended result)) back (Finished result) ≡ back_from done back → told_round (Finished result) ≡ Silent → won_in stage reply ≡ None
         → epoch_at y.epoch (round stage) stage ≡ d.epoch → Goes c p s k None x reply
-    goes_back_with reply result taken comes none own = ends_as reply result (back_from done back) taken comes none (ended_known own own_stock_same) ended_fits
+    goes_back_with reply result taken comes silent none own = ends_as reply result (back_from done back) taken comes silent none (ended_known own own_stock_same) ended_fits
 
     -- there is nothing to do now
     pub ends : (reply : Reply) (word : ℕ) → duty.taken_at (round stage) stage reply ≡ round (Ended (NothingNow word)) → won_in stage reply ≡ None
         → epoch_at y.epoch (round stage) stage ≡ d.epoch → Goes c p s k None x reply
-    ends reply word taken none own = goes_back_with reply (NothingNow word) taken refl none own
+    ends reply word taken none own = goes_back_with reply (NothingNow word) taken refl refl none own
 
     -- the pages of the round's heap are the heap's
     pub same_pages : d.layout.pages ≡ c.pages

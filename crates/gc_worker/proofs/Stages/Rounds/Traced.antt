@@ -21,7 +21,7 @@ use Rattle.gc_worker.specs.declared.stage.goal.Goal.TheVariants.{ForSnap, ForSca
 use Rattle.gc_worker.specs.Steps.Goes.{Is, Goes}
 use Rattle.gc_worker.specs.Workers.Held.{Held, at_stage}
 use Rattle.gc_worker.specs.Workers.Knows.{knows, epoch_at}
-use Rattle.gc_worker.specs.Steps.Turned.{checkpoints, goes_back, turned_round, won_in}
+use Rattle.gc_worker.specs.Steps.Turned.{checkpoints, goes_back, turned_round, won_in, told_round}
 use Rattle.gc_worker.proofs.Workers.Checkpointing.{has_room, round_for_snap, round_of_scanner}
 use Rattle.gc_worker.proofs.Stages.Rounds.Going.{at, done, ends_as, fits_done, goes_back_with, own_stock_same, sound_at}
 use Rattle.gc_worker.proofs.Stages.Rounds.Words.{traced_now, traced_word}
@@ -66,7 +66,7 @@ module _ (c : Configuration) (p : Plain) (s : Stands c p) (k : ℕ) (y : Held) (
           let f = fits_done c p s k y d ToSnap stage is in
           let task = is.fits.task in
           becomes c p s k x None reply begun s.ghost
-          (ap (λ (r : Round). turned_round x r ToSnap (duty.told r)) taken) is.below law refl none
+          (ap (λ (r : Round). turned_round x r ToSnap (duty.told r)) taken) is.below law (ap (λ (r : Round). told_round (duty.told r)) taken) none
           (subst IsSoundRound (sym taken) (sound_at c p s k y d ToSnap stage is (Ended Traced) tt))
           (round_for_snap c.pages c.mutators k ended f is.fits.end (has_room ended task.1) is.fits.side task.0 task.1)
 
@@ -84,16 +84,16 @@ module _ (c : Configuration) (p : Plain) (s : Stands c p) (k : ℕ) (y : Held) (
           let f = fits_done c p s k y d ToScanner stage is in
           let stock = own_stock_same c p s k y d ToScanner stage is in
           ends_as c p s k y d ToScanner stage is reply Traced helping taken
-          (ap (λ (b : Bool). at_stage scanner (cond b (checkpoints scanner ForScanner) (goes_back scanner ToScanner))) room) none
+          (ap (λ (b : Bool). at_stage scanner (cond b (checkpoints scanner ForScanner) (goes_back scanner ToScanner))) room) refl none
           (λ i. record (knows helping) { epoch = sym own i; stock = stock i })
           (round_of_scanner c.pages c.mutators k scanner f is.fits.end room is.fits.side is.fits.task is.fits.stage.1)
       helps_by false room = goes_back_with c p s k y d ToScanner stage is reply Traced taken
-          (ap (λ (b : Bool). at_stage scanner (cond b (checkpoints scanner ForScanner) (goes_back scanner ToScanner))) room) none own
+          (ap (λ (b : Bool). at_stage scanner (cond b (checkpoints scanner ForScanner) (goes_back scanner ToScanner))) room) refl none own
 
     -- ---- all
 
     pub finds_traced : (back : Back) → Is c k (at c p s k y d back stage) → traced_now c ≡ d.epoch + 1 → Goes c p s k None (at c p s k y d back stage) reply
-    finds_traced (ToAccess a) is traced = goes_back_with c p s k y d (ToAccess a) stage is reply Traced taken refl none own
-    finds_traced ToPlace is traced = goes_back_with c p s k y d ToPlace stage is reply Traced taken refl none own
+    finds_traced (ToAccess a) is traced = goes_back_with c p s k y d (ToAccess a) stage is reply Traced taken refl refl none own
+    finds_traced ToPlace is traced = goes_back_with c p s k y d ToPlace stage is reply Traced taken refl refl none own
     finds_traced ToSnap is traced = goes is traced
     finds_traced ToScanner is traced = helps_by is y.layout.checkpoints refl

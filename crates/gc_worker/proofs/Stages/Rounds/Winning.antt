@@ -35,7 +35,7 @@ use Rattle.gc_worker.specs.Workers.Fits.{Fits}
 use Rattle.gc_worker.specs.Steps.Goes.{Is, Goes, StepsSo}
 use Rattle.gc_worker.specs.Workers.Held.{Held}
 use Rattle.gc_worker.specs.Workers.Knows.{knows, claim_with, looked_all, scan_of, quest_at}
-use Rattle.gc_worker.specs.Steps.Turned.{turned, served_by}
+use Rattle.gc_worker.specs.Steps.Turned.{turned, served_by, told_round, Silent}
 use Rattle.gc_worker.proofs.Words.Eras.{board_is}
 use Rattle.gc_worker.proofs.Workers.Parts.{refit}
 use Rattle.gc_worker.proofs.Stages.Gate.Words.{wants}
@@ -43,6 +43,7 @@ use Rattle.gc_worker.proofs.Stages.Rounds.Going.{round, at, done, ends, fits_don
 use Rattle.gc_worker.proofs.Stages.Rounds.Words.{page_now, page_says}
 use Rattle.gc_worker.proofs.Stages.Scan.GoingOn.{still_back}
 use Rattle.gc_worker.proofs.Words.RowSteps.{Law, quiet, exchanges, prepared}
+use Rattle.atom_store.specs.declared.turn.Turn.TheVariants.{Finished}
 
 module _ (c : Configuration) (p : Plain) (s : Stands c p) (k : ℕ) (y : Held) (d : Round) (back : Back) (q : Claiming)
     (is : Is c k (at c p s k y d back (Claims (record q { stage = Exchanges })))) where
@@ -63,6 +64,10 @@ module _ (c : Configuration) (p : Plain) (s : Stands c p) (k : ℕ) (y : Held) (
       ≡ record y { epoch = d.epoch; stage = Scans (scan.begun y.layout q.page d.epoch b) back }
   turns_by true = refl
   turns_by false = refl
+
+  silent_by : (b : Bool) → told_round (Finished (cond b (ScanInPlace q.page) (ScanPage q.page))) ≡ Silent
+  silent_by true = refl
+  silent_by false = refl
 
   turns : turned x Won ≡ scanner
   turns = turns_by q.in_place
@@ -158,7 +163,7 @@ module _ (c : Configuration) (p : Plain) (s : Stands c p) (k : ℕ) (y : Held) (
   goes_won : page_now c q.page ≡ encode_page q.found → Goes c p s k (Some entry) x Won
   goes_won same =
       let now : (table c).page q.page ≡ q.found = word_is same in
-      quiet c p s k x (Some entry) Won s.ghost is.below (subst (λ (z : Held). Law c p s k x (Some entry) (knows z) s.ghost) (sym turns) (law same)) refl
+      quiet c p s k x (Some entry) Won s.ghost is.below (subst (λ (z : Held). Law c p s k x (Some entry) (knows z) s.ghost) (sym turns) (law same)) (silent_by q.in_place)
       (record { pages = is.fits.stage.0.sound.pages; caller = is.fits.stage.0.sound.caller; epoch = is.fits.stage.0.sound.epoch; worker = is.fits.stage.0.sound.worker; stage = tt })
       (subst (Fits c.pages c.mutators k) (sym turns) scanner_fits)
       (record {

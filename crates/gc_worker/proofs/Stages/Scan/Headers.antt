@@ -5,7 +5,7 @@ use Rattle.std.proofs.Math.Nat.{max_comm}
 use Rattle.plain_state.specs.State.{Plain}
 use Rattle.atom_store.specs.declared.step.Step.TheVariants.{Load}
 use Rattle.atom_store.specs.declared.reply.Reply.TheVariants.{Value}
-use Rattle.plain_state.specs.declared.kind.Kind.TheVariants.{Fields, Raw}
+use Rattle.plain_state.specs.declared.kind.Kind.TheVariants.{Fields, Raw, Weak}
 use Rattle.heap_words.specs.declared.kind.Kind.{Kind as HeaderKind}
 use Rattle.heap_words.specs.declared.kind.Kind.TheVariants as header_kinds
 use Rattle.heap_words.specs.Decoded.{HeaderWord, decode}
@@ -44,6 +44,10 @@ entered_fields n page a len space inside reaches short =
 
 entered_raw : (n page a len : ℕ) → page < 2 * n → a < 128 * n → 64 * page < a + (len + 1) → len ≤ 4095 → IsEntered n page a (len + 1) Raw
 entered_raw n page a len space inside reaches short =
+    record { space = space; inside = inside; reaches = reaches; short = omega (arith, short); some = omega arith; fits = omega arith; behind = omega arith; begins = omega arith }
+
+entered_cell : (n page a len : ℕ) → page < 2 * n → a < 128 * n → 64 * page < a + (len + 1) → len ≤ 4095 → IsEntered n page a (len + 1) Weak
+entered_cell n page a len space inside reaches short =
     record { space = space; inside = inside; reaches = reaches; short = omega (arith, short); some = omega arith; fits = omega arith; behind = omega arith; begins = omega arith }
 
 -- ---- the record over the page's first word
@@ -102,6 +106,12 @@ module _ (c : Configuration) (p : Plain) (s : Stands c p) (k : ℕ) (y : Held) (
           headed c p s k y v1 back (record { at = a; size = len + 1 }) is
           (record { low = space1; counted = omega (arith, some); short = omega (arith, short); inside = omega (arith, within, b); begins = omega (arith, first); reaches = reaches })
           (word_in c.pages c.words (HeapWord a)) now1 refl refl refl (omega (arith, first)) law (rw said refl) (λ sound. rw said sound) refl
+      goes1 header_kinds.Weak says counted =
+          let said : decode (word_in c.pages c.words (HeapWord a)) ≡ HeaderWord header_kinds.Weak len serial mutator = ap decode (sym (heap_word c a)) ∙ says in
+          let l = reads_first_header (era c) (memory c) (team c) s.ghost k now1 a len serial mutator header_kinds.Weak (prepared c p s k x1 is) scans1 apart1 refl refl says in
+          let law : Law c p s k x1 None (scanning (knows x1) (scan_in_record (era c) now1 a Weak (len + 1))) s.ghost = rw is.as_known at l in
+          entered c p s k y v1 back a (len + 1) Weak is (entered_cell c.pages u.page a len space1 inside1 reaches (header_bounds _ _ _ _ _ said).0)
+          (word_in c.pages c.words (HeapWord a)) (rw (max_comm (a + 1) (first_word u.page)) law) (rw said refl) (λ sound. rw said sound) refl
 
     -- its header stands there, and it reaches past that word
     pub first_header : (h : MeetsHeader (memory c) a) × (64 * u.page < a + (h.len + 1))
@@ -189,6 +199,12 @@ module _ (c : Configuration) (p : Plain) (s : Stands c p) (k : ℕ) (y : Held) (
           headed c p s k y v2 back (record { at = q.next; size = len + 1 }) is
           (record { low = space2; counted = omega (arith, some); short = omega (arith, short); inside = omega (arith, within, b); begins = o.1; reaches = reaches2 })
           (word_in c.pages c.words (HeapWord q.next)) now2 refl refl refl (omega (arith, o)) law (rw said refl) (λ sound. rw said sound) refl
+      goes2 header_kinds.Weak says counted =
+          let said : decode (word_in c.pages c.words (HeapWord q.next)) ≡ HeaderWord header_kinds.Weak len serial mutator = ap decode (sym (heap_word c q.next)) ∙ says in
+          let l = reads_next_header (era c) (memory c) (team c) s.ghost k now2 (seen_record q) len serial mutator header_kinds.Weak (prepared c p s k x2 is) scans2 apart2 refl refl below2 (inner_or_not u.in_place refl) says in
+          let law : Law c p s k x2 None (scanning (knows x2) (scan_in_record (era c) now2 q.next Weak (len + 1))) s.ghost = rw is.as_known at l in
+          entered c p s k y v2 back q.next (len + 1) Weak is (entered_cell c.pages u.page q.next len space2 inside2 reaches2 (header_bounds _ _ _ _ _ said).0)
+          (word_in c.pages c.words (HeapWord q.next)) (rw entry law) (rw said refl) (λ sound. rw said sound) refl
 
     pub reads_next : StepsSo c p s k x2
     reads_next =

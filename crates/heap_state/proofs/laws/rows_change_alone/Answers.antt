@@ -1,4 +1,4 @@
-use Rattle.heap_state.specs.Memory.Entries.{GateIs, TracedIs, AreaIs, SizeIs, PageIs, CrossIs, WordIs, AnnounceIs}
+use Rattle.heap_state.specs.Memory.Entries.{GateIs, TracedIs, AreaIs, WeakIs, WeakTurnIs, SizeIs, PageIs, CrossIs, WordIs, AnnounceIs}
 use Rattle.heap_state.proofs.Table.Stores.{stores_beside, stores_entry}
 use Rattle.heap_state.proofs.Table.Writing.{writes_tables, writes_whole_tables}
 use Rattle.heap_state.proofs.laws.rows_change_alone.Goals as goal
@@ -11,6 +11,12 @@ returns-clause-traced c = λ n words word formed. stores_entry n words (TracedIs
 
 pub returns-clause-area : goal.returns-clause-area
 returns-clause-area c = λ n words space area formed is fits. stores_entry n words (AreaIs space area) formed (is, fits)
+
+pub returns-clause-weak : goal.returns-clause-weak
+returns-clause-weak c = λ n words word formed. stores_entry n words (WeakIs word) formed tt
+
+pub returns-clause-weak_turn : goal.returns-clause-weak_turn
+returns-clause-weak_turn c = λ n words word formed. stores_entry n words (WeakTurnIs word) formed tt
 
 pub returns-clause-size : goal.returns-clause-size
 returns-clause-size c = λ n words space pages formed is least most. stores_entry n words (SizeIs space pages) formed (is, least, most)

@@ -23,7 +23,7 @@ use Rattle.gc_worker.specs.declared.access.mixed_access.MixedAccess.{MixedAccess
 use Rattle.gc_worker.specs.declared.access.record_access.RecordAccess.{RecordAccess}
 use Rattle.gc_worker.specs.declared.access.record_access.RecordUse.{RecordUse}
 use Rattle.gc_worker.specs.declared.access.record_access.RecordUse.TheVariants as record_uses
-use Rattle.gc_worker.specs.Steps.Access.{Answered, GoesTo, answered, by_kind, counted_by, counting, field_of, may_store, read_header, used_by}
+use Rattle.gc_worker.specs.Steps.Access.{Answered, GoesTo, answered, by_kind, counted_by, counting, field_of, may_store, read_header, refusal, refused_by, used_by}
 use Rattle.gc_worker.specs.Workers.Held.{Held}
 use Rattle.gc_worker.proofs.Stages.Access.Going.{own, at}
 use Rattle.gc_worker.proofs.Stages.Scan.Headers.{heap_word}
@@ -59,10 +59,18 @@ module _ (c : Configuration) (p : Plain) (s : Stands c p) (y : Held) (r : Record
   uses_mixed len (record_uses.Stores new) = counts_by (field_uses.Stores new) (in_record len r.value)
   uses_mixed len (record_uses.Exchanges e) = counts_by (field_uses.Exchanges e) (in_record len r.value)
 
+  -- a cell's value is refused
+  refuses_cell : (len : ℕ) (usage : RecordUse) → Owes (refused_by r len usage)
+  refuses_cell len (record_uses.TellsLength into) = brings c p s y (LoadsHeader r) a (table c) into (number_word len) a.remembers.quiet
+  refuses_cell len (record_uses.Loads into) = fails c p s y (LoadsHeader r) a (table c) (refusal (in_record len r.value))
+  refuses_cell len (record_uses.Stores new) = fails c p s y (LoadsHeader r) a (table c) (refusal (in_record len r.value))
+  refuses_cell len (record_uses.Exchanges e) = fails c p s y (LoadsHeader r) a (table c) (refusal (in_record len r.value))
+
   by_head : (head : HeaderKind) (len : ℕ) → Owes (by_kind r head len)
   by_head headers.Fields len = uses_by roles.Field len r.usage
   by_head headers.Raw len = uses_by roles.Number len r.usage
   by_head headers.Mixed len = uses_mixed (len - 1) r.usage
+  by_head headers.Weak len = refuses_cell (len - 1) r.usage
 
   -- ---- the load
 

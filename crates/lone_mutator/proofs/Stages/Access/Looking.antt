@@ -130,7 +130,7 @@ module _ (c : Configuration) (p : Plain) (s : Stands c p) (y : Held) where
     named_by (Links d target) executes e = absurd (cc)
     named_by (Prints n) executes e = absurd (cc)
     named_by Snaps executes e = absurd (cc)
-    named_by (Makes kind d n) executes e = absurd (cc)
+    named_by (Makes kind d n v) executes e = absurd (cc)
     named_by (Gets d v) executes e = absurd (cc)
     named_by (Puts v w) executes e = absurd (cc)
     named_by (Swaps d v w) executes e = absurd (cc)

@@ -10,15 +10,15 @@ use Rattle.space_map.specs.declared.gate_word.GateWord.{GateWord}
 use Rattle.space_map.specs.AreaWord.{encode_area}
 use Rattle.space_map.specs.GateWord.{encode_gate}
 use Rattle.space_map.specs.Spaces.{to_space}
-use Rattle.space_map.specs.Table.{Gate, Size, Area, place_of}
+use Rattle.space_map.specs.Table.{Gate, Size, Area, WeakHead, place_of}
 use Rattle.gate_core.specs.declared.flip_stage.FlipStage.{FlipStage}
-use Rattle.gate_core.specs.declared.flip_stage.FlipStage.TheVariants.{LoadsGate, LoadsSize, LoadsArea, StoresSize, StoresArea, Exchanges, Ended}
+use Rattle.gate_core.specs.declared.flip_stage.FlipStage.TheVariants.{LoadsGate, LoadsSize, LoadsArea, StoresSize, StoresArea, ResetsWeak, Exchanges, Ended}
 use Rattle.gate_core.specs.declared.flipped.Flipped.TheVariants.{NotYet}
 use Rattle.gate_core.specs.declared.reset.Reset as resets
 use Rattle.gate_core.specs.Flip.{Flipping, area_reset, gate_flipped, is_still, looked, next_size, read_area, told_at}
 use Rattle.gate_core.specs.Soundness.{FitsReset}
 use Rattle.heap_state.specs.Configuration.{Configuration, Stands, era, memory, table}
-use Rattle.heap_state.specs.Memory.Entries.{AreaIs, GateIs, SizeIs}
+use Rattle.heap_state.specs.Memory.Entries.{AreaIs, GateIs, SizeIs, WeakIs}
 use Rattle.heap_state.specs.Memory.Table.{Table}
 use Rattle.heap_state.specs.Functions.{put}
 use Rattle.heap_state.specs.Invariant.Parts.Knowledge.{Resets}
@@ -128,6 +128,13 @@ module _ (c : Configuration) (p : Plain) (s : Stands c p) (y : Held) (asked : â„
         (stores c p s (at (StoresArea r)) (AreaIs space area) (is_space (y.epoch + 1), record { front_fits = omega arith; low_fits = omega (arith, next, few); owed_fits = omega (arith, used, size, few) }) tt
         (record { remembers = record { began = a.remembers.began; quiet = a.remembers.quiet; stands = tt }; falls = omega arith }))
 
+  module _ (r : resets.Reset) (a : IsAlone c (at (ResetsWeak r))) where
+    resets_weak : StepsLower c (at (ResetsWeak r))
+    resets_weak =
+        wants c p s (at (ResetsWeak r)) (Store (place_of c.pages WeakHead) 0) (ap (Î» n. Some (Store (place_of n WeakHead) 0)) a.is.fits.pages)
+        (stores c p s (at (ResetsWeak r)) (WeakIs 0) tt tt
+        (record { remembers = record { began = a.remembers.began; quiet = a.remembers.quiet; stands = tt }; falls = omega arith }))
+
   -- ---- the exchange
 
   module _ (r : resets.Reset) (a : IsAlone c (at (Exchanges r))) where
@@ -223,5 +230,6 @@ module _ (c : Configuration) (p : Plain) (s : Stands c p) (y : Held) (asked : â„
   flips_by (LoadsArea gate size) a = loads_area gate size a
   flips_by (StoresSize r) a = stores_size r a
   flips_by (StoresArea r) a = stores_area r a
+  flips_by (ResetsWeak r) a = resets_weak r a
   flips_by (Exchanges r) a = flips r a
   flips_by (Ended result) a = Î» q next. absurd (cc)

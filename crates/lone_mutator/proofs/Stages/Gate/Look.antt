@@ -4,6 +4,7 @@ use Rattle.std.proofs.lemmas.Bool.{cases_Bool}
 use Rattle.plain_state.specs.declared.end.End.{End}
 use Rattle.plain_state.specs.declared.kind.Kind.{Kind}
 use Rattle.plain_state.specs.State.{Plain}
+use Rattle.plain_state.specs.declared.value.Value.{Value}
 use Rattle.mutator_asm.specs.declared.instr.Instr.{Instr}
 use Rattle.plain_heap.specs.declared.action.Action.{Action}
 use Rattle.plain_heap.specs.declared.action.Action.TheVariants.{Sets, Jumps, Links, Prints, Makes, Measures, Loads, Stores, Exchanges, Gets, Puts, Swaps, Snaps}
@@ -57,9 +58,9 @@ module _ (c : Configuration) (p : Plain) (s : Stands c p) (y : Held) where
       abbrev Acts : Action → Type 0
       Acts act = LowersWhereTold c.pages (saves c) (table c) (table c) x (acts (begins x) act) (told_action x (Calls instr) act)
 
-      makes : (kind : Kind) (d n : ℕ) → action (seen y.account y.registers) instr ≡ Ok (Makes kind d n) → Acts (Makes kind d n)
-      makes kind d n is =
-          let making : IsMaking y.account y.registers y.task = record { making = record { kind = kind; into = d; len = n }; executes = record { instr = instr; task_is = task_is; call = call; acts = is } } in
+      makes : (kind : Kind) (d n : ℕ) (v : Value) → action (seen y.account y.registers) instr ≡ Ok (Makes kind d n v) → Acts (Makes kind d n v)
+      makes kind d n v is =
+          let making : IsMaking y.account y.registers y.task = record { making = record { kind = kind; into = d; len = n }; value = v; executes = record { instr = instr; task_is = task_is; call = call; acts = is } } in
           let goes = goes_placing c.pages (saves c) (table c) (begins x) a.is.fits.pages (omega arith) a.remembers.quiet making in
           let flip = flip_left-le c.pages (size_in (table c)) (begins x) in
           let within = goes.within in
@@ -82,7 +83,7 @@ module _ (c : Configuration) (p : Plain) (s : Stands c p) (y : Held) where
       act_by (Links d target) is = a.remembers.quiet
       act_by (Prints n) is = a.remembers.quiet
       act_by Snaps is = snaps is
-      act_by (Makes kind d n) is = makes kind d n is
+      act_by (Makes kind d n v) is = makes kind d n v is
       act_by (Measures d i) is = record { remembers = record { began = λ past. omega arith; quiet = a.remembers.quiet; stands = tt }; falls = omega arith }
       act_by (Loads d i n) is = record { remembers = record { began = λ past. omega arith; quiet = a.remembers.quiet; stands = tt }; falls = omega arith }
       act_by (Stores i n v) is = record { remembers = record { began = λ past. omega arith; quiet = a.remembers.quiet; stands = tt }; falls = omega arith }

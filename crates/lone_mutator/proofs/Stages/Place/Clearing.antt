@@ -4,7 +4,7 @@ use Rattle.plain_state.specs.State.{Plain}
 use Rattle.record_layout.specs.declared.header.Header.{Header}
 use Rattle.record_layout.specs.Layout.{header_says}
 use Rattle.heap_words.specs.declared.kind.Kind.{Kind}
-use Rattle.heap_words.specs.declared.kind.Kind.TheVariants.{Fields, Raw, Mixed}
+use Rattle.heap_words.specs.declared.kind.Kind.TheVariants.{Fields, Raw, Mixed, Weak}
 use Rattle.heap_words.specs.Decoded.{encode}
 use Rattle.heap_words.specs.Word.{number_word}
 use Rattle.atom_store.specs.declared.step.Step.TheVariants.{Store}
@@ -178,6 +178,10 @@ module _ (c : Configuration) (p : Plain) (s : Stands c p) (y : Held) (run : Run)
         let fits = a.is.fits.stage.sound.stage in
         let from = fits.1 in let below = fits.2 in let due = due_after in
         writes_next (OpensPage new) a (first_for Mixed) opened_at (2 + guard_cost) (λ x. refl) a.remembers.quiet tt (omega (arith, from, below, due))
+    opened_last Weak =
+        let fits = a.is.fits.stage.sound.stage in
+        let from = fits.1 in let below = fits.2 in let due = due_after in
+        writes_next (OpensPage new) a (first_for Weak) opened_at 1 (λ x. refl) a.remembers.quiet tt (omega (arith, from, below, due))
 
     opened_by : (b : Bool) → Opens (cond b (placing c p s y run header (readies y.snap further)) (first_for header.kind))
     opened_by true = next_by (y.snap == 0)

@@ -24,6 +24,7 @@ use Rattle.gc_worker.specs.Workers.Held.{Held}
 use Rattle.gc_worker.specs.Workers.Knows.{epoch_at}
 use Rattle.gc_worker.specs.Steps.Turned.{turned, turned_round}
 use Rattle.gc_worker.proofs.Words.Eras.{board_is, start_is}
+use Rattle.gc_worker.proofs.Plain.Quiet.{rounds_are_quiet}
 use Rattle.gc_worker.proofs.Stages.Rounds.Going.{round, at, same_pages}
 use Rattle.lone_mutator.specs.Law.{Lowers, IsAlone, StepsLower, saves}
 use Rattle.lone_mutator.specs.Lone.{BackStands}
@@ -32,7 +33,7 @@ use Rattle.lone_mutator.proofs.Steps.GoingBack.{same_back, runs, own_epoch}
 use Rattle.lone_mutator.proofs.Stages.Gate.Counts.{none_behind, present}
 use Rattle.lone_mutator.proofs.Epochs.Pages.{opened}
 use Rattle.lone_mutator.proofs.Stages.Rounds.Rounds.{RoundIsAlone, RoundGoes}
-use Rattle.lone_mutator.proofs.Steps.Owed.{Owes, wants, loads}
+use Rattle.lone_mutator.proofs.Steps.Owed.{Owes, wants, loads, owes_quietly}
 
 module _ (c : Configuration) (p : Plain) (s : Stands c p) (y : Held) (d : Round) (back : Back) where
   module _ (stage : DutyStage) (a : IsAlone c (at c p s 0 y d back stage)) where
@@ -134,7 +135,7 @@ module _ (c : Configuration) (p : Plain) (s : Stands c p) (y : Held) (d : Round)
       }
 
       pub goes_on : Owes c p s x (table c) reply
-      goes_on = subst (λ (z : Held). Lowers c.pages (saves c) (table c) (table c) x z) (sym turns) lower
+      goes_on = owes_quietly c p s x (table c) reply next turns (rounds_are_quiet (duty.told (duty.taken own reply))) lower
 
     -- a load of a row
     pub loads_it : (row : Row) → IsRow c.pages row → duty.wanted own ≡ Some (Load (place_of d.layout.pages row))

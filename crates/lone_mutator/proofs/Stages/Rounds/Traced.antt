@@ -6,6 +6,7 @@ use Rattle.atom_store.specs.declared.reply.Reply.TheVariants.{Value}
 use Rattle.atom_store.specs.declared.step.Step.TheVariants.{Load}
 use Rattle.space_map.specs.Table.{Traced, place_of}
 use Rattle.fault_duty.specs.declared.duty_stage.DutyStage.TheVariants.{LoadsTraced}
+use Rattle.fault_duty.specs.Duty as duty
 use Rattle.fault_duty.specs.Duty.{Round}
 use Rattle.heap_state.specs.Configuration.{Configuration, Stands, table, era, memory}
 use Rattle.page_saves.specs.SaveRound.{begun_by_mutator}
@@ -15,11 +16,12 @@ use Rattle.gc_worker.specs.declared.stage.goal.Goal.TheVariants.{ForSnap}
 use Rattle.gc_worker.specs.declared.stage.Stage.TheVariants.{Checkpoints}
 use Rattle.gc_worker.specs.Workers.Held.{Held}
 use Rattle.gc_worker.specs.Steps.Turned.{turned}
-use Rattle.gc_worker.proofs.Stages.Rounds.Going.{at, same_pages}
+use Rattle.gc_worker.proofs.Plain.Quiet.{rounds_are_quiet}
+use Rattle.gc_worker.proofs.Stages.Rounds.Going.{at, round, same_pages}
 use Rattle.gc_worker.proofs.Stages.Rounds.Words.{traced_now, traced_word}
 use Rattle.lone_mutator.specs.Law.{Lowers, IsAlone, StepsLower, saves}
 use Rattle.lone_mutator.specs.Rounds.{EndsTraced}
-use Rattle.lone_mutator.proofs.Steps.Owed.{wants, loads}
+use Rattle.lone_mutator.proofs.Steps.Owed.{wants, loads, owes_quietly}
 use Rattle.lone_mutator.proofs.Stages.Rounds.Going.{of_epoch, era_epoch}
 
 module _ (c : Configuration) (p : Plain) (s : Stands c p) (y : Held) (d : Round) (hindrance : Option ℕ) where
@@ -55,7 +57,8 @@ module _ (c : Configuration) (p : Plain) (s : Stands c p) (y : Held) (d : Round)
     ends : StepsLower c x
     ends =
         wants c p s x (Load (place_of c.pages Traced)) (ap (λ n. Some (Load (place_of n Traced))) pages)
-        (loads c p s x Traced tt (subst (λ (z : Held). Lowers c.pages (saves c) (table c) (table c) x z) (sym turns) lower))
+        (loads c p s x Traced tt
+        (owes_quietly c p s x (table c) (Value (traced_now c)) saves_first turns (rounds_are_quiet (duty.told (duty.taken (round c p s 0 y d ToSnap (LoadsTraced hindrance)) (Value (traced_now c))))) lower))
 
   pub ends_traced : (back : Back) → EndsTraced back → IsAlone c (begins back) → (memory c).traced ≡ (era c).epoch + 1 → StepsLower c (begins back)
   ends_traced ToSnap is a traced = ends a traced

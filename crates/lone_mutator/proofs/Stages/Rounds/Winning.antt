@@ -3,6 +3,7 @@ use Rattle.std.proofs.Common.{◌≡◌, ℕ, ◌+◌, ◌*◌, ◌/◌, ◌<◌
 use Rattle.plain_state.specs.State.{Plain}
 use Rattle.atom_store.specs.declared.step.Step.TheVariants.{Exchange}
 use Rattle.atom_store.specs.declared.reply.Reply.TheVariants.{Won}
+use Rattle.atom_store.specs.declared.turn.Turn.TheVariants.{Finished}
 use Rattle.space_map.specs.declared.page_word.PageWord.TheVariants.{Scanning}
 use Rattle.space_map.specs.PageWord.{encode_page, age_of}
 use Rattle.space_map.specs.Spaces.{Layout, board_page, first_word, to_space}
@@ -27,6 +28,7 @@ use Rattle.gc_worker.specs.declared.stage.Stage.TheVariants.{Scans}
 use Rattle.gc_worker.specs.Workers.Held.{Held}
 use Rattle.gc_worker.specs.Workers.Knows.{claim_with, looked_all}
 use Rattle.gc_worker.specs.Steps.Turned.{served_by, turned}
+use Rattle.gc_worker.proofs.Plain.Quiet.{rounds_are_quiet}
 use Rattle.gc_worker.proofs.Words.Eras.{board_is, start_is, span_within}
 use Rattle.gc_worker.proofs.Stages.Rounds.Going.{round, at, same_pages}
 use Rattle.gc_worker.proofs.Stages.Rounds.Words.{page_now, page_says}
@@ -36,7 +38,7 @@ use Rattle.lone_mutator.specs.Bound.{page_cost}
 use Rattle.lone_mutator.proofs.Steps.GoingBack.{same_back}
 use Rattle.lone_mutator.proofs.Stages.Rounds.Rounds.{left_again}
 use Rattle.lone_mutator.proofs.Stages.Rounds.Going.{of_epoch, era_epoch, worker_now}
-use Rattle.lone_mutator.proofs.Steps.Owed.{wants, exchanges}
+use Rattle.lone_mutator.proofs.Steps.Owed.{wants, exchanges, owes_quietly}
 use Rattle.lone_mutator.proofs.Epochs.Cost.{IsToBeTraced, due_untraced, left_claimed}
 
 -- a scan that begins has at most so many steps left
@@ -138,4 +140,4 @@ module _ (c : Configuration) (p : Plain) (s : Stands c p) (y : Held) (d : Round)
         wants c p s x (Exchange (place_of c.pages (Page q.page)) (encode_page q.found) (encode_page (Scanning q.epoch q.worker)))
         (ap (λ n. Some (Exchange (place_of n (Page q.page)) (encode_page q.found) (encode_page (Scanning q.epoch q.worker)))) pages)
         (exchanges c p s x entry (encode_page q.found) (inside, (own.sound.epoch, let w = own.sound.worker in omega (arith, w))) tt stands
-        (subst (λ (z : Held). Lowers c.pages (saves c) t (with_entry entry t) x z) (sym turns) lower))
+        (owes_quietly c p s x (with_entry entry t) Won scanner turns (rounds_are_quiet (Finished (cond q.in_place (ScanInPlace q.page) (ScanPage q.page)))) lower))

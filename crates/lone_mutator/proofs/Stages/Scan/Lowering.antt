@@ -6,7 +6,7 @@ use Rattle.std.proofs.lemmas.Bool.Decides.{nat_tests}
 use Rattle.atom_store.specs.declared.reply.Reply.{Reply}
 use Rattle.atom_store.specs.declared.reply.Reply.TheVariants.{Value, Done}
 use Rattle.plain_state.specs.declared.kind.Kind.{Kind}
-use Rattle.plain_state.specs.declared.kind.Kind.TheVariants.{Fields, Raw, Mixed}
+use Rattle.plain_state.specs.declared.kind.Kind.TheVariants.{Fields, Raw, Mixed, Weak}
 use Rattle.heap_words.specs.declared.kind.Kind.{Kind as HeaderKind}
 use Rattle.heap_words.specs.declared.kind.Kind.TheVariants as header_kinds
 use Rattle.heap_state.specs.Memory.FieldSpan.{first_field}
@@ -112,6 +112,9 @@ first_kind-cost l p in_place at size header_kinds.Raw low fits =
     let few = entered-cost l.pages p (scan_end l p) in_place (record_at at Raw size) (max (at + 1) (first_word p)) (scan_end-page l p low) fits in
     omega (arith, few)
 first_kind-cost l p in_place at size header_kinds.Mixed low fits = let few = counts-lt (scan_end l p) (record { at = at; size = size }) in omega (arith, few)
+first_kind-cost l p in_place at size header_kinds.Weak low fits =
+    let few = entered-cost l.pages p (scan_end l p) in_place (record_at at Weak size) (max (at + 1) (first_word p)) (scan_end-page l p low) fits in
+    omega (arith, few)
 
 first-cost : (l : Layout) (p : ℕ) (in_place : Bool) (at : ℕ) (d : Decoded) → p < board_page l.pages → is_header d ≡ true
     → FitsStage l.pages p (by_header p in_place at (LoadsFirst at) d) → cost (scan_end l p) (by_header p in_place at (LoadsFirst at) d) < 450
@@ -126,6 +129,7 @@ next_kind-cost : (end page : ℕ) (in_place : Bool) (at len : ℕ) (kind : Heade
 next_kind-cost end page in_place at len header_kinds.Fields on inside = next-cost end page in_place at Fields len (omega arith) inside
 next_kind-cost end page in_place at len header_kinds.Raw on inside = next-cost end page in_place at Raw len (omega arith) inside
 next_kind-cost end page in_place at len header_kinds.Mixed on inside = let few = counts-on end (record { at = at; size = len + 1 }) on in omega (arith, few, inside)
+next_kind-cost end page in_place at len header_kinds.Weak on inside = next-cost end page in_place at Weak len (omega arith) inside
 
 header-cost : (end page : ℕ) (in_place : Bool) (r : ScannedRecord) (d : Decoded) → end - 64 ≤ r.next → r.next < end → is_header d ≡ true
     → cost end (by_header page in_place r.next (LoadsNext r) d) < 7 * (end - r.next) - 1

@@ -1,5 +1,9 @@
+use Rattle.plain_heap.proofs.Calls.Cells.{cells_stay}
 use Rattle.plain_heap.proofs.Calls.Records.{shapes_stay}
 use Rattle.plain_heap.proofs.laws.shapes_stay.Goals as goal
 
-pub returns : goal.returns
-returns c = shapes_stay
+pub returns-clause-shapes : goal.returns-clause-shapes
+returns-clause-shapes c = shapes_stay
+
+pub returns-clause-cells : goal.returns-clause-cells
+returns-clause-cells c = cells_stay

@@ -1,8 +1,5 @@
-use Rattle.plain_heap.proofs.Orders.Stories.{story-now, story-no_flip, story-flip}
+use Rattle.plain_heap.proofs.Orders.Stories.{story-no_flip, story-flip}
 use Rattle.plain_heap.proofs.laws.stories_keep_the_last_flip.Goals as goal
-
-pub returns-clause-now : goal.returns-clause-now
-returns-clause-now c = story-now
 
 pub returns-clause-no_flip : goal.returns-clause-no_flip
 returns-clause-no_flip c = story-no_flip

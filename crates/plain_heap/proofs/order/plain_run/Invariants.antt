@@ -1,7 +1,10 @@
-use Rattle.std.proofs.Common.{◌≡◌, drop}
-use Rattle.plain_heap.specs.Order.{plain, state_after}
+use Rattle.std.proofs.Common.{◌≡◌, take}
+use Rattle.plain_heap.specs.Order.{story}
+use Rattle.plain_heap.specs.Search.{Keeps}
+use Rattle.plain_heap.specs.Tracing.{has_weak}
 use Rattle.plain_heap.proofs.order.plain_run.Given as goal
 
--- what the marks that are left do to the state comes to what the whole order does
+-- the run keeps the story of the marks so far
 abbrev pub invariant-loop-mark : goal.invariant-loop-mark
-invariant-loop-mark l = state_after l.p.code l.turns l.s (drop l.mark-index l.order) ≡ plain l.p.code l.turns l.order
+invariant-loop-mark l =
+    Keeps (story l.p.code l.turns (take l.mark-index l.order)) l.run.now l.run.lost.items × (l.run.weak ≡ has_weak l.p.code)
