@@ -1,17 +1,23 @@
 -- The lines of mutators, read mutator by mutator, as a loop does.
-use Rattle.std.proofs.Common.{Bor, ◌≡◌, ℕ, ◌+◌, ◌<◌, List, [], ◌∷◌, ◌++◌, length, map, Result, Ok, Err, refl, sym, ap, subst, ◌∙◌, arith}
+use Rattle.std.proofs.Common.{Bor, ◌≡◌, ℕ, zero, suc, ◌+◌, ◌-◌, ◌<◌, ◌≤◌, List, [], ◌∷◌, ◌++◌, length, map, None, Result, Ok, Err, refl, sym, ap, subst, ◌∙◌, arith}
 use Rattle.std.proofs.lemmas.List.{append_assoc, append-nil, length-append, map-append}
 use Rattle.std.specs.List.{AllByRecursion}
+use Rattle.std.specs.Prelude.{IfErr}
 use Rattle.std.specs.Result.{IsErrAnd}
-use Rattle.plain_heap.specs.Print.{printed_lines, lines_seen, Seen}
-use Rattle.heap_audit.specs.Lines.{SeenFits, AreSeen, seen_by}
+use Rattle.dump_text.specs.Lines.{first_lines}
+use Rattle.plain_heap.specs.Print.{lines_seen, Seen}
+use Rattle.heap_audit.specs.FirstWrong.{GoWrongBehind, NamesWrong}
+use Rattle.heap_audit.specs.Lines.{SeenFits, AreSeen, line_count, seen_by, seen_text}
 use Rattle.heap_audit.specs.Order.{ReadsAs}
 use Rattle.heap_audit.specs.declared.lines.MutatorLines.{MutatorLines}
 use Rattle.heap_audit.specs.declared.reading_error.ReadingError.{ReadingError}
 use Rattle.heap_audit.specs.declared.reading_error.ReadingError.TheVariants as errors
+use Rattle.heap_audit.proofs.Fronts.{ends, ends_append}
+use Rattle.heap_audit.proofs.SeenLines.{same_seen, seen_count}
+use Rattle.heap_audit.proofs.WrongLines.{goes_on as front_goes_on, same_behind}
 
 abbrev Lines : ℕ → Seen → List ℕ
-Lines m k = printed_lines m k.printed k.end
+Lines m k = seen_text m k
 
 -- what is left of mutators' lines when some mutators are read
 pub record AllLeft (found all : List Seen) (m : ℕ) (rest tail : List ℕ) : Type 0 where
@@ -64,9 +70,9 @@ nothing_left found all (k ∷ more) n number len split =
 
 err_again : {X Y Z W : Type 0} (v : X → Y) (w : Z → W) (e : ReadingError) (y : Y) (z : W) → ReadsAs v (Err e) y → ReadsAs w (Err e) z
 err_again v w errors.NoMemory y z h = tt
-err_again v w errors.Bad y z h = absurd h
+err_again v w (errors.Bad line) y z h = absurd h
 
-handed_on : {X Z Y W : Type 0} (v : X → Y) (w : Z → W) (r : Result Z ReadingError) (why : ReadingError) (y : Y) (z : W) → IsErrAnd r (λ e. e ≡ why) → ReadsAs v (Err why) y → ReadsAs w r z
+pub handed_on : {X Z Y W : Type 0} (v : X → Y) (w : Z → W) (r : Result Z ReadingError) (why : ReadingError) (y : Y) (z : W) → IsErrAnd r (λ e. e ≡ why) → ReadsAs v (Err why) y → ReadsAs w r z
 handed_on v w (Ok x) why y z is h = absurd is
 handed_on v w (Err e) why y z is h = subst (λ (e : ReadingError). ReadsAs w (Err e) z) (sym is) (err_again v w why y z h)
 
@@ -122,3 +128,97 @@ module _ (n : ℕ) (bytes : List ℕ) (all : List MutatorLines) (m : ℕ) (rest 
       let whole : ks ≡ map seen_by all = l.split ∙ ap (λ (xs : List Seen). map seen_by all ++ xs) none ∙ append-nil (map seen_by all) in
       let behind : rest ≡ tail = l.text ∙ ap (λ (xs : List Seen). lines_seen m xs ++ tail) none in
       ap (λ (xs : List Seen). (xs, rest)) (sym whole) ∙ ap (λ (t : List ℕ). (ks, t)) behind
+
+-- ---- lines at the front
+
+lines_more : (i : ℕ) (found ks : List Seen) (m : ℕ) → i + length found ≡ m → lines_seen i (found ++ ks) ≡ lines_seen i found ++ lines_seen m ks
+lines_more i [] ks m e = let is : i ≡ m = omega (arith, e) in ap (λ (j : ℕ). lines_seen j ks) is
+lines_more i (k ∷ found) ks m e =
+    ap (λ (t : List ℕ). Lines i k ++ t) (lines_more (i + 1) found ks m (omega (arith, e))) ∙ sym (append_assoc (Lines i k) (lines_seen (i + 1) found) (lines_seen m ks))
+
+-- mutators at the front are the first of those whose lines these are
+strip : (i : ℕ) (found ks : List Seen) (m : ℕ) (rest tail : List ℕ) → i + length found ≡ m → m ≤ 256 → length found ≤ length ks → AllByRecursion SeenFits found → AllByRecursion SeenFits ks → lines_seen i found ++ rest ≡ lines_seen i ks ++ tail → AllLeft found ks m rest tail
+strip i [] ks m rest tail is low short hf hk e =
+    let here : i ≡ m = omega (arith, is) in
+    record { more = ks; split = refl; fit = hk; text = e ∙ ap (λ (j : ℕ). lines_seen j ks ++ tail) here }
+strip i (k ∷ found) [] m rest tail is low short hf hk e = absurd (omega (arith, short))
+strip i (k ∷ found) (j ∷ ks) m rest tail is low short hf hk e =
+    let whole = sym (append_assoc (Lines i k) (lines_seen (i + 1) found) rest) ∙ e ∙ append_assoc (Lines i j) (lines_seen (i + 1) ks) tail in
+    let same = same_seen i (omega (arith, is, low)) k j (lines_seen (i + 1) found ++ rest) (lines_seen (i + 1) ks ++ tail) hf.0 hk.0 whole in
+    let l = strip (i + 1) found ks m rest tail (omega (arith, is)) low (omega (arith, short)) hf.1 hk.1 same.1 in
+    record { more = l.more; split = ap (λ (x : Seen). x ∷ ks) (sym same.0) ∙ ap (λ (xs : List Seen). k ∷ xs) l.split; fit = l.fit; text = l.text }
+
+-- lines of so many mutators at the front are those of one thing alone
+pub same_lines : (n : ℕ) (all ks : List Seen) (rest tail : List ℕ) → n ≤ 256 → AreSeen n all → AreSeen n ks → lines_seen 0 all ++ rest ≡ lines_seen 0 ks ++ tail → (all ≡ ks) × (rest ≡ tail)
+same_lines n all ks rest tail low ha hk e =
+    let l = strip 0 all ks n rest tail (omega (arith, ha.0)) low (omega (arith, ha.0, hk.0)) ha.1 hk.1 e in
+    let none = nothing_left all ks l.more n ha.0 hk.0 l.split in
+    (sym (l.split ∙ ap (λ (xs : List Seen). all ++ xs) none ∙ append-nil all), l.text ∙ ap (λ (xs : List Seen). lines_seen n xs ++ tail) none)
+
+-- ---- how many lines there are
+
+pub lines_count : (i : ℕ) (ks : List Seen) → i + length ks ≤ 256 → AllByRecursion SeenFits ks → ends (lines_seen i ks) ≡ line_count ks
+lines_count i [] low h = refl
+lines_count i (k ∷ ks) low h =
+    omega (arith, ends_append (Lines i k) (lines_seen (i + 1) ks), seen_count i (omega (arith, low)) k h.0, lines_count (i + 1) ks (omega (arith, low)) h.1)
+
+pub count_one_more : (ks : List Seen) (k : Seen) → line_count (ks ++ k ∷ []) ≡ line_count ks + length k.printed + 1
+count_one_more [] k = omega arith
+count_one_more (j ∷ ks) k = omega (arith, count_one_more ks k)
+
+-- ---- the first wrong line
+
+-- mutators that were stopped before they printed
+abbrev stopped : Seen
+stopped = record { printed = []; end = None }
+
+filled : ℕ → List Seen
+filled zero = []
+filled (suc n) = stopped ∷ filled n
+
+filled_fits : (n : ℕ) → (length (filled n) ≡ n) × AllByRecursion SeenFits (filled n)
+unfolding filled
+filled_fits zero = (refl, tt)
+filled_fits (suc n) = let h = filled_fits n in (ap suc h.0, ((omega arith, tt, tt), h.1))
+
+all_fit : (found ks : List Seen) → AllByRecursion SeenFits found → AllByRecursion SeenFits ks → AllByRecursion SeenFits (found ++ ks)
+all_fit [] ks hf hk = hk
+all_fit (k ∷ found) ks hf hk = (hf.0, all_fit found ks hf.1 hk)
+
+-- the lines of mutator m are wrong, which stands behind those that were read
+pub go_wrong : (n : ℕ) (bytes : List ℕ) (found : List Seen) (m : ℕ) (rest : List ℕ) (k : ℕ) → n ≤ 256 → m < n → AllSoFar n bytes found m rest → GoWrongBehind (seen_text m) SeenFits rest k → GoWrongBehind (lines_seen 0) (AreSeen n) bytes (line_count found + k)
+go_wrong n bytes found m rest k low lt s w =
+    let front = lines_seen 0 found in
+    let others = filled (n - (m + 1)) in
+    let h = filled_fits (n - (m + 1)) in
+    let begun = found ++ w.begun ∷ others in
+    let count : ends front ≡ line_count found = lines_count 0 found (omega (arith, s.number, low, lt)) s.fit in
+    let here : line_count found + k ≡ ends front + k = omega (arith, count) in
+    let next : suc (line_count found + k) ≡ suc (ends front + k) = omega (arith, count) in
+    record {
+      begun = begun;
+      fits = (omega (arith, length-append found (w.begun ∷ others), h.0, s.number, lt), all_fit found (w.begun ∷ others) s.fit (w.fits, h.1));
+      before = λ more.
+          let behind = lines_seen (m + 1) others ++ more in
+          let text : lines_seen 0 begun ++ more ≡ front ++ (Lines m w.begun ++ behind) =
+          ap (λ (xs : List ℕ). xs ++ more) (lines_more 0 found (w.begun ∷ others) m (omega (arith, s.number))) ∙ append_assoc front (Lines m w.begun ++ lines_seen (m + 1) others) more
+          ∙ ap (λ (xs : List ℕ). front ++ xs) (append_assoc (Lines m w.begun) (lines_seen (m + 1) others) more) in
+          ap (λ (j : ℕ). first_lines j bytes) here ∙ ap (first_lines (ends front + k)) s.taken ∙ same_behind front rest (Lines m w.begun ++ behind) k (w.before behind)
+          ∙ ap (first_lines (ends front + k)) (sym text) ∙ ap (λ (j : ℕ). first_lines j (lines_seen 0 begun ++ more)) (sym here);
+      wrong = λ ks more fits same.
+          let whole = lines_seen 0 ks ++ more in
+          let f = front_goes_on front rest whole k (ap (first_lines (suc (ends front + k))) (sym s.taken) ∙ ap (λ (j : ℕ). first_lines j bytes) (sym next) ∙ same ∙ ap (λ (j : ℕ). first_lines j whole) next) in
+          let l = strip 0 found ks m f.tail more (omega (arith, s.number)) (omega (arith, low, lt)) (omega (arith, s.number, fits.0, lt)) s.fit fits.1 (sym f.split) in
+          let b = begins found ks l.more m n f.tail more s.number lt fits.0 l.split l.fit l.text in
+          w.wrong b.first (lines_seen (m + 1) b.others ++ more) b.fits (f.same ∙ ap (first_lines (suc k)) b.text);
+    }
+
+-- an error that names a line of mutator m names that of all
+names_wrong : (n : ℕ) (bytes : List ℕ) (found : List Seen) (m : ℕ) (rest : List ℕ) (count : ℕ) (why : ReadingError) → n ≤ 256 → m < n → AllSoFar n bytes found m rest → count ≡ line_count found → NamesWrong (seen_text m) SeenFits rest count why → NamesWrong (lines_seen 0) (AreSeen n) bytes 0 why
+names_wrong n bytes found m rest count errors.NoMemory low lt s is w = tt
+names_wrong n bytes found m rest count (errors.Bad line) low lt s is w =
+    (line_count found + w.0, omega (arith, is, w.1), go_wrong n bytes found m rest w.0 low lt s w.2)
+
+pub fails_wrong : {Z : Type 0} (n : ℕ) (bytes : List ℕ) (found : List Seen) (m : ℕ) (rest : List ℕ) (count : ℕ) (r : Result Z ReadingError) (why : ReadingError) → IsErrAnd r (λ e. e ≡ why) → n ≤ 256 → m < n → AllSoFar n bytes found m rest → count ≡ line_count found → NamesWrong (seen_text m) SeenFits rest count why → IfErr r (NamesWrong (lines_seen 0) (AreSeen n) bytes 0)
+fails_wrong n bytes found m rest count (Ok x) why is low lt s c w = tt
+fails_wrong n bytes found m rest count (Err e) why is low lt s c w = subst (NamesWrong (lines_seen 0) (AreSeen n) bytes 0) (sym is) (names_wrong n bytes found m rest count why low lt s c w)

@@ -1,6 +1,12 @@
+pub mod Fronts
 pub mod Numerals
 pub mod Marks
-pub mod Orders
 pub mod EndTexts
+pub mod OneLine
+pub mod WrongLines
+pub mod Orders
 pub mod SeenLines
 pub mod AllLines
+pub mod Dumps
+pub mod Parts
+pub mod FirstDifference

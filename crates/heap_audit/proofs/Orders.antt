@@ -1,5 +1,5 @@
 -- The line of an order, read mark by mark, as a loop does.
-use Rattle.std.proofs.Common.{◌≡◌, ℕ, ◌<◌, ◌≤◌, List, [], ◌∷◌, ◌++◌, length, Some, None, refl, sym, ap, subst, ◌∙◌, arith}
+use Rattle.std.proofs.Common.{◌≡◌, ℕ, ◌+◌, ◌<◌, ◌≤◌, List, [], ◌∷◌, ◌++◌, length, Some, None, refl, sym, ap, subst, ◌∙◌, arith}
 use Rattle.std.proofs.lemmas.List.{append_assoc, append-nil, length-append}
 use Rattle.std.proofs.lemmas.List.Concat.{flat_map-cons}
 use Rattle.std.specs.List.{flat_map, AllByRecursion}
@@ -8,10 +8,13 @@ use Rattle.dump_text.proofs.Options.{some_bind, some_is}
 use Rattle.dump_text.proofs.Pieces.{byte_takes, byte_again}
 use Rattle.plain_heap.specs.declared.mark.Mark.{Mark}
 use Rattle.plain_heap.specs.Print.{mark_text, order_line}
+use Rattle.heap_audit.specs.FirstWrong.{NamesWrong}
 use Rattle.heap_audit.specs.Order.{MarkFits}
 use Rattle.heap_audit.specs.Pieces.{mark_at, name_at}
+use Rattle.heap_audit.specs.declared.reading_error.ReadingError.TheVariants as errors
 use Rattle.heap_audit.proofs.Numerals.{Stops}
 use Rattle.heap_audit.proofs.Marks.{mark_takes, mark_again}
+use Rattle.heap_audit.proofs.OneLine.{begin_so, order_is_line}
 
 abbrev spaced : Mark → List ℕ
 spaced mark = 32 ∷ mark_text mark
@@ -192,3 +195,33 @@ module _ (bytes body : List ℕ) (found : List Mark) (rest : List ℕ) (name : n
   order_unended space end marks tail h is =
       let l = s.only marks tail h (body_is marks tail is) in
       no_line l.more rest tail space end l.text
+
+-- ---- lines at the front
+
+same_marks : (marks others : List Mark) (rest tail : List ℕ) → AllByRecursion MarkFits marks → AllByRecursion MarkFits others → Line marks rest ≡ Line others tail → (marks ≡ others) × (rest ≡ tail)
+same_marks [] others rest tail hm ho e = let is = end_is others rest tail e in (sym is.0, is.1)
+same_marks (mark ∷ marks) others rest tail hm ho e =
+    let behind = Line marks rest in
+    let b = begins others (mark_text mark ++ behind) tail ho (sym (text_of_one mark marks rest) ∙ e) in
+    let same = some_is {A = Mark × List ℕ} (mark, behind) (b.mark, Line b.marks tail) (sym (mark_again mark behind hm.0 (line_stops marks rest)) ∙ b.read) in
+    let deeper = same_marks marks b.marks rest tail hm.1 b.others (ap (λ (q : Mark × List ℕ). q.1) same) in
+    (ap (λ (ms : List Mark). mark ∷ ms) deeper.0 ∙ ap (λ (q : Mark × List ℕ). q.0 ∷ b.marks) same ∙ sym b.split, deeper.1)
+
+-- the line of an order at the front is that of one order alone
+pub same_order : (marks others : List Mark) (rest tail : List ℕ) → AllByRecursion MarkFits marks → AllByRecursion MarkFits others → order_line marks ++ rest ≡ order_line others ++ tail → (marks ≡ others) × (rest ≡ tail)
+same_order marks others rest tail hm ho e = same_marks marks others rest tail hm ho (same_body (Line marks rest) (Line others tail) (sym (line_is marks rest) ∙ e ∙ line_is others tail))
+
+-- ---- the first wrong line
+
+-- bytes that begin with no order's line are wrong in their first line
+pub names_wrong : (bytes : List ℕ) (before line : ℕ) → line ≡ before + 1 → ((marks : List Mark) (tail : List ℕ) → AllByRecursion MarkFits marks → bytes ≡ order_line marks ++ tail → ⊥) → NamesWrong order_line (AllByRecursion MarkFits) bytes before (errors.Bad line)
+names_wrong bytes before line is none = (
+  0,
+  omega (arith, is),
+  record {
+    begun = [];
+    fits = tt;
+    before = λ more. refl;
+    wrong = λ marks more fits same. let r = begin_so bytes (order_line marks) more (order_is_line marks fits) same in none marks r.0 fits r.1;
+  },
+)

@@ -7,15 +7,21 @@ use Rattle.std.specs.List.{flat_map, AllByRecursion}
 use Rattle.plain_state.specs.declared.end.End.{End}
 use Rattle.plain_state.specs.declared.sizes.TheConstants.{MOST_PRINTED}
 use Rattle.plain_heap.specs.Print.{end_text, printed_line, printed_lines, Seen}
+use Rattle.dump_text.specs.Lines.{first_lines}
 use Rattle.dump_text.specs.Pieces.{◌>>=◌, byte_at}
 use Rattle.dump_text.proofs.Options.{some_bind, some_is}
 use Rattle.dump_text.proofs.Pieces.{byte_takes}
 use Rattle.heap_audit.specs.Ends.{end_at, EndFits}
-use Rattle.heap_audit.specs.Lines.{named_at, printed_at, ended_at, IsPrinted, SeenFits}
+use Rattle.heap_audit.specs.FirstWrong.{GoWrongBehind, NamesWrong}
+use Rattle.heap_audit.specs.Lines.{named_at, printed_at, ended_at, IsPrinted, SeenFits, seen_text}
 use Rattle.heap_audit.specs.Pieces.{decimal_at, mutator_at}
+use Rattle.heap_audit.specs.declared.reading_error.ReadingError.TheVariants as errors
 use Rattle.heap_audit.proofs.EndTexts.{end_takes, end_again, no_number}
+use Rattle.heap_audit.proofs.Fronts.{ends, ends_append, front_lines}
 use Rattle.heap_audit.proofs.Marks.{mutator_takes, mutator_again}
 use Rattle.heap_audit.proofs.Numerals.{number_takes, number_again}
+use Rattle.heap_audit.proofs.OneLine.{IsLine, begin_so, decimal_inside, end_inside, line_ends, printed_is_line}
+use Rattle.heap_audit.proofs.WrongLines.{goes_on as front_goes_on}
 
 -- ---- a line
 
@@ -139,6 +145,15 @@ record Begins (m : ℕ) (left : List ℕ) (n : ℕ) (after : List ℕ) (end : Op
   fit : AllByRecursion IsPrinted others
   text : after ≡ Lines m others end tail
 
+same_parts : (a b : List ℕ) (e f : Option End) → a ≡ b → e ≡ f → ◌≡◌ {A = Seen} (record { printed = a; end = e }) (record { printed = b; end = f })
+same_parts a b e f p q = rw (p, q) refl
+
+number_is_line : (m n : ℕ) → m < 256 → IsPrinted n → IsLine (printed_line m (decimal n))
+number_is_line m n lt fits = printed_is_line m (decimal n) (omega (arith, lt)) (decimal_inside n (omega (arith, fits)))
+
+end_is_line : (m : ℕ) (end : Option End) → m < 256 → EndFits end → IsLine (printed_line m (end_text end))
+end_is_line m end lt fits = printed_is_line m (end_text end) (omega (arith, lt)) (end_inside end fits)
+
 module _ (m : ℕ) (lt : m < 256) where
   begins : (left : List ℕ) (end : Option End) (tail rest : List ℕ) (n : ℕ) (after : List ℕ) → AllByRecursion IsPrinted left → rest ≡ Lines m left end tail → printed_at m rest ≡ Some (n, after) → Begins m left n after end tail
   begins [] end tail rest n after h e read = absurd (none_is_not_some (printed_at m rest) (n, after) (ap (printed_at m) e ∙ not_printed m end tail lt) read)
@@ -158,6 +173,91 @@ module _ (m : ℕ) (lt : m < 256) where
   at_end [] end tail rest h e read = refl
   at_end (k ∷ left) end tail rest h e read =
       absurd (none_is_not_some (printed_at m rest) (k, Lines m left end tail) read (ap (printed_at m) (e ∙ text_of_one m k left (printed_line m (end_text end) ++ tail)) ∙ printed_again m k (Lines m left end tail) lt h.0))
+
+  -- numbers at the front are the first of those whose lines these are
+  strip : (found numbers : List ℕ) (end : Option End) (rest tail : List ℕ) → AllByRecursion IsPrinted found → AllByRecursion IsPrinted numbers → numbers_text m found ++ rest ≡ Lines m numbers end tail → Left m found numbers end rest tail
+  strip [] numbers end rest tail hf hn e = record { more = numbers; split = refl; fit = hn; text = e }
+  strip (k ∷ found) numbers end rest tail hf hn e =
+      let whole = numbers_text m (k ∷ found) ++ rest in
+      let behind = numbers_text m found ++ rest in
+      let read : printed_at m whole ≡ Some (k, behind) = ap (printed_at m) (text_of_one m k found rest) ∙ printed_again m k behind lt hf.0 in
+      let b = begins numbers end tail whole k behind hn e read in
+      let l = strip found b.others end rest tail hf.1 b.fit b.text in
+      record { more = l.more; split = b.split ∙ ap (λ (xs : List ℕ). k ∷ xs) l.split; fit = l.fit; text = l.text }
+
+  -- lines of a mutator at the front are those of one thing alone
+  pub same_seen : (a b : Seen) (s t : List ℕ) → SeenFits a → SeenFits b → seen_text m a ++ s ≡ seen_text m b ++ t → (a ≡ b) × (s ≡ t)
+  same_seen a b s t fa fb e =
+      let rest = printed_line m (end_text a.end) ++ s in
+      let l = strip a.printed b.printed b.end rest t fa.1 fb.1 (sym (lines_are m a.printed a.end s) ∙ e ∙ lines_are m b.printed b.end t) in
+      let over = at_end l.more b.end t rest l.fit l.text (not_printed m a.end s lt) in
+      let last : rest ≡ printed_line m (end_text b.end) ++ t = l.text ∙ ap (λ (xs : List ℕ). Lines m xs b.end t) over in
+      let same = some_is {A = Option End × List ℕ} (a.end, s) (b.end, t) (sym (ended_again m a.end s lt fa.2) ∙ ap (ended_at m) last ∙ ended_again m b.end t lt fb.2) in
+      let printed : b.printed ≡ a.printed = l.split ∙ ap (λ (xs : List ℕ). a.printed ++ xs) over ∙ append-nil a.printed in
+      (same_parts a.printed b.printed a.end b.end (sym printed) (ap (λ (q : Option End × List ℕ). q.0) same), ap (λ (q : Option End × List ℕ). q.1) same)
+
+  -- ---- how many lines there are
+
+  numbers_count : (numbers : List ℕ) → AllByRecursion IsPrinted numbers → ends (numbers_text m numbers) ≡ length numbers
+  numbers_count [] h = refl
+  numbers_count (n ∷ numbers) h =
+      let one = line_ends (printed_line m (decimal n)) (number_is_line m n lt h.0) in
+      let sum = ap ends (flat_map-cons (λ n. printed_line m (decimal n)) n numbers) ∙ ends_append (printed_line m (decimal n)) (numbers_text m numbers) in
+      omega (arith, one, sum, numbers_count numbers h.1)
+
+  pub seen_count : (k : Seen) → SeenFits k → ends (seen_text m k) ≡ length k.printed + 1
+  seen_count k fits =
+      let end = line_ends (printed_line m (end_text k.end)) (end_is_line m k.end lt fits.2) in
+      let sum = ends_append (numbers_text m k.printed) (printed_line m (end_text k.end)) in
+      omega (arith, end, sum, numbers_count k.printed fits.1)
+
+  -- ---- the first wrong line
+
+  -- the first of what is left isn't the first of a mutator's lines that go on so
+  abbrev Apart : (found rest : List ℕ) → Type 0
+  Apart found rest = (left : List ℕ) (end : Option End) (tail : List ℕ) → AllByRecursion IsPrinted left → EndFits end → length found + length left ≤ MOST_PRINTED → first_lines 1 rest ≡ first_lines 1 (Lines m left end tail) → ⊥
+
+  go_wrong : (bytes found rest : List ℕ) → SoFar m bytes found rest → Apart found rest → GoWrongBehind (seen_text m) SeenFits bytes (length found)
+  go_wrong bytes found rest s apart =
+      let front = numbers_text m found in
+      let count = numbers_count found s.fit in
+      let none : Option End = None in
+      record {
+        begun = record { printed = found; end = none };
+        fits = (s.few, s.fit, tt);
+        before = λ more.
+            ap (λ (n : ℕ). first_lines n bytes) (sym count) ∙ ap (first_lines (ends front)) s.taken ∙ front_lines front rest (printed_line m (end_text none) ++ more)
+            ∙ ap (first_lines (ends front)) (sym (lines_are m found none more)) ∙ ap (λ (n : ℕ). first_lines n (printed_lines m found none ++ more)) count;
+        wrong = λ x more fits same.
+            let n : suc (length found) ≡ suc (ends front + 0) = omega (arith, count) in
+            let whole = seen_text m x ++ more in
+            let f = front_goes_on front rest whole 0 (ap (first_lines (suc (ends front + 0))) (sym s.taken) ∙ ap (λ (k : ℕ). first_lines k bytes) (sym n) ∙ same ∙ ap (λ (k : ℕ). first_lines k whole) n) in
+            let l = strip found x.printed x.end f.tail more s.fit fits.1 (sym f.split ∙ lines_are m x.printed x.end more) in
+            let long : length x.printed ≡ length found + length l.more = ap (λ (xs : List ℕ). length xs) l.split ∙ length-append found l.more in
+            apart l.more x.end more l.fit fits.2 (omega (arith, long, fits.0)) (f.same ∙ ap (first_lines 1) l.text);
+      }
+
+  -- what reads the line of an end, or of a number, reads it here
+  reads_end : (end : Option End) (rest tail : List ℕ) → EndFits end → first_lines 1 rest ≡ first_lines 1 (printed_line m (end_text end) ++ tail) → (behind : List ℕ) × (rest ≡ printed_line m (end_text end) ++ behind)
+  reads_end end rest tail fits same = begin_so rest (printed_line m (end_text end)) tail (end_is_line m end lt fits) same
+
+  reads_number : (n : ℕ) (left : List ℕ) (end : Option End) (rest tail : List ℕ) → IsPrinted n → first_lines 1 rest ≡ first_lines 1 (Lines m (n ∷ left) end tail) → (behind : List ℕ) × (rest ≡ printed_line m (decimal n) ++ behind)
+  reads_number n left end rest tail fits same =
+      begin_so rest (printed_line m (decimal n)) (Lines m left end tail) (number_is_line m n lt fits) (same ∙ ap (first_lines 1) (text_of_one m n left (printed_line m (end_text end) ++ tail)))
+
+  full_apart : (found rest : List ℕ) (n : ℕ) (after : List ℕ) → printed_at m rest ≡ Some (n, after) → length found ≡ MOST_PRINTED → (left : List ℕ) (end : Option End) (tail : List ℕ) → AllByRecursion IsPrinted left → EndFits end → length found + length left ≤ MOST_PRINTED → first_lines 1 rest ≡ first_lines 1 (Lines m left end tail) → ⊥
+  full_apart found rest n after read full [] end tail fit fits room same =
+      let r = reads_end end rest tail fits same in
+      none_is_not_some (printed_at m rest) (n, after) (ap (printed_at m) r.1 ∙ not_printed m end r.0 lt) read
+  full_apart found rest n after read full (k ∷ left) end tail fit fits room same = absurd (omega (arith, full, room))
+
+  unread_apart : (found rest : List ℕ) → printed_at m rest ≡ None → ended_at m rest ≡ None → (left : List ℕ) (end : Option End) (tail : List ℕ) → AllByRecursion IsPrinted left → EndFits end → length found + length left ≤ MOST_PRINTED → first_lines 1 rest ≡ first_lines 1 (Lines m left end tail) → ⊥
+  unread_apart found rest none wrong [] end tail fit fits room same =
+      let r = reads_end end rest tail fits same in
+      none_is_not_some (ended_at m rest) (end, r.0) wrong (ap (ended_at m) r.1 ∙ ended_again m end r.0 lt fits)
+  unread_apart found rest none wrong (k ∷ left) end tail fit fits room same =
+      let r = reads_number k left end rest tail fit.0 same in
+      none_is_not_some (printed_at m rest) (k, r.0) none (ap (printed_at m) r.1 ∙ printed_again m k r.0 lt fit.0)
 
   module _ (bytes found rest : List ℕ) (s : SoFar m bytes found rest) where
     -- one more number
@@ -200,8 +300,16 @@ module _ (m : ℕ) (lt : m < 256) where
         let l = left_end none seen tail fits e in
         none_is_not_some (ended_at m rest) (seen.end, tail) wrong (ap (ended_at m) l.1 ∙ ended_again m seen.end tail lt fits.2)
 
-    pub ends : (end : Option End) (after : List ℕ) → ended_at m rest ≡ Some (end, after) → SeenFits (record { printed = found; end = end }) × (bytes ≡ printed_lines m found end ++ after)
-    ends end after read =
+    -- the line of the number that is too many is the first wrong one
+    pub too_many_wrong : (n : ℕ) (after : List ℕ) (before line : ℕ) → printed_at m rest ≡ Some (n, after) → length found ≡ MOST_PRINTED → line ≡ before + length found + 1 → NamesWrong (seen_text m) SeenFits bytes before (errors.Bad line)
+    too_many_wrong n after before line read full is = (length found, is, go_wrong bytes found rest s (full_apart found rest n after read full))
+
+    -- a line that is no number's and no end's is the first wrong one
+    pub no_end_wrong : (before line : ℕ) → printed_at m rest ≡ None → ended_at m rest ≡ None → line ≡ before + length found + 1 → NamesWrong (seen_text m) SeenFits bytes before (errors.Bad line)
+    no_end_wrong before line none wrong is = (length found, is, go_wrong bytes found rest s (unread_apart found rest none wrong))
+
+    pub seen_ends : (end : Option End) (after : List ℕ) → ended_at m rest ≡ Some (end, after) → SeenFits (record { printed = found; end = end }) × (bytes ≡ printed_lines m found end ++ after)
+    seen_ends end after read =
         let t = ended_takes m rest end after read in
         ((s.few, s.fit, t.1), s.taken ∙ ap (λ (xs : List ℕ). numbers_text m found ++ xs) t.0 ∙ sym (lines_are m found end after))
 

@@ -1,9 +1,9 @@
 -- The lines of mutators, read from the front.
-use Rattle.std.specs.Prelude.{ℕ, ◌^◌, ◌<◌, ◌≤◌, ◌≡◌, ◌==◌, if◌then◌else◌, List, length, Option, Some, None}
+use Rattle.std.specs.Prelude.{ℕ, ◌+◌, ◌^◌, ◌<◌, ◌≤◌, ◌≡◌, ◌==◌, if◌then◌else◌, List, [], ◌∷◌, length, Option, Some, None}
 use Rattle.std.specs.List.{AllByRecursion}
 use Rattle.plain_state.specs.declared.end.End.{End}
 use Rattle.plain_state.specs.declared.sizes.TheConstants.{MOST_PRINTED}
-use Rattle.plain_heap.specs.Print.{Seen}
+use Rattle.plain_heap.specs.Print.{Seen, printed_lines}
 use Rattle.dump_text.specs.Pieces.{Piece, ◌>>=◌, byte_at}
 use Rattle.heap_audit.specs.Ends.{end_at, EndFits}
 use Rattle.heap_audit.specs.Pieces.{decimal_at, mutator_at}
@@ -46,3 +46,12 @@ seen_by k = record { printed = k.printed.items; end = k.end }
 -- what is seen of so many mutators
 abbrev pub AreSeen : ℕ → List Seen → Type 0
 AreSeen n all = (length all ≡ n) × AllByRecursion SeenFits all
+
+-- the lines of mutator m, by what is seen of it
+abbrev pub seen_text : ℕ → Seen → List ℕ
+seen_text m k = printed_lines m k.printed k.end
+
+-- how many lines mutators have
+abbrev pub line_count : List Seen → ℕ
+line_count [] = 0
+line_count (k ∷ ks) = length k.printed + 1 + line_count ks

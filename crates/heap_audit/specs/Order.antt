@@ -16,4 +16,4 @@ MarkFits Traced = Unit {0}
 abbrev pub ReadsAs : {X Y : Type 0} → (X → Y) → Result X ReadingError → Y → Type 0
 ReadsAs view (Ok x) y = view x ≡ y
 ReadsAs view (Err errors.NoMemory) y = Unit {0}
-ReadsAs view (Err errors.Bad) y = ⊥
+ReadsAs view (Err (errors.Bad line)) y = ⊥

@@ -1,8 +1,9 @@
 //! The lines of mutators.
 
-ghost use Rattle.std.specs.Prelude.{◌≡◌, ◌++◌, ℕ, List, IfOk, map, option_map};
+ghost use Rattle.std.specs.Prelude.{◌≡◌, ◌<◌, ◌+◌, ◌^◌, ◌++◌, ℕ, List, IfErr, IfOk, map, option_map};
 ghost use Rattle.plain_heap.specs.Print.{Seen, lines_seen, printed_lines};
-ghost use Rattle.heap_audit.specs.Lines.{named_at, printed_at, ended_at, SeenFits, AreSeen, seen_by};
+ghost use Rattle.heap_audit.specs.FirstWrong.{NamesWrong};
+ghost use Rattle.heap_audit.specs.Lines.{named_at, printed_at, ended_at, SeenFits, AreSeen, line_count, seen_by, seen_text};
 ghost use Rattle.heap_audit.specs.Order.{ReadsAs};
 
 use crate::ends::end;
@@ -54,55 +55,74 @@ fn ended_line(m: u8, bytes: &[u8]) -> Option<(Option<End>, &[u8])>
     Some((end, behind))
 }
 
-/// The lines of mutator m with which the bytes begin, and the bytes behind them.
-fn read_mutator(alloc: Global, m: u8, bytes: &[u8]) -> Result<(MutatorLines, &[u8]), ReadingError>
+/// The lines of mutator m with which the bytes begin, and the bytes behind them. So many lines stand before them.
+fn read_mutator(
+    alloc: Global,
+    m: u8,
+    before: usize,
+    bytes: &[u8],
+) -> Result<(MutatorLines, &[u8]), ReadingError>
+    requires { before < 2 ^ 32 }
     // The lines are those of what is seen.
     ensures found { IfOk result (λ x. SeenFits (seen_by x.0) × (bytes.now ≡ printed_lines m x.0.printed.items x.0.end ++ x.1.now)) }
     // Bytes that begin with a mutator's lines are read as what is seen there, unless memory runs out.
     ensures only { (seen : Seen) (rest : List ℕ) → SeenFits seen → bytes.now ≡ printed_lines m seen.printed seen.end ++ rest → ReadsAs {Y = Seen × List ℕ} (λ x. (seen_by x.0, x.1.now)) result (seen, rest) }
+    // Else the first wrong line is told.
+    ensures first_wrong { IfErr result (NamesWrong (seen_text m) SeenFits bytes.now before) }
 {
     let mut printed = Vec::new(alloc);
     let mut rest = bytes;
     while let Some(read) = printed_line(m, rest) {
         if printed.len() == MOST_PRINTED {
-            return Err(ReadingError::Bad);
+            return Err(ReadingError::Bad {
+                line: before + MOST_PRINTED + 1,
+            });
         }
         let (number, behind) = read;
         printed.push(number)?;
         rest = behind;
     }
     let Some(read) = ended_line(m, rest) else {
-        return Err(ReadingError::Bad);
+        return Err(ReadingError::Bad {
+            line: before + printed.len() + 1,
+        });
     };
     let (end, behind) = read;
     Ok((MutatorLines { printed, end }, behind))
 }
 
-/// The lines of so many mutators with which the bytes begin, and the bytes behind them.
+/// The lines of so many mutators with which the bytes begin, how many these are, and the bytes behind them.
 pub fn read_lines(
     alloc: Global,
     mutators: u8,
     bytes: &[u8],
-) -> Result<(Vec<MutatorLines>, &[u8]), ReadingError>
+) -> Result<(Vec<MutatorLines>, usize, &[u8]), ReadingError>
     // The lines are those of what is seen.
-    ensures found { IfOk result (λ x. AreSeen mutators (map seen_by x.0.items) × (bytes.now ≡ lines_seen 0 (map seen_by x.0.items) ++ x.1.now)) }
+    ensures found { IfOk result (λ x. AreSeen mutators (map seen_by x.0.items) × (bytes.now ≡ lines_seen 0 (map seen_by x.0.items) ++ x.2.now)) }
+    ensures counted { IfOk result (λ x. x.1 ≡ line_count (map seen_by x.0.items)) }
+    ensures few { IfOk result (λ x. x.1 < 2 ^ 31) }
     // Bytes that begin with the lines of so many mutators are read as what is seen there, unless memory runs out.
-    ensures only { (all : List Seen) (rest : List ℕ) → AreSeen mutators all → bytes.now ≡ lines_seen 0 all ++ rest → ReadsAs {Y = List Seen × List ℕ} (λ x. (map seen_by x.0.items, x.1.now)) result (all, rest) }
+    ensures only { (all : List Seen) (rest : List ℕ) → AreSeen mutators all → bytes.now ≡ lines_seen 0 all ++ rest → ReadsAs {Y = List Seen × List ℕ} (λ x. (map seen_by x.0.items, x.2.now)) result (all, rest) }
+    // Else the first wrong line is told.
+    ensures first_wrong { IfErr result (NamesWrong (lines_seen 0) (AreSeen mutators) bytes.now 0) }
 {
     let mut all = Vec::new(alloc);
+    let mut count = 0;
     let mut rest = bytes;
     for m in 0..mutators {
-        let (lines, behind) = read_mutator(alloc, m, rest)?;
+        let (lines, behind) = read_mutator(alloc, m, count, rest)?;
+        count += lines.printed.len() + 1;
         all.push(lines)?;
         rest = behind;
     }
-    Ok((all, rest))
+    Ok((all, count, rest))
 }
 
 #[test]
 fn lines_are_read(rt: HostRuntime) -> Result<(), ReadingError> {
     let bytes = b"0: 7\n0: 0\n0: halt\n1: stopped\n2: heap full asked 1 room 0 live 9\norder\n";
-    let (all, rest) = read_lines(rt.alloc(), 3, bytes)?;
+    let (all, count, rest) = read_lines(rt.alloc(), 3, bytes)?;
+    assert_eq!(rt; count, 5);
     assert_eq!(rt; all.len(), 3);
     assert_eq!(rt; all[0].printed.len(), 2);
     assert_eq!(rt; all[0].printed[0], 7);
@@ -120,16 +140,17 @@ fn lines_are_read(rt: HostRuntime) -> Result<(), ReadingError> {
 
 #[test]
 fn other_mutators_lines_are_refused(rt: HostRuntime) {
-    for bad in [
-        &b"1: halt\n"[..],
-        b"0: 07\n0: halt\n",
-        b"0: 4611686018427387904\n0: halt\n",
-        b"0: 7\n",
-        b"0: halt",
-        b"0: halted\n",
-        b"0:halt\n",
-        b"0: stop\n",
+    for (bad, line) in [
+        (&b"1: halt\n"[..], 1),
+        (b"0: 07\n0: halt\n", 1),
+        (b"0: 4611686018427387904\n0: halt\n", 1),
+        (b"0: 7\n", 2),
+        (b"0: halt", 1),
+        (b"0: 7\n0: halted\n", 2),
+        (b"0:halt\n", 1),
+        (b"0: stop\n", 1),
     ] {
-        assert!(rt; read_lines(rt.alloc(), 1, bad).is_err());
+        let error = ReadingError::Bad { line };
+        assert_eq!(rt; read_lines(rt.alloc(), 1, bad).err(), Some(error));
     }
 }

@@ -1,9 +1,10 @@
 //! The line of an order.
 
-ghost use Rattle.std.specs.Prelude.{◌≡◌, ◌++◌, List, ℕ, IfOk, option_map};
+ghost use Rattle.std.specs.Prelude.{◌≡◌, ◌<◌, ◌^◌, ◌++◌, List, ℕ, IfErr, IfOk, option_map};
 ghost use Rattle.std.specs.List.{AllByRecursion};
 ghost use Rattle.plain_heap.specs.declared.mark.Mark.{Mark};
 ghost use Rattle.plain_heap.specs.Print.{order_line};
+ghost use Rattle.heap_audit.specs.FirstWrong.{NamesWrong};
 ghost use Rattle.heap_audit.specs.Pieces.{name_at};
 ghost use Rattle.heap_audit.specs.Order.{ReadsAs, MarkFits};
 
@@ -23,28 +24,36 @@ fn name(bytes: &[u8]) -> Option<&[u8]>
     }
 }
 
-/// The marks of the order whose line the bytes begin with, and the bytes behind that line.
-pub fn read_order(alloc: Global, bytes: &[u8]) -> Result<(Vec<Mark>, &[u8]), ReadingError>
+/// The marks of the order whose line the bytes begin with, and the bytes behind that line. So many lines stand before it.
+pub fn read_order(
+    alloc: Global,
+    before: usize,
+    bytes: &[u8],
+) -> Result<(Vec<Mark>, &[u8]), ReadingError>
+    requires { before < 2 ^ 32 }
     // The line is that of the marks.
     ensures found { IfOk result (λ x. AllByRecursion MarkFits x.0.items × (bytes.now ≡ order_line x.0.items ++ x.1.now)) }
     // Bytes that begin with an order's line are read as that order, unless memory runs out.
     ensures only { (marks : List Mark) (rest : List ℕ) → AllByRecursion MarkFits marks → bytes.now ≡ order_line marks ++ rest → ReadsAs {Y = List Mark × List ℕ} (λ x. (x.0.items, x.1.now)) result (marks, rest) }
+    // Else the first wrong line is told, which is the only one.
+    ensures first_wrong { IfErr result (NamesWrong order_line (AllByRecursion MarkFits) bytes.now before) }
 {
+    let wrong = ReadingError::Bad { line: before + 1 };
     let Some(body) = name(bytes) else {
-        return Err(ReadingError::Bad);
+        return Err(wrong);
     };
     let mut found = Vec::new(alloc);
     let mut rest = body;
     while let Some(text) = after(b' ', rest) {
         let Some(read) = mark(text) else {
-            return Err(ReadingError::Bad);
+            return Err(wrong);
         };
         let (mark, behind) = read;
         found.push(mark)?;
         rest = behind;
     }
     let Some(behind) = after(b'\n', rest) else {
-        return Err(ReadingError::Bad);
+        return Err(wrong);
     };
     Ok((found, behind))
 }
@@ -52,7 +61,7 @@ pub fn read_order(alloc: Global, bytes: &[u8]) -> Result<(Vec<Mark>, &[u8]), Rea
 #[test]
 fn orders_are_read(rt: HostRuntime) -> Result<(), ReadingError> {
     let bytes = b"order 0 F64 T 255 X3,1,0,4294967295 15\nmore";
-    let (marks, rest) = read_order(rt.alloc(), bytes)?;
+    let (marks, rest) = read_order(rt.alloc(), 0, bytes)?;
     assert_eq!(rt; marks.len(), 6);
     assert_eq!(rt; marks[1], Mark::Flip(64));
     assert_eq!(rt; marks[2], Mark::Traced);
@@ -69,7 +78,7 @@ fn orders_are_read(rt: HostRuntime) -> Result<(), ReadingError> {
 
 #[test]
 fn other_lines_are_refused(rt: HostRuntime) {
-    assert!(rt; read_order(rt.alloc(), b"order\n").is_ok());
+    assert!(rt; read_order(rt.alloc(), 0, b"order\n").is_ok());
     for bad in [
         &b"order 00\n"[..],
         b"order 256\n",
@@ -79,6 +88,7 @@ fn other_lines_are_refused(rt: HostRuntime) {
         b"order  1\n",
         b"order X1,2,3\n",
     ] {
-        assert!(rt; read_order(rt.alloc(), bad).is_err());
+        let error = ReadingError::Bad { line: 3 };
+        assert_eq!(rt; read_order(rt.alloc(), 2, bad).err(), Some(error));
     }
 }

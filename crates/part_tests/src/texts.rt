@@ -1,5 +1,6 @@
-//! Tests of texts: those of programs, of concordances and of dumps.
+//! Tests of texts: those of programs, of concordances, of dumps and of outputs.
 
 mod assembler;
 mod concordances;
 mod dumps;
+mod outputs;

@@ -1,5 +1,5 @@
-use Rattle.std.proofs.Common.{sym}
-use Rattle.heap_audit.proofs.Orders.{order_goes_on, order_is_less, order_only, order_unended, order_wrong}
+use Rattle.std.proofs.Common.{refl, sym}
+use Rattle.heap_audit.proofs.Orders.{order_goes_on, order_is_less, order_only, order_unended, order_wrong, no_name, names_wrong}
 use Rattle.heap_audit.proofs.order.read_order.Goals as goal
 
 pub returns-in_default-mark-clause-only : goal.returns-in_default-mark-clause-only
@@ -21,3 +21,16 @@ returns-in_default-after-2-clause-only c =
 pub returns-clause-only : goal.returns-clause-only
 returns-clause-only c =
     order_only c.args.bytes.now c.in-Some.body.now c.loop-text.found.items c.loop-text.rest.now (sym c.in-Some.ensures) c.loop-text.invariant c.in-Some-after-2.behind.now (sym c.in-Some-after-2.ensures)
+
+pub returns-in_default-clause-first_wrong : goal.returns-in_default-clause-first_wrong
+returns-in_default-clause-first_wrong c = names_wrong c.args.bytes.now c.args.before _ refl (λ marks tail _ e. no_name c.args.bytes.now (sym c.in_default.ensures) marks tail e)
+
+pub returns-in_default-mark-clause-first_wrong : goal.returns-in_default-mark-clause-first_wrong
+returns-in_default-mark-clause-first_wrong c =
+    names_wrong c.args.bytes.now c.args.before _ refl
+    (order_wrong c.args.bytes.now c.in-Some.body.now c.loop-text.found.items c.loop-text.rest.now (sym c.in-Some.ensures) c.loop-text.invariant c.in-Some-after.text.now (sym c.in-Some-after.ensures) (sym c.in_default-mark.ensures))
+
+pub returns-in_default-after-2-clause-first_wrong : goal.returns-in_default-after-2-clause-first_wrong
+returns-in_default-after-2-clause-first_wrong c =
+    names_wrong c.args.bytes.now c.args.before _ refl
+    (order_unended c.args.bytes.now c.in-Some.body.now c.loop-text.found.items c.loop-text.rest.now (sym c.in-Some.ensures) c.loop-text.invariant (sym c.in_default-after.ensures) (sym c.in_default-after-2.ensures))
