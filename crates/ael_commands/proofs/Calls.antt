@@ -1,4 +1,5 @@
 pub mod SoundEnds
+pub mod AuditEnds
 pub mod Plainly
 pub mod ConcordEnds
 pub mod Assured

@@ -8,15 +8,17 @@ use Rattle.mutator_asm.specs.declared.item.Item.{Item}
 use Rattle.mutator_asm.specs.Text.{IsText}
 use Rattle.benchmark.specs.Text.{bench_text}
 use Rattle.ael_commands.specs.declared.arguments.job.Job.{Job}
-use Rattle.ael_commands.specs.declared.arguments.job.Job.TheVariants.{Asm, Bench, Concord, Run, Sim}
+use Rattle.ael_commands.specs.declared.arguments.job.Job.TheVariants.{Asm, Audit, Bench, Concord, Run, Sim}
 use Rattle.ael_commands.specs.declared.arguments.operands.BenchOperands.{BenchOperands}
+use Rattle.ael_commands.specs.declared.arguments.options.AuditOptions.{AuditOptions}
 use Rattle.ael_commands.specs.declared.arguments.options.ConcordOptions.{ConcordOptions}
 use Rattle.ael_commands.specs.declared.arguments.options.RunOptions.{RunOptions}
 use Rattle.ael_commands.specs.declared.arguments.options.SimOptions.{SimOptions}
 use Rattle.ael_commands.specs.declared.status.Status.{Status}
-use Rattle.ael_commands.specs.declared.status.Status.TheVariants.{Done, Text, LongWord, Usage, Ended, HeapFull, StepsOut, ReadFault, WriteFault, NoMemory, TooLong}
+use Rattle.ael_commands.specs.declared.status.Status.TheVariants.{BadOutput, Done, No, Text, LongWord, Usage, Ended, HeapFull, StepsOut, ReadFault, WriteFault, NoMemory, TooLong}
 use Rattle.ael_commands.specs.Calls.Answer.{IsCaused, IsDrawnFor, Made, Refused, Unread, OutOfMemory}
 use Rattle.ael_commands.specs.Tasks.Asm.{IsListed}
+use Rattle.ael_commands.specs.Tasks.Audit.{HasNoVerdict, IsAudited}
 use Rattle.ael_commands.specs.Tasks.Bench.{bench_options}
 use Rattle.ael_commands.specs.Streams.Ends.{Drawn}
 use Rattle.ael_commands.specs.Arguments.Jobs.{IsStill, ReadsProgram, job_task}
@@ -52,6 +54,7 @@ none_made job source (Err e) r is = subst (λ r. IfErr r (IsCaused job source []
 pub unfit : (job : Job) (source : Drawn) (status : Status) → ReadsProgram job → IsUnfit source status → IsCaused job source [] status
 unfit (Bench operands) source status reads u = absurd reads
 unfit (Concord options) source status reads u = absurd reads
+unfit (Audit options) source status reads u = absurd reads
 unfit Asm source (Text number line) reads u = Refused u.bytes u.input u.fault refl
 unfit (Sim options) source (Text number line) reads u = Refused u.bytes u.input u.fault refl
 unfit (Run options) source (Text number line) reads u = Refused u.bytes u.input u.fault refl
@@ -69,19 +72,23 @@ unfit job source Ended reads u = absurd u
 unfit job source (HeapFull asked room) reads u = absurd u
 unfit job source StepsOut reads u = absurd u
 unfit job source WriteFault reads u = absurd u
+unfit job source (BadOutput line) reads u = absurd u
+unfit job source No reads u = absurd u
 
--- each job that waits for nobody, but the benchmark, reads a program
-pub reads_program : (job : Job) → IsStill job → ((operands : BenchOperands) → job ≢ Bench operands) → ReadsProgram job
-reads_program (Bench operands) still not = absurd (not operands refl)
-reads_program Asm still not = tt
-reads_program (Sim options) still not = tt
-reads_program (Run options) still not = tt
-reads_program (Concord options) still not = absurd (true≢false still)
+-- each job that waits for nobody, but the benchmark and audits, reads a program
+pub reads_program : (job : Job) → IsStill job → ((operands : BenchOperands) → job ≢ Bench operands) → ((options : AuditOptions) → job ≢ Audit options) → ReadsProgram job
+reads_program (Bench operands) still no_bench no_audit = absurd (no_bench operands refl)
+reads_program Asm still no_bench no_audit = tt
+reads_program (Sim options) still no_bench no_audit = tt
+reads_program (Run options) still no_bench no_audit = tt
+reads_program (Concord options) still no_bench no_audit = absurd (true≢false still)
+reads_program (Audit options) still no_bench no_audit = absurd (no_audit options refl)
 
 -- then it reads its input
 pub reads_all : (job : Job) → ReadsProgram job → (job_task job).reads ≡ Everything
 reads_all (Bench operands) reads = absurd reads
 reads_all (Concord options) reads = absurd reads
+reads_all (Audit options) reads = absurd reads
 reads_all Asm reads = refl
 reads_all (Sim options) reads = refl
 reads_all (Run options) reads = refl
@@ -127,6 +134,20 @@ without_concordance job options source bytes status is input none = subst (λ j.
     by (HasLongWord long) = Refused bytes input long refl
     by (HasNoRoom asked room short may told) = Made bytes input (FoundFull asked room short may told refl)
     by (HasNoMemory wanting) = OutOfMemory wanting refl
+
+-- a part that is audited
+pub audited : (job : Job) (options : AuditOptions) (source : Drawn) (bytes output : List ℕ) (status : Status) → job ≡ Audit options
+    → IsInput Everything source bytes → IsAudited options.turns bytes output status → IsCaused job source output status
+audited job options source bytes output status is input made = subst (λ j. IsCaused j source output status) (sym is) (Made bytes input made)
+
+-- or one on which there is no verdict
+pub without_verdict : (job : Job) (options : AuditOptions) (source : Drawn) (bytes : List ℕ) (status : Status) → job ≡ Audit options
+    → IsInput Everything source bytes → HasNoVerdict bytes status → IsCaused job source [] status
+without_verdict job options source bytes status is input none = subst (λ j. IsCaused j source [] status) (sym is) (by none)
+  where
+    by : HasNoVerdict bytes status → IsCaused (Audit options) source [] status
+    by (inl faulty) = Refused bytes input faulty refl
+    by (inr wanting) = OutOfMemory wanting refl
 
 -- the benchmark
 pub benched : (job : Job) (operands : BenchOperands) (source : Drawn) (output : List ℕ) (status : Status) → job ≡ Bench operands

@@ -1,5 +1,7 @@
 pub mod Hex
 pub mod Causes
+pub mod InputLines
+pub mod Audits
 pub mod Growing
 pub mod Known
 pub mod Rounds
@@ -14,3 +16,4 @@ pub mod Dumps
 pub mod Parsed
 pub mod Tables
 pub mod Threading
+pub mod TrueOutputs

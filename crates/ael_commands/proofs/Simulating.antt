@@ -1,11 +1,14 @@
 -- A run by a schedule, and what is printed of it.
-use Rattle.std.proofs.Common.{◌≡◌, ℕ, ◌+◌, ◌≤◌, Bool, true, false, List, [], ◌++◌, length, refl, sym, ap, ap₂, subst, append_assoc, ◌∙◌, cond, arith}
+use Rattle.std.proofs.Common.{◌≡◌, ℕ, ◌+◌, ◌≤◌, Bool, true, false, List, [], ◌∷◌, ◌++◌, length, refl, sym, ap, ap₂, subst, append_assoc, ◌∙◌, cond, arith}
+use Rattle.std.specs.List.{AllByRecursion}
 use Rattle.mutator_asm.specs.declared.instr.Instr.{Instr}
 use Rattle.mutator_asm.specs.declared.item.Item.{Item}
 use Rattle.mutator_asm.specs.Program.{IsWellFormed}
 use Rattle.plain_heap.specs.declared.mark.Mark.{Mark}
+use Rattle.plain_heap.specs.declared.mark.Mark.TheVariants.{Flip, Full, Step, Traced}
 use Rattle.plain_heap.specs.Order.{plain}
 use Rattle.plain_heap.specs.Print.{lines_seen, order_line, plain_seen}
+use Rattle.plain_heap.specs.Tracing.{has_weak, untraced}
 use Rattle.space_map.specs.Spaces.{IsPageCount, Layout}
 use Rattle.gc_worker.specs.Laws.Step.{layout_of}
 use Rattle.gc_worker.proofs.Between.Opening.{many as fresh_many}
@@ -16,7 +19,9 @@ use Rattle.gc_core.specs.Readers.{seen_of}
 use Rattle.gc_core.specs.Run.{Ran}
 use Rattle.ael_commands.specs.declared.arguments.options.SimOptions.{SimOptions}
 use Rattle.ael_commands.specs.declared.status.Status.{Status}
-use Rattle.ael_commands.specs.Runs.Run.{IsCheckpointOf, IsRun, IsRunOf, Scheduled}
+use Rattle.ael_commands.specs.Runs.Orders.{AreNoted, shown_order}
+use Rattle.heap_audit.specs.Order.{MarkFits}
+use Rattle.ael_commands.specs.Runs.Run.{HasFitEnd, IsCheckpointOf, IsRun, IsRunOf, Scheduled}
 use Rattle.ael_commands.specs.Runs.Verdict.{status_seen}
 use Rattle.ael_commands.specs.Runs.Simulation.{config, core_of, scheduled, simulated_run}
 use Rattle.ael_commands.specs.Runs.Told.{AreLinesIf, TellsWords, heap_lines, told_of}
@@ -61,20 +66,38 @@ line_if : (b : Bool) (order marks : List Mark) → (b ≡ true → order ≡ mar
 line_if true order marks same = ap order_line (same refl)
 line_if false order marks same = refl
 
-pub simulated : (options : SimOptions) (program : List (List Instr)) (items : List Item) (last : CoreState) (order : List Mark) (checkpoint output : List ℕ) (status : Status)
+-- the marks that are shown fit if all do
+untraced_fit : (order : List Mark) → AllByRecursion MarkFits order → AllByRecursion MarkFits (untraced order)
+untraced_fit [] fit = tt
+untraced_fit (Step m ∷ order) fit = (fit.0, untraced_fit order fit.1)
+untraced_fit (Flip asked ∷ order) fit = (fit.0, untraced_fit order fit.1)
+untraced_fit (Full m asked room live ∷ order) fit = (fit.0, untraced_fit order fit.1)
+untraced_fit (Traced ∷ order) fit = untraced_fit order fit.1
+
+fit_by : (b : Bool) (order : List Mark) → AllByRecursion MarkFits order → AllByRecursion MarkFits (cond b order (untraced order))
+fit_by true order fit = fit
+fit_by false order fit = untraced_fit order fit
+
+shown_fit : (program : List (List Instr)) (order : List Mark) → AllByRecursion MarkFits order → AllByRecursion MarkFits (shown_order program order)
+shown_fit program order fit = fit_by (has_weak program) order fit
+
+pub simulated : (options : SimOptions) (program : List (List Instr)) (items : List Item) (last : CoreState) (order shown : List Mark) (checkpoint output : List ℕ) (status : Status)
     → IsRunOf (Scheduled options) program items (simulated_run options program items) → IsOfSize (simulated_run options program items).last
     → seen_of (simulated_run options program items).last ≡ plain_seen (plain program options.run.turns (simulated_run options program items).order)
-    → last ≡ (simulated_run options program items).last → (options.order ≡ true → order ≡ (simulated_run options program items).order)
+    → last ≡ (simulated_run options program items).last → (options.order ≡ true → AreNoted order (simulated_run options program items).order)
+    → shown ≡ shown_order program order
     → AreLinesIf options.run.snap last.heap.words checkpoint
     → (options.run.dump ≡ true → TellsWords (dumped last))
-    → output ≡ (lines_seen 0 (seen_of last) ++ cond options.order (order_line order) []) ++ heap_lines options.run (told_of last) checkpoint
+    → AllByRecursion HasFitEnd (seen_of last)
+    → output ≡ (lines_seen 0 (seen_of last) ++ cond options.order (order_line shown) []) ++ heap_lines options.run (told_of last) checkpoint
     → status ≡ status_seen (seen_of last)
     → IsRun (Scheduled options) program items output status
-simulated options program items last order checkpoint output status is size seen_is is_last kept saved words printed went =
+simulated options program items last order shown checkpoint output status is size seen_is is_last kept shown_is saved words ends printed went =
     let ran : Ran = simulated_run options program items in
     let count : IsPageCount options.run.limit = subst (λ (l : Layout). IsPageCount l.pages) (layout_is options program items) size.count in
     let seen : seen_of last ≡ plain_seen (plain program options.run.turns ran.order) = ap seen_of is_last ∙ seen_is in
-    let line = line_if options.order order ran.order kept in
+    let told : options.order ≡ true → shown ≡ shown_order program ran.order = λ asked. shown_is ∙ ap (shown_order program) (kept asked).same in
+    let line = line_if options.order shown (shown_order program ran.order) told in
     let lines : heap_lines options.run (told_of last) checkpoint ≡ heap_lines options.run (told_of ran.last) checkpoint = ap (λ (s : CoreState). heap_lines options.run (told_of s) checkpoint) is_last in
     record {
       ran = ran;
@@ -82,6 +105,7 @@ simulated options program items last order checkpoint output status is size seen
       checkpoint = checkpoint;
       saved = saved_is options program items last checkpoint is count is_last saved;
       is_dump = λ asked. dump_is ran.last size (subst (λ (s : CoreState). TellsWords (dumped s)) is_last (words asked));
-      prints = printed ∙ append_assoc (lines_seen 0 (seen_of last)) (cond options.order (order_line order) []) (heap_lines options.run (told_of last) checkpoint) ∙ ap₂ (λ (xs ys : List ℕ). xs ++ ys) (ap (lines_seen 0) seen) (ap₂ (λ (xs ys : List ℕ). xs ++ ys) line lines);
+      fits = record { ends = subst (AllByRecursion HasFitEnd) seen ends; marks = λ asked. shown_fit program ran.order (kept asked).fit };
+      prints = printed ∙ append_assoc (lines_seen 0 (seen_of last)) (cond options.order (order_line shown) []) (heap_lines options.run (told_of last) checkpoint) ∙ ap₂ (λ (xs ys : List ℕ). xs ++ ys) (ap (lines_seen 0) seen) (ap₂ (λ (xs ys : List ℕ). xs ++ ys) line lines);
       went = went ∙ ap status_seen seen;
     }

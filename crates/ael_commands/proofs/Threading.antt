@@ -2,7 +2,7 @@
 use Rattle.std.proofs.Common.{◌≡◌, ℕ, zero, suc, ◌+◌, ◌≤◌, true, List, [], ◌∷◌, ◌++◌, Some, length, map, slice_get, refl, sym, ap, ap₂, subst, ◌∙◌, arith}
 use mathlib.Core.Option.{some, some-injective, some-ne-none}
 use lib.ListN.{get_elem?}
-use Rattle.std.specs.List.{list_all}
+use Rattle.std.specs.List.{AllByRecursion, list_all}
 use Rattle.std.proofs.lemmas.List.{length-map, length-take-le}
 use Rattle.mutator_asm.specs.declared.instr.Instr.{Instr}
 use Rattle.mutator_asm.specs.declared.item.Item.{Item}
@@ -31,7 +31,7 @@ use Rattle.ael_threads.specs.Rule.{heap_of}
 use Rattle.ael_commands.specs.declared.arguments.options.RunOptions.{RunOptions}
 use Rattle.ael_commands.specs.declared.status.Status.{Status}
 use Rattle.ael_commands.specs.Runs.ClosedHeap.{HasClosed, IsWholeHeap, told_by}
-use Rattle.ael_commands.specs.Runs.Run.{IsCheckpointOf, IsRun, Threaded}
+use Rattle.ael_commands.specs.Runs.Run.{HasFitEnd, IsCheckpointOf, IsRun, Threaded}
 use Rattle.ael_commands.specs.Runs.Verdict.{has_ended, status_seen}
 use Rattle.ael_commands.specs.Runs.Simulation.{config}
 use Rattle.ael_commands.specs.Runs.Threads.{IsThreaded}
@@ -152,16 +152,18 @@ saved_is options program items told checkpoint h count lines =
 pub run_is : (options : RunOptions) (program : List (List Instr)) (items : List Item) (told : RunReport) (output : List ℕ) (status : Status)
     → HasClosed options program items told → IsWellFormed program items → IsPageCount options.limit → options.scanners ≤ 8
     → (options.dump ≡ true → TellsWords told.dump)
+    → AllByRecursion HasFitEnd told.seen
     → (checkpoint : List ℕ) → AreLinesIf options.snap told.words checkpoint
     → output ≡ lines_seen 0 told.seen ++ heap_lines options told checkpoint
     → status ≡ status_seen told.seen
     → IsRun (Threaded options) program items output status
-run_is options program items told output status h formed count few words checkpoint lines printed went = record {
+run_is options program items told output status h formed count few words ends checkpoint lines printed went = record {
   ran = h.ran;
   is = h.is;
   checkpoint = checkpoint;
   saved = saved_is options program items told checkpoint h count lines;
   is_dump = λ asked. dump_is h.ran.last (run_size options program items h.ran h.is.made formed count few) (subst (λ (t : RunReport). TellsWords t.dump) h.tells (words asked));
+  fits = record { ends = subst (AllByRecursion HasFitEnd) h.seen ends; marks = λ asked. cc };
   prints = printed ∙ ap₂ (λ (xs ys : List ℕ). xs ++ ys) (ap (lines_seen 0) h.seen) (ap (λ (t : RunReport). heap_lines options t checkpoint) h.tells);
   went = went ∙ ap status_seen h.seen;
 }

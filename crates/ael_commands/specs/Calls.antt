@@ -1,4 +1,5 @@
 pub mod Answer
+pub mod Audits
 pub mod Call
 pub mod Concordance
 pub mod Emits

@@ -1,6 +1,7 @@
 pub mod Checkpoint
 pub mod ClosedHeap
 pub mod Schedulers
+pub mod Orders
 pub mod Run
 pub mod Schedule
 pub mod Verdict

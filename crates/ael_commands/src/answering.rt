@@ -15,6 +15,7 @@ ghost use Rattle.ael_commands.specs.Arguments.Words.{NumbersAreInRange};
 use crate::answer::Answer;
 use crate::arguments::job::Job;
 use crate::asm::asm;
+use crate::auditing::audit;
 use crate::bench::bench;
 use crate::concord::concord;
 use crate::runs::run::run;
@@ -87,7 +88,9 @@ fn wait_for<R: Threads + Wait + Sync, S: Source>(
     match job {
         Job::Run(options) => or_no_memory(run(rt, alloc, &read_program(alloc, src)?, options)),
         Job::Concord(options) => concord(rt, alloc, &read_all(alloc, src)?, options),
-        Job::Asm | Job::Bench(_) | Job::Sim(_) => unreachable!("it waits for nobody"),
+        Job::Asm | Job::Bench(_) | Job::Sim(_) | Job::Audit(_) => {
+            unreachable!("it waits for nobody")
+        }
     }
 }
 
@@ -102,6 +105,7 @@ fn work<S: Source>(alloc: Global, job: Job, src: &mut S) -> Result<Answer, Statu
 {
     match job {
         Job::Bench(operands) => or_no_memory(bench(alloc, operands)),
+        Job::Audit(options) => audit(alloc, &read_all(alloc, src)?, options),
         job => or_no_memory(make(alloc, &read_program(alloc, src)?, job)),
     }
 }
@@ -118,6 +122,7 @@ fn make(alloc: Global, program: &Program, job: Job) -> Result<Answer, plain_heap
         Job::Asm => asm(alloc, program),
         Job::Sim(options) => sim(alloc, program, options),
         Job::Bench(_) => unreachable!("it reads no program"),
+        Job::Audit(_) => unreachable!("its program isn't all of its input"),
         Job::Run(_) | Job::Concord(_) => unreachable!("it waits for threads"),
     }
 }

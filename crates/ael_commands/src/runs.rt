@@ -5,6 +5,7 @@ pub mod dump;
 pub mod flags;
 pub mod mutators;
 pub mod notes;
+pub mod orders;
 pub mod report;
 pub mod run;
 pub mod scheduled;

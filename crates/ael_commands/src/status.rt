@@ -4,7 +4,7 @@ ghost use Rattle.std.specs.Prelude.{◌≡◌};
 
 use crate::streams::reading::ReadError;
 use concordance::ConcordError;
-use gc_core::OpenError;
+use heap_audit::AuditError;
 use mutator_asm::AsmError;
 use plain_heap::NoMemory;
 use std::alloc::Global;
@@ -19,18 +19,22 @@ pub const NO_MEMORY: &str = "ael: out of memory\n";
 /// How a call went, from which its exit status follows and the line that standard error gets.
 #[derive(Clone, Copy, Debug, PartialEq, Eq)]
 pub enum Status {
-    /// All was done: every mutator halted, or the listing or the concordance was given.
+    /// All was done: every mutator halted, the listing or the concordance was given, or an output is that of its program.
     Done,
     /// The text has this fault in this line.
     Text { no: u8, line: u32 },
     /// This line is the first of the text that has a word of more than 64 letters.
     LongWord { line: u32 },
+    /// The output that was to be audited isn't of the form of one: this is its first wrong line.
+    BadOutput { line: usize },
     /// The words are no command.
     Usage,
     /// Every mutator has its end, and one isn't `halt`.
     Ended,
     /// A concordance asked for so many pages of a heap, and there was room for so many words, which was less.
     HeapFull { asked: u32, room: u32 },
+    /// An output isn't that of its program.
+    No,
     /// As many steps as were allowed were made before every mutator had its end.
     StepsOut,
     /// The source failed.
@@ -54,7 +58,7 @@ impl Status {
     {
         match self {
             Status::Done => 0,
-            Status::Text { .. } | Status::LongWord { .. } => 1,
+            Status::Text { .. } | Status::LongWord { .. } | Status::BadOutput { .. } => 1,
             Status::Usage => 2,
             Status::Ended | Status::HeapFull { .. } => 3,
             Status::StepsOut => 4,
@@ -62,6 +66,7 @@ impl Status {
             Status::WriteFault => 6,
             Status::NoMemory => 7,
             Status::TooLong => 8,
+            Status::No => 9,
         }
     }
 
@@ -72,13 +77,18 @@ impl Status {
         ensures spends { OnErr result (is_made self ≡ true) }
     {
         let line = match self {
-            Status::Done | Status::Ended => "",
+            Status::Done | Status::Ended | Status::No => "",
             Status::Text { no, line } => {
                 let fault = AsmError::Text { no, line };
                 return Ok(CowStr::Owned(format!(in alloc; "ael: {fault}\n")?));
             }
             Status::LongWord { line } => {
                 return Ok(CowStr::Owned(format!(in alloc; "ael: line {line}: word too long\n")?));
+            }
+            Status::BadOutput { line } => {
+                return Ok(CowStr::Owned(format!(in alloc;
+                    "ael: line {line}: error 10: bad output\n"
+                )?));
             }
             Status::HeapFull { asked, room } => {
                 return Ok(CowStr::Owned(format!(in alloc;
@@ -136,6 +146,20 @@ impl From<ConcordError> for Status {
             ConcordError::WordTooLong { line } => Status::LongWord { line },
             ConcordError::HeapFull { asked, room } => Status::HeapFull { asked, room },
             ConcordError::NoMemory => Status::NoMemory,
+        }
+    }
+}
+
+impl From<AuditError> for Status {
+    ghost use Rattle.std.specs.Prelude.{◌≡◌};
+    ghost use Rattle.ael_commands.specs.Calls.Status.{audit_status};
+
+    ghost from_gives = { λ e status. status ≡ audit_status e };
+
+    fn from(error: AuditError) -> Status {
+        match error {
+            AuditError::NoMemory => Status::NoMemory,
+            AuditError::Bad { line } => Status::BadOutput { line },
         }
     }
 }

@@ -2,6 +2,7 @@
 
 ghost use Rattle.std.specs.Prelude.{◌≡◌, IfSome, List, None, ℕ, map, string_bytes, true};
 ghost use Rattle.ael_commands.specs.Calls.Answer.{IsAnswerTo};
+ghost use Rattle.ael_commands.specs.Calls.Audits.{AuditEnds, SaysYesToTrueOutputs};
 ghost use Rattle.ael_commands.specs.Calls.Call.{call_of, call_with};
 ghost use Rattle.ael_commands.specs.Calls.Concordance.{ConcordEnds, LargeHeapsSuffice, PrintsConcordance};
 ghost use Rattle.ael_commands.specs.Calls.Emits.{IsEmitted};
@@ -17,6 +18,7 @@ use crate::streams::sink::Sink;
 use crate::streams::source::Source;
 use crate::streams::writing::emit;
 use concordance_text::one_concordance;
+use heap_audit::places_show_what_is_represented;
 use mutator_asm::{listing_is_a_text, never_both, one_program};
 use plain_heap::alone_mutators_are_independent;
 use std::alloc::Global;
@@ -42,6 +44,8 @@ pub fn ael<R: Threads + Wait + Sync, S: Source, O: Sink, E: Sink>(
     ensures concords { PrintsConcordance (call_of S.Source O.Sink E.Sink words.now src.old src.new out.old out.new err.old err.new result) }
     ensures concord_ends { ConcordEnds (call_of S.Source O.Sink E.Sink words.now src.old src.new out.old out.new err.old err.new result) }
     ensures large_heaps_suffice { LargeHeapsSuffice (call_of S.Source O.Sink E.Sink words.now src.old src.new out.old out.new err.old err.new result) }
+    ensures audits { AuditEnds (call_of S.Source O.Sink E.Sink words.now src.old src.new out.old out.new err.old err.new result) }
+    ensures says_yes { SaysYesToTrueOutputs (call_of S.Source O.Sink E.Sink words.now src.old src.new out.old out.new err.old err.new result) }
 {
     match ael_still(alloc, words, src, out, err) {
         Some(code) => code,
@@ -85,6 +89,7 @@ fn finish<O: Sink, E: Sink>(answer: &Answer, out: &mut O, err: &mut E) -> u8
     listing_is_a_text();
     alone_mutators_are_independent();
     one_concordance();
+    places_show_what_is_represented();
 
     emit(answer, out, err).code()
 }

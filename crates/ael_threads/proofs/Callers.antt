@@ -7,8 +7,9 @@ use Rattle.std.proofs.lemmas.Map.Views.{Contains-from_any}
 use Rattle.std.proofs.lemmas.Option.{slice_get_within}
 use Rattle.plain_state.specs.State.{Plain}
 use Rattle.gc_worker.specs.declared.calls.entry.Entry.{Entry}
-use Rattle.gc_worker.specs.declared.calls.entry.Entry.TheVariants.{Exchanged, Made}
+use Rattle.gc_worker.specs.declared.calls.entry.Entry.TheVariants.{Exchanged, Made, Emptied}
 use Rattle.gc_worker.specs.History.Legal.{IsLegal, after_call}
+use Rattle.gc_worker.specs.Plain.Stories.{with_emptied}
 use Rattle.gc_worker.specs.Steps.Turned.{Answers}
 use Rattle.gc_worker.proofs.Between.Others.{answers_leave_the_others}
 use Rattle.ael_threads.specs.Histories.{AreBy, Each, IsOnce}
@@ -63,3 +64,4 @@ are_by numbers p (Made c ∷ es) all legal =
       are_by numbers (after_call p c) es (λ j below. all j (omega (arith, below, same))) legal.1,
     )
 are_by numbers p (Exchanged by asked ∷ es) all legal = are_by numbers p es all legal
+are_by numbers p (Emptied cells ∷ es) all legal = are_by numbers (with_emptied p cells) es all legal

@@ -10,12 +10,13 @@ use Rattle.atom_store.specs.Step.{reply_of}
 use Rattle.plain_state.specs.declared.end.End.{End}
 use Rattle.plain_state.specs.declared.end.End.TheVariants.{HeapFull}
 use Rattle.plain_state.specs.State.{Plain}
+use Rattle.plain_heap.specs.Emptied.{cells_to_empty}
 use Rattle.space_map.specs.declared.gate_word.GateWord.{GateWord}
 use Rattle.heap_state.specs.Worker.{Account}
 use Rattle.gc_worker.specs.declared.calls.call.Call.{Call}
 use Rattle.gc_worker.specs.declared.calls.did.Did.TheVariants.{Done, Trap}
 use Rattle.gc_worker.specs.declared.calls.entry.Entry.{Entry}
-use Rattle.gc_worker.specs.declared.calls.entry.Entry.TheVariants.{Exchanged, Made}
+use Rattle.gc_worker.specs.declared.calls.entry.Entry.TheVariants.{Exchanged, Made, Emptied}
 use Rattle.gc_worker.specs.declared.stage.Stage.{Stage}
 use Rattle.gc_worker.specs.declared.stage.Stage.TheVariants.{Looks}
 use Rattle.gc_worker.specs.declared.task.Task.{Task}
@@ -82,11 +83,11 @@ flipped_full plan m task x own log w same now no_flip = record {
   flipped = flipped_since plan w.began log x w.begins w.flips now no_flip;
 }
 
-same_calls : (m : ℕ) (log : List Entry) (t : Told) → IsNoAnswer t → calls_of m (log ++ extra m t) ≡ calls_of m log
-same_calls m log Silent none = ap (calls_of m) (append-nil log)
-same_calls m log Empties none = ap (calls_of m) (append-nil log)
-same_calls m log (Answers task did) none = absurd none
-same_calls m log (Marks asked) none = calls_append m log (Exchanged m asked ∷ []) ∙ append-nil (calls_of m log)
+same_calls : (o : Plain) (m : ℕ) (log : List Entry) (t : Told) → IsNoAnswer t → calls_of m (log ++ extra o m t) ≡ calls_of m log
+same_calls o m log Silent none = ap (calls_of m) (append-nil log)
+same_calls o m log Empties none = calls_append m log (Emptied (cells_to_empty o) ∷ []) ∙ append-nil (calls_of m log)
+same_calls o m log (Answers task did) none = absurd none
+same_calls o m log (Marks asked) none = calls_append m log (Exchanged m asked ∷ []) ∙ append-nil (calls_of m log)
 
 -- ---- the step of worker m, which holds y
 
@@ -96,6 +97,10 @@ module _ (plan : Plan) (m : ℕ) (y : Held) (q : Step) (words : List ℕ) (worke
     (full : FullWhereTold plan.spaces.pages words y (told y (reply_of q words))) where
   abbrev n : ℕ
   n = plan.spaces.pages
+
+  -- the plain state at the last flip
+  abbrev o : Plain
+  o = last_flip (first_plain plan) log
 
   abbrev r : Reply
   r = reply_of q words
@@ -136,26 +141,26 @@ module _ (plan : Plan) (m : ℕ) (y : Held) (q : Step) (words : List ℕ) (worke
           absurd (ended_out z.stage (subst (λ (o : Option End). FitsEnd z.stage (is_some o)) ended fits_z.end) call)
       by_told (Marks asked) e = subst IsNoAnswer (sym e) tt
 
-  looks_here : y.stage ≡ Looks → z.begun ≡ y.epoch → IsInCall z.stage → HasLooked plan m z (log ++ extra m t)
+  looks_here : y.stage ≡ Looks → z.begun ≡ y.epoch → IsInCall z.stage → HasLooked plan m z (log ++ extra o m t)
   looks_here looks same call = by_task z.task refl
     where
-      by_task : (o : Option Task) → z.task ≡ o → HasLooked plan m z (log ++ extra m t)
+      by_task : (has : Option Task) → z.task ≡ has → HasLooked plan m z (log ++ extra o m t)
       by_task None none = absurd (none_at z none z.stage fits_z.task call)
       by_task (Some task) is =
           let look = begun_here plan m y q task words workers log (record { held = y; is = at; shown = refl }) st gate_flips want (sym (goes.kept (no_answer call)) ∙ is) looks call in record {
             task = task;
             task_is = is;
-            within = record { began = log; look = look.0; begins = (extra m t, refl); calls = sym (same_calls m log t (no_answer call)); flips = look.1 ∙ sym same };
+            within = record { began = log; look = look.0; begins = (extra o m t, refl); calls = sym (same_calls o m log t (no_answer call)); flips = look.1 ∙ sym same };
           }
 
-  later : IsPastLook y.stage → z.begun ≡ y.begun → IsInCall z.stage → HasLooked plan m z (log ++ extra m t)
+  later : IsPastLook y.stage → z.begun ≡ y.begun → IsInCall z.stage → HasLooked plan m z (log ++ extra o m t)
   later past same call = let w = was (was_in_call n plan.mutators m y r fits_y past call) in record {
     task = w.task;
     task_is = goes.kept (no_answer call) ∙ w.task_is;
-    within = begun_later plan m w.task y.begun z.begun (calls_of m log) (calls_of m (log ++ extra m t)) log (log ++ extra m t) w.within (sym same) (sym (same_calls m log t (no_answer call))) (extra m t, refl);
+    within = begun_later plan m w.task y.begun z.begun (calls_of m log) (calls_of m (log ++ extra o m t)) log (log ++ extra o m t) w.within (sym same) (sym (same_calls o m log t (no_answer call))) (extra o m t, refl);
   }
 
-  pub looked : IsInCall z.stage → HasLooked plan m z (log ++ extra m t)
+  pub looked : IsInCall z.stage → HasLooked plan m z (log ++ extra o m t)
   looked call = ⊎_elim (λ (look : (y.stage ≡ Looks) × (z.begun ≡ y.epoch)). looks_here look.0 look.1 call) (λ (past : IsPastLook y.stage × (z.begun ≡ y.begun)). later past.0 past.1 call)
       (beginnings_are_kept n plan.mutators m y r fits_y (past_look z.stage call))
 
@@ -181,21 +186,21 @@ module _ (plan : Plan) (m : ℕ) (y : Held) (q : Step) (words : List ℕ) (worke
       let ended : y.account.end ≡ Some end = ap (λ (x : Held). x.account.end) (sym holds) ∙ (((what_stands_is_so h (after_all p log) (last_flip p log) st).mutators m has.0 its).account.end ∙ has.2) in
       ended_keeps y r y.stage (subst (FitsEnd y.stage) (ap is_some ended) fits_y.end)
 
-  pub flipped_more : FlippedIfFull plan m y.begun log → FlippedIfFull plan m z.begun (log ++ extra m t)
+  pub flipped_more : FlippedIfFull plan m y.begun log → FlippedIfFull plan m z.begun (log ++ extra o m t)
   flipped_more before front rest task asked room live is = ⊎_elim
       (λ (old : (more : List Entry) × (front ++ Made (worker_call m task (Trap (HeapFull asked room live))) ∷ more ≡ log)).
       subst (λ (begun : ℕ). FlippedSinceBegun plan m task begun front) (sym (still_begun front old.0 task asked room live old.1)) (before front old.0 task asked room live old.1))
       (λ (new : (front ≡ log) × (m ≡ m) × (t ≡ Answers task (Trap (HeapFull asked room live)))). subst (FlippedSinceBegun plan m task z.begun) (sym new.0) (flipped task asked room live new.2))
-      (told_or_before m m t task (Trap (HeapFull asked room live)) front rest log is)
+      (told_or_before o m m t task (Trap (HeapFull asked room live)) front rest log is)
 
 -- ---- the other workers, and those of a seat
 
 -- a step of another worker tells no full heap of this one
-pub flipped_aside : (plan : Plan) (j begun m : ℕ) (log : List Entry) (t : Told) → j ≢ m → FlippedIfFull plan j begun log → FlippedIfFull plan j begun (log ++ extra m t)
-flipped_aside plan j begun m log t other before front rest task asked room live is = ⊎_elim
+pub flipped_aside : (plan : Plan) (o : Plain) (j begun m : ℕ) (log : List Entry) (t : Told) → j ≢ m → FlippedIfFull plan j begun log → FlippedIfFull plan j begun (log ++ extra o m t)
+flipped_aside plan o j begun m log t other before front rest task asked room live is = ⊎_elim
     (λ (old : (more : List Entry) × (front ++ Made (worker_call j task (Trap (HeapFull asked room live))) ∷ more ≡ log)). before front old.0 task asked room live old.1)
     (λ (new : (front ≡ log) × (j ≡ m) × (t ≡ Answers task (Trap (HeapFull asked room live)))). absurd (other new.1))
-    (told_or_before j m t task (Trap (HeapFull asked room live)) front rest log is)
+    (told_or_before o j m t task (Trap (HeapFull asked room live)) front rest log is)
 
 pub hand_flipped : (plan : Plan) (workers : List Held) (log : List Entry) (h : Hand) → StandsAs workers h.number h.worker → ((m : ℕ) → FlippedIfFull plan m (begun_held workers m) log)
     → HasFlippedIfFull plan log h

@@ -5,7 +5,7 @@ use Rattle.plain_state.specs.State.{Plain}
 use Rattle.heap_laws.specs.Opening.{opening_plain}
 use Rattle.gc_worker.specs.declared.calls.call.Call.{Call}
 use Rattle.gc_worker.specs.declared.calls.entry.Entry.{Entry}
-use Rattle.gc_worker.specs.declared.calls.entry.Entry.TheVariants.{Exchanged, Made}
+use Rattle.gc_worker.specs.declared.calls.entry.Entry.TheVariants.{Exchanged, Made, Emptied}
 use Rattle.gc_worker.specs.Laws.Between.{fresh_worker}
 use Rattle.gc_worker.specs.Workers.Held.{Held}
 use Rattle.gc_worker.specs.History.Legal.{calls_of}
@@ -58,6 +58,7 @@ abbrev pub AreBy : List ℕ → List Entry → Type 0
 AreBy numbers [] = ⊤
 AreBy numbers (Made c ∷ es) = Contains numbers c.by × AreBy numbers es
 AreBy numbers (Exchanged by asked ∷ es) = AreBy numbers es
+AreBy numbers (Emptied cells ∷ es) = AreBy numbers es
 
 -- worker k before its first step
 abbrev pub first_held : Plan → ℕ → Held

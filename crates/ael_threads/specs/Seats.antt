@@ -183,7 +183,7 @@ pub record Moves (v : View) (m : ℕ) (x : Held) (r : Reply) (w : View) : Type 0
   pub left : after ≡ words_after step before
   pub found : StandWith v.plan m x v.seen before
   pub stands : StandWith v.plan m (turned x r) w.seen after
-  pub grows : stands.log ≡ found.log ++ extra m (told x r)
+  pub grows : stands.log ≡ found.log ++ extra (last_flip (first_plain v.plan) found.log) m (told x r)
   pub heard : IsPrefix v.heard found.log
   pub own : calls_of m found.log ≡ first_own v.hands
   pub hears : w.heard ≡ stands.log

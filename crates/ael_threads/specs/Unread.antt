@@ -13,7 +13,7 @@ use Rattle.gc_worker.specs.declared.task.Task.TheVariants.{Calls, Stops}
 use Rattle.gc_worker.specs.declared.calls.call.Call.{Call}
 use Rattle.gc_worker.specs.declared.calls.did.Did.TheVariants.{Done}
 use Rattle.gc_worker.specs.declared.calls.entry.Entry.{Entry}
-use Rattle.gc_worker.specs.declared.calls.entry.Entry.TheVariants.{Exchanged, Made}
+use Rattle.gc_worker.specs.declared.calls.entry.Entry.TheVariants.{Exchanged, Made, Emptied}
 use Rattle.gc_worker.specs.History.Legal.{IsLegal, after_all, calls_of}
 use Rattle.ael_threads.specs.Alone.{ComesToTheSame, LeavesBoard}
 
@@ -24,6 +24,7 @@ abbrev pub EachCall : (Call → Type 0) → List Entry → Type 0
 EachCall P [] = ⊤
 EachCall P (Made c ∷ es) = P c × EachCall P es
 EachCall P (Exchanged by asked ∷ es) = EachCall P es
+EachCall P (Emptied cells ∷ es) = EachCall P es
 
 -- the call put register a in the word of the board that the operand names
 pub record IsPut (c : Call) (place : Operand) (a : ℕ) : Type 0 where

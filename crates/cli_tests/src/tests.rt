@@ -1,5 +1,6 @@
 //! The program's answers, over sources and sinks in memory and over a file.
 
+mod audits;
 mod benches;
 mod checkpoints;
 mod collecting;
@@ -151,6 +152,7 @@ an empty input|sim|||ael: line 1: error 5: no mutator/|1";
 fn calls_give_what_they_should(rt: HostRuntime) -> Result<(), Fail> {
     let tables = [
         ROWS,
+        audits::ROWS,
         checkpoints::ROWS,
         collecting::ROWS,
         concordances::ROWS,

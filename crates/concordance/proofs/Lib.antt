@@ -1,6 +1,7 @@
 pub mod Calls
 pub mod Doing
 pub mod RegisterCount
+pub mod NoCells
 pub mod Lone
 pub mod Shown
 pub mod Lists

@@ -18,9 +18,10 @@ use Rattle.heap_laws.specs.Opening.{opening_mutator, opening_plain}
 use Rattle.gc_worker.specs.declared.calls.did.Did.{Did}
 use Rattle.gc_worker.specs.declared.calls.did.Did.TheVariants.{Done, Trap}
 use Rattle.gc_worker.specs.declared.calls.entry.Entry.{Entry}
-use Rattle.gc_worker.specs.declared.calls.entry.Entry.TheVariants.{Exchanged, Made}
+use Rattle.gc_worker.specs.declared.calls.entry.Entry.TheVariants.{Exchanged, Made, Emptied}
 use Rattle.gc_worker.specs.declared.task.Task.{Task}
 use Rattle.gc_worker.specs.declared.task.Task.TheVariants.{Calls, Stops}
+use Rattle.gc_worker.specs.Plain.Stories.{with_emptied}
 use Rattle.gc_worker.specs.Plain.Answer.{after_answer, after_outcome}
 use Rattle.gc_worker.specs.History.Legal.{after_all, after_call}
 
@@ -83,6 +84,7 @@ all_keep : (p : Plain) (log : List Entry) → HaveRegisters p → HaveRegisters 
 all_keep p [] have = have
 all_keep p (Made c ∷ es) have = all_keep (after_call p c) es (answer_keeps p have c.by c.task c.did (slice_get p.mutators c.by) refl)
 all_keep p (Exchanged by asked ∷ es) have = all_keep p es have
+all_keep p (Emptied cells ∷ es) have = all_keep (with_emptied p cells) es have
 
 pub have_registers : (mutators : ℕ) (log : List Entry) (j : ℕ) (k : Mutator) → slice_get (after_all (opening_plain mutators) log).mutators j ≡ Some k → length k.registers ≡ REGISTERS
 have_registers mutators log = all_keep (opening_plain mutators) log

@@ -1,12 +1,12 @@
 -- A clerk that has taken in all others: nobody else makes calls.
-use Rattle.std.proofs.Common.{◌≡◌, ℕ, ◌<◌, ◌≤◌, ◌⊎◌, inl, inr, Bool, cond, List, [], ◌∷◌, ◌++◌, drop, length, refl, ap, sym, ◌∙◌, subst, append_assoc, append-nil, eq-eqb}
+use Rattle.std.proofs.Common.{◌≡◌, ℕ, ◌<◌, ◌≤◌, ◌⊎◌, inl, inr, Bool, false, cond, List, [], ◌∷◌, ◌++◌, drop, length, refl, ap, sym, ◌∙◌, subst, append_assoc, append-nil, eq-eqb}
 use Rattle.std.proofs.lemmas.Bool.{cases_lt}
 use Rattle.std.proofs.lemmas.List.{append_cancel_left, append_cancel_right}
 use Rattle.plain_state.specs.State.{Plain}
 use Rattle.gc_worker.specs.declared.calls.call.Call.{Call}
 use Rattle.gc_worker.specs.declared.calls.did.Did.{Did}
 use Rattle.gc_worker.specs.declared.calls.entry.Entry.{Entry}
-use Rattle.gc_worker.specs.declared.calls.entry.Entry.TheVariants.{Made, Exchanged}
+use Rattle.gc_worker.specs.declared.calls.entry.Entry.TheVariants.{Made, Exchanged, Emptied}
 use Rattle.gc_worker.specs.declared.task.Task.{Task}
 use Rattle.gc_worker.specs.History.Legal.{IsLegal, after_all, after_call, calls_of}
 use Rattle.gc_worker.specs.Plain.Answer.{ComesTo}
@@ -16,17 +16,20 @@ use Rattle.ael_threads.specs.declared.view.Plan.{Plan}
 use Rattle.ael_threads.specs.Calls.{Called, KnowsWorker, call_by}
 use Rattle.ael_threads.specs.Histories.{HasOwnCalls, first_plain, hand}
 use Rattle.ael_threads.specs.Seats.{Seated, first_number, first_own, plain_after_seen}
+use Rattle.concordance.specs.NoCells.{HasNoCells, task_makes_cell}
 use Rattle.concordance.specs.Whole.{CallsWhole, HasNumber, IsWhole, WholeCalls}
+use Rattle.concordance.proofs.NoCells.{call_none, emptied_same}
 
 none_left : {A : Type 0} (xs ys : List A) → xs ++ ys ≡ [] → xs ≡ []
 none_left [] ys e = refl
 none_left (x ∷ xs) ys e = absurd (cc)
 
--- a history without calls changes nothing
-unchanged : (p : Plain) (log : List Entry) → ((j : ℕ) → calls_of j log ≡ []) → after_all p log ≡ p
-unchanged p [] none = refl
-unchanged p (Made c ∷ es) none = absurd ((none_first c.by c es (none c.by)).0 refl)
-unchanged p (Exchanged by asked ∷ es) none = unchanged p es none
+-- where nobody has a cell a history without calls changes nothing
+unchanged : (p : Plain) (log : List Entry) → HasNoCells p → ((j : ℕ) → calls_of j log ≡ []) → after_all p log ≡ p
+unchanged p [] cells none = refl
+unchanged p (Made c ∷ es) cells none = absurd ((none_first c.by c es (none c.by)).0 refl)
+unchanged p (Exchanged by asked ∷ es) cells none = unchanged p es cells none
+unchanged p (Emptied lost ∷ es) cells none = ap (λ (z : Plain). after_all z es) (emptied_same p cells lost) ∙ unchanged p es cells none
 
 module _ (seen between : List Entry) (c : Call) where
   abbrev later : List Entry
@@ -47,7 +50,7 @@ module _ (seen between : List Entry) (c : Call) where
   of_hands j (h ∷ hs) was now (inl e) = subst (λ (n : ℕ). calls_of n between ≡ []) (sym e) (none_of h.number h.own was.0 now.0)
   of_hands j (h ∷ hs) was now (inr has) = of_hands j hs was.1 now.1 has
 
-module _ (a b : Seated) (task : Task) (did : Did) (whole : IsWhole a) (h : Called a task did b) where
+module _ (a b : Seated) (task : Task) (did : Did) (whole : IsWhole a) (makes : task_makes_cell task ≡ false) (h : Called a task did b) where
   abbrev c : Call
   c = call_by a task did
 
@@ -88,11 +91,11 @@ module _ (a b : Seated) (task : Task) (did : Did) (whole : IsWhole a) (h : Calle
       (none_past (first_plain a.knows.plan) a.knows.seen j whole.legal past)
       (ap (calls_of j) (sym h.history.is) ∙ none_past (first_plain a.knows.plan) b.knows.seen j h.history.legal past)
 
-  nothing : (p : Plain) → after_all p between ≡ p
-  nothing p = unchanged p between (λ j. none_by j (cases_lt j (length (first_plain a.knows.plan).mutators)))
+  nothing : after_all (plain_after_seen a.knows) between ≡ plain_after_seen a.knows
+  nothing = unchanged (plain_after_seen a.knows) between whole.none (λ j. none_by j (cases_lt j (length (first_plain a.knows.plan).mutators)))
 
   before : after_all (first_plain a.knows.plan) (a.knows.seen ++ between) ≡ plain_after_seen a.knows
-  before = after_append (first_plain a.knows.plan) a.knows.seen between ∙ nothing (plain_after_seen a.knows)
+  before = after_append (first_plain a.knows.plan) a.knows.seen between ∙ nothing
 
   after : plain_after_seen b.knows ≡ after_call (plain_after_seen a.knows) c
   after = ap (λ (p : Plan). after_all (first_plain p) b.knows.seen) h.plan ∙ (ap (after_all (first_plain a.knows.plan)) h.history.is
@@ -108,6 +111,7 @@ module _ (a b : Seated) (task : Task) (did : Did) (whole : IsWhole a) (h : Calle
     all = λ j below. subst (HasNumber j) (sym h.hands) (numbers j (subst (HasNumber j) whole.knows (whole.all j (subst (λ (p : Plan). j < length (first_plain p).mutators) h.plan below))));
     own = h.history.own;
     legal = subst (λ (p : Plan). IsLegal (first_plain p) b.knows.seen) (sym h.plan) h.history.legal;
+    none = subst HasNoCells (sym after) (call_none (plain_after_seen a.knows) c makes whole.none);
   }
     where
       knows_then : KnowsWorker b
@@ -117,4 +121,4 @@ module _ (a b : Seated) (task : Task) (did : Did) (whole : IsWhole a) (h : Calle
   calls_whole = record { whole = whole_then; comes = subst (λ (p : Plain). ComesTo p n task did) before h.comes; after = after }
 
 pub whole_calls : WholeCalls
-whole_calls a b task did whole h = calls_whole a b task did whole h
+whole_calls a b task did whole makes h = calls_whole a b task did whole makes h

@@ -1,5 +1,6 @@
 pub mod Desk
 pub mod Lone
+pub mod NoCells
 pub mod Notes
 pub mod OneMutator
 pub mod Full

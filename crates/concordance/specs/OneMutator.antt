@@ -10,18 +10,20 @@ use Rattle.ael_threads.specs.declared.view.Plan.{Plan}
 use Rattle.ael_threads.specs.Alone.{alone_history}
 use Rattle.ael_threads.specs.Histories.{AreSizesOf, first_plain, opening_tally}
 use Rattle.ael_threads.specs.Unread.{EachCall}
+use Rattle.concordance.specs.NoCells.{HasNoCells, MakesNoCell}
 
 -- the call was executed
 abbrev pub WasDone : Call → Type 0
 WasDone c = c.did ≡ Done
 
--- the plain state is that after the mutator's calls alone
+-- the plain state is that after the mutator's calls alone, if it makes no cell
 abbrev pub LoneHistories : Type 0
-LoneHistories = (p : Plain) (log : List Entry) → length p.mutators ≡ 1 → IsLegal p log → after_all p log ≡ after_all p (alone_history (calls_of 0 log))
+LoneHistories = (p : Plain) (log : List Entry) → length p.mutators ≡ 1 → HasNoCells p → EachCall MakesNoCell log → IsLegal p log
+    → after_all p log ≡ after_all p (alone_history (calls_of 0 log))
 
--- if a flip came since its last call, nothing has changed since that flip
+-- if a flip came since its last call, nothing has changed since that flip, if it makes no cell
 abbrev pub LoneFlipsAreNow : Type 0
-LoneFlipsAreNow = (plan : Plan) (log : List Entry) → plan.mutators ≡ 1 → IsLegal (first_plain plan) log → (tally (opening_tally plan) log).since 0 ≡ true
+LoneFlipsAreNow = (plan : Plan) (log : List Entry) → plan.mutators ≡ 1 → EachCall MakesNoCell log → IsLegal (first_plain plan) log → (tally (opening_tally plan) log).since 0 ≡ true
     → (tally (opening_tally plan) log).flip ≡ (tally (opening_tally plan) log).now
 
 -- all pages of its spaces are in use from the beginning

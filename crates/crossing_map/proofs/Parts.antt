@@ -159,7 +159,7 @@ module _ (passes : ℕ → Bool) (reserved heap : ℕ → ℕ) (end : ℕ) where
   ends_by : (n at : ℕ) (m : Met)
       → (next_in n passes reserved heap end (next_place end at m) ≡ next.Ended → (walk n passes reserved heap end (next_place end at m) ≡ []) × ReadsAll n passes reserved heap end (next_place end at m))
       → m ≢ AtEnd → next_at end at m (next_in n passes reserved heap end (next_place end at m)) ≡ next.Ended
-      → (walked_at at m (walk n passes reserved heap end (next_place end at m)) ≡ []) × (IsRead m × ReadsAll n passes reserved heap end (next_place end at m))
+      → (walked_at at m (walk n passes reserved heap end (next_place end at m)) ≡ []) × (IsRead end at m × ReadsAll n passes reserved heap end (next_place end at m))
   ends_by n at AtEnd rest inside is = absurd (inside refl)
   ends_by n at Nothing rest inside is = let r = rest is in (r.0, (tt, r.1))
   ends_by n at (Reserved s) rest inside is = let r = rest is in (r.0, (tt, r.1))
@@ -201,7 +201,7 @@ module _ (passes : ℕ → Bool) (reserved heap : ℕ → ℕ) (end : ℕ) where
 
   read_by : (n at : ℕ) (m : Met)
       → (walk n passes reserved heap end (next_place end at m) ≡ [] → ReadsAll n passes reserved heap end (next_place end at m) → next_in n passes reserved heap end (next_place end at m) ≡ next.Ended)
-      → walked_at at m (walk n passes reserved heap end (next_place end at m)) ≡ [] → IsRead m × ReadsAll n passes reserved heap end (next_place end at m)
+      → walked_at at m (walk n passes reserved heap end (next_place end at m)) ≡ [] → IsRead end at m × ReadsAll n passes reserved heap end (next_place end at m)
       → next_at end at m (next_in n passes reserved heap end (next_place end at m)) ≡ next.Ended
   read_by n at AtEnd rest none reads = refl
   read_by n at Nothing rest none reads = rest none reads.1

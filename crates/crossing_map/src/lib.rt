@@ -18,6 +18,7 @@ mod walked;
 
 pub use area::Area;
 pub use crossing::covers;
+pub use first_word::record_size;
 pub use laws::{walk_next_is_next_in_walk, worked_spaces_are_walked};
 pub use space_map::crossed;
 pub use walk::walk_next;

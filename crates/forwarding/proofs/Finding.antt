@@ -3,7 +3,6 @@ use Rattle.std.proofs.Common.{◌≡◌, ℕ, ◌+◌, Some, refl, sym, ap, ◌�
 use Rattle.atom_store.specs.declared.reply.Reply.{Reply}
 use Rattle.atom_store.specs.declared.reply.Reply.TheVariants.{Value, Done, Won}
 use Rattle.atom_store.specs.declared.turn.Turn.TheVariants.{More, Finished}
-use Rattle.heap_words.specs.declared.kind.Kind.{Kind}
 use Rattle.heap_words.specs.Decoded.{Decoded, NumberWord, PointerWord, HeaderWord, ForwardWord, BusyWord, Malformed, decode}
 use Rattle.space_map.specs.declared.area_word.AreaWord.{AreaWord}
 use Rattle.heap_words.specs.Word.{busy_word}
@@ -12,7 +11,7 @@ use Rattle.space_map.specs.Spaces.{to_space}
 use Rattle.space_map.specs.Table.{Area, HeapWord, Announce}
 use Rattle.atom_store.specs.declared.step.Step.TheVariants.{Store, Exchange}
 use Rattle.forwarding.specs.declared.evac_stage.EvacStage.{EvacStage}
-use Rattle.forwarding.specs.declared.evac_stage.EvacStage.TheVariants.{LoadsHeader, TakesHeader, LoadsArea, Announces, Reserves, StoresHeader, LoadsWord, StoresWord, StoresCross, StoresForward, Clears, Ended}
+use Rattle.forwarding.specs.declared.evac_stage.EvacStage.TheVariants.{LoadsHeader, TakesHeader, LoadsArea, Announces, Reserves, StoresHeader, LoadsWord, StoresWord, StoresCross, StoresForward, LoadsWeak, StoresLink, TakesWeak, Clears, Ended}
 use Rattle.forwarding.specs.declared.kept_header.KeptHeader.{KeptHeader}
 use Rattle.forwarding.specs.declared.to.To.{To}
 use Rattle.forwarding.specs.Evacuation.{IsGoing, area_past, front_of, size_of, wanted_at}
@@ -62,7 +61,12 @@ ends_behind_forwards v reply to =
       tries_again = λ kept area w other same going is. absurd (cc);
       aims_again = λ kept area w other going is. absurd (cc);
       copies = λ r x reply z copies_x copies_z going is. absurd (no_copy r z (Ended to) copies_z is (λ n. n));
-      forwards = λ r going is. absurd (cc);
+      forwards = λ r plain going is. absurd (cc);
+      forwards_cell = λ r cell going is. absurd (cc);
+      reads_weak = λ a head going is. absurd (cc);
+      stores_link = λ a head going is. absurd (cc);
+      links = λ a head going is. absurd (cc);
+      links_again = λ a head other going is. absurd (cc);
       clears = λ a going is. inr ((let same : a ≡ to = cc in ap Clears same), refl);
     }) v.stage reply
 
@@ -72,16 +76,16 @@ pub reads_headers : ReadsHeaders
 reads_headers v reply kept =
     let P : EvacStage → Reply → EvacStage → Type 0 = λ x reply z. z ≡ TakesHeader kept
     → (x ≡ TakesHeader kept)
-    ⊎ ((x ≡ LoadsHeader) × (reply ≡ Value kept.word) × ((kind : Kind) × (serial : ℕ) × (mutator : ℕ) × (decode kept.word ≡ HeaderWord kind kept.len serial mutator))) in
+    ⊎ ((x ≡ LoadsHeader) × (reply ≡ Value kept.word) × ((serial : ℕ) × (mutator : ℕ) × (decode kept.word ≡ HeaderWord kept.kind kept.len serial mutator))) in
     of_each_way v.layout v.epoch P (record {
       stays = λ x reply is. inl is;
       follows = λ w len a f is. absurd (cc);
       finds = λ w kind len serial mutator f is.
-          let same : record { word = w; len = len } ≡ kept = cc in
+          let same : record { word = w; kind = kind; len = len } ≡ kept = cc in
           inr (
             refl,
             ap (λ (k : KeptHeader). Value k.word) same,
-            (kind, serial, mutator, subst (λ (k : KeptHeader). decode k.word ≡ HeaderWord kind k.len serial mutator) same f),
+            (serial, mutator, subst (λ (k : KeptHeader). decode k.word ≡ HeaderWord k.kind k.len serial mutator) same f),
           );
       takes = λ of is. absurd (cc);
       is_late = λ of w is. absurd (cc);
@@ -91,7 +95,12 @@ reads_headers v reply kept =
       tries_again = λ of area w other same is. absurd (cc);
       aims_again = λ of area w other is. absurd (cc);
       copies = λ r x reply z copies_x copies_z is. absurd (no_copy r z (TakesHeader kept) copies_z is (λ n. n));
-      forwards = λ r is. absurd (cc);
+      forwards = λ r plain is. absurd (cc);
+      forwards_cell = λ r cell is. absurd (cc);
+      reads_weak = λ a head is. absurd (cc);
+      stores_link = λ a head is. absurd (cc);
+      links = λ a head is. absurd (cc);
+      links_again = λ a head other is. absurd (cc);
       clears = λ a is. absurd (cc);
     }) v.stage reply
 
@@ -107,6 +116,9 @@ header_kept-copying r (TakesHeader kept) is = absurd is
 header_kept-copying r (LoadsArea kept) is = absurd is
 header_kept-copying r (Announces kept area) is = absurd is
 header_kept-copying r (Reserves kept area) is = absurd is
+header_kept-copying r (LoadsWeak to) is = absurd is
+header_kept-copying r (StoresLink to head) is = absurd is
+header_kept-copying r (TakesWeak to head) is = absurd is
 header_kept-copying r (Clears to) is = absurd is
 header_kept-copying r (Ended to) is = absurd is
 
@@ -121,6 +133,9 @@ address_reserved-copying r (TakesHeader kept) is = absurd is
 address_reserved-copying r (LoadsArea kept) is = absurd is
 address_reserved-copying r (Announces kept area) is = absurd is
 address_reserved-copying r (Reserves kept area) is = absurd is
+address_reserved-copying r (LoadsWeak to) is = absurd is
+address_reserved-copying r (StoresLink to head) is = absurd is
+address_reserved-copying r (TakesWeak to head) is = absurd is
 address_reserved-copying r (Clears to) is = absurd is
 address_reserved-copying r (Ended to) is = absurd is
 
@@ -144,7 +159,12 @@ takes_by_exchange v reply kept =
       tries_again = λ of area w other same is. inl is;
       aims_again = λ of area w other is. inl is;
       copies = λ r x reply z copies_x copies_z is. inl (header_kept-copying r x copies_x ∙ sym (header_kept-copying r z copies_z) ∙ is);
-      forwards = λ r is. absurd (cc);
+      forwards = λ r plain is. absurd (cc);
+      forwards_cell = λ r cell is. absurd (cc);
+      reads_weak = λ a head is. absurd (cc);
+      stores_link = λ a head is. absurd (cc);
+      links = λ a head is. absurd (cc);
+      links_again = λ a head other is. absurd (cc);
       clears = λ a is. absurd (cc);
     }) v.stage reply
 
@@ -174,7 +194,12 @@ announces_first v reply kept area =
           inl (seen, ap (λ (z : KeptHeader). Reserves z seen) same_kept, sym front ∙ ap (λ (z : AreaWord). z.front) same);
       aims_again = λ of seen w other is. absurd (cc);
       copies = λ r x reply z copies_x copies_z is. absurd (no_copy r z (Reserves kept area) copies_z is (λ n. n));
-      forwards = λ r is. absurd (cc);
+      forwards = λ r plain is. absurd (cc);
+      forwards_cell = λ r cell is. absurd (cc);
+      reads_weak = λ a head is. absurd (cc);
+      stores_link = λ a head is. absurd (cc);
+      links = λ a head is. absurd (cc);
+      links_again = λ a head other is. absurd (cc);
       clears = λ a is. absurd (cc);
     }) v.stage reply
 
@@ -197,6 +222,11 @@ reserves_by_exchange v reply to =
       tries_again = λ of seen w other front is. absurd (cc);
       aims_again = λ of seen w other is. absurd (cc);
       copies = λ r x reply z copies_x copies_z is. inl (address_reserved-copying r x copies_x ∙ sym (address_reserved-copying r z copies_z) ∙ is);
-      forwards = λ r is. absurd (cc);
+      forwards = λ r plain is. absurd (cc);
+      forwards_cell = λ r cell is. absurd (cc);
+      reads_weak = λ a head is. absurd (cc);
+      stores_link = λ a head is. absurd (cc);
+      links = λ a head is. absurd (cc);
+      links_again = λ a head other is. absurd (cc);
       clears = λ a is. absurd (cc);
     }) v.stage reply

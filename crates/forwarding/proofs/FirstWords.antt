@@ -13,7 +13,7 @@ pub by_first_word-forward : (w : ℕ) (f : Forward) → f.addr < 2 ^ 32 → w �
 by_first_word-forward w f in_range spelled = ap (by_first_word w) (ap decode spelled ∙ decode-forward_word f.len f.addr f.short in_range)
 
 pub by_first_word-header : (w : ℕ) (h : Header) → w ≡ encode (header_says h)
-    → by_first_word w (decode w) ≡ TakesHeader (record { word = w; len = h.len })
+    → by_first_word w (decode w) ≡ TakesHeader (record { word = w; kind = h.kind; len = h.len })
 by_first_word-header w h spelled =
     ap (by_first_word w) (ap decode spelled ∙ decode-header_word h.kind h.len h.serial h.mutator h.short h.counted)
 

@@ -6,7 +6,7 @@ use Rattle.atom_store.specs.Step.{reply_of}
 use Rattle.atom_store.specs.declared.reply.Reply.TheVariants.{Won, Lost}
 use Rattle.atom_store.specs.declared.step.Step.{Step}
 use Rattle.forwarding.specs.declared.evac_stage.EvacStage.{EvacStage}
-use Rattle.forwarding.specs.declared.evac_stage.EvacStage.TheVariants.{LoadsHeader, TakesHeader, LoadsArea, Announces, Reserves, StoresHeader, LoadsWord, StoresWord, StoresCross, StoresForward, Clears, Ended}
+use Rattle.forwarding.specs.declared.evac_stage.EvacStage.TheVariants.{LoadsHeader, TakesHeader, LoadsArea, Announces, Reserves, StoresHeader, LoadsWord, StoresWord, StoresCross, StoresForward, LoadsWeak, StoresLink, TakesWeak, Clears, Ended}
 use Rattle.forwarding.specs.Evacuation.{Evacuation, wanted_at}
 use Rattle.forwarding.specs.Left.{IsHeldUp, advances}
 use Rattle.forwarding.specs.Theorems.{GoesOn}
@@ -40,6 +40,9 @@ module _ (v : Evacuation) (step : Step) (met : List ℕ) where
   held (StoresWord r w) wants = subst (Holds (StoresWord r w)) (same_Some _ _ wants) (λ stays. absurd (cc))
   held (StoresCross r page) wants = subst (Holds (StoresCross r page)) (same_Some _ _ wants) (λ stays. absurd (cc))
   held (StoresForward r) wants = subst (Holds (StoresForward r)) (same_Some _ _ wants) (λ stays. absurd (cc))
+  held (LoadsWeak to) wants = subst (Holds (LoadsWeak to)) (same_Some _ _ wants) (λ stays. absurd (cc))
+  held (StoresLink to head) wants = subst (Holds (StoresLink to head)) (same_Some _ _ wants) (λ stays. absurd (cc))
+  held (TakesWeak to head) wants = subst (Holds (TakesWeak to head)) (same_Some _ _ wants) (λ stays. of_exchange (TakesWeak to head) _ _ refl tt stays)
   held (Clears to) wants = subst (Holds (Clears to)) (same_Some _ _ wants) (λ stays. absurd (cc))
   held (Ended to) wants = absurd (cc)
 

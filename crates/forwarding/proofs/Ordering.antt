@@ -1,14 +1,15 @@
 -- What the machine does from the reserved address on.
-use Rattle.std.proofs.Common.{◌≡◌, ℕ, zero, suc, ◌+◌, ◌-◌, ◌*◌, ◌<◌, ◌≤◌, List, refl, ap, ◌∙◌, subst, arith, slice_index}
-use Rattle.std.proofs.lemmas.Bool.{lt-ltb, le-ltb}
+use Rattle.std.proofs.Common.{◌≡◌, ℕ, zero, suc, ◌+◌, ◌-◌, ◌*◌, ◌<◌, ◌≤◌, ◌==◌, Bool, true, false, List, refl, ap, ◌∙◌, subst, arith, slice_index, if◌then◌else◌}
+use Rattle.atom_store.specs.declared.reply.Reply.TheVariants.{Won, Lost}
+use Rattle.std.proofs.lemmas.Bool.{lt-ltb, le-ltb, eq-eqb, ne_eqb}
 use Rattle.atom_store.specs.Runs.{among, after_step}
 use Rattle.space_map.specs.Table.{HeapWord}
 use Rattle.forwarding.specs.declared.evac_stage.EvacStage.{EvacStage}
-use Rattle.forwarding.specs.declared.evac_stage.EvacStage.TheVariants.{LoadsWord, StoresWord, StoresHeader, StoresCross, StoresForward, Clears, Ended}
+use Rattle.forwarding.specs.declared.evac_stage.EvacStage.TheVariants.{LoadsWord, StoresWord, StoresHeader, StoresCross, StoresForward, LoadsWeak, StoresLink, TakesWeak, Clears, Ended}
 use Rattle.forwarding.specs.declared.reserved.Reserved.{Reserved}
-use Rattle.forwarding.specs.Evacuation.{Evacuation, size_of, wanted}
-use Rattle.forwarding.specs.Taken.{evac_machine, crossed, copied, first_page, told}
-use Rattle.forwarding.specs.Theorems.{pages_begun, CopiesInOrder, EachCopiesInOrder, place}
+use Rattle.forwarding.specs.Evacuation.{Evacuation, is_cell, size_of, wanted}
+use Rattle.forwarding.specs.Taken.{evac_machine, crossed, copied, first_page, published, taken, told}
+use Rattle.forwarding.specs.Theorems.{pages_begun, CopiesInOrder, EachCopiesInOrder, EndsAfter, LosesTry, TriesToLink, head_met, place, try_begins}
 
 module _ (v : Evacuation) (r : Reserved) (met : ℕ → List ℕ) (begins : v.stage ≡ StoresHeader r) where
   -- after so many steps the machine is at this stage
@@ -91,17 +92,67 @@ module _ (v : Evacuation) (r : Reserved) (met : ℕ → List ℕ) (begins : v.st
       after_pages (pages_begun r) (omega arith)
       ∙ rw (le-ltb (64 * (first_page r + pages_begun r)) (r.to + size_of r.kept) (omega arith)) refl
 
-  clears : IsAt (2 * r.kept.len + 2 + pages_begun r) (Clears r.to)
-  clears =
+  after_forward : among evac_machine v met (2 * r.kept.len + 2 + pages_begun r) ≡ record v { stage = published r }
+  after_forward =
       let later : suc (2 * r.kept.len + 1 + pages_begun r) ≡ 2 * r.kept.len + 2 + pages_begun r = omega arith in
-      let P : ℕ → Type 0 = λ k. IsAt k (Clears r.to) in
+      let P : ℕ → Type 0 = λ k. among evac_machine v met k ≡ record v { stage = published r } in
       subst P later (step (2 * r.kept.len + 1 + pages_begun r) (StoresForward r) forwards)
 
-  ends : IsAt (2 * r.kept.len + 3 + pages_begun r) (Ended r.to)
-  ends =
-      let later : suc (2 * r.kept.len + 2 + pages_begun r) ≡ 2 * r.kept.len + 3 + pages_begun r = omega arith in
+  ends_after : (n : ℕ) → IsAt n (Clears r.to) → EndsAfter v r met n
+  ends_after n at =
+      let later : suc n ≡ n + 1 = omega arith in
       let P : ℕ → Type 0 = λ k. IsAt k (Ended r.to) in
-      subst P later (step (2 * r.kept.len + 2 + pages_begun r) (Clears r.to) clears)
+      let ended : IsAt (n + 1) (Ended r.to) = subst P later (step n (Clears r.to) at) in
+      record { clear = ap wanted at; ends = ap (λ z. told z.stage) ended }
+
+  -- a record that is no cell
+  clears : is_cell r.kept ≡ false → EndsAfter v r met (2 * r.kept.len + 2 + pages_begun r)
+  clears plain = ends_after (2 * r.kept.len + 2 + pages_begun r) (after_forward ∙ ap (λ b. record v { stage = if b then LoadsWeak r.to else Clears r.to }) plain)
+
+  -- a try to link a cell, after n steps
+  abbrev head_at : ℕ → ℕ
+  head_at n = head_met v met n
+
+  weak_read : (n : ℕ) → IsAt n (LoadsWeak r.to) → IsAt (n + 1) (StoresLink r.to (head_at n))
+  weak_read n at =
+      let later : suc n ≡ n + 1 = omega arith in
+      let P : ℕ → Type 0 = λ k. IsAt k (StoresLink r.to (head_at n)) in
+      subst P later (step n (LoadsWeak r.to) at)
+
+  link_stored : (n : ℕ) → IsAt n (LoadsWeak r.to) → IsAt (n + 2) (TakesWeak r.to (head_at n))
+  link_stored n at =
+      let later : suc (n + 1) ≡ n + 2 = omega arith in
+      let P : ℕ → Type 0 = λ k. IsAt k (TakesWeak r.to (head_at n)) in
+      subst P later (step (n + 1) (StoresLink r.to (head_at n)) (weak_read n at))
+
+  -- what the exchange leads to, by whether it is won
+  abbrev after_exchange : (n : ℕ) → Bool → Evacuation
+  after_exchange n won = taken (record v { stage = TakesWeak r.to (head_at n) }) (if won then Won else Lost (head_at (n + 2)))
+
+  weak_exchanged : (n : ℕ) (won : Bool) → IsAt n (LoadsWeak r.to) → (head_at (n + 2) == head_at n) ≡ won → among evac_machine v met (n + 3) ≡ after_exchange n won
+  weak_exchanged n won at is =
+      let later : suc (n + 2) ≡ n + 3 = omega arith in
+      let P : ℕ → Type 0 = λ k. among evac_machine v met k ≡ after_exchange n (head_at (n + 2) == head_at n) in
+      subst P later (step (n + 2) (TakesWeak r.to (head_at n)) (link_stored n at)) ∙ ap (after_exchange n) is
+
+  tries_to_link : (n : ℕ) → IsAt n (LoadsWeak r.to) → TriesToLink v r met n
+  tries_to_link n at = record {
+    loads = ap wanted at;
+    stores = ap wanted (weak_read n at);
+    exchanges = ap wanted (link_stored n at);
+    linked = λ same. ends_after (n + 3) (weak_exchanged n true at (eq-eqb (head_at (n + 2)) (head_at n) same));
+  }
+
+  tries : is_cell r.kept ≡ true → (try : ℕ) → ((before : ℕ) → before < try → LosesTry v r met before) → IsAt (try_begins r try) (LoadsWeak r.to)
+  tries cell zero lost =
+      let same : 2 * r.kept.len + 2 + pages_begun r ≡ try_begins r 0 = omega arith in
+      let P : ℕ → Type 0 = λ k. IsAt k (LoadsWeak r.to) in
+      subst P same (after_forward ∙ ap (λ b. record v { stage = if b then LoadsWeak r.to else Clears r.to }) cell)
+  tries cell (suc try) lost =
+      let n : ℕ = try_begins r try in
+      let later : n + 3 ≡ try_begins r (suc try) = omega arith in
+      let P : ℕ → Type 0 = λ k. IsAt k (LoadsWeak r.to) in
+      subst P later (weak_exchanged n false (tries cell try (λ before below. lost before (omega (arith, below)))) (ne_eqb (head_at (n + 2)) (head_at n) (lost try (omega arith))))
 
   -- the word of number i + 1 is stored after 2 i + 2 steps
   stores : (i : ℕ) → i < r.kept.len → IsAt (2 * i + 2) (StoresWord r (record { number = i + 1; word = word_at (2 * i + 1) (i + 1) }))
@@ -117,8 +168,8 @@ module _ (v : Evacuation) (r : Reserved) (met : ℕ → List ℕ) (begins : v.st
     stores = λ i below. ap wanted (stores i below);
     crosses = λ p from below. ap wanted (crosses p from below);
     forward = ap wanted forwards;
-    clear = ap wanted clears;
-    ends = ap (λ z. told z.stage) ends;
+    clear = clears;
+    link = λ cell try lost. tries_to_link (try_begins r try) (tries cell try lost);
   }
 
 pub each_in_order : EachCopiesInOrder

@@ -5,7 +5,7 @@ use Rattle.space_map.specs.declared.spaces.TheConstants.{LAST_WORKER}
 use Rattle.space_map.specs.Spaces.{Layout}
 use Rattle.space_map.specs.Table.{IsRow}
 use Rattle.forwarding.specs.declared.evac_stage.EvacStage.{EvacStage}
-use Rattle.forwarding.specs.declared.evac_stage.EvacStage.TheVariants.{LoadsHeader, TakesHeader, LoadsArea, Announces, Reserves, StoresHeader, LoadsWord, StoresWord, StoresCross, StoresForward, Clears, Ended}
+use Rattle.forwarding.specs.declared.evac_stage.EvacStage.TheVariants.{LoadsHeader, TakesHeader, LoadsArea, Announces, Reserves, StoresHeader, LoadsWord, StoresWord, StoresCross, StoresForward, LoadsWeak, StoresLink, TakesWeak, Clears, Ended}
 use Rattle.forwarding.specs.Evacuation.{IsGoing, wants_at}
 use Rattle.forwarding.specs.Soundness.{FitsStage}
 
@@ -20,5 +20,8 @@ rows_fit l a e k few low (LoadsWord r i) fits going = let inside = fits.0.keeps.
 rows_fit l a e k few low (StoresWord r w) fits going = let inside = fits.0.inside in let before = fits.2 in omega (arith, inside, before)
 rows_fit l a e k few low (StoresCross r page) fits going = let inside = fits.0.inside in let before = fits.2 in omega (arith, inside, before)
 rows_fit l a e k few low (StoresForward r) fits going = omega (arith, low)
+rows_fit l a e k few low (LoadsWeak to) fits going = tt
+rows_fit l a e k few low (StoresLink to head) fits going = let link = fits.0 in omega (arith, link)
+rows_fit l a e k few low (TakesWeak to head) fits going = tt
 rows_fit l a e k few low (Clears to) fits going = few
 rows_fit l a e k few low (Ended to) fits going = going

@@ -10,11 +10,11 @@ use Rattle.space_map.specs.declared.area_word.AreaWord.{AreaWord}
 use Rattle.space_map.specs.AreaWord.{decode_area}
 use Rattle.space_map.specs.Spaces.{Layout, first_word}
 use Rattle.forwarding.specs.declared.evac_stage.EvacStage.{EvacStage}
-use Rattle.forwarding.specs.declared.evac_stage.EvacStage.TheVariants.{LoadsHeader, TakesHeader, LoadsArea, Announces, Reserves, StoresHeader, LoadsWord, StoresWord, StoresCross, StoresForward, Clears, Ended}
+use Rattle.forwarding.specs.declared.evac_stage.EvacStage.TheVariants.{LoadsHeader, TakesHeader, LoadsArea, Announces, Reserves, StoresHeader, LoadsWord, StoresWord, StoresCross, StoresForward, LoadsWeak, StoresLink, TakesWeak, Clears, Ended}
 use Rattle.forwarding.specs.declared.kept_header.KeptHeader.{KeptHeader}
 use Rattle.forwarding.specs.declared.reserved.Reserved.{Reserved}
-use Rattle.forwarding.specs.Evacuation.{size_of}
-use Rattle.forwarding.specs.Taken.{by_first_word, by_area, by_other_area, crossed, copied, first_page, reserved_at, stage_after}
+use Rattle.forwarding.specs.Evacuation.{is_cell, size_of}
+use Rattle.forwarding.specs.Taken.{by_first_word, by_area, by_other_area, crossed, copied, first_page, published, reserved_at, stage_after}
 
 module _ (P : EvacStage → Type 0) where
   either : (b : Bool) (x y : EvacStage) → P x → P y → P (if b then x else y)
@@ -23,7 +23,7 @@ module _ (P : EvacStage → Type 0) where
 
   pub of_word : (w : ℕ) (d : Decoded)
       → ((len to : ℕ) → d ≡ ForwardWord len to → P (Ended to))
-      → ((kind : Kind) (len serial mutator : ℕ) → d ≡ HeaderWord kind len serial mutator → P (TakesHeader (record { word = w; len = len })))
+      → ((kind : Kind) (len serial mutator : ℕ) → d ≡ HeaderWord kind len serial mutator → P (TakesHeader (record { word = w; kind = kind; len = len })))
       → P LoadsHeader → P (by_first_word w d)
   of_word w (ForwardWord len to) forward header other = forward len to refl
   of_word w (HeaderWord kind len serial mutator) forward header other = header kind len serial mutator refl
@@ -56,7 +56,14 @@ module _ (P : EvacStage → Type 0) where
   of_copied r count loads crosses forwards =
       either (nat_lt count (size_of r.kept)) (LoadsWord r count) (crossed r (first_page r)) loads (of_crossed r (first_page r) crosses forwards)
 
--- a stage between the won exchange of the area and the clear
+  either_as : (b : Bool) (x y : EvacStage) → (b ≡ true → P x) → (b ≡ false → P y) → P (if b then x else y)
+  either_as true x y here there = here refl
+  either_as false x y here there = there refl
+
+  pub of_published : (r : Reserved) → (is_cell r.kept ≡ true → P (LoadsWeak r.to)) → (is_cell r.kept ≡ false → P (Clears r.to)) → P (published r)
+  of_published r links clears = either_as (is_cell r.kept) (LoadsWeak r.to) (Clears r.to) links clears
+
+-- a stage from the won exchange of the area up to the store of the forward
 abbrev pub IsBeingCopied : Reserved → EvacStage → Type 0
 IsBeingCopied r (StoresHeader of) = of ≡ r
 IsBeingCopied r (LoadsWord of i) = of ≡ r
@@ -70,7 +77,7 @@ pub record OfEachWay (l : Layout) (e : ℕ) (P : EvacStage → Reply → EvacSta
   pub stays : (x : EvacStage) (reply : Reply) → P x reply x
   pub follows : (w len to : ℕ) → decode w ≡ ForwardWord len to → P LoadsHeader (Value w) (Ended to)
   pub finds : (w : ℕ) (kind : Kind) (len serial mutator : ℕ) → decode w ≡ HeaderWord kind len serial mutator
-      → P LoadsHeader (Value w) (TakesHeader (record { word = w; len = len }))
+      → P LoadsHeader (Value w) (TakesHeader (record { word = w; kind = kind; len = len }))
   pub takes : (kept : KeptHeader) → P (TakesHeader kept) Won (LoadsArea kept)
   pub is_late : (kept : KeptHeader) (w : ℕ) → P (TakesHeader kept) (Lost w) LoadsHeader
   pub aims : (kept : KeptHeader) (w : ℕ) (area : AreaWord) → P (LoadsArea kept) (Value w) (Announces kept area)
@@ -80,7 +87,12 @@ pub record OfEachWay (l : Layout) (e : ℕ) (P : EvacStage → Reply → EvacSta
       → P (Reserves kept area) (Lost w) (Reserves kept other)
   pub aims_again : (kept : KeptHeader) (area : AreaWord) (w : ℕ) (other : AreaWord) → P (Reserves kept area) (Lost w) (Announces kept other)
   pub copies : (r : Reserved) (x : EvacStage) (reply : Reply) (z : EvacStage) → IsBeingCopied r x → IsBeingCopied r z → P x reply z
-  pub forwards : (r : Reserved) → P (StoresForward r) Done (Clears r.to)
+  pub forwards : (r : Reserved) → is_cell r.kept ≡ false → P (StoresForward r) Done (Clears r.to)
+  pub forwards_cell : (r : Reserved) → is_cell r.kept ≡ true → P (StoresForward r) Done (LoadsWeak r.to)
+  pub reads_weak : (to head : ℕ) → P (LoadsWeak to) (Value head) (StoresLink to head)
+  pub stores_link : (to head : ℕ) → P (StoresLink to head) Done (TakesWeak to head)
+  pub links : (to head : ℕ) → P (TakesWeak to head) Won (Clears to)
+  pub links_again : (to head other : ℕ) → P (TakesWeak to head) (Lost other) (LoadsWeak to)
   pub clears : (to : ℕ) → P (Clears to) Done (Ended to)
 
 pub of_each_way : (l : Layout) (e : ℕ) (P : EvacStage → Reply → EvacStage → Type 0) → OfEachWay l e P
@@ -103,6 +115,10 @@ of_each_way l e P each (StoresWord r w) Done =
     of_copied (P (StoresWord r w) Done) r (w.number + 1) (each.copies r _ _ _ refl refl) (each.copies r _ _ _ refl refl) (each.copies r _ _ _ refl refl)
 of_each_way l e P each (StoresCross r page) Done =
     of_crossed (P (StoresCross r page) Done) r (page + 1) (each.copies r _ _ _ refl refl) (each.copies r _ _ _ refl refl)
-of_each_way l e P each (StoresForward r) Done = each.forwards r
+of_each_way l e P each (StoresForward r) Done = of_published (P (StoresForward r) Done) r (each.forwards_cell r) (each.forwards r)
+of_each_way l e P each (LoadsWeak to) (Value head) = each.reads_weak to head
+of_each_way l e P each (StoresLink to head) Done = each.stores_link to head
+of_each_way l e P each (TakesWeak to head) Won = each.links to head
+of_each_way l e P each (TakesWeak to head) (Lost other) = each.links_again to head other
 of_each_way l e P each (Clears to) Done = each.clears to
 of_each_way l e P each x reply = each.stays x reply

@@ -19,6 +19,8 @@ is_worked_out = record {
   front_moved = record { steps = refl; ends = refl };
   over_two_pages = record { steps = refl; ends = refl };
   header_alone = record { steps = refl; ends = refl };
+  cell = record { steps = refl; ends = refl };
+  weak_lost = record { steps = refl; ends = refl };
   reserves_longest = refl;
   crosses_first = refl;
   crosses_last = refl;

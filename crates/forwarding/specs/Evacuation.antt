@@ -1,15 +1,17 @@
 -- The copy of one old record by one worker: its stages, and the step that each wants.
-use Rattle.std.specs.Prelude.{ℕ, ◌+◌, ◌-◌, ⊤, Option, Some, None, option_map}
+use Rattle.std.specs.Prelude.{ℕ, ◌+◌, ◌-◌, ◌==◌, ⊤, Bool, false, Option, Some, None, option_map}
 use Rattle.atom_store.specs.declared.step.Step.{Step}
 use Rattle.atom_store.specs.StepOn.{StepOn, Load, Store, Exchange, step_at}
+use Rattle.heap_words.specs.declared.kind.Kind.{Kind}
+use Rattle.heap_words.specs.declared.kind.Kind.TheVariants.{Weak}
 use Rattle.heap_words.specs.Word.{forward_word, busy_word}
 use Rattle.space_map.specs.declared.area_word.AreaWord.{AreaWord}
 use Rattle.space_map.specs.AreaWord.{encode_area}
 use Rattle.space_map.specs.Spaces.{Layout, to_space, space_start}
-use Rattle.space_map.specs.Table.{Row, Area, Cross, HeapWord, Announce, place_of}
+use Rattle.space_map.specs.Table.{Row, Area, WeakHead, Cross, HeapWord, Announce, place_of}
 use Rattle.forwarding.specs.declared.kept_header.KeptHeader.{KeptHeader}
 use Rattle.forwarding.specs.declared.evac_stage.EvacStage.{EvacStage}
-use Rattle.forwarding.specs.declared.evac_stage.EvacStage.TheVariants.{LoadsHeader, TakesHeader, LoadsArea, Announces, Reserves, StoresHeader, LoadsWord, StoresWord, StoresCross, StoresForward, Clears, Ended}
+use Rattle.forwarding.specs.declared.evac_stage.EvacStage.TheVariants.{LoadsHeader, TakesHeader, LoadsArea, Announces, Reserves, StoresHeader, LoadsWord, StoresWord, StoresCross, StoresForward, LoadsWeak, StoresLink, TakesWeak, Clears, Ended}
 
 -- the spaces, the old record's address, the epoch whose to-space the copy is made in, the worker, and its stage
 pub record Evacuation : Type 0 where
@@ -32,6 +34,19 @@ IsGoing _ = ⊤
 abbrev pub size_of : KeptHeader → ℕ
 size_of kept = kept.len + 1
 
+-- a record of this kind and length is a cell: its words are a header, a target and a link
+abbrev pub is_cell_of : Kind → ℕ → Bool
+is_cell_of Weak len = len == 2
+is_cell_of _ len = false
+
+-- the header is a cell's
+abbrev pub is_cell : KeptHeader → Bool
+is_cell kept = is_cell_of kept.kind kept.len
+
+-- the address of the link of the cell at this one
+abbrev pub link_of : ℕ → ℕ
+link_of to = to + 2
+
 -- the address of FRONT
 abbrev pub front_of : Layout → ℕ → AreaWord → ℕ
 front_of l epoch area = space_start l.pages (to_space epoch) + area.front
@@ -52,6 +67,9 @@ wants_at l a e k (LoadsWord r i) = Some (Load (HeapWord (a + i)))
 wants_at l a e k (StoresWord r w) = Some (Store (HeapWord (r.to + w.number)) w.word)
 wants_at l a e k (StoresCross r page) = Some (Store (Cross page) r.to)
 wants_at l a e k (StoresForward r) = Some (Store (HeapWord a) (forward_word r.kept.len r.to))
+wants_at l a e k (LoadsWeak to) = Some (Load WeakHead)
+wants_at l a e k (StoresLink to head) = Some (Store (HeapWord (link_of to)) head)
+wants_at l a e k (TakesWeak to head) = Some (Exchange WeakHead head (to + 1))
 wants_at l a e k (Clears to) = Some (Store (Announce k) 0)
 wants_at l a e k (Ended to) = None
 

@@ -12,15 +12,15 @@ use Rattle.space_map.specs.Spaces.{Layout, first_page_from, first_word}
 use Rattle.forwarding.specs.declared.kept_header.KeptHeader.{KeptHeader}
 use Rattle.forwarding.specs.declared.reserved.Reserved.{Reserved}
 use Rattle.forwarding.specs.declared.evac_stage.EvacStage.{EvacStage}
-use Rattle.forwarding.specs.declared.evac_stage.EvacStage.TheVariants.{LoadsHeader, TakesHeader, LoadsArea, Announces, Reserves, StoresHeader, LoadsWord, StoresWord, StoresCross, StoresForward, Clears, Ended}
+use Rattle.forwarding.specs.declared.evac_stage.EvacStage.TheVariants.{LoadsHeader, TakesHeader, LoadsArea, Announces, Reserves, StoresHeader, LoadsWord, StoresWord, StoresCross, StoresForward, LoadsWeak, StoresLink, TakesWeak, Clears, Ended}
 use Rattle.forwarding.specs.declared.to.To.{To}
-use Rattle.forwarding.specs.Evacuation.{Evacuation, size_of, front_of, wanted}
+use Rattle.forwarding.specs.Evacuation.{Evacuation, size_of, front_of, is_cell, wanted}
 
 -- By the old record's first word: a forward leads to the copy; a header is to be taken; and where another worker has taken
 -- it, the word is loaded again.
 abbrev pub by_first_word : ℕ → Decoded → EvacStage
 by_first_word w (ForwardWord len to) = Ended to
-by_first_word w (HeaderWord kind len serial mutator) = TakesHeader (record { word = w; len = len })
+by_first_word w (HeaderWord kind len serial mutator) = TakesHeader (record { word = w; kind = kind; len = len })
 by_first_word w (BusyWord len worker) = LoadsHeader
 by_first_word w (NumberWord n) = LoadsHeader
 by_first_word w (PointerWord address) = LoadsHeader
@@ -52,6 +52,10 @@ crossed r page = if nat_lt (first_word page) (r.to + size_of r.kept) then Stores
 abbrev pub copied : Reserved → ℕ → EvacStage
 copied r count = if nat_lt count (size_of r.kept) then LoadsWord r count else crossed r (first_page r)
 
+-- the copy is published: a cell is linked next
+abbrev pub published : Reserved → EvacStage
+published r = if is_cell r.kept then LoadsWeak r.to else Clears r.to
+
 -- the stage after a reply; one that can't be there changes nothing
 abbrev pub stage_after : Layout → (epoch : ℕ) → EvacStage → Reply → EvacStage
 stage_after l e LoadsHeader (Value w) = by_first_word w (decode w)
@@ -65,7 +69,11 @@ stage_after l e (StoresHeader r) Done = copied r 1
 stage_after l e (LoadsWord r i) (Value w) = StoresWord r (record { number = i; word = w })
 stage_after l e (StoresWord r w) Done = copied r (w.number + 1)
 stage_after l e (StoresCross r page) Done = crossed r (page + 1)
-stage_after l e (StoresForward r) Done = Clears r.to
+stage_after l e (StoresForward r) Done = published r
+stage_after l e (LoadsWeak to) (Value w) = StoresLink to w
+stage_after l e (StoresLink to head) Done = TakesWeak to head
+stage_after l e (TakesWeak to head) Won = Clears to
+stage_after l e (TakesWeak to head) (Lost w) = LoadsWeak to
 stage_after l e (Clears to) Done = Ended to
 stage_after l e stage reply = stage
 

@@ -122,6 +122,47 @@ header_alone =
     ∷ (Store (25 + 4) 256, Done)
     ∷ forwarding 0x0000_0000_0100_0003
 
+-- ---- cells
+
+-- the header of a cell
+abbrev pub cell_header : ℕ
+cell_header = 0x0000_0000_0001_002e
+
+-- The cell is copied to 256, and its forward is stored. Its target is the record at 200; it was never linked.
+abbrev pub cell_published : List (Step × Reply)
+cell_published =
+    (Load (33 + 192), Value cell_header)
+    ∷ (Exchange (33 + 192) cell_header 0x0000_0000_0001_0027, Won)
+    ∷ (Load 5, Value area)
+    ∷ (Store (609 + 1) 257, Done)
+    ∷ (Exchange 5 area 0x0000_03d0_0400_0003, Won)
+    ∷ (Store (33 + 256) cell_header, Done)
+    ∷ (Load (33 + 193), Value 0x321)
+    ∷ (Store (33 + 257) 0x321, Done)
+    ∷ (Load (33 + 194), Value 0)
+    ∷ (Store (33 + 258) 0, Done)
+    ∷ (Store (25 + 4) 256, Done)
+    ∷ (Store (33 + 192) 0x0000_0000_0100_0023, Done)
+    ∷ []
+
+-- WEAK is this word, and the copy's link gets it
+abbrev pub reading_weak : ℕ → List (Step × Reply)
+reading_weak head = (Load 6, Value head) ∷ (Store (33 + 258) head, Done) ∷ []
+
+-- the copy is linked, and nothing is announced any more
+abbrev pub linking : ℕ → List (Step × Reply)
+linking head = (Exchange 6 head 257, Won) ∷ (Store (609 + 1) 0, Done) ∷ []
+
+-- the copy's 16 steps: no cell was linked before
+abbrev pub cell : List (Step × Reply)
+cell = cell_published ++ reading_weak 0 ++ linking 0
+
+-- another worker links the cell at 259 meanwhile: WEAK is loaded again, and the link gets what it is now
+abbrev pub weak_lost : List (Step × Reply)
+weak_lost = cell_published ++ reading_weak 0 ++ ((Exchange 6 0 257, Lost 260) ∷ []) ++ reading_weak 260 ++ linking 260
+
+-- ---- the longest record
+
 -- replies that take a machine through so many words of a record, each of them 0
 unfoldable pub words_replied : ℕ → List Reply
 words_replied zero = []

@@ -6,11 +6,11 @@ ghost use Rattle.heap_words.specs.Word.{busy_word, forward_word};
 ghost use Rattle.space_map.specs.declared.spaces.TheConstants.{LAST_WORKER};
 ghost use Rattle.space_map.specs.AreaWord.{AreaFits, decode_area};
 ghost use Rattle.space_map.specs.Table.{table_length};
-ghost use Rattle.forwarding.specs.Evacuation.{IsGoing, area_past, begun, front_of, size_of, wanted};
+ghost use Rattle.forwarding.specs.Evacuation.{IsGoing, area_past, begun, front_of, is_cell, size_of, wanted};
 ghost use Rattle.forwarding.specs.Keeping.{address_reserved, header_kept, kept_word, reserved_word};
 ghost use Rattle.forwarding.specs.Left.{advances, left};
 ghost use Rattle.forwarding.specs.Soundness.{IsSound, HasReserved, AreaHoldsCopy};
-ghost use Rattle.forwarding.specs.Taken.{by_area, by_first_word, by_other_area, copied, crossed, first_page, reserved_at, stage_after, taken, told};
+ghost use Rattle.forwarding.specs.Taken.{by_area, by_first_word, by_other_area, copied, crossed, first_page, published, reserved_at, stage_after, taken, told};
 
 use crate::evac_stage::EvacStage;
 use crate::kept_header::KeptHeader;
@@ -18,9 +18,13 @@ use crate::loaded_word::LoadedWord;
 use crate::reserved::Reserved;
 use crate::to::To;
 use atom_store::{Reply, Step, Turn};
+use heap_words::Kind;
 use record_layout::{Busy, Forward, pack_busy, pack_forward, read, read_forward};
 use space_map::{AreaWord, PAGE_WORDS, Spaces, crossed};
 use std::marker::Model;
+
+/// The number of a cell's link among its words: header, target, link.
+const LINK: u32 = 2;
 
 /// The copy of the record at an address of the old space of an epoch, by one worker.
 #[derive(Clone, Copy)]
@@ -95,6 +99,13 @@ impl Evac {
                 u64::from(r.to),
             ),
             EvacStage::StoresForward(r) => Step::Store(spaces.word_place(self.addr), forward(r)),
+            EvacStage::LoadsWeak(_) => Step::Load(spaces.weak_place()),
+            EvacStage::StoresLink(to, head) => Step::Store(spaces.word_place(to + LINK), head),
+            EvacStage::TakesWeak(to, head) => Step::Exchange(
+                spaces.weak_place(),
+                head,
+                u64::from(to) + 1,
+            ),
             EvacStage::Clears(_) => Step::Store(spaces.announce_place(self.worker), 0),
             EvacStage::Ended(_) => unreachable!(),
         }
@@ -130,6 +141,7 @@ impl Evac {
             EvacStage::LoadsWord(r, number) => {
                 self.goes_to(EvacStage::StoresWord(r, LoadedWord { number, word }))
             }
+            EvacStage::LoadsWeak(to) => self.goes_to(EvacStage::StoresLink(to, word)),
             _ => Turn::More,
         }
     }
@@ -147,7 +159,8 @@ impl Evac {
             EvacStage::StoresHeader(r) => self.has_copied(r, 1),
             EvacStage::StoresWord(r, w) => self.has_copied(r, w.number + 1),
             EvacStage::StoresCross(r, page) => self.has_crossed(r, page + 1),
-            EvacStage::StoresForward(r) => self.goes_to(EvacStage::Clears(r.to)),
+            EvacStage::StoresForward(r) => self.has_published(r),
+            EvacStage::StoresLink(to, head) => self.goes_to(EvacStage::TakesWeak(to, head)),
             EvacStage::Clears(to) => self.ends(to),
             _ => Turn::More,
         }
@@ -170,6 +183,8 @@ impl Evac {
             (EvacStage::Reserves(kept, area), Reply::Lost(word)) => {
                 self.reads_other_area(kept, area, word)
             }
+            (EvacStage::TakesWeak(to, _), Reply::Won) => self.goes_to(EvacStage::Clears(to)),
+            (EvacStage::TakesWeak(to, _), Reply::Lost(_)) => self.goes_to(EvacStage::LoadsWeak(to)),
             _ => Turn::More,
         }
     }
@@ -190,6 +205,9 @@ impl Evac {
             | EvacStage::StoresForward(r) => (r.kept.word, u64::from(r.to) + 1),
             EvacStage::LoadsHeader
             | EvacStage::TakesHeader(_)
+            | EvacStage::LoadsWeak(_)
+            | EvacStage::StoresLink(..)
+            | EvacStage::TakesWeak(..)
             | EvacStage::Clears(_)
             | EvacStage::Ended(_) => (0, 0),
         }
@@ -226,6 +244,7 @@ impl Evac {
         match read(word) {
             Some(header) => self.goes_to(EvacStage::TakesHeader(KeptHeader {
                 word,
+                kind: header.kind,
                 len: header.len,
             })),
             None => self.goes_to(EvacStage::LoadsHeader),
@@ -299,6 +318,19 @@ impl Evac {
             self.goes_to(EvacStage::StoresForward(r))
         }
     }
+
+    /// The copy of a cell is linked next.
+    fn has_published(&mut self, r: Reserved) -> Turn<To>
+        requires { IsSound (record self.old { stage = published r }) }
+        ensures state { self.new ≡ record self.old { stage = published r } }
+        ensures told { result ≡ Turn.More }
+    {
+        if is_cell(r.kept) {
+            self.goes_to(EvacStage::LoadsWeak(r.to))
+        } else {
+            self.goes_to(EvacStage::Clears(r.to))
+        }
+    }
 }
 
 /// The address of FRONT.
@@ -328,6 +360,15 @@ fn size(kept: KeptHeader) -> u32
     ensures { result ≡ size_of kept }
 {
     u32::from(kept.len) + 1
+}
+
+fn is_cell(kept: KeptHeader) -> bool
+    ensures { result ≡ is_cell kept }
+{
+    match kept.kind {
+        Kind::Weak => kept.len == 2,
+        Kind::Fields | Kind::Raw | Kind::Mixed => false,
+    }
 }
 
 fn busy(kept: KeptHeader, worker: u8) -> u64

@@ -26,6 +26,12 @@ pub enum EvacStage {
     StoresCross(Reserved, u32),
     /// Stores the forward in the old header's place.
     StoresForward(Reserved),
+    /// Loads WEAK, which leads to the cell that was linked last. The copy at this address is the cell to be linked.
+    LoadsWeak(u32),
+    /// Stores what it read of WEAK in the copy's link.
+    StoresLink(u32, u64),
+    /// Makes WEAK lead to the copy, by exchange of what it read.
+    TakesWeak(u32, u64),
     /// Takes back what it announced. The copy is at this address.
     Clears(u32),
     /// Has no next step. The copy is at this address.

@@ -1,9 +1,9 @@
 //! What holds of the machine by its table. Each function here does nothing: its contract is what is proved.
 
-ghost use Rattle.forwarding.specs.Theorems.{FollowsForwards, GoesOn, EndsBehindForwards, ReadsHeaders, TakesByExchange, AnnouncesFirst, ReservesByExchange, EachCopiesInOrder, IsWorkedOut};
+ghost use Rattle.forwarding.specs.Theorems.{FollowsForwards, GoesOn, EndsBehindForwards, ReadsHeaders, TakesByExchange, AnnouncesFirst, ReservesByExchange, StoresLinksFirst, LinksToHead, LinksPublished, ClearsBehindLinks, EachCopiesInOrder, IsWorkedOut};
 
 /// A small heap, worked out by hand: the copy's steps and the words after it, a second copy, another worker's copy, each
-/// exchange lost, a copy over two pages, and the shortest and the longest record.
+/// exchange lost, a copy over two pages, the shortest and the longest record, and a cell.
 pub fn worked_copy_is_made()
     ensures { IsWorkedOut }
 {}
@@ -18,8 +18,17 @@ pub fn one_copy_is_found()
     ensures reserves_by_exchange { ReservesByExchange }
 {}
 
+/// A copied cell is linked by a won exchange of WEAK, from the word that its link has, before what was announced is taken
+/// back. A lost exchange is tried again only after the link has been stored again.
+pub fn cells_are_linked_by_exchange()
+    ensures stores_links_first { StoresLinksFirst }
+    ensures links_to_head { LinksToHead }
+    ensures links_published { LinksPublished }
+    ensures clears_behind_links { ClearsBehindLinks }
+{}
+
 /// Whatever others do meanwhile, a copy has its header and every word, and each page that begins in it is crossed, before
-/// the forward is stored.
+/// the forward is stored. A copied cell is linked then.
 pub fn copies_are_made_in_order()
     ensures { EachCopiesInOrder }
 {}

@@ -11,9 +11,10 @@ pub fn mark(told: Stepped) -> Option<Mark>
     ensures { result ≡ mark_of told }
 {
     match told {
-        Stepped::Idle | Stepped::Moved | Stepped::Traced => None,
+        Stepped::Idle | Stepped::Moved => None,
         Stepped::Effect(m) => Some(Mark::Step(m)),
         Stepped::Flipped(asked) => Some(Mark::Flip(asked)),
+        Stepped::Traced => Some(Mark::Traced),
         Stepped::Ended(m, End::HeapFull { asked, room, live }) => Some(Mark::Full {
             m,
             asked,

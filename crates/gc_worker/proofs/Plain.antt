@@ -4,6 +4,7 @@ pub mod Targets
 pub mod AnswerSteps
 pub mod LeadingBack
 pub mod Represented
+pub mod Emptied
 pub mod Actions
 pub mod Effects
 pub mod Registers

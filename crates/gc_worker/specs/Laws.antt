@@ -6,5 +6,6 @@ pub mod Claims
 pub mod PastEpochs
 pub mod Cycles
 pub mod Represented
+pub mod Stories
 pub mod FullTold
 pub mod Checkpoints

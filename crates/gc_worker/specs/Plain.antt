@@ -1,4 +1,5 @@
 pub mod Seen
 pub mod Answer
 pub mod Full
+pub mod Stories
 pub mod Marks

@@ -15,11 +15,20 @@ ghost use Rattle.gc_worker.specs.Laws.FullTold.{FullIsTold, SizesReadAreSo, Full
 ghost use Rattle.gc_worker.specs.Laws.PastEpochs.{PastClaimsAreLost, PastMarksAreLost, PagesAreWonNow};
 ghost use Rattle.gc_worker.specs.Workers.Counted.{CountedFit, CountsAreApart};
 ghost use Rattle.gc_worker.specs.Laws.Represented.{RepresentedWorkersStand};
+ghost use Rattle.gc_worker.specs.Laws.Stories.{EmptiedWorkersStand, StoriesKeep};
 
 /// A step of a worker is of a word of the table, and the worker may take the reply. What stood for a plain state before stands for it
 /// after, with what a cycle keeps; no page that was won in an epoch is won again in it.
 pub fn steps_keep()
     ensures { StepsKeep }
+{}
+
+/// What stood for a plain state before a step, and for that at the last flip, stands after it for what the story then has: if the step
+/// told that the epoch is traced, for the state in which the cells lost their targets that weren't reachable at the flip. For a heap
+/// stands for a state whichever of its cells are emptied.
+pub fn stories_keep()
+    ensures stories { StoriesKeep }
+    ensures emptied { EmptiedWorkersStand }
 {}
 
 /// A flipper's exchange of the gate is never lost.

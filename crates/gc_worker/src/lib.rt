@@ -42,8 +42,8 @@ pub use laws::{
     counts_are_apart, exchanges_of_past_epochs_are_lost, flips_are_first, flips_are_won,
     full_is_told, heaps_open, low_falls_by_claims, machines_go_on, pages_are_opened_by_claims,
     places_fit, readying_stands, registers_lead_back, scanners_go_last, sizes_stay, steps_keep,
-    tasks_may_begin, traced_pages_are_open, what_is_represented_stands, what_stands_is_so,
-    what_was_copied_was_live, who_is_gone_saw_why, workers_go_on, workers_want,
+    stories_keep, tasks_may_begin, traced_pages_are_open, what_is_represented_stands,
+    what_stands_is_so, what_was_copied_was_live, who_is_gone_saw_why, workers_go_on, workers_want,
 };
 pub use open_error::OpenError;
 pub use readers::{epoch_said, live_said};

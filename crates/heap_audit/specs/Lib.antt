@@ -5,3 +5,12 @@ pub mod Lines
 pub mod FirstWrong
 pub mod Part
 pub mod FirstOther
+pub mod Breaks
+pub mod Places
+pub mod Told
+pub mod Firsts
+pub mod Walks
+pub mod Records
+pub mod Showing
+pub mod Audit
+pub mod Verdict

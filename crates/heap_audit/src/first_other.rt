@@ -1,6 +1,6 @@
 //! The first line that isn't the plain machine's.
 
-ghost use Rattle.std.specs.Prelude.{◌≡◌, ◌<◌, ◌+◌, ◌==◌, if◌then◌else◌, IfOk};
+ghost use Rattle.std.specs.Prelude.{◌≡◌, ◌<◌, ◌≤◌, ◌+◌, ◌==◌, if◌then◌else◌, IfOk, IfSome, length};
 ghost use Rattle.plain_heap.specs.Order.{plain};
 ghost use Rattle.plain_heap.specs.Print.{print_of};
 ghost use Rattle.heap_audit.specs.FirstOther.{TellsFirstOther, lines_told};
@@ -8,7 +8,7 @@ ghost use Rattle.heap_audit.specs.FirstOther.{TellsFirstOther, lines_told};
 use crate::lines::MutatorLines;
 use dump_text::after;
 use mutator_asm::Program;
-use plain_heap::{Mark, NoMemory, plain_run, print, push_lines};
+use plain_heap::{Mark, NoMemory, PlainState, plain_run, print, push_lines};
 use std::alloc::Global;
 
 /// The number of the line in which a byte stands behind this one of the line.
@@ -21,7 +21,8 @@ fn line_behind(b: u8, line: usize) -> usize
 
 /// The first line, counted from 1, in which a text isn't what is wanted.
 fn first_difference(wanted: &[u8], told: &[u8]) -> Option<usize>
-    ensures { TellsFirstOther wanted.now told.now result }
+    ensures first { TellsFirstOther wanted.now told.now result }
+    ensures within { IfSome result (λ line. line ≤ length told.now + 1) }
 {
     let mut line = 1;
     let mut rest = wanted;
@@ -46,6 +47,20 @@ fn lines_text(alloc: Global, mutators: &[MutatorLines]) -> Result<Vec<u8>, NoMem
     Ok(out.into_bytes())
 }
 
+/// The first of the mutators' lines, counted from 1, that isn't what is printed of a plain state; none if all lines are.
+pub fn first_other(
+    alloc: Global,
+    plain: &PlainState,
+    mutators: &[MutatorLines],
+) -> Result<Option<usize>, NoMemory>
+    ensures first { IfOk result (TellsFirstOther (print_of plain.now) (lines_told mutators.now)) }
+    ensures within { IfOk result (λ r. IfSome r (λ line. line ≤ length (lines_told mutators.now) + 1)) }
+{
+    let wanted = print(alloc, plain)?;
+    let told = lines_text(alloc, mutators)?;
+    Ok(first_difference(&wanted, &told))
+}
+
 /// The first of the mutators' lines, counted from 1, that the plain machine doesn't print there when it executes the program
 /// in this order, each mutator at most so many instructions; none if all lines are what it prints.
 pub fn first_other_line(
@@ -57,8 +72,6 @@ pub fn first_other_line(
 ) -> Result<Option<usize>, NoMemory>
     ensures { IfOk result (TellsFirstOther (print_of (plain p.now.code turns order.now)) (lines_told mutators.now)) }
 {
-    let s = plain_run(alloc, p, turns, order)?;
-    let wanted = print(alloc, &s)?;
-    let told = lines_text(alloc, mutators)?;
-    Ok(first_difference(&wanted, &told))
+    let plain = plain_run(alloc, p, turns, order)?;
+    first_other(alloc, &plain, mutators)
 }

@@ -12,3 +12,4 @@ pub mod Room
 pub mod Reserving
 pub mod Reserved
 pub mod Laws
+pub mod Cells

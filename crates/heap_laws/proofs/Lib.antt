@@ -10,3 +10,5 @@ pub mod Fields
 pub mod Allocation
 pub mod Gate
 pub mod Saving
+pub mod Cells
+pub mod Targets

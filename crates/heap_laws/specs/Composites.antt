@@ -1,5 +1,5 @@
 -- Atomic steps that are several changes of what a worker knows.
-use Rattle.std.specs.Prelude.{◌≡◌, ℕ, ◌+◌, ◌<◌, ◌≤◌, ◌⊎◌, true, Option, Some, None}
+use Rattle.std.specs.Prelude.{◌≡◌, ℕ, ◌+◌, ◌<◌, ◌≤◌, ◌⊎◌, true, Option, Some, None, false}
 use Rattle.heap_words.specs.Decoded.{PointerWord, ForwardWord, decode}
 use Rattle.space_map.specs.declared.page_word.PageWord.{PageWord}
 use Rattle.space_map.specs.declared.page_word.PageWord.TheVariants.{Open}
@@ -22,7 +22,7 @@ use Rattle.space_map.specs.declared.spaces.TheConstants.{PAGE_WORDS}
 -- copy of the record that register j leads to.
 pub data AsksAt (registers : ℕ → ℕ) (j : ℕ) : Option Quest → Type 0 where
   AllDone : j ≡ 8 → AsksAt registers j None
-  AsksNext : (a : ℕ) → j < 8 → decode (registers j) ≡ PointerWord a → AsksAt registers j (Some (record { old = a; origin = Register j; found = None }))
+  AsksNext : (a : ℕ) → j < 8 → decode (registers j) ≡ PointerWord a → AsksAt registers j (Some (record { old = a; origin = Register j; found = None; links = false }))
 
 -- the registers from one up to another lead nowhere old
 abbrev pub LeadNowhere : Era → (registers : ℕ → ℕ) → (from to : ℕ) → Type 0

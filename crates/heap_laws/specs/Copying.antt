@@ -1,15 +1,17 @@
 -- Copying a record, step by step: the header is taken, a place announced and reserved, the words copied, the crossings stored,
 -- and the copy published by a forward.
-use Rattle.std.specs.Prelude.{◌≡◌, ℕ, ◌+◌, ◌-◌, ◌<◌, ◌≤◌, ◌⊎◌, true, false, Some, None}
+use Rattle.std.specs.Prelude.{◌≡◌, ℕ, ◌+◌, ◌-◌, ◌^◌, ◌<◌, ◌≤◌, ◌⊎◌, Bool, true, false, Some, None}
 use Rattle.heap_words.specs.declared.kind.Kind.{Kind}
+use Rattle.heap_words.specs.declared.kind.Kind.TheVariants as HeaderKind
 use Rattle.heap_words.specs.Decoded.{HeaderWord, BusyWord, ForwardWord, decode}
 use Rattle.space_map.specs.declared.area_word.AreaWord.{AreaWord}
 use Rattle.space_map.specs.Spaces.{to_space, page_of, first_word}
+use Rattle.heap_state.specs.Cells.{IsCopiedCell}
 use Rattle.heap_state.specs.Memory.Era.{Era, Memory}
 use Rattle.heap_state.specs.Functions.{put}
 use Rattle.heap_state.specs.Invariant.Ghost.{Ghost}
 use Rattle.heap_state.specs.Worker.{Worker, Team, Quest, Copy}
-use Rattle.heap_state.specs.Memory.Entries.{WordIs, AreaIs, CrossIs, AnnounceIs}
+use Rattle.heap_state.specs.Memory.Entries.{WordIs, AreaIs, WeakIs, CrossIs, AnnounceIs}
 use Rattle.heap_laws.specs.Steps.{Ready, Steps, IsAreaNow}
 
 -- the worker with this copy in progress
@@ -123,10 +125,38 @@ CrossingsAreStored = (E : Era) (m : Memory) (team : Team) (g : Ghost) (k : ℕ) 
 abbrev pub published : Ghost → (k a b : ℕ) → Ghost
 published g k a b = record g { writer = put g.writer b 0; keeper = put g.keeper a 0; kept = put g.kept k 0 }
 
+-- the header that the worker keeps is a cell's
+abbrev pub KeepsCell : Copy → Type 0
+KeepsCell c = (serial : ℕ) × (mutator : ℕ) × (decode c.header ≡ HeaderWord HeaderKind.Weak 2 serial mutator)
+
 -- Of a whole copy, with the crossings of all pages that begin in it, the forward is stored at the old place. The worker has
--- found the copy that it was asked for.
+-- found the copy that it was asked for. It has it to link only if it is a cell.
 abbrev pub CopiesArePublished : Type 0
-CopiesArePublished = (E : Era) (m : Memory) (team : Team) (g : Ghost) (k : ℕ) (c : Copy) (q : Quest) (v : ℕ) → Ready E m team g k
+CopiesArePublished = (E : Era) (m : Memory) (team : Team) (g : Ghost) (k : ℕ) (c : Copy) (q : Quest) (v : ℕ) (links : Bool) → Ready E m team g k
     → (team.worker k).copy ≡ Some c → (team.worker k).quest ≡ Some q → c.reserved ≡ true → c.done ≡ c.size → c.to + c.size ≤ first_word c.crossed
-    → decode v ≡ ForwardWord (c.size - 1) c.to
-    → Steps E m team g k (Some (WordIs c.from v)) (record (team.worker k) { copy = None; quest = Some (record q { found = Some c.to }) }) (published g k c.from c.to)
+    → decode v ≡ ForwardWord (c.size - 1) c.to → (links ≡ true → KeepsCell c)
+    → Steps E m team g k (Some (WordIs c.from v)) (record (team.worker k) { copy = None; quest = Some (record q { found = Some c.to; links = links }) }) (published g k c.from c.to)
+
+-- ---- the chain of copied cells
+
+-- a word behind a cell's header gets a word below 2^62: its target or its link
+abbrev pub CellWordsAreStored : Type 0
+CellWordsAreStored = (E : Era) (m : Memory) (team : Team) (g : Ghost) (k b i v : ℕ) → Ready E m team g k → IsCopiedCell E m.front g b → 0 < i → i < g.size b → v < 2 ^ 62
+    → Steps E m team g k (Some (WordIs (b + i) v)) (team.worker k) g
+
+-- the cell that worker k has copied, and has still to link, stands at this place
+pub record HasToLink (team : Team) (k : ℕ) (q : Quest) (b : ℕ) : Type 0 where
+  pub asks : (team.worker k).quest ≡ Some q
+  pub found : q.found ≡ Some b
+  pub links : q.links ≡ true
+
+-- a word below 2^62 is stored as the cell's link
+abbrev pub LinksAreStored : Type 0
+LinksAreStored = (E : Era) (m : Memory) (team : Team) (g : Ghost) (k : ℕ) (q : Quest) (b v : ℕ) → Ready E m team g k → HasToLink team k q b → v < 2 ^ 62
+    → Steps E m team g k (Some (WordIs (b + 2) v)) (team.worker k) g
+
+-- WEAK gets a word below 2^62, and the worker has no cell to link any more
+abbrev pub CellsAreLinked : Type 0
+CellsAreLinked = (E : Era) (m : Memory) (team : Team) (g : Ghost) (k : ℕ) (q : Quest) (word : ℕ) → Ready E m team g k
+    → (team.worker k).copy ≡ None → (team.worker k).quest ≡ Some q → word < 2 ^ 62
+    → Steps E m team g k (Some (WeakIs word)) (record (team.worker k) { quest = Some (record q { links = false }) }) g

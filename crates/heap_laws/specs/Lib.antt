@@ -1,5 +1,7 @@
 pub mod Steps
 pub mod Copying
+pub mod Cells
+pub mod Targets
 pub mod Lifting
 pub mod Scanning
 pub mod Tracing

@@ -1,5 +1,5 @@
 -- One step of one worker: the row that it writes, and what it keeps.
-use Rattle.std.specs.Prelude.{◌≡◌, ℕ, ◌+◌, ◌<◌, ◌≤◌, ⊤, Option, Some, None}
+use Rattle.std.specs.Prelude.{◌≡◌, ℕ, ◌+◌, ◌^◌, ◌<◌, ◌≤◌, ⊤, Option, Some, None}
 use Rattle.plain_state.specs.State.{Plain}
 use Rattle.space_map.specs.declared.area_word.AreaWord.{AreaWord}
 use Rattle.space_map.specs.declared.gate_word.GateWord.{GateWord}
@@ -73,7 +73,7 @@ with_announced m worker place = record m { announced = put m.announced worker pl
 
 -- the row is one of which the epoch sees nothing, of the chain of copied cells or of checkpoints, and what is written fits its word
 abbrev pub IsBeside : Era → Entry → Type 0
-IsBeside E (WeakIs word) = ⊤
+IsBeside E (WeakIs word) = word < 2 ^ 62
 IsBeside E (WeakTurnIs word) = ⊤
 IsBeside E (SnapIs number) = ⊤
 IsBeside E (DoneIs number) = ⊤

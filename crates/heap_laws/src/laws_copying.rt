@@ -1,6 +1,6 @@
 //! Copying a record: each step of the worker that copies it. Each function here does nothing: its contract is what is proved.
 
-ghost use Rattle.heap_laws.specs.Copying.{HeadersAreTaken, WordsAreCopied, ForwardsAreFound, PlacesAreAimed, PlacesAreAnnounced, AnnouncesAreCleared, OldWordsAreLoaded, CrossingsAreStored, CopiesArePublished, CopiesHaveRoom, PlacesAreReserved};
+ghost use Rattle.heap_laws.specs.Copying.{HeadersAreTaken, WordsAreCopied, ForwardsAreFound, PlacesAreAimed, PlacesAreAnnounced, AnnouncesAreCleared, OldWordsAreLoaded, CrossingsAreStored, CopiesArePublished, CopiesHaveRoom, PlacesAreReserved, CellWordsAreStored, LinksAreStored, CellsAreLinked};
 ghost use Rattle.heap_laws.specs.Steps.{KnowledgeChangesAlone, NothingChanges};
 
 /// A word of the old record, or its header, is stored in its place in the copy.
@@ -51,6 +51,21 @@ pub fn crossings_are_stored()
 /// The forward to a whole copy is stored in place of the old record's header.
 pub fn copies_are_published()
     ensures { CopiesArePublished }
+{}
+
+/// The link of a cell that was copied is stored.
+pub fn links_are_stored()
+    ensures { LinksAreStored }
+{}
+
+/// A word of a cell that was copied is stored, its target or its link.
+pub fn cell_words_are_stored()
+    ensures { CellWordsAreStored }
+{}
+
+/// A cell that was copied is linked, as the first of the chain.
+pub fn cells_are_linked()
+    ensures { CellsAreLinked }
 {}
 
 /// FRONT moves by the size of a copy from the place that was announced for it.

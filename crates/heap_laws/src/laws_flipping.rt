@@ -1,6 +1,6 @@
 //! The flip, which begins a cycle, and the registers that each stopped mutator then forwards.
 
-ghost use Rattle.heap_laws.specs.Flipping.Reset.{FindingStillKeeps, ReadingSizeKeeps, ReadingUsedKeeps, StoringAreaKeeps};
+ghost use Rattle.heap_laws.specs.Flipping.Reset.{FindingStillKeeps, ReadingSizeKeeps, ReadingUsedKeeps, StoringAreaKeeps, ClearingWeakKeeps};
 ghost use Rattle.heap_laws.specs.Flipping.Sizes.{SizesAreStored};
 ghost use Rattle.heap_laws.specs.Flipping.Flip.{FlippingKeeps};
 ghost use Rattle.heap_laws.specs.Flipping.Registers.{PassingRegisterKeeps, AskingForRegisterKeeps, ForwardingRegisterKeeps};
@@ -11,6 +11,7 @@ pub fn flips_are_made_ready()
     ensures size { ReadingSizeKeeps }
     ensures used { ReadingUsedKeeps }
     ensures area { StoringAreaKeeps }
+    ensures weak { ClearingWeakKeeps }
 {}
 
 /// The store of the other space's size.

@@ -6,6 +6,7 @@
 
 mod laws_allocating;
 mod laws_answers;
+mod laws_cells;
 mod laws_composing;
 mod laws_copying;
 mod laws_fields;
@@ -15,49 +16,120 @@ mod laws_lifting;
 mod laws_opening;
 mod laws_saving;
 mod laws_scanning;
+mod laws_targets;
 mod laws_tracing;
 
-pub use laws_allocating::{
-    mutators_place, stocks_are_claimed, stocks_are_opened, stocks_are_zeroed,
-    words_are_stored_ahead,
-};
-pub use laws_answers::{
-    areas_are_answered, copies_are_answered, gates_are_answered, scans_are_answered,
-    words_are_compared,
-};
-pub use laws_composing::{
-    knowledge_is_forgotten, registers_are_settled, rounds_are_ended, rows_beside_are_written,
-    steps_follow, steps_forget,
-};
-pub use laws_copying::{
-    announces_are_cleared, copies_are_published, copies_have_room, crossings_are_stored,
-    forwards_are_found, headers_are_taken, knowledge_changes_alone, nothing_changes,
-    old_words_are_loaded, places_are_aimed, places_are_announced, places_are_reserved,
-    words_are_copied,
-};
-pub use laws_fields::{
-    mutators_are_shown, mutators_end, mutators_learn, mutators_snap, mutators_step, mutators_store,
-    mutators_store_on_board, words_are_loaded,
-};
-pub use laws_flipping::{
-    epochs_are_flipped, flips_are_made_ready, registers_are_forwarded, sizes_are_stored,
-};
-pub use laws_gating::{epochs_are_taken, gates_are_passed, gates_fit, passages_are_made_ready};
-pub use laws_lifting::{standing_is_ready, steps_are_lifted};
+pub use laws_allocating::mutators_place;
+pub use laws_allocating::stocks_are_claimed;
+pub use laws_allocating::stocks_are_opened;
+pub use laws_allocating::stocks_are_zeroed;
+pub use laws_allocating::words_are_stored_ahead;
+pub use laws_answers::areas_are_answered;
+pub use laws_answers::copies_are_answered;
+pub use laws_answers::gates_are_answered;
+pub use laws_answers::scans_are_answered;
+pub use laws_answers::words_are_compared;
+pub use laws_cells::chain_is_carried;
+pub use laws_cells::chain_is_lifted;
+pub use laws_cells::chain_is_short;
+pub use laws_cells::chain_parts_are_free;
+pub use laws_cells::flips_carry_chain;
+pub use laws_cells::linking_carries_chain;
+pub use laws_cells::placing_carries_chain;
+pub use laws_cells::publishing_carries_chain;
+pub use laws_cells::reservations_carry_chain;
+pub use laws_cells::same_front_carries_chain;
+pub use laws_cells::targets_carry_chain;
+pub use laws_cells::tracing_carries_chain;
+pub use laws_cells::turns_carry_chain;
+pub use laws_cells::unread_rows_carry_chain;
+pub use laws_cells::unread_words_carry_chain;
+pub use laws_cells::walks_carry_chain;
+pub use laws_composing::knowledge_is_forgotten;
+pub use laws_composing::registers_are_settled;
+pub use laws_composing::rounds_are_ended;
+pub use laws_composing::rows_beside_are_written;
+pub use laws_composing::steps_follow;
+pub use laws_composing::steps_forget;
+pub use laws_copying::announces_are_cleared;
+pub use laws_copying::cells_are_linked;
+pub use laws_copying::copies_are_published;
+pub use laws_copying::copies_have_room;
+pub use laws_copying::crossings_are_stored;
+pub use laws_copying::forwards_are_found;
+pub use laws_copying::headers_are_taken;
+pub use laws_copying::knowledge_changes_alone;
+pub use laws_copying::links_are_stored;
+pub use laws_copying::nothing_changes;
+pub use laws_copying::old_words_are_loaded;
+pub use laws_copying::places_are_aimed;
+pub use laws_copying::places_are_announced;
+pub use laws_copying::places_are_reserved;
+pub use laws_copying::words_are_copied;
+pub use laws_fields::mutators_are_shown;
+pub use laws_fields::mutators_end;
+pub use laws_fields::mutators_learn;
+pub use laws_fields::mutators_snap;
+pub use laws_fields::mutators_step;
+pub use laws_fields::mutators_store;
+pub use laws_fields::mutators_store_on_board;
+pub use laws_fields::words_are_loaded;
+pub use laws_flipping::epochs_are_flipped;
+pub use laws_flipping::flips_are_made_ready;
+pub use laws_flipping::registers_are_forwarded;
+pub use laws_flipping::sizes_are_stored;
+pub use laws_gating::epochs_are_taken;
+pub use laws_gating::gates_are_passed;
+pub use laws_gating::gates_fit;
+pub use laws_gating::passages_are_made_ready;
+pub use laws_lifting::standing_is_ready;
+pub use laws_lifting::steps_are_lifted;
 pub use laws_opening::opening_stands;
-pub use laws_saving::{
-    askers_are_alone, checkpoints_end, flippers_are_spared, flips_are_spared, frozen_heaps_show,
-    new_pages_are_spared, pages_are_saved, passages_are_spared, passed_rounds_have_saved,
-    requests_are_spared, rounds_follow, rows_are_spared, savers_change, savers_forget,
-    savers_learn, saves_are_read, saves_change_alone, saves_open, says_are_found, snappers_step,
-    snaps_are_kept, stock_pages_are_marked, stores_are_spared, tracing_is_spared,
-    written_pages_are_open,
-};
-pub use laws_scanning::{
-    claims_are_made_ready, fields_are_scanned, pages_are_claimed, pages_are_opened,
-    records_are_scanned,
-};
-pub use laws_tracing::{
-    epochs_are_traced, rounds_are_begun, the_end_is_looked_at, traced_epochs_are_clean,
-    traced_epochs_have_copied,
-};
+pub use laws_saving::askers_are_alone;
+pub use laws_saving::checkpoints_end;
+pub use laws_saving::flippers_are_spared;
+pub use laws_saving::flips_are_spared;
+pub use laws_saving::frozen_heaps_show;
+pub use laws_saving::new_pages_are_spared;
+pub use laws_saving::pages_are_saved;
+pub use laws_saving::passages_are_spared;
+pub use laws_saving::passed_rounds_have_saved;
+pub use laws_saving::requests_are_spared;
+pub use laws_saving::rounds_follow;
+pub use laws_saving::rows_are_spared;
+pub use laws_saving::savers_change;
+pub use laws_saving::savers_forget;
+pub use laws_saving::savers_learn;
+pub use laws_saving::saves_are_read;
+pub use laws_saving::saves_change_alone;
+pub use laws_saving::saves_open;
+pub use laws_saving::says_are_found;
+pub use laws_saving::snappers_step;
+pub use laws_saving::snaps_are_kept;
+pub use laws_saving::stock_pages_are_marked;
+pub use laws_saving::stores_are_spared;
+pub use laws_saving::tracing_is_spared;
+pub use laws_saving::written_pages_are_open;
+pub use laws_scanning::claims_are_made_ready;
+pub use laws_scanning::fields_are_scanned;
+pub use laws_scanning::pages_are_claimed;
+pub use laws_scanning::pages_are_opened;
+pub use laws_scanning::records_are_scanned;
+pub use laws_targets::claiming_carries_targets;
+pub use laws_targets::flips_carry_targets;
+pub use laws_targets::links_carry_targets;
+pub use laws_targets::placing_carries_targets;
+pub use laws_targets::publishing_carries_targets;
+pub use laws_targets::reservations_carry_targets;
+pub use laws_targets::targets_are_carried;
+pub use laws_targets::targets_are_found;
+pub use laws_targets::targets_are_lifted;
+pub use laws_targets::tracing_carries_targets;
+pub use laws_targets::unread_rows_carry_targets;
+pub use laws_targets::unread_words_carry_targets;
+pub use laws_targets::walks_carry_targets;
+pub use laws_tracing::epochs_are_traced;
+pub use laws_tracing::rounds_are_begun;
+pub use laws_tracing::the_end_is_looked_at;
+pub use laws_tracing::traced_epochs_are_clean;
+pub use laws_tracing::traced_epochs_have_copied;

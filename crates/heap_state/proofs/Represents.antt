@@ -1,5 +1,7 @@
 pub mod Denoting
 pub mod Owning
+pub mod Ordered
+pub mod Places
 pub mod Representing
 pub mod Dropping
 pub mod Dropped

@@ -7,6 +7,8 @@ pub mod Configuration
 pub mod Kept
 pub mod Sums
 pub mod Cycles
+pub mod Cells
+pub mod Targets
 pub mod Saving
 pub mod Examples
 pub mod Theorems

@@ -64,7 +64,8 @@ pub record GateStep : Type 0 where
   pub passage : Passage
 
 -- A flip in progress: the gate read, with nobody running and nobody behind; the space's size, once it is read; the size that the
--- other space gets, and the words in use, once AREA is read; whether that size is stored; and whether the other space's AREA is.
+-- other space gets, and the words in use, once AREA is read; whether that size is stored; whether the other space's AREA is; and
+-- whether WEAK is.
 pub record Reset : Type 0 where
   pub read : GateWord
   pub size : Option ℕ
@@ -72,11 +73,17 @@ pub record Reset : Type 0 where
   pub used : Option ℕ
   pub sized : Bool
   pub stored : Bool
+  pub cleared : Bool
 
 -- the other space's size is stored
 abbrev pub is_sized : Option Reset → Bool
 is_sized None = false
 is_sized (Some r) = r.sized
+
+-- WEAK is stored
+abbrev pub is_cleared : Option Reset → Bool
+is_cleared None = false
+is_cleared (Some r) = r.cleared
 
 -- ---- new records and accesses
 
@@ -127,11 +134,13 @@ pub data Origin : Type 0 where
   Register : (r : ℕ) → Origin
   Scanned : (addr : ℕ) → Origin
 
--- the search for the copy of the record at an old place, and the copy's place once it is known
+-- the search for the copy of the record at an old place; the copy's place once it is known; and whether it is a cell that this
+-- worker has copied and not linked yet
 pub record Quest : Type 0 where
   pub old : ℕ
   pub origin : Origin
   pub found : Option ℕ
+  pub links : Bool
 
 -- A copy in progress: the header kept, the old place, the new one, the record's size, the words copied so far, the word
 -- after them once it is loaded, whether the new place was read as FRONT, whether it is announced, whether it is reserved, and
@@ -191,6 +200,34 @@ pub record Look : Type 0 where
 pub record LastLook : Type 0 where
   pub traced : ℕ
 
+-- ---- the chain of copied cells
+
+-- A cell that was copied and isn't linked yet: its place, WEAK once it is read, and whether that word is stored as the cell's link.
+pub record Linking : Type 0 where
+  pub cell : ℕ
+  pub read : Option ℕ
+  pub stored : Bool
+
+-- the place of the cell that is to be linked
+abbrev pub cell_to_link : Option Linking → Option ℕ
+cell_to_link None = None
+cell_to_link (Some l) = Some l.cell
+
+-- A walk that has come to a cell: the cell's place; the old place that its target leads to, and the word that is to replace the
+-- target, once these are known; whether the walk has done with the target; and how many cells may still come, this one with them.
+pub record Visit : Type 0 where
+  pub cell : ℕ
+  pub old : Option ℕ
+  pub word : Option ℕ
+  pub past : Bool
+  pub more : ℕ
+
+-- a walk over the chain: WEAK isn't read yet; it has come to a cell; or it is behind the last one
+pub data Pass : Type 0 where
+  Begins : Pass
+  At : (visit : Visit) → Pass
+  Done : Pass
+
 -- ---- the whole
 
 -- what a mutator has that its plain mutator has too
@@ -203,7 +240,7 @@ pub record Account : Type 0 where
 
 -- A worker: its post, its epoch, its account, its registers and how many of them it has forwarded since the flip; then
 -- what it is about to do, and what it knows by what it has read in its epoch: `opened` is a page that it found open, and
--- `size_seen` the pages in use of the epoch's space.
+-- `size_seen` the pages in use of the epoch's space. `linking` is the cell that it has to link, and `pass` its walk over the chain.
 pub record Worker : Type 0 where
   pub post : Post
   pub epoch : ℕ
@@ -224,6 +261,8 @@ pub record Worker : Type 0 where
   pub size_seen : Option ℕ
   pub gate_step : Option GateStep
   pub reset : Option Reset
+  pub linking : Option Linking
+  pub pass : Option Pass
 
 -- a mutator of this post and of the epoch `own` has not forwarded its registers since the flip to this epoch
 abbrev pub is_behind : ℕ → Post → ℕ → Bool
@@ -255,6 +294,8 @@ fresh post = record {
   size_seen = None;
   gate_step = None;
   reset = None;
+  linking = None;
+  pass = None;
 }
 
 -- all workers, by their numbers: the mutators first, then the scanners

@@ -44,9 +44,9 @@ round_cost n = 2 * n + 35
 abbrev pub page_cost : ℕ → ℕ
 page_cost n = round_cost n + 452
 
--- the tracing of a whole epoch: the board and all pages, and four steps for each word that is copied
+-- the tracing of a whole epoch: the board and all pages, and five steps for each word that is copied
 unfoldable pub longest_tracing : ℕ → ℕ
-longest_tracing n = page_cost n * (n + 1) + round_cost n + 4 * (PAGE_WORDS * n)
+longest_tracing n = page_cost n * (n + 1) + round_cost n + 5 * (PAGE_WORDS * n)
 
 -- a look before a write, and the save that it may make
 abbrev pub guard_cost : ℕ

@@ -2,16 +2,18 @@
 use Rattle.std.specs.Prelude.{◌≡◌, ℕ, ⊤}
 use Rattle.space_map.specs.Spaces.{to_space}
 use Rattle.forwarding.specs.declared.evac_stage.EvacStage.{EvacStage}
-use Rattle.forwarding.specs.declared.evac_stage.EvacStage.TheVariants.{LoadsHeader, TakesHeader, LoadsArea, Announces, Reserves}
+use Rattle.forwarding.specs.declared.evac_stage.EvacStage.TheVariants.{LoadsHeader, TakesHeader, LoadsArea, Announces, Reserves, StoresLink, TakesWeak}
 use Rattle.forwarding.specs.Evacuation.{Evacuation}
 use Rattle.forwarding.specs.Left as evac
 use Rattle.heap_state.specs.Memory.Table.{Table}
 
--- the header and the area are as they were read
+-- the header, the area and WEAK are as they were read
 abbrev pub CopyStands : Table → Evacuation → EvacStage → Type 0
 CopyStands t v (TakesHeader kept) = t.heap v.addr ≡ kept.word
 CopyStands t v (Announces kept area) = t.area (to_space v.epoch) ≡ area
 CopyStands t v (Reserves kept area) = t.area (to_space v.epoch) ≡ area
+CopyStands t v (StoresLink to head) = t.weak ≡ head
+CopyStands t v (TakesWeak to head) = t.weak ≡ head
 CopyStands t v stage = ⊤
 
 -- From the exchange of the area on, the words that are no longer owed pay for the copy; before it, the word that led to it does.

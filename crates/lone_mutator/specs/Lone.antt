@@ -163,6 +163,9 @@ is_announced (evac_stage.LoadsWord r i) = true
 is_announced (evac_stage.StoresWord r w) = true
 is_announced (evac_stage.StoresCross r page) = true
 is_announced (evac_stage.StoresForward r) = true
+is_announced (evac_stage.LoadsWeak to) = true
+is_announced (evac_stage.StoresLink to head) = true
+is_announced (evac_stage.TakesWeak to head) = true
 is_announced (evac_stage.Clears to) = true
 is_announced stage = false
 

@@ -16,8 +16,8 @@ unclaimed n epoch page = waits epoch (page (board_page n)) + sum_below n (λ i. 
 
 -- for the pages still to be claimed and the words still to be copied; nothing once the epoch is traced
 unfoldable pub tracing_left : (n epoch traced owed : ℕ) (page : ℕ → PageWord) → ℕ
-tracing_left n epoch traced owed page = if traced == epoch + 1 then 0 else page_cost n * unclaimed n epoch page + 4 * owed
+tracing_left n epoch traced owed page = if traced == epoch + 1 then 0 else page_cost n * unclaimed n epoch page + 5 * owed
 
 -- the same before a round
 unfoldable pub tracing_due : (n epoch traced owed : ℕ) (page : ℕ → PageWord) → ℕ
-tracing_due n epoch traced owed page = if traced == epoch + 1 then 0 else page_cost n * unclaimed n epoch page + 4 * owed + round_cost n
+tracing_due n epoch traced owed page = if traced == epoch + 1 then 0 else page_cost n * unclaimed n epoch page + 5 * owed + round_cost n

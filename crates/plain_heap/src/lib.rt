@@ -17,6 +17,7 @@ mod step;
 mod stop;
 
 pub use action::Action;
+pub use heap::record::PlainRecord;
 pub use laws::{
     alone_mutators_are_independent, call_leaves_the_others, call_makes_the_new_record,
     checkpoints_have_one_text, only_reached_records_are_printed, only_snap_begins_checkpoints,

@@ -1,8 +1,9 @@
 //! The state of the plain machine, and its step.
 
-ghost use Rattle.std.specs.Prelude.{◌≡◌, ◌<◌, fold, length, Some, IfOk, OnOk, OnErr, option_map, replicate, slice_get};
+ghost use Rattle.std.specs.Prelude.{◌≡◌, ◌<◌, fold, length, Some, IfOk, OnOk, OnErr, option_copied, option_map, replicate, slice_get};
 ghost use Rattle.std.specs.Option.{option_map_or};
 ghost use Rattle.plain_state.specs.Consistent.{IsConsistent};
+ghost use Rattle.plain_state.specs.State.{record_of};
 ghost use Rattle.plain_state.specs.Writing.{with_heap};
 ghost use Rattle.plain_heap.specs.Emptied.{cells_to_empty, emptied_cell};
 ghost use Rattle.plain_heap.specs.Order.{fresh, opening};
@@ -10,12 +11,13 @@ ghost use Rattle.plain_heap.specs.Memory.{StepTakesMemory};
 ghost use Rattle.plain_heap.specs.Step.{stepped, asked_by, ended};
 
 use crate::heap::PlainHeap;
+use crate::heap::record::PlainRecord;
 use crate::mutator::PlainMutator;
 use crate::search::mark_reachable;
 use crate::step::{asked, take_turn};
 use crate::stop::Stop;
 use mutator_asm::{Code, Program};
-use plain_state::{End, Identity, NoMemory};
+use plain_state::{End, Identity, NoMemory, Value};
 use std::alloc::Global;
 use std::marker::Model;
 
@@ -80,6 +82,28 @@ impl PlainState {
         ensures { option_map (λ k. k.end) (slice_get self.now.mutators m) ≡ Some result }
     {
         self.mutators[m as usize].end()
+    }
+
+    /// The registers of mutator m.
+    pub fn registers(&self, m: u8) -> &[Value]
+        requires { m < length self.now.mutators }
+        ensures { option_map (λ k. k.registers) (slice_get self.now.mutators m) ≡ Some result.now }
+    {
+        self.mutators[m as usize].registers()
+    }
+
+    /// The words of the board.
+    pub fn board(&self) -> &[Value]
+        ensures { result.now ≡ self.now.heap.board }
+    {
+        self.heap.board()
+    }
+
+    /// The record with an identity, if it is there.
+    pub fn record(&self, i: Identity) -> Option<&PlainRecord>
+        ensures { option_copied result ≡ record_of self.now.heap i }
+    {
+        self.heap.record(i)
     }
 
     /// The cells that refer to what isn't reachable. If there are no cells, no memory is taken.

@@ -2,7 +2,7 @@
 use Rattle.std.proofs.Common.{◌≡◌, ◌≤◌, ℕ, List, [], length, Some, refl, inl, inr}
 use Rattle.std.specs.Prelude.{◌⊎◌}
 use Rattle.ael_commands.specs.declared.arguments.job.Job.{Job}
-use Rattle.ael_commands.specs.declared.arguments.job.Job.TheVariants.{Asm, Bench, Concord, Run, Sim}
+use Rattle.ael_commands.specs.declared.arguments.job.Job.TheVariants.{Asm, Audit, Bench, Concord, Run, Sim}
 use Rattle.ael_commands.specs.declared.arguments.operands.BenchOperands.{BenchOperands}
 use Rattle.ael_commands.specs.declared.streams.reading.TheConstants.{LONGEST_INPUT}
 use Rattle.ael_commands.specs.Calls.Call.{Call}
@@ -30,6 +30,7 @@ module _ (call : Call) (input : List ℕ) (complete : IsComplete call) (left : c
   goes_as (Sim options) asked right = on (Sim options) input asked (left, few) right
   goes_as (Run options) asked right = on (Run options) input asked (left, few) right
   goes_as (Concord options) asked right = on (Concord options) input asked (left, few) right
+  goes_as (Audit options) asked right = on (Audit options) input asked (left, few) right
   goes_as (Bench operands) asked right = benched operands (on (Bench operands) [] asked refl tt)
     where
       benched : (o : BenchOperands) → GoesAs (job_task (Bench o)) [] call.code ⊎ (call.code ≡ 7) → GoesAs (job_task (Bench o)) input call.code ⊎ (call.code ≡ 7)

@@ -4,6 +4,7 @@ use Rattle.std.specs.Prelude.{◌⊎◌, Some}
 use Rattle.std.proofs.lemmas.Option.{same_Some}
 use Rattle.benchmark.specs.Text.{bench_text}
 use Rattle.concordance_text.specs.Theorems.{OneListOfRows}
+use Rattle.heap_audit.specs.Places.{PlacesShowAll}
 use Rattle.mutator_asm.specs.declared.instr.Instr.{Instr}
 use Rattle.mutator_asm.specs.declared.item.Item.{Item}
 use Rattle.mutator_asm.specs.Text.{IsText}
@@ -11,13 +12,14 @@ use Rattle.mutator_asm.specs.Theorems.{MeansOneProgram, MeansWellFormed, HasNoFa
 use Rattle.plain_heap.specs.Alone.{AlwaysTheSame}
 use Rattle.plain_heap.specs.Order.{plain}
 use Rattle.ael_commands.specs.declared.arguments.job.Job.{Job}
-use Rattle.ael_commands.specs.declared.arguments.job.Job.TheVariants.{Asm, Bench, Concord, Run, Sim}
+use Rattle.ael_commands.specs.declared.arguments.job.Job.TheVariants.{Asm, Audit, Bench, Concord, Run, Sim}
 use Rattle.ael_commands.specs.declared.arguments.operands.BenchOperands.{BenchOperands}
+use Rattle.ael_commands.specs.declared.arguments.options.AuditOptions.{AuditOptions}
 use Rattle.ael_commands.specs.declared.arguments.options.ConcordOptions.{ConcordOptions}
 use Rattle.ael_commands.specs.declared.arguments.options.RunOptions.{RunOptions}
 use Rattle.ael_commands.specs.declared.arguments.options.SimOptions.{SimOptions}
 use Rattle.ael_commands.specs.declared.status.Status.{Status}
-use Rattle.ael_commands.specs.declared.status.Status.TheVariants.{Done, Text, LongWord, Usage, Ended, HeapFull, StepsOut, ReadFault, WriteFault, NoMemory, TooLong}
+use Rattle.ael_commands.specs.declared.status.Status.TheVariants.{BadOutput, Done, No, Text, LongWord, Usage, Ended, HeapFull, StepsOut, ReadFault, WriteFault, NoMemory, TooLong}
 use Rattle.ael_commands.specs.Tasks.Bench.{bench_options}
 use Rattle.ael_commands.specs.Calls.Call.{Call}
 use Rattle.ael_commands.specs.Calls.Headline.{HeadlineHolds, IsAlwaysTheSame, CallIsAnswered, IsComplete, IsDone, PrintsListing, PrintsPlainly}
@@ -30,6 +32,8 @@ use Rattle.ael_commands.specs.Streams.Stream.{Grows}
 use Rattle.ael_commands.specs.Calls.Success.{Succeeds}
 use Rattle.plain_heap.proofs.States.SameMutators.{plain_count}
 use Rattle.ael_commands.proofs.Concordances.{never_long}
+use Rattle.ael_commands.proofs.Audits.{never_faulty}
+use Rattle.ael_commands.proofs.Calls.AuditEnds.{audit_ends, says_yes}
 use Rattle.ael_commands.proofs.Calls.ConcordEnds.{concord_ends, large_heaps_suffice, prints_concordance}
 use Rattle.ael_commands.proofs.Calls.SoundEnds.{ByRefusal, ForMemory, OfInput, SoundCause, cause, call_tells}
 
@@ -48,14 +52,17 @@ not_refused no_fault bytes ReadFault right fault = absurd fault
 not_refused no_fault bytes WriteFault right fault = absurd fault
 not_refused no_fault bytes NoMemory right fault = absurd fault
 not_refused no_fault bytes TooLong right fault = absurd fault
+not_refused no_fault bytes (BadOutput line) right fault = absurd fault
+not_refused no_fault bytes No right fault = absurd fault
 
 -- a right input is not refused
-is_taken : {A : Type 0} → HasNoFault → (job : Job) (bytes : List ℕ) (status : Status) → (job_task job).IsRight bytes → (job_task job).Refuses bytes status → A
-is_taken no_fault (Bench operands) bytes status right fault = absurd fault
-is_taken no_fault Asm bytes status right fault = not_refused no_fault bytes status right fault
-is_taken no_fault (Sim options) bytes status right fault = not_refused no_fault bytes status right fault
-is_taken no_fault (Run options) bytes status right fault = not_refused no_fault bytes status right fault
-is_taken no_fault (Concord options) bytes status right long = absurd (never_long bytes long.line right long.first)
+is_taken : {A : Type 0} → MeansOneProgram → HasNoFault → (job : Job) (bytes : List ℕ) (status : Status) → (job_task job).IsRight bytes → (job_task job).Refuses bytes status → A
+is_taken one no_fault (Bench operands) bytes status right fault = absurd fault
+is_taken one no_fault Asm bytes status right fault = not_refused no_fault bytes status right fault
+is_taken one no_fault (Sim options) bytes status right fault = not_refused no_fault bytes status right fault
+is_taken one no_fault (Run options) bytes status right fault = not_refused no_fault bytes status right fault
+is_taken one no_fault (Concord options) bytes status right long = absurd (never_long bytes long.line right long.first)
+is_taken one no_fault (Audit options) bytes status right faulty = absurd (never_faulty one no_fault bytes status right faulty)
 
 -- ---- the output
 
@@ -91,12 +98,16 @@ run_runs_in options manner runs = record { is_run = λ bytes output status made.
 concord_runs_in : (options : ConcordOptions) (manner : Manner) → run_by (Concord options) ≡ Some manner → RunsIn (Concord options) manner
 concord_runs_in options manner runs = cc
 
+audit_runs_in : (options : AuditOptions) (manner : Manner) → run_by (Audit options) ≡ Some manner → RunsIn (Audit options) manner
+audit_runs_in options manner runs = cc
+
 runs_in : (job : Job) (manner : Manner) → run_by job ≡ Some manner → RunsIn job manner
 runs_in Asm manner runs = asm_runs_in manner runs
 runs_in (Bench operands) manner runs = bench_runs_in operands manner runs
 runs_in (Sim options) manner runs = sim_runs_in options manner runs
 runs_in (Run options) manner runs = run_runs_in options manner runs
 runs_in (Concord options) manner runs = concord_runs_in options manner runs
+runs_in (Audit options) manner runs = audit_runs_in options manner runs
 
 module _ (one : MeansOneProgram) (no_fault : HasNoFault) (call : Call) (a : CallIsAnswered call) where
   -- the job is done, or there was no memory
@@ -105,7 +116,7 @@ module _ (one : MeansOneProgram) (no_fault : HasNoFault) (call : Call) (a : Call
     where
       by : SoundCause job bytes a.output a.status → CallTells call a.output a.status → IsDone call job bytes ⊎ (call.code ≡ 7)
       by (OfInput made) told = inl (record { output = a.output; status = a.status; made = made; printed = told.printed; code_is = told.code_is })
-      by (ByRefusal refused silent) told = is_taken no_fault job bytes a.status well.right refused
+      by (ByRefusal refused silent) told = is_taken one no_fault job bytes a.status well.right refused
       by (ForMemory wanting silent) told = inr (told.code_is ∙ ap status_code wanting)
 
   -- where memory was not wanting, it is done
@@ -152,8 +163,8 @@ module _ (one : MeansOneProgram) (no_fault : HasNoFault) (call : Call) (a : Call
       }
 
 -- all that holds of a call
-pub holds : MeansOneProgram → HasNoFault → MeansWellFormed → ListsText → AlwaysTheSame → OneListOfRows → (call : Call) → CallIsAnswered call → HeadlineHolds call
-holds one no_fault well_formed lists same rows call a = record {
+pub holds : MeansOneProgram → HasNoFault → MeansWellFormed → ListsText → AlwaysTheSame → OneListOfRows → PlacesShowAll → (call : Call) → CallIsAnswered call → HeadlineHolds call
+holds one no_fault well_formed lists same rows places call a = record {
   answered = a;
   complete = is_complete one no_fault call a;
   prints = prints_plainly one no_fault call a;
@@ -162,4 +173,6 @@ holds one no_fault well_formed lists same rows call a = record {
   concords = prints_concordance call a;
   concord_ends = concord_ends call a;
   large_heaps_suffice = large_heaps_suffice call a rows;
+  audits = audit_ends call a;
+  says_yes = says_yes one well_formed no_fault places call a;
 }

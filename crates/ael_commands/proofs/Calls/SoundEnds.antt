@@ -3,7 +3,7 @@ use Rattle.std.proofs.Common.{◌≡◌, ℕ, List, [], ap, sym, ◌∙◌, subs
 use Rattle.std.specs.Prelude.{Option, Some}
 use Rattle.ael_commands.specs.declared.arguments.job.Job.{Job}
 use Rattle.ael_commands.specs.declared.status.Status.{Status}
-use Rattle.ael_commands.specs.declared.status.Status.TheVariants.{Done, Text, LongWord, Usage, Ended, HeapFull, StepsOut, ReadFault, WriteFault, NoMemory, TooLong}
+use Rattle.ael_commands.specs.declared.status.Status.TheVariants.{BadOutput, Done, No, Text, LongWord, Usage, Ended, HeapFull, StepsOut, ReadFault, WriteFault, NoMemory, TooLong}
 use Rattle.ael_commands.specs.Calls.Answer.{IsAnswer, IsCaused, Made, Refused, Unread, OutOfMemory}
 use Rattle.ael_commands.specs.Calls.Call.{Call}
 use Rattle.ael_commands.specs.Calls.Concordance.{CallTells}
@@ -39,6 +39,8 @@ is_read Everything source bytes (HeapFull asked room) given sound unread = absur
 is_read Everything source bytes StepsOut given sound unread = absurd unread
 is_read Everything source bytes WriteFault given sound unread = absurd unread
 is_read Everything source bytes NoMemory given sound unread = absurd unread
+is_read Everything source bytes (BadOutput line) given sound unread = absurd unread
+is_read Everything source bytes No given sound unread = absurd unread
 
 -- why an answer is what it is, if the input could be read
 pub data SoundCause (job : Job) (bytes output : List ℕ) (status : Status) : Type 0 where

@@ -2,7 +2,7 @@
 use Rattle.std.specs.Prelude.{true, false, List, [], ◌∷◌, codes}
 use Rattle.clap.specs.Simple.{App, Shape, new_app, new_shape}
 use Rattle.simple_commands.specs.Options.{operand_rules_of, rules_of, with_rules}
-use Rattle.ael_commands.specs.Arguments.Options.{bench_numbers, bench_wide, concord_flags, concord_numbers, concord_wide, run_flags, run_numbers, run_wide, sim_flags, sim_numbers, sim_wide}
+use Rattle.ael_commands.specs.Arguments.Options.{audit_flags, audit_numbers, audit_wide, bench_numbers, bench_wide, concord_flags, concord_numbers, concord_wide, run_flags, run_numbers, run_wide, sim_flags, sim_numbers, sim_wide}
 
 -- `sim`, with its options and flags
 abbrev pub sim_app : App
@@ -19,6 +19,10 @@ concord_app = with_rules (new_app (codes "concord")) (rules_of concord_numbers c
 -- `bench`, with its operands
 abbrev pub bench_app : App
 bench_app = with_rules (new_app (codes "bench")) (operand_rules_of bench_numbers bench_wide)
+
+-- `audit`, with its option
+abbrev pub audit_app : App
+audit_app = with_rules (new_app (codes "audit")) (rules_of audit_numbers audit_wide audit_flags)
 
 -- `asm`
 abbrev pub asm_app : App
@@ -38,4 +42,4 @@ ael_with subs = record {
 
 -- all subcommands
 abbrev pub ael_app : App
-ael_app = ael_with (asm_app.top ∷ sim_app.top ∷ run_app.top ∷ concord_app.top ∷ bench_app.top ∷ [])
+ael_app = ael_with (asm_app.top ∷ sim_app.top ∷ run_app.top ∷ concord_app.top ∷ bench_app.top ∷ audit_app.top ∷ [])

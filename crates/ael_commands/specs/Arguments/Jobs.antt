@@ -3,8 +3,9 @@ use Rattle.std.specs.Prelude.{◌≡◌, ⊤, ℕ, Bool, false, List, Option, So
 use Rattle.std.specs.Option.{option_map_or}
 use Rattle.benchmark.specs.Text.{bench_text}
 use Rattle.ael_commands.specs.declared.arguments.job.Job.{Job}
-use Rattle.ael_commands.specs.declared.arguments.job.Job.TheVariants.{Asm, Bench, Concord, Run, Sim}
+use Rattle.ael_commands.specs.declared.arguments.job.Job.TheVariants.{Asm, Audit, Bench, Concord, Run, Sim}
 use Rattle.ael_commands.specs.Tasks.Asm.{asm_task}
+use Rattle.ael_commands.specs.Tasks.Audit.{audit_task}
 use Rattle.ael_commands.specs.Tasks.Bench.{bench_options, bench_task}
 use Rattle.ael_commands.specs.Tasks.Concord.{concord_task}
 use Rattle.ael_commands.specs.Runs.Run.{Manner, Scheduled, Threaded, run_task, sim_task}
@@ -16,6 +17,7 @@ job_task (Bench operands) = bench_task operands
 job_task (Sim options) = sim_task options
 job_task (Run options) = run_task options
 job_task (Concord options) = concord_task options
+job_task (Audit options) = audit_task options
 
 -- the job waits for nobody
 abbrev pub IsStill : Job → Type 0
@@ -25,13 +27,14 @@ IsStill job = (job_task job).waits ≡ false
 abbrev pub is_waiting : Option Job → Bool
 is_waiting asked = option_map_or (λ job. (job_task job).waits) asked false
 
--- the job is about the program whose text is its input
+-- the job is about the program whose text is all of its input
 abbrev pub ReadsProgram : Job → Type 0
 ReadsProgram Asm = ⊤
 ReadsProgram (Bench operands) = ⊥
 ReadsProgram (Sim options) = ⊤
 ReadsProgram (Run options) = ⊤
 ReadsProgram (Concord options) = ⊥
+ReadsProgram (Audit options) = ⊥
 
 -- the text that a job is about: its input, or the text of the benchmark
 abbrev pub job_text : Job → List ℕ → List ℕ
@@ -40,6 +43,7 @@ job_text (Bench operands) input = bench_text operands.depth operands.seed
 job_text (Sim options) input = input
 job_text (Run options) input = input
 job_text (Concord options) input = input
+job_text (Audit options) input = input
 
 -- how a job runs the program of that text, if it runs one
 abbrev pub run_by : Job → Option Manner
@@ -48,3 +52,4 @@ run_by (Bench operands) = Some (Scheduled (bench_options operands))
 run_by (Sim options) = Some (Scheduled options)
 run_by (Run options) = Some (Threaded options)
 run_by (Concord options) = None
+run_by (Audit options) = None

@@ -1,4 +1,4 @@
--- The options of runs and of concordances, and the operands of the benchmark, by the rows of what was given.
+-- The options of runs, of concordances and of audits, and the operands of the benchmark, by the rows of what was given.
 use Rattle.std.specs.Prelude.{ℕ, ◌≤◌, IsTrue, List, [], ◌∷◌, Option, Some, None, codes, if◌then◌else◌, nat_le, option_map, unwrap_or}
 use Rattle.clap.specs.Walk.{Row, Text}
 use Rattle.space_map.specs.declared.spaces.TheConstants.{FEWEST_PAGES, MOST_MUTATORS, MOST_PAGES, MOST_SCANNERS}
@@ -9,6 +9,7 @@ use Rattle.simple_commands.specs.Options.{number_given}
 use Rattle.simple_commands.specs.Readers.{number_of, number_or, was_given}
 use Rattle.simple_commands.specs.declared.options.Numbers.{Numbers}
 use Rattle.ael_commands.specs.declared.arguments.operands.BenchOperands.{BenchOperands}
+use Rattle.ael_commands.specs.declared.arguments.options.AuditOptions.{AuditOptions}
 use Rattle.ael_commands.specs.declared.arguments.options.ConcordOptions.{ConcordOptions}
 use Rattle.ael_commands.specs.declared.arguments.options.RunOptions.{RunOptions}
 use Rattle.ael_commands.specs.declared.arguments.options.SimOptions.{SimOptions}
@@ -89,6 +90,16 @@ concord_wide = []
 abbrev pub concord_flags : List Text
 concord_flags = []
 
+-- the tables of `audit`
+abbrev pub audit_numbers : List (Text × Numbers)
+audit_numbers = turns_option ∷ []
+
+abbrev pub audit_wide : List Text
+audit_wide = []
+
+abbrev pub audit_flags : List Text
+audit_flags = []
+
 -- the tables of `sim`
 abbrev pub sim_numbers : List (Text × Numbers)
 sim_numbers = pages_option ∷ limit_option ∷ scanners_option ∷ turns_option ∷ steps_option ∷ []
@@ -146,6 +157,13 @@ concord_options_of rows = record { workers = number_given workers_option rows; p
 pub record AreConcordOptions (options : ConcordOptions) : Type 0 where
   pub workers : (1 ≤ options.workers) × (options.workers ≤ MOST_MUTATORS)
   pub pages : IsTrue (is_size options.pages)
+
+abbrev pub audit_options_of : List Row → AuditOptions
+audit_options_of rows = record { turns = number_given turns_option rows }
+
+-- a mutator may execute so many instructions
+abbrev pub AreAuditOptions : AuditOptions → Type 0
+AreAuditOptions options = (1 ≤ options.turns) × (options.turns ≤ MOST_TURNS)
 
 abbrev pub operands_of : List Row → BenchOperands
 operands_of rows = record { depth = number_given depth_operand rows; seed = unwrap_or (number_of seed_option rows) 0 }

@@ -7,18 +7,19 @@ use Rattle.clap.specs.Simple.{subcommand_of}
 use Rattle.clap.specs.Takes.{takes}
 use Rattle.simple_commands.specs.Options.{HoldOptions}
 use Rattle.ael_commands.specs.declared.arguments.job.Job.{Job}
-use Rattle.ael_commands.specs.declared.arguments.job.Job.TheVariants.{Asm, Bench, Concord, Run, Sim}
+use Rattle.ael_commands.specs.declared.arguments.job.Job.TheVariants.{Asm, Audit, Bench, Concord, Run, Sim}
 use Rattle.ael_commands.specs.Arguments.CommandLine.{ael_app}
-use Rattle.ael_commands.specs.Arguments.Options.{AreInRange, AreConcordOptions, IsDepth, bench_numbers, bench_wide, concord_numbers, concord_options_of, concord_wide, operands_of, run_numbers, run_options_of, run_wide, sim_numbers, sim_options_of, sim_wide}
+use Rattle.ael_commands.specs.Arguments.Options.{AreAuditOptions, AreInRange, AreConcordOptions, IsDepth, audit_numbers, audit_options_of, audit_wide, bench_numbers, bench_wide, concord_numbers, concord_options_of, concord_wide, operands_of, run_numbers, run_options_of, run_wide, sim_numbers, sim_options_of, sim_wide}
 
--- the job of a subcommand, by its name and its rows, if it can be; there are `asm`, `sim`, `run`, `concord` and `bench`
+-- the job of a subcommand, by its name and its rows, if it can be; there are `asm`, `sim`, `run`, `concord`, `bench` and `audit`
 abbrev pub job_from : Text × List Row → Option Job
 job_from p =
     if bytes_eq p.0 (codes "asm") then Some Asm
     else (if bytes_eq p.0 (codes "sim") then option_map (λ options. Sim options) (sim_options_of p.1)
     else (if bytes_eq p.0 (codes "run") then option_map (λ options. Run options) (run_options_of p.1)
     else (if bytes_eq p.0 (codes "concord") then Some (Concord (concord_options_of p.1))
-    else Some (Bench (operands_of p.1)))))
+    else (if bytes_eq p.0 (codes "bench") then Some (Bench (operands_of p.1))
+    else Some (Audit (audit_options_of p.1))))))
 
 -- the job that the words ask for: `clap` takes them as a command line of `ael`, and they name a subcommand that can be done
 abbrev pub job_of : List Text → Option Job
@@ -31,7 +32,8 @@ IsKnown p =
     ⊎ (((p.0 ≡ codes "sim") × HoldOptions sim_numbers sim_wide p.1)
     ⊎ (((p.0 ≡ codes "run") × HoldOptions run_numbers run_wide p.1)
     ⊎ (((p.0 ≡ codes "concord") × HoldOptions concord_numbers concord_wide p.1)
-    ⊎ ((p.0 ≡ codes "bench") × HoldOptions bench_numbers bench_wide p.1))))
+    ⊎ (((p.0 ≡ codes "bench") × HoldOptions bench_numbers bench_wide p.1)
+    ⊎ ((p.0 ≡ codes "audit") × HoldOptions audit_numbers audit_wide p.1)))))
 
 -- the numbers of a job are in their ranges
 abbrev pub NumbersAreInRange : Job → Type 0
@@ -40,3 +42,4 @@ NumbersAreInRange (Bench operands) = IsDepth operands.depth
 NumbersAreInRange (Sim options) = AreInRange options.run
 NumbersAreInRange (Run options) = AreInRange options
 NumbersAreInRange (Concord options) = AreConcordOptions options
+NumbersAreInRange (Audit options) = AreAuditOptions options

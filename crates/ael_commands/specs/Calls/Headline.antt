@@ -14,6 +14,7 @@ use Rattle.ael_commands.specs.declared.arguments.job.Job.TheVariants.{Asm}
 use Rattle.ael_commands.specs.declared.status.Status.{Status}
 use Rattle.ael_commands.specs.declared.status.Status.TheVariants.{NoMemory}
 use Rattle.ael_commands.specs.Calls.Answer.{IsAnswerTo}
+use Rattle.ael_commands.specs.Calls.Audits.{AuditEnds, SaysYesToTrueOutputs}
 use Rattle.ael_commands.specs.Calls.Call.{Call}
 use Rattle.ael_commands.specs.Calls.Concordance.{ConcordEnds, LargeHeapsSuffice, PrintsConcordance}
 use Rattle.ael_commands.specs.Calls.Emits.{IsEmitted}
@@ -58,7 +59,7 @@ pub record IsPlainlyPrinted (call : Call) (manner : Manner) (program : List (Lis
   pub checkpoint : List ℕ
   pub saved : IsCheckpointOf manner program ran checkpoint
   pub is_dump : IsDumpOf manner ran
-  pub prints : Grows call.out.held (print_of (plain program (options_by manner).turns ran.order) ++ flag_lines manner ran checkpoint) call.out.holds
+  pub prints : Grows call.out.held (print_of (plain program (options_by manner).turns ran.order) ++ flag_lines manner program ran checkpoint) call.out.holds
 
 -- the headline in one sentence: where `sim`, `run` or `bench` succeeds, it prints what the plain machine prints
 abbrev pub PrintsPlainly : Call → Type 0
@@ -80,7 +81,7 @@ pub record IsPrintedAsAlone (call : Call) (manner : Manner) (program : List (Lis
   pub all : length mutators ≡ length program
   pub checkpoint : List ℕ
   pub saved : IsCheckpointOf manner program ran checkpoint
-  pub prints : Grows call.out.held (lines_seen 0 (seen_in mutators) ++ flag_lines manner ran checkpoint) call.out.holds
+  pub prints : Grows call.out.held (lines_seen 0 (seen_in mutators) ++ flag_lines manner program ran checkpoint) call.out.holds
   pub alone : (m : ℕ) (k : Mutator) → slice_get mutators m ≡ Some k → IsAsAlone program (options_by manner).turns m k
 
 -- where `sim`, `run` or `bench` succeeds, the mutators of a program without `get`, `put` and `swap` print what they print alone
@@ -98,3 +99,5 @@ pub record HeadlineHolds (call : Call) : Type 0 where
   pub concords : PrintsConcordance call
   pub concord_ends : ConcordEnds call
   pub large_heaps_suffice : LargeHeapsSuffice call
+  pub audits : AuditEnds call
+  pub says_yes : SaysYesToTrueOutputs call

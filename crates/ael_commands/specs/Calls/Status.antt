@@ -2,13 +2,15 @@
 use Rattle.std.specs.Prelude.{ℕ, Bool, true, false, List, [], ◌++◌, codes, decimal}
 use Rattle.concordance.specs.declared.error.ConcordError.{ConcordError}
 use Rattle.concordance.specs.declared.error.ConcordError.TheVariants as concord
+use Rattle.heap_audit.specs.declared.audit_error.AuditError.{AuditError}
+use Rattle.heap_audit.specs.declared.audit_error.AuditError.TheVariants as audits
 use Rattle.mutator_asm.specs.AsmError.{text_of_error}
 use Rattle.mutator_asm.specs.declared.errors.asm_error.AsmError.{AsmError}
 use Rattle.mutator_asm.specs.declared.errors.asm_error.AsmError.TheVariants as asm
 use Rattle.ael_commands.specs.declared.streams.reading.ReadError.{ReadError}
 use Rattle.ael_commands.specs.declared.streams.reading.ReadError.TheVariants as reads
 use Rattle.ael_commands.specs.declared.status.Status.{Status}
-use Rattle.ael_commands.specs.declared.status.Status.TheVariants.{Done, Text, LongWord, Usage, Ended, HeapFull, StepsOut, ReadFault, WriteFault, NoMemory, TooLong}
+use Rattle.ael_commands.specs.declared.status.Status.TheVariants.{BadOutput, Done, No, Text, LongWord, Usage, Ended, HeapFull, StepsOut, ReadFault, WriteFault, NoMemory, TooLong}
 
 -- how a status is told: the exit status, the line of standard error, and whether that line is made
 -- from numbers, for which memory may be wanting
@@ -33,6 +35,7 @@ abbrev pub telling : Status → Telling
 telling Done = silent 0
 telling (Text number line) = numbered 1 (text_of_error (asm.Text number line))
 telling (LongWord line) = numbered 1 (codes "line " ++ decimal line ++ codes ": word too long")
+telling (BadOutput line) = numbered 1 (codes "line " ++ decimal line ++ codes ": error 10: bad output")
 telling Usage = fixed 2 (codes "usage: ael asm, sim, run, concord or bench")
 telling Ended = silent 3
 telling (HeapFull asked room) = numbered 3 (codes "heap full asked " ++ decimal asked ++ codes " room " ++ decimal room)
@@ -41,6 +44,7 @@ telling ReadFault = fixed 5 (codes "ael: read fault")
 telling WriteFault = fixed 6 (codes "ael: write fault")
 telling NoMemory = fixed 7 (codes "ael: out of memory")
 telling TooLong = fixed 8 (codes "ael: input too long")
+telling No = silent 9
 
 abbrev pub status_code : Status → ℕ
 status_code status = (telling status).code
@@ -64,3 +68,7 @@ abbrev pub concord_status : ConcordError → Status
 concord_status (concord.WordTooLong line) = LongWord line
 concord_status (concord.HeapFull asked room) = HeapFull asked room
 concord_status concord.NoMemory = NoMemory
+
+abbrev pub audit_status : AuditError → Status
+audit_status audits.NoMemory = NoMemory
+audit_status (audits.Bad line) = BadOutput line

@@ -1,20 +1,24 @@
 -- The run of a program in whatever manner, and what is printed of it.
 use Rattle.std.specs.Prelude.{◌≡◌, ℕ, Bool, true, false, List, [], ◌++◌, if◌then◌else◌}
+use Rattle.std.specs.List.{AllByRecursion}
 use Rattle.mutator_asm.specs.declared.instr.Instr.{Instr}
 use Rattle.mutator_asm.specs.declared.item.Item.{Item}
 use Rattle.plain_heap.specs.Order.{first_story, plain, story}
-use Rattle.plain_heap.specs.Print.{print_of, order_line, plain_seen}
+use Rattle.plain_heap.specs.Print.{Seen, print_of, order_line, plain_seen}
 use Rattle.gc_worker.specs.Plain.Marks.{EachActs}
 use Rattle.gc_core.specs.Checkpoints.{TellsLastCheckpoint}
 use Rattle.gc_core.specs.Cycles.{KeepsWhatIsLive}
 use Rattle.gc_core.specs.Dumped.{dumped}
 use Rattle.gc_core.specs.Run.{Ran}
 use Rattle.dump_text.specs.Text.{IsDump}
+use Rattle.heap_audit.specs.Ends.{EndFits}
+use Rattle.heap_audit.specs.Order.{MarkFits}
 use Rattle.ael_commands.specs.declared.arguments.options.RunOptions.{RunOptions}
 use Rattle.ael_commands.specs.declared.arguments.options.SimOptions.{SimOptions}
 use Rattle.ael_commands.specs.declared.status.Status.{Status}
 use Rattle.ael_commands.specs.Tasks.ProgramTask.{program_task}
 use Rattle.ael_commands.specs.Runs.Checkpoint.{TellsLastIf}
+use Rattle.ael_commands.specs.Runs.Orders.{shown_order}
 use Rattle.ael_commands.specs.Runs.Verdict.{status_seen}
 use Rattle.ael_commands.specs.Runs.Simulation.{IsSimulated}
 use Rattle.ael_commands.specs.Tasks.Task.{Task}
@@ -59,16 +63,25 @@ abbrev pub IsCheckpointOf : Manner → List (List Instr) → Ran → (bytes : Li
 IsCheckpointOf manner program ran bytes = TellsLastIf (options_by manner).snap program (options_by manner).turns ran.order bytes
 
 -- the lines of the flags, with those of the last checkpoint
-abbrev pub flag_lines : Manner → Ran → (checkpoint : List ℕ) → List ℕ
-flag_lines manner ran checkpoint = (if tells_order manner then order_line ran.order else []) ++ heap_lines (options_by manner) (told_of ran.last) checkpoint
+abbrev pub flag_lines : Manner → List (List Instr) → Ran → (checkpoint : List ℕ) → List ℕ
+flag_lines manner program ran checkpoint = (if tells_order manner then order_line (shown_order program ran.order) else []) ++ heap_lines (options_by manner) (told_of ran.last) checkpoint
 
 -- all that is printed: the lines of the plain machine that executes the order, and then those of the flags
 abbrev pub output_of : Manner → List (List Instr) → Ran → (checkpoint : List ℕ) → List ℕ
-output_of manner program ran checkpoint = print_of (plain program (options_by manner).turns ran.order) ++ flag_lines manner ran checkpoint
+output_of manner program ran checkpoint = print_of (plain program (options_by manner).turns ran.order) ++ flag_lines manner program ran checkpoint
 
 -- if a dump is asked for, what it tells is a dump of a heap
 abbrev pub IsDumpOf : Manner → Ran → Type 0
 IsDumpOf manner ran = (options_by manner).dump ≡ true → IsDump (dumped ran.last)
+
+-- the numbers of a mutator's end are those that its parts hold
+abbrev pub HasFitEnd : Seen → Type 0
+HasFitEnd k = EndFits k.end
+
+-- so are those of the ends that are printed, and of the marks, if the order is
+pub record HasFitNumbers (manner : Manner) (program : List (List Instr)) (ran : Ran) : Type 0 where
+  pub ends : AllByRecursion HasFitEnd (plain_seen (plain program (options_by manner).turns ran.order))
+  pub marks : tells_order manner ≡ true → AllByRecursion MarkFits (shown_order program ran.order)
 
 -- how it goes, by the ends of the plain machine
 abbrev pub status_of : Manner → List (List Instr) → Ran → Status
@@ -81,6 +94,7 @@ pub record IsRun (manner : Manner) (program : List (List Instr)) (items : List I
   pub checkpoint : List ℕ
   pub saved : IsCheckpointOf manner program ran checkpoint
   pub is_dump : IsDumpOf manner ran
+  pub fits : HasFitNumbers manner program ran
   pub prints : output ≡ output_of manner program ran checkpoint
   pub went : status ≡ status_of manner program ran
 

@@ -3,12 +3,12 @@
 ghost use Rattle.std.specs.Prelude.{◌≡◌, [], ◌∷◌, IfOk, false};
 ghost use Rattle.clap.specs.Words.{App, app_of, with_subcommand};
 ghost use Rattle.clap.specs.declared.builder.Command.TheViews.{out-Command};
-ghost use Rattle.ael_commands.specs.Arguments.CommandLine.{ael_app, ael_with, asm_app, bench_app, concord_app, run_app, sim_app};
+ghost use Rattle.ael_commands.specs.Arguments.CommandLine.{ael_app, ael_with, asm_app, audit_app, bench_app, concord_app, run_app, sim_app};
 
 use crate::arguments::operands::{BENCH_NUMBERS, BENCH_WIDE};
 use crate::arguments::options::{
-    CONCORD_FLAGS, CONCORD_NUMBERS, CONCORD_WIDE, RUN_FLAGS, RUN_NUMBERS, RUN_WIDE, SIM_FLAGS,
-    SIM_NUMBERS, SIM_WIDE,
+    AUDIT_FLAGS, AUDIT_NUMBERS, AUDIT_WIDE, CONCORD_FLAGS, CONCORD_NUMBERS, CONCORD_WIDE,
+    RUN_FLAGS, RUN_NUMBERS, RUN_WIDE, SIM_FLAGS, SIM_NUMBERS, SIM_WIDE,
 };
 use clap::Command;
 use simple_commands::{add_operands, add_options};
@@ -45,6 +45,15 @@ fn concord<'a>(alloc: Global) -> Result<Command<'a>, AllocError>
         &CONCORD_WIDE,
         &CONCORD_FLAGS,
     )
+}
+
+/// `audit`, with its option.
+fn audit<'a>(alloc: Global) -> Result<Command<'a>, AllocError>
+    ensures app { IfOk result (λ r. app_of r ≡ audit_app) }
+    ensures local { IfOk result (λ r. (out-Command r).has_globals ≡ false) }
+{
+    let audit = Command::new(alloc, "audit");
+    add_options(alloc, audit, &AUDIT_NUMBERS, &AUDIT_WIDE, &AUDIT_FLAGS)
 }
 
 /// `bench`, with its operands.
@@ -93,5 +102,6 @@ pub fn command<'a>(alloc: Global) -> Result<Command<'a>, AllocError>
     let two = add(with_asm(alloc), sim(alloc));
     let three = add(two, run(alloc));
     let four = add(three, concord(alloc));
-    add(four, bench(alloc))
+    let five = add(four, bench(alloc));
+    add(five, audit(alloc))
 }

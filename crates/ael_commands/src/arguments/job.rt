@@ -1,7 +1,7 @@
 //! What the words of the command line ask for.
 
 use crate::arguments::operands::BenchOperands;
-use crate::arguments::options::{ConcordOptions, RunOptions, SimOptions};
+use crate::arguments::options::{AuditOptions, ConcordOptions, RunOptions, SimOptions};
 
 /// What a call of the program is to do.
 #[derive(Clone, Copy, Debug, PartialEq, Eq)]
@@ -16,6 +16,8 @@ pub enum Job {
     Run(RunOptions),
     /// To print the concordance of a text.
     Concord(ConcordOptions),
+    /// To hold the output of a run against its program.
+    Audit(AuditOptions),
 }
 
 impl Job {
@@ -27,7 +29,7 @@ impl Job {
         ensures { result ≡ (job_task self).waits }
     {
         match self {
-            Job::Asm | Job::Bench(_) | Job::Sim(_) => false,
+            Job::Asm | Job::Bench(_) | Job::Sim(_) | Job::Audit(_) => false,
             Job::Run(_) | Job::Concord(_) => true,
         }
     }

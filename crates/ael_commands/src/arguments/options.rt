@@ -108,6 +108,15 @@ pub const SIM_WIDE: [&str; 1] = [SEED];
 /// The flags of `sim`.
 pub const SIM_FLAGS: [&str; 4] = [ORDER, CYCLES, SNAP, DUMP];
 
+/// The options of `audit` with a number of 32 bits.
+pub const AUDIT_NUMBERS: [(&str, Numbers); 1] = [TURNS];
+
+/// The options of `audit` with a number of 64 bits: there are none.
+pub const AUDIT_WIDE: [&str; 0] = [];
+
+/// The flags of `audit`: there are none.
+pub const AUDIT_FLAGS: [&str; 0] = [];
+
 /// How a program is run, whoever makes its steps, and what is told of its heap: the values of the
 /// table's rows.
 #[derive(Clone, Copy, Debug, PartialEq, Eq)]
@@ -238,6 +247,31 @@ impl ConcordOptions {
             scanners: 1,
             turns: MOST_TURNS,
             snap: false,
+        }
+    }
+}
+
+/// How many instructions a mutator might execute in the run whose output is audited.
+#[derive(Clone, Copy, Debug, PartialEq, Eq)]
+pub struct AuditOptions {
+    pub turns: u32,
+}
+
+impl AuditOptions {
+    ghost use Rattle.std.specs.Prelude.{◌≡◌};
+    ghost use Rattle.clap.specs.Matches.{found_of};
+    ghost use Rattle.clap.specs.Walk.{rows_of};
+    ghost use Rattle.simple_commands.specs.Options.{HoldOptions};
+    ghost use Rattle.ael_commands.specs.Arguments.Options.{AreAuditOptions, audit_numbers, audit_options_of, audit_wide};
+
+    /// The option that was given, or its default.
+    pub fn given(matches: &ArgMatches) -> AuditOptions
+        requires { HoldOptions audit_numbers audit_wide (rows_of (found_of matches.now)) }
+        ensures value { result ≡ audit_options_of (rows_of (found_of matches.now)) }
+        ensures range { AreAuditOptions result }
+    {
+        AuditOptions {
+            turns: number_of(matches, TURNS),
         }
     }
 }

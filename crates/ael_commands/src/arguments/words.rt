@@ -14,7 +14,7 @@ ghost use Rattle.ael_commands.specs.Calls.Answer.{IsAsked};
 use crate::arguments::command_line::command;
 use crate::arguments::job::Job;
 use crate::arguments::operands::BenchOperands;
-use crate::arguments::options::{ConcordOptions, RunOptions, SimOptions};
+use crate::arguments::options::{AuditOptions, ConcordOptions, RunOptions, SimOptions};
 use clap::ArgMatches;
 use simple_commands::{WordsError, parse};
 use std::alloc::Global;
@@ -31,6 +31,7 @@ fn job_named(name: &str, given: &ArgMatches) -> Option<Job>
         "run" => Some(Job::Run(RunOptions::given(given)?)),
         "concord" => Some(Job::Concord(ConcordOptions::given(given))),
         "bench" => Some(Job::Bench(BenchOperands::given(given))),
+        "audit" => Some(Job::Audit(AuditOptions::given(given))),
         _ => None,
     }
 }

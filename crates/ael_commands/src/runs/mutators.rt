@@ -1,20 +1,36 @@
 //! What is printed of the mutators of a run, and how it went by their ends.
 
 ghost use Rattle.std.specs.Prelude.{◌≡◌, ◌++◌, OnOk, string_bytes};
-ghost use Rattle.std.specs.List.{list_all};
-ghost use Rattle.plain_heap.specs.Print.{lines_seen};
+ghost use Rattle.std.specs.List.{AllByRecursion, list_all};
+ghost use Rattle.plain_heap.specs.Print.{lines_seen, printed_lines};
+ghost use Rattle.heap_audit.specs.Ends.{EndFits};
+ghost use Rattle.ael_commands.specs.Runs.Run.{HasFitEnd};
 ghost use Rattle.ael_commands.specs.Runs.Verdict.{is_halt, has_halted, status_seen};
 
 use crate::runs::report::Report;
 use crate::status::Status;
 use plain_heap::{End, NoMemory, push_lines};
 
+/// Adds the lines of a mutator.
+fn push_mutator(
+    output: &mut String,
+    m: u8,
+    printed: &[u64],
+    end: Option<End>,
+) -> Result<(), NoMemory>
+    ensures lines { OnOk result (string_bytes output.new ≡ string_bytes output.old ++ printed_lines m printed.now end) }
+    ensures end { EndFits end }
+{
+    push_lines(output, m as usize, printed, end)
+}
+
 /// Adds the lines of all mutators.
 pub fn push_mutators<H: Report>(output: &mut String, heap: &H) -> Result<(), NoMemory>
-    ensures { OnOk result (string_bytes output.new ≡ string_bytes output.old ++ lines_seen 0 (H.told heap.now).seen) }
+    ensures lines { OnOk result (string_bytes output.new ≡ string_bytes output.old ++ lines_seen 0 (H.told heap.now).seen) }
+    ensures ends { OnOk result (AllByRecursion HasFitEnd (H.told heap.now).seen) }
 {
     for m in 0..heap.mutators() {
-        push_lines(output, m as usize, heap.printed(m), heap.end(m))?;
+        push_mutator(output, m, heap.printed(m), heap.end(m))?;
     }
     Ok(())
 }

@@ -1,6 +1,6 @@
 //! What is kept of the order of a run.
 
-ghost use Rattle.std.specs.Prelude.{◌≡◌, ◌++◌, List, OnOk};
+ghost use Rattle.std.specs.Prelude.{◌++◌, List, OnOk};
 ghost use Rattle.std.specs.Option.{option_to_list};
 ghost use Rattle.plain_heap.specs.declared.mark.Mark.{Mark};
 ghost use Rattle.gc_worker.specs.Plain.Marks.{mark_of};
@@ -20,7 +20,9 @@ pub trait Notes {
 }
 
 impl Notes for Vec<Mark> {
-    ghost HasNoted = { λ marks order. marks.items ≡ order };
+    ghost use Rattle.ael_commands.specs.Runs.Orders.{AreNoted};
+
+    ghost HasNoted = { λ marks order. AreNoted marks.items order };
 
     /// Adds the step's mark, if it has one.
     #[inline(always)]

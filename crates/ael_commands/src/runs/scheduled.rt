@@ -7,6 +7,7 @@ ghost use Rattle.mutator_asm.specs.Program.{is_item};
 ghost use Rattle.gc_core.specs.Core.{workers_of};
 ghost use Rattle.gc_core.specs.Event.{event_of, core_after};
 ghost use Rattle.gc_core.specs.Run.{all_ended, run_from};
+ghost use Rattle.ael_commands.specs.Runs.Orders.{AreNoted};
 ghost use Rattle.ael_commands.specs.Runs.Schedule.{scheduled_by};
 
 use crate::arguments::options::SimOptions;
@@ -85,7 +86,7 @@ fn run_with<S: Scheduler>(
     options: SimOptions,
 ) -> Result<Vec<Mark>, AllocError>
     ensures core { OnOk result (core.new ≡ (run_from (S.to_come scheduler) 0 options.steps core.old).last) }
-    ensures order { IfOk result (λ order. options.order ≡ true → order.items ≡ (run_from (S.to_come scheduler) 0 options.steps core.old).order) }
+    ensures order { IfOk result (λ order. options.order ≡ true → AreNoted order.items (run_from (S.to_come scheduler) 0 options.steps core.old).order) }
 {
     let mut order = Vec::new(alloc);
     if options.order {
@@ -108,7 +109,7 @@ pub fn run_by_schedule(
     requires items { IsTrue (list_all is_item items.now) }
     ensures core { OnOk result (core.new ≡ (run_from (scheduled_by options.seed items.now (workers_of core.old)) 0 options.steps core.old).last) }
     ensures order { IfOk result (λ order. options.order ≡ true
-        → order.items ≡ (run_from (scheduled_by options.seed items.now (workers_of core.old)) 0 options.steps core.old).order) }
+        → AreNoted order.items (run_from (scheduled_by options.seed items.now (workers_of core.old)) 0 options.steps core.old).order) }
 {
     let workers = core.workers();
     match options.seed {

@@ -1,12 +1,13 @@
 //! The command `sim`: a program run by a schedule.
 
 ghost use Rattle.std.specs.Prelude.{◌≡◌, ◌<◌, ◌++◌, ℕ, List, [], IfOk, true, if◌then◌else◌};
+ghost use Rattle.std.specs.List.{AllByRecursion};
 ghost use Rattle.plain_heap.specs.Print.{lines_seen, order_line};
 ghost use Rattle.gc_core.specs.Core.{opening_core, workers_of};
 ghost use Rattle.gc_core.specs.Readers.{seen_of};
 ghost use Rattle.ael_commands.specs.Arguments.Options.{AreInRange};
 ghost use Rattle.ael_commands.specs.Runs.Simulation.{config};
-ghost use Rattle.ael_commands.specs.Runs.Run.{IsRun, Scheduled};
+ghost use Rattle.ael_commands.specs.Runs.Run.{HasFitEnd, IsRun, Scheduled};
 ghost use Rattle.ael_commands.specs.Runs.Verdict.{status_seen};
 ghost use Rattle.ael_commands.specs.Runs.Told.{AreLinesIf, TellsWords, heap_lines, told_of};
 
@@ -14,6 +15,7 @@ use crate::answer::Answer;
 use crate::arguments::options::{RunOptions, SimOptions};
 use crate::runs::flags::{push_heap, push_order_if};
 use crate::runs::mutators::{push_mutators, verdict};
+use crate::runs::orders::shown_order;
 use crate::runs::scheduled::run_by_schedule;
 use gc_core::{
     Core, OpenError, checkpoints_are_told, cycles_keep_what_is_live, full_heaps_are_filled,
@@ -39,7 +41,7 @@ fn open<'p>(alloc: Global, program: &'p Program, options: RunOptions) -> Result<
 /// What is printed of a core that was run, and how that went.
 fn told(alloc: Global, core: &Core, order: &[Mark], options: SimOptions) -> Result<Answer, NoMemory>
     ensures { IfOk result (λ answer. (answer.status ≡ status_seen (seen_of core.now)) × (options.run.dump ≡ true → TellsWords (told_of core.now).dump)
-        × (checkpoint : List ℕ) × AreLinesIf options.run.snap core.now.heap.words checkpoint × (answer.output.items
+        × AllByRecursion HasFitEnd (seen_of core.now) × (checkpoint : List ℕ) × AreLinesIf options.run.snap core.now.heap.words checkpoint × (answer.output.items
         ≡ (lines_seen 0 (seen_of core.now) ++ (if options.order then order_line order.now else [])) ++ heap_lines options.run (told_of core.now) checkpoint)) }
 {
     let mut output = String::new(alloc);
@@ -63,5 +65,6 @@ pub fn sim(alloc: Global, program: &Program, options: SimOptions) -> Result<Answ
 
     let mut core = open(alloc, program, options.run)?;
     let order = run_by_schedule(alloc, &mut core, program.schedule.as_slice(), options)?;
-    told(alloc, &core, &order, options)
+    let shown = shown_order(&program.code, order);
+    told(alloc, &core, &shown, options)
 }

@@ -11,15 +11,16 @@ use Rattle.plain_heap.proofs.Alone.Alike.{GoAlike, Same}
 use Rattle.gc_worker.specs.declared.task.Task.{Task}
 use Rattle.gc_worker.specs.declared.task.Task.TheVariants.{Calls, Stops}
 use Rattle.gc_worker.specs.Plain.Answer.{ComesTo, MayCome, MayEnd, after_answer, after_outcome}
+use Rattle.gc_worker.specs.Plain.Stories.{with_emptied}
 use Rattle.gc_worker.specs.declared.calls.did.Did.{Did}
 use Rattle.gc_worker.specs.declared.calls.did.Did.TheVariants.{Done, Trap}
 use Rattle.gc_worker.specs.declared.calls.call.Call.{Call}
 use Rattle.gc_worker.specs.declared.calls.entry.Entry.{Entry}
-use Rattle.gc_worker.specs.declared.calls.entry.Entry.TheVariants.{Made, Exchanged}
+use Rattle.gc_worker.specs.declared.calls.entry.Entry.TheVariants.{Made, Exchanged, Emptied}
 use Rattle.ael_threads.specs.Alone.{LeavesBoard, alone_history, task_leaves_board}
 use Rattle.gc_worker.specs.History.Legal.{IsLegal, after_all, after_call, calls_of}
 use Rattle.ael_threads.specs.Histories.{Each}
-use Rattle.ael_threads.proofs.Alone.Matching.{Matches, answers-alike, is_there, other-calls, other-ends, own-calls, own-ends}
+use Rattle.ael_threads.proofs.Alone.Matching.{Matches, answers-alike, emptied-matches, is_there, other-calls, other-ends, own-calls, own-ends}
 
 -- ---- a call of another
 
@@ -118,5 +119,8 @@ is_by m c (inr other) = inr (ne_eqb c.by m other, other)
 pub goes_alone : (m : ℕ) (es : List Entry) → Rest m es
 goes_alone m [] p u same legal leaves = record { legal = tt; same = same }
 goes_alone m (Exchanged by asked ∷ es) p u same legal leaves = let goes = goes_alone m es p u same legal leaves in record { legal = goes.legal; same = goes.same }
+goes_alone m (Emptied cells ∷ es) p u same legal leaves =
+    let goes = goes_alone m es (with_emptied p cells) u (emptied-matches m p u same cells) legal leaves in
+    record { legal = goes.legal; same = goes.same }
 goes_alone m (Made c ∷ es) p u same legal leaves =
     of_call m p u c es same legal.0 legal.1 (goes_alone m es) (c.by == m) (is_by m c (cases_eq c.by m)) leaves

@@ -18,7 +18,7 @@ use Rattle.gc_worker.specs.declared.calls.call.Call.{Call}
 use Rattle.gc_worker.specs.declared.calls.did.Did.{Did}
 use Rattle.gc_worker.specs.declared.calls.did.Did.TheVariants.{Done, Trap}
 use Rattle.gc_worker.specs.declared.calls.entry.Entry.{Entry}
-use Rattle.gc_worker.specs.declared.calls.entry.Entry.TheVariants.{Made, Exchanged}
+use Rattle.gc_worker.specs.declared.calls.entry.Entry.TheVariants.{Made, Exchanged, Emptied}
 use Rattle.ael_threads.specs.Alone.{EndIsLast, alone_history, before_full, did_by, is_full_did, replied, replies_alone, replies_of, reply_by, tasks_of}
 use Rattle.gc_worker.specs.History.Legal.{IsLegal, after_call, calls_of}
 use Rattle.ael_threads.specs.Histories.{Each}
@@ -36,6 +36,7 @@ kept_by m c cs false is rest = rest
 pub calls_by : (m : ℕ) (log : List Entry) → AllBy m (calls_of m log)
 calls_by m [] = tt
 calls_by m (Exchanged by asked ∷ es) = calls_by m es
+calls_by m (Emptied cells ∷ es) = calls_by m es
 calls_by m (Made c ∷ es) = kept_by m c (calls_of m es) (c.by == m) (is_by m c (cases_eq c.by m)) (calls_by m es)
 
 -- ---- their replies

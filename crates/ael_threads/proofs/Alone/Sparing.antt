@@ -164,3 +164,17 @@ module _ (m j : ℕ) (other : j ≢ m) (heap : Heap) (k : Mutator) (spared : IsS
   unfolding call
   call-spares i = if_ok-then (Names (IsElse m) ⊤ k) (Spares m heap) (action k i) (performed j heap k)
       (named (IsElse m) ⊤ k register_else tt (λ b. tt) (λ operation a b is_a is_b. computed (applied operation a b)) i (spells m i)) performed_spares
+
+-- ---- a cell of another
+
+-- whoever reads nothing
+abbrev nobody : Mutator
+nobody = record { counter = 0; registers = []; printed = []; executed = 0; end = None }
+
+-- it is emptied
+pub emptied-spares : (m : ℕ) (heap : Heap) (i : Identity) (r : Record) → i.mutator ≢ m → record_of heap i ≡ Some r → IsSpared m heap → Spares m heap (record { heap = stored heap i r 0 (Number 0); mutator = nobody })
+emptied-spares m heap i r other found spared =
+    let none = All-nil (IsElse m) in
+    let values = All-set (IsElse m) r.values 0 (Number 0) tt (found_else m i.mutator other heap nobody spared none i r other found) in
+    writes m i.mutator other heap nobody spared none i.mutator (slice_set (made_by heap i.mutator) (i.serial - 1) (with_value r 0 (Number 0))) nobody other
+    (All-set (AllElse m) (made_by heap i.mutator) (i.serial - 1) (with_value r 0 (Number 0)) values (spared.records i.mutator other)) none

@@ -126,7 +126,7 @@ module _ (w : Work) (m count : ℕ) (a : Seated) (h : Executing w m count a) whe
       (λ i. (h.plan i, (number_is i, found_is a b task (Trap (HeapFull asked room live)) c i))) c.flipped.since in record {
         before = k.found.log;
         task = task;
-        is = k.sees ∙ ((λ i. seen_after c.last.knows.seen k.stands.log (c.answers i)) ∙ (k.grows ∙ (λ i. k.found.log ++ extra (n i) (c.answers i))));
+        is = k.sees ∙ ((λ i. seen_after c.last.knows.seen k.stands.log (c.answers i)) ∙ (k.grows ∙ (λ i. k.found.log ++ extra (last_flip (first_plain c.last.knows.plan) k.found.log) (n i) (c.answers i))));
         words = k.before;
         workers = k.found.workers;
         held = c.last.worker;

@@ -59,6 +59,7 @@ use Rattle.ael_threads.specs.Histories.{opening_tally}
 use Rattle.gc_worker.proofs.History.Lone.{lone_is_never_full}
 use Rattle.gc_worker.proofs.History.Needs.{large_is_never_full, orders_fill}
 use Rattle.gc_worker.proofs.History.Orders.{IsProgramOrder, fetched_each, orders_program}
+use Rattle.gc_worker.proofs.History.Tallies.{empties_lost}
 use Rattle.ael_threads.proofs.Lists.Reads.{get_of}
 use Rattle.ael_threads.proofs.ProgramRuns.Programs.{executed_all, shown_all}
 
@@ -256,7 +257,7 @@ module _ (code : List (List Instr)) (config : Config) (t : TableId) (ms : List S
         )
 
     order : IsProgramOrder code config.turns (length code) c.log
-    order = orders_program code config.turns (length code) c.log refl c.legal (λ m below. (executes m below).1.fetched) (λ m below. (executes m below).1.short)
+    order = orders_program code config.turns (length code) c.log refl c.legal (empties_lost c.sizes (tasks_held c.workers) (opening_tally plan_here) c.log c.entries) (λ m below. (executes m below).1.fetched) (λ m below. (executes m below).1.short)
 
     -- ---- ends
 

@@ -6,7 +6,7 @@ use Rattle.heap_state.specs.Configuration.{era, team}
 use Rattle.heap_state.specs.Worker.{Worker}
 use Rattle.gc_worker.specs.declared.stage.back.Back.TheVariants.{ToAccess, ToPlace, ToScanner, ToSnap}
 use Rattle.gc_worker.specs.declared.calls.entry.Entry.{Entry}
-use Rattle.gc_worker.specs.declared.calls.entry.Entry.TheVariants.{Exchanged, Made}
+use Rattle.gc_worker.specs.declared.calls.entry.Entry.TheVariants.{Exchanged, Made, Emptied}
 use Rattle.gc_worker.specs.declared.stage.Stage.{Stage}
 use Rattle.gc_worker.specs.declared.stage.Stage.TheVariants.{Accesses, BeginsCheckpoint, Checkpoints, Evacuates, Flips, Forwards, Gone, Guards, Looks, Opens, Passes, Places, Recalls, Scans, Serves}
 use Rattle.gc_worker.specs.declared.task.Task.{Task}
@@ -93,6 +93,7 @@ more_flips : (t : Tally) (more : List Entry) → t.flips ≤ (tally t more).flip
 more_flips t [] = omega arith
 more_flips t (Made c ∷ es) = more_flips (after_entry t (Made c)) es
 more_flips t (Exchanged by asked ∷ es) = let more = more_flips (after_entry t (Exchanged by asked)) es in omega (arith, more)
+more_flips t (Emptied cells ∷ es) = more_flips (after_entry t (Emptied cells)) es
 
 pub flips_rise : (plan : Plan) (early late : List Entry) → IsPrefix early late → flips_of plan early ≤ flips_of plan late
 flips_rise plan early late h =
@@ -106,6 +107,9 @@ is_more : (t : Tally) (more : List Entry) → t.flips < (tally t more).flips →
 is_more t [] h = absurd (omega (arith, h))
 is_more t (Made c ∷ es) h = let f = is_more (after_entry t (Made c)) es h in record { between = Made c ∷ f.between; by = f.by; asked = f.asked; rest = f.rest; is = ap (λ (z : List Entry). Made c ∷ z) f.is }
 is_more t (Exchanged by asked ∷ es) h = record { between = []; by = by; asked = asked; rest = es; is = refl }
+is_more t (Emptied cells ∷ es) h =
+    let f = is_more (after_entry t (Emptied cells)) es h in
+    record { between = Emptied cells ∷ f.between; by = f.by; asked = f.asked; rest = f.rest; is = ap (λ (z : List Entry). Emptied cells ∷ z) f.is }
 
 has_flipped : (plan : Plan) (early late : List Entry) → IsPrefix early late → flips_of plan early < flips_of plan late → HasFlipped early late
 has_flipped plan early late h fewer =

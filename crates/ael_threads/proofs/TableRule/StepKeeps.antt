@@ -10,9 +10,11 @@ use Rattle.atom_store.specs.declared.step.Step.{Step}
 use Rattle.atom_store.specs.Step.{words_after, reply_of}
 use Rattle.plain_state.specs.declared.end.End.{End}
 use Rattle.plain_state.specs.State.{Mutator, Plain}
+use Rattle.plain_heap.specs.Emptied.{cells_to_empty}
 use Rattle.gc_worker.specs.declared.stage.Stage.TheVariants.{Gone}
 use Rattle.gc_worker.specs.declared.task.Task.{Task}
-use Rattle.gc_worker.specs.Plain.Answer.{ComesTo, IsAnswered, after_told}
+use Rattle.gc_worker.specs.Plain.Answer.{ComesTo, IsAnswered}
+use Rattle.gc_worker.specs.Plain.Stories.{story_told}
 use Rattle.gc_worker.specs.Laws.Between.{Begins, AreAlike, KeepsToTask, IsAsPlain, IsSo, RegistersLand, Readies, ShowsRegisters, with_task}
 use Rattle.gc_worker.specs.Laws.Cycles.{IsInCall}
 use Rattle.gc_worker.specs.Workers.Counted.{CountsApart, counted, count_after}
@@ -31,10 +33,11 @@ use Rattle.gc_worker.proofs.Between.Readying.{readying_stands}
 use Rattle.gc_worker.proofs.Between.Standing.{what_stands_is_so}
 use Rattle.gc_worker.proofs.Workers.ApartFromCount.{counted_fit, counts_are_apart}
 use Rattle.gc_worker.proofs.StepKeeps.{steps_keep}
+use Rattle.gc_worker.proofs.StoriesKeep.{stories_keep}
 use Rattle.gc_worker.specs.declared.calls.call.Call.{Call}
 use Rattle.ael_threads.specs.declared.view.WonClaim.{WonClaim}
 use Rattle.gc_worker.specs.declared.calls.entry.Entry.{Entry}
-use Rattle.gc_worker.specs.declared.calls.entry.Entry.TheVariants.{Made, Exchanged}
+use Rattle.gc_worker.specs.declared.calls.entry.Entry.TheVariants.{Made, Exchanged, Emptied}
 use Rattle.ael_threads.specs.declared.view.Hand.{Hand}
 use Rattle.ael_threads.specs.declared.view.Plan.{Plan}
 use Rattle.ael_threads.specs.declared.view.View.{View}
@@ -66,38 +69,38 @@ Came plan id v m x r s later = (w : View) × RuleHolds plan (record { words = la
 
 -- ---- what is seen after it
 
-seen_fits : (seen log : List Entry) (m : ℕ) (t : Told) → IsPrefix seen log → IsPrefix (seen_after seen (log ++ extra m t) t) (log ++ extra m t)
-seen_fits seen log m Silent h = prefix_more seen log [] h
-seen_fits seen log m Empties h = prefix_more seen log [] h
-seen_fits seen log m (Answers task outcome) h = prefix_self (log ++ Made (worker_call m task outcome) ∷ [])
-seen_fits seen log m (Marks asked) h = prefix_more seen log (Exchanged m asked ∷ []) h
+seen_fits : (o : Plain) (seen log : List Entry) (m : ℕ) (t : Told) → IsPrefix seen log → IsPrefix (seen_after seen (log ++ extra o m t) t) (log ++ extra o m t)
+seen_fits o seen log m Silent h = prefix_more seen log [] h
+seen_fits o seen log m Empties h = prefix_more seen log (Emptied (cells_to_empty o) ∷ []) h
+seen_fits o seen log m (Answers task outcome) h = prefix_self (log ++ Made (worker_call m task outcome) ∷ [])
+seen_fits o seen log m (Marks asked) h = prefix_more seen log (Exchanged m asked ∷ []) h
 
-sees : (v w : View) (log : List Entry) (m : ℕ) (t : Told) → IsPrefix v.seen log → w.seen ≡ seen_after v.seen (log ++ extra m t) t
-    → IsLegal (first_plain v.plan) (log ++ extra m t) → HasOwnCalls (log ++ extra m t) w.hands → Sees v m t w
-sees v w log m Silent pre is legal own = is
-sees v w log m Empties pre is legal own = is
-sees v w log m (Answers task outcome) pre is legal own = record {
+sees : (o : Plain) (v w : View) (log : List Entry) (m : ℕ) (t : Told) → IsPrefix v.seen log → w.seen ≡ seen_after v.seen (log ++ extra o m t) t
+    → IsLegal (first_plain v.plan) (log ++ extra o m t) → HasOwnCalls (log ++ extra o m t) w.hands → Sees v m t w
+sees o v w log m Silent pre is legal own = is
+sees o v w log m Empties pre is legal own = is
+sees o v w log m (Answers task outcome) pre is legal own = record {
   between = pre.0;
   is = is ∙ ap (λ (z : List Entry). z ++ Made (worker_call m task outcome) ∷ []) (sym pre.1);
   own = subst (λ (z : List Entry). HasOwnCalls z w.hands) (sym is) own;
   legal = subst (IsLegal (first_plain v.plan)) (sym is) legal;
 }
-sees v w log m (Marks asked) pre is legal own = is
+sees o v w log m (Marks asked) pre is legal own = is
 
 -- where the seat's worker had all its calls in what was seen, it has them in what is seen now
-mine_after : (seen log : List Entry) (m : ℕ) (own : List Call) (t : Told) → calls_of m seen ≡ own → calls_of m (log ++ extra m t) ≡ own_after m own t → calls_of m (seen_after seen (log ++ extra m t) t) ≡ own_after m own t
-mine_after seen log m own Silent was is = was
-mine_after seen log m own Empties was is = was
-mine_after seen log m own (Answers task outcome) was is = is
-mine_after seen log m own (Marks asked) was is = was
+mine_after : (o : Plain) (seen log : List Entry) (m : ℕ) (own : List Call) (t : Told) → calls_of m seen ≡ own → calls_of m (log ++ extra o m t) ≡ own_after m own t → calls_of m (seen_after seen (log ++ extra o m t) t) ≡ own_after m own t
+mine_after o seen log m own Silent was is = was
+mine_after o seen log m own Empties was is = was
+mine_after o seen log m own (Answers task outcome) was is = is
+mine_after o seen log m own (Marks asked) was is = was
 
 -- an answer is no flip
-live_seen : (p : Plain) (seen log : List Entry) (m : ℕ) (t : Told) → LiveWhereTold (last_flip p log) t → LiveWhereTold (last_flip p (seen_after seen (log ++ extra m t) t)) t
-live_seen p seen log m Silent h = tt
-live_seen p seen log m Empties h = tt
-live_seen p seen log m (Answers task Done) h = tt
-live_seen p seen log m (Answers task (Trap end)) h = subst (λ (o : Plain). LiveByEnd o end) (sym (flip_more p p log m (Answers task (Trap end)))) h
-live_seen p seen log m (Marks asked) h = tt
+live_seen : (p o : Plain) (seen log : List Entry) (m : ℕ) (t : Told) → LiveWhereTold (last_flip p log) t → LiveWhereTold (last_flip p (seen_after seen (log ++ extra o m t) t)) t
+live_seen p o seen log m Silent h = tt
+live_seen p o seen log m Empties h = tt
+live_seen p o seen log m (Answers task Done) h = tt
+live_seen p o seen log m (Answers task (Trap end)) h = subst (λ (flip : Plain). LiveByEnd flip end) (sym (flip_more p p o log m (Answers task (Trap end)))) h
+live_seen p o seen log m (Marks asked) h = tt
 
 -- whatever it has counted, it was given a task or not
 begins_counted : (count : ℕ) (was now : Held) → Begins was now → Begins (counted count was) (counted count now)
@@ -137,7 +140,7 @@ module _ (plan : Plan) (id : ℕ) (was : Hand) (x : Held) (others : List Hand) (
   o = last_flip (first_plain plan) b.log
 
   abbrev log' : List Entry
-  log' = b.log ++ extra m t
+  log' = b.log ++ extra o m t
 
   abbrev p' : Plain
   p' = after_all (first_plain plan) log'
@@ -216,10 +219,11 @@ module _ (plan : Plan) (id : ℕ) (was : Hand) (x : Held) (others : List Hand) (
 
   stands' : WorkersStand heap' p' (last_flip (first_plain plan) log')
   stands' = subst (λ (w : Plain × Plain). WorkersStand heap' w.0 w.1)
-      (λ i. ((ap (after_told p m) tells ∙ sym (after_more (first_plain plan) b.log m t)) i, (ap (at_flip p o) tells ∙ sym (flip_more (first_plain plan) (first_plain plan) b.log m t)) i)) law.stands
+      (λ i. ((ap (story_told p o m) tells ∙ sym (after_more (first_plain plan) o b.log m t)) i, (ap (at_flip p o) tells ∙ sym (flip_more (first_plain plan) (first_plain plan) o b.log m t)) i))
+      (stories_keep (heap_of plan s.words workers1) p o m y q readied inside1 (get_or-set_same b.workers m y nobody inside) (apart.wants ∙ want))
 
   tallied' : IsTallied plan.least heap' (opening_tally plan) log'
-  tallied' = subst (λ (u : Told). IsTallied plan.least heap' (opening_tally plan) (b.log ++ extra m u)) tells
+  tallied' = subst (λ (u : Plain × Told). IsTallied plan.least heap' (opening_tally plan) (b.log ++ extra u.0 m u.1)) (λ i. (tally_flip (opening_tally plan) b.log i, tells i))
       (step_tallied (heap_of plan s.words workers1) m y q inside1 (get_or-set_same b.workers m y nobody inside) (apart.wants ∙ want) plan.least (opening_tally plan) b.log readied_tallied
       (subst (λ (w : Plain × Plain). WorkersStand (heap_of plan s.words workers1) w.0 w.1) (λ i. (sym (tally_now (opening_tally plan) b.log) i, sym (tally_flip (opening_tally plan) b.log) i)) readied))
 
@@ -278,7 +282,7 @@ module _ (plan : Plan) (id : ℕ) (was : Hand) (x : Held) (others : List Hand) (
   stays_ended : (w : Mutator) (end : End) → slice_get p.mutators m ≡ Some w → w.end ≡ Some end → ShowsRegisters z.registers w
   stays_ended w end its e = let s = showed_at w its in subst (λ (registers : List ℕ). ShowsRegisters registers w) (sym (goes.ended end (s.end ∙ e)).1) s.registers
 
-  shows_ended : (w : Mutator) (end : End) (u : Told) → t ≡ u → slice_get (after_told p m u).mutators m ≡ Some w → slice_get p'.mutators m ≡ Some w → w.end ≡ Some end → ShowsRegisters z.registers w
+  shows_ended : (w : Mutator) (end : End) (u : Told) → t ≡ u → slice_get (story_told p o m u).mutators m ≡ Some w → slice_get p'.mutators m ≡ Some w → w.end ≡ Some end → ShowsRegisters z.registers w
   shows_ended w end Silent is was_its its e = stays_ended w end was_its e
   shows_ended w end Empties is was_its its e = stays_ended w end was_its e
   shows_ended w end (Marks asked) is was_its its e = stays_ended w end was_its e
@@ -294,7 +298,7 @@ module _ (plan : Plan) (id : ℕ) (was : Hand) (x : Held) (others : List Hand) (
     where
       by_end : (end : Option End) → w.end ≡ end → ShowsRegisters z.registers w
       by_end None e = (as_plain w its).shows e
-      by_end (Some end) e = shows_ended w end t refl (ap (λ (s : Plain). slice_get s.mutators m) (sym (after_more (first_plain plan) b.log m t)) ∙ its) its e
+      by_end (Some end) e = shows_ended w end t refl (ap (λ (s : Plain). slice_get s.mutators m) (sym (after_more (first_plain plan) o b.log m t)) ∙ its) its e
 
   -- ---- the rule after it
 
@@ -311,7 +315,7 @@ module _ (plan : Plan) (id : ℕ) (was : Hand) (x : Held) (others : List Hand) (
   has' = record {
     owns = has.owns;
     state = record { held = turned y r; is = set_here workers1 m (turned y r) inside1; shown = ap uncounted becomes };
-    calls = calls_more b.log m t was.own has.calls;
+    calls = calls_more o b.log m t was.own has.calls;
   }
 
   keeps : LeavesPagesOut n s.words later (won x r)
@@ -322,10 +326,10 @@ module _ (plan : Plan) (id : ℕ) (was : Hand) (x : Held) (others : List Hand) (
 
   fit : FitsView plan later workers2 log' b.owner (won_after b.winner id (won x r)) id v'
   fit = my_fit plan s.words later b.workers workers2 b.log t b.owner b.winner id m (won x r) keeps same plan was d others seen seen' heard claims fits_view refl refl has'
-      (seen_fits seen b.log m t fits_view.seen)
+      (seen_fits o seen b.log m t fits_view.seen)
 
   legal' : IsLegal (first_plain plan) log'
-  legal' = legal_more (first_plain plan) b.log m t b.legal answered
+  legal' = legal_more (first_plain plan) o b.log m t b.legal answered
 
   count1 : length workers1 ≡ crew plan
   count1 = length-set b.workers m y ∙ b.count
@@ -358,23 +362,23 @@ module _ (plan : Plan) (id : ℕ) (was : Hand) (x : Held) (others : List Hand) (
   begun' : (j : ℕ) (w : Held) → get_elem? workers2 j ≡ some w → IsInCall w.stage → HasLooked plan j w log'
   begun' j w is call = ⊎_elim
       (λ (here : (j ≡ m) × (turned y r ≡ w)). subst (λ (v : ℕ × Held). HasLooked plan v.0 v.1 log') (λ i. (sym here.0 i, here.1 i))
-      (subst (λ (u : Told). HasLooked plan m (turned y r) (b.log ++ extra m u)) tells
+      (subst (λ (u : Told). HasLooked plan m (turned y r) (b.log ++ extra o m u)) tells
       (looked plan m y q s.words workers1 b.log at_y (apart.wants ∙ want) b.legal readied readied_tallied stage_kept law.fits law.full (subst (λ (v : Held). IsInCall v.stage) (sym here.1) call))))
       (λ (there : (j ≢ m) × (get_elem? workers1 j ≡ some w)).
       let l = b.begun j w (sym (set_else b.workers m j y there.0) ∙ there.1) call in
-      record { task = l.task; task_is = l.task_is; within = begun_later plan j l.task w.begun w.begun (calls_of j b.log) (calls_of j log') b.log log' l.within refl (sym (calls_other j b.log m t there.0)) (extra m t, refl) })
+      record { task = l.task; task_is = l.task_is; within = begun_later plan j l.task w.begun w.begun (calls_of j b.log) (calls_of j log') b.log log' l.within refl (sym (calls_other o j b.log m t there.0)) (extra o m t, refl) })
       (at_set workers1 m j (turned y r) w is)
 
   -- who found the heap full
   mine_flipped : FlippedIfFull plan m (begun_held workers2 m) log'
-  mine_flipped = subst (λ (v : ℕ × Told). FlippedIfFull plan m v.0 (b.log ++ extra m v.1)) (λ i. (ap (λ (w : Held). w.begun) (sym (get_or-set_same workers1 m (turned y r) nobody inside1)) i, tells i))
+  mine_flipped = subst (λ (v : ℕ × Told). FlippedIfFull plan m v.0 (b.log ++ extra o m v.1)) (λ i. (ap (λ (w : Held). w.begun) (sym (get_or-set_same workers1 m (turned y r) nobody inside1)) i, tells i))
       (flipped_more plan m y q s.words workers1 b.log at_y (apart.wants ∙ want) b.legal readied readied_tallied stage_kept law.fits law.full (subst (λ (begun : ℕ). FlippedIfFull plan m begun b.log) (sym begun_is) (b.flipped m)))
 
   flipped' : (j : ℕ) → FlippedIfFull plan j (begun_held workers2 j) log'
   flipped' j = ⊎_elim (λ (here : j ≡ m). subst (λ (i : ℕ). FlippedIfFull plan i (begun_held workers2 i) log') (sym here) mine_flipped)
       (λ (there : j ≢ m).
       let held : begun_held b.workers j ≡ begun_held workers2 j = ap (λ (w : Held). w.begun) (sym (get_or-set_other workers1 m j (turned y r) nobody there ∙ get_or-set_other b.workers m j y nobody there)) in
-      flipped_aside plan j (begun_held workers2 j) m b.log t there (subst (λ (begun : ℕ). FlippedIfFull plan j begun b.log) held (b.flipped j)))
+      flipped_aside plan o j (begun_held workers2 j) m b.log t there (subst (λ (begun : ℕ). FlippedIfFull plan j begun b.log) held (b.flipped j)))
       (cases_eq j m)
 
   kept' : RuleHolds plan (record { words = later; homes = s.homes; views = slice_set s.views id v' })
@@ -396,7 +400,7 @@ module _ (plan : Plan) (id : ℕ) (was : Hand) (x : Held) (others : List Hand) (
   -- ---- what it tells
 
   mine' : calls_of m seen' ≡ own_after m was.own t
-  mine' = mine_after seen b.log m was.own t is_mine has'.calls
+  mine' = mine_after o seen b.log m was.own t is_mine has'.calls
 
   agrees : Agrees m (plain_after_seen v') p'
   agrees = seen_keeps (first_plain plan) seen' log' m (own_after m was.own t) fit.seen mine' has'.calls
@@ -445,7 +449,7 @@ module _ (plan : Plan) (id : ℕ) (was : Hand) (x : Held) (others : List Hand) (
       hands = refl;
       plan = refl;
       claims = refl;
-      seen = sees v v' b.log m t fits_view.seen refl legal' (each_map (HasHand workers2 log' b.owner id) (λ (h : Hand). calls_of h.number log' ≡ h.own) (λ h k. k.calls) (d ∷ others) fit.hands);
+      seen = sees o v v' b.log m t fits_view.seen refl legal' (each_map (HasHand workers2 log' b.owner id) (λ (h : Hand). calls_of h.number log' ≡ h.own) (λ h k. k.calls) (d ∷ others) fit.hands);
       mine = mine';
       shows = shows';
       step = q;
@@ -465,7 +469,7 @@ module _ (plan : Plan) (id : ℕ) (was : Hand) (x : Held) (others : List Hand) (
       saw = saw;
       flips = flips_by n plan.mutators m count x r follows.fits s.words later t refl (subst (FlipsWhereTold n s.words later y) tells law.flips);
       full = full_by n s.words count x t (subst (FullWhereTold n s.words y) tells law.full);
-      live = live_seen (first_plain plan) seen b.log m t (subst (LiveWhereTold o) tells (live_by (heap_of plan s.words workers1) p o readied y (told y r) law.full));
+      live = live_seen (first_plain plan) o seen b.log m t (subst (LiveWhereTold o) tells (live_by (heap_of plan s.words workers1) p o readied y (told y r) law.full));
       present = goes_present;
       runs = goes_running;
       lands = lands;

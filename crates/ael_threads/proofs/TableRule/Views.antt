@@ -3,6 +3,7 @@ use Rattle.std.proofs.Common.{◌≡◌, ◌≢◌, ℕ, Option, List, ◌∷◌
 use mathlib.Core.Option.{some}
 use mathlib.Core.List.{IsPrefix}
 use lib.ListN.{get_elem?}
+use Rattle.plain_state.specs.State.{Plain}
 use Rattle.gc_worker.specs.Workers.Held.{Held}
 use Rattle.gc_worker.specs.Steps.Turned.{PageWon, Told}
 use Rattle.ael_threads.specs.declared.view.WonClaim.{WonClaim}
@@ -10,8 +11,8 @@ use Rattle.gc_worker.specs.declared.calls.entry.Entry.{Entry}
 use Rattle.ael_threads.specs.declared.view.Hand.{Hand}
 use Rattle.ael_threads.specs.declared.view.Plan.{Plan}
 use Rattle.ael_threads.specs.declared.view.View.{View}
-use Rattle.gc_worker.specs.History.Legal.{extra}
-use Rattle.ael_threads.specs.Histories.{Each, hand_number}
+use Rattle.gc_worker.specs.History.Legal.{extra, last_flip}
+use Rattle.ael_threads.specs.Histories.{Each, first_plain, hand_number}
 use Rattle.ael_threads.specs.Rule.{FitsView, HasHand, view}
 use Rattle.ael_threads.specs.Seats.{with_claim}
 use Rattle.ael_threads.proofs.Lists.Reads.{at_set}
@@ -22,8 +23,12 @@ use Rattle.ael_threads.proofs.TableRule.WonPages.{LeavesPagesOut, claims_kept, c
 -- worker m of the seat id makes the step: the words, the workers and the history before and after, and the page won
 module _ (plan : Plan) (words later : List ℕ) (workers workers' : List Held) (log : List Entry) (t : Told) (owner : ℕ → ℕ) (winner : WonClaim → ℕ) (id m : ℕ) (w : Option PageWon)
     (h : LeavesPagesOut plan.spaces.pages words later w) (same : (n : ℕ) → n ≢ m → get_elem? workers' n ≡ get_elem? workers n) where
+  -- the plain state at the last flip
+  abbrev o : Plain
+  o = last_flip (first_plain plan) log
+
   abbrev log' : List Entry
-  log' = log ++ extra m t
+  log' = log ++ extra o m t
 
   abbrev winner' : WonClaim → ℕ
   winner' = won_after winner id w
@@ -33,15 +38,15 @@ module _ (plan : Plan) (words later : List ℕ) (workers workers' : List Held) (
   other_has j d other y = record {
     owns = y.owns;
     state = record { held = y.state.held; is = same d.number other ∙ y.state.is; shown = y.state.shown };
-    calls = calls_other d.number log m t other ∙ y.calls;
+    calls = calls_other o d.number log m t other ∙ y.calls;
   }
 
   -- what another seat knows
   others_fit : owner m ≡ id → (j : ℕ) (u : View) → j ≢ id → FitsView plan words workers log owner winner j u → FitsView plan later workers' log' owner winner' j u
   others_fit mine j u other f = record {
     same = f.same;
-    seen = prefix_more u.seen log (extra m t) f.seen;
-    heard = prefix_more u.heard log (extra m t) f.heard;
+    seen = prefix_more u.seen log (extra o m t) f.seen;
+    heard = prefix_more u.heard log (extra o m t) f.heard;
     hands = each_map (HasHand workers log owner j) (HasHand workers' log' owner j) (λ d y. other_has j d (λ e. other (sym y.owns ∙ (ap owner e ∙ mine))) y) u.hands f.hands;
     apart = f.apart;
     claims = claims_kept plan.spaces.pages words later winner id j w h u.claims f.claims;

@@ -30,9 +30,11 @@ use Rattle.gc_worker.specs.declared.calls.call.Call.{Call}
 use Rattle.gc_worker.specs.declared.calls.did.Did.{Did}
 use Rattle.gc_worker.specs.declared.calls.did.Did.TheVariants.{Done, Trap}
 use Rattle.gc_worker.specs.declared.calls.entry.Entry.{Entry}
-use Rattle.gc_worker.specs.declared.calls.entry.Entry.TheVariants.{Made, Exchanged}
+use Rattle.gc_worker.specs.declared.calls.entry.Entry.TheVariants.{Made, Exchanged, Emptied}
 use Rattle.gc_worker.specs.History.Legal.{IsLegal, after_all, after_call}
 use Rattle.gc_worker.specs.Plain.Answer.{ComesTo, MayCome, after_answer, after_outcome}
+use Rattle.gc_worker.specs.Plain.Stories.{with_emptied}
+use Rattle.gc_worker.proofs.Plain.Emptied.{same_board}
 use Rattle.gc_worker.proofs.History.Extensions.{after_append}
 use Rattle.ael_threads.specs.Alone.{task_leaves_board}
 use Rattle.ael_threads.specs.Unread.{BoardWordsStay, IsPut, LastPutStands, LeavesWord}
@@ -89,6 +91,8 @@ pub board_words_stay : BoardWordsStay
 board_words_stay p [] x leave = refl
 board_words_stay p (Made c ∷ es) x leave = board_words_stay (after_call p c) es x leave.1 ∙ call_stays p c x leave.0
 board_words_stay p (Exchanged by asked ∷ es) x leave = board_words_stay p es x leave
+board_words_stay p (Emptied cells ∷ es) x leave =
+    board_words_stay (with_emptied p cells) es x leave ∙ ap (λ (board : List Value). get_or board x (Number 0)) (same_board p cells)
 
 -- ---- the length of the board
 
@@ -140,6 +144,7 @@ board_as_long : (p : Plain) (log : List Entry) → length (after_all p log).heap
 board_as_long p [] = refl
 board_as_long p (Made c ∷ es) = board_as_long (after_call p c) es ∙ answer_long p c.by c.task c.did (slice_get p.mutators c.by)
 board_as_long p (Exchanged by asked ∷ es) = board_as_long p es
+board_as_long p (Emptied cells ∷ es) = board_as_long (with_emptied p cells) es ∙ ap length (same_board p cells)
 
 -- ---- a put
 
@@ -158,6 +163,7 @@ comes_at : (p : Plain) (front rest : List Entry) (c : Call) → IsLegal p (front
 comes_at p [] rest c h = h.0
 comes_at p (Made d ∷ es) rest c h = comes_at (after_call p d) es rest c h.1
 comes_at p (Exchanged by asked ∷ es) rest c h = comes_at p es rest c h
+comes_at p (Emptied cells ∷ es) rest c h = comes_at (with_emptied p cells) es rest c h
 
 put_call : (p : Plain) (c : Call) (x a : ℕ) (q : Mutator) → length p.heap.board ≡ BOARD_WORDS → IsPut c (operands.Number x) a → ComesTo p c.by c.task c.did → slice_get p.mutators c.by ≡ Some q
     → board_word (after_call p c).heap x ≡ register q a

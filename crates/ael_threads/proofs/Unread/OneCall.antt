@@ -1,12 +1,14 @@
 -- One call that doesn't read the board, and the same call with a move in place of a put, made on another board.
-use Rattle.std.proofs.Common.{◌≡◌, ℕ, inl, inr, true, List, Result, Ok, Err, slice_set, refl, ap, sym, ◌∙◌, subst}
+use Rattle.std.proofs.Common.{◌≡◌, ℕ, inl, inr, Bool, true, false, cond, List, [], ◌∷◌, fold, Option, Some, None, Result, Ok, Err, slice_set, refl, ap, sym, ◌∙◌, subst}
 use Rattle.std.specs.Prelude.{IsOk, IsTrue}
 use Rattle.std.proofs.lemmas.List.{set-get_or}
 use Rattle.plain_state.specs.declared.end.End.{End}
 use Rattle.plain_state.specs.declared.value.Value.{Value}
 use Rattle.plain_state.specs.declared.value.Value.TheVariants.{Number}
-use Rattle.plain_state.specs.State.{Heap, Mutator, Plain}
-use Rattle.plain_state.specs.Writing.{with_heap}
+use Rattle.plain_state.specs.declared.value.Identity.{Identity}
+use Rattle.plain_state.specs.Cells.{is_cell}
+use Rattle.plain_state.specs.State.{Heap, Mutator, Plain, Record, record_of}
+use Rattle.plain_state.specs.Writing.{stored, with_heap}
 use Rattle.mutator_asm.specs.declared.instr.Instr.{Instr}
 use Rattle.mutator_asm.specs.declared.instr.Instr.TheVariants as instrs
 use Rattle.mutator_asm.specs.declared.operand.Operand.{Operand}
@@ -14,6 +16,7 @@ use Rattle.plain_heap.specs.declared.action.Action.TheVariants.{Puts}
 use Rattle.plain_heap.specs.Action.{◌>>=◌, action, board_place, register}
 use Rattle.plain_heap.specs.Alone.{leaves_board}
 use Rattle.plain_heap.specs.Call.{After, call, performed, went_on}
+use Rattle.plain_heap.specs.Emptied.{emptied_cell, emptied_record}
 use Rattle.plain_heap.specs.Step.{settled}
 use Rattle.plain_heap.proofs.Alone.Alike.{Same}
 use Rattle.gc_worker.specs.declared.task.Task.{Task}
@@ -23,6 +26,7 @@ use Rattle.gc_worker.specs.declared.calls.did.Did.{Did}
 use Rattle.gc_worker.specs.declared.calls.did.Did.TheVariants.{Done, Trap}
 use Rattle.gc_worker.specs.History.Legal.{after_call, worker_call}
 use Rattle.gc_worker.specs.Plain.Answer.{ComesTo, MayCome, after_outcome}
+use Rattle.gc_worker.specs.Plain.Stories.{with_emptied}
 use Rattle.ael_threads.specs.Alone.{LeavesBoard, task_leaves_board}
 use Rattle.ael_threads.specs.Unread.{IsPut, LeavesUnread, as_move, instr_as_move, task_as_move}
 use Rattle.ael_threads.proofs.Alone.Going.{after_is, ended_too, executed_too, may_end_too}
@@ -31,6 +35,25 @@ use Rattle.ael_threads.proofs.Unread.OtherBoards.{KeepsBoard, call-same, with_re
 -- the state with another heap, which has the same records
 abbrev pub moved_to : Plain → Heap → Plain
 moved_to p other = with_heap p (with_records_of p.heap other)
+
+-- cells are records, which are the same there
+emptied-one : (heap there : Heap) (i : Identity) → emptied_cell (with_records_of heap there) i ≡ with_records_of (emptied_cell heap i) there
+emptied-one heap there i = by_record (record_of heap i)
+  where
+    by_kind : (r : Record) (cell : Bool) → cond cell (stored (with_records_of heap there) i r 0 (Number 0)) (with_records_of heap there) ≡ with_records_of (cond cell (stored heap i r 0 (Number 0)) heap) there
+    by_kind r true = refl
+    by_kind r false = refl
+
+    by_record : (o : Option Record) → emptied_record (with_records_of heap there) i o ≡ with_records_of (emptied_record heap i o) there
+    by_record None = refl
+    by_record (Some r) = by_kind r (is_cell r.kind)
+
+emptied-all : (heap there : Heap) (cells : List Identity) → fold emptied_cell (with_records_of heap there) cells ≡ with_records_of (fold emptied_cell heap cells) there
+emptied-all heap there [] = refl
+emptied-all heap there (i ∷ cells) = ap (λ (h : Heap). fold emptied_cell h cells) (emptied-one heap there i) ∙ emptied-all (emptied_cell heap i) there cells
+
+pub emptied-beside : (p : Plain) (other : Heap) (cells : List Identity) → with_emptied (moved_to p other) cells ≡ moved_to (with_emptied p cells) other
+emptied-beside p other cells = ap (with_heap p) (emptied-all p.heap other cells)
 
 -- with another heap the second state is the first
 pub record IsMovedTo (was now : Plain) : Type 0 where

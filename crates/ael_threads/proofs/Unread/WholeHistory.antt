@@ -6,13 +6,14 @@ use Rattle.heap_laws.specs.Opening.{opening_plain}
 use Rattle.gc_worker.specs.declared.task.Task.{Task}
 use Rattle.gc_worker.specs.declared.calls.call.Call.{Call}
 use Rattle.gc_worker.specs.declared.calls.entry.Entry.{Entry}
-use Rattle.gc_worker.specs.declared.calls.entry.Entry.TheVariants.{Made, Exchanged}
+use Rattle.gc_worker.specs.declared.calls.entry.Entry.TheVariants.{Made, Exchanged, Emptied}
+use Rattle.gc_worker.specs.Plain.Stories.{with_emptied}
 use Rattle.gc_worker.specs.History.Legal.{IsLegal, after_all, after_call, calls_of}
 use Rattle.ael_threads.specs.Alone.{ComesToTheSame, LeavesBoard, task_leaves_board}
 use Rattle.ael_threads.specs.Histories.{Each}
 use Rattle.ael_threads.specs.Unread.{EachCall, LeavesUnread, UnreadBoardsShareNothing, as_move, task_as_move}
 use Rattle.ael_threads.proofs.Alone.Whole.{lone_calls_come_to_the_same}
-use Rattle.ael_threads.proofs.Unread.OneCall.{IsMovedTo, moved_to, same_as_move, unread-same}
+use Rattle.ael_threads.proofs.Unread.OneCall.{IsMovedTo, emptied-beside, moved_to, same_as_move, unread-same}
 
 -- ---- the history
 
@@ -20,6 +21,7 @@ abbrev all_as_moves : List Entry → List Entry
 all_as_moves [] = []
 all_as_moves (Made c ∷ es) = Made (as_move c) ∷ all_as_moves es
 all_as_moves (Exchanged by asked ∷ es) = Exchanged by asked ∷ all_as_moves es
+all_as_moves (Emptied cells ∷ es) = Emptied cells ∷ all_as_moves es
 
 -- with moves it is legal from the state with another heap on, and comes to the same with another heap
 record GoesBeside (p : Plain) (other : Heap) (log : List Entry) : Type 0 where
@@ -34,6 +36,12 @@ goes_beside p other (Made c ∷ es) legal unread =
       legal = (one.comes, subst (λ (z : Plain). IsLegal z (all_as_moves es)) (sym one.after.is) rest.legal);
       after = record { heap = rest.after.heap; is = ap (λ (z : Plain). after_all z (all_as_moves es)) one.after.is ∙ rest.after.is };
     }
+goes_beside p other (Emptied cells ∷ es) legal unread =
+    let rest = goes_beside (with_emptied p cells) other es legal unread in
+    let same = emptied-beside p other cells in record {
+      legal = subst (λ (z : Plain). IsLegal z (all_as_moves es)) (sym same) rest.legal;
+      after = record { heap = rest.after.heap; is = ap (λ (z : Plain). after_all z (all_as_moves es)) same ∙ rest.after.is };
+    }
 goes_beside p other (Exchanged by asked ∷ es) legal unread = let rest = goes_beside p other es legal unread in record { legal = rest.legal; after = rest.after }
 
 -- ---- whose calls they are
@@ -46,6 +54,7 @@ calls_as_moves : (m : ℕ) (log : List Entry) → calls_of m (all_as_moves log) 
 calls_as_moves m [] = refl
 calls_as_moves m (Made c ∷ es) = ap (λ (cs : List Call). cond (c.by == m) (as_move c ∷ cs) cs) (calls_as_moves m es) ∙ cond_map (c.by == m) c (calls_of m es)
 calls_as_moves m (Exchanged by asked ∷ es) = calls_as_moves m es
+calls_as_moves m (Emptied cells ∷ es) = calls_as_moves m es
 
 move_leaves : (c : Call) → LeavesUnread c → LeavesBoard (as_move c)
 move_leaves c (inl leaves) = subst LeavesBoard (sym (same_as_move c leaves)) leaves
@@ -59,6 +68,7 @@ moves_leave : (m : ℕ) (log : List Entry) → EachCall LeavesUnread log → Eac
 moves_leave m [] unread = tt
 moves_leave m (Made c ∷ es) unread = cond_each (c.by == m) c (calls_of m es) (move_leaves c unread.0) (moves_leave m es unread.1)
 moves_leave m (Exchanged by asked ∷ es) unread = moves_leave m es unread
+moves_leave m (Emptied cells ∷ es) unread = moves_leave m es unread
 
 -- ---- the law
 

@@ -187,7 +187,7 @@ found_at : (a b c : Seated) (task : Task) (did : Did) (r : Reply) (s : Stepped) 
 found_at a b c task did r s h number answers e =
     let k = h.knows in
     append_cancel_right k.found.log (a.knows.seen ++ e.between) (Made (call_by a task did) ∷ [])
-    ((λ i. k.found.log ++ extra (sym number i) (sym answers i)) ∙ (sym k.grows ∙ (sym (k.sees ∙ (λ i. seen_after b.knows.seen k.stands.log (answers i))) ∙ e.is)))
+    ((λ i. k.found.log ++ extra (last_flip (first_plain b.knows.plan) k.found.log) (sym number i) (sym answers i)) ∙ (sym k.grows ∙ (sym (k.sees ∙ (λ i. seen_after b.knows.seen k.stands.log (answers i))) ∙ e.is)))
 
 calls : (a b c : Seated) (task : Task) (r : Reply) (s : Stepped) (did : Did) → IsUnderWay a task b → ActsBy b r s c → (other : Task) → told b.worker r ≡ Answers other did → Called a task did c
 calls a b c task r s did u h other is =

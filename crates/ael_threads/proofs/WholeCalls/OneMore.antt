@@ -31,13 +31,15 @@ use Rattle.gc_worker.specs.declared.calls.call.Call.{Call}
 use Rattle.gc_worker.specs.declared.calls.did.Did.{Did}
 use Rattle.gc_worker.specs.declared.calls.did.Did.TheVariants.{Done, Trap}
 use Rattle.gc_worker.specs.declared.calls.entry.Entry.{Entry}
-use Rattle.gc_worker.specs.declared.calls.entry.Entry.TheVariants.{Made, Exchanged}
+use Rattle.gc_worker.specs.declared.calls.entry.Entry.TheVariants.{Made, Exchanged, Emptied}
 use Rattle.ael_threads.specs.declared.view.Hand.{Hand}
 use Rattle.ael_threads.specs.declared.view.Plan.{Plan}
 use Rattle.gc_worker.specs.History.Legal.{IsLegal, after_all, after_call, calls_of}
 use Rattle.gc_worker.specs.History.Order.{AreFetched, AreShort, IsShort}
 use Rattle.ael_threads.specs.Programs.{HasCount, Executes, count_after_call, fetched_at}
 use Rattle.ael_threads.specs.Seats.{Extends, IsShown}
+use Rattle.gc_worker.specs.Plain.Stories.{with_emptied}
+use Rattle.gc_worker.proofs.Plain.Emptied.{same_makers}
 use Rattle.gc_worker.proofs.History.Orders.{fetched_append, fetched_none, short_append, short_none}
 use Rattle.gc_worker.proofs.History.Extensions.{legal_last, no_more, Agrees, after_append, calls_append, seen_keeps}
 
@@ -92,6 +94,7 @@ pub makers : (p : Plain) (log : List Entry) → length (after_all p log).heap.re
 makers p [] = refl
 makers p (Made c ∷ es) = makers (after_call p c) es ∙ makers_answer p c.by c.task c.did (slice_get p.mutators c.by)
 makers p (Exchanged by asked ∷ es) = makers p es
+makers p (Emptied cells ∷ es) = makers (with_emptied p cells) es ∙ same_makers p cells
 
 -- ---- what came since is none of its calls
 

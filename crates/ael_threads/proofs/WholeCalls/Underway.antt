@@ -42,7 +42,7 @@ use Rattle.ael_threads.proofs.Lists.Reads.{at_inside, get_of}
 -- the seat hears of more
 pub heard_more : (b c : Seated) (r : Reply) (s : Stepped) → ActsBy b r s c → IsPrefix b.knows.heard c.knows.heard
 heard_more b c r s h = let k = h.knows in
-    subst (IsPrefix b.knows.heard) (sym (k.hears ∙ k.grows)) (prefix_more b.knows.heard k.found.log (extra (first_number b.knows.hands) (told b.worker r)) k.heard)
+    subst (IsPrefix b.knows.heard) (sym (k.hears ∙ k.grows)) (prefix_more b.knows.heard k.found.log (extra (last_flip (first_plain b.knows.plan) k.found.log) (first_number b.knows.hands) (told b.worker r)) k.heard)
 
 -- ---- one act of the call
 
@@ -112,7 +112,7 @@ module _ (a b c : Seated) (task : Task) (r : Reply) (s : Stepped) (u : IsUnderWa
   begun_is = ap (λ (y : Held). y.begun) h.worker
 
   hears : IsPrefix log c.knows.heard
-  hears = (extra m (told x r), sym (k.hears ∙ k.grows))
+  hears = (extra (last_flip (first_plain plan) log) m (told x r), sym (k.hears ∙ k.grows))
 
   -- no flip is known later than in which the caller was
   a_past : a.worker.epoch ≤ flips_of a.knows.plan log

@@ -1,14 +1,16 @@
 //! What the words of a command line mean.
 
 use super::{same, words_of};
-use ael_commands::{BenchOperands, ConcordOptions, Job, RunOptions, SimOptions, read_words};
+use ael_commands::{
+    AuditOptions, BenchOperands, ConcordOptions, Job, RunOptions, SimOptions, read_words,
+};
 use simple_commands::WordsError;
 use std::alloc::Global;
 use std::test::Fail;
 
 /// Words and their job: a simulation's pages, with those that a space may come to have behind a `-` if they are more, its
 /// scanners, turns, steps, seed and order, and the flags besides that were given; a run's pages, scanners, turns and flags; a
-/// concordance's workers and pages; or a benchmark's depth and seed.
+/// concordance's workers and pages; a benchmark's depth and seed; or an audit's turns.
 const ROWS: &str = "\
 sim|256 1 1000000 10000000 None false
 sim --|256 1 1000000 10000000 None false
@@ -65,6 +67,18 @@ concord --pages 4|concord 2 4
 concord --pages 2048 --workers 08|concord 8 2048
 asm|asm
 asm --|asm
+audit|audit 1000000
+audit --|audit 1000000
+audit --turns 1|audit 1
+audit --turns=+010000000 --|audit 10000000
+audit --turns 0|refused
+audit --turns 10000001|refused
+audit --turns|refused
+audit --turns 1 --turns 1|refused
+audit --pages 4|refused
+audit --order|refused
+audit x|refused
+Audit|refused
 |refused
 ''|refused
 --|refused
@@ -274,6 +288,7 @@ fn found_text(alloc: Global, found: Result<Job, WordsError>) -> Result<String, F
         Ok(Job::Concord(ConcordOptions { workers, pages })) => {
             Ok(format!(in alloc; "concord {workers} {pages}")?)
         }
+        Ok(Job::Audit(AuditOptions { turns })) => Ok(format!(in alloc; "audit {turns}")?),
         Err(WordsError::Refused) => Ok(String::from_str(alloc, "refused")?),
         Err(WordsError::NoMemory) => Ok(String::from_str(alloc, "no memory")?),
     }

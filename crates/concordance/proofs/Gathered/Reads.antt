@@ -1,5 +1,5 @@
 -- One call more of a clerk that has taken in all others, which reads.
-use Rattle.std.proofs.Common.{◌≡◌, ℕ, ◌<◌, ◌&&◌, Bool, true, List, length, Some, None, Result, Ok, slice_get, slice_index, slice_index_or, slice_set, refl, ap, sym, ◌∙◌, subst}
+use Rattle.std.proofs.Common.{◌≡◌, ℕ, ◌<◌, ◌&&◌, Bool, true, false, List, length, Some, None, Result, Ok, slice_get, slice_index, slice_index_or, slice_set, refl, ap, sym, ◌∙◌, subst}
 use Rattle.std.specs.Prelude.{IsTrue}
 use Rattle.std.specs.Option.{option_map}
 use Rattle.std.proofs.lemmas.Bool.{and_parts, lt-ltb, ltb-true}
@@ -24,6 +24,7 @@ use Rattle.plain_heap.specs.Action.{action, register}
 use Rattle.plain_heap.specs.Call.{After, board_word, call, loads}
 use Rattle.plain_heap.specs.Order.{fresh}
 use Rattle.plain_heap.specs.Step.{new_record, pages_of, record_made, settled}
+use Rattle.plain_heap.specs.Tracing.{is_weak}
 use Rattle.gc_worker.specs.declared.calls.did.Did.{Did}
 use Rattle.gc_worker.specs.declared.calls.did.Did.TheVariants.{Done, Trap}
 use Rattle.gc_worker.specs.declared.task.Task.TheVariants.{Calls}
@@ -104,6 +105,13 @@ sets_register desk (instrs.Ld d a x) can valid = first_register d (is_register a
 sets_register desk (instrs.Len d a) can valid = first_register d (is_register a) valid
 sets_register desk _ can valid = absurd can
 
+-- it makes no cell
+gets_no_cell : (desk : WholeDesk) (i : Instr) → CanGet desk i → is_weak i ≡ false
+gets_no_cell desk (instrs.Get d x) can = refl
+gets_no_cell desk (instrs.Ld d a x) can = refl
+gets_no_cell desk (instrs.Len d a) can = refl
+gets_no_cell desk _ can = absurd can
+
 -- ---- a call
 
 module _ (a b : Seated) (i : Instr) (all : HasAll a) (can : CanGet (whole_desk_of a) i) (did : Did) (h : Called a (Calls i) did b) where
@@ -114,7 +122,7 @@ module _ (a b : Seated) (i : Instr) (all : HasAll a) (can : CanGet (whole_desk_o
   p = plain_after_seen a.knows
 
   whole : CallsWhole a (Calls i) did b
-  whole = whole_calls a b (Calls i) did all.whole h
+  whole = whole_calls a b (Calls i) did all.whole (gets_no_cell (whole_desk_of a) i can) h
 
   abbrev caller : Mutator
   caller = whole.comes.mutator

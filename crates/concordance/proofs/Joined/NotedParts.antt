@@ -36,8 +36,10 @@ use Rattle.concordance.specs.declared.registers.TheConstants.{LATEST}
 use Rattle.concordance.specs.Desk.{desk_register}
 use Rattle.concordance.specs.Gathering.{AllAreNoted, BoardLeadsToNotes}
 use Rattle.concordance.specs.Lone.{alone_by, desk_of}
+use Rattle.concordance.specs.NoCells.{HasNoCells, MakesNoCell}
 use Rattle.concordance.specs.Notes.Records.{AreEntries}
 use Rattle.concordance.specs.Working.{HasWorked, IsHalt, SharedHeap}
+use Rattle.concordance.proofs.NoCells.{all_none, leaves_none, opening_none}
 use Rattle.concordance.proofs.Lone.{same_alone}
 use Rattle.concordance.proofs.LoneHeaps.FullHeaps.{legal_front}
 use Rattle.concordance.proofs.Joined.OwnCalls.{StandsAt, comes_there, each_behind, each_of_all, same_as_moves, stands_at}
@@ -134,6 +136,11 @@ module _ (w : SharedHeap) (log : List Entry) (parts : List Part) (many : length 
 
   unread : EachCall LeavesUnread log
   unread = each_of_all LeavesUnread log (λ j. clerk_each LeavesUnread j (λ part has. subst (Each LeavesUnread) (sym has.own) (own_unread w j part has.clerk has.worked)))
+
+  -- nobody makes a cell
+  pub no_cells : HasNoCells (after_all p log)
+  no_cells = all_none p log (opening_none w.plan.mutators)
+      (each_of_all MakesNoCell log (λ j. clerk_each MakesNoCell j (λ part has. subst (Each MakesNoCell) (sym has.own) (own_each w j part has.clerk has.worked MakesNoCell leaves_none refl))))
 
   -- others leave the word of a clerk
   others_leave : (j x : ℕ) → j ≢ x → Each (LeavesWord x) (calls_of j log)

@@ -1,9 +1,10 @@
 -- The calls of each mutator in a history of several.
 use Rattle.std.proofs.Common.{◌≡◌, ℕ, Bool, true, false, cond, ◌==◌, List, [], ◌∷◌, ◌++◌, map, refl, ap, sym, ◌∙◌, subst, append_assoc, eq-eqb}
+use Rattle.plain_state.specs.declared.value.Identity.{Identity}
 use Rattle.plain_state.specs.State.{Plain}
 use Rattle.gc_worker.specs.declared.calls.call.Call.{Call}
 use Rattle.gc_worker.specs.declared.calls.entry.Entry.{Entry}
-use Rattle.gc_worker.specs.declared.calls.entry.Entry.TheVariants.{Made, Exchanged}
+use Rattle.gc_worker.specs.declared.calls.entry.Entry.TheVariants.{Made, Exchanged, Emptied}
 use Rattle.gc_worker.specs.History.Legal.{IsLegal, after_all, calls_of}
 use Rattle.gc_worker.specs.Plain.Answer.{ComesTo}
 use Rattle.gc_worker.proofs.History.Extensions.{calls_append, legal_last}
@@ -44,6 +45,15 @@ module _ (j : ℕ) (cs : List Call) (c : Call) (ds : List Call) where
     after = at.after;
   }
 
+  behind_tracing : (cells : List Identity) (es : List Entry) → StandsAt j es cs c ds → StandsAt j (Emptied cells ∷ es) cs c ds
+  behind_tracing cells es at = record {
+    front = Emptied cells ∷ at.front;
+    rest = at.rest;
+    is = ap (λ (xs : List Entry). Emptied cells ∷ xs) at.is;
+    before = at.before;
+    after = at.after;
+  }
+
 -- behind another call of its own
 behind_own : (j : ℕ) (d e : Call) (es : List Entry) (cs : List Call) (c : Call) (ds : List Call) → (d.by == j) ≡ true → d ≡ e → StandsAt j es cs c ds → StandsAt j (Made d ∷ es) (e ∷ cs) c ds
 behind_own j d e es cs c ds own same at = record {
@@ -57,6 +67,7 @@ behind_own j d e es cs c ds own same at = record {
 pub stands_at : (j : ℕ) (log : List Entry) (cs : List Call) (c : Call) (ds : List Call) → calls_of j log ≡ cs ++ c ∷ ds → StandsAt j log cs c ds
 stands_at j [] cs c ds e = absurd (not_empty cs ds c (sym e))
 stands_at j (Exchanged by asked ∷ es) cs c ds e = behind_flip j cs c ds by asked es (stands_at j es cs c ds e)
+stands_at j (Emptied cells ∷ es) cs c ds e = behind_tracing j cs c ds cells es (stands_at j es cs c ds e)
 stands_at j (Made d ∷ es) cs c ds e = by_owner (λ ds' is. stands_at j es ds' c ds is) (d.by == j) refl e
   where
     by_first : ((before : List Call) → calls_of j es ≡ before ++ c ∷ ds → StandsAt j es before c ds) → (cs : List Call) → (d.by == j) ≡ true → d ∷ calls_of j es ≡ cs ++ c ∷ ds → StandsAt j (Made d ∷ es) cs c ds
@@ -92,6 +103,7 @@ each_of_all P (Made c ∷ es) all =
     let first : Each P (c ∷ calls_of c.by es) = subst (λ (b : Bool). Each P (cond b (c ∷ calls_of c.by es) (calls_of c.by es))) (eq-eqb c.by c.by refl) (all c.by) in
     (first.0, each_of_all P es (λ j. one_owner P c (calls_of j es) (c.by == j) (all j)))
 each_of_all P (Exchanged by asked ∷ es) all = each_of_all P es all
+each_of_all P (Emptied cells ∷ es) all = each_of_all P es all
 
 -- and one of those behind a call
 pub each_behind : (P : Call → Type 0) (j : ℕ) (front rest : List Entry) (c : Call) → Each P (calls_of j (front ++ Made c ∷ rest)) → Each P (calls_of j rest)

@@ -16,10 +16,11 @@ use Rattle.ael_threads.proofs.Lists.Elements.{each_apart}
 use Rattle.concordance_text.specs.declared.part.Part.{Part}
 use Rattle.concordance.specs.Gathering.{AllAreNoted}
 use Rattle.concordance.specs.Making.{HasAllNotes}
+use Rattle.concordance.specs.NoCells.{HasNoCells}
 use Rattle.concordance.specs.Whole.{HasNumber, IsWhole}
 use Rattle.concordance.specs.Working.{HasWorked, HaveWorked, MayAllBeTakenIn, MayBeTakenIn, SharedHeap}
 use Rattle.concordance.proofs.Lists.Numbered.{from_last}
-use Rattle.concordance.proofs.Joined.NotedParts.{HasItsCalls, all_are_noted}
+use Rattle.concordance.proofs.Joined.NotedParts.{HasItsCalls, all_are_noted, no_cells}
 
 -- ---- what it then knows
 
@@ -163,14 +164,6 @@ module _ (w : SharedHeap) where
     all_numbers (suc j) below =
         subst (HasNumber (suc j)) (sym hands_are) (inr (subst (λ (n : ℕ). HasNumber n (all_hands done)) (omega arith) (numbers 1 parts done others j (omega (arith, below, many)))))
 
-    whole : IsWhole one
-    whole = record {
-      knows = subst (λ (hs : List Hand). hs ≡ hand (first_number hs) one.worker (first_own hs) ∷ drop 1 hs) (sym hands_are) refl;
-      all = λ j below. all_numbers j (let count = length-replicate one.knows.plan.mutators opening_mutator in let same = ap (λ (plan : Plan). plan.mutators) plan_is in omega (arith, below, count, same));
-      own = own;
-      legal = legal;
-    }
-
     -- what was seen has the calls of each
     abbrev log : List Entry
     log = one.knows.seen
@@ -182,11 +175,27 @@ module _ (w : SharedHeap) where
     all_parts zero p is = let same : part ≡ p = cc in subst (HasItsCalls w log 0) same (record { clerk = first; worked = worked; own = own_calls.0 })
     all_parts (suc k) p is = subst (λ (j : ℕ). HasItsCalls w log j p) (omega arith) (parts_of log 1 parts done others own_calls.1 k p is)
 
+    as_plan : length (part ∷ parts) ≡ w.plan.mutators
+    as_plan = let more = as_many 1 parts done others in omega (arith, more, many)
+
+    legal_here : IsLegal (first_plain w.plan) log
+    legal_here = subst (λ (plan : Plan). IsLegal (first_plain plan) log) plan_is legal
+
+    none : HasNoCells (plain_after_seen one.knows)
+    none = subst (λ (plan : Plan). HasNoCells (after_all (first_plain plan) log)) (sym plan_is) (no_cells w log (part ∷ parts) as_plan legal_here all_parts)
+
+    whole : IsWhole one
+    whole = record {
+      knows = subst (λ (hs : List Hand). hs ≡ hand (first_number hs) one.worker (first_own hs) ∷ drop 1 hs) (sym hands_are) refl;
+      all = λ j below. all_numbers j (let count = length-replicate one.knows.plan.mutators opening_mutator in let same = ap (λ (plan : Plan). plan.mutators) plan_is in omega (arith, below, count, same));
+      own = own;
+      legal = legal;
+      none = none;
+    }
+
     noted : AllAreNoted (plain_after_seen one.knows).heap (part ∷ parts)
-    noted =
-        let more = as_many 1 parts done others in
-        subst (λ (plan : Plan). AllAreNoted (after_all (first_plain plan) log).heap (part ∷ parts)) (sym plan_is)
-        (all_are_noted w log (part ∷ parts) (omega (arith, more, many)) (subst (λ (plan : Plan). IsLegal (first_plain plan) log) plan_is legal) all_parts)
+    noted = subst (λ (plan : Plan). AllAreNoted (after_all (first_plain plan) log).heap (part ∷ parts)) (sym plan_is)
+        (all_are_noted w log (part ∷ parts) as_plan legal_here all_parts)
 
     has_all_notes : HasAllNotes (part ∷ parts) one
     has_all_notes = record { has = record { whole = whole; no_end = ap (λ (x : Held). x.account.end) taken.worker ∙ worked.stays refl }; noted = noted }

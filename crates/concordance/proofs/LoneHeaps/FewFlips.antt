@@ -17,7 +17,7 @@ use Rattle.gc_worker.specs.declared.calls.call.Call.{Call}
 use Rattle.gc_worker.specs.declared.calls.did.Did.{Did}
 use Rattle.gc_worker.specs.declared.calls.did.Did.TheVariants.{Done}
 use Rattle.gc_worker.specs.declared.calls.entry.Entry.{Entry}
-use Rattle.gc_worker.specs.declared.calls.entry.Entry.TheVariants.{Made, Exchanged}
+use Rattle.gc_worker.specs.declared.calls.entry.Entry.TheVariants.{Made, Exchanged, Emptied}
 use Rattle.gc_worker.specs.declared.task.Task.{Task}
 use Rattle.gc_worker.specs.declared.task.Task.TheVariants.{Calls, Stops}
 use Rattle.gc_worker.specs.History.Legal.{IsLegal, after_call, worker_call}
@@ -26,6 +26,7 @@ use Rattle.gc_worker.specs.Laws.Cycles.{Grows}
 use Rattle.gc_worker.specs.Plain.Answer.{ComesTo, MayCome, after_answer, after_outcome}
 use Rattle.ael_threads.specs.Histories.{opening_tally}
 use Rattle.ael_threads.specs.Unread.{EachCall}
+use Rattle.gc_worker.proofs.Plain.Emptied.{same_makers, same_serial}
 use Rattle.ael_threads.proofs.WholeCalls.OneMore.{makers}
 use Rattle.concordance.specs.OneMutator.{LoneFlipsAreFew, WasDone}
 use Rattle.concordance.proofs.LoneHeaps.OneMutator.{apart, by_first, one_still}
@@ -163,6 +164,9 @@ few_flips z tasks t (Made c ∷ es) whole one there legal done each few =
 few_flips z tasks t (Exchanged by asked ∷ es) whole one there legal done each few =
     few_flips z tasks (after_entry t (Exchanged by asked)) es (still_whole z.limit (size_now z t) (z.in_use (t.flips + 1)) whole each.0.grows) one there legal done each.1
     (few_after_flip z tasks t one by asked es whole each.0 few)
+few_flips z tasks t (Emptied cells ∷ es) whole one there legal done each few =
+    few_flips z tasks (after_entry t (Emptied cells)) es whole one (subst (λ (n : ℕ). 0 < n) (sym (same_makers t.now cells)) there) legal done each.1
+    (record { flips = subst (λ (n : ℕ). t.flips ≤ n + bit (t.asked 0)) (sym (same_serial t.now cells 0)) few.flips; maker = few.maker })
 
 pub lone_flips_are_few : LoneFlipsAreFew
 lone_flips_are_few plan z tasks log one whole sized legal done each =

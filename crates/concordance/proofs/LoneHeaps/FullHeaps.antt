@@ -11,23 +11,28 @@ use Rattle.heap_laws.specs.Opening.{opening_mutator}
 use Rattle.gc_worker.specs.declared.calls.call.Call.{Call}
 use Rattle.gc_worker.specs.declared.calls.did.Did.TheVariants.{Trap}
 use Rattle.gc_worker.specs.declared.calls.entry.Entry.{Entry}
-use Rattle.gc_worker.specs.declared.calls.entry.Entry.TheVariants.{Made, Exchanged}
+use Rattle.gc_worker.specs.declared.calls.entry.Entry.TheVariants.{Made, Exchanged, Emptied}
 use Rattle.gc_worker.specs.declared.task.Task.TheVariants.{Calls}
-use Rattle.gc_worker.specs.History.Legal.{IsLegal, after_all, after_call, calls_of, extra, worker_call}
+use Rattle.gc_worker.specs.History.Legal.{IsLegal, after_all, after_call, calls_of, extra, last_flip, worker_call}
 use Rattle.gc_worker.specs.History.Tally.{EachEntry, EntryIs, Sizes, Tally, Tasks, made_next, next_task, pages_by_task, size_now, tally, tasks_held}
 use Rattle.gc_worker.specs.Steps.Turned.{Told}
+use Rattle.gc_worker.specs.Plain.Stories.{with_emptied}
 use Rattle.gc_worker.proofs.History.Extensions.{as_many, calls_append}
 use Rattle.gc_worker.proofs.History.Tallies.{tally_now}
 use Rattle.ael_threads.specs.declared.view.Plan.{Plan}
-use Rattle.ael_threads.specs.Alone.{alone_history}
+use Rattle.ael_threads.specs.Alone.{LeavesBoard, alone_history}
 use Rattle.ael_threads.specs.Calls.{Called, call_by}
 use Rattle.ael_threads.specs.Histories.{AreSizesOf, Each, HasOwnCalls, first_plain, opening_tally}
 use Rattle.ael_threads.specs.Seats.{Seated, first_number, first_own, seen_after}
+use Rattle.ael_threads.specs.Unread.{EachCall}
+use Rattle.ael_threads.proofs.Lists.Elements.{each_map}
 use Rattle.ael_threads.proofs.TableRule.PagesInUse.{tallied_sizes}
 use Rattle.ael_threads.proofs.WholeCalls.OneMore.{makers}
 use Rattle.concordance.specs.Full.{LoneFullsAreFilled, words_made}
 use Rattle.concordance.specs.Lone.{IsLone, alone_by}
+use Rattle.concordance.specs.NoCells.{MakesNoCell}
 use Rattle.concordance.specs.OneMutator.{IsWhole, WasDone}
+use Rattle.concordance.proofs.NoCells.{leaves_none, opening_none}
 use Rattle.concordance.proofs.LoneHeaps.FewFlips.{lone_flips_are_few}
 use Rattle.concordance.proofs.LoneHeaps.LiveWords.{live_is_made}
 use Rattle.concordance.proofs.LoneHeaps.OneMutator.{each_call, lone_flips_are_now, lone_histories}
@@ -36,6 +41,7 @@ pub legal_front : (p : Plain) (xs ys : List Entry) → IsLegal p (xs ++ ys) → 
 legal_front p [] ys h = tt
 legal_front p (Made c ∷ xs) ys h = (h.0, legal_front (after_call p c) xs ys h.1)
 legal_front p (Exchanged by asked ∷ xs) ys h = legal_front p xs ys h
+legal_front p (Emptied cells ∷ xs) ys h = legal_front (with_emptied p cells) xs ys h
 
 at_one : (f : ℕ → ℕ) → f 0 ≡ 0 → sum_below 1 f ≡ 0
 unfolding sum_below
@@ -77,8 +83,11 @@ module _ (a b : Seated) (i : Instr) (asked room live : ℕ) (lone : IsLone a) (s
       let last : calls_of 0 (Made c ∷ []) ≡ c ∷ [] = ap (λ (z : Bool). cond z (c ∷ []) []) (eq-eqb (first_number a.knows.hands) 0 zero_is) in
       append_cancel_right (calls_of 0 front) own (c ∷ []) (ap (λ (z : List Call). calls_of 0 front ++ z) (sym last) ∙ (sym (calls_append 0 front (Made c ∷ [])) ∙ at))
 
+  makes_none : EachCall MakesNoCell front
+  makes_none = each_call MakesNoCell p front many legal (subst (Each MakesNoCell) (sym own_front) (each_map LeavesBoard MakesNoCell leaves_none own lone.leaves))
+
   state : after_all p front ≡ alone_by a
-  state = lone_histories p front many legal ∙ ap (λ (cs : List Call). after_all p (alone_history cs)) own_front
+  state = lone_histories p front many (opening_none a.knows.plan.mutators) makes_none legal ∙ ap (λ (cs : List Call). after_all p (alone_history cs)) own_front
 
   now : t.now ≡ alone_by a
   now = tally_now (opening_tally a.knows.plan) front ∙ state
@@ -90,7 +99,7 @@ module _ (a b : Seated) (i : Instr) (asked room live : ℕ) (lone : IsLone a) (s
       let call_is : worker_call (first_number h.last.knows.hands) (Calls i) (Trap (HeapFull asked room live)) ≡ c =
       ap (λ (n : ℕ). worker_call n (Calls i) (Trap (HeapFull asked room live))) h.waits.rests.number in
       let grows : k.stands.log ≡ k.found.log ++ Made c ∷ [] =
-      k.grows ∙ (ap (λ (z : Told). k.found.log ++ extra (first_number h.last.knows.hands) z) h.answers ∙ ap (λ (z : Call). k.found.log ++ Made z ∷ []) call_is) in
+      k.grows ∙ (ap (λ (z : Told). k.found.log ++ extra (last_flip (first_plain h.last.knows.plan) k.found.log) (first_number h.last.knows.hands) z) h.answers ∙ ap (λ (z : Call). k.found.log ++ Made z ∷ []) call_is) in
       let seen : b.knows.seen ≡ k.stands.log = k.sees ∙ ap (seen_after h.last.knows.seen k.stands.log) h.answers in
       append_cancel_right k.found.log front (Made c ∷ []) (sym grows ∙ (sym seen ∙ h.history.is))
 
@@ -155,7 +164,7 @@ module _ (a b : Seated) (i : Instr) (asked room live : ℕ) (lone : IsLone a) (s
 
   live_is_small : t.since 0 ≡ true → live ≤ words_made (alone_by a).heap 0
   live_is_small flipped =
-      let flip : t.flip ≡ alone_by a = lone_flips_are_now a.knows.plan front single legal flipped ∙ now in
+      let flip : t.flip ≡ alone_by a = lone_flips_are_now a.knows.plan front single makes_none legal flipped ∙ now in
       live_is_made (alone_by a) live one_maker (subst (λ (q : Plain). IsLive q live) flip h.filled.live_is)
 
   filled : serial_of (alone_by a).heap 0 + 1 < 2 ^ 32 - 1 → PAGE_WORDS * a.knows.plan.spaces.pages ≤ room + words_made (alone_by a).heap 0

@@ -1,24 +1,21 @@
 -- Where the heap is full for a mutator, what was claimed since the last flip is for records made since then or that the others make next.
-use Rattle.std.proofs.Common.{◌≡◌, ◌≢◌, ℕ, ◌+◌, ◌*◌, ◌<◌, ◌≤◌, length, List, [], ◌∷◌, Option, Some, None, refl, sym, ap, subst, ◌∙◌, arith, ⊎_elim, get_or-set_other}
+use Rattle.std.proofs.Common.{◌≡◌, ◌≢◌, ℕ, ◌+◌, ◌*◌, ◌<◌, ◌≤◌, length, List, [], Option, Some, None, refl, sym, ap, subst, ◌∙◌, arith, ⊎_elim, get_or-set_other}
 use Rattle.std.proofs.lemmas.Bool.{cases_lt}
 use Rattle.std.proofs.lemmas.List.{get_or_past}
 use Rattle.plain_state.specs.declared.end.End.{End}
 use Rattle.plain_state.specs.declared.sizes.TheConstants.{PAGE_WORDS}
 use Rattle.plain_state.specs.State.{Plain}
-use Rattle.mutator_asm.specs.declared.instr.Instr.{Instr}
-use Rattle.plain_heap.specs.Order.{Story, story, story_after}
+use Rattle.plain_heap.specs.Order.{Story, story}
 use Rattle.plain_heap.proofs.States.SameMutators.{plain_count}
 use Rattle.atom_store.specs.declared.step.Step.{Step}
 use Rattle.atom_store.specs.Step.{reply_of}
 use Rattle.gc_worker.specs.declared.calls.did.Did.TheVariants.{Done, Trap}
 use Rattle.gc_worker.specs.declared.calls.entry.Entry.{Entry}
-use Rattle.gc_worker.specs.declared.calls.entry.Entry.TheVariants.{Exchanged, Made}
 use Rattle.gc_worker.specs.declared.steps.stepped.Stepped.TheVariants.{Ended}
 use Rattle.gc_worker.specs.declared.task.Task.{Task}
 use Rattle.gc_worker.specs.History.Needs.{being_made, made_since}
-use Rattle.gc_worker.specs.History.Legal.{IsLegal}
-use Rattle.gc_worker.specs.History.Order.{AreFetched, order_of}
-use Rattle.gc_worker.specs.History.Tally.{FitsTally, Tally, Tasks, after_entry, tally, tasks_held}
+use Rattle.gc_worker.specs.History.Order.{order_of}
+use Rattle.gc_worker.specs.History.Tally.{FitsTally, Tally, Tasks, tally, tasks_held}
 use Rattle.gc_worker.specs.Laws.Cycles.{SetsAside, low_of, set_aside, size_of, words_claimed}
 use Rattle.gc_worker.specs.Laws.Step.{Heap, held_at, nobody}
 use Rattle.gc_worker.specs.Steps.Stepped.{stepped_by}
@@ -29,24 +26,13 @@ use Rattle.gc_worker.specs.Workers.Held.{Held}
 use Rattle.gc_worker.proofs.Between.Standing.{what_stands_is_so}
 use Rattle.gc_worker.proofs.Cycles.SetAside.{claims_are_set_aside}
 use Rattle.gc_worker.proofs.History.Aside.{aside_of_others}
-use Rattle.gc_worker.proofs.History.Extensions.{as_many}
-use Rattle.gc_worker.proofs.History.Needs.{IsNext, making_most}
-use Rattle.gc_worker.proofs.History.Orders.{call_turns}
+use Rattle.gc_worker.proofs.History.Needs.{IsNext, making_most, order_turns}
 use Rattle.gc_worker.proofs.History.Tallies.{tally_now}
 use Rattle.gc_core.specs.Core.{CoreState, size_in}
 use Rattle.gc_core.specs.Event.{event_by, event_of, readied, ready}
 use Rattle.gc_core.proofs.Cycles.Filling.{HasClaimed}
 use Rattle.gc_core.proofs.Events.Readied.{ReadyToStep}
-use Rattle.gc_core.proofs.Runs.History.{HasHistory, are_next, first, given, history_made, its_ready}
-
--- a history leads to what its order leads to
-story_leads : (code : List (List Instr)) (turns : ℕ) (t : Tally) (log : List Entry) → IsLegal t.now log → length t.now.mutators ≡ length code → ((m : ℕ) → AreFetched code turns m t.now log)
-    → story_after code turns (record { flip = t.flip; now = t.now }) (order_of log) ≡ record { flip = (tally t log).flip; now = (tally t log).now }
-story_leads code turns t [] legal sections own = refl
-story_leads code turns t (Made c ∷ es) legal sections own =
-    ap (λ (s : Story). story_after code turns s (order_of es)) (call_turns code turns t.now t.flip c legal.0 sections ((own c.by).0 refl))
-    ∙ story_leads code turns (after_entry t (Made c)) es legal.1 (as_many t.now (Made c ∷ []) ∙ sections) (λ m. (own m).1)
-story_leads code turns t (Exchanged by asked ∷ es) legal sections own = story_leads code turns (after_entry t (Exchanged by asked)) es legal sections own
+use Rattle.gc_core.proofs.Runs.History.{HasHistory, are_next, first, given, history_made, its_ready, lost}
 
 -- who ends has nothing set aside
 ended_aside : (w : ℕ) (t : Told) (was : Held) (claims : ℕ) (now : Held) → SetsAside was claims now t → (m : ℕ) (why : End) → stepped_by w t ≡ Ended m why → set_aside was ≡ 0
@@ -101,7 +87,7 @@ module _ (least limit : ℕ) (s : CoreState) (w : ℕ) (log : List Entry) (h : H
         let whole = fills.low in
         let same_low : low_of r.heap.pages r.heap.words ≡ low_of s.heap.pages s.heap.words = (λ i. low_of (r.pages i) (r.words i)) in
         let same_size : size_of r.heap.pages r.heap.words ≡ size_in s = (λ i. size_of (r.pages i) (r.words i)) in
-        let leads : (story s.code s.turns (order_of log)).now ≡ t.now = ap (λ (v : Story). v.now) (story_leads s.code s.turns (first s) log h.legal (plain_count s.code s.turns []) h.fetched) in
+        let leads : (story s.code s.turns (order_of log)).now ≡ t.now = ap (λ (v : Story). v.now) (order_turns s.code s.turns tasks (first s) log h.legal (lost least s log h) (plain_count s.code s.turns []) h.fetched) in
         subst (λ (p : Plain). claims ≤ PAGE_WORDS * (made_since s.code s.turns (order_of log) + being_made s.code s.turns p w)) (sym leads)
         (omega (arith, aside, making, made, few, low, size, whole, same_low, same_size))
 

@@ -42,7 +42,7 @@ module _ (m w flips : ℕ) (t : Tally) (once : FlippedOnce m t flips) where
       (λ (some : 1 ≤ flips). absurd (let asked = once.1 (omega (arith, some)) in let not = ap t.asked (sym is) ∙ first refl in let never = sym asked ∙ not in cc)) (cases_lt flips 1) in
       (omega (arith, none), λ some. ap (λ (b : Bool). cond b true (t.asked m)) (eq-eqb m w (sym is)))
 
-  stays_once : (all : Bool) (u : Told) → ((pages : ℕ) → u ≡ Marks pages → all ≡ true → t.asked w ≡ false) → FlippedOnce m (tally t (extra w u)) (flips_after m flips all w (stepped_by w u))
+  stays_once : (all : Bool) (u : Told) → ((pages : ℕ) → u ≡ Marks pages → all ≡ true → t.asked w ≡ false) → FlippedOnce m (tally t (extra t.flip w u)) (flips_after m flips all w (stepped_by w u))
   stays_once all Silent first = once
   stays_once all Empties first = once
   stays_once all (Answers task Done) first = by_answer (w == m) refl
@@ -92,18 +92,18 @@ module _ (least : ℕ) (s : CoreState) (w : ℕ) (log : List Entry) (h : HasHist
       (let same : size_of r.heap.pages r.heap.words ≡ size_in s = (λ i. size_of (r.pages i) (r.words i)) in same ∙ (eqb-true (size_in s) s.heap.pages all ∙ sym r.pages))
 
 module _ (m least : ℕ) (s : CoreState) (w : ℕ) (log : List Entry) (flips : ℕ) (h : HasHistory least s log) (once : FlippedOnce m (tally (first s) log) flips) where
-  idle_once : wanted (ready s w) ≡ None → FlippedOnce m (tally (first s) (log ++ adds s w)) (flips_next m s w flips)
+  idle_once : wanted (ready s w) ≡ None → FlippedOnce m (tally (first s) (log ++ adds s log w)) (flips_next m s w flips)
   unfolding event_of
   idle_once none = rw (none, append-nil log) once
 
-  by_want : w < length s.heap.workers → (o : Option Step) → wanted (ready s w) ≡ o → FlippedOnce m (tally (first s) (log ++ adds s w)) (flips_next m s w flips)
+  by_want : w < length s.heap.workers → (o : Option Step) → wanted (ready s w) ≡ o → FlippedOnce m (tally (first s) (log ++ adds s log w)) (flips_next m s w flips)
   unfolding event_of
   by_want below None is = idle_once is
   by_want below (Some q) is =
       let u : Told = told (ready s w) (reply_of q s.heap.words) in
-      rw (is, tally_append (first s) log (extra w u)) (stays_once m w flips (tally (first s) log) once (size_in s == s.heap.pages) u (first_asked least s w log h below q is))
+      rw (is, tally_append (first s) log (extra (tally (first s) log).flip w u)) (stays_once m w flips (tally (first s) log) once (size_in s == s.heap.pages) u (first_asked least s w log h below q is))
 
-  pub event_once : FlippedOnce m (tally (first s) (log ++ adds s w)) (flips_next m s w flips)
+  pub event_once : FlippedOnce m (tally (first s) (log ++ adds s log w)) (flips_next m s w flips)
   event_once = ⊎_elim
       (λ (below : w < length s.heap.workers). by_want below (wanted (ready s w)) refl)
       (λ (past : length s.heap.workers ≤ w). idle_once (ap (λ (x : Held). wanted (readied s.code s.turns w x)) (get_or_past s.heap.workers w nobody past)))

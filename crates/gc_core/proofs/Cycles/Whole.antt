@@ -52,7 +52,7 @@ module _ (code : List (List Instr)) (items : List Item) (config : Config) (sched
   now = story_of code config schedule n
 
   abbrev log : List Entry
-  log = log_from schedule 0 n s
+  log = log_from schedule 0 n s []
 
   steady : IsSteady s
   steady = opening_steady heaps_open code items config program size turns few
@@ -91,7 +91,7 @@ module _ (code : List (List Instr)) (items : List Item) (config : Config) (sched
   abbrev Has : CoreState → List Entry → (claims : ℕ) → Type 0
   Has t log claims = (t.code ≡ code) × (t.turns ≡ config.turns) × HasHistory config.pages t log × HasClaimed config.limit t claims
 
-  has_then : (t : CoreState) (w : ℕ) (log : List Entry) (claims : ℕ) → Has t log claims → Has (core_after t w) (log ++ adds t w) (claims_next t w claims)
+  has_then : (t : CoreState) (w : ℕ) (log : List Entry) (claims : ℕ) → Has t log claims → Has (core_after t w) (log ++ adds t log w) (claims_next t w claims)
   has_then t w log claims has = (has.0, has.1, event_history config.pages t w log has.2, event_fills config.pages config.limit t w log claims has.2 has.3)
 
   has_last : Has r.last log (claims_of code config schedule n)
@@ -107,12 +107,12 @@ module _ (code : List (List Instr)) (items : List Item) (config : Config) (sched
       (subst (λ (z : ℕ × (List (List Instr) × ℕ)). EachFullIs z.0 config.pages z.1.0 z.1.1 (first_story z.1.0) 0 0 (order_of log)) (λ i. (has.3.limit_is i, (has.0 i, has.1 i))) all.0, all.1)
 
   fulls_last : Fulls r.order
-  fulls_last = subst Fulls (log_order schedule 0 n s) (fulls r.last log (claims_of code config schedule n) has_last)
+  fulls_last = subst Fulls (log_order schedule 0 n s []) (fulls r.last log (claims_of code config schedule n) has_last)
 
   -- ---- what was claimed for records
 
   made : (tally (first r.last) log).made ≤ made_since code config.turns r.order
-  made = subst (λ (z : List (List Instr) × (ℕ × List Mark)). (tally (first r.last) log).made ≤ made_since z.0 z.1.0 z.1.1) (λ i. (has_last.0 i, (has_last.1 i, log_order schedule 0 n s i)))
+  made = subst (λ (z : List (List Instr) × (ℕ × List Mark)). (tally (first r.last) log).made ≤ made_since z.0 z.1.0 z.1.1) (λ i. (has_last.0 i, (has_last.1 i, log_order schedule 0 n s [] i)))
       (history_made config.pages r.last log has_last.2)
 
   made_or_aside : claims_of code config schedule n ≤ PAGE_WORDS * made_since code config.turns r.order + aside_in r.last.heap
@@ -150,7 +150,7 @@ module _ (code : List (List Instr)) (items : List Item) (config : Config) (sched
         let few = claims_for_records config.pages config.limit r.last w log has_last.2 (claims_of code config schedule n) has_last.3 m (ends.HeapFull asked room live) told in
         subst (λ (z : (List (List Instr) × ℕ) × (List Mark × ℕ)).
         claims_of code config schedule n ≤ PAGE_WORDS * (made_since z.0.0 z.0.1 z.1.0 + being_made z.0.0 z.0.1 (story z.0.0 z.0.1 z.1.0).now z.1.1))
-        (λ i. ((has_last.0 i, has_last.1 i), (log_order schedule 0 n s i, sym told_so.0 i))) few
+        (λ i. ((has_last.0 i, has_last.1 i), (log_order schedule 0 n s [] i, sym told_so.0 i))) few
 
 -- a mark of a full heap is of an event that tells it
 told_full : (told : Stepped) (m asked room live : ℕ) → mark_of told ≡ Some (Full m asked room live) → told ≡ Ended m (ends.HeapFull asked room live)

@@ -11,6 +11,7 @@ use Rattle.plain_heap.specs.Print.{Seen, plain_seen}
 use Rattle.gc_worker.specs.declared.steps.stepped.Stepped.{Stepped}
 use Rattle.gc_worker.specs.declared.steps.stepped.Stepped.TheVariants.{Idle, Moved, Effect, Flipped, Traced, Ended}
 use Rattle.gc_worker.proofs.Between.Standing.{what_stands_is_so}
+use Rattle.gc_worker.proofs.Plain.Emptied.{emptied_is}
 use Rattle.gc_core.specs.Core.{CoreState}
 use Rattle.gc_core.specs.Event.{core_after, event_of}
 use Rattle.gc_core.specs.Law.{IsLawful, IsTold, story_by}
@@ -51,7 +52,7 @@ ends_are_told s w l untold =
         → list_all has_end (plain_seen (story_by s story t).now) ≡ list_all has_end (plain_seen l.plain)
     by_told Idle e told = refl
     by_told Moved e told = refl
-    by_told Traced e told = refl
+    by_told Traced e told = ap (λ (p : Plain). list_all has_end (plain_seen p)) (emptied_is l.flip l.plain)
     by_told (Flipped asked) e told = refl
     by_told (Effect m) e told = not_all (story_by s story (Effect m)).now m told.2 ∙ sym (not_all l.plain m told.1)
     by_told (Ended m why) e told = absurd (untold m why e)

@@ -17,6 +17,7 @@ use Rattle.atom_store.specs.Step.{words_after, reply_of}
 use Rattle.atom_store.proofs.Steps.{length-words_after}
 use Rattle.gc_worker.specs.declared.stage.Stage.TheVariants.{Gone}
 use Rattle.gc_worker.specs.declared.task.Task.{Task}
+use Rattle.gc_worker.specs.Plain.Stories.{story_told}
 use Rattle.gc_worker.specs.Plain.Answer.{ComesTo, MayCome, IsAnswered, after_outcome, after_told}
 use Rattle.gc_worker.specs.Laws.Between.{ReadyingStands, TasksMayBegin, WorkersGoOn, WorkersWant, WhatStandsIsSo, KeepsToTask, IsSo, IsNoAnswer}
 use Rattle.gc_worker.specs.Workers.Fits.{Fits, IsOnSide}
@@ -39,6 +40,8 @@ use Rattle.gc_worker.specs.Laws.Claims.{epoch_of_heap}
 use Rattle.gc_core.specs.Law.{AllHaveLeft, IsLawful, IsOnTask, IsScanner, IsSteady, IsForWant, IsTold, KeepsStory, EventsKeep, EventsMeet, StandsFor, story_by, story_in}
 use Rattle.gc_core.specs.Whole.{MissingWorkersAreIdle}
 use Rattle.gc_worker.proofs.Between.Last.{scanners_last_with, scanners_stay_last}
+use Rattle.gc_worker.proofs.Plain.Emptied.{emptied_is}
+use Rattle.gc_worker.proofs.StoriesKeep.{stories_keep}
 use Rattle.gc_worker.proofs.Plain.Represented.{represented_workers}
 use Rattle.gc_worker.proofs.Plain.Outcomes.{comes, end_then, asks_then, counted_then, no_flip, now_marked, was_running}
 use Rattle.gc_core.proofs.Events.Readied.{ReadyToStep, readied_stands, same_task, ready_task, ready_account, ready_stage}
@@ -161,7 +164,7 @@ module _ (law : StepsKeep) (goes : WorkersGoOn) (wants : WorkersWant) (so : What
 
     -- the story after a step that is this
     abbrev Stands : Told → Type 0
-    Stands t = ((story_by s story (stepped_by w t)).now ≡ after_told p w t) × ((story_by s story (stepped_by w t)).flip ≡ at_flip p story.flip t)
+    Stands t = ((story_by s story (stepped_by w t)).now ≡ story_told p story.flip w t) × ((story_by s story (stepped_by w t)).flip ≡ at_flip p story.flip t)
 
     answers_stand : (task : Task) (outcome : Did) (k : Mutator) → slice_get p.mutators w ≡ Some k → k.end ≡ None → task ≡ task_of (fetch s.code s.turns w k) → MayCome w p.heap k task outcome
         → Stands (Answers task outcome)
@@ -172,7 +175,7 @@ module _ (law : StepsKeep) (goes : WorkersGoOn) (wants : WorkersWant) (so : What
 
     story_stands : (u : Told) → t ≡ u → IsAnswered p w u → Stands u
     story_stands Silent e answered = (refl, refl)
-    story_stands Empties e answered = (refl, refl)
+    story_stands Empties e answered = (emptied_is story.flip p, refl)
     story_stands (Marks asked) e answered = (refl, refl)
     story_stands (Answers task outcome) e answered =
         answers_stand task outcome answered.mutator answered.is answered.no_end (own_task task outcome answered.mutator e answered.is) answered.may
@@ -305,7 +308,7 @@ module _ (law : StepsKeep) (goes : WorkersGoOn) (wants : WorkersWant) (so : What
         let stood = story_stands t refl keeps.answered in
         record {
           steady = rw event_is later_steady;
-          stands = rw (event_is, stood.0, stood.1) keeps.stands;
+          stands = rw (event_is, stood.0, stood.1) (stories_keep r.heap story.now story.flip w y q r.stands r.below r.holds asked);
           told = rw event_is (told_by t refl keeps.answered keeps.full keeps.flips);
         }
 

@@ -15,7 +15,7 @@ use Rattle.gc_worker.specs.declared.calls.did.Did.TheVariants.{Done, Trap}
 use Rattle.gc_worker.specs.declared.calls.entry.Entry.{Entry}
 use Rattle.gc_worker.specs.Plain.Answer.{IsAnswered}
 use Rattle.gc_worker.specs.Workers.Held.{Held}
-use Rattle.gc_worker.specs.History.Legal.{IsLegal, after_all, extra}
+use Rattle.gc_worker.specs.History.Legal.{EmptiesLost, IsLegal, after_all, extra}
 use Rattle.gc_worker.specs.Laws.Between.{IsSo}
 use Rattle.gc_worker.specs.History.Needs.{EachFullIs, EachMayCome, made_since, first_story}
 use Rattle.gc_worker.specs.History.Order.{AreFetched, entry_mark, order_of}
@@ -36,9 +36,10 @@ use Rattle.gc_worker.proofs.History.Extensions.{legal_more}
 use Rattle.gc_worker.proofs.History.Needs.{IsNext, order_makes, orders_fill}
 use Rattle.gc_worker.proofs.History.Orders.{fetched_append}
 use Rattle.gc_worker.proofs.History.Steps.{step_tallied}
-use Rattle.gc_worker.proofs.History.Tallies.{tally_append, tally_more-flip, tally_more-now, tally_now}
+use Rattle.gc_worker.proofs.History.Tallies.{empties_lost, tally_append, tally_more-flip, tally_more-now, tally_now}
 use Rattle.gc_worker.proofs.History.Tasks.{task_tallied}
 use Rattle.gc_worker.proofs.StepKeeps.{steps_keep}
+use Rattle.gc_worker.proofs.StoriesKeep.{stories_keep}
 use Rattle.gc_core.specs.Core.{CoreState, size_in}
 use Rattle.gc_core.specs.Cycles.{count_from}
 use Rattle.gc_core.specs.Event.{Event, core_after, event_of, readied, ready}
@@ -50,53 +51,61 @@ use Rattle.gc_core.proofs.Whole.{events_keep}
 
 -- ---- what an event adds
 
-abbrev pub adds_by : CoreState → ℕ → Option Step → List Entry
-adds_by s w None = []
-adds_by s w (Some q) = extra w (told (ready s w) (reply_of q s.heap.words))
-
--- the entry that the event of worker w is, if any
-abbrev pub adds : CoreState → ℕ → List Entry
-adds s w = adds_by s w (wanted (ready s w))
-
-order_more : (w : ℕ) (t : Told) → order_of (extra w t) ≡ option_to_list (mark_of (stepped_by w t))
-order_more w Silent = refl
-order_more w Empties = refl
-order_more w (Answers task Done) = refl
-order_more w (Answers task (Trap end)) = refl
-order_more w (Marks asked) = refl
-
--- its mark is what is told of the event
-pub order_adds : (s : CoreState) (w : ℕ) → order_of (adds s w) ≡ option_to_list (mark_of (event_of s w).told)
-unfolding event_of
-order_adds s w = by_want (wanted (ready s w)) refl
-  where
-    by_want : (o : Option Step) → wanted (ready s w) ≡ o → order_of (adds_by s w (wanted (ready s w))) ≡ option_to_list (mark_of (event_of s w).told)
-    by_want None is = rw is refl
-    by_want (Some q) is = rw is (order_more w (told (ready s w) (reply_of q s.heap.words)))
-
--- what the events of a run add
-unfoldable pub log_from : (ℕ → ℕ) → ℕ → ℕ → CoreState → List Entry
-log_from schedule at zero s = []
-log_from schedule at (suc n) s = if all_ended s then [] else adds s (schedule at) ++ log_from schedule (at + 1) n (core_after s (schedule at))
-
-order_by : (schedule : ℕ → ℕ) (at n : ℕ) (s : CoreState) (b : Bool) → all_ended s ≡ b
-    → order_of (log_from schedule (at + 1) n (core_after s (schedule at))) ≡ (run_from schedule (at + 1) n (core_after s (schedule at))).order
-    → order_of (log_from schedule at (suc n) s) ≡ (run_from schedule at (suc n) s).order
-unfolding log_from run_from
-order_by schedule at n s true is rest = rw is refl
-order_by schedule at n s false is rest =
-    rw is (map-append entry_mark (adds s (schedule at)) (log_from schedule (at + 1) n (core_after s (schedule at))) ∙ (λ i. order_adds s (schedule at) i ++ rest i))
-
--- its order is that of the run
-pub log_order : (schedule : ℕ → ℕ) (at n : ℕ) (s : CoreState) → order_of (log_from schedule at n s) ≡ (run_from schedule at n s).order
-unfolding log_from run_from
-log_order schedule at zero s = refl
-log_order schedule at (suc n) s = order_by schedule at n s (all_ended s) refl (log_order schedule (at + 1) n (core_after s (schedule at)))
-
--- ---- a core and its history
-
 abbrev pub first : CoreState → Tally
 first s = first_tally (opening s.code)
+
+-- where o is the plain state at the last flip
+abbrev pub adds_by : CoreState → (o : Plain) → ℕ → Option Step → List Entry
+adds_by s o w None = []
+adds_by s o w (Some q) = extra o w (told (ready s w) (reply_of q s.heap.words))
+
+-- the entry that the event of worker w is, if any, after this history
+abbrev pub adds : CoreState → List Entry → ℕ → List Entry
+adds s log w = adds_by s (tally (first s) log).flip w (wanted (ready s w))
+
+order_more : (o : Plain) (w : ℕ) (t : Told) → order_of (extra o w t) ≡ option_to_list (mark_of (stepped_by w t))
+order_more o w Silent = refl
+order_more o w Empties = refl
+order_more o w (Answers task Done) = refl
+order_more o w (Answers task (Trap end)) = refl
+order_more o w (Marks asked) = refl
+
+-- its mark is what is told of the event
+pub order_adds : (s : CoreState) (log : List Entry) (w : ℕ) → order_of (adds s log w) ≡ option_to_list (mark_of (event_of s w).told)
+unfolding event_of
+order_adds s log w = by_want (wanted (ready s w)) refl
+  where
+    o : Plain
+    o = (tally (first s) log).flip
+
+    by_want : (step : Option Step) → wanted (ready s w) ≡ step → order_of (adds_by s o w (wanted (ready s w))) ≡ option_to_list (mark_of (event_of s w).told)
+    by_want None is = rw is refl
+    by_want (Some q) is = rw is (order_more o w (told (ready s w) (reply_of q s.heap.words)))
+
+-- what the events of a run add to this history
+unfoldable pub log_from : (ℕ → ℕ) → ℕ → ℕ → CoreState → List Entry → List Entry
+log_from schedule at zero s log = []
+log_from schedule at (suc n) s log =
+    if all_ended s then [] else adds s log (schedule at) ++ log_from schedule (at + 1) n (core_after s (schedule at)) (log ++ adds s log (schedule at))
+
+order_by : (schedule : ℕ → ℕ) (at n : ℕ) (s : CoreState) (log : List Entry) (b : Bool) → all_ended s ≡ b
+    → order_of (log_from schedule (at + 1) n (core_after s (schedule at)) (log ++ adds s log (schedule at))) ≡ (run_from schedule (at + 1) n (core_after s (schedule at))).order
+    → order_of (log_from schedule at (suc n) s log) ≡ (run_from schedule at (suc n) s).order
+unfolding log_from run_from
+order_by schedule at n s log true is rest = rw is refl
+order_by schedule at n s log false is rest =
+    rw is
+    (map-append entry_mark (adds s log (schedule at)) (log_from schedule (at + 1) n (core_after s (schedule at)) (log ++ adds s log (schedule at)))
+    ∙ (λ i. order_adds s log (schedule at) i ++ rest i))
+
+-- its order is that of the run
+pub log_order : (schedule : ℕ → ℕ) (at n : ℕ) (s : CoreState) (log : List Entry) → order_of (log_from schedule at n s log) ≡ (run_from schedule at n s).order
+unfolding log_from run_from
+log_order schedule at zero s log = refl
+log_order schedule at (suc n) s log =
+    order_by schedule at n s log (all_ended s) refl (log_order schedule (at + 1) n (core_after s (schedule at)) (log ++ adds s log (schedule at)))
+
+-- ---- a core and its history
 
 -- The core stands for what a history leads to, from the opening on, at which so many pages were in use; what is counted along it fits the
 -- core, and its calls are what mutators fetch.
@@ -117,7 +126,7 @@ module _ (least : ℕ) (s : CoreState) (w : ℕ) (log : List Entry) (h : HasHist
   kept : KeepsStory s w now
   kept = events_keep s w now h.steady h.stands
 
-  idle_history : wanted (ready s w) ≡ None → HasHistory least (core_after s w) (log ++ adds s w)
+  idle_history : wanted (ready s w) ≡ None → HasHistory least (core_after s w) (log ++ adds s log w)
   unfolding event_of
   idle_history none = rw (none, append-nil log) h
 
@@ -138,7 +147,7 @@ module _ (least : ℕ) (s : CoreState) (w : ℕ) (log : List Entry) (h : HasHist
     after = moved r.heap w y q
 
     abbrev grown : List Entry
-    grown = log ++ extra w u
+    grown = log ++ extra t.flip w u
 
     pub given : IsTallied least r.heap (first s) log
     given = subst (λ (z : Heap). IsTallied least z (first s) log) (sym r.is) (task_tallied s.heap w y below (ready_begins s w) least (first s) log h.tallied)
@@ -146,17 +155,18 @@ module _ (least : ℕ) (s : CoreState) (w : ℕ) (log : List Entry) (h : HasHist
     pub law : StepKeeps r.heap t.now t.flip w y q
     law = steps_keep r.heap t.now t.flip w y q r.stands r.below r.holds asked
 
-    same : tally (first s) grown ≡ tally t (extra w u)
-    same = tally_append (first s) log (extra w u)
+    same : tally (first s) grown ≡ tally t (extra t.flip w u)
+    same = tally_append (first s) log (extra t.flip w u)
 
     stands : WorkersStand after (tally (first s) grown).now (tally (first s) grown).flip
     stands = subst (λ (z : Tally). WorkersStand after z.now z.flip) (sym same)
-        (subst (λ (z : Plain × Plain). WorkersStand after z.0 z.1) (λ i. (sym (tally_more-now t w u) i, sym (tally_more-flip t w u) i)) law.stands)
+        (subst (λ (z : Plain × Plain). WorkersStand after z.0 z.1) (λ i. (sym (tally_more-now t t.flip w u) i, sym (tally_more-flip t t.flip w u) i))
+        (stories_keep r.heap t.now t.flip w y q r.stands r.below r.holds asked))
 
     all_is : after_all (opening s.code) log ≡ t.now
     all_is = sym (tally_now (first s) log)
 
-    fetches : (m : ℕ) (v : Told) → u ≡ v → IsAnswered t.now w v → AreFetched s.code s.turns m (after_all (opening s.code) log) (extra w v)
+    fetches : (m : ℕ) (v : Told) → u ≡ v → IsAnswered t.now w v → AreFetched s.code s.turns m (after_all (opening s.code) log) (extra t.flip w v)
     fetches m Silent e comes = tt
     fetches m Empties e comes = tt
     fetches m (Marks pages) e comes = tt
@@ -168,25 +178,25 @@ module _ (least : ℕ) (s : CoreState) (w : ℕ) (log : List Entry) (h : HasHist
             (ap (λ (p : Plain). slice_get p.mutators w) (sym all_is) ∙ (ap (λ (j : ℕ). slice_get (after_all (opening s.code) log).mutators j) same ∙ is))
             ∙ ap (λ (j : ℕ). task_of (fetch s.code s.turns j k)) same
 
-    step_history : HasHistory least (core_after s w) (log ++ adds s w)
+    step_history : HasHistory least (core_after s w) (log ++ adds s log w)
     step_history =
         let event : event_of s w ≡ record { told = stepped_by w u; after = after } = event_is steps_keep workers_go_on workers_want what_stands_is_so s w now h.steady r q asked in
-        let more : adds s w ≡ extra w u = ap (adds_by s w) asked ∙ ap (λ (words : List ℕ). extra w (told y (reply_of q words))) (sym r.words) in
+        let more : adds s log w ≡ extra t.flip w u = ap (adds_by s t.flip w) asked ∙ ap (λ (words : List ℕ). extra t.flip w (told y (reply_of q words))) (sym r.words) in
         subst (λ (z : CoreState × List Entry). HasHistory least z.0 (log ++ z.1)) (λ i. (record s { heap = (sym event i).after }, sym more i))
         (record {
           steady = subst (λ (e : Event). IsSteady (record s { heap = e.after })) event kept.steady;
           stands = stands;
           tallied = step_tallied r.heap w y q r.below r.holds asked least (first s) log given r.stands;
-          legal = legal_more (opening s.code) log w u h.legal (subst (λ (p : Plain). IsAnswered p w u) (sym all_is) law.answered);
-          fetched = λ m. fetched_append s.code s.turns m (opening s.code) log (extra w u) (h.fetched m) (fetches m u refl law.answered);
+          legal = legal_more (opening s.code) t.flip log w u h.legal (subst (λ (p : Plain). IsAnswered p w u) (sym all_is) law.answered);
+          fetched = λ m. fetched_append s.code s.turns m (opening s.code) log (extra t.flip w u) (h.fetched m) (fetches m u refl law.answered);
         })
 
-  by_want : w < length s.heap.workers → (o : Option Step) → wanted (ready s w) ≡ o → HasHistory least (core_after s w) (log ++ adds s w)
+  by_want : w < length s.heap.workers → (o : Option Step) → wanted (ready s w) ≡ o → HasHistory least (core_after s w) (log ++ adds s log w)
   by_want below None is = idle_history is
   by_want below (Some q) is = step_history below q is
 
   -- so does the core after any event
-  pub event_history : HasHistory least (core_after s w) (log ++ adds s w)
+  pub event_history : HasHistory least (core_after s w) (log ++ adds s log w)
   event_history = ⊎_elim
       (λ (below : w < length s.heap.workers). by_want below (wanted (ready s w)) refl)
       (λ (past : length s.heap.workers ≤ w). idle_history (ap (λ (x : Held). wanted (readied s.code s.turns w x)) (get_or_past s.heap.workers w nobody past)))
@@ -217,9 +227,13 @@ module _ (least : ℕ) (s : CoreState) (log : List Entry) (h : HasHistory least 
       (omega arith) (λ m e. e) in
       (subst (λ (z : ℕ × ℕ). EachFullIs z.0 z.1 s.code s.turns (first_story s.code) 0 0 (order_of log)) (λ i. (h.tallied.counts.limit i, h.tallied.began.0 i)) all.0, all.1)
 
+  -- the cells that it empties are those that lost their targets
+  pub lost : EmptiesLost (opening s.code) (opening s.code) log
+  lost = empties_lost h.tallied.sizes (tasks_held s.heap.workers) (first s) log h.tallied.entries
+
   -- no more pages were made than its order tells
   pub history_made : (tally (first s) log).made ≤ made_since s.code s.turns (order_of log)
-  history_made = order_makes s.code s.turns (tasks_held s.heap.workers) (first s) 0 log h.legal (plain_count s.code s.turns []) h.fetched (omega arith)
+  history_made = order_makes s.code s.turns (tasks_held s.heap.workers) (first s) 0 log h.legal lost (plain_count s.code s.turns []) h.fetched (omega arith)
 
   -- ---- the pages in use
 
@@ -234,21 +248,21 @@ module _ (least : ℕ) (s : CoreState) (log : List Entry) (h : HasHistory least 
 
 -- What each event keeps is so at its end, with what is counted along it.
 module _ (next : CoreState → ℕ → ℕ → ℕ) (Holds : CoreState → List Entry → (count : ℕ) → Type 0)
-    (keeps : (s : CoreState) (w : ℕ) (log : List Entry) (count : ℕ) → Holds s log count → Holds (core_after s w) (log ++ adds s w) (next s w count)) where
+    (keeps : (s : CoreState) (w : ℕ) (log : List Entry) (count : ℕ) → Holds s log count → Holds (core_after s w) (log ++ adds s log w) (next s w count)) where
   -- at the end of a run that begins so
   abbrev pub HoldsAfter : (ℕ → ℕ) → ℕ → ℕ → CoreState → List Entry → (count : ℕ) → Type 0
-  HoldsAfter schedule at n s log count = Holds (run_from schedule at n s).last (log ++ log_from schedule at n s) (count_from next schedule at n count s)
+  HoldsAfter schedule at n s log count = Holds (run_from schedule at n s).last (log ++ log_from schedule at n s log) (count_from next schedule at n count s)
 
   by_ended : (schedule : ℕ → ℕ) (at n : ℕ) (s : CoreState) (log : List Entry) (count : ℕ) (b : Bool) → all_ended s ≡ b → Holds s log count
-      → HoldsAfter schedule (at + 1) n (core_after s (schedule at)) (log ++ adds s (schedule at)) (next s (schedule at) count) → HoldsAfter schedule at (suc n) s log count
+      → HoldsAfter schedule (at + 1) n (core_after s (schedule at)) (log ++ adds s log (schedule at)) (next s (schedule at) count) → HoldsAfter schedule at (suc n) s log count
   unfolding run_from count_from log_from
   by_ended schedule at n s log count true is now rest = rw (is, append-nil log) now
   by_ended schedule at n s log count false is now rest =
-      rw (is, sym (append_assoc log (adds s (schedule at)) (log_from schedule (at + 1) n (core_after s (schedule at))))) rest
+      rw (is, sym (append_assoc log (adds s log (schedule at)) (log_from schedule (at + 1) n (core_after s (schedule at)) (log ++ adds s log (schedule at))))) rest
 
   pub holds_after : (schedule : ℕ → ℕ) (at n : ℕ) (s : CoreState) (log : List Entry) (count : ℕ) → Holds s log count → HoldsAfter schedule at n s log count
   unfolding run_from count_from log_from
   holds_after schedule at zero s log count now = rw (append-nil log) now
   holds_after schedule at (suc n) s log count now =
       by_ended schedule at n s log count (all_ended s) refl now
-      (holds_after schedule (at + 1) n (core_after s (schedule at)) (log ++ adds s (schedule at)) (next s (schedule at) count) (keeps s (schedule at) log count now))
+      (holds_after schedule (at + 1) n (core_after s (schedule at)) (log ++ adds s log (schedule at)) (next s (schedule at) count) (keeps s (schedule at) log count now))

@@ -44,7 +44,7 @@ end_acts s w story after m (ends.HeapFull asked room live) t = ((t.1, t.3.0, t.3
 told_acts : (s : CoreState) (w : ℕ) (story : Story) (after : Heap) (told : Stepped) → IsTold s w story after told → EachActs s.code s.turns story (option_to_list (mark_of told))
 told_acts s w story after Idle t = tt
 told_acts s w story after Moved t = tt
-told_acts s w story after Traced t = tt
+told_acts s w story after Traced t = (tt, tt)
 told_acts s w story after (Flipped asked) t = (tt, tt)
 told_acts s w story after (Effect m) t = (t.1, tt)
 told_acts s w story after (Ended m why) t = end_acts s w story after m why t

@@ -9,7 +9,7 @@ use Rattle.plain_state.specs.declared.kind.Kind.{Kind}
 use Rattle.space_map.specs.Table.{Row, is_row, place_of, table_length}
 use Rattle.space_map.proofs.Rows.{is_row-decides, place_of-lt}
 use Rattle.heap_state.specs.Meaning.Dump.{Dump, dump_of}
-use Rattle.heap_state.specs.Meaning.Represents.{DumpRepresents, RegisterShows, RecordShows, IsOwn, HasOwn, LeadsToRecord, denoted_in_dump}
+use Rattle.heap_state.specs.Meaning.Represents.{DumpRepresents, RegisterShows, HeadShows, WordShows, RecordShows, IsOwn, HasOwn, Names, LeadsToRecord, denoted_in_dump}
 use Rattle.heap_state.specs.Memory.Table.{Table, table_by, table_of, word_in}
 use Rattle.heap_state.specs.Memory.Walk.{Walked}
 use Rattle.heap_state.specs.Worker.{Scanner, Worker, fresh}
@@ -40,14 +40,28 @@ module _ (d : Dump) (p : plain.Plain) (mutators : ℕ) (registers : ℕ → ℕ 
     own = record { walked = h.own.walked; head = h.own.head; header = h.own.header; said = h.own.said };
   }
 
-  record_shows : (w : Walked) → RecordShows d p w → RecordShows other p w
-  record_shows w r = record {
-    owns = λ walked. has_own w (r.owns walked);
-    shows = λ kind len serial mutator o. r.shows kind len serial mutator (own_back w kind len serial mutator o);
-    leads = λ kind len serial mutator i o field. r.leads kind len serial mutator i (own_back w kind len serial mutator o) field;
+  names_back : (w : Walked) (kind : Kind) (r : plain.Record) → Names other p w kind r → Names d p w kind r
+  names_back w kind r n =
+      record { len = n.len; serial = n.serial; mutator = n.mutator; own = own_back w kind n.len n.serial n.mutator n.own; names = n.names }
+
+  head_shows : (w : Walked) → HeadShows d p w → HeadShows other p w
+  head_shows w h = record {
+    owns = λ walked. has_own w (h.owns walked);
+    shows = λ kind len serial mutator o. h.shows kind len serial mutator (own_back w kind len serial mutator o);
     once = λ v kind more len longer serial mutator o other_own.
-        r.once v kind more len longer serial mutator (own_back w kind len serial mutator o) (own_back v more longer serial mutator other_own);
+        h.once v kind more len longer serial mutator (own_back w kind len serial mutator o) (own_back v more longer serial mutator other_own);
   }
+
+  word_shows : (w : Walked) (i : ℕ) → WordShows d p w i → WordShows other p w i
+  word_shows w i s = record {
+    count = λ kind r n. s.count kind r (names_back w kind r n);
+    field = λ kind r x n. s.field kind r x (names_back w kind r n);
+    number = λ kind r x n. s.number kind r x (names_back w kind r n);
+    leads = λ kind len serial mutator o. s.leads kind len serial mutator (own_back w kind len serial mutator o);
+  }
+
+  record_shows : (w : Walked) → RecordShows d p w → RecordShows other p w
+  record_shows w r = record { head = head_shows w r.head; words = λ i first last. word_shows w i (r.words i first last) }
 
   register_shows : (m j : ℕ) → (m < length p.mutators → registers m j ≡ d.registers m j) → RegisterShows d p m j → RegisterShows other p m j
   register_shows m j same r = record {
@@ -61,6 +75,7 @@ module _ (d : Dump) (p : plain.Plain) (mutators : ℕ) (registers : ℕ → ℕ 
     as_many = (r.as_many.0 ∙ sym as_many, r.as_many.1 ∙ sym as_many);
     eight = r.eight;
     sixteen = r.sixteen;
+    ordered = λ space walked. let o = r.ordered space walked in record { size = o.size; area = o.area };
     registers = λ m j few. register_shows m j (λ there. same m j there few) (r.registers m j few);
     board = λ x few. let b = r.board x few in record { shows = b.shows; leads = b.leads };
     readable = r.readable;

@@ -58,6 +58,9 @@ copy_kept l a e (evac_stage.LoadsWord r i) = refl
 copy_kept l a e (evac_stage.StoresWord r w) = refl
 copy_kept l a e (evac_stage.StoresCross r page) = refl
 copy_kept l a e (evac_stage.StoresForward r) = refl
+copy_kept l a e (evac_stage.LoadsWeak to) = refl
+copy_kept l a e (evac_stage.StoresLink to head) = refl
+copy_kept l a e (evac_stage.TakesWeak to head) = refl
 copy_kept l a e (evac_stage.Clears to) = refl
 copy_kept l a e (evac_stage.Ended to) = refl
 

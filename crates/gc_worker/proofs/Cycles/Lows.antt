@@ -305,7 +305,7 @@ module _ (h : Heap) (p o : Plain) (k : ℕ) (x : Held) (st : WorkersStand h p o)
     other_is_whole =
         let space = from_space (era c).epoch in
         let small = is_space ((era c).epoch + 1) in
-        let found : Reset = record { read = r.gate; size = Some r.size; grown = Some r.next; used = Some r.used; sized = true; stored = true } in
+        let found : Reset = record { read = r.gate; size = Some r.size; grown = Some r.next; used = Some r.used; sized = true; stored = true; cleared = true } in
         let reset = (st.stands.invariant.workers k is.below).reset found (ap (λ (w : Worker). w.reset) is.as_known) in
         let stored = (reset.stored refl).2 in
         let says : low_at n words space ≡ ((table c).area space).low = ap low_said (area_says c p st.stands space small) in

@@ -105,7 +105,7 @@ module _ (h : Heap) (p o : Plain) (k : ℕ) (x : Held) (st : WorkersStand h p o)
     -- the size that is stored is no smaller than the one in use
     stored_grows : size_of n words ≤ r.next
     stored_grows =
-        let found : Reset = record { read = r.gate; size = Some r.size; grown = Some r.next; used = Some r.used; sized = false; stored = false } in
+        let found : Reset = record { read = r.gate; size = Some r.size; grown = Some r.next; used = Some r.used; sized = false; stored = false; cleared = false } in
         let grown = ((st.stands.invariant.workers k is.below).reset found (ap (λ (w : Worker). w.reset) is.as_known)).grown r.next refl in
         let span = span_is c in
         let now : size_of n words ≡ size_now c (to_space (era c).epoch) = ap (λ (e : ℕ). size_now c (to_space e)) (sym (of_now h p o k x st)) in
@@ -192,7 +192,7 @@ module _ (h : Heap) (p o : Plain) (k : ℕ) (x : Held) (st : WorkersStand h p o)
   module _ (f : Flipping) (r : resets.Reset) (is : Is c k (at_stage x (Flips (record f { stage = flip_stage.Exchanges r })))) where
     pub other_follows : FollowsFrom f (size_now c (to_space (era c).epoch)) (size_now c (from_space (era c).epoch))
     other_follows =
-        let found : Reset = record { read = r.gate; size = Some r.size; grown = Some r.next; used = Some r.used; sized = true; stored = true } in
+        let found : Reset = record { read = r.gate; size = Some r.size; grown = Some r.next; used = Some r.used; sized = true; stored = true; cleared = true } in
         let reset = (st.stands.invariant.workers k is.below).reset found (ap (λ (w : Worker). w.reset) is.as_known) in
         let sized = reset.sized refl in
         let size = reset.size r.size refl in

@@ -15,12 +15,14 @@ use Rattle.gc_worker.specs.declared.calls.call.Call.{Call}
 use Rattle.gc_worker.specs.declared.calls.did.Did.{Did}
 use Rattle.gc_worker.specs.declared.calls.did.Did.TheVariants.{Done, Trap}
 use Rattle.gc_worker.specs.declared.calls.entry.Entry.{Entry}
-use Rattle.gc_worker.specs.declared.calls.entry.Entry.TheVariants.{Made, Exchanged}
+use Rattle.gc_worker.specs.declared.calls.entry.Entry.TheVariants.{Made, Exchanged, Emptied}
 use Rattle.gc_worker.specs.declared.task.Task.{Task}
 use Rattle.gc_worker.specs.declared.task.Task.TheVariants.{Calls, Stops}
 use Rattle.gc_worker.specs.Plain.Answer.{after_answer, after_outcome}
 use Rattle.gc_worker.specs.History.Checkpoints.{HistoriesCountCheckpoints, HistoriesKeepTheLastCheckpoint, IsLastOfHistory, WasBegunByCall, calls_snap, is_snap_done, snap_call, snaps_called}
+use Rattle.gc_worker.specs.Plain.Stories.{with_emptied}
 use Rattle.gc_worker.specs.History.Legal.{after_all, after_call, worker_call}
+use Rattle.gc_worker.proofs.Plain.Emptied.{same_checkpoint}
 use Rattle.gc_worker.proofs.History.Extensions.{after_append}
 
 -- ---- one entry
@@ -47,10 +49,12 @@ module _ (p : Plain) (k : ℕ) where
 abbrev entry_snaps : Plain → Entry → Bool
 entry_snaps p (Made c) = calls_snap p c
 entry_snaps p (Exchanged by asked) = false
+entry_snaps p (Emptied cells) = false
 
 entry_leaves : (p : Plain) (e : Entry) → SnapLeaves p.heap (after_all p (e ∷ [])).heap (entry_snaps p e)
 entry_leaves p (Made c) = by_mutator p c.by c.task c.did (slice_get p.mutators c.by)
 entry_leaves p (Exchanged by asked) = left_as_it_is p.heap
+entry_leaves p (Emptied cells) = inl (record { is = refl; keeps = same_checkpoint p cells })
 
 -- it is `snap` that is called, with its effect
 entry_is : (p : Plain) (c : Call) → calls_snap p c ≡ true → Made c ≡ Made (snap_call c.by)
@@ -70,11 +74,13 @@ entry_is p c is = rw (by_mutator_there (slice_get p.mutators c.by) is) refl
 called_one : (p : Plain) (e : Entry) → snaps_called p (e ∷ []) ≡ if_snaps (entry_snaps p e)
 called_one p (Made c) = omega arith
 called_one p (Exchanged by asked) = refl
+called_one p (Emptied cells) = refl
 
 called-append : (p : Plain) (front log : List Entry) → snaps_called p (front ++ log) ≡ snaps_called p front + snaps_called (after_all p front) log
 called-append p [] log = omega arith
 called-append p (Made c ∷ front) log = let rest = called-append (after_call p c) front log in omega (arith, rest)
 called-append p (Exchanged by asked ∷ front) log = called-append p front log
+called-append p (Emptied cells ∷ front) log = called-append (with_emptied p cells) front log
 
 -- ---- a history
 
@@ -151,6 +157,7 @@ module _ (first : Plain) where
         last = λ l. refl;
       }
   begun_here front (Exchanged by asked) counted leaves = let never = leaves.is in absurd (cc)
+  begun_here front (Emptied cells) counted leaves = let never = leaves.is in absurd (cc)
 
   more : (front : List Entry) (e : Entry) → Stands front → Stands (front ++ e ∷ [])
   more front e h = record {

@@ -22,11 +22,13 @@ use Rattle.gc_worker.specs.declared.calls.call.Call.{Call}
 use Rattle.gc_worker.specs.declared.calls.did.Did.{Did}
 use Rattle.gc_worker.specs.declared.calls.did.Did.TheVariants.{Done, Trap}
 use Rattle.gc_worker.specs.declared.calls.entry.Entry.{Entry}
-use Rattle.gc_worker.specs.declared.calls.entry.Entry.TheVariants.{Made, Exchanged}
+use Rattle.gc_worker.specs.declared.calls.entry.Entry.TheVariants.{Made, Exchanged, Emptied}
 use Rattle.gc_worker.specs.declared.task.Task.{Task}
 use Rattle.gc_worker.specs.declared.task.Task.TheVariants.{Calls, Stops}
+use Rattle.gc_worker.specs.Plain.Stories.{with_emptied}
 use Rattle.gc_worker.specs.History.Legal.{IsLegal, after_all, after_call}
 use Rattle.gc_worker.specs.History.Loads.{CallDoes, ExchangesFindTheLastStore, LoadsGetTheLastStore, RecordsKeepTheirShape, WordsAreStored, WordsBeginAsZero, last_stored, word_after_call, word_after_task}
+use Rattle.gc_worker.proofs.Plain.Emptied.{same_shape, same_word}
 use Rattle.gc_worker.proofs.History.Extensions.{after_append}
 
 -- ---- words
@@ -56,6 +58,8 @@ words_are_stored p [] i x legal = refl
 words_are_stored p (Made c ∷ es) i x legal =
     words_are_stored (after_call p c) es i x legal.1 ∙ ap (λ (first : Value). last_stored (after_call p c) es i x first) (call_word p c i x legal.0)
 words_are_stored p (Exchanged by asked ∷ es) i x legal = words_are_stored p es i x legal
+words_are_stored p (Emptied cells ∷ es) i x legal =
+    words_are_stored (with_emptied p cells) es i x legal ∙ ap (λ (first : Value). last_stored (with_emptied p cells) es i x first) (same_word p cells i x)
 
 pub words_begin_as_zero : WordsBeginAsZero
 words_begin_as_zero mutators i x = no_words mutators (opening_plain mutators).heap.board i x
@@ -66,6 +70,7 @@ legal_at : (p : Plain) (front rest : List Entry) (c : Call) → IsLegal p (front
 legal_at p [] rest c h = (tt, h.0)
 legal_at p (Made d ∷ es) rest c h = let later = legal_at (after_call p d) es rest c h.1 in ((h.0, later.0), later.1)
 legal_at p (Exchanged by asked ∷ es) rest c h = legal_at p es rest c h
+legal_at p (Emptied cells ∷ es) rest c h = legal_at (with_emptied p cells) es rest c h
 
 -- what a legal call that does this leaves of its mutator
 module _ (p : Plain) (c : Call) (q : Mutator) (act : Action) (call_does : CallDoes p c q act) (h : ComesTo p c.by c.task c.did) where
@@ -127,6 +132,7 @@ module _ (i : Identity) (s : RecordShape) where
   all_have p [] has = has
   all_have p (Made c ∷ es) has = all_have (after_call p c) es (answer_has p c.by c.task c.did (slice_get p.mutators c.by) has)
   all_have p (Exchanged by asked ∷ es) has = all_have p es has
+  all_have p (Emptied cells ∷ es) has = all_have (with_emptied p cells) es (same_shape p cells i ∙ has)
 
 pub records_keep_their_shape : RecordsKeepTheirShape
 records_keep_their_shape p front rest i s has = subst (Has i s) (sym (after_append p front rest)) (all_have i s (after_all p front) rest has)

@@ -16,10 +16,11 @@ use Rattle.gc_worker.specs.declared.calls.call.Call.{Call}
 use Rattle.gc_worker.specs.declared.calls.did.Did.{Did}
 use Rattle.gc_worker.specs.declared.calls.did.Did.TheVariants.{Done, Trap}
 use Rattle.gc_worker.specs.declared.calls.entry.Entry.{Entry}
-use Rattle.gc_worker.specs.declared.calls.entry.Entry.TheVariants.{Made, Exchanged}
+use Rattle.gc_worker.specs.declared.calls.entry.Entry.TheVariants.{Made, Exchanged, Emptied}
 use Rattle.gc_worker.specs.declared.task.Task.{Task}
 use Rattle.gc_worker.specs.declared.task.Task.TheVariants.{Calls, Stops}
-use Rattle.gc_worker.specs.History.Legal.{IsLegal, after_all, after_call}
+use Rattle.gc_worker.specs.Plain.Stories.{with_emptied}
+use Rattle.gc_worker.specs.History.Legal.{EmptiesLost, IsLegal, after_all, after_call}
 use Rattle.gc_worker.proofs.History.Large.{least_full}
 use Rattle.gc_worker.specs.History.Needs.{EachFullIs, EachMayCome, HasNoFull, IsFullAt, IsLargeEnough, FullMayCome, being_made, flips_by, flips_in, made_after, made_after_mark, first_story, pages_next, since_by, since_in}
 use Rattle.gc_worker.specs.History.Order.{AreFetched, mark_by, order_of}
@@ -28,7 +29,7 @@ use Rattle.gc_worker.specs.Plain.Marks.{end_mark, task_of}
 use Rattle.gc_worker.specs.Steps.Turned.{Answers}
 use Rattle.gc_worker.proofs.Between.Others.{answers_leave_the_others}
 use Rattle.gc_worker.proofs.History.Extensions.{as_many}
-use Rattle.gc_worker.proofs.History.Orders.{call_turns}
+use Rattle.gc_worker.proofs.History.Orders.{call_turns, tracing_turns}
 use Rattle.gc_worker.proofs.History.Sums.{sum_below-most}
 use Rattle.gc_worker.proofs.Plain.Outcomes.{Sort, IsFull, IsStep, asks, sort}
 
@@ -56,6 +57,7 @@ module _ (code : List (List Instr)) (turns : ℕ) (tasks : Tasks) where
           let leaves = answers_leave_the_others p c.by (Answers c.task c.did) in
           later e (leaves.mutator j (λ same. eqb-false c.by j other (sym same)) ∙ its) none
   next_at p (Exchanged by asked ∷ es) own last j task q = next_at p es own last j task q
+  next_at p (Emptied cells ∷ es) own last j task q = next_at (with_emptied p cells) es own last j task q
 
   -- ---- the pages of its record
 
@@ -187,6 +189,10 @@ module _ (code : List (List Instr)) (turns : ℕ) (tasks : Tasks) where
   orders_fill z t made since (Exchanged by asked ∷ es) legal sections own last each covers has =
       let rest = orders_fill z (after_entry t (Exchanged by asked)) 0 (λ m. true) es legal sections own last each.1 (omega arith) (λ m e. refl) in
       ((tt, rest.0), (tt, rest.1))
+  orders_fill z t made since (Emptied cells ∷ es) legal sections own last each covers has =
+      let rest = orders_fill z (after_entry t (Emptied cells)) made since es legal sections own last each.1 covers has in
+      let to = tracing_turns code turns t.now t.flip cells each.0 in
+      ((tt, subst (λ (s : Story). EachFullIs z.limit z.least code turns s t.flips made (order_of es)) (sym to) rest.0), (tt, rest.1))
 
   -- ---- what it makes
 
@@ -203,25 +209,32 @@ module _ (code : List (List Instr)) (turns : ℕ) (tasks : Tasks) where
       by_did (Trap why) = let most = by_sort why (sort c.by why) in omega (arith, most)
 
   -- no more than its order tells
-  pub order_makes : (t : Tally) (made : ℕ) (log : List Entry) → IsLegal t.now log → length t.now.mutators ≡ length code → ((m : ℕ) → AreFetched code turns m t.now log) → t.made ≤ made
+  pub order_makes : (t : Tally) (made : ℕ) (log : List Entry) → IsLegal t.now log → EmptiesLost t.now t.flip log → length t.now.mutators ≡ length code → ((m : ℕ) → AreFetched code turns m t.now log) → t.made ≤ made
       → (tally t log).made ≤ made_after code turns (record { flip = t.flip; now = t.now }) made (order_of log)
-  order_makes t made [] legal sections own covers = covers
-  order_makes t made (Made c ∷ es) legal sections own covers =
+  order_makes t made [] legal lost sections own covers = covers
+  order_makes t made (Made c ∷ es) legal lost sections own covers =
       let more = made_after_mark code turns t.now made (mark_by c.by c.did) in
       let most = call_made t made c sections (λ task q is its none. sym (same_Some c.task task is) ∙ (own c.by).0 refl q its) covers in
       subst (λ (s : Story). (tally (after_entry t (Made c)) es).made ≤ made_after code turns s more (order_of es))
       (sym (call_turns code turns t.now t.flip c legal.0 sections ((own c.by).0 refl)))
-      (order_makes (after_entry t (Made c)) more es legal.1 (as_many t.now (Made c ∷ []) ∙ sections) (λ m. (own m).1) most)
-  order_makes t made (Exchanged by asked ∷ es) legal sections own covers = order_makes (after_entry t (Exchanged by asked)) 0 es legal sections own (omega arith)
+      (order_makes (after_entry t (Made c)) more es legal.1 lost (as_many t.now (Made c ∷ []) ∙ sections) (λ m. (own m).1) most)
+  order_makes t made (Exchanged by asked ∷ es) legal lost sections own covers = order_makes (after_entry t (Exchanged by asked)) 0 es legal lost sections own (omega arith)
+  order_makes t made (Emptied cells ∷ es) legal lost sections own covers =
+      subst (λ (s : Story). (tally (after_entry t (Emptied cells)) es).made ≤ made_after code turns s made (order_of es))
+      (sym (tracing_turns code turns t.now t.flip cells lost.0))
+      (order_makes (after_entry t (Emptied cells)) made es legal lost.1 sections own covers)
 
   -- its order leads to what is counted along it
-  pub order_turns : (t : Tally) (log : List Entry) → IsLegal t.now log → length t.now.mutators ≡ length code → ((m : ℕ) → AreFetched code turns m t.now log)
+  pub order_turns : (t : Tally) (log : List Entry) → IsLegal t.now log → EmptiesLost t.now t.flip log → length t.now.mutators ≡ length code → ((m : ℕ) → AreFetched code turns m t.now log)
       → story_after code turns (record { flip = t.flip; now = t.now }) (order_of log) ≡ record { flip = (tally t log).flip; now = (tally t log).now }
-  order_turns t [] legal sections own = refl
-  order_turns t (Made c ∷ es) legal sections own =
+  order_turns t [] legal lost sections own = refl
+  order_turns t (Made c ∷ es) legal lost sections own =
       ap (λ (s : Story). story_after code turns s (order_of es)) (call_turns code turns t.now t.flip c legal.0 sections ((own c.by).0 refl))
-      ∙ order_turns (after_entry t (Made c)) es legal.1 (as_many t.now (Made c ∷ []) ∙ sections) (λ m. (own m).1)
-  order_turns t (Exchanged by asked ∷ es) legal sections own = order_turns (after_entry t (Exchanged by asked)) es legal sections own
+      ∙ order_turns (after_entry t (Made c)) es legal.1 lost (as_many t.now (Made c ∷ []) ∙ sections) (λ m. (own m).1)
+  order_turns t (Exchanged by asked ∷ es) legal lost sections own = order_turns (after_entry t (Exchanged by asked)) es legal lost sections own
+  order_turns t (Emptied cells ∷ es) legal lost sections own =
+      ap (λ (s : Story). story_after code turns s (order_of es)) (tracing_turns code turns t.now t.flip cells lost.0)
+      ∙ order_turns (after_entry t (Emptied cells)) es legal lost.1 sections own
 
 -- ---- a heap that is large enough
 

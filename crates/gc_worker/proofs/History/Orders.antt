@@ -4,8 +4,11 @@ use Rattle.std.proofs.Common.{◌≡◌, ℕ, ◌<◌, ◌≤◌, List, [], ◌�
 use Rattle.std.proofs.lemmas.Bool.{cases_lt}
 use Rattle.std.proofs.lemmas.List.{length-replicate}
 use Rattle.std.proofs.lemmas.Option.{slice_get_within}
+use Rattle.plain_state.specs.declared.value.Identity.{Identity}
 use Rattle.plain_state.specs.State.{Mutator, Plain}
 use Rattle.mutator_asm.specs.declared.instr.Instr.{Instr}
+use Rattle.plain_heap.specs.declared.mark.Mark.TheVariants.{Traced}
+use Rattle.plain_heap.specs.Emptied.{cells_to_empty}
 use Rattle.plain_heap.specs.Order.{Story, first_story, opening, plain, story, story_after, story_marked}
 use Rattle.plain_heap.specs.Step.{fetch}
 use Rattle.heap_laws.specs.Opening.{opening_mutator, opening_plain}
@@ -17,9 +20,11 @@ use Rattle.gc_worker.specs.declared.calls.call.Call.{Call}
 use Rattle.gc_worker.specs.declared.calls.did.Did.{Did}
 use Rattle.gc_worker.specs.declared.calls.did.Did.TheVariants.{Done, Trap}
 use Rattle.gc_worker.specs.declared.calls.entry.Entry.{Entry}
-use Rattle.gc_worker.specs.declared.calls.entry.Entry.TheVariants.{Made, Exchanged}
-use Rattle.gc_worker.specs.History.Legal.{IsLegal, after_all, after_call, calls_of, flip_from, last_flip}
+use Rattle.gc_worker.specs.declared.calls.entry.Entry.TheVariants.{Made, Exchanged, Emptied}
+use Rattle.gc_worker.specs.Plain.Stories.{with_emptied}
+use Rattle.gc_worker.specs.History.Legal.{EmptiesLost, IsLegal, after_all, after_call, calls_of, flip_from, last_flip}
 use Rattle.gc_worker.specs.History.Order.{AreFetched, AreShort, IsShort, mark_by, order_of}
+use Rattle.gc_worker.proofs.Plain.Emptied.{emptied_is}
 use Rattle.gc_worker.proofs.History.Extensions.{as_many, none_first, none_past}
 
 -- ---- a history in two parts
@@ -29,23 +34,27 @@ module _ (code : List (List Instr)) (turns m : ℕ) where
   fetched_append p [] ys h k = k
   fetched_append p (Made c ∷ es) ys h k = (h.0, fetched_append (after_call p c) es ys h.1 k)
   fetched_append p (Exchanged by asked ∷ es) ys h k = fetched_append p es ys h k
+  fetched_append p (Emptied cells ∷ es) ys h k = fetched_append (with_emptied p cells) es ys h k
 
   -- where mutator m has no call
   pub fetched_none : (p : Plain) (log : List Entry) → calls_of m log ≡ [] → AreFetched code turns m p log
   fetched_none p [] none = tt
   fetched_none p (Made c ∷ es) none = let h = none_first m c es none in ((λ by. absurd (h.0 (sym by))), fetched_none (after_call p c) es h.1)
   fetched_none p (Exchanged by asked ∷ es) none = fetched_none p es none
+  fetched_none p (Emptied cells ∷ es) none = fetched_none (with_emptied p cells) es none
 
 module _ (m : ℕ) where
   pub short_append : (xs ys : List Entry) → AreShort m xs → AreShort m ys → AreShort m (xs ++ ys)
   short_append [] ys h k = k
   short_append (Made c ∷ es) ys h k = (h.0, short_append es ys h.1 k)
   short_append (Exchanged by asked ∷ es) ys h k = short_append es ys h k
+  short_append (Emptied cells ∷ es) ys h k = short_append es ys h k
 
   pub short_none : (log : List Entry) → calls_of m log ≡ [] → AreShort m log
   short_none [] none = tt
   short_none (Made c ∷ es) none = let h = none_first m c es none in ((λ by. absurd (h.0 (sym by))), short_none es h.1)
   short_none (Exchanged by asked ∷ es) none = short_none es none
+  short_none (Emptied cells ∷ es) none = short_none es none
 
 -- ---- its order
 
@@ -88,6 +97,11 @@ module _ (code : List (List Instr)) (turns : ℕ) where
       let same = marks_so p c.by h.mutator (omega (arith, within, sections)) h.is h.no_end c.task (own h.mutator h.is) c.did h.may in
       no_flip code turns p o c.by c.did ∙ (λ i. record { flip = o; now = same i })
 
+  -- and where the epoch is traced
+  pub tracing_turns : (p o : Plain) (cells : List Identity) → cells ≡ cells_to_empty o
+      → story_marked code turns (record { flip = o; now = p }) Traced ≡ record { flip = o; now = with_emptied p cells }
+  tracing_turns p o cells are = λ i. record { flip = o; now = (emptied_is o p ∙ ap (with_emptied p) (sym are)) i }
+
   -- ---- a history
 
   -- one call more at its beginning
@@ -101,9 +115,10 @@ module _ (code : List (List Instr)) (turns : ℕ) where
         acts = (act, subst (λ (s : Story). EachActs code turns s (order_of es)) (sym to) rest.acts);
       }
 
-  pub orders_act : (p o : Plain) (log : List Entry) → IsLegal p log → length p.mutators ≡ length code → ((m : ℕ) → AreFetched code turns m p log) → ((m : ℕ) → AreShort m log) → IsOrder code turns p o log
-  orders_act p o [] legal sections fetched short = record { story = refl; acts = tt }
-  orders_act p o (Made c ∷ es) legal sections fetched short =
+  pub orders_act : (p o : Plain) (log : List Entry) → IsLegal p log → EmptiesLost p o log → length p.mutators ≡ length code → ((m : ℕ) → AreFetched code turns m p log)
+      → ((m : ℕ) → AreShort m log) → IsOrder code turns p o log
+  orders_act p o [] legal lost sections fetched short = record { story = refl; acts = tt }
+  orders_act p o (Made c ∷ es) legal lost sections fetched short =
       let h : ComesTo p c.by c.task c.did = legal.0 in
       let within = slice_get_within p.mutators c.by h.mutator h.is in
       let has : c.by < length code = omega (arith, within, sections) in
@@ -111,10 +126,17 @@ module _ (code : List (List Instr)) (turns : ℕ) where
       first p o c es
       (marks_so p c.by h.mutator has h.is h.no_end c.task own c.did h.may)
       (mark_acts p c.by h.mutator has h.is h.no_end c.task own c.did h.may ((short c.by).0 refl))
-      (orders_act (after_call p c) o es legal.1 (as_many p (Made c ∷ []) ∙ sections) (λ m. (fetched m).1) (λ m. (short m).1))
-  orders_act p o (Exchanged by asked ∷ es) legal sections fetched short =
-      let rest = orders_act p p es legal sections fetched short in
+      (orders_act (after_call p c) o es legal.1 lost (as_many p (Made c ∷ []) ∙ sections) (λ m. (fetched m).1) (λ m. (short m).1))
+  orders_act p o (Exchanged by asked ∷ es) legal lost sections fetched short =
+      let rest = orders_act p p es legal lost sections fetched short in
       record { story = rest.story; acts = (tt, rest.acts) }
+  orders_act p o (Emptied cells ∷ es) legal lost sections fetched short =
+      let rest = orders_act (with_emptied p cells) o es legal lost.1 sections fetched short in
+      let to = tracing_turns p o cells lost.0 in
+      record {
+        story = ap (λ (s : Story). story_after code turns s (order_of es)) to ∙ rest.story;
+        acts = (tt, subst (λ (s : Story). EachActs code turns s (order_of es)) (sym to) rest.acts);
+      }
 
   -- ---- mutators that there are
 
@@ -128,13 +150,13 @@ module _ (code : List (List Instr)) (turns : ℕ) where
   -- ---- from the opening on
 
   -- each mutator that there is executes its section
-  pub orders_program : (mutators : ℕ) (log : List Entry) → mutators ≡ length code → IsLegal (opening_plain mutators) log
+  pub orders_program : (mutators : ℕ) (log : List Entry) → mutators ≡ length code → IsLegal (opening_plain mutators) log → EmptiesLost (opening_plain mutators) (opening_plain mutators) log
       → ((m : ℕ) → m < mutators → AreFetched code turns m (opening_plain mutators) log) → ((m : ℕ) → m < mutators → AreShort m log) → IsProgramOrder code turns mutators log
-  orders_program mutators log sections legal fetched short =
+  orders_program mutators log sections legal lost fetched short =
       let p : Plain = opening_plain mutators in
       let many : length p.mutators ≡ mutators = length-replicate mutators opening_mutator in
       let opens : p ≡ opening code = ap opening_plain sections ∙ opens_so code in
-      let h = orders_act p p log legal (many ∙ sections)
+      let h = orders_act p p log legal lost (many ∙ sections)
       (fetched_each p log legal (λ m l. fetched m (omega (arith, l, many))))
       (short_each p log legal (λ m l. short m (omega (arith, l, many)))) in
       record {

@@ -85,7 +85,7 @@ module _ (h : Heap) (k : ℕ) (y : Held) (q : Step) (below : k < length h.worker
 
   -- what is counted then, by what the step tells
   abbrev then_by : Told → Tally
-  then_by u = tally t (extra k u)
+  then_by u = tally t (extra o k u)
 
   law : StepKeeps h p o k y q
   law = steps_keep h p o k y q st below holds want
@@ -501,9 +501,9 @@ module _ (h : Heap) (k : ℕ) (y : Held) (q : Step) (below : k < length h.worker
             let was : size_now sizes_after t ≡ size_of n h.words = agree t.flips (omega arith) ∙ sym c.size in
             rw (was, next_size, c.limit) goes
 
-  entry_is : (u : Told) → told y reply ≡ u → EachEntry (EntryIs sizes_after tasks) t (extra k u)
+  entry_is : (u : Told) → told y reply ≡ u → EachEntry (EntryIs sizes_after tasks) t (extra o k u)
   entry_is Silent e = tt
-  entry_is Empties e = tt
+  entry_is Empties e = (refl, tt)
   entry_is (Answers task Done) e = (tt, tt)
   entry_is (Answers task (Trap end)) e = (end_is task end e, tt)
   entry_is (Marks asked) e = (is_asked_for asked e, tt)
@@ -516,7 +516,7 @@ module _ (h : Heap) (k : ℕ) (y : Held) (q : Step) (below : k < length h.worker
       (λ (other : j ≢ k). ap (λ (x : Held). x.task) (other_holds j other))
       (cases_eq j k)
 
-  tasks_go_on : (u : Told) → told y reply ≡ u → (j : ℕ) (task : Task) → tasks_held h.workers j ≡ Some task → next_task j (extra k u) (tasks j) ≡ Some task
+  tasks_go_on : (u : Told) → told y reply ≡ u → (j : ℕ) (task : Task) → tasks_held h.workers j ≡ Some task → next_task j (extra o k u) (tasks j) ≡ Some task
   tasks_go_on Silent e j task is = same_task (subst IsNoAnswer (sym e) tt) j ∙ is
   tasks_go_on Empties e j task is = same_task (subst IsNoAnswer (sym e) tt) j ∙ is
   tasks_go_on (Marks asked) e j task is = same_task (subst IsNoAnswer (sym e) tt) j ∙ is
@@ -527,10 +527,10 @@ module _ (h : Heap) (k : ℕ) (y : Held) (q : Step) (below : k < length h.worker
       (λ (other : j ≢ k). ap (λ (b : Bool). cond b (Some done) (tasks j)) (ne_eqb k j (λ f. other (sym f))) ∙ (ap (λ (x : Held). x.task) (other_holds j other) ∙ is))
       (cases_eq j k)
 
-  pub step_tallied : IsTallied least after first (log ++ extra k (told y reply))
+  pub step_tallied : IsTallied least after first (log ++ extra (tally first log).flip k (told y reply))
   step_tallied = record {
     sizes = sizes_after;
     began = (b.began.0, agree first.flips (flips_most first log) ∙ b.began.1);
-    entries = entries_on (tasks_held h.workers) tasks (extra k (told y reply)) b.sizes sizes_after.in_use t.flips agree (tasks_go_on (told y reply) refl) first log (omega arith) b.entries (entry_is (told y reply) refl);
-    counts = subst (FitsTally after sizes_after) (sym (tally_append first log (extra k (told y reply)))) (counts_by (told y reply) refl);
+    entries = entries_on (tasks_held h.workers) tasks (extra o k (told y reply)) b.sizes sizes_after.in_use t.flips agree (tasks_go_on (told y reply) refl) first log (omega arith) b.entries (entry_is (told y reply) refl);
+    counts = subst (FitsTally after sizes_after) (sym (tally_append first log (extra o k (told y reply)))) (counts_by (told y reply) refl);
   }

@@ -11,12 +11,12 @@ use Rattle.gc_worker.specs.declared.task.Task.TheVariants.{Calls}
 use Rattle.gc_worker.specs.declared.calls.did.Did.{Did}
 use Rattle.gc_worker.specs.declared.calls.did.Did.TheVariants.{Done, Trap}
 use Rattle.gc_worker.specs.declared.calls.entry.Entry.{Entry}
-use Rattle.gc_worker.specs.declared.calls.entry.Entry.TheVariants.{Made, Exchanged}
+use Rattle.gc_worker.specs.declared.calls.entry.Entry.TheVariants.{Made, Exchanged, Emptied}
 use Rattle.gc_worker.proofs.History.Sums.{sum_below-most}
 use Rattle.gc_worker.specs.History.Tally.{EachEntry, EntryIs, IsFilled, IsFilledBy, IsFilledByEnd, Sizes, Tally, Tasks, after_entry, asked_by_task, asked_unless_ended, made_next, next_task, pages_by_task, tally}
 use Rattle.gc_worker.specs.Laws.Cycles.{Grows}
-use Rattle.gc_worker.specs.Plain.Answer.{after_told}
-use Rattle.gc_worker.specs.History.Legal.{after_all, extra, flip_from}
+use Rattle.gc_worker.specs.Plain.Stories.{story_told}
+use Rattle.gc_worker.specs.History.Legal.{EmptiesLost, after_all, extra, flip_from}
 use Rattle.gc_worker.specs.Laws.Step.{at_flip}
 use Rattle.gc_worker.specs.Steps.Turned.{Told, Silent, Empties, Answers, Marks}
 
@@ -30,29 +30,32 @@ pub tally_now : (t : Tally) (es : List Entry) → (tally t es).now ≡ after_all
 tally_now t [] = refl
 tally_now t (Made c ∷ es) = tally_now (after_entry t (Made c)) es
 tally_now t (Exchanged by asked ∷ es) = tally_now (after_entry t (Exchanged by asked)) es
+tally_now t (Emptied cells ∷ es) = tally_now (after_entry t (Emptied cells)) es
 
 pub tally_flip : (t : Tally) (es : List Entry) → (tally t es).flip ≡ flip_from t.now t.flip es
 tally_flip t [] = refl
 tally_flip t (Made c ∷ es) = tally_flip (after_entry t (Made c)) es
 tally_flip t (Exchanged by asked ∷ es) = tally_flip (after_entry t (Exchanged by asked)) es
+tally_flip t (Emptied cells ∷ es) = tally_flip (after_entry t (Emptied cells)) es
 
-pub tally_more-now : (t : Tally) (m : ℕ) (u : Told) → (tally t (extra m u)).now ≡ after_told t.now m u
-tally_more-now t m Silent = refl
-tally_more-now t m Empties = refl
-tally_more-now t m (Answers task did) = refl
-tally_more-now t m (Marks asked) = refl
+pub tally_more-now : (t : Tally) (o : Plain) (m : ℕ) (u : Told) → (tally t (extra o m u)).now ≡ story_told t.now o m u
+tally_more-now t o m Silent = refl
+tally_more-now t o m Empties = refl
+tally_more-now t o m (Answers task did) = refl
+tally_more-now t o m (Marks asked) = refl
 
-pub tally_more-flip : (t : Tally) (m : ℕ) (u : Told) → (tally t (extra m u)).flip ≡ at_flip t.now t.flip u
-tally_more-flip t m Silent = refl
-tally_more-flip t m Empties = refl
-tally_more-flip t m (Answers task did) = refl
-tally_more-flip t m (Marks asked) = refl
+pub tally_more-flip : (t : Tally) (o : Plain) (m : ℕ) (u : Told) → (tally t (extra o m u)).flip ≡ at_flip t.now t.flip u
+tally_more-flip t o m Silent = refl
+tally_more-flip t o m Empties = refl
+tally_more-flip t o m (Answers task did) = refl
+tally_more-flip t o m (Marks asked) = refl
 
 -- flips only come
 pub flips_most : (t : Tally) (es : List Entry) → t.flips ≤ (tally t es).flips
 flips_most t [] = omega arith
 flips_most t (Made c ∷ es) = flips_most (after_entry t (Made c)) es
 flips_most t (Exchanged by asked ∷ es) = let most = flips_most (after_entry t (Exchanged by asked)) es in omega (arith, most)
+flips_most t (Emptied cells ∷ es) = flips_most (after_entry t (Emptied cells)) es
 
 module _ (P Q : Tally → Entry → List Entry → Type 0) (more : List Entry) (last : ℕ)
     (on : (t : Tally) (e : Entry) (es : List Entry) → (after_entry t e).flips ≤ last → P t e es → Q t e (es ++ more)) where
@@ -64,6 +67,13 @@ module _ (P Q : Tally → Entry → List Entry → Type 0) (more : List Entry) (
 pub entry_at : (P : Tally → Entry → List Entry → Type 0) (t : Tally) (xs : List Entry) (e : Entry) (ys : List Entry) → EachEntry P t (xs ++ e ∷ ys) → P (tally t xs) e ys
 entry_at P t [] e ys h = h.0
 entry_at P t (x ∷ xs) e ys h = entry_at P (after_entry t x) xs e ys h.1
+
+-- the cells that an entry empties are those that lost their targets
+pub empties_lost : (z : Sizes) (tasks : Tasks) (t : Tally) (log : List Entry) → EachEntry (EntryIs z tasks) t log → EmptiesLost t.now t.flip log
+empties_lost z tasks t [] each = tt
+empties_lost z tasks t (Made c ∷ es) each = empties_lost z tasks (after_entry t (Made c)) es each.1
+empties_lost z tasks t (Exchanged by asked ∷ es) each = empties_lost z tasks (after_entry t (Exchanged by asked)) es each.1
+empties_lost z tasks t (Emptied cells ∷ es) each = (each.0, empties_lost z tasks (after_entry t (Emptied cells)) es each.1)
 
 -- ---- what a task asks for
 
@@ -105,6 +115,7 @@ module _ (tasks later : Tasks) (more : List Entry) (z : Sizes) (in_use : ℕ →
   next_on j task [] e = goes_on j task e
   next_on j task (Made c ∷ es) e = next_if (c.by == j) (Some c.task) (next_task j es (tasks j)) (next_task j (es ++ more) (later j)) task (next_on j task es) e
   next_on j task (Exchanged by asked ∷ es) e = next_on j task es e
+  next_on j task (Emptied cells ∷ es) e = next_on j task es e
 
   asks_on : (p : Plain) (j asked : ℕ) (es : List Entry) → asked_by_task p j (next_task j es (tasks j)) ≡ Some asked → asked_by_task p j (next_task j (es ++ more) (later j)) ≡ Some asked
   asks_on p j asked es e =
@@ -173,6 +184,7 @@ module _ (tasks later : Tasks) (more : List Entry) (z : Sizes) (in_use : ℕ →
         makes = asks_on t.now by asked es f.makes;
         grows = subst (λ (size : ℕ). Grows z.limit size (in_use (t.flips + 1))) (sym same) (subst (Grows z.limit (z.in_use t.flips)) (sym next) f.grows);
       }
+  entry_on t (Emptied cells) es few f = f
 
   pub entries_on : (t : Tally) (log : List Entry) → (tally t log).flips ≤ last → EachEntry (EntryIs z tasks) t log → EachEntry (EntryIs sizes later) (tally t log) more
       → EachEntry (EntryIs sizes later) t (log ++ more)

@@ -1,20 +1,18 @@
 -- Emptying cells changes nothing of what is live: no field is among their values, and they stay as long as they were.
-use Rattle.std.proofs.Common.{◌≡◌, ℕ, ◌+◌, ◌⊎◌, inl, inr, ⊎_elim, Bool, true, false, cond, List, [], ◌∷◌, length, fold, Option, Some, None, slice_get, slice_set, refl, ap, sym, subst, ◌∙◌, length-set}
-use Rattle.std.specs.List.{All}
+use Rattle.std.proofs.Common.{◌≡◌, ℕ, ◌⊎◌, inl, inr, Bool, true, false, cond, List, [], ◌∷◌, Option, Some, None, slice_get, slice_set, refl, ap, sym, ◌∙◌, length-set}
 use Rattle.std.specs.Option.{option_map}
-use Rattle.std.specs.Prelude.{Contains}
 use Rattle.std.proofs.lemmas.List.Elements.{All-weaker}
 use Rattle.std.proofs.lemmas.Option.{same_Some}
 use Rattle.plain_state.specs.declared.kind.Kind.{Kind}
 use Rattle.plain_state.specs.declared.kind.Kind.TheVariants.{Fields, Raw, Mixed, Weak}
 use Rattle.plain_state.specs.declared.value.Identity.{Identity}
 use Rattle.plain_state.specs.declared.value.Value.{Value}
-use Rattle.plain_state.specs.declared.value.Value.TheVariants.{Number, Reference}
+use Rattle.plain_state.specs.declared.value.Value.TheVariants.{Number}
 use Rattle.plain_state.specs.Cells.{is_cell}
 use Rattle.plain_state.specs.Layout.{is_field, size_of, word_of_value}
 use Rattle.plain_state.specs.Reachable.{Reachable, FromRegister, FromBoard, FromRecord, IsLive, sum_of_records, words_of}
-use Rattle.plain_state.specs.State.{Heap, Mutator, Plain, Record, record_of}
-use Rattle.plain_heap.specs.Emptied.{cells_to_empty, emptied, emptied_cell, without_target}
+use Rattle.plain_state.specs.State.{Mutator, Plain, Record, record_of}
+use Rattle.plain_heap.specs.Emptied.{cells_to_empty, emptied, without_target}
 use Rattle.plain_heap.proofs.Reaching.Emptying.{all-is, emptied_of_lost_cells}
 
 -- it is no cell

@@ -20,7 +20,7 @@ module _ (h : Heap) (p q : Plain) where
     };
   }
 
-  kept_by : (b : Bool) → StandIf b h p → HasKept b p q → StandIf b h q
+  pub kept_by : (b : Bool) → StandIf b h p → HasKept b p q → StandIf b h q
   kept_by true stand same = kept_so stand same
   kept_by false stand same = tt
 

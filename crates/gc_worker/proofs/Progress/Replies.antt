@@ -230,6 +230,9 @@ module _ (c : Configuration) (p : Plain) (s : Stands c p) (k : ℕ) where
     copying (evac_stage.StoresWord r w) asked first = subst (On (evac_left.advances (evac_stage.StoresWord r w))) (same_Some _ q asked) (Advances refl)
     copying (evac_stage.StoresCross r page) asked first = subst (On (evac_left.advances (evac_stage.StoresCross r page))) (same_Some _ q asked) (Advances refl)
     copying (evac_stage.StoresForward r) asked first = subst (On (evac_left.advances (evac_stage.StoresForward r))) (same_Some _ q asked) (Advances refl)
+    copying (evac_stage.LoadsWeak to) asked first = subst (On (evac_left.advances (evac_stage.LoadsWeak to))) (same_Some _ q asked) (Advances refl)
+    copying (evac_stage.StoresLink to head) asked first = subst (On (evac_left.advances (evac_stage.StoresLink to head))) (same_Some _ q asked) (Advances refl)
+    copying (evac_stage.TakesWeak to head) asked first = subst (On (evac_left.advances (evac_stage.TakesWeak to head))) (same_Some _ q asked) (won_or_lost _ _ _ _ refl)
     copying (evac_stage.Clears to) asked first = subst (On (evac_left.advances (evac_stage.Clears to))) (same_Some _ q asked) (Advances refl)
     copying (evac_stage.Ended to) asked first = absurd (cc)
 

@@ -148,7 +148,7 @@ module _ (c : Configuration) (p : Plain) (z : Frozen) (saver : ℕ → Saver) (k
       (SparesArea other (area_reset r.next r.used)) refl
 
   resets_weak : (r : resets.Reset) → Before c p z saver k (at (ResetsWeak r)) → SavesSo c p saver k (at (ResetsWeak r))
-  resets_weak r b = stores (ResetsWeak r) b (WeakIs 0) tt (SparesWeak 0) refl
+  resets_weak r b = stores (ResetsWeak r) b (WeakIs 0) (omega arith) (SparesWeak 0) refl
 
   -- ---- the exchange
 
@@ -160,7 +160,7 @@ module _ (c : Configuration) (p : Plain) (z : Frozen) (saver : ℕ → Saver) (k
     entry = GateIs (gate_flipped r.gate)
 
     abbrev reset : Reset
-    reset = record { read = r.gate; size = Some r.size; grown = Some r.next; used = Some r.used; sized = true; stored = true }
+    reset = record { read = r.gate; size = Some r.size; grown = Some r.next; used = Some r.used; sized = true; stored = true; cleared = true }
 
     flipped : saver_after_flip (saver_of last) ≡ saver_of (turned last Won)
     flipped = let room = b.room in rw room refl

@@ -9,10 +9,11 @@ use Rattle.gc_worker.specs.declared.calls.call.Call.{Call}
 use Rattle.gc_worker.specs.declared.calls.did.Did.{Did}
 use Rattle.gc_worker.specs.declared.calls.did.Did.TheVariants.{Done}
 use Rattle.gc_worker.specs.declared.calls.entry.Entry.{Entry}
-use Rattle.gc_worker.specs.declared.calls.entry.Entry.TheVariants.{Made, Exchanged}
+use Rattle.gc_worker.specs.declared.calls.entry.Entry.TheVariants.{Made, Exchanged, Emptied}
 use Rattle.gc_worker.specs.declared.task.Task.{Task}
 use Rattle.gc_worker.specs.declared.task.Task.TheVariants.{Calls}
 use Rattle.gc_worker.specs.History.Legal.{after_all, after_call, worker_call}
+use Rattle.gc_worker.specs.Plain.Stories.{with_emptied}
 
 -- ---- which calls are of `snap`
 
@@ -34,6 +35,7 @@ abbrev pub snaps_called : Plain → List Entry → ℕ
 snaps_called p [] = 0
 snaps_called p (Made c ∷ es) = (if calls_snap p c then 1 else 0) + snaps_called (after_call p c) es
 snaps_called p (Exchanged by asked ∷ es) = snaps_called p es
+snaps_called p (Emptied cells ∷ es) = snaps_called (with_emptied p cells) es
 
 -- ---- the last one that began a checkpoint
 

@@ -16,10 +16,11 @@ use Rattle.gc_worker.specs.declared.calls.call.Call.{Call}
 use Rattle.gc_worker.specs.declared.calls.did.Did.{Did}
 use Rattle.gc_worker.specs.declared.calls.did.Did.TheVariants.{Done}
 use Rattle.gc_worker.specs.declared.calls.entry.Entry.{Entry}
-use Rattle.gc_worker.specs.declared.calls.entry.Entry.TheVariants.{Made, Exchanged}
+use Rattle.gc_worker.specs.declared.calls.entry.Entry.TheVariants.{Made, Exchanged, Emptied}
 use Rattle.gc_worker.specs.declared.task.Task.{Task}
 use Rattle.gc_worker.specs.declared.task.Task.TheVariants.{Calls}
 use Rattle.gc_worker.specs.History.Legal.{IsLegal, after_all, after_call}
+use Rattle.gc_worker.specs.Plain.Stories.{with_emptied}
 
 -- ---- stores
 
@@ -38,6 +39,7 @@ last_stored plain [] identity index first = first
 last_stored plain (Made call ∷ entries) identity index first =
     last_stored (after_call plain call) entries identity index (word_after_call plain call identity index first)
 last_stored plain (Exchanged by asked ∷ entries) identity index first = last_stored plain entries identity index first
+last_stored plain (Emptied cells ∷ entries) identity index first = last_stored (with_emptied plain cells) entries identity index first
 
 -- in a legal history each word of each record is what was stored last in it
 abbrev pub WordsAreStored : Type 0

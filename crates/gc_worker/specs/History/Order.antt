@@ -6,14 +6,15 @@ use Rattle.plain_state.specs.declared.sizes.TheConstants.{PAGE_WORDS}
 use Rattle.plain_state.specs.State.{Mutator, Plain}
 use Rattle.mutator_asm.specs.declared.instr.Instr.{Instr}
 use Rattle.plain_heap.specs.declared.mark.Mark.{Mark}
-use Rattle.plain_heap.specs.declared.mark.Mark.TheVariants.{Step, Flip}
+use Rattle.plain_heap.specs.declared.mark.Mark.TheVariants.{Step, Flip, Traced}
 use Rattle.plain_heap.specs.Step.{fetch}
 use Rattle.gc_worker.specs.declared.calls.did.Did.{Did}
 use Rattle.gc_worker.specs.declared.calls.did.Did.TheVariants.{Done, Trap}
 use Rattle.gc_worker.specs.declared.calls.entry.Entry.{Entry}
-use Rattle.gc_worker.specs.declared.calls.entry.Entry.TheVariants.{Made, Exchanged}
+use Rattle.gc_worker.specs.declared.calls.entry.Entry.TheVariants.{Made, Exchanged, Emptied}
 use Rattle.gc_worker.specs.History.Legal.{after_call}
 use Rattle.gc_worker.specs.Plain.Marks.{end_mark, task_of}
+use Rattle.gc_worker.specs.Plain.Stories.{with_emptied}
 
 -- ---- the order of a history
 
@@ -24,6 +25,7 @@ mark_by m (Trap end) = end_mark m end
 abbrev pub entry_mark : Entry → Mark
 entry_mark (Made c) = mark_by c.by c.did
 entry_mark (Exchanged by asked) = Flip asked
+entry_mark (Emptied cells) = Traced
 
 -- the order in which the plain machine executes what a history has
 abbrev pub order_of : List Entry → List Mark
@@ -37,6 +39,7 @@ AreFetched code turns m p [] = ⊤
 AreFetched code turns m p (Made c ∷ es) =
     (c.by ≡ m → (q : Mutator) → slice_get p.mutators m ≡ Some q → c.task ≡ task_of (fetch code turns m q)) × AreFetched code turns m (after_call p c) es
 AreFetched code turns m p (Exchanged by asked ∷ es) = AreFetched code turns m p es
+AreFetched code turns m p (Emptied cells ∷ es) = AreFetched code turns m (with_emptied p cells) es
 
 -- where the heap is told to be full, the room that is told is less than what is asked for
 abbrev pub IsShortEnd : End → Type 0
@@ -52,3 +55,4 @@ abbrev pub AreShort : (m : ℕ) → List Entry → Type 0
 AreShort m [] = ⊤
 AreShort m (Made c ∷ es) = (c.by ≡ m → IsShort c.did) × AreShort m es
 AreShort m (Exchanged by asked ∷ es) = AreShort m es
+AreShort m (Emptied cells ∷ es) = AreShort m es

@@ -6,17 +6,19 @@ use Rattle.plain_state.specs.declared.end.End.TheVariants.{HeapFull}
 use Rattle.plain_state.specs.declared.sizes.TheConstants.{PAGE_WORDS}
 use Rattle.plain_state.specs.Reachable.{IsLive}
 use Rattle.plain_state.specs.State.{Mutator, Plain}
+use Rattle.plain_heap.specs.Emptied.{cells_to_empty}
 use Rattle.plain_heap.specs.Step.{new_record, pages_of}
 use Rattle.heap_state.specs.Functions.{sum_below}
 use Rattle.gc_worker.specs.declared.calls.did.Did.{Did}
 use Rattle.gc_worker.specs.declared.calls.did.Did.TheVariants.{Done, Trap}
 use Rattle.gc_worker.specs.declared.calls.entry.Entry.{Entry}
-use Rattle.gc_worker.specs.declared.calls.entry.Entry.TheVariants.{Made, Exchanged}
+use Rattle.gc_worker.specs.declared.calls.entry.Entry.TheVariants.{Made, Exchanged, Emptied}
 use Rattle.gc_worker.specs.declared.task.Task.{Task}
 use Rattle.gc_worker.specs.declared.task.Task.TheVariants.{Calls, Stops}
 use Rattle.gc_worker.specs.Workers.Begun.{IsPastLook}
 use Rattle.gc_worker.specs.Laws.Cycles.{Grows, IsFirst, IsInCall, low_of, set_aside, size_of, snaps_at}
 use Rattle.gc_worker.specs.Workers.Held.{Held}
+use Rattle.gc_worker.specs.Plain.Stories.{with_emptied}
 use Rattle.gc_worker.specs.History.Legal.{after_call}
 use Rattle.gc_worker.specs.Laws.Step.{Heap, epoch_of, held_at, nobody}
 
@@ -34,6 +36,7 @@ abbrev pub next_task : (j : ℕ) → List Entry → Option Task → Option Task
 next_task j [] now = now
 next_task j (Made c ∷ es) now = cond (c.by == j) (Some c.task) (next_task j es now)
 next_task j (Exchanged by asked ∷ es) now = next_task j es now
+next_task j (Emptied cells ∷ es) now = next_task j es now
 
 -- the pages of the record that a mutator's task makes
 abbrev pub asked_for : Mutator → Option Task → Option ℕ
@@ -93,6 +96,7 @@ after_entry t (Exchanged by asked) = record {
   since = λ j. true;
   asked = λ j. cond (j == by) true (t.asked j);
 }
+after_entry t (Emptied cells) = record t { now = with_emptied t.now cells }
 
 abbrev pub tally : Tally → List Entry → Tally
 tally t [] = t
@@ -147,10 +151,12 @@ abbrev pub IsFilledBy : Sizes → Tasks → Tally → (m : ℕ) → Task → Did
 IsFilledBy z tasks t m task Done es = ⊤
 IsFilledBy z tasks t m task (Trap end) es = IsFilledByEnd z tasks t m task end es
 
--- where a call tells the heap to be full it is filled, and each flip came for the record of the mutator that made it
+-- Where a call tells the heap to be full it is filled, and each flip came for the record of the mutator that made it. The cells that are
+-- emptied are those whose targets weren't reachable at the last flip.
 abbrev pub EntryIs : Sizes → Tasks → Tally → Entry → List Entry → Type 0
 EntryIs z tasks t (Made c) es = IsFilledBy z tasks t c.by c.task c.did es
 EntryIs z tasks t (Exchanged by asked) es = IsAskedFor z tasks t by asked es
+EntryIs z tasks t (Emptied cells) es = cells ≡ cells_to_empty t.flip
 
 -- ---- between two steps
 

@@ -41,7 +41,7 @@ mark_of Idle = None
 mark_of Moved = None
 mark_of (Effect m) = Some (marks.Step m)
 mark_of (Flipped asked) = Some (marks.Flip asked)
-mark_of Traced = None
+mark_of Traced = Some marks.Traced
 mark_of (Ended m why) = Some (end_mark m why)
 
 -- ---- an order that acts

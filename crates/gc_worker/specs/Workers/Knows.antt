@@ -40,7 +40,7 @@ use Rattle.page_slots.specs.declared.claim_stage.ClaimStage.TheVariants as claim
 use Rattle.page_slots.specs.Claim.{Claiming}
 use Rattle.heap_laws.specs.Allocation.Records.{stored_ahead}
 use Rattle.heap_laws.specs.Copying.{begun}
-use Rattle.heap_state.specs.Worker.{Worker, Post, Outside, Running, Stopped, Flipping, Snapping, Passage, Enter, Park, Request, RequestSnap, Clear, Forwarded, Resume, Leave, GateStep, Reset, Stock, SeenHeader, SeenRecord, Role, FieldRole, NumberRole, UnknownRole, Origin, Register, Scanned, Quest, Copy, Scan, Round, Claim, Look, LastLook}
+use Rattle.heap_state.specs.Worker.{Worker, Post, Outside, Running, Stopped, Flipping, Snapping, Passage, Enter, Park, Request, RequestSnap, Clear, Forwarded, Resume, Leave, GateStep, Reset, Stock, SeenHeader, SeenRecord, Role, FieldRole, NumberRole, UnknownRole, Origin, Register, Scanned, Quest, Copy, Scan, Round, Claim, Look, LastLook, Linking}
 use Rattle.heap_state.specs.Worker as workers
 use Rattle.heap_state.specs.Worker.{Access}
 use Rattle.gc_worker.specs.declared.access.access_stage.AccessStage.{AccessStage}
@@ -137,12 +137,12 @@ gate_step_in x stage = None
 -- the flip so far
 abbrev pub reset_at : FlipStage → Option Reset
 reset_at flip_stage.LoadsGate = None
-reset_at (flip_stage.LoadsSize read) = Some (record { read = read; size = None; grown = None; used = None; sized = false; stored = false })
-reset_at (flip_stage.LoadsArea read size) = Some (record { read = read; size = Some size; grown = None; used = None; sized = false; stored = false })
-reset_at (flip_stage.StoresSize r) = Some (record { read = r.gate; size = Some r.size; grown = Some r.next; used = Some r.used; sized = false; stored = false })
-reset_at (flip_stage.StoresArea r) = Some (record { read = r.gate; size = Some r.size; grown = Some r.next; used = Some r.used; sized = true; stored = false })
-reset_at (flip_stage.ResetsWeak r) = Some (record { read = r.gate; size = Some r.size; grown = Some r.next; used = Some r.used; sized = true; stored = true })
-reset_at (flip_stage.Exchanges r) = Some (record { read = r.gate; size = Some r.size; grown = Some r.next; used = Some r.used; sized = true; stored = true })
+reset_at (flip_stage.LoadsSize read) = Some (record { read = read; size = None; grown = None; used = None; sized = false; stored = false; cleared = false })
+reset_at (flip_stage.LoadsArea read size) = Some (record { read = read; size = Some size; grown = None; used = None; sized = false; stored = false; cleared = false })
+reset_at (flip_stage.StoresSize r) = Some (record { read = r.gate; size = Some r.size; grown = Some r.next; used = Some r.used; sized = false; stored = false; cleared = false })
+reset_at (flip_stage.StoresArea r) = Some (record { read = r.gate; size = Some r.size; grown = Some r.next; used = Some r.used; sized = true; stored = false; cleared = false })
+reset_at (flip_stage.ResetsWeak r) = Some (record { read = r.gate; size = Some r.size; grown = Some r.next; used = Some r.used; sized = true; stored = true; cleared = false })
+reset_at (flip_stage.Exchanges r) = Some (record { read = r.gate; size = Some r.size; grown = Some r.next; used = Some r.used; sized = true; stored = true; cleared = true })
 reset_at (flip_stage.Ended result) = None
 
 abbrev pub reset_in : Stage → Option Reset
@@ -323,11 +323,27 @@ opened_in l stage = None
 
 -- ---- copies
 
--- the copy's place, once the worker has found it
-abbrev pub found_in : EvacStage → Option ℕ
-found_in (evac_stage.Clears to) = Some to
-found_in (evac_stage.Ended to) = Some to
-found_in stage = None
+-- the copy's place, once the worker has found it, and whether it is a cell that the worker has still to link
+pub record Finding : Type 0 where
+  pub place : Option ℕ
+  pub links : Bool
+
+abbrev pub nothing_found : Finding
+nothing_found = record { place = None; links = false }
+
+abbrev pub found_at : (to : ℕ) → Finding
+found_at to = record { place = Some to; links = false }
+
+abbrev pub cell_found_at : (to : ℕ) → Finding
+cell_found_at to = record { place = Some to; links = true }
+
+abbrev pub found_in : EvacStage → Finding
+found_in (evac_stage.LoadsWeak to) = cell_found_at to
+found_in (evac_stage.StoresLink to word) = cell_found_at to
+found_in (evac_stage.TakesWeak to word) = cell_found_at to
+found_in (evac_stage.Clears to) = found_at to
+found_in (evac_stage.Ended to) = found_at to
+found_in stage = nothing_found
 
 -- a copy whose place was read as FRONT, and is announced or not
 abbrev pub placing : (addr to : ℕ) → KeptHeader → (announced : Bool) → Copy
@@ -363,6 +379,9 @@ copy_at l a e (evac_stage.LoadsWord r i) = Some (moving a r i None (first_page r
 copy_at l a e (evac_stage.StoresWord r w) = Some (moving a r w.number (Some w.word) (first_page r))
 copy_at l a e (evac_stage.StoresCross r page) = Some (moving a r (evac.size_of r.kept) None page)
 copy_at l a e (evac_stage.StoresForward r) = Some (moving a r (evac.size_of r.kept) None (page_past r))
+copy_at l a e (evac_stage.LoadsWeak to) = None
+copy_at l a e (evac_stage.StoresLink to word) = None
+copy_at l a e (evac_stage.TakesWeak to word) = None
 copy_at l a e (evac_stage.Clears to) = None
 copy_at l a e (evac_stage.Ended to) = None
 
@@ -374,8 +393,20 @@ copy_in (Forwards w) = copy_of w.evac
 copy_in (Evacuates v s back) = copy_of v
 copy_in stage = None
 
+-- the cell that it has copied and not linked yet, with what it has read of WEAK
+abbrev pub linking_at : EvacStage → Option Linking
+linking_at (evac_stage.LoadsWeak to) = Some (record { cell = to; read = None; stored = false })
+linking_at (evac_stage.StoresLink to word) = Some (record { cell = to; read = Some word; stored = false })
+linking_at (evac_stage.TakesWeak to word) = Some (record { cell = to; read = Some word; stored = true })
+linking_at stage = None
+
+abbrev pub linking_in : Stage → Option Linking
+linking_in (Forwards w) = linking_at w.evac.stage
+linking_in (Evacuates v s back) = linking_at v.stage
+linking_in stage = None
+
 abbrev pub quest_for : Origin → evac.Evacuation → Quest
-quest_for origin v = record { old = v.addr; origin = origin; found = found_in v.stage }
+quest_for origin v = let finding = found_in v.stage in record { old = v.addr; origin = origin; found = finding.place; links = finding.links }
 
 -- ---- scans
 
@@ -424,7 +455,7 @@ scan_in stage = None
 
 -- what a scan asks for: the word at the cursor led there, and the copy is found
 abbrev pub quest_at : ScanStage → Option Quest
-quest_at (scan_stage.StoresCopy asked to) = Some (record { old = asked.old; origin = Scanned (scan.address_of asked.spot); found = Some to })
+quest_at (scan_stage.StoresCopy asked to) = Some (record { old = asked.old; origin = Scanned (scan.address_of asked.spot); found = Some to; links = false })
 quest_at stage = None
 
 -- where a scan that asks stands
@@ -544,6 +575,8 @@ known_at x stage = record {
   claim = claim_in stage;
   look = look_in stage;
   last_look = last_look_in stage;
+  linking = linking_in stage;
+  pass = None;
   traced_seen = traced_seen_in stage;
   size_seen = size_seen_in stage;
   gate_step = gate_step_in x stage;

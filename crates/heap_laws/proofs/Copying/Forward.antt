@@ -1,7 +1,8 @@
 -- The copy is whole, and the forward to it is stored at the old place.
 use Rattle.std.proofs.Common.{◌≡◌, ◌≢◌, ℕ, ◌+◌, ◌-◌, ◌*◌, ◌/◌, ◌^◌, ◌<◌, ◌≤◌, Bool, true, false, refl, sym, ap, ◌∙◌, arith, Option, Some, None, ⊎_elim, ◌⊎◌, inl, inr}
 use Rattle.std.proofs.lemmas.Bool.{cases_eq}
-use Rattle.plain_state.specs.declared.kind.Kind.TheVariants.{Mixed}
+use Rattle.plain_state.specs.declared.kind.Kind.TheVariants.{Mixed, Weak}
+use Rattle.heap_words.specs.declared.kind.Kind.TheVariants as HeaderKind
 use Rattle.heap_words.specs.Word.{number_word}
 use Rattle.heap_words.specs.Decoded.{HeaderWord, ForwardWord, PointerWord, decode}
 use Rattle.plain_state.specs.Layout.{is_field}
@@ -21,13 +22,14 @@ use Rattle.heap_state.specs.Invariant.Parts.Scanning.{Scans, Stepping, Claims}
 use Rattle.heap_state.specs.Worker.{Worker, Team, Quest, Copy, Scan, Claim, Access, Origin, Register, Scanned, is_late, is_mutator}
 use Rattle.heap_state.proofs.Workers.Frames.{counted_put, staffed_put, scanned_put, stocks_put, numbered_put}
 use Rattle.heap_state.proofs.Puts.{put_at, put_other, put_same, team_put, each_put, some_same, none≢some}
-use Rattle.heap_laws.specs.Copying.{published}
+use Rattle.heap_state.proofs.Records.Headers.{weak_header}
+use Rattle.heap_laws.specs.Copying.{KeepsCell, published}
 use Rattle.heap_laws.specs.Steps.{Ready, with_worker, with_word}
 use Rattle.heap_laws.proofs.Copying.UnreadWords.{UnreadWord, opened_unread, landing_unread, older_unread, new_unread, space_unread, raw_unread, counts_unread, stocks_unread, origin_unread, scans_unread}
 use Rattle.heap_laws.proofs.Copying.Words.{knows_unread}
 
 -- a whole copy, and the forward to it
-pub record Publishing (E : Era) (m : Memory) (team : Team) (g : Ghost) (k : ℕ) (c : Copy) (q : Quest) (v : ℕ) : Type 0 where
+pub record Publishing (E : Era) (m : Memory) (team : Team) (g : Ghost) (k : ℕ) (c : Copy) (q : Quest) (v : ℕ) (links : Bool) : Type 0 where
   pub ready : Ready E m team g k
   pub has : (team.worker k).copy ≡ Some c
   pub asks : (team.worker k).quest ≡ Some q
@@ -35,9 +37,10 @@ pub record Publishing (E : Era) (m : Memory) (team : Team) (g : Ghost) (k : ℕ)
   pub full : c.done ≡ c.size
   pub crossed : c.to + c.size ≤ 64 * c.crossed
   pub word : decode v ≡ ForwardWord (c.size - 1) c.to
+  pub cell : links ≡ true → KeepsCell c
 
-module _ {E : Era} {m : Memory} {team : Team} {g : Ghost} {k : ℕ} {c : Copy} {q : Quest} {v : ℕ} (publishing : Publishing E m team g k c q v) where
-  open publishing use {ready, has, asks, res, full, crossed, word}
+module _ {E : Era} {m : Memory} {team : Team} {g : Ghost} {k : ℕ} {c : Copy} {q : Quest} {v : ℕ} {links : Bool} (publishing : Publishing E m team g k c q v links) where
+  open publishing use {ready, has, asks, res, full, crossed, word, cell}
 
   abbrev inv : Invariant E m team g
   inv = ready.invariant
@@ -46,7 +49,7 @@ module _ {E : Era} {m : Memory} {team : Team} {g : Ghost} {k : ℕ} {c : Copy} {
   heap' = put m.heap (c.from + 0) v
 
   abbrev pub found : Quest
-  found = record q { found = Some c.to }
+  found = record q { found = Some c.to; links = links }
 
   abbrev pub w' : Worker
   w' = record (team.worker k) { copy = None; quest = Some found }
@@ -271,13 +274,13 @@ module _ {E : Era} {m : Memory} {team : Team} {g : Ghost} {k : ℕ} {c : Copy} {
   origin late done r scan old (Register x) p = p
   origin late done r scan old (Scanned x) p = (p.0, here_on x p.1, p.2)
 
-  seeks : (x : Quest) → Seeks E g.size g.writer g.copy x → Seeks E g'.size g'.writer g'.copy x
-  seeks x p = record { old = p.old; found = λ b e. let y = p.found b e in (y.0, written_on b y.1) }
+  seeks : (x : Quest) → Seeks E g.size g.writer g.copy g.kind x → Seeks E g'.size g'.writer g'.copy g'.kind x
+  seeks x p = record { old = p.old; found = λ b e. let y = p.found b e in (y.0, written_on b y.1); links = p.links }
 
   -- what a worker knows, but for its quest and its copy
   stays : (j : ℕ) → j < team.count → (q : Option Quest) (o : Option Copy)
       → ((x : Quest) → q ≡ Some x → IsOrigin E g'.size g'.writer g'.kind heap' (is_late E.epoch (team.worker j)) (team.worker j).done (team.worker j).registers (team.worker j).scan x.old x.origin)
-      → ((x : Quest) → q ≡ Some x → Seeks E g'.size g'.writer g'.copy x) → Licensed m.gate.behind g'.kept j (is_late E.epoch (team.worker j)) o q (team.worker j).scan
+      → ((x : Quest) → q ≡ Some x → Seeks E g'.size g'.writer g'.copy g'.kind x) → Licensed m.gate.behind g'.kept j (is_late E.epoch (team.worker j)) o q (team.worker j).scan
       → ((x : Copy) → o ≡ Some x → Copies E m.front g'.size g'.writer g'.copy g'.keeper g'.kept m.announced m.cross heap' j x) → ((x : Copy) → o ≡ Some x → Keeps g'.kind g'.identity heap' x)
       → Knows E m.gate m.traced m.front m.low m.old_front m.old_low m.old_owed g' m.page m.cross m.announced heap' j (record (team.worker j) { quest = q; copy = o })
   stays j l q o from quest licence copies keeps =
@@ -317,17 +320,26 @@ module _ {E : Era} {m : Memory} {team : Team} {g : Ghost} {k : ℕ} {c : Copy} {
   own : Knows E m.gate m.traced m.front m.low m.old_front m.old_low m.old_owed g' m.page m.cross m.announced heap' k w'
   own = stays k ready.member w'.quest w'.copy
       (λ x e. rw (← some_same e) (origin _ (team.worker k).done (team.worker k).registers (team.worker k).scan q.old q.origin (origin_unread unread_word m.heap v g.kind _ (team.worker k).done (team.worker k).registers (team.worker k).scan q.old q.origin (me.origin q asks))))
-      (λ x e. rw (← some_same e) (record { old = (me.quest q asks).old; found = λ b i. let z : c.to ≡ b = some_same i in rw (← z) at_copy }))
+      (λ x e. rw (← some_same e) (record { old = (me.quest q asks).old; found = λ b i. let z : c.to ≡ b = some_same i in rw (← z) at_copy; links = at_cell }))
       (record { licensed = λ x e. none≢some e; asked = λ x e. none≢some e; counted = me.licensed.counted; idle = λ e. put_same g.kept k 0 })
       (λ x e. none≢some e)
       (λ x e. none≢some e)
     where
+      from : q.old ≡ c.from
+      from = let a = me.licensed.asked c has in let e : a.0 ≡ q = some_same (sym a.1 ∙ asks) in ap (λ (y : Quest). y.old) (sym e) ∙ a.2
+
       at_copy : (g.copy q.old ≡ c.to + 1) × (g'.writer c.to ≡ 0)
-      at_copy =
-          let a = me.licensed.asked c has in
-          let e : a.0 ≡ q = some_same (sym a.1 ∙ asks) in
-          let o : q.old ≡ c.from = ap (λ (y : Quest). y.old) (sym e) ∙ a.2 in
-          (ap g.copy o ∙ placed.1, put_same g.writer c.to 0)
+      at_copy = (ap g.copy from ∙ placed.1, put_same g.writer c.to 0)
+
+      at_cell : links ≡ true → (g.kind q.old ≡ Weak) × (2 < g.size q.old)
+      at_cell e =
+          let says = cell e in
+          let z : HeaderWord (header_kind (g.kind c.from)) (c.size - 1) (g.identity c.from).serial (g.identity c.from).mutator ≡ HeaderWord HeaderKind.Weak 2 says.0 says.1 =
+          sym (me.keeps c has).keeps ∙ says.2 in
+          let kind : header_kind (g.kind c.from) ≡ HeaderKind.Weak = cc in
+          let len : c.size - 1 ≡ 2 = cc in
+          let size : g.size q.old ≡ c.size = ap g.size from ∙ mine.old.1 in
+          (ap g.kind from ∙ weak_header (g.kind c.from) kind, omega (arith, len, size))
 
   pub invariant : Invariant E (with_word m (c.from + 0) v) (with_worker team k w') g'
   invariant = record {

@@ -165,6 +165,6 @@ module _ (E : Era) (m : Memory) (team : Team) (g : Ghost) (k : ℕ) (ready : Rea
       forward_found = learns_alone (record (team.worker k) { quest = Some found }) (assumption)
           (let u = me in
           let origin : (x : Quest) → Some found ≡ Some x → IsOrigin E g.size g.writer g.kind m.heap (is_late E.epoch (team.worker k)) (team.worker k).done (team.worker k).registers (team.worker k).scan x.old x.origin = λ x e. rw (← some_same e) (me.origin q asks) in
-          let seeks : (x : Quest) → Some found ≡ Some x → Seeks E g.size g.writer g.copy x = λ x e. rw (← some_same e) (record { old = old; found = λ y i. let z : b ≡ y = some_same i in rw (← z) at_copy }) in
+          let seeks : (x : Quest) → Some found ≡ Some x → Seeks E g.size g.writer g.copy g.kind x = λ x e. rw (← some_same e) (record { old = old; found = λ y i. let z : b ≡ y = some_same i in rw (← z) at_copy; links = (me.quest q asks).links }) in
           let licence : Licensed m.gate.behind g.kept k (is_late E.epoch (team.worker k)) (team.worker k).copy (Some found) (team.worker k).scan = record { licensed = λ c e. none≢some (sym idle ∙ e); asked = λ c e. none≢some (sym idle ∙ e); counted = me.licensed.counted; idle = me.licensed.idle } in
           assumption)

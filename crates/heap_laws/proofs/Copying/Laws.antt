@@ -117,8 +117,8 @@ crossings_are_stored E m team g k c ready has res begins inside = record {
 -- ---- the forward
 
 pub copies_are_published : CopiesArePublished
-copies_are_published E m team g k c q v ready has asks res full crossed word = record {
+copies_are_published E m team g k c q v links ready has asks res full crossed word cell = record {
   later = with_word m c.from v;
   writes = InWord c.from v (from_below ready c has);
-  keeps = copy_published_by E m team g k c q v ready has asks res (omega (arith, full)) crossed word;
+  keeps = copy_published_by E m team g k c q v links ready has asks res (omega (arith, full)) crossed word cell;
 }

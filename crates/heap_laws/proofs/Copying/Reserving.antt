@@ -187,7 +187,7 @@ module _ {E : Era} {m : Memory} {team : Team} {g : Ghost} {k : ℕ} {c : Copy} (
   origin late done r scan old (Register x) p = p
   origin late done r scan old (Scanned x) p = (p.0, here_on reservation x p.1, p.2)
 
-  seeks : (x : Quest) → Seeks E g.size g.writer g.copy x → Seeks E g'.size g'.writer g'.copy x
+  seeks : (x : Quest) → Seeks E g.size g.writer g.copy g.kind x → Seeks E g'.size g'.writer g'.copy g'.kind x
   seeks x p = record {
     old = (is reservation x.old p.old.0, p.old.1, p.old.2);
     found = λ b e.
@@ -196,6 +196,7 @@ module _ {E : Era} {m : Memory} {team : Team} {g : Ghost} {k : ℕ} {c : Copy} (
         let t = inv.copied.target x.old b p.old.0 y.0 in
         let n : b ≢ c.to = omega (arith, t.3, at_front) in
         (rw (put_other g.copy c.from (c.to + 1) (x.old) d) (y.0), rw (put_other g.writer c.to (k + 1) b n) (y.1));
+    links = λ e. let n = not_new reservation x.old p.old.0 in rw (put_other g.size c.to c.size x.old n, put_other g.kind c.to (g.kind c.from) x.old n) (p.links e);
   }
 
   scans : (j : ℕ) (s : Scan) → Scans E m.front g.size g.writer g.kind m.heap m.page j s → Scans E (c.to + c.size) g'.size g'.writer g'.kind m.heap m.page j s

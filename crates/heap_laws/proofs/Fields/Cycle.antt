@@ -64,8 +64,11 @@ module _ (E : Era) (m : Memory) (team : Team) (g : Ghost) (p : plain.Plain) (x v
   slot_keeps_cycle = record { copying = copying; rooted = rooted }
 
 -- on an open page nothing leads into the old space
-store_keeps_cycle : (E : Era) (m : Memory) (team : Team) (g : Ghost) (p : plain.Plain) (x v : ℕ) → Stores E m g x v → Invariant E m team g → Cycle E m team g p → Cycle E (with_word m x v) team g p
-store_keeps_cycle E m team g p x v st inv cy = slot_keeps_cycle E m team g p x v st.slot (λ h i s. absurd (inv.opened.opened x h st.opens (still_leads E g.identity (m.heap x) i s))) cy
+pub store_keeps_cycle : (E : Era) (m : Memory) (team : Team) (g : Ghost) (p : plain.Plain) (x v : ℕ) → Stores E m g x v → Invariant E m team g → Cycle E m team g p → Cycle E (with_word m x v) team g p
+store_keeps_cycle E m team g p x v st inv cy = slot_keeps_cycle E m team g p x v st.slot (λ h i s. absurd (⊎_elim
+    (λ (opens : m.page (x / 64) ≡ Open E.epoch). inv.opened.opened x h opens (still_leads E g.identity (m.heap x) i s))
+    (λ (unread : ¬ (Here E g.size g.writer g.kind x)). unread h)
+    st.opens)) cy
 
 abbrev pub StoresKeepCycle : Type 0
 StoresKeepCycle = (E : Era) (m : Memory) (team : Team) (g : Ghost) (p : plain.Plain) (a x v : ℕ) → IsLaidOut E → Invariant E m team g → IsWordOf E g.size g.writer g.kind a x

@@ -188,11 +188,11 @@ module _ {E : Era} {front low : ℕ} {size writer : ℕ → ℕ} {kind : ℕ →
     head = λ l. let r = q.place (has_place j c q l) in rw (head_same c.to (omega (arith, r, q.old))) (p.head l);
   }
 
-  -- no scan's cursor is x
-  pub origin_slot : (late : Bool) (done : ℕ) (registers : ℕ → ℕ) (scan : Option Scan) → ((s : Scan) → scan ≡ Some s → s.cursor / 64 ≡ s.page → s.cursor ≢ x) → (old : ℕ) (o : Origin)
+  -- no scan's cursor is x, at a word that mutators read
+  pub origin_slot : (late : Bool) (done : ℕ) (registers : ℕ → ℕ) (scan : Option Scan) → ((s : Scan) → scan ≡ Some s → s.cursor / 64 ≡ s.page → Here E size writer kind s.cursor → s.cursor ≢ x) → (old : ℕ) (o : Origin)
       → IsOrigin E size writer kind h late done registers scan old o → IsOrigin E size writer kind (put h x v) late done registers scan old o
   origin_slot late done registers scan apart old (Register r) y = y
-  origin_slot late done registers scan apart old (Scanned z) y = let c : y.0.0.cursor / 64 ≡ y.0.0.page = rw y.0.2 y.0.3 in let n : z ≢ x = (λ e. apart y.0.0 y.0.1 c (y.0.2 ∙ e)) in (y.0, y.1, rw (put_other h x v z n) y.2)
+  origin_slot late done registers scan apart old (Scanned z) y = let c : y.0.0.cursor / 64 ≡ y.0.0.page = rw y.0.2 y.0.3 in let n : z ≢ x = (λ e. apart y.0.0 y.0.1 c (rw (sym y.0.2) at y.1) (y.0.2 ∙ e)) in (y.0, y.1, rw (put_other h x v z n) y.2)
 
   -- ---- what is shown by a word that denotes what the word before it denoted
 

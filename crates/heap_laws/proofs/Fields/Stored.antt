@@ -1,5 +1,5 @@
 -- A mutator's store in a word of a record or on the board keeps the invariant and the cycle.
-use Rattle.std.proofs.Common.{◌≡◌, ◌≢◌, ℕ, ◌+◌, ◌/◌, ◌<◌, true, false, Some, refl, sym, ap, ◌∙◌, arith, ◌⊎◌, inl, inr}
+use Rattle.std.proofs.Common.{◌≡◌, ◌≢◌, ℕ, ◌+◌, ◌/◌, ◌<◌, true, false, Some, refl, sym, ap, ◌∙◌, arith, ⊎_elim, ◌⊎◌, inl, inr}
 use Rattle.plain_state.specs.Layout.{is_field, word_of_value}
 use Rattle.space_map.specs.declared.page_word.PageWord.TheVariants.{Open, Scanning}
 use Rattle.heap_state.specs.Memory.Era.{Era, IsLaidOut, Memory}
@@ -14,10 +14,10 @@ use Rattle.heap_laws.specs.Steps.{with_word}
 use Rattle.heap_laws.proofs.Fields.Slots.{Slot, here_slot, headed_slot, raw_slot, counts_slot, opened_slot, landing_slot, older_slot, new_slot, old_space_slot, stocks_slot, scans_slot, copies_slot, keeps_slot, origin_slot}
 use Rattle.heap_laws.proofs.Frames.Values.{one_place, board_here, field_here}
 
--- a store on an open page
+-- a store on an open page, or in a word that mutators don't read
 pub record Stores (E : Era) (m : Memory) (g : Ghost) (x v : ℕ) : Type 0 where
   pub slot : Slot E m.front m.low g.size g.writer g.kind x v
-  pub opens : m.page (x / 64) ≡ Open E.epoch
+  pub opens : (m.page (x / 64) ≡ Open E.epoch) ⊎ ¬ (Here E g.size g.writer g.kind x)
 
 -- ---- the invariant
 
@@ -33,12 +33,15 @@ worker_slot E m g x v k w st p =
     assumption
   where
     -- a page that is scanned is not open
-    apart : (s : Scan) → w.scan ≡ Some s → s.cursor / 64 ≡ s.page → s.cursor ≢ x
-    apart s e f y =
+    apart : (s : Scan) → w.scan ≡ Some s → s.cursor / 64 ≡ s.page → Here E g.size g.writer g.kind s.cursor → s.cursor ≢ x
+    apart s e f here y = ⊎_elim
+        (λ (opens : m.page (x / 64) ≡ Open E.epoch).
         let c : m.page s.page ≡ Scanning E.epoch k = (p.scan s e).claimed in
         let q : m.page (x / 64) ≡ Scanning E.epoch k = ap m.page (ap (λ z. z / 64) (sym y) ∙ f) ∙ c in
-        let o = sym st.opens ∙ q in
-        absurd (cc)
+        let o = sym opens ∙ q in
+        absurd (cc))
+        (λ (unread : ¬ (Here E g.size g.writer g.kind x)). absurd (unread (rw y at here)))
+        st.opens
 
 pub slot_keeps : (E : Era) (m : Memory) (team : Team) (g : Ghost) (x v : ℕ) → Stores E m g x v → Invariant E m team g → Invariant E (with_word m x v) team g
 slot_keeps E m team g x v st inv =
@@ -60,7 +63,7 @@ slot_keeps E m team g x v st inv =
 pub in_word : (E : Era) (m : Memory) (team : Team) (g : Ghost) (a x v : ℕ) → IsLaidOut E → Invariant E m team g → IsWordOf E g.size g.writer g.kind a x
     → m.page ((a + word_of_value (g.kind a) x) / 64) ≡ Open E.epoch → MayStore E g.size g.writer (g.kind a) x v → Stores E m g (a + word_of_value (g.kind a) x) v
 unfolding Here
-in_word E m team g a x v lay inv f open_page may = record { slot = slot; opens = open_page }
+in_word E m team g a x v lay inv f open_page may = record { slot = slot; opens = inl open_page }
   where
     i : ℕ
     i = word_of_value (g.kind a) x
@@ -87,7 +90,7 @@ pub on_board : (E : Era) (m : Memory) (team : Team) (g : Ghost) (x v : ℕ) → 
     → m.page (E.board / 64) ≡ Open E.epoch → MayHold E g.size g.writer v → Stores E m g (E.board + x) v
 on_board E m team g x v lay inv l open_page may = record {
   slot = here_slot lay inv.laid (board_here E g.size g.writer g.kind x l) may;
-  opens = let e : (E.board + x) / 64 ≡ E.board / 64 = omega (arith, lay.board, l) in rw e open_page;
+  opens = inl (let e : (E.board + x) / 64 ≡ E.board / 64 = omega (arith, lay.board, l) in rw e open_page);
 }
 
 -- a store in a word of a record, whose page is open

@@ -17,7 +17,7 @@ use Rattle.heap_state.specs.Invariant.Parts.Knowledge.{Clean, Passes, Timely}
 use Rattle.heap_state.specs.Meaning.Values.{Shown, RegistersShow, value_of}
 use Rattle.heap_state.specs.Worker.{Worker, Team, Post, Passage, Outside, Enter, Park, Request, Forwarded, Resume, Leave, Origin, Register, Quest, Copy, is_mutator, is_live, is_late, GateStep, RequestSnap, Clear}
 use Rattle.heap_state.proofs.Workers.Frames.{counted_put, staffed_put, scanned_put, stocks_put, numbered_put, accounts_put}
-use Rattle.heap_state.proofs.Puts.{put_at, put_other, put_same, each_put, team_put, none≢some, some_same, put_is}
+use Rattle.heap_state.proofs.Puts.{put_at, put_other, put_same, each_put, team_put, none≢some, some_same, put_is, true_false}
 use Rattle.heap_laws.specs.Flipping.Registers.{forwarded, HasRegister, PassingRegisterKeeps, asking_for, AskingForRegisterKeeps, HasFoundCopy, past_register}
 use Rattle.heap_laws.specs.Steps.{with_worker, Ready, Steps, Preserves}
 use Rattle.heap_laws.proofs.Copying.Roots.{late_lives, late_mutator, late_unended}
@@ -79,7 +79,7 @@ module _ (E : Era) (m : Memory) (team : Team) (g : Ghost) (k : ℕ) (inv : Invar
         let o2 : (team.worker k).post ≡ Outside → (j : ℕ) → j < 8 → registers' j ≡ 0 = λ e. absurd (let q : is_live (team.worker k).post ≡ false = ap is_live e in let r = sym q ∙ late_lives E.epoch (team.worker k) has.late in cc) in
         let o3 = λ (mu : is_mutator (team.worker k).post ≡ true) (e : (team.worker k).account.end ≡ None). clean' in
         let o4 : (q : Quest) → None ≡ Some q → IsOrigin E g.size g.writer g.kind m.heap (is_late E.epoch (team.worker k)) ((team.worker k).done + 1) registers' (team.worker k).scan q.old q.origin = λ q e. none≢some e in
-        let o5 : (q : Quest) → None ≡ Some q → Seeks E g.size g.writer g.copy q = λ q e. none≢some e in
+        let o5 : (q : Quest) → None ≡ Some q → Seeks E g.size g.writer g.copy g.kind q = λ q e. none≢some e in
         let o6 : Licensed m.gate.behind g.kept k (is_late E.epoch (team.worker k)) (team.worker k).copy None (team.worker k).scan =
         record { licensed = λ c e. absurd (idle c e); asked = λ c e. absurd (idle c e); counted = me.licensed.counted; idle = me.licensed.idle } in
         let o7 = λ (s : GateStep) (e : (team.worker k).gate_step ≡ Some s). passes_on (team.worker k).post (team.worker k).epoch (team.worker k).done ((team.worker k).done + 1) (is_some (team.worker k).account.end) (team.worker k).traced_seen s.read s.passage has.left (me.passage s e) in
@@ -163,11 +163,11 @@ asks_for_register E m team g k a ready has idle leads =
     let me = inv.workers k ready.member in
     let is_clean = clean E m team g k inv ready.member has in
     let old = is_clean.old has.late (team.worker k).done a (omega arith) has.left leads in
-    let q : Quest = record { old = a; origin = Register (team.worker k).done; found = None } in
+    let q : Quest = record { old = a; origin = Register (team.worker k).done; found = None; links = false } in
     let st : 0 < g.size a = pointer_lands g.size g.writer ((team.worker k).registers (team.worker k).done) a (is_clean.lands (team.worker k).done has.left) leads in
     learnt (learns E m team g k (asking_for (team.worker k) a) inv (assumption) (λ t e. (t, e, refl))
     (let origin : (r : Quest) → Some q ≡ Some r → IsOrigin E g.size g.writer g.kind m.heap (is_late E.epoch (team.worker k)) (team.worker k).done (team.worker k).registers (team.worker k).scan r.old r.origin = λ r e. rw (← some_same e) (has.late, refl, has.left, leads) in
-    let seeks : (r : Quest) → Some q ≡ Some r → Seeks E g.size g.writer g.copy r = λ r e. rw (← some_same e) (record { old = (st, old.0, old.1); found = λ b f. none≢some f }) in
+    let seeks : (r : Quest) → Some q ≡ Some r → Seeks E g.size g.writer g.copy g.kind r = λ r e. rw (← some_same e) (record { old = (st, old.0, old.1); found = λ b f. none≢some f; links = λ f. true_false refl f }) in
     let licence : Licensed m.gate.behind g.kept k (is_late E.epoch (team.worker k)) (team.worker k).copy (Some q) (team.worker k).scan = record { licensed = me.licensed.licensed; asked = λ c e. absurd (no_copy E m team g k inv ready.member idle c e); counted = me.licensed.counted; idle = me.licensed.idle } in
     assumption))
 

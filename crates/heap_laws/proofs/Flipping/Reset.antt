@@ -1,6 +1,7 @@
 -- The steps of a flipper before the flip.
 use Rattle.std.proofs.Common.{◌≡◌, ◌≢◌, ℕ, ◌+◌, ◌<◌, true, false, Some, refl, ◌∙◌, arith, ⊎_elim, ◌≤◌, ap}
 use Rattle.std.proofs.lemmas.Bool.{cases_eq}
+use Rattle.heap_state.specs.Memory.Entries.{WeakIs}
 use Rattle.heap_state.specs.Memory.Era.{Era, Memory, IsLaidOut}
 use Rattle.heap_state.specs.Functions.{count_one}
 use Rattle.heap_state.specs.Invariant.Ghost.{Ghost}
@@ -11,9 +12,10 @@ use Rattle.heap_state.specs.Invariant.Parts.Pages.{OldPages}
 use Rattle.heap_state.specs.Worker.{Worker, Team, Reset, is_flipper, is_sized, is_asking}
 use Rattle.heap_state.proofs.Workers.Frames.{counted_put, staffed_put, scanned_put, stocks_put, numbered_put, rooted_put}
 use Rattle.heap_state.proofs.Puts.{team_put, some_same, none≢some, true_false}
-use Rattle.heap_laws.specs.Flipping.Reset.{resetting, found_still, FindingStillKeeps, ReadingSizeKeeps, ReadingUsedKeeps, StoringAreaKeeps, whole_area}
+use Rattle.heap_laws.specs.Flipping.Reset.{resetting, found_still, FindingStillKeeps, ReadingSizeKeeps, ReadingUsedKeeps, StoringAreaKeeps, ClearingWeakKeeps, whole_area}
 use Rattle.heap_laws.specs.Steps.{with_worker, with_old_area, InOldArea, Preserves}
 use Rattle.heap_laws.proofs.Flipping.Sums.{sum_below-two, one_of, at_most_one}
+use Rattle.heap_laws.proofs.Steps.Composing.{steps_write_beside}
 use Rattle.heap_laws.proofs.Steps.Learning.{shown_put, learns, learnt}
 use Rattle.heap_state.proofs.Workers.Posts.{flips_ask}
 
@@ -78,6 +80,14 @@ reads_used E m team g k r u q ready e loose used grown =
       stored = λ f. true_false loose (o.stored f).0;
     })
     (λ _. me.unsized (flips_ask (team.worker k).post (me.resets r e)) (ap is_sized e ∙ loose)))
+
+pub clears_weak : ClearingWeakKeeps
+clears_weak E m team g k r ready e =
+    let me = ready.invariant.workers k ready.member in let o = me.reset r e in
+    steps_write_beside E m team g k (WeakIs 0) (resetting (team.worker k) (record r { cleared = true })) g (omega arith)
+    (learnt (resets_more E m team g k (record r { cleared = true }) ready.invariant ready.member (me.resets r e)
+    (record { unmoved = o.unmoved; stopped = o.stopped; size = o.size; grown = o.grown; used = o.used; sized = o.sized; stored = o.stored })
+    (λ loose. me.unsized (flips_ask (team.worker k).post (me.resets r e)) (ap is_sized e ∙ loose))))
 
 module _ (E : Era) (m : Memory) (team : Team) (g : Ghost) (k : ℕ) (r : Reset) (front low u : ℕ) (out : IsLaidOut E) (inv : Invariant E m team g) (below : k < team.count)
     (has : (team.worker k).reset ≡ Some r) (sized : r.sized ≡ true) (used : r.used ≡ Some u) (at_start : front ≡ E.old_start) (at_end : low ≡ E.old_start + E.old_span) where

@@ -22,10 +22,10 @@ use Rattle.heap_laws.proofs.Gate.Counts.{fits}
 -- ---- the row
 
 -- the table has the row, its era stays, and the epoch sees this memory
-record RowSeen (c : Configuration) (e : Option Entry) (later : Memory) : Type 0 where
-  fits : RowFits c.pages e
-  era_stays : era_of (table_after (table c) e) ≡ era c
-  memory_is : memory_of (table_after (table c) e) ≡ later
+pub record RowSeen (c : Configuration) (e : Option Entry) (later : Memory) : Type 0 where
+  pub fits : RowFits c.pages e
+  pub era_stays : era_of (table_after (table c) e) ≡ era c
+  pub memory_is : memory_of (table_after (table c) e) ≡ later
 
 -- the table as another gate of the same epoch has it
 abbrev memory_at : Table → GateWord → ℕ → Memory
@@ -46,7 +46,7 @@ memory_at t gate epoch = record {
 
 -- of the chain of copied cells and of checkpoints it sees nothing
 seen_beside : (c : Configuration) (e : Entry) → IsBeside (era c) e → RowSeen c (Some e) (memory c)
-seen_beside c (WeakIs word) beside = record { fits = tt; era_stays = refl; memory_is = refl }
+seen_beside c (WeakIs word) beside = record { fits = beside; era_stays = refl; memory_is = refl }
 seen_beside c (WeakTurnIs word) beside = record { fits = tt; era_stays = refl; memory_is = refl }
 seen_beside c (SnapIs number) beside = record { fits = tt; era_stays = refl; memory_is = refl }
 seen_beside c (DoneIs number) beside = record { fits = tt; era_stays = refl; memory_is = refl }
@@ -54,7 +54,7 @@ seen_beside c (SaveIs page word) beside = record { fits = (let b = board_at c in
 seen_beside c (ImageIs addr word) beside = record { fits = let b = board_at c in omega (arith, b, beside); era_stays = refl; memory_is = refl }
 seen_beside c _ beside = absurd beside
 
-row_seen : (c : Configuration) (e : Option Entry) (later : Memory) → WritesRow (era c) (memory c) e later → RowSeen c e later
+pub row_seen : (c : Configuration) (e : Option Entry) (later : Memory) → WritesRow (era c) (memory c) e later → RowSeen c e later
 row_seen c _ _ NoRow = record { fits = tt; era_stays = refl; memory_is = refl }
 row_seen c _ _ (InGate gate fits same) = record {
   fits = fits;

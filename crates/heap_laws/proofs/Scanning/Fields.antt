@@ -1,5 +1,5 @@
 -- The fields of a page that is scanned: passed where they are clean, and replaced by the copy's address where they are not.
-use Rattle.std.proofs.Common.{◌≤◌, ◌≡◌, ◌≢◌, ℕ, ◌+◌, ◌-◌, ◌/◌, ◌<◌, Some, None, refl, sym, ◌∙◌, arith, ⊎_elim, inl, inr, subst, ap, Option}
+use Rattle.std.proofs.Common.{◌≤◌, ◌≡◌, ◌≢◌, ℕ, ◌+◌, ◌-◌, ◌/◌, ◌<◌, Some, None, refl, sym, ◌∙◌, arith, ⊎_elim, inl, inr, subst, ap, Option, false}
 use Rattle.std.proofs.lemmas.Bool.{cases_eq}
 use Rattle.heap_words.specs.Decoded.{PointerWord, decode}
 use Rattle.heap_state.specs.Memory.Era.{Era, Memory, IsLaidOut}
@@ -11,7 +11,7 @@ use Rattle.heap_state.specs.Invariant.Parts.Pages.{ScannedBy}
 use Rattle.heap_state.specs.Invariant.Parts.Scanning.{Stepping}
 use Rattle.heap_state.specs.Worker.{Worker, Team, Origin, Scanned, Quest, Copy, Scan, SeenRecord, is_late}
 use Rattle.heap_state.proofs.Workers.Frames.{counted_put, staffed_put, stocks_put, numbered_put, rooted_put}
-use Rattle.heap_state.proofs.Puts.{put_same, team_put, some_same, none≢some}
+use Rattle.heap_state.proofs.Puts.{put_same, team_put, some_same, none≢some, true_false}
 use Rattle.heap_state.specs.Memory.FieldSpan.{next_scanned, next_from}
 use Rattle.heap_state.proofs.Records.FieldSpans.{passes_no_field, next_within, span-within, field-span}
 use Rattle.heap_state.specs.Memory.Entries.{WordIs}
@@ -98,11 +98,11 @@ asks E m team g k s a ready is at going leads low high =
     let inv = ready.invariant in
     let me = inv.workers k ready.member in
     let h = here E m team g k s ready.laid_out inv ready.member is.scans at in
-    let q : Quest = record { old = a; origin = Scanned s.cursor; found = None } in
+    let q : Quest = record { old = a; origin = Scanned s.cursor; found = None; links = false } in
     let st : 0 < g.size a = pointer_lands g.size g.writer (m.heap s.cursor) a (inv.landing.lands s.cursor h) leads in
     learnt (learns E m team g k (asking (team.worker k) q) inv (assumption) (λ t e. (t, e, refl))
     (let origin : (r : Quest) → Some q ≡ Some r → IsOrigin E g.size g.writer g.kind m.heap (is_late E.epoch (team.worker k)) (team.worker k).done (team.worker k).registers (team.worker k).scan r.old r.origin = λ r e. rw (← some_same e) ((s, is.scans, refl, at.on_page, going), h, leads) in
-    let seeks : (r : Quest) → Some q ≡ Some r → Seeks E g.size g.writer g.copy r = λ r e. rw (← some_same e) (record { old = (st, low, high); found = λ b f. none≢some f }) in
+    let seeks : (r : Quest) → Some q ≡ Some r → Seeks E g.size g.writer g.copy g.kind r = λ r e. rw (← some_same e) (record { old = (st, low, high); found = λ b f. none≢some f; links = λ f. true_false refl f }) in
     let licence : Licensed m.gate.behind g.kept k (is_late E.epoch (team.worker k)) (team.worker k).copy (Some q) (team.worker k).scan = record { licensed = me.licensed.licensed; asked = λ c e. absurd (no_copy E m team g k inv ready.member is.asks_nothing c e); counted = me.licensed.counted; idle = me.licensed.idle } in
     assumption))
 
@@ -161,7 +161,7 @@ module _ (E : Era) (m : Memory) (team : Team) (g : Ghost) (k : ℕ) (s : Scan) (
   others : (j : ℕ) → j < team.count → j ≢ k → KnowsNow j (team.worker j)
   others j l d =
       let u = inv.workers j l in
-      let o = λ (r : Quest) (e : (team.worker j).quest ≡ Some r). origin_slot slot m.heap (is_late E.epoch (team.worker j)) (team.worker j).done (team.worker j).registers (team.worker j).scan apart r.old r.origin (u.origin r e) in
+      let o = λ (r : Quest) (e : (team.worker j).quest ≡ Some r). origin_slot slot m.heap (is_late E.epoch (team.worker j)) (team.worker j).done (team.worker j).registers (team.worker j).scan (λ s e f _. apart s e f) r.old r.origin (u.origin r e) in
       let c = λ (r : Copy) (e : (team.worker j).copy ≡ Some r). copies_slot slot m.heap j r (u.copy r e) in
       let p = λ (r : Copy) (e : (team.worker j).copy ≡ Some r). keeps_slot slot m.heap j r (u.copy r e) (u.keeps r e) in
       let y = λ (r : Scan) (e : (team.worker j).scan ≡ Some r). scans_slot slot m.heap j r (u.scan r e) in

@@ -67,7 +67,7 @@ module _ (E : Era) (m : Memory) (team : Team) (g : Ghost) (k : ℕ) (s : Scan) (
   knows_on heap t on sc =
       let u = me in
       let o1 : (q : Quest) → None ≡ Some q → IsOrigin E g.size g.writer g.kind heap (is_late E.epoch (team.worker k)) (team.worker k).done (team.worker k).registers (Some t) q.old q.origin = λ q e. none≢some e in
-      let o2 : (q : Quest) → None ≡ Some q → Seeks E g.size g.writer g.copy q = λ q e. none≢some e in
+      let o2 : (q : Quest) → None ≡ Some q → Seeks E g.size g.writer g.copy g.kind q = λ q e. none≢some e in
       let o3 : Licensed m.gate.behind g.kept k (is_late E.epoch (team.worker k)) (team.worker k).copy None (Some t) =
       record { licensed = λ c e. absurd (no_copy c e); asked = λ c e. absurd (no_copy c e); counted = me.licensed.counted; idle = me.licensed.idle } in
       let o4 : (c : Copy) → (team.worker k).copy ≡ Some c → Copies E m.front g.size g.writer g.copy g.keeper g.kept m.announced m.cross heap k c = λ c e. absurd (no_copy c e) in

@@ -1,5 +1,5 @@
 -- Atomic steps that are several changes of what a worker knows.
-use Rattle.std.proofs.Common.{◌≡◌, ℕ, zero, suc, ◌+◌, ◌-◌, ◌<◌, ◌≤◌, true, Option, Some, None, refl, sym, ap, ◌∙◌, arith, subst}
+use Rattle.std.proofs.Common.{◌≡◌, ℕ, zero, suc, ◌+◌, ◌-◌, ◌<◌, ◌≤◌, true, Option, Some, None, refl, sym, ap, ◌∙◌, arith, subst, false}
 use Rattle.heap_words.specs.Decoded.{decode}
 use Rattle.heap_state.specs.Memory.Entries.{Entry, AnnounceIs}
 use Rattle.heap_state.specs.Memory.Era.{Era, Memory}
@@ -69,7 +69,7 @@ module _ (E : Era) (m : Memory) (team : Team) (g : Ghost) (k j : ℕ) (ready : R
 
   asked : (q : Option Quest) → AsksAt (team.worker k).registers j q → Steps E m team g k None (come_to (team.worker k) j q) g
   asked _ (AllDone e) = subst (λ (q : Option Quest). Steps E m team g k None (record (team.worker k) { done = j; quest = q }) g) idle passed
-  asked _ (AsksNext a l leads) = on ready passed (λ w. record w { quest = Some (record { old = a; origin = Register w.done; found = None }) }) g
+  asked _ (AsksNext a l leads) = on ready passed (λ w. record w { quest = Some (record { old = a; origin = Register w.done; found = None; links = false }) }) g
       (asks_for_register E passed.later (then ready passed) g k a (is_ready ready passed)
       (record { late = ap (is_late E.epoch) (there ready passed) ∙ late; left = let d = ap (λ (w : Worker). w.done) (there ready passed) in omega (arith, d, l) })
       (ap (λ (w : Worker). w.quest) (there ready passed) ∙ idle)

@@ -1,5 +1,5 @@
 -- Each stopped mutator forwards its registers after the flip.
-use Rattle.std.specs.Prelude.{◌≡◌, ℕ, ◌+◌, ◌<◌, true, Some, None}
+use Rattle.std.specs.Prelude.{◌≡◌, ℕ, ◌+◌, ◌<◌, true, Some, None, false}
 use Rattle.heap_words.specs.Decoded.{PointerWord, decode}
 use Rattle.heap_state.specs.Memory.Era.{Era, Memory}
 use Rattle.heap_state.specs.Functions.{put}
@@ -23,7 +23,7 @@ PassingRegisterKeeps = (E : Era) (m : Memory) (team : Team) (g : Ghost) (k : ℕ
 
 -- for one that is a pointer, and so leads into the old space, the worker asks for the copy
 abbrev pub asking_for : Worker → ℕ → Worker
-asking_for w a = record w { quest = Some (record { old = a; origin = Register w.done; found = None }) }
+asking_for w a = record w { quest = Some (record { old = a; origin = Register w.done; found = None; links = false }) }
 
 abbrev pub AskingForRegisterKeeps : Type 0
 AskingForRegisterKeeps = (E : Era) (m : Memory) (team : Team) (g : Ghost) (k a : ℕ) → Ready E m team g k → HasRegister E team k

@@ -1,5 +1,5 @@
 -- What a flipper does before the flip: it waits until nobody runs and nobody is behind, reads the size and the words in use, and
--- stores the size and the area of the other space. The store of the size is a law of its own.
+-- stores the size and the area of the other space, and WEAK. The store of the size is a law of its own.
 use Rattle.std.specs.Prelude.{◌≡◌, ℕ, ◌+◌, ◌*◌, ◌≤◌, true, false, Some, None}
 use Rattle.space_map.specs.declared.area_word.AreaWord.{AreaWord}
 use Rattle.space_map.specs.declared.gate_word.GateWord.{GateWord}
@@ -7,7 +7,7 @@ use Rattle.space_map.specs.AreaWord.{AreaFits}
 use Rattle.heap_state.specs.Memory.Era.{Era, Memory, from_space}
 use Rattle.heap_state.specs.Invariant.Ghost.{Ghost}
 use Rattle.heap_state.specs.Worker.{Worker, Team, Reset, is_flipper}
-use Rattle.heap_state.specs.Memory.Entries.{AreaIs}
+use Rattle.heap_state.specs.Memory.Entries.{AreaIs, WeakIs}
 use Rattle.heap_laws.specs.Steps.{Ready, Steps}
 use Rattle.space_map.specs.declared.spaces.TheConstants.{PAGE_WORDS}
 
@@ -17,7 +17,7 @@ resetting w r = record w { reset = Some r }
 
 -- what is known of a flip once the gate is read
 abbrev pub found_still : GateWord → Reset
-found_still gate = record { read = gate; size = None; grown = None; used = None; sized = false; stored = false }
+found_still gate = record { read = gate; size = None; grown = None; used = None; sized = false; stored = false; cleared = false }
 
 -- the gate is read, with nobody running and nobody behind
 abbrev pub FindingStillKeeps : Type 0
@@ -46,3 +46,8 @@ abbrev pub StoringAreaKeeps : Type 0
 StoringAreaKeeps = (E : Era) (m : Memory) (team : Team) (g : Ghost) (k : ℕ) (r : Reset) (u : ℕ) → Ready E m team g k
     → (team.worker k).reset ≡ Some r → r.sized ≡ true → r.used ≡ Some u → AreaFits (whole_area E.old_span u)
     → Steps E m team g k (Some (AreaIs (from_space E.epoch) (whole_area E.old_span u))) (resetting (team.worker k) (record r { stored = true })) g
+
+-- WEAK is stored: no cell is linked
+abbrev pub ClearingWeakKeeps : Type 0
+ClearingWeakKeeps = (E : Era) (m : Memory) (team : Team) (g : Ghost) (k : ℕ) (r : Reset) → Ready E m team g k → (team.worker k).reset ≡ Some r
+    → Steps E m team g k (Some (WeakIs 0)) (resetting (team.worker k) (record r { cleared = true })) g

@@ -108,7 +108,7 @@ asking w q = record w { quest = Some q }
 abbrev pub AskingKeeps : Type 0
 AskingKeeps = (E : Era) (m : Memory) (team : Team) (g : Ghost) (k : ℕ) (s : Scan) (a : ℕ) → Ready E m team g k → IsScanning team k s
     → AtField E s → s.ended ≡ false → decode (m.heap s.cursor) ≡ PointerWord a → E.old_start ≤ a → a < E.old_start + E.old_span
-    → Steps E m team g k None (asking (team.worker k) (record { old = a; origin = Scanned s.cursor; found = None })) g
+    → Steps E m team g k None (asking (team.worker k) (record { old = a; origin = Scanned s.cursor; found = None; links = false })) g
 
 -- worker k has found the copy that the word at the cursor asked for
 pub record HasFound (E : Era) (team : Team) (k : ℕ) (s : Scan) (q : Quest) (b : ℕ) : Type 0 where

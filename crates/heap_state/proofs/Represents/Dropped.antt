@@ -71,7 +71,7 @@ module _ (c : Configuration) (g : Ghost) (formed : IsFormed c.pages c.words) (in
     knows : Knows E m.gate m.traced m.front m.low m.old_front m.old_low m.old_owed h m.page m.cross m.announced m.heap k w
     knows =
         let origin : (q : Quest) → w.quest ≡ Some q → IsOrigin E h.size h.writer h.kind m.heap (is_late E.epoch w) w.done w.registers w.scan q.old q.origin = λ q e. absurd (asks_not q e) in
-        let quest : (q : Quest) → w.quest ≡ Some q → Seeks E h.size h.writer h.copy q = λ q e. absurd (asks_not q e) in
+        let quest : (q : Quest) → w.quest ≡ Some q → Seeks E h.size h.writer h.copy h.kind q = λ q e. absurd (asks_not q e) in
         let copy : (q : Copy) → w.copy ≡ Some q → Copies E m.front h.size h.writer h.copy h.keeper h.kept m.announced m.cross m.heap k q = λ q e. absurd (nobody_copies E m (team c) g inv traced k q l e) in
         let keeps : (q : Copy) → w.copy ≡ Some q → Keeps h.kind h.identity m.heap q = λ q e. absurd (nobody_copies E m (team c) g inv traced k q l e) in
         let scan : (s : Scan) → w.scan ≡ Some s → Scans E m.front h.size h.writer h.kind m.heap m.page k s = λ s e. absurd (nobody_scans E m (team c) g inv traced k s l e) in

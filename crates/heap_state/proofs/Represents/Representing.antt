@@ -21,7 +21,9 @@ use Rattle.heap_state.specs.Worker.{is_mutator}
 use Rattle.heap_state.proofs.Represents.Denoting.{denotes, reaches, field_lands, board_lands}
 use Rattle.heap_state.proofs.Records.Holding.{uncopied_here}
 use Rattle.heap_state.proofs.Walks.InHeap.{in_heap_complete, lay, now_sound, now_read, old_readable}
+use Rattle.heap_state.proofs.Represents.Ordered.{in_order}
 use Rattle.heap_state.proofs.Represents.Owning.{Owns, owns, field_of}
+use Rattle.heap_state.proofs.Represents.Places.{record_shows}
 use Rattle.heap_state.proofs.Records.Headers.{said_there}
 use Rattle.heap_state.proofs.Records.Layouts.{value_within}
 
@@ -127,10 +129,12 @@ module _ (c : Configuration) (g : Ghost) (formed : IsFormed c.pages c.words) (in
       as_many = (shown.as_many, shown.makers);
       eight = λ k q e. (shown.registers k q e).eight;
       sixteen = shown.board.sixteen;
+      ordered = in_order c g formed inv;
       registers = register_shows;
       board = board_word_shows;
       readable = now_read c g formed inv;
       old_readable = old_readable c g formed inv;
-      records = λ w h. record { owns = each_owns w; shows = λ kind len serial mutator is. let s = records_show w kind len serial mutator is in (omega (arith, s.0), s.1); leads = field_leads w; once = λ v kind other len longer serial mutator a b. let e = once w v kind other len longer serial mutator a b in omega arith };
+      records = λ w h. record_shows (dump_of c) p w (λ kind len serial mutator is. let s = records_show w kind len serial mutator is in (omega (arith, s.0), s.1)) (each_owns w) (field_leads w)
+          (λ v kind other len longer serial mutator a b. let e = once w v kind other len longer serial mutator a b in omega arith);
     };
   }

@@ -18,6 +18,7 @@ use Rattle.heap_state.specs.Worker.{is_mutator}
 use Rattle.heap_state.proofs.Records.Headers.{said_there}
 use Rattle.heap_state.proofs.Records.Layouts.{value_within}
 use Rattle.heap_state.proofs.Represents.Denoting.{Headers, Own, Forwarded, headers, denotes, field_lands, board_lands}
+use Rattle.heap_state.proofs.Represents.Places.{whole_record}
 use Rattle.heap_state.proofs.Walks.InHeap.{IsInReach, in_heap_complete}
 use Rattle.heap_state.proofs.Walks.Walking.{item}
 
@@ -55,7 +56,7 @@ module _ (c : Configuration) (g : Ghost) (formed : IsFormed c.pages c.words) (in
           let i = in_heap_complete c g formed inv a st w (in_reach a st) in
           let is : IsOwn (dump_of c) (item a (g.size a)) (g.kind a) (g.size a - 1) (g.identity a).serial (g.identity a).mutator =
           record { walked = i; head = header_kind (g.kind a); header = e; said = sym (said_there g.size g.writer g.kind m.heap inv.raw_words inv.counts a st w) } in
-          let s = ((represents.dump.records (item a (g.size a)) i).shows (g.kind a) (g.size a - 1) (g.identity a).serial (g.identity a).mutator is).1 in
+          let s = (whole_record (dump_of c) q (item a (g.size a)) (represents.dump.records (item a (g.size a)) i) (g.kind a) (g.size a - 1) (g.identity a).serial (g.identity a).mutator is).1 in
           (s.0, s.1, shows s.0 s.2)
 
   -- ---- mutators and the board

@@ -22,6 +22,7 @@ use Rattle.heap_state.proofs.Table.Places.{put_any, word_in-set_any}
 pub entry_has_row : (n : ℕ) (e : Entry) → EntryFits n e → IsWholeRow n (row_of e)
 entry_has_row n (GateIs gate) fits = tt
 entry_has_row n (AreaIs space area) fits = fits.0
+entry_has_row n (WeakIs word) fits = tt
 entry_has_row n (SizeIs space pages) fits = fits.0
 entry_has_row n (PageIs page word) fits = fits.0
 entry_has_row n (SnapIs number) fits = tt
@@ -38,6 +39,7 @@ HasFormAt (Behind row) word = Unit {0}
 has_form : (n : ℕ) (e : Entry) → EntryFits n e → HasFormAt (row_of e) (word_of e)
 has_form n (GateIs gate) fits = encode_gate-lt gate fits
 has_form n (AreaIs space area) fits = encode_area-lt area fits.1
+has_form n (WeakIs word) fits = fits
 has_form n (PageIs page word) fits = rw (decode_page-encode_page word fits.1) refl
 has_form n _ fits = tt
 

@@ -7,7 +7,7 @@ use Rattle.std.proofs.lemmas.List.{get_or-replicate, length-replicate}
 use Rattle.space_map.specs.AreaWord.{area_in}
 use Rattle.space_map.specs.GateWord.{gate_in}
 use Rattle.space_map.specs.PageWord.{decode_page}
-use Rattle.space_map.specs.Table.{Row, Gate, Area, Size, Page, is_row, place_of, table_length}
+use Rattle.space_map.specs.Table.{Row, Gate, Area, WeakHead, Size, Page, is_row, place_of, table_length}
 use Rattle.space_map.proofs.Rows.{place_of-lt}
 use Rattle.heap_state.specs.Memory.Entries.{whole_place_of, Entry, SizeIs, row_of, word_of, with_entry, blank_words, blank_table, written, table_with, EachFits, EntryFits, HasSizes}
 use Rattle.heap_state.specs.Memory.Table.{Table, HasForm, IsFormed, table_by, table_of, word_in}
@@ -41,6 +41,7 @@ blank_form : (row : Row) → HasForm row 0
 unfolding decode_page
 blank_form Gate = omega arith
 blank_form (Area space) = omega arith
+blank_form WeakHead = omega arith
 blank_form (Page page) = refl
 blank_form _ = tt
 

@@ -110,11 +110,11 @@ module _ (passes : ℕ → Bool) (reserved heap : ℕ → ℕ) (from end : ℕ) 
   -- ---- all that is met can be read
 
   reads_step : (n at : ℕ) → from ≤ at → at < end → ((next : ℕ) → from ≤ next → On next → ReadsAll n passes reserved heap end next)
-      → (m : Met) → MetAt end size writer at m → On (next_place end at m) → IsRead m × ReadsAll n passes reserved heap end (next_place end at m)
+      → (m : Met) → MetAt end size writer at m → On (next_place end at m) → IsRead end at m × ReadsAll n passes reserved heap end (next_place end at m)
   reads_step n at f l rest AtEnd s o = absurd s
   reads_step n at f l rest Nothing s o = (tt, rest (first_word (page_of at + 1)) (omega arith) o)
   reads_step n at f l rest (Reserved z) s o = (tt, rest (at + z) (omega arith) o)
-  reads_step n at f l rest (Record z) s o = (tt, rest (at + z) (omega arith) o)
+  reads_step n at f l rest (Record z) s o = (let w = part.within at (omega (arith, s)) f l in omega (arith, w, s), rest (at + z) (omega arith) o)
   reads_step n at f l rest Broken s o = absurd s
 
   pub reads_all : (turns at : ℕ) → from ≤ at → On at → ReadsAll turns passes reserved heap end at

@@ -26,6 +26,7 @@ use Rattle.plain_state.specs.State as plain
 use Rattle.heap_state.proofs.Puts.{none≢some}
 use Rattle.heap_state.specs.Examples.Worked.{worked_entries, forwarded_wrong, opened_early, short_of_room, made}
 use Rattle.heap_state.proofs.Worked.Standing.{entries_fit, has_sizes}
+use Rattle.heap_state.proofs.Represents.Places.{whole_record}
 use Rattle.heap_state.proofs.Table.Writing.{writes_tables}
 
 -- the sizes are also among these entries with one more before them
@@ -115,7 +116,7 @@ one_value (v ∷ values) e = (v, refl)
 
 pub wrong : (p : plain.Plain) → ¬ (Represents forwarded_wrong p)
 wrong p represents =
-    let r = ((represents.dump.records (record { at = 195; size = 2 }) own_second.walked).shows Fields 1 2 0 own_second).1 in
+    let r = (whole_record (dump_of forwarded_wrong) p (record { at = 195; size = 2 }) (represents.dump.records (record { at = 195; size = 2 }) own_second.walked) Fields 1 2 0 own_second).1 in
     let size : length r.0.values + 1 ≡ 2 = rw r.2.kind at r.2.size in
     let v = one_value r.0.values size in
     let shown : denoted forwarded_wrong ((table forwarded_wrong).heap 196) ≡ slice_get r.0.values 0 = r.2.fields 0 (omega (arith, size)) refl in

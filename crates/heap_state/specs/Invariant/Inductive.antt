@@ -37,7 +37,7 @@ pub record Knows (E : Era) (gate : GateWord) (traced front low old_front old_low
   pub access : (f : Access) → w.access ≡ Some f → Accesses E g.size g.writer g.kind f
   pub opened : (p : ℕ) → w.opened ≡ Some p → (is_running w.post ≡ true) × (page p ≡ Open E.epoch)
   pub origin : (q : Quest) → w.quest ≡ Some q → IsOrigin E g.size g.writer g.kind heap (is_late E.epoch w) w.done w.registers w.scan q.old q.origin
-  pub quest : (q : Quest) → w.quest ≡ Some q → Seeks E g.size g.writer g.copy q
+  pub quest : (q : Quest) → w.quest ≡ Some q → Seeks E g.size g.writer g.copy g.kind q
   pub licensed : Licensed gate.behind g.kept k (is_late E.epoch w) w.copy w.quest w.scan
   pub copy : (c : Copy) → w.copy ≡ Some c → Copies E front g.size g.writer g.copy g.keeper g.kept announced cross heap k c
   pub keeps : (c : Copy) → w.copy ≡ Some c → Keeps g.kind g.identity heap c

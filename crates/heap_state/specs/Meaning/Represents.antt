@@ -1,18 +1,21 @@
 -- What it means that a dump or a configuration represents a state of the plain machine.
-use Rattle.std.specs.Prelude.{◌≡◌, ◌≢◌, ℕ, ◌+◌, ◌<◌, ◌≤◌, ◌⊎◌, true, length, Contains, Option, Some, None, slice_get}
+use Rattle.std.specs.Prelude.{◌≡◌, ◌≢◌, ℕ, ◌+◌, ◌*◌, ◌<◌, ◌≤◌, ◌⊎◌, true, length, Contains, Option, Some, None, slice_get}
 use Rattle.heap_words.specs.declared.kind.Kind.{Kind as HeaderKind}
 use Rattle.heap_words.specs.Decoded.{Decoded, PointerWord, HeaderWord, decode}
 use Rattle.plain_state.specs.declared.kind.Kind.{Kind}
 use Rattle.plain_state.specs.State as plain
-use Rattle.plain_state.specs.Layout.{is_field}
+use Rattle.plain_state.specs.Layout.{is_field, is_raw, size_of, word_of_value}
 use Rattle.plain_state.specs.declared.value.Value.{Value}
+use Rattle.plain_state.specs.declared.value.Value.TheVariants.{Number}
+use Rattle.space_map.specs.Spaces.{to_space}
+use Rattle.space_map.specs.declared.spaces.TheConstants.{PAGE_WORDS}
 use Rattle.heap_state.specs.Configuration.{Configuration, team}
 use Rattle.heap_state.specs.Meaning.Denotes.{denoted_in, own_header_in}
 use Rattle.heap_state.specs.Meaning.Dump.{Dump, dump_of}
-use Rattle.heap_state.specs.Memory.Era.{era_of}
-use Rattle.heap_state.specs.Invariant.Ghost.{said_kind}
+use Rattle.heap_state.specs.Memory.Era.{era_of, from_space}
+use Rattle.heap_state.specs.Invariant.Ghost.{said_kind, header_kind}
 use Rattle.heap_state.specs.Memory.Table.{Table}
-use Rattle.heap_state.specs.Meaning.Values.{Shows, Accounts}
+use Rattle.heap_state.specs.Meaning.Values.{CountShows, Accounts}
 use Rattle.heap_state.specs.Memory.Walk.{Walked, walk_in, old_walk_in, IsWalkable, IsOldReadable}
 
 -- ---- the heap's records
@@ -20,6 +23,15 @@ use Rattle.heap_state.specs.Memory.Walk.{Walked, walk_in, old_walk_in, IsWalkabl
 -- the epoch is not traced, and the old space has records of the heap too
 abbrev pub IsCopying : Table → Type 0
 IsCopying t = t.traced ≢ t.gate.epoch + 1
+
+-- the space is walked: it is the epoch's; or, while the epoch is not traced, the old one
+abbrev pub IsWalkedSpace : Table → ℕ → Type 0
+IsWalkedSpace t space = (space ≡ to_space t.gate.epoch) ⊎ (IsCopying t × (space ≡ from_space t.gate.epoch))
+
+-- of the space no more pages are in use than it may have, and FRONT, LOW and the words in use follow one another
+pub record IsInOrder (t : Table) (space : ℕ) : Type 0 where
+  pub size : t.in_use space ≤ t.pages
+  pub area : ((t.area space).front ≤ (t.area space).low) × ((t.area space).low ≤ PAGE_WORDS * t.in_use space)
 
 -- a record in the walk of the epoch's space; or, while the epoch is not traced, in that of the old space
 abbrev pub IsInHeap : Dump → Walked → Type 0
@@ -39,6 +51,14 @@ pub record IsOwn (d : Dump) (w : Walked) (kind : Kind) (len serial mutator : ℕ
   pub head : HeaderKind
   pub header : own_header d w.at ≡ HeaderWord head len serial mutator
   pub said : kind ≡ said_kind head (d.table.heap (w.at + 1))
+
+-- the record's own header says this kind, and names this record of the plain state
+pub record Names (d : Dump) (p : plain.Plain) (w : Walked) (kind : Kind) (r : plain.Record) : Type 0 where
+  pub len : ℕ
+  pub serial : ℕ
+  pub mutator : ℕ
+  pub own : IsOwn d w kind len serial mutator
+  pub names : plain.record_of p.heap (record { mutator = mutator; serial = serial }) ≡ Some r
 
 -- the record has a header of its own, in its place or kept by a worker
 pub record HasOwn (d : Dump) (w : Walked) : Type 0 where
@@ -69,26 +89,42 @@ pub record BoardWordShows (d : Dump) (p : plain.Plain) (x : ℕ) : Type 0 where
   pub shows : denoted_in_dump d (d.table.heap ((era_of d.table).board + x)) ≡ slice_get p.heap.board x
   pub leads : LeadsToRecord d (d.table.heap ((era_of d.table).board + x))
 
--- A record in the walk of the epoch's space has its own header. One that has its own header has that many words,
--- and shows the plain record of its identity. Its fields lead to records if they are pointers. No record before it
+-- A record in the walk of the epoch's space has its own header. One that has its own header has that many words, and there is a
+-- plain record of its identity, of that kind, but for the count of a mixed one's fields, and of as many words. No record before it
 -- that has its own header is of its identity, so that of two it is the later one that is wrong.
-pub record RecordShows (d : Dump) (p : plain.Plain) (w : Walked) : Type 0 where
+pub record HeadShows (d : Dump) (p : plain.Plain) (w : Walked) : Type 0 where
   pub owns : Contains (walk_in d.table d.kept) w → HasOwn d w
   pub shows : (kind : Kind) (len serial mutator : ℕ) → IsOwn d w kind len serial mutator
       → (w.size ≡ len + 1)
-      × ((r : plain.Record) × (plain.record_of p.heap (record { mutator = mutator; serial = serial }) ≡ Some r) × Shows (denoted_in_dump d) d.table.heap w.at kind w.size r)
-  pub leads : (kind : Kind) (len serial mutator i : ℕ) → IsOwn d w kind len serial mutator → IsFieldOf w kind i → LeadsToRecord d (d.table.heap (w.at + i))
+      × ((r : plain.Record) × (plain.record_of p.heap (record { mutator = mutator; serial = serial }) ≡ Some r) × (header_kind r.kind ≡ header_kind kind) × (size_of r ≡ w.size))
   pub once : (v : Walked) (kind other : Kind) (len longer serial mutator : ℕ) → IsOwn d w kind len serial mutator → IsOwn d v other longer serial mutator → w.at ≤ v.at
+
+-- Word i of a record whose own header says a kind, and names a plain record. Word 1 of a mixed record has the count of the plain
+-- record's fields. A field in which a value stands denotes it, and each field leads to a record if it is a pointer. Each other
+-- value is the number there.
+pub record WordShows (d : Dump) (p : plain.Plain) (w : Walked) (i : ℕ) : Type 0 where
+  pub count : (kind : Kind) (r : plain.Record) → Names d p w kind r → i ≡ 1 → (r.kind ≡ kind) × CountShows kind d.table.heap w.at
+  pub field : (kind : Kind) (r : plain.Record) (x : ℕ) → Names d p w kind r → i ≡ word_of_value kind x → x < length r.values → is_field kind i ≡ true
+      → denoted_in_dump d (d.table.heap (w.at + i)) ≡ slice_get r.values x
+  pub number : (kind : Kind) (r : plain.Record) (x : ℕ) → Names d p w kind r → i ≡ word_of_value kind x → x < length r.values → is_raw kind i ≡ true
+      → Some (Number (d.table.heap (w.at + i))) ≡ slice_get r.values x
+  pub leads : (kind : Kind) (len serial mutator : ℕ) → IsOwn d w kind len serial mutator → IsFieldOf w kind i → LeadsToRecord d (d.table.heap (w.at + i))
+
+-- a record shows what it should by its first word, and by each word behind it
+pub record RecordShows (d : Dump) (p : plain.Plain) (w : Walked) : Type 0 where
+  pub head : HeadShows d p w
+  pub words : (i : ℕ) → 0 < i → i < w.size → WordShows d p w i
 
 -- ---- the whole
 
--- The dump represents the plain state: this has as many mutators, of eight registers each, and a board of sixteen words; each
--- register, each board word and each record in the heap shows what is in its place; and no walk stops at a word that it can't
--- read.
+-- The dump represents the plain state: this has as many mutators, of eight registers each, and a board of sixteen words; each space
+-- that is walked is in order; each register, each board word and each record in the heap shows what is in its place; and no walk
+-- stops at a word that it can't read, or at a record that doesn't end in its part of the space.
 pub record DumpRepresents (d : Dump) (p : plain.Plain) : Type 0 where
   pub as_many : (length p.mutators ≡ d.mutators) × (length p.heap.records ≡ d.mutators)
   pub eight : (m : ℕ) (q : plain.Mutator) → slice_get p.mutators m ≡ Some q → length q.registers ≡ 8
   pub sixteen : length p.heap.board ≡ 16
+  pub ordered : (space : ℕ) → IsWalkedSpace d.table space → IsInOrder d.table space
   pub registers : (m j : ℕ) → j < 8 → RegisterShows d p m j
   pub board : (x : ℕ) → x < 16 → BoardWordShows d p x
   pub readable : IsWalkable d.table d.kept

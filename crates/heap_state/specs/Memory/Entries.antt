@@ -1,5 +1,5 @@
 -- Rows of the table with what they say, and tables written from a list of these.
-use Rattle.std.specs.Prelude.{Contains, ℕ, ◌*◌, ◌<◌, ◌≤◌, ⊤, false, List, [], ◌∷◌, replicate, slice_index, slice_set}
+use Rattle.std.specs.Prelude.{Contains, ℕ, ◌*◌, ◌^◌, ◌<◌, ◌≤◌, ⊤, false, List, [], ◌∷◌, replicate, slice_index, slice_set}
 use Rattle.space_map.specs.declared.area_word.AreaWord.{AreaWord}
 use Rattle.space_map.specs.declared.gate_word.GateWord.{GateWord}
 use Rattle.space_map.specs.declared.page_word.PageWord.{PageWord}
@@ -76,7 +76,7 @@ abbrev pub EntryFits : ℕ → Entry → Type 0
 EntryFits n (GateIs gate) = GateFits gate
 EntryFits n (TracedIs word) = ⊤
 EntryFits n (AreaIs space area) = (space < 2) × AreaFits area
-EntryFits n (WeakIs word) = ⊤
+EntryFits n (WeakIs word) = word < 2 ^ 62
 EntryFits n (WeakTurnIs word) = ⊤
 EntryFits n (SizeIs space pages) = (space < 2) × (4 ≤ pages) × (pages ≤ n)
 EntryFits n (PageIs page word) = (page ≤ 2 * n) × PageFits word

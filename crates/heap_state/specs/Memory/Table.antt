@@ -25,6 +25,7 @@ abbrev pub HasForm : Row → ℕ → Type 0
 HasForm Gate word = word < 2 ^ 62
 HasForm (Area space) word = word < 2 ^ 54
 HasForm (Page page) word = decode_page word ≡ Some (page_word_in word)
+HasForm WeakHead word = word < 2 ^ 62
 HasForm row word = ⊤
 
 -- ---- the table

@@ -61,16 +61,17 @@ walk zero passes reserved heap end at = []
 walk (suc turns) passes reserved heap end at =
     walked_at at (meets passes reserved heap end at) (walk turns passes reserved heap end (next_place end at (meets passes reserved heap end at)))
 
--- what is met is not broken
-abbrev pub IsRead : Met → Type 0
-IsRead Broken = ⊥
-IsRead _ = ⊤
+-- what a walk to `end` meets at a place is not broken, and a record doesn't pass the end
+abbrev pub IsRead : (end at : ℕ) → Met → Type 0
+IsRead end at (Record size) = at + size ≤ end
+IsRead end at Broken = ⊥
+IsRead end at _ = ⊤
 
 -- a walk from a place to `end` can read all that it meets, in at most so many turns
 unfoldable pub ReadsAll : ℕ → (passes : ℕ → Bool) (reserved heap : ℕ → ℕ) → ℕ → ℕ → Type 0
 ReadsAll zero passes reserved heap end at = ⊤
 ReadsAll (suc turns) passes reserved heap end at =
-    IsRead (meets passes reserved heap end at) × ReadsAll turns passes reserved heap end (next_place end at (meets passes reserved heap end at))
+    IsRead end at (meets passes reserved heap end at) × ReadsAll turns passes reserved heap end (next_place end at (meets passes reserved heap end at))
 
 -- ---- a space's records
 

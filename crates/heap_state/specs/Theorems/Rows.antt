@@ -1,5 +1,5 @@
 -- What is proved of the table's rows.
-use Rattle.std.specs.Prelude.{◌≡◌, ℕ, ◌+◌, ◌*◌, ◌<◌, ◌≤◌, ⊤, List, slice_index, slice_set}
+use Rattle.std.specs.Prelude.{◌≡◌, ℕ, ◌+◌, ◌*◌, ◌^◌, ◌<◌, ◌≤◌, ⊤, List, slice_index, slice_set}
 use Rattle.space_map.specs.declared.area_word.AreaWord.{AreaWord}
 use Rattle.space_map.specs.declared.gate_word.GateWord.{GateWord}
 use Rattle.space_map.specs.declared.page_word.PageWord.{PageWord}
@@ -54,7 +54,7 @@ StoresArea = (n : ℕ) (words : List ℕ) (space : ℕ) (area : AreaWord) → Is
 
 abbrev pub StoresWeak : Type 0
 StoresWeak = (n : ℕ) (words : List ℕ) (word : ℕ) → IsFormed n words
-    → Stored n words (Within WeakHead) word (record (table_of n words) { weak = word })
+    → word < 2 ^ 62 → Stored n words (Within WeakHead) word (record (table_of n words) { weak = word })
 
 abbrev pub StoresWeakTurn : Type 0
 StoresWeakTurn = (n : ℕ) (words : List ℕ) (word : ℕ) → IsFormed n words

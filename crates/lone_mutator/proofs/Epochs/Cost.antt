@@ -114,11 +114,11 @@ module _ (n e traced owed : ℕ) (page : ℕ → PageWord) where
   unfolding tracing_due
   due_traced is = rw (eq-eqb traced (e + 1) is) refl
 
-  left_untraced : traced ≢ e + 1 → tracing_left n e traced owed page ≡ page_cost n * unclaimed n e page + 4 * owed
+  left_untraced : traced ≢ e + 1 → tracing_left n e traced owed page ≡ page_cost n * unclaimed n e page + 5 * owed
   unfolding tracing_left
   left_untraced other = rw (ne_eqb traced (e + 1) other) refl
 
-  pub due_still : traced ≢ e + 1 → tracing_due n e traced owed page ≡ page_cost n * unclaimed n e page + 4 * owed + round_cost n
+  pub due_still : traced ≢ e + 1 → tracing_due n e traced owed page ≡ page_cost n * unclaimed n e page + 5 * owed + round_cost n
   unfolding tracing_due
   due_still other = rw (ne_eqb traced (e + 1) other) refl
 
@@ -144,8 +144,8 @@ module _ (n e traced owed : ℕ) (page : ℕ → PageWord) where
 
   -- ---- when it falls
 
-  -- a copy's room is reserved: four steps for each of its words are paid
-  pub left_reserved : (z : ℕ) → traced ≢ e + 1 → z ≤ owed → tracing_left n e traced (owed - z) page + 4 * z ≡ tracing_left n e traced owed page
+  -- a copy's room is reserved: five steps for each of its words are paid
+  pub left_reserved : (z : ℕ) → traced ≢ e + 1 → z ≤ owed → tracing_left n e traced (owed - z) page + 5 * z ≡ tracing_left n e traced owed page
   unfolding tracing_left
   left_reserved z other few = rw (ne_eqb traced (e + 1) other) (omega (arith, few))
 

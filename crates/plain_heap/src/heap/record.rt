@@ -47,6 +47,12 @@ impl PlainRecord {
         })
     }
 
+    pub fn kind(&self) -> Kind
+        ensures { result ≡ self.now.kind }
+    {
+        self.kind
+    }
+
     pub fn len(&self) -> usize
         ensures { result ≡ length self.now.values }
     {

@@ -64,3 +64,15 @@ returns-in-Some-clause-concord_ends g c = c.in-Some.ensures.holds.concord_ends
 
 pub returns-in-Some-clause-large_heaps_suffice : goal.returns-in-Some-clause-large_heaps_suffice
 returns-in-Some-clause-large_heaps_suffice g c = c.in-Some.ensures.holds.large_heaps_suffice
+
+pub returns-in-None-clause-audits : goal.returns-in-None-clause-audits
+returns-in-None-clause-audits g c = (holds g c).audits
+
+pub returns-in-None-clause-says_yes : goal.returns-in-None-clause-says_yes
+returns-in-None-clause-says_yes g c = (holds g c).says_yes
+
+pub returns-in-Some-clause-audits : goal.returns-in-Some-clause-audits
+returns-in-Some-clause-audits g c = c.in-Some.ensures.holds.audits
+
+pub returns-in-Some-clause-says_yes : goal.returns-in-Some-clause-says_yes
+returns-in-Some-clause-says_yes g c = c.in-Some.ensures.holds.says_yes

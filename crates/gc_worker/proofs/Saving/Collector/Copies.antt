@@ -8,21 +8,21 @@ use Rattle.heap_words.specs.Word.{busy_word, forward_word}
 use Rattle.space_map.specs.declared.area_word.AreaWord.{AreaWord}
 use Rattle.space_map.specs.AreaWord.{AreaFits, encode_area}
 use Rattle.space_map.specs.Spaces.{to_space}
-use Rattle.space_map.specs.Table.{Area, HeapWord, place_of}
+use Rattle.space_map.specs.Table.{Area, WeakHead, HeapWord, place_of}
 use Rattle.forwarding.specs.declared.evac_stage.EvacStage.{EvacStage}
-use Rattle.forwarding.specs.declared.evac_stage.EvacStage.TheVariants.{LoadsHeader, TakesHeader, LoadsArea, Announces, Reserves, StoresHeader, LoadsWord, StoresWord, StoresCross, StoresForward, Clears, Ended}
+use Rattle.forwarding.specs.declared.evac_stage.EvacStage.TheVariants.{LoadsHeader, TakesHeader, LoadsArea, Announces, Reserves, StoresHeader, LoadsWord, StoresWord, StoresCross, StoresForward, LoadsWeak, StoresLink, TakesWeak, Clears, Ended}
 use Rattle.forwarding.specs.declared.to.To.{To}
-use Rattle.forwarding.specs.Evacuation.{Evacuation, area_past, front_of, size_of}
+use Rattle.forwarding.specs.Evacuation.{Evacuation, area_past, front_of, link_of, size_of}
 use Rattle.forwarding.specs.Soundness.{AreaHoldsCopy, IsSound}
 use Rattle.forwarding.specs.Taken as evac_taken
 use Rattle.page_scan.specs.Scanning.{Scanning}
 use Rattle.heap_state.specs.Configuration.{Configuration, table, team}
-use Rattle.heap_state.specs.Memory.Entries.{AnnounceIs, AreaIs, CrossIs, Entry, EntryFits, WordIs, row_of, whole_place_of, word_of}
+use Rattle.heap_state.specs.Memory.Entries.{AnnounceIs, AreaIs, CrossIs, Entry, EntryFits, WeakIs, WordIs, row_of, whole_place_of, word_of}
 use Rattle.heap_state.specs.Saving.Frozen.{Frozen}
 use Rattle.heap_state.specs.Saving.Savers.{Saver, NoReads}
 use Rattle.heap_state.specs.Worker.{Worker}
 use Rattle.heap_laws.specs.Saving.Rounds.{KnowsNoMore}
-use Rattle.heap_laws.specs.Saving.Rows.{Spares, SparesAnnounce, SparesArea, SparesCross}
+use Rattle.heap_laws.specs.Saving.Rows.{Spares, SparesAnnounce, SparesArea, SparesCross, SparesWeak}
 use Rattle.heap_laws.specs.Saving.Sparing.{AsksForCopy}
 use Rattle.heap_laws.proofs.Saving.Sparing.{traced_words_are_spared}
 use Rattle.gc_worker.specs.declared.stage.after.After.{After}
@@ -179,6 +179,12 @@ module _ (c : Configuration) (p : Plain) (z : Frozen) (saver : ℕ → Saver) (k
       let n = pages (StoresCross r page) b in
       stores (StoresCross r page) b (CrossIs page r.to) (omega (arith, inside, within, n)) (SparesCross page r.to) (wants_its y v o (StoresCross r page))
   by_stage (StoresForward r) b = stores_word (StoresForward r) b v.addr (forward_word r.kept.len r.to) (sound (StoresForward r) b).addr (wants_its y v o (StoresForward r))
+  by_stage (LoadsWeak to) b = loads (LoadsWeak to) b (place_of v.layout.pages WeakHead) (wants_its y v o (LoadsWeak to))
+  by_stage (StoresLink to head) b = stores_word (StoresLink to head) b (link_of to) head (sound (StoresLink to head) b).fits.0 (wants_its y v o (StoresLink to head))
+  by_stage (TakesWeak to head) b =
+      let n = (sound (TakesWeak to head) b).pages in
+      let inside = (sound (TakesWeak to head) b).fits.0 in
+      exchanges (TakesWeak to head) b (WeakIs (to + 1)) head (omega (arith, n, inside)) (SparesWeak (to + 1)) (wants_its y v o (TakesWeak to head))
   by_stage (Clears to) b = stores (Clears to) b (AnnounceIs v.worker 0) (sound (Clears to) b).worker (SparesAnnounce v.worker 0) (wants_its y v o (Clears to))
   by_stage (Ended to) b = by_row.nothing c p z saver k (x (Ended to) b) b (forgets (Ended to) b) (wants_its y v o (Ended to))
 

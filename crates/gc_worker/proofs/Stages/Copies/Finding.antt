@@ -1,5 +1,5 @@
 -- The old record's first word is loaded, and the announced place cleared: the two steps at which a copy may be found.
-use Rattle.std.proofs.Common.{◌≡◌, ℕ, ◌<◌, ◌^◌, Option, Some, None, refl, sym, ap, subst, ◌∙◌, arith}
+use Rattle.std.proofs.Common.{◌≡◌, ℕ, ◌<◌, ◌^◌, Option, Some, None, refl, sym, ap, subst, ◌∙◌, arith, false}
 use Rattle.plain_state.specs.State.{Plain}
 use Rattle.atom_store.specs.declared.reply.Reply.{Reply}
 use Rattle.atom_store.specs.declared.reply.Reply.TheVariants.{Value, Done}
@@ -32,7 +32,7 @@ use Rattle.gc_worker.specs.declared.stage.Stage.TheVariants.{Evacuates, Scans}
 use Rattle.gc_worker.specs.Workers.Fits.{Fits, FitsBack, HasAsked}
 use Rattle.gc_worker.specs.Steps.Goes.{Is, Goes, StepsSo}
 use Rattle.gc_worker.specs.Workers.Held.{Held}
-use Rattle.gc_worker.specs.Workers.Knows.{knows, cursor_asked}
+use Rattle.gc_worker.specs.Workers.Knows.{found_at, linking_at, nothing_found, knows, cursor_asked}
 use Rattle.gc_worker.specs.Steps.Turned.{turned_copy}
 use Rattle.gc_worker.proofs.Stages.Copies.Hosts.{Host, ForScan, at, machine_at, wants_its, is_sound, has_pages, is_worker, takes, with_sound, tells_nothing, wins_nothing, copy_is, quest_with, quest_is}
 use Rattle.gc_worker.proofs.Stages.Copies.Publishing.{stays}
@@ -52,17 +52,17 @@ module _ (y : Held) (v : Evacuation) (scan : Scanning) (back : Back) where
   going_on q to = record y { stage = Scans (answered (record scan { stage = q }) to) back }
 
   -- the scan knows of the quest what the copy knew
-  answer_known : (z : EvacStage) (q : ScanStage) (to : ℕ) → HasAsked (record v { stage = z }) q
-      → record (knows (asking z q)) { copy = None; quest = Some (quest_with y v (ForScan (record scan { stage = q }) back) (Some to)) } ≡ knows (going_on q to)
-  answer_known z (Asks asked) to has = λ i. record (knows (going_on (Asks asked) to)) { quest = Some (record { old = sym has i; origin = Rattle.heap_state.specs.Worker.Scanned (cursor_asked (Asks asked)); found = Some to }) }
-  answer_known z LoadsCross to has = absurd has
-  answer_known z (LoadsFirst a) to has = absurd has
-  answer_known z (LoadsCount h) to has = absurd has
-  answer_known z (LoadsWord spot) to has = absurd has
-  answer_known z (StoresCopy asked b) to has = absurd has
-  answer_known z (LoadsFront r) to has = absurd has
-  answer_known z (LoadsNext r) to has = absurd has
-  answer_known z (scan_stage.Ended ending) to has = absurd has
+  answer_known : (z : EvacStage) (q : ScanStage) (to : ℕ) → linking_at z ≡ None → HasAsked (record v { stage = z }) q
+      → record (knows (asking z q)) { copy = None; quest = Some (quest_with y v (ForScan (record scan { stage = q }) back) (found_at to)) } ≡ knows (going_on q to)
+  answer_known z (Asks asked) to none has = λ i. record (knows (going_on (Asks asked) to)) { linking = none i; quest = Some (record { old = sym has i; origin = Rattle.heap_state.specs.Worker.Scanned (cursor_asked (Asks asked)); found = Some to; links = false }) }
+  answer_known z LoadsCross to none has = absurd has
+  answer_known z (LoadsFirst a) to none has = absurd has
+  answer_known z (LoadsCount h) to none has = absurd has
+  answer_known z (LoadsWord spot) to none has = absurd has
+  answer_known z (StoresCopy asked b) to none has = absurd has
+  answer_known z (LoadsFront r) to none has = absurd has
+  answer_known z (LoadsNext r) to none has = absurd has
+  answer_known z (scan_stage.Ended ending) to none has = absurd has
 
   back_fits : (q : ScanStage) (z : EvacStage) (to : ℕ) (b : Back) → FitsBack (asking z q) b → FitsBack (going_on q to) b
   back_fits q z to (ToAccess a) f = f
@@ -94,9 +94,9 @@ module _ (c : Configuration) (p : Plain) (s : Stands c p) (k : ℕ) (y : Held) (
   abbrev Finds : Type 0
   Finds = (len to : ℕ) → decode first_word ≡ ForwardWord len to → Goes c p s k None (at y o v LoadsHeader) (Value first_word)
 
-  pub answers : OldHeaderAnswers (era c) (memory c) s.ghost k (quest_with y v o None)
+  pub answers : OldHeaderAnswers (era c) (memory c) s.ghost k (quest_with y v o nothing_found)
   answers =
-      old_headers_are_read (era c) (memory c) (team c) s.ghost k (quest_with y v o None) (prepared c p s k (at y o v LoadsHeader) is)
+      old_headers_are_read (era c) (memory c) (team c) s.ghost k (quest_with y v o nothing_found) (prepared c p s k (at y o v LoadsHeader) is)
       (ap (λ (u : Worker). u.quest) is.as_known ∙ quest_is y v o LoadsHeader) (ap (λ (u : Worker). u.copy) is.as_known ∙ copy_is y v o LoadsHeader)
 
   by_word : (size : ℕ) (d : Decoded) → size ≡ s.ghost.size v.addr → decode first_word ≡ d → OldHeader (era c) (memory c).front k size d → Finds → Goes c p s k None (at y o v LoadsHeader) (Value first_word)
@@ -104,10 +104,10 @@ module _ (c : Configuration) (p : Plain) (s : Stands c p) (k : ℕ) (y : Held) (
       let below = answers.below in
       let board = board_is c in
       let pages = has_pages y v c.pages c.mutators k o LoadsHeader is.fits in
-      stays c p s k y o v LoadsHeader (TakesHeader (record { word = first_word; len = len })) (Value first_word) is (ap (by_first_word first_word) e) refl refl refl
-      (record { kind = kind; serial = serial; mutator = mutator; says = e; short = (header_bounds first_word kind len serial mutator e).0; inside = omega (arith, below, board, pages, of_size, is_size) })
+      stays c p s k y o v LoadsHeader (TakesHeader (record { word = first_word; kind = kind; len = len })) (Value first_word) is (ap (by_first_word first_word) e) refl refl refl refl
+      (record { serial = serial; mutator = mutator; says = e; short = (header_bounds first_word kind len serial mutator e).0; inside = omega (arith, below, board, pages, of_size, is_size) })
   by_word size d is_size e (KeptBy len j of_size other) finds =
-      stays c p s k y o v LoadsHeader LoadsHeader (Value first_word) is (ap (by_first_word first_word) e) refl refl refl tt
+      stays c p s k y o v LoadsHeader LoadsHeader (Value first_word) is (ap (by_first_word first_word) e) refl refl refl refl tt
   by_word size d is_size e (Forwards len to of_size inside) finds = finds len to e
 
   pub loads_header : Finds → StepsSo c p s k (at y o v LoadsHeader)
@@ -127,15 +127,15 @@ module _ (c : Configuration) (p : Plain) (s : Stands c p) (k : ℕ) (y : Held) (
   for_scan z = at y (ForScan scan back) v z
 
   abbrev found_by : (to : ℕ) → Worker → Worker
-  found_by to w = record w { copy = None; quest = Some (quest_with y v (ForScan scan back) (Some to)) }
+  found_by to w = record w { copy = None; quest = Some (quest_with y v (ForScan scan back) (found_at to)) }
 
-  answers_scan : (e : Option Entry) (z : EvacStage) (to : ℕ) (reply : Reply) (h : Ghost) → Is c k (for_scan z) → stage_after v.layout v.epoch z reply ≡ Ended to → to < 2 ^ 32
+  answers_scan : (e : Option Entry) (z : EvacStage) (to : ℕ) (reply : Reply) (h : Ghost) → Is c k (for_scan z) → linking_at z ≡ None → stage_after v.layout v.epoch z reply ≡ Ended to → to < 2 ^ 32
       → Law c p s k (for_scan z) e (found_by to (knows (for_scan z))) h → Goes c p s k e (for_scan z) reply
-  answers_scan e z to reply h is next short law =
+  answers_scan e z to reply h is none next short law =
       let has = is.fits.stage.2 in
       becomes c p s k (for_scan z) e reply (going_on y v scan back scan.stage to) h
       (ap (λ n. turned_copy (for_scan z) (machine_at y (ForScan scan back) v n) scan back (evac_taken.told n)) next) is.below
-      (subst (λ (u : Worker). Law c p s k (for_scan z) e u h) (answer_known y v scan back z scan.stage to has) law)
+      (subst (λ (u : Worker). Law c p s k (for_scan z) e u h) (answer_known y v scan back z scan.stage to none has) law)
       (tells_nothing y v (ForScan scan back) z reply) (wins_nothing y v (ForScan scan back) z reply)
       (takes y v (ForScan scan back) z reply (subst (λ n. IsSound (record v { stage = n })) (sym next)
       (with_sound y v c.pages c.mutators k z (Ended to) (is_sound y v c.pages c.mutators k (ForScan scan back) z is.fits) short)))
@@ -145,12 +145,12 @@ module _ (c : Configuration) (p : Plain) (s : Stands c p) (k : ℕ) (y : Held) (
     pub scan_loads_header : StepsSo c p s k (for_scan LoadsHeader)
     scan_loads_header =
         loads_header c p s k y (ForScan scan back) v is
-        (λ len to e. answers_scan None LoadsHeader to (Value (word_in c.pages c.words (HeapWord v.addr))) s.ghost is
+        (λ len to e. answers_scan None LoadsHeader to (Value (word_in c.pages c.words (HeapWord v.addr))) s.ghost is refl
         (ap (by_first_word (word_in c.pages c.words (HeapWord v.addr))) e) (forward_bounds (word_in c.pages c.words (HeapWord v.addr)) len to e).1
         (subst (λ (u : Worker). Law c p s k (for_scan LoadsHeader) None (found_by to u) s.ghost) is.as_known
-        (subst (λ q. Law c p s k (for_scan LoadsHeader) None (record ((team c).worker k) { copy = q; quest = Some (quest_with y v (ForScan scan back) (Some to)) }) s.ghost)
+        (subst (λ q. Law c p s k (for_scan LoadsHeader) None (record ((team c).worker k) { copy = q; quest = Some (quest_with y v (ForScan scan back) (found_at to)) }) s.ghost)
         (ap (λ (u : Worker). u.copy) is.as_known)
-        (forwards_are_found (era c) (memory c) (team c) s.ghost k (quest_with y v (ForScan scan back) None) len to (prepared c p s k (for_scan LoadsHeader) is)
+        (forwards_are_found (era c) (memory c) (team c) s.ghost k (quest_with y v (ForScan scan back) nothing_found) len to (prepared c p s k (for_scan LoadsHeader) is)
         (ap (λ (u : Worker). u.copy) is.as_known) (ap (λ (u : Worker). u.quest) is.as_known) (ap decode (heap_word c v.addr) ∙ e)))))
 
   module _ (to : ℕ) (is : Is c k (for_scan (Clears to))) where
@@ -168,4 +168,4 @@ module _ (c : Configuration) (p : Plain) (s : Stands c p) (k : ℕ) (y : Held) (
         wants c p s k (for_scan (Clears to)) (Store (place_of c.pages (Announce k)) 0)
         (wants_its y v (ForScan scan back) (Clears to) ∙ ap (λ n. Some (Store (place_of n (Announce v.worker)) 0)) pages ∙ ap (λ n. Some (Store (place_of c.pages (Announce n)) 0)) worker)
         (stores c p s k (for_scan (Clears to)) (AnnounceIs k 0) row
-        (answers_scan (Some (AnnounceIs k 0)) (Clears to) to Done s.ghost is refl sound.fits clear_law))
+        (answers_scan (Some (AnnounceIs k 0)) (Clears to) to Done s.ghost is refl refl sound.fits clear_law))

@@ -3,7 +3,7 @@ use Rattle.std.proofs.Common.{◌≡◌, ℕ, Option, Some, None, refl, sym, ap,
 use Rattle.atom_store.specs.declared.reply.Reply.{Reply}
 use Rattle.atom_store.specs.declared.turn.Turn.TheVariants.{More}
 use Rattle.forwarding.specs.declared.evac_stage.EvacStage.{EvacStage}
-use Rattle.forwarding.specs.declared.evac_stage.EvacStage.TheVariants.{LoadsHeader, TakesHeader, LoadsArea, Announces, Reserves, StoresHeader, LoadsWord, StoresWord, StoresCross, StoresForward, Clears, Ended}
+use Rattle.forwarding.specs.declared.evac_stage.EvacStage.TheVariants.{LoadsHeader, TakesHeader, LoadsArea, Announces, Reserves, StoresHeader, LoadsWord, StoresWord, StoresCross, StoresForward, LoadsWeak, StoresLink, TakesWeak, Clears, Ended}
 use Rattle.forwarding.specs.Evacuation as evac
 use Rattle.forwarding.specs.Soundness as sound
 use Rattle.forwarding.specs.Taken as taken
@@ -16,7 +16,7 @@ use Rattle.gc_worker.specs.declared.stage.Stage.{Stage}
 use Rattle.gc_worker.specs.declared.stage.Stage.TheVariants.{Forwards, Evacuates}
 use Rattle.gc_worker.specs.Workers.Fits.{Fits, FitsBack, Takes}
 use Rattle.gc_worker.specs.Workers.Held.{Held}
-use Rattle.gc_worker.specs.Workers.Knows.{knows, copy_at, found_in, cursor_asked}
+use Rattle.gc_worker.specs.Workers.Knows.{Finding, knows, copy_at, found_in, linking_at, cursor_asked}
 use Rattle.gc_worker.specs.Steps.Turned.{Silent, turned, turned_copy, turned_register, told, won}
 use Rattle.gc_worker.specs.Steps.Wanted.{wanted}
 use Rattle.gc_worker.proofs.Workers.Parts.{refit}
@@ -55,6 +55,9 @@ going_on (LoadsWord r i) more = tt
 going_on (StoresWord r word) more = tt
 going_on (StoresCross r page) more = tt
 going_on (StoresForward r) more = tt
+going_on (LoadsWeak to) more = tt
+going_on (StoresLink to word) more = tt
+going_on (TakesWeak to word) more = tt
 going_on (Clears to) more = tt
 going_on (Ended to) more = absurd (cc)
 
@@ -130,15 +133,15 @@ module _ (y : Held) (w : evac.Evacuation) where
   copy_is (ForScan s back) z = refl
   copy_is (ForRegister r after) z = refl
 
-  abbrev pub quest_with : Host → Option ℕ → Quest
-  quest_with o found = record { old = w.addr; origin = origin_of o; found = found }
+  abbrev pub quest_with : Host → Finding → Quest
+  quest_with o finding = record { old = w.addr; origin = origin_of o; found = finding.place; links = finding.links }
 
   pub quest_is : (o : Host) (z : EvacStage) → (knows (at y o w z)).quest ≡ Some (quest_with o (found_in z))
   quest_is (ForScan s back) z = refl
   quest_is (ForRegister r after) z = refl
 
-  -- from one stage to the next it is the same but for the copy and what is found
-  pub becomes_known : (o : Host) (z q : EvacStage) (copy : Option Copy) (found : Option ℕ) → copy_at w.layout w.addr w.epoch q ≡ copy → found_in q ≡ found
-      → record (knows (at y o w z)) { copy = copy; quest = Some (quest_with o found) } ≡ knows (at y o w q)
+  -- from one stage to the next it is the same but for the copy, what is found, and the cell to link
+  pub becomes_known : (o : Host) (z q : EvacStage) (copy : Option Copy) (found : Finding) → copy_at w.layout w.addr w.epoch q ≡ copy → found_in q ≡ found
+      → record (knows (at y o w z)) { copy = copy; quest = Some (quest_with o found); linking = linking_at q } ≡ knows (at y o w q)
   becomes_known (ForScan s back) z q copy found c f = λ i. record (knows (at y (ForScan s back) w q)) { copy = sym c i; quest = Some (quest_with (ForScan s back) (sym f i)) }
   becomes_known (ForRegister r after) z q copy found c f = λ i. record (knows (at y (ForRegister r after) w q)) { copy = sym c i; quest = Some (quest_with (ForRegister r after) (sym f i)) }

@@ -1,20 +1,23 @@
 -- The old header is taken, and the forward stored in its place.
-use Rattle.std.proofs.Common.{◌≡◌, ℕ, ◌+◌, ◌-◌, Option, Some, None, refl, sym, ap, subst, ◌∙◌, arith}
+use Rattle.std.proofs.Common.{◌≡◌, ℕ, ◌+◌, ◌-◌, Bool, true, false, cond, Option, Some, None, refl, sym, ap, subst, ◌∙◌, arith}
+use Rattle.std.proofs.lemmas.Bool.{eqb-true}
 use Rattle.plain_state.specs.State.{Plain}
 use Rattle.atom_store.specs.declared.reply.Reply.{Reply}
 use Rattle.atom_store.specs.declared.reply.Reply.TheVariants.{Done, Won, Lost}
 use Rattle.atom_store.specs.declared.step.Step.TheVariants.{Store, Exchange}
 use Rattle.atom_store.specs.declared.turn.Turn.TheVariants.{More}
-use Rattle.heap_words.specs.Decoded.{ForwardWord, decode}
+use Rattle.heap_words.specs.declared.kind.Kind.{Kind}
+use Rattle.heap_words.specs.declared.kind.Kind.TheVariants.{Fields, Raw, Mixed, Weak}
+use Rattle.heap_words.specs.Decoded.{HeaderWord, ForwardWord, decode}
 use Rattle.heap_words.specs.Word.{busy_word, forward_word}
 use Rattle.heap_words.proofs.Decoding.{decode-busy_word, decode-forward_word}
 use Rattle.space_map.specs.Table.{HeapWord, place_of}
 use Rattle.forwarding.specs.declared.evac_stage.EvacStage.{EvacStage}
-use Rattle.forwarding.specs.declared.evac_stage.EvacStage.TheVariants.{LoadsHeader, TakesHeader, LoadsArea, StoresForward, Clears}
+use Rattle.forwarding.specs.declared.evac_stage.EvacStage.TheVariants.{LoadsHeader, TakesHeader, LoadsArea, StoresForward, LoadsWeak, Clears}
 use Rattle.forwarding.specs.declared.kept_header.KeptHeader.{KeptHeader}
 use Rattle.forwarding.specs.declared.reserved.Reserved.{Reserved}
-use Rattle.forwarding.specs.Evacuation.{Evacuation, size_of}
-use Rattle.forwarding.specs.Soundness.{FitsStage, IsSound}
+use Rattle.forwarding.specs.Evacuation.{Evacuation, is_cell, is_cell_of, size_of}
+use Rattle.forwarding.specs.Soundness.{FitsStage, IsKeptHeader, IsSound}
 use Rattle.forwarding.specs.Taken.{stage_after, told}
 use Rattle.heap_state.specs.Configuration.{Configuration, Stands, era, memory, team}
 use Rattle.heap_state.specs.Memory.Entries.{Entry, WordIs}
@@ -22,39 +25,55 @@ use Rattle.heap_state.specs.Invariant.Ghost.{Ghost}
 use Rattle.heap_state.specs.Memory.Table.{word_in}
 use Rattle.heap_state.specs.Worker.{Worker, Copy}
 use Rattle.heap_laws.specs.Copying.{begun, published, taken}
+use Rattle.heap_laws.proofs.Cells.Rows.{chain_parts_are_free}
 use Rattle.heap_laws.proofs.Copying.Laws.{headers_are_taken, copies_are_published}
 use Rattle.gc_worker.specs.Steps.Goes.{Is, Goes, StepsSo}
 use Rattle.gc_worker.specs.Workers.Held.{Held}
-use Rattle.gc_worker.specs.Workers.Knows.{knows, copy_at, found_in, moving, page_past}
+use Rattle.gc_worker.specs.Workers.Knows.{Finding, nothing_found, found_at, cell_found_at, knows, copy_at, found_in, linking_at, moving, page_past}
 use Rattle.gc_worker.proofs.Stages.Copies.Hosts.{Host, at, machine_at, wants_its, tells_nothing, wins_nothing, turns, takes, is_sound, has_pages, is_worker, with_sound, refits, copy_is, quest_with, quest_is, becomes_known}
 use Rattle.gc_worker.proofs.Stages.Copies.Words.{heap_word}
 use Rattle.gc_worker.proofs.Stages.Gate.Words.{wants}
 use Rattle.gc_worker.proofs.Words.RowSteps.{Law, becomes, exchanges, nothing, stores, row_fits, prepared}
+
+-- a cell's header is of the kind weak, and of two words
+pub cell_of : (kind : Kind) (len : ℕ) → is_cell_of kind len ≡ true → (kind ≡ Weak) × (len ≡ 2)
+cell_of Weak len e = (refl, eqb-true len 2 e)
+cell_of Fields len e = absurd (cc)
+cell_of Raw len e = absurd (cc)
+cell_of Mixed len e = absurd (cc)
+
+keeps_cell : {pages addr : ℕ} (kept : KeptHeader) → is_cell kept ≡ true → IsKeptHeader pages addr kept
+    → (serial : ℕ) × (mutator : ℕ) × (decode kept.word ≡ HeaderWord Weak 2 serial mutator)
+keeps_cell kept cell keeps =
+    let is = cell_of kept.kind kept.len cell in
+    (keeps.serial, keeps.mutator, keeps.says ∙ ap (λ kind. HeaderWord kind kept.len keeps.serial keeps.mutator) is.0 ∙ ap (λ len. HeaderWord Weak len keeps.serial keeps.mutator) is.1)
 
 module _ (c : Configuration) (p : Plain) (s : Stands c p) (k : ℕ) (y : Held) (o : Host) (v : Evacuation) where
   abbrev pub here : EvacStage → Held
   here z = at y o v z
 
   -- the copy goes on, with this ghost
-  pub goes : (e : Option Entry) (z q : EvacStage) (reply : Reply) (copy : Option Copy) (found : Option ℕ) (h : Ghost) → Is c k (here z) → stage_after v.layout v.epoch z reply ≡ q → told q ≡ More
+  pub goes : (e : Option Entry) (z q : EvacStage) (reply : Reply) (copy : Option Copy) (found : Finding) (h : Ghost) → Is c k (here z) → stage_after v.layout v.epoch z reply ≡ q → told q ≡ More
       → Law c p s k (here z) e (record ((team c).worker k) { copy = copy; quest = Some (quest_with y v o found) }) h
       → copy_at v.layout v.addr v.epoch q ≡ copy → found_in q ≡ found → FitsStage v.layout.pages v.addr q → Goes c p s k e (here z) reply
   goes e z q reply copy found h is next more law copy_after found_after fits =
       let sound = is_sound y v c.pages c.mutators k o z is.fits in
       becomes c p s k (here z) e reply (here q) h (turns y v o z q reply next more) is.below
       (subst (λ (u : Worker). Law c p s k (here z) e u h)
-      (ap (λ (u : Worker). record u { copy = copy; quest = Some (quest_with y v o found) }) is.as_known ∙ becomes_known y v o z q copy found copy_after found_after) law)
+      (ap (λ (u : Worker). record u { copy = copy; quest = Some (quest_with y v o found); linking = linking_at q }) is.as_known ∙ becomes_known y v o z q copy found copy_after found_after)
+      (chain_parts_are_free (era c) (memory c) (team c) s.ghost k e (record ((team c).worker k) { copy = copy; quest = Some (quest_with y v o found) }) h (linking_at q) ((team c).worker k).pass law))
       (tells_nothing y v o z reply) (wins_nothing y v o z reply)
       (takes y v o z reply (subst (λ n. IsSound (record v { stage = n })) (sym next) (with_sound y v c.pages c.mutators k z q sound fits)))
       (refits y v c.pages c.mutators k o z q is.fits more fits)
 
   -- nothing is written, and what the worker knows stays
   pub stays : (z q : EvacStage) (reply : Reply) → Is c k (here z) → stage_after v.layout v.epoch z reply ≡ q → told q ≡ More
-      → copy_at v.layout v.addr v.epoch q ≡ copy_at v.layout v.addr v.epoch z → found_in q ≡ found_in z → FitsStage v.layout.pages v.addr q → Goes c p s k None (here z) reply
-  stays z q reply is next more copy found fits =
+      → copy_at v.layout v.addr v.epoch q ≡ copy_at v.layout v.addr v.epoch z → found_in q ≡ found_in z → linking_at q ≡ linking_at z → FitsStage v.layout.pages v.addr q → Goes c p s k None (here z) reply
+  stays z q reply is next more copy found links fits =
       let sound = is_sound y v c.pages c.mutators k o z is.fits in
       becomes c p s k (here z) None reply (here q) s.ghost (turns y v o z q reply next more) is.below
       (nothing c p s k (here z) is (knows (here q)) (sym (becomes_known y v o z z (copy_at v.layout v.addr v.epoch z) (found_in z) refl refl)
+      ∙ (λ i. record (knows (here z)) { copy = copy_at v.layout v.addr v.epoch z; quest = Some (quest_with y v o (found_in z)); linking = sym links i })
       ∙ becomes_known y v o z q (copy_at v.layout v.addr v.epoch z) (found_in z) copy found))
       (tells_nothing y v o z reply) (wins_nothing y v o z reply)
       (takes y v o z reply (subst (λ n. IsSound (record v { stage = n })) (sym next) (with_sound y v c.pages c.mutators k z q sound fits)))
@@ -66,31 +85,44 @@ module _ (c : Configuration) (p : Plain) (s : Stands c p) (k : ℕ) (y : Held) (
     abbrev forward : ℕ
     forward = forward_word r.kept.len r.to
 
-    forward_law : Law c p s k (here (StoresForward r)) (Some (WordIs v.addr forward))
-        (record ((team c).worker k) { copy = None; quest = Some (quest_with y v o (Some r.to)) }) (published s.ghost k v.addr r.to)
-    forward_law =
+    -- whether the worker has the copy to link
+    abbrev with_copy : Bool → Worker
+    with_copy links = record ((team c).worker k) { copy = None; quest = Some (quest_with y v o (record { place = Some r.to; links = links })) }
+
+    forward_law : (links : Bool) → (links ≡ true → is_cell r.kept ≡ true) → Law c p s k (here (StoresForward r)) (Some (WordIs v.addr forward)) (with_copy links) (published s.ghost k v.addr r.to)
+    forward_law links cell =
         let sound = is_sound y v c.pages c.mutators k o (StoresForward r) is.fits in
         let short = sound.fits.keeps.short in
         let inside = sound.fits.inside in
         let few = sound.pages in
         let len : r.kept.len + 1 - 1 ≡ r.kept.len = omega arith in
-        copies_are_published (era c) (memory c) (team c) s.ghost k (moving v.addr r (size_of r.kept) None (page_past r)) (quest_with y v o None) forward
+        copies_are_published (era c) (memory c) (team c) s.ghost k (moving v.addr r (size_of r.kept) None (page_past r)) (quest_with y v o nothing_found) forward links
         (prepared c p s k (here (StoresForward r)) is)
         (ap (λ (u : Worker). u.copy) is.as_known ∙ copy_is y v o (StoresForward r)) (ap (λ (u : Worker). u.quest) is.as_known ∙ quest_is y v o (StoresForward r)) refl refl (omega arith)
         (decode-forward_word r.kept.len r.to short (omega arith) ∙ ap (λ n. ForwardWord n r.to) (sym len))
+        (λ has. keeps_cell r.kept (cell has) sound.fits.keeps)
 
-    pub stores_forward : StepsSo c p s k (here (StoresForward r))
-    stores_forward =
+    forwards_so : (b : Bool) → is_cell r.kept ≡ b → Goes c p s k (Some (WordIs v.addr forward)) (here (StoresForward r)) Done
+    forwards_so true cell =
+        let sound = is_sound y v c.pages c.mutators k o (StoresForward r) is.fits in
+        let inside = sound.fits.inside in
+        let long = (cell_of r.kept.kind r.kept.len cell).1 in
+        goes (Some (WordIs v.addr forward)) (StoresForward r) (LoadsWeak r.to) Done None (cell_found_at r.to) (published s.ghost k v.addr r.to) is
+        (ap (λ b. cond b (LoadsWeak r.to) (Clears r.to)) cell) refl (forward_law true (λ _. cell)) refl refl (omega (arith, inside, long))
+    forwards_so false other =
         let sound = is_sound y v c.pages c.mutators k o (StoresForward r) is.fits in
         let inside = sound.fits.inside in
         let few = sound.pages in
+        goes (Some (WordIs v.addr forward)) (StoresForward r) (Clears r.to) Done None (found_at r.to) (published s.ghost k v.addr r.to) is
+        (ap (λ b. cond b (LoadsWeak r.to) (Clears r.to)) other) refl (forward_law false (λ has. absurd (cc))) refl refl (omega (arith, inside, few))
+
+    pub stores_forward : StepsSo c p s k (here (StoresForward r))
+    stores_forward =
         let pages = has_pages y v c.pages c.mutators k o (StoresForward r) is.fits in
-        let row = row_fits c p s k (here (StoresForward r)) (WordIs v.addr forward) (record ((team c).worker k) { copy = None; quest = Some (quest_with y v o (Some r.to)) })
-        (published s.ghost k v.addr r.to) is.below forward_law in
+        let row = row_fits c p s k (here (StoresForward r)) (WordIs v.addr forward) (with_copy false) (published s.ghost k v.addr r.to) is.below (forward_law false (λ has. absurd (cc))) in
         wants c p s k (here (StoresForward r)) (Store (place_of c.pages (HeapWord v.addr)) forward)
         (wants_its y v o (StoresForward r) ∙ ap (λ n. Some (Store (place_of n (HeapWord v.addr)) forward)) pages)
-        (stores c p s k (here (StoresForward r)) (WordIs v.addr forward) row
-        (goes (Some (WordIs v.addr forward)) (StoresForward r) (Clears r.to) Done None (Some r.to) (published s.ghost k v.addr r.to) is refl refl forward_law refl refl (omega arith)))
+        (stores c p s k (here (StoresForward r)) (WordIs v.addr forward) row (forwards_so (is_cell r.kept) refl))
 
   -- ---- the header
 
@@ -107,10 +139,10 @@ module _ (c : Configuration) (p : Plain) (s : Stands c p) (k : ℕ) (y : Held) (
         let short = keeps.short in
         let few = is.fits.few in
         let heap : (memory c).heap v.addr ≡ kept.word = heap_word c v.addr ∙ same in
-        goes (Some taking) (TakesHeader kept) (LoadsArea kept) Won (Some (begun kept.word v.addr (size_of kept))) None (taken s.ghost k v.addr) is refl refl
+        goes (Some taking) (TakesHeader kept) (LoadsArea kept) Won (Some (begun kept.word v.addr (size_of kept))) nothing_found (taken s.ghost k v.addr) is refl refl
         (subst (λ (u : Worker). Law c p s k (here (TakesHeader kept)) (Some taking) u (taken s.ghost k v.addr))
         (λ i. record ((team c).worker k) { copy = Some (begun (heap i) v.addr (size_of kept)); quest = (ap (λ (u : Worker). u.quest) is.as_known ∙ quest_is y v o (TakesHeader kept)) i })
-        (headers_are_taken (era c) (memory c) (team c) s.ghost k (quest_with y v o None) keeps.kind kept.len keeps.serial keeps.mutator (busy_word kept.len k)
+        (headers_are_taken (era c) (memory c) (team c) s.ghost k (quest_with y v o nothing_found) kept.kind kept.len keeps.serial keeps.mutator (busy_word kept.len k)
         (prepared c p s k (here (TakesHeader kept)) is) (ap (λ (u : Worker). u.copy) is.as_known ∙ copy_is y v o (TakesHeader kept))
         (ap (λ (u : Worker). u.quest) is.as_known ∙ quest_is y v o (TakesHeader kept)) refl (ap decode heap ∙ keeps.says)
         (decode-busy_word kept.len k short (omega arith)))) refl refl keeps
@@ -123,4 +155,4 @@ module _ (c : Configuration) (p : Plain) (s : Stands c p) (k : ℕ) (y : Held) (
         wants c p s k (here (TakesHeader kept)) (Exchange (place_of c.pages (HeapWord v.addr)) kept.word (busy_word kept.len k))
         (wants_its y v o (TakesHeader kept) ∙ ap (λ n. Some (Exchange (place_of n (HeapWord v.addr)) kept.word (busy_word kept.len v.worker))) pages
         ∙ ap (λ n. Some (Exchange (place_of c.pages (HeapWord v.addr)) kept.word (busy_word kept.len n))) worker)
-        (exchanges c p s k (here (TakesHeader kept)) taking kept.word (omega arith) won (λ other. stays (TakesHeader kept) LoadsHeader (Lost _) is refl refl refl refl tt))
+        (exchanges c p s k (here (TakesHeader kept)) taking kept.word (omega arith) won (λ other. stays (TakesHeader kept) LoadsHeader (Lost _) is refl refl refl refl refl tt))

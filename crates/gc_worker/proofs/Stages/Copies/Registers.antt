@@ -1,5 +1,5 @@
 -- The copy that a register asked for is found: the register gets its address, and the next one that holds a pointer asks.
-use Rattle.std.proofs.Common.{◌≡◌, ℕ, ◌+◌, ◌-◌, ◌*◌, ◌<◌, ◌≤◌, ◌^◌, true, length, slice_index, Option, Some, None, is_some, refl, sym, ap, subst, ◌∙◌, arith, get_or-set_other, length-set, nat_lt}
+use Rattle.std.proofs.Common.{◌≡◌, ℕ, ◌+◌, ◌-◌, ◌*◌, ◌<◌, ◌≤◌, ◌^◌, true, length, slice_index, Option, Some, None, is_some, refl, sym, ap, subst, ◌∙◌, arith, get_or-set_other, length-set, nat_lt, false}
 use Rattle.std.specs.Prelude.{slice_set}
 use Rattle.plain_state.specs.State.{Plain}
 use Rattle.atom_store.specs.declared.reply.Reply.{Reply}
@@ -34,7 +34,7 @@ use Rattle.gc_worker.specs.declared.stage.Stage.TheVariants.{Forwards}
 use Rattle.gc_worker.specs.Workers.Fits.{AreValues, Fits, FitsEnd, FitsStage, FitsTask, FitsTaskAfter, IsOnSide}
 use Rattle.gc_worker.specs.Steps.Goes.{Is, Goes, StepsSo}
 use Rattle.gc_worker.specs.Workers.Held.{Held, at_stage}
-use Rattle.gc_worker.specs.Workers.Knows.{knows, found_in}
+use Rattle.gc_worker.specs.Workers.Knows.{found_at, nothing_found, knows, found_in, linking_at}
 use Rattle.gc_worker.specs.Steps.Turned.{Pointed, first_pointer, passes, forwards_it, turned_register}
 use Rattle.gc_worker.proofs.Stages.Copies.Finding.{loads_header}
 use Rattle.gc_worker.proofs.Stages.Copies.Hosts.{Host, ForRegister, at, machine_at, wants_its, is_sound, has_pages, is_worker, takes, with_sound, tells_nothing, wins_nothing, quest_with, quest_is}
@@ -87,12 +87,12 @@ module _ (c : Configuration) (p : Plain) (s : Stands c p) (k : ℕ) (y : Held) (
     Settles e = (j : ℕ) (next : Option Quest) → r < j → j ≤ 8 → LeadNowhere (era c) w.registers (r + 1) j → AsksAt w.registers j next
         → Law c p s k (here z) e (forwarded_to w (pointer_word to) j next) s.ghost
 
-    module _ (e : Option Entry) (law : Settles e) (no_copy : (knows (here z)).copy ≡ None) where
+    module _ (e : Option Entry) (law : Settles e) (no_copy : (knows (here z)).copy ≡ None) (no_link : linking_at z ≡ None) where
       inside : r < length y.registers
       inside = let n = is.fits.eight in let m = origin.2 in omega (arith, n, m)
 
       abbrev known : (j : ℕ) → Option Quest → Worker
-      known j q = record (knows (here z)) { copy = None; registers = (λ i. slice_index (with_it to).registers i); done = j; quest = q }
+      known j q = record (knows (here z)) { copy = None; registers = (λ i. slice_index (with_it to).registers i); done = j; quest = q; linking = None }
 
       settled : (j : ℕ) (q : Option Quest) → r < j → j ≤ 8 → ((i : ℕ) → r + 1 ≤ i → i < j → word_at (with_it to).registers i ≡ None) → AsksAt w.registers j q
           → Law c p s k (here z) e (known j q) s.ghost
@@ -100,7 +100,7 @@ module _ (c : Configuration) (p : Plain) (s : Stands c p) (k : ℕ) (y : Held) (
           let set = registers_put y.registers r (pointer_word to) inside in
           subst (λ (u : Worker). Law c p s k (here z) e u s.ghost)
           (ap (λ (u : Worker). forwarded_to u (pointer_word to) j q) is.as_known
-          ∙ (λ i. record (knows (here z)) { copy = no_copy i; registers = sym set i; done = j; quest = q }))
+          ∙ (λ i. record (knows (here z)) { copy = no_copy i; registers = sym set i; done = j; quest = q; linking = no_link i }))
           (law j q from small (λ i l u. leads_nowhere (era c) (w.registers i) (ap (λ n. pointer_in (decode n)) (kept i l) ∙ none i l u)) asks)
 
       known_next : (o : Option Pointed) → FirstPointer (with_it to).registers (8 - (r + 1)) (r + 1) o → Law c p s k (here z) e (knows (next_at to o)) s.ghost
@@ -108,7 +108,7 @@ module _ (c : Configuration) (p : Plain) (s : Stands c p) (k : ℕ) (y : Held) (
           let n = origin.2 in settled 8 None n (omega arith) (λ i l u. none i l (omega (arith, u, n))) (AllDone refl)
       known_next (Some q) (There j a l u at before) =
           let n = origin.2 in
-          settled j (Some (record { old = a; origin = Register j; found = None })) (omega (arith, l)) (omega (arith, u, n)) before
+          settled j (Some (record { old = a; origin = Register j; found = None; links = false })) (omega (arith, l)) (omega (arith, u, n)) before
           (AsksNext a (omega (arith, u, n)) (ap decode (kept j l) ∙ is_pointer (decode (slice_index (with_it to).registers j)) a at))
 
       -- a register that holds a pointer leads into the table
@@ -184,10 +184,10 @@ module _ (c : Configuration) (p : Plain) (s : Stands c p) (k : ℕ) (y : Held) (
         let from = origin to LoadsHeader is short in
         let d = from.1 in
         answers_register to LoadsHeader is short None
-        (λ j next l u clean asks. registers_find_forwards (era c) (memory c) (team c) s.ghost k (quest_with y v host None) len to (pointer_word to) j next (prepared c p s k (here LoadsHeader) is)
+        (λ j next l u clean asks. registers_find_forwards (era c) (memory c) (team c) s.ghost k (quest_with y v host nothing_found) len to (pointer_word to) j next (prepared c p s k (here LoadsHeader) is)
         from.0 (ap (λ (u : Worker). u.copy) is.as_known) (quest to LoadsHeader is short) (ap Register (sym d)) (left to LoadsHeader is short)
         (ap decode (heap_word c v.addr) ∙ e) (decode-pointer_word to short) (omega (arith, d, l)) u (rw d clean) asks)
-        refl (Value first_word) (ap (by_first_word first_word) e)
+        refl refl (Value first_word) (ap (by_first_word first_word) e)
 
     pub register_loads_header : StepsSo c p s k (here LoadsHeader)
     register_loads_header = loads_header c p s k y host v is finds
@@ -200,7 +200,7 @@ module _ (c : Configuration) (p : Plain) (s : Stands c p) (k : ℕ) (y : Held) (
     settles j next l u clean asks =
         let from = origin to (Clears to) is short in
         let d = from.1 in
-        registers_are_settled (era c) (memory c) (team c) s.ghost k (quest_with y v host (Some to)) to (pointer_word to) j next (prepared c p s k (here (Clears to)) is)
+        registers_are_settled (era c) (memory c) (team c) s.ghost k (quest_with y v host (found_at to)) to (pointer_word to) j next (prepared c p s k (here (Clears to)) is)
         (ap (λ (u : Worker). u.copy) is.as_known)
         (record {
           register = record { late = from.0; left = left to (Clears to) is short };
@@ -219,4 +219,4 @@ module _ (c : Configuration) (p : Plain) (s : Stands c p) (k : ℕ) (y : Held) (
         wants c p s k (here (Clears to)) (Store (place_of c.pages (Announce k)) 0)
         (wants_its y v host (Clears to) ∙ ap (λ n. Some (Store (place_of n (Announce v.worker)) 0)) pages ∙ ap (λ n. Some (Store (place_of c.pages (Announce n)) 0)) worker)
         (stores c p s k (here (Clears to)) (AnnounceIs k 0) row
-        (answers_register to (Clears to) is short (Some (AnnounceIs k 0)) settles refl Done refl))
+        (answers_register to (Clears to) is short (Some (AnnounceIs k 0)) settles refl refl Done refl))

@@ -2,7 +2,7 @@
 use Rattle.std.proofs.Common.{ℕ, sym, ◌∙◌}
 use Rattle.plain_state.specs.State.{Plain}
 use Rattle.forwarding.specs.declared.evac_stage.EvacStage.{EvacStage}
-use Rattle.forwarding.specs.declared.evac_stage.EvacStage.TheVariants.{LoadsHeader, TakesHeader, LoadsArea, Announces, Reserves, StoresHeader, LoadsWord, StoresWord, StoresCross, StoresForward, Clears, Ended}
+use Rattle.forwarding.specs.declared.evac_stage.EvacStage.TheVariants.{LoadsHeader, TakesHeader, LoadsArea, Announces, Reserves, StoresHeader, LoadsWord, StoresWord, StoresCross, StoresForward, LoadsWeak, StoresLink, TakesWeak, Clears, Ended}
 use Rattle.forwarding.specs.Evacuation.{Evacuation}
 use Rattle.page_scan.specs.Scanning.{Scanning}
 use Rattle.heap_state.specs.Configuration.{Configuration, Stands}
@@ -13,6 +13,7 @@ use Rattle.gc_worker.specs.Steps.Goes.{Is, StepsSo}
 use Rattle.gc_worker.specs.Workers.Held.{Held, at_stage}
 use Rattle.gc_worker.proofs.Stages.Copies.Hosts.{Host, ForScan, ForRegister, at, wants_its}
 use Rattle.gc_worker.proofs.Stages.Copies.Finding.{scan_loads_header, scan_clears}
+use Rattle.gc_worker.proofs.Stages.Copies.Linking.{loads_weak, stores_link, takes_weak}
 use Rattle.gc_worker.proofs.Stages.Copies.Placing.{announces, loads_area, reserves}
 use Rattle.gc_worker.proofs.Stages.Copies.Publishing.{stores_forward, takes_header}
 use Rattle.gc_worker.proofs.Stages.Copies.Registers.{register_loads_header, register_clears}
@@ -35,6 +36,9 @@ module _ (c : Configuration) (p : Plain) (s : Stands c p) (k : ℕ) (y : Held) (
   copies o ends (StoresWord r w) is = stores_word c p s k y o v r w is
   copies o ends (StoresCross r page) is = stores_cross c p s k y o v r page is
   copies o ends (StoresForward r) is = stores_forward c p s k y o v r is
+  copies o ends (LoadsWeak to) is = loads_weak c p s k y o v to is
+  copies o ends (StoresLink to head) is = stores_link c p s k y o v to head is
+  copies o ends (TakesWeak to head) is = takes_weak c p s k y o v to head is
   copies o ends (Clears to) is = ends.clears to is
   copies o ends (Ended to) is = λ q asked. absurd (let e = sym (wants_its y v o (Ended to)) ∙ asked in cc)
 

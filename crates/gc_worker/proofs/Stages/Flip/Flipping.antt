@@ -32,7 +32,7 @@ module _ (c : Configuration) (p : Plain) (s : Stands c p) (k : ℕ) (y : Held) (
   x = at c p s k y asked (Exchanges r)
 
   abbrev pub q : Reset
-  q = record { read = r.gate; size = Some r.size; grown = Some r.next; used = Some r.used; sized = true; stored = true }
+  q = record { read = r.gate; size = Some r.size; grown = Some r.next; used = Some r.used; sized = true; stored = true; cleared = true }
 
   abbrev z : Held
   z = at_stage x (passes x (Resume x.epoch) afters.Places)

@@ -41,7 +41,7 @@ use Rattle.gc_worker.proofs.Words.Eras.{span_is}
 use Rattle.gc_worker.proofs.Words.Sizes.{grown_within, next_grows, size_now, size_within}
 use Rattle.gc_worker.proofs.Workers.Parts.{refit}
 use Rattle.gc_worker.proofs.Stages.Gate.Words.{wants, gate_now, gate_says}
-use Rattle.gc_worker.proofs.Words.RowSteps.{Law, becomes, loads, stores, nothing, prepared, untaught_beside}
+use Rattle.gc_worker.proofs.Words.RowSteps.{Law, becomes, loads, stores, nothing, prepared}
 
 still_says : (g : GateWord) → is_still g ≡ true → (g.running ≡ 0) × (g.behind ≡ 0)
 still_says g is = by_running (nat_eq g.running 0) refl is
@@ -219,7 +219,7 @@ module _ (c : Configuration) (p : Plain) (s : Stands c p) (k : ℕ) (y : Held) (
 
   module _ (r : resets.Reset) (is : Is c k (at (StoresSize r))) where
     abbrev unsized : Reset
-    unsized = record { read = r.gate; size = Some r.size; grown = Some r.next; used = Some r.used; sized = false; stored = false }
+    unsized = record { read = r.gate; size = Some r.size; grown = Some r.next; used = Some r.used; sized = false; stored = false; cleared = false }
 
     abbrev Leads : ℕ → Worker → Type 0
     Leads space w = LeavesConfiguration c (Some (SizeIs space r.next)) k (after_size w unsized) p s.ghost s.ghost
@@ -258,7 +258,7 @@ module _ (c : Configuration) (p : Plain) (s : Stands c p) (k : ℕ) (y : Held) (
     fresh_area = area_reset r.next r.used
 
     abbrev unstored : Reset
-    unstored = record { read = r.gate; size = Some r.size; grown = Some r.next; used = Some r.used; sized = true; stored = false }
+    unstored = record { read = r.gate; size = Some r.size; grown = Some r.next; used = Some r.used; sized = true; stored = false; cleared = false }
 
     pub fresh_fits : AreaFits fresh_area
     fresh_fits =
@@ -298,14 +298,18 @@ module _ (c : Configuration) (p : Plain) (s : Stands c p) (k : ℕ) (y : Held) (
   -- ---- the chain of cells
 
   module _ (r : resets.Reset) (is : Is c k (at (ResetsWeak r))) where
+    abbrev unlinked : Reset
+    unlinked = record { read = r.gate; size = Some r.size; grown = Some r.next; used = Some r.used; sized = true; stored = true; cleared = false }
+
+    weak_law : Law c p s k (at (ResetsWeak r)) (Some (WeakIs 0)) (knows (at (Exchanges r))) s.ghost
+    weak_law =
+        subst (λ (w : Worker). Law c p s k (at (ResetsWeak r)) (Some (WeakIs 0)) (resetting w (record unlinked { cleared = true })) s.ghost) is.as_known
+        (reset_laws.clears_weak (era c) (memory c) (team c) s.ghost k unlinked (prepared c p s k (at (ResetsWeak r)) is) (ap (λ (w : Worker). w.reset) is.as_known))
+
     pub resets_weak : StepsSo c p s k (at (ResetsWeak r))
     resets_weak =
         wants c p s k (at (ResetsWeak r)) (Store (place_of c.pages WeakHead) 0) (ap (λ n. Some (Store (place_of n WeakHead) 0)) is.fits.pages)
-        (stores c p s k (at (ResetsWeak r)) (WeakIs 0) tt
-        (untaught_beside c p s k (at (ResetsWeak r)) is (WeakIs 0) Done tt (record {
-          same = refl;
-          silent = refl;
-          none = refl;
-          takes = record { pages = is.fits.stage.sound.pages; epoch = is.fits.stage.sound.epoch; stage = is.fits.stage.sound.stage };
-          fits = reflip (ResetsWeak r) (Exchanges r) is tt is.fits.stage.sound.stage;
-        })))
+        (stores c p s k (at (ResetsWeak r)) (WeakIs 0) (omega arith)
+        (becomes c p s k (at (ResetsWeak r)) (Some (WeakIs 0)) Done (at (Exchanges r)) s.ghost refl is.below weak_law refl refl
+        (record { pages = is.fits.stage.sound.pages; epoch = is.fits.stage.sound.epoch; stage = is.fits.stage.sound.stage })
+        (reflip (ResetsWeak r) (Exchanges r) is tt is.fits.stage.sound.stage)))

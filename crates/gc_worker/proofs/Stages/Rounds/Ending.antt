@@ -9,7 +9,7 @@ use Rattle.space_map.specs.Spaces.{board_page, to_space, page_of}
 use Rattle.space_map.specs.Table.{Gate, Traced, Area, Page, place_of}
 use Rattle.fault_duty.specs.declared.duty_stage.DutyStage.{DutyStage}
 use Rattle.fault_duty.specs.declared.duty_stage.DutyStage.TheVariants.{EndGate, EndArea, EndPage, EndFilling, EndAreaAgain, Traces, Ended}
-use Rattle.fault_duty.specs.declared.round_end.RoundEnd.TheVariants.{NothingNow, Marked}
+use Rattle.fault_duty.specs.declared.round_end.RoundEnd.TheVariants.{NothingNow}
 use Rattle.fault_duty.specs.declared.end_look.EndLook.{EndLook}
 use Rattle.fault_duty.specs.declared.page_state.PageState.{PageState}
 use Rattle.fault_duty.specs.declared.page_state.PageState.TheVariants.{Opened, Scanned, Waits, Past}

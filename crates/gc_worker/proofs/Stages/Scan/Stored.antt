@@ -1,5 +1,5 @@
 -- The pointer to a copy is stored in the word that led to the old record, and the word is passed.
-use Rattle.std.proofs.Common.{◌≡◌, ℕ, ◌<◌, ◌^◌, Some, refl, ap, ◌∙◌, subst, arith}
+use Rattle.std.proofs.Common.{◌≡◌, ℕ, ◌<◌, ◌^◌, Some, refl, ap, ◌∙◌, subst, arith, false}
 use Rattle.plain_state.specs.State.{Plain}
 use Rattle.atom_store.specs.declared.step.Step.TheVariants.{Store}
 use Rattle.atom_store.specs.declared.reply.Reply.TheVariants.{Done}
@@ -40,7 +40,7 @@ module _ (c : Configuration) (p : Plain) (s : Stands c p) (k : ℕ) (y : Held) (
   now = scan_at v asked.spot
 
   abbrev quest : Quest
-  quest = record { old = asked.old; origin = Scanned (address_of asked.spot); found = Some to }
+  quest = record { old = asked.old; origin = Scanned (address_of asked.spot); found = Some to; links = false }
 
   abbrev entry : Entry
   entry = WordIs (address_of asked.spot) (pointer_word to)

@@ -1,4 +1,4 @@
-use Rattle.heap_laws.proofs.Flipping.Reset.{finds_still, reads_size, reads_used, stores_area_word}
+use Rattle.heap_laws.proofs.Flipping.Reset.{finds_still, reads_size, reads_used, stores_area_word, clears_weak}
 use Rattle.heap_laws.proofs.laws_flipping.flips_are_made_ready.Goals as goal
 
 pub returns-clause-still : goal.returns-clause-still
@@ -12,3 +12,6 @@ returns-clause-used c = reads_used
 
 pub returns-clause-area : goal.returns-clause-area
 returns-clause-area c = stores_area_word
+
+pub returns-clause-weak : goal.returns-clause-weak
+returns-clause-weak c = clears_weak

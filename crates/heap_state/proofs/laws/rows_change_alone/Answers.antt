@@ -13,7 +13,7 @@ pub returns-clause-area : goal.returns-clause-area
 returns-clause-area c = λ n words space area formed is fits. stores_entry n words (AreaIs space area) formed (is, fits)
 
 pub returns-clause-weak : goal.returns-clause-weak
-returns-clause-weak c = λ n words word formed. stores_entry n words (WeakIs word) formed tt
+returns-clause-weak c = λ n words word formed small. stores_entry n words (WeakIs word) formed small
 
 pub returns-clause-weak_turn : goal.returns-clause-weak_turn
 returns-clause-weak_turn c = λ n words word formed. stores_entry n words (WeakTurnIs word) formed tt

@@ -1,5 +1,5 @@
 -- Each step of a lone worker's copy is paid: by the word that led to it, or by the words that are no longer owed.
-use Rattle.std.proofs.Common.{◌≡◌, ◌≢◌, ℕ, ◌+◌, ◌*◌, ◌<◌, inl, inr, ⊎_elim, true, false, Some, refl, sym, ap, subst, ◌∙◌, arith}
+use Rattle.std.proofs.Common.{◌≡◌, ◌≢◌, ℕ, ◌+◌, ◌*◌, ◌<◌, inl, inr, ⊎_elim, Bool, true, false, cond, Some, refl, sym, ap, subst, ◌∙◌, arith}
 use Rattle.std.proofs.lemmas.Bool.{cases_eq}
 use Rattle.std.proofs.lemmas.Option.{same_Some}
 use Rattle.plain_state.specs.State.{Plain}
@@ -14,22 +14,24 @@ use Rattle.heap_words.specs.Word.{forward_word, busy_word}
 use Rattle.space_map.specs.declared.area_word.AreaWord.{AreaWord}
 use Rattle.space_map.specs.AreaWord.{AreaFits, encode_area}
 use Rattle.space_map.specs.Spaces.{to_space}
-use Rattle.space_map.specs.Table.{Row, Area, HeapWord, IsRow, place_of}
+use Rattle.space_map.specs.Table.{Row, Area, WeakHead, HeapWord, IsRow, place_of}
 use Rattle.space_map.proofs.AreaWords.{encode_area-area_in}
 use Rattle.forwarding.specs.declared.kept_header.KeptHeader.{KeptHeader}
 use Rattle.forwarding.specs.declared.loaded_word.LoadedWord.{LoadedWord}
 use Rattle.forwarding.specs.declared.reserved.Reserved.{Reserved}
 use Rattle.forwarding.specs.declared.evac_stage.EvacStage.{EvacStage}
-use Rattle.forwarding.specs.declared.evac_stage.EvacStage.TheVariants.{LoadsHeader, TakesHeader, LoadsArea, Announces, Reserves, StoresHeader, LoadsWord, StoresWord, StoresCross, StoresForward, Clears, Ended}
-use Rattle.forwarding.specs.Evacuation.{Evacuation, area_past, front_of, size_of, wanted}
+use Rattle.forwarding.specs.declared.evac_stage.EvacStage.TheVariants.{LoadsHeader, TakesHeader, LoadsArea, Announces, Reserves, StoresHeader, LoadsWord, StoresWord, StoresCross, StoresForward, LoadsWeak, StoresLink, TakesWeak, Clears, Ended}
+use Rattle.forwarding.specs.Evacuation.{Evacuation, area_past, front_of, is_cell, link_of, size_of, wanted}
+use Rattle.forwarding.specs.Left.{steps_to_link}
 use Rattle.forwarding.specs.Soundness.{IsSound}
 use Rattle.forwarding.specs.Taken.{by_area, by_first_word, copied, crossed, taken}
 use Rattle.heap_state.specs.Configuration.{Configuration, Stands, table}
-use Rattle.heap_state.specs.Memory.Entries.{WholeRow, whole_place_of, word_in_whole, Entry, EntryFits, AreaIs, CrossIs, WordIs, AnnounceIs, with_entry, row_of, word_of}
+use Rattle.heap_state.specs.Memory.Entries.{WholeRow, whole_place_of, word_in_whole, Entry, EntryFits, AreaIs, WeakIs, CrossIs, WordIs, AnnounceIs, with_entry, row_of, word_of}
 use Rattle.heap_state.specs.Memory.Table.{Table, table_of, word_in}
 use Rattle.heap_state.specs.Saving.Words.{Saves, saves_of}
 use Rattle.heap_state.proofs.Puts.{put_at, put_other}
 use Rattle.gc_worker.proofs.Words.Areas.{area_says, area_word, is_space}
+use Rattle.gc_worker.proofs.Stages.Copies.Publishing.{cell_of}
 use Rattle.gc_worker.proofs.Stages.Scan.Headers.{heap_word}
 use Rattle.lone_mutator.specs.Copies.{CopyStands, copy_left}
 use Rattle.lone_mutator.specs.Law.{saves}
@@ -39,6 +41,14 @@ use Rattle.lone_mutator.proofs.Stages.Copies.Lowering.{copied-le, crossed-le, co
 use Rattle.lone_mutator.proofs.Stages.Copies.Reading.{IsFirstWord}
 use Rattle.lone_mutator.proofs.Steps.Rows.{HoldsBy, SaysNoSaves, loads, stores, exchanges}
 use Rattle.lone_mutator.proofs.Epochs.Cost.{left_reserved, due_untraced}
+
+-- what is paid for a cell's words pays for its link too
+link_is_paid : (kept : KeptHeader) → 3 * size_of kept + steps_to_link kept < 5 * size_of kept
+link_is_paid kept = by_kind (is_cell kept) refl
+  where
+    by_kind : (b : Bool) → is_cell kept ≡ b → 3 * size_of kept + cond b 3 0 < 5 * size_of kept
+    by_kind true cell = let long = (cell_of kept.kind kept.len cell).1 in omega (arith, long)
+    by_kind false other = omega arith
 
 -- The copy that was v becomes w: what it has read is so, nobody else announces a place, the epoch is the same, and there is less to pay.
 pub record CopyGoes (n : ℕ) (t after : Table) (v w : Evacuation) : Type 0 where
@@ -105,7 +115,7 @@ module _ (c : Configuration) (p : Plain) (s : Stands c p) (u : Evacuation) where
 
   by_first : CopyIsAlone c (at LoadsHeader) → (d : Decoded) → decode word ≡ d → IsFirstWord d → Goes LoadsHeader t (Value word)
   by_first a (HeaderWord kind len serial mutator) is first =
-      plain LoadsHeader a t (TakesHeader (record { word = word; len = len })) (Value word) (ap (λ d. at (by_first_word word d)) is) refl refl refl refl a.quiet read (omega arith)
+      plain LoadsHeader a t (TakesHeader (record { word = word; kind = kind; len = len })) (Value word) (ap (λ d. at (by_first_word word d)) is) refl refl refl refl a.quiet read (omega arith)
   by_first a (ForwardWord len to) is first = plain LoadsHeader a t (Ended to) (Value word) (ap (λ d. at (by_first_word word d)) is) refl refl refl refl a.quiet tt (omega arith)
   by_first a (BusyWord len worker) is first = neither (BusyWord len worker) refl refl first
   by_first a (NumberWord m) is first = neither (NumberWord m) refl refl first
@@ -183,8 +193,8 @@ module _ (c : Configuration) (p : Plain) (s : Stands c p) (u : Evacuation) where
     same_space : to_space t.gate.epoch ≡ space
     same_space = ap to_space (sym a.now)
 
-    -- four steps are paid for each word that is no longer owed
-    paid : left_in n reserved + 4 * size_of kept ≡ left_in n t
+    -- five steps are paid for each word that is no longer owed
+    paid : left_in n reserved + 5 * size_of kept ≡ left_in n t
     paid =
         let room = a.sound.fits.1.owed in
         let now = ap (λ (z : AreaWord). z.owed) (put_at t.area space past (to_space t.gate.epoch) same_space) in
@@ -201,7 +211,7 @@ module _ (c : Configuration) (p : Plain) (s : Stands c p) (u : Evacuation) where
       gate = refl;
       traced = refl;
       size = refl;
-      left = (let cost = paid in omega (arith, cost));
+      left = (let cost = paid in let link = link_is_paid kept in omega (arith, cost, link));
     })
 
   -- ---- the copy's words
@@ -233,7 +243,33 @@ module _ (c : Configuration) (p : Plain) (s : Stands c p) (u : Evacuation) where
 
   stores_forward : (r : Reserved) → Owes (StoresForward r)
   stores_forward r a = stores_it (StoresForward r) a (WordIs u.addr (forward_word r.kept.len r.to)) (let l = a.sound.addr in let n = a.pages in omega (arith, l, n)) tt refl
-      (plain (StoresForward r) a (with_entry (WordIs u.addr (forward_word r.kept.len r.to)) t) (Clears r.to) Done refl refl refl refl refl a.quiet tt (omega arith))
+      (by_kind (is_cell r.kept) refl)
+    where
+      after : Table
+      after = with_entry (WordIs u.addr (forward_word r.kept.len r.to)) t
+
+      by_kind : (b : Bool) → is_cell r.kept ≡ b → Goes (StoresForward r) after Done
+      by_kind true cell = plain (StoresForward r) a after (LoadsWeak r.to) Done (ap (λ b. at (cond b (LoadsWeak r.to) (Clears r.to))) cell) refl refl refl refl a.quiet tt
+          (rw cell (omega arith))
+      by_kind false other = plain (StoresForward r) a after (Clears r.to) Done (ap (λ b. at (cond b (LoadsWeak r.to) (Clears r.to))) other) refl refl refl refl a.quiet tt (omega arith)
+
+  -- ---- a cell is linked
+
+  weak_word : t.weak ≡ word_in c.pages c.words WeakHead
+  unfolding table_of
+  weak_word = refl
+
+  loads_weak : (to : ℕ) → Owes (LoadsWeak to)
+  loads_weak to a = loads_it (LoadsWeak to) a WeakHead tt refl
+      (plain (LoadsWeak to) a t (StoresLink to (word_in c.pages c.words WeakHead)) (Value _) refl refl refl refl refl a.quiet weak_word (omega arith))
+
+  stores_link : (to head : ℕ) → Owes (StoresLink to head)
+  stores_link to head a = stores_it (StoresLink to head) a (WordIs (link_of to) head) (let f = a.sound.fits.0 in let n = a.pages in omega (arith, f, n)) tt refl
+      (plain (StoresLink to head) a (with_entry (WordIs (link_of to) head) t) (TakesWeak to head) Done refl refl refl refl refl a.quiet a.stands (omega arith))
+
+  takes_weak : (to head : ℕ) → Owes (TakesWeak to head)
+  takes_weak to head a = exchanges_it (TakesWeak to head) a (WeakIs (to + 1)) head (let f = a.sound.fits.0 in let n = a.sound.pages in omega (arith, f, n)) tt (sym weak_word ∙ a.stands) refl
+      (plain (TakesWeak to head) a (with_entry (WeakIs (to + 1)) t) (Clears to) Won refl refl refl refl refl a.quiet tt (omega arith))
 
   clears : (to : ℕ) → Owes (Clears to)
   clears to a = stores_it (Clears to) a (AnnounceIs u.worker 0) a.sound.worker tt refl
@@ -256,6 +292,9 @@ module _ (c : Configuration) (p : Plain) (s : Stands c p) (u : Evacuation) where
   by_stage (StoresWord r w) a = stores_word r w a
   by_stage (StoresCross r page) a = stores_cross r page a
   by_stage (StoresForward r) a = stores_forward r a
+  by_stage (LoadsWeak to) a = loads_weak to a
+  by_stage (StoresLink to head) a = stores_link to head a
+  by_stage (TakesWeak to head) a = takes_weak to head a
   by_stage (Clears to) a = clears to a
   by_stage (Ended to) a = λ r asked. absurd (let none = asked in cc)
 

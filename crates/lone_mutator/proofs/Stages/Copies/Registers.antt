@@ -5,7 +5,7 @@ use Rattle.plain_state.specs.State.{Plain}
 use Rattle.atom_store.specs.Step.{words_after, reply_of}
 use Rattle.heap_words.specs.Decoded.{decode}
 use Rattle.forwarding.specs.declared.evac_stage.EvacStage.{EvacStage}
-use Rattle.forwarding.specs.declared.evac_stage.EvacStage.TheVariants.{LoadsHeader, TakesHeader, LoadsArea, Announces, Reserves, StoresHeader, LoadsWord, StoresWord, StoresCross, StoresForward, Clears, Ended}
+use Rattle.forwarding.specs.declared.evac_stage.EvacStage.TheVariants.{LoadsHeader, TakesHeader, LoadsArea, Announces, Reserves, StoresHeader, LoadsWord, StoresWord, StoresCross, StoresForward, LoadsWeak, StoresLink, TakesWeak, Clears, Ended}
 use Rattle.forwarding.specs.Evacuation.{Evacuation}
 use Rattle.forwarding.specs.Taken.{stage_after, told}
 use Rattle.heap_state.specs.Configuration.{Configuration, Stands, table, era, memory, team}
@@ -116,6 +116,9 @@ module _ (c : Configuration) (p : Plain) (s : Stands c p) (y : Held) (w : Forwar
   by_stage after (StoresWord r word) goes = goes_on after (StoresWord r word) goes
   by_stage after (StoresCross r page) goes = goes_on after (StoresCross r page) goes
   by_stage after (StoresForward r) goes = goes_on after (StoresForward r) goes
+  by_stage after (LoadsWeak to) goes = goes_on after (LoadsWeak to) goes
+  by_stage after (StoresLink to head) goes = goes_on after (StoresLink to head) goes
+  by_stage after (TakesWeak to head) goes = goes_on after (TakesWeak to head) goes
   by_stage after (Clears to) goes = goes_on after (Clears to) goes
   by_stage after (Ended to) goes = next after to goes
 

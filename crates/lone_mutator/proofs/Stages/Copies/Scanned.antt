@@ -4,7 +4,7 @@ use Rattle.plain_state.specs.State.{Plain}
 use Rattle.atom_store.specs.Step.{words_after, reply_of}
 use Rattle.heap_words.specs.Decoded.{decode}
 use Rattle.forwarding.specs.declared.evac_stage.EvacStage.{EvacStage}
-use Rattle.forwarding.specs.declared.evac_stage.EvacStage.TheVariants.{LoadsHeader, TakesHeader, LoadsArea, Announces, Reserves, StoresHeader, LoadsWord, StoresWord, StoresCross, StoresForward, Clears, Ended}
+use Rattle.forwarding.specs.declared.evac_stage.EvacStage.TheVariants.{LoadsHeader, TakesHeader, LoadsArea, Announces, Reserves, StoresHeader, LoadsWord, StoresWord, StoresCross, StoresForward, LoadsWeak, StoresLink, TakesWeak, Clears, Ended}
 use Rattle.forwarding.specs.Evacuation.{Evacuation}
 use Rattle.forwarding.specs.Taken.{stage_after, told}
 use Rattle.page_scan.specs.declared.scan_stage.ScanStage.{ScanStage}
@@ -108,6 +108,9 @@ module _ (c : Configuration) (p : Plain) (s : Stands c p) (y : Held) (v : Evacua
     by_stage (StoresWord r w) goes = goes_on (StoresWord r w) goes
     by_stage (StoresCross r page) goes = goes_on (StoresCross r page) goes
     by_stage (StoresForward r) goes = goes_on (StoresForward r) goes
+    by_stage (LoadsWeak to) goes = goes_on (LoadsWeak to) goes
+    by_stage (StoresLink to head) goes = goes_on (StoresLink to head) goes
+    by_stage (TakesWeak to head) goes = goes_on (TakesWeak to head) goes
     by_stage (Clears to) goes = goes_on (Clears to) goes
     by_stage (Ended to) goes = answers to goes
 

@@ -132,7 +132,7 @@ module _ (c : Configuration) (p : Plain) (s : Stands c p) (y : Held) (asked : â„
     resets_weak : StepsLower c (at (ResetsWeak r))
     resets_weak =
         wants c p s (at (ResetsWeak r)) (Store (place_of c.pages WeakHead) 0) (ap (Î» n. Some (Store (place_of n WeakHead) 0)) a.is.fits.pages)
-        (stores c p s (at (ResetsWeak r)) (WeakIs 0) tt tt
+        (stores c p s (at (ResetsWeak r)) (WeakIs 0) (omega arith) tt
         (record { remembers = record { began = a.remembers.began; quiet = a.remembers.quiet; stands = tt }; falls = omega arith }))
 
   -- ---- the exchange
@@ -146,7 +146,7 @@ module _ (c : Configuration) (p : Plain) (s : Stands c p) (y : Held) (asked : â„
 
     -- what it knows of its flip
     abbrev q : Reset
-    q = record { read = r.gate; size = Some r.size; grown = Some r.next; used = Some r.used; sized = true; stored = true }
+    q = record { read = r.gate; size = Some r.size; grown = Some r.next; used = Some r.used; sized = true; stored = true; cleared = true }
 
     known : Resets (era c) (memory c).gate (memory c).front (memory c).low (memory c).old_front (memory c).old_low (memory c).old_owed q
     known = (knowing c p s x a).reset q refl

@@ -10,7 +10,7 @@ pub returns : goal.returns
 returns g c =
     let heap = c.in_ok-push_heap.ensures.text in
     let count = limit_fits (config c.args.options) c.requires.sizes in
-    IfOk-weaker c.new.result _ _ (λ answer new. run_is c.args.options _ _ c.in_ok-heap.heap _ _ c.in_ok-heap.ensures c.args.program.now.well_formed count c.requires.scanners c.in_ok-push_heap.ensures.words heap.0 heap.1
+    IfOk-weaker c.new.result _ _ (λ answer new. run_is c.args.options _ _ c.in_ok-heap.heap _ _ c.in_ok-heap.ensures c.args.program.now.well_formed count c.requires.scanners c.in_ok-push_heap.ensures.words c.in_ok-push_mutators.ensures.ends heap.0 heap.1
     (new.0 ∙ ap (λ (v : Vec ℕ). v.items) c.into_bytes.ensures.value
-    ∙ rw (heap.2, c.in_ok-push_mutators.ensures, c.new-output.ensures.bytes))
+    ∙ rw (heap.2, c.in_ok-push_mutators.ensures.lines, c.new-output.ensures.bytes))
     (new.1 ∙ c.verdict.ensures)) c.new.ensures.whole

@@ -31,7 +31,7 @@ returns c =
       live = c.cycles_keep_what_is_live.ensures program items (config options.run) schedule options.steps formed sizes turns scanners;
     } in
     let size = run_size options program items formed (limit_fits (config options.run) sizes) scanners follows.lawful in
-    IfOk-weaker c.told.result _ _ (λ answer told. simulated options program items _ c.in_ok-order.order.items told.2 _ _ is size follows.seen
+    IfOk-weaker c.told.result _ _ (λ answer told. simulated options program items _ c.in_ok-order.order.items c.shown_order-shown.result.items told.3 _ _ is size follows.seen
     (rw (c.in_ok-core.ensures.opened, c.as_slice.ensures) at c.in_ok-order.ensures.core)
-    (rw (c.in_ok-core.ensures.opened, c.as_slice.ensures) at c.in_ok-order.ensures.order)
-    told.3 told.1 (told.4 ∙ rw c.deref.ensures.value) told.0) c.told.ensures
+    (rw (c.in_ok-core.ensures.opened, c.as_slice.ensures) at c.in_ok-order.ensures.order) c.shown_order-shown.ensures.shown
+    told.4 told.1 told.2 (told.5 ∙ rw c.deref.ensures.value) told.0) c.told.ensures

@@ -1,0 +1,60 @@
+-- Whose the turn is.
+use Rattle.std.proofs.Common.{◌≡◌, ℕ, ◌+◌, ◌-◌, ◌≤◌, List, arith, refl, ap, ◌∙◌}
+use Rattle.atom_store.specs.declared.reply.Reply.{Reply}
+use Rattle.atom_store.specs.declared.reply.Reply.TheVariants as reply
+use Rattle.atom_store.specs.declared.step.Step.TheVariants.{Exchange}
+use Rattle.atom_store.specs.declared.turn.Turn.TheVariants.{Finished}
+use Rattle.atom_store.specs.Acts.{MakesStep}
+use Rattle.atom_store.specs.Step.{reply_of}
+use Rattle.atom_store.proofs.Acting.{no_step}
+use Rattle.atom_store.proofs.Steps.{lost_tells_another, words_after-lost}
+use Rattle.heap_words.specs.Decoded.{decode}
+use Rattle.space_map.specs.Spaces.{Layout}
+use Rattle.space_map.specs.Table.{WeakHead, WeakTurn, HeapWord, place_of}
+use Rattle.space_map.specs.TableWords.{row_word}
+use Rattle.cell_walk.specs.declared.walk_end.WalkEnd.TheVariants.{Another}
+use Rattle.cell_walk.specs.declared.walk_stage.WalkStage.{WalkStage}
+use Rattle.cell_walk.specs.declared.walk_stage.WalkStage.TheVariants.{LoadsTurn, TakesTurn, LoadsWeak, LoadsTarget, LoadsTargetHeader, StoresTarget, LoadsLink, Ended}
+use Rattle.cell_walk.specs.Taken.{along, by_turn, stage_after, told, walk_machine}
+use Rattle.cell_walk.specs.Theorems.{OthersShowIt, ShowsAnother, OfNoEarlierEpoch, OtherWord}
+use Rattle.cell_walk.specs.Walking.{Walking, most_cells}
+use Rattle.cell_walk.proofs.Along.{of_along, of_target, of_turn}
+
+late : (epoch found word : ℕ) → told (by_turn epoch found) ≡ Finished (Another word) → (word ≡ found) × (epoch + 1 ≤ found)
+late epoch found word =
+    of_turn (λ z. told z ≡ Finished (Another word) → (word ≡ found) × (epoch + 1 ≤ found)) epoch found
+    (λ past tells. (cc, omega arith)) (λ before tells. absurd (cc))
+
+loses : (l : Layout) (epoch found word : ℕ) (r : Reply) → told (stage_after l epoch (TakesTurn found) r) ≡ Finished (Another word) → r ≡ reply.Lost word
+loses l epoch found word (reply.Lost lost) tells = let same : lost ≡ word = cc in ap reply.Lost same
+loses l epoch found word reply.Won tells = absurd (cc)
+loses l epoch found word (reply.Value value) tells = absurd (cc)
+loses l epoch found word reply.Done tells = absurd (cc)
+
+along_tells : (most link word : ℕ) → told (along most link) ≡ Finished (Another word) → ⊥
+along_tells most link word = of_along (λ z. told z ≡ Finished (Another word) → ⊥) most link (λ at is some tells. cc) (λ tells. cc)
+
+shows : (v : Walking) (x : WalkStage) (before after : List ℕ) (word : ℕ)
+    → MakesStep walk_machine (record v { stage = x }) before after (Finished (Another word)) → ShowsAnother (record v { stage = x }) before word × (after ≡ before)
+shows v LoadsTurn before after word acts =
+    let found : ℕ = row_word v.layout.pages WeakTurn before in
+    let z = late v.epoch found word acts.tells in
+    (OfNoEarlierEpoch z.0 (let past = z.1 in let same = z.0 in omega arith), acts.makes)
+shows v (TakesTurn found) before after word acts =
+    let place : ℕ = place_of v.layout.pages WeakTurn in
+    let lost = loses v.layout v.epoch found word (reply_of (Exchange place found (v.epoch + 1)) before) acts.tells in
+    let another = lost_tells_another place found (v.epoch + 1) word before lost in
+    (OtherWord found refl another.0 another.1, acts.makes ∙ words_after-lost place found (v.epoch + 1) word before lost)
+shows v LoadsWeak before after word acts =
+    absurd (along_tells (most_cells v.layout.pages) (row_word v.layout.pages WeakHead before) word acts.tells)
+shows v (LoadsTarget cell) before after word acts =
+    absurd (of_target (λ z. told z ≡ Finished (Another word) → ⊥) v.layout v.epoch cell (decode (row_word v.layout.pages (HeapWord (cell.at + 1)) before))
+    (λ old leads back tells. cc) (λ tells. cc) acts.tells)
+shows v (LoadsTargetHeader cell old) before after word acts = absurd (let tells = acts.tells in cc)
+shows v (StoresTarget cell new) before after word acts = absurd (let tells = acts.tells in cc)
+shows v (LoadsLink cell) before after word acts =
+    absurd (along_tells (cell.most - 1) (row_word v.layout.pages (HeapWord (cell.at + 2)) before) word acts.tells)
+shows v (Ended end) before after word acts = absurd (no_step acts.has_step)
+
+pub others_show_it : OthersShowIt
+others_show_it v before after word acts = shows v v.stage before after word acts

@@ -1,0 +1,5 @@
+use Rattle.heap_audit.proofs.ToldWords.{epoch_is}
+use Rattle.heap_audit.proofs.told_heap.ToldHeap.epoch.Goals as goal
+
+pub returns : goal.returns
+returns c = epoch_is _ _ _ c.gate_place.ensures.place

@@ -1,0 +1,8 @@
+//! What holds of all dumps. The function here does nothing: its contract is what is proved.
+
+ghost use Rattle.heap_audit.specs.Places.{PlacesShowAll};
+
+/// At each place of a dump is what should be exactly where the dump represents the plain state.
+pub fn places_show_what_is_represented()
+    ensures { PlacesShowAll }
+{}

@@ -1,0 +1,12 @@
+pub mod Carried
+pub mod Rows
+pub mod Parts
+pub mod Linked
+pub mod Reserved
+pub mod Published
+pub mod Ended
+pub mod Placed
+pub mod Walked
+pub mod Turned
+pub mod Short
+pub mod Lifted

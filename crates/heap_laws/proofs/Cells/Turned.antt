@@ -1,0 +1,126 @@
+-- The turn to walk over the chain of copied cells is taken, and TRACED is exchanged at the end of the walk.
+use Rattle.std.proofs.Common.{◌≡◌, ℕ, ◌+◌, ◌<◌, ◌≤◌, Option, Some, None, is_some, refl, sym, ap, ◌∙◌, arith, ⊎_elim, inr}
+use Rattle.std.proofs.lemmas.Bool.{cases_lt}
+use Rattle.heap_state.specs.Cells.{Ranks, Passing, Chain}
+use Rattle.heap_state.specs.Memory.Entries.{Entry, TracedIs, WeakTurnIs}
+use Rattle.heap_state.specs.Memory.Era.{Era, Memory}
+use Rattle.heap_state.specs.Invariant.Ghost.{Ghost}
+use Rattle.heap_state.specs.Worker.{Worker, Team, LastLook, Linking, Pass, Begins, Done, cell_to_link}
+use Rattle.heap_state.proofs.Puts.{put_at, proj_put, some_same, none≢some}
+use Rattle.heap_laws.specs.Cells.Walks.{SameBesidePass, TakingTurnCarriesChain, IsWalked, WalkIsDone, TracingCarriesChain}
+use Rattle.heap_laws.specs.Steps.{Ready, WritesRow, InTraced, Beside, with_worker, with_traced}
+use Rattle.heap_laws.proofs.Cells.Carried.{links_stay}
+use Rattle.heap_laws.proofs.Cells.Ended.{ended}
+use Rattle.heap_laws.proofs.Cells.Linked.{may_copy_still}
+use Rattle.heap_laws.proofs.Cells.Parts.{chain_of, cell_in, value_in, none_copies}
+
+-- ---- rows
+
+turn_memory : {E : Era} {m : Memory} {e : Option Entry} {later : Memory} {word : ℕ} → WritesRow E m e later → e ≡ Some (WeakTurnIs word) → later ≡ m
+turn_memory (Beside e beside) is = refl
+turn_memory _ is = absurd (cc)
+
+pub traced_memory : {E : Era} {m : Memory} {e : Option Entry} {later : Memory} {word : ℕ} → WritesRow E m e later → e ≡ Some (TracedIs word) → later ≡ with_traced m word
+traced_memory {m = m} {word = word} (InTraced other) is = let a : other ≡ word = cc in ap (with_traced m) a
+traced_memory {word = word} (Beside e beside) is = absurd (let f : e ≡ TracedIs word = cc in rw f at beside)
+traced_memory _ is = absurd (cc)
+
+-- ---- the turn is taken
+
+module _ (E : Era) (m : Memory) (weak turn : ℕ) (team : Team) (g : Ghost) (r : Ranks) (k : ℕ) (l : LastLook) (w : Worker) (ready : Ready E m team g k) (looks : (team.worker k).last_look ≡ Some l)
+    (of_epoch : (team.worker k).epoch ≤ l.traced) (free : turn < (team.worker k).epoch + 1) (gets : w.pass ≡ Some Begins) (like : SameBesidePass w (team.worker k)) (chain : Chain E m weak turn team g r) where
+  past : (team.worker k).epoch ≤ E.epoch
+  past = (ready.invariant.workers k ready.member).timely.past
+
+  now : (team.worker k).epoch ≡ E.epoch
+  now = let t = chain.top in omega (arith, t, free, past)
+
+  was : turn ≡ E.epoch
+  was = let t = chain.top in omega (arith, t, free, past)
+
+  untraced : m.traced ≤ E.epoch
+  untraced = ⊎_elim
+      (λ (y : m.traced < E.epoch + 1). omega (arith, y))
+      (λ (y : E.epoch + 1 ≤ m.traced). let t = ready.invariant.tracing.top in let e : m.traced ≡ E.epoch + 1 = omega (arith, y, t) in let z = chain.turned e in absurd (omega (arith, z, was)))
+      (cases_lt m.traced (E.epoch + 1))
+
+  same_traced : l.traced ≡ m.traced
+  same_traced =
+      let a = ((ready.invariant.workers k ready.member).pages.last_look l looks).earlier in
+      let b = ready.invariant.tracing.bottom in
+      omega (arith, a, b, of_epoch, now, untraced)
+
+  -- nobody walks
+  nobody : (j : ℕ) (q : Pass) → j < team.count → ¬ ((team.worker j).pass ≡ Some q)
+  nobody j q y e = let z = (chain.pass j q y e).now.2 in omega (arith, z, was)
+
+  abbrev turned : ℕ
+  turned = (team.worker k).epoch + 1
+
+  cell_then : (j : ℕ) → cell_to_link ((with_worker team k w).worker j).linking ≡ cell_to_link (team.worker j).linking
+  cell_then j = proj_put (λ (x : Worker). cell_to_link x.linking) team.worker k w j (ap cell_to_link like.linking)
+
+  own : Passing E m turned g r w Begins
+  own = record {
+    now = (like.epoch ∙ now, untraced, ap (λ z. z + 1) now);
+    look = (l, like.last_look ∙ looks, same_traced);
+    at = λ v e. absurd (cc);
+    passed = λ a p le. absurd (let z = ((chain.linked untraced).ranked a p).1 in omega (arith, z, le));
+  }
+
+  pub takes_turn : Chain E m weak turned (with_worker team k w) g r
+  takes_turn = chain_of E m weak turned team g r k w (record {
+    top = inr (ap (λ z. z + 1) now);
+    turned = λ _. ap (λ z. z + 1) now;
+    linked = chain.linked;
+    all = λ le a c z. let o = chain.all le a c z in record { worker = o.worker; member = o.member; links = cell_then o.worker ∙ o.links };
+    others_link = λ j x y _ e. chain.linking j x y e;
+    own_link = λ x y e. let o = chain.linking k x y (sym like.linking ∙ e) in links_stay E m m g g r w (team.worker k) x refl (λ _ c. c) refl (may_copy_still E w (team.worker k) like.post like.epoch like.scan) o;
+    own_apart = λ j a y z d e f. d (chain.apart j k a y z f (sym (ap cell_to_link like.linking) ∙ e));
+    others_pass = λ j q y _ e. absurd (nobody j q y e);
+    own_pass = λ q _ e. rw (← some_same (sym gets ∙ e)) own;
+    own_one = λ j y _ _ _ e. let q = value_in (team.worker j).pass e in nobody j q.0 y q.1;
+    walker = λ _ _. record { worker = k; member = ready.member; walks = ap (λ (x : Worker). is_some x.pass) (put_at team.worker k w k refl) ∙ ap is_some gets };
+    others_reset = λ j y _ e. chain.reset j y e;
+    own_reset = λ y e. chain.reset k y (rw like.reset at e);
+    three = chain.three;
+  }) chain.apart chain.one
+
+pub taking_turn_carries_chain : TakingTurnCarriesChain
+taking_turn_carries_chain E m later weak turn team g r k l w ready looks of_epoch free gets writes like chain =
+    let s : later ≡ m = turn_memory writes refl in
+    rw s (takes_turn E m weak turn team g r k l w ready looks of_epoch free gets like chain)
+
+-- ---- the walk is done
+
+module _ (E : Era) (m : Memory) (weak turn : ℕ) (team : Team) (g : Ghost) (r : Ranks) (k : ℕ) (ready : Ready E m team g k) (has : (team.worker k).pass ≡ Some Done) (chain : Chain E m weak turn team g r) where
+  done : Passing E m turn g r (team.worker k) Done
+  done = chain.pass k Done ready.member has
+
+  none_link : (j : ℕ) (l : Linking) → j < team.count → ¬ ((team.worker j).linking ≡ Some l)
+  none_link j l y e = none_copies E m weak turn team g r ready.invariant chain k j Done ready.member y has (chain.linking j l y e).licensed
+
+  pub walked : IsWalked E m g
+  walked = record {
+    clean = λ a c. ⊎_elim
+        (λ (p : 0 < r.rank a). done.passed a p (omega (arith, p)))
+        (λ (z : r.rank a ≤ 0).
+        let o = chain.all done.now.1 a c (omega (arith, z)) in
+        let l = cell_in (team.worker o.worker).linking a o.links in
+        absurd (none_link o.worker l.0 o.member l.1))
+        (cases_lt 0 (r.rank a));
+  }
+
+  pub traces : (w : Worker) → w.pass ≡ None → w.linking ≡ (team.worker k).linking → w.reset ≡ (team.worker k).reset → Chain E (with_traced m ((team.worker k).epoch + 1)) weak turn (with_worker team k w) g r
+  traces w pass linking reset = ended E (with_traced m ((team.worker k).epoch + 1)) weak turn team g r k w (ap (λ z. z + 1) done.now.0) done.now.2 chain.apart chain.one
+      (λ j l y _. none_link j l y) (λ l y e. none_link k l y (sym linking ∙ e))
+      (λ j q y d e. d (chain.one j k y ready.member (ap is_some e) (ap is_some has))) (λ q _ e. none≢some (sym pass ∙ e))
+      (λ j y _. chain.reset j y) (λ y e. chain.reset k y (rw reset at e)) chain.three
+
+pub walk_is_done : WalkIsDone
+walk_is_done E m weak turn team g r k ready has chain = walked E m weak turn team g r k ready has chain
+
+pub tracing_carries_chain : TracingCarriesChain
+tracing_carries_chain E m later weak turn team g r k w ready has pass linking reset writes chain =
+    let s : later ≡ with_traced m ((team.worker k).epoch + 1) = traced_memory writes refl in
+    rw s (traces E m weak turn team g r k ready has chain w pass linking reset)

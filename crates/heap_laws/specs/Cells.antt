@@ -1,0 +1,5 @@
+pub mod Frames
+pub mod Links
+pub mod Flips
+pub mod Walks
+pub mod Lifting

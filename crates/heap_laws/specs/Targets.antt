@@ -1,0 +1,6 @@
+pub mod Frames
+pub mod Copies
+pub mod Records
+pub mod Walks
+pub mod Flips
+pub mod Lifting
