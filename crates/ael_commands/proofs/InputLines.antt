@@ -1,86 +1,17 @@
 -- The lines of an input, and where they divide it.
-use Rattle.std.proofs.Common.{◌≡◌, ◌≢◌, ℕ, ◌-◌, ◌<◌, ◌≤◌, Bool, true, false, List, [], ◌∷◌, ◌++◌, Option, Some, None, length, take, drop, unwrap_or, refl, sym, ap, ap₂, ◌∙◌, subst, append_assoc, length-append, inl, inr, true≢false, arith}
+use Rattle.std.proofs.Common.{◌≡◌, ◌≢◌, ℕ, ◌-◌, Bool, true, false, List, [], ◌∷◌, ◌++◌, Option, Some, None, length, take, unwrap_or, refl, sym, ap, ◌∙◌, append_assoc, length-append, inl, inr, true≢false, arith}
 use Rattle.std.specs.Prelude.{◌⊎◌, codes, option_map}
 use borrow.Author.Tests.{eqb-true}
 use lib.Dec.{eqb}
-use Rattle.std.specs.List.{AllByRecursion, join_with_byte, onto_first, position_from, slice_split}
+use Rattle.std.specs.List.{join_with_byte}
 use Rattle.std.specs.Str.{bytes_eq}
-use Rattle.std.proofs.lemmas.List.{append-nil}
-use Rattle.std.proofs.lemmas.List.Splits.{join_with_byte-slice_split, slice_split-cons_no, slice_split-cons_yes}
+use Rattle.std.proofs.lemmas.List.{append-nil, take_at}
+use Rattle.std.proofs.lemmas.List.Splits.{join_with_byte-slice_split}
 use Rattle.std.proofs.lemmas.Slice.Eq.{bytes_eq-Decides}
-use Rattle.concordance_text.proofs.LongWords.{found, none}
-use Rattle.ael_commands.specs.Tasks.Division.{BeginsWithLine, divide_lines, divided, ends_line, output_line, preceded_by}
-
--- the lines of some bytes
-abbrev lines_of : List ℕ → List (List ℕ)
-lines_of bytes = slice_split ends_line bytes
-
--- ---- lists cut in two
-
-drop_front : (xs ys : List ℕ) → drop (length xs) (xs ++ ys) ≡ ys
-drop_front [] ys = refl
-drop_front (x ∷ xs) ys = drop_front xs ys
-
-take_front : (xs ys : List ℕ) → take (length xs) (xs ++ ys) ≡ xs
-take_front [] ys = refl
-take_front (x ∷ xs) ys = ap (λ zs. x ∷ zs) (take_front xs ys)
-
-drop_all : (xs : List ℕ) → drop (length xs) xs ≡ []
-drop_all [] = refl
-drop_all (x ∷ xs) = drop_all xs
-
-take_all : (xs : List ℕ) → take (length xs) xs ≡ xs
-take_all [] = refl
-take_all (x ∷ xs) = ap (λ zs. x ∷ zs) (take_all xs)
-
--- ---- the first line
-
--- what is behind it, without the byte that ends it
-abbrev pub behind_of : List ℕ → List ℕ
-behind_of [] = []
-behind_of (y ∷ ys) = ys
-
-by_end : (bytes : List ℕ) (o : Option ℕ) → position_from ends_line 0 bytes ≡ o → BeginsWithLine bytes (take (unwrap_or o (length bytes)) bytes) (behind_of (drop (unwrap_or o (length bytes)) bytes))
-by_end bytes None is = record {
-  one = subst (AllByRecursion (λ b. ends_line b ≡ false)) (sym (take_all bytes)) (none ends_line bytes 0 is);
-  whole = inr (sym (take_all bytes), ap behind_of (drop_all bytes));
-}
-by_end bytes (Some n) is =
-    let f = found ends_line bytes 0 n is in
-    let place = f.place_is in
-    let count : n ≡ length f.before = omega (arith, place) in
-    let front : take n bytes ≡ f.before = ap₂ (λ k ws. take k ws) count f.is ∙ take_front f.before (f.item ∷ f.after) in
-    let back : drop n bytes ≡ f.item ∷ f.after = ap₂ (λ k ws. drop k ws) count f.is ∙ drop_front f.before (f.item ∷ f.after) in
-    let end : f.item ≡ 10 = eqb-true f.item 10 f.hits in
-    record {
-      one = subst (AllByRecursion (λ b. ends_line b ≡ false)) (sym front) f.misses;
-      whole = inl (f.is ∙ ap₂ (λ (xs ys : List ℕ). xs ++ ys) (sym front) (ap₂ (λ (y : ℕ) (ys : List ℕ). y ∷ ys) end (sym (ap behind_of back))));
-    }
-
-pub first_is : (bytes line rest : List ℕ) (end : ℕ) → end ≡ unwrap_or (position_from ends_line 0 bytes) (length bytes) → line ≡ take end bytes → rest ≡ drop end bytes → (behind : List ℕ) → behind ≡ behind_of rest
-    → BeginsWithLine bytes line behind
-first_is bytes line rest end ends is_line is_rest behind is_behind =
-    subst (λ (l : List ℕ). BeginsWithLine bytes l behind) (sym (is_line ∙ ap (λ k. take k bytes) ends))
-    (subst (BeginsWithLine bytes (take (unwrap_or (position_from ends_line 0 bytes) (length bytes)) bytes)) (sym (is_behind ∙ ap behind_of (is_rest ∙ ap (λ k. drop k bytes) ends)))
-    (by_end bytes (position_from ends_line 0 bytes) refl))
-
-pub none_behind : (rest : List ℕ) → length rest < 1 → rest ≡ behind_of rest
-none_behind [] short = refl
-none_behind (y ∷ ys) short = absurd (omega arith)
-
-pub all_behind : (rest : List ℕ) → 1 ≤ length rest → take (length rest - 1) (drop 1 rest) ≡ behind_of rest
-all_behind [] some = absurd (omega arith)
-all_behind (y ∷ ys) some = let e : length (y ∷ ys) - 1 ≡ length ys = omega arith in ap (λ k. take k ys) e ∙ take_all ys
-
--- ---- the lines
-
-split_all : (line : List ℕ) → AllByRecursion (λ b. ends_line b ≡ false) line → lines_of line ≡ line ∷ []
-split_all [] all = refl
-split_all (x ∷ xs) all = slice_split-cons_no ends_line x xs all.0 ∙ ap (onto_first x) (split_all xs all.1)
-
-pub split_there : (line behind : List ℕ) → AllByRecursion (λ b. ends_line b ≡ false) line → lines_of (line ++ 10 ∷ behind) ≡ line ∷ lines_of behind
-split_there [] behind all = slice_split-cons_yes ends_line 10 behind refl
-split_there (x ∷ xs) behind all = slice_split-cons_no ends_line x (xs ++ 10 ∷ behind) all.0 ∙ ap (onto_first x) (split_there xs behind all.1)
+use Rattle.concordance_text.specs.Lines.{BeginsWithLine}
+use Rattle.concordance_text.specs.Words.{lines_of}
+use Rattle.concordance_text.proofs.FirstLine.{lines_ended, lines_last}
+use Rattle.ael_commands.specs.Tasks.Division.{divide_lines, divided, output_line, preceded_by}
 
 -- ---- the line between text and part
 
@@ -113,8 +44,8 @@ pub divides_here : (bytes line behind : List ℕ) → BeginsWithLine bytes line 
 divides_here bytes line behind first is = by first.whole
   where
     by : (bytes ≡ line ++ 10 ∷ behind) ⊎ ((bytes ≡ line) × (behind ≡ [])) → divide_lines (lines_of bytes) ≡ Some ([], behind)
-    by (inl ended) = ap (λ bs. divide_lines (lines_of bs)) ended ∙ ap divide_lines (split_there line behind first.one) ∙ divides line (lines_of behind) is ∙ ap (λ (bs : List ℕ). Some ([], bs)) (join_with_byte-slice_split 10 behind)
-    by (inr last) = ap (λ bs. divide_lines (lines_of bs)) last.0 ∙ ap divide_lines (split_all line first.one) ∙ divides line [] is ∙ ap (λ (bs : List ℕ). Some ([], bs)) (sym last.1)
+    by (inl ended) = ap (λ bs. divide_lines (lines_of bs)) ended ∙ ap divide_lines (lines_ended line behind first.one) ∙ divides line (lines_of behind) is ∙ ap (λ (bs : List ℕ). Some ([], bs)) (join_with_byte-slice_split 10 behind)
+    by (inr last) = ap (λ bs. divide_lines (lines_of bs)) last.0 ∙ ap divide_lines (lines_last line first.one) ∙ divides line [] is ∙ ap (λ (bs : List ℕ). Some ([], bs)) (sym last.1)
 
 -- ---- how far the lines were looked at
 
@@ -141,7 +72,7 @@ passed_one input rest line behind h first other = by first.whole
     by : (rest ≡ line ++ 10 ∷ behind) ⊎ ((rest ≡ line) × (behind ≡ [])) → HasPassed input behind
     by (inl ended) =
         let lines : divide_lines (lines_of rest) ≡ option_map (preceded_by (line ++ codes "\n")) (divide_lines (lines_of behind)) =
-        ap (λ bs. divide_lines (lines_of bs)) ended ∙ ap divide_lines (split_there line behind first.one) ∙ passes line (lines_of behind) other in
+        ap (λ bs. divide_lines (lines_of bs)) ended ∙ ap divide_lines (lines_ended line behind first.one) ∙ passes line (lines_of behind) other in
         record {
           front = h.front ++ (line ++ codes "\n");
           whole = h.whole ∙ ap (λ bs. h.front ++ bs) (ended ∙ sym (append_assoc line (codes "\n") behind)) ∙ sym (append_assoc h.front (line ++ codes "\n") behind);
@@ -149,7 +80,7 @@ passed_one input rest line behind h first other = by first.whole
         }
     by (inr last) =
         let none_there : divide_lines (lines_of rest) ≡ None =
-        ap (λ bs. divide_lines (lines_of bs)) last.0 ∙ ap divide_lines (split_all line first.one) ∙ passes line [] other in
+        ap (λ bs. divide_lines (lines_of bs)) last.0 ∙ ap divide_lines (lines_last line first.one) ∙ passes line [] other in
         record {
           front = h.front ++ line;
           whole = h.whole ∙ ap (λ bs. h.front ++ bs) last.0 ∙ sym (append-nil (h.front ++ line)) ∙ ap (λ bs. (h.front ++ line) ++ bs) (sym last.1);
@@ -161,8 +92,7 @@ pub is_divided : (input rest line behind : List ℕ) → HasPassed input rest �
 unfolding divided
 is_divided input rest line behind h first is =
     let long = ap length h.whole ∙ length-append h.front rest in
-    let count : length input - length rest ≡ length h.front = omega (arith, long) in
-    let text : take (length input - length rest) input ≡ h.front ++ [] = ap₂ (λ k bs. take k bs) count h.whole ∙ take_front h.front rest ∙ sym (append-nil h.front) in
+    let text : take (length input - length rest) input ≡ h.front ++ [] = ap (take (length input - length rest)) h.whole ∙ take_at h.front rest (length input - length rest) (omega (arith, long)) ∙ sym (append-nil h.front) in
     ap (λ (bs : List ℕ). (bs, behind)) text ∙ sym (ap (λ (o : Option (List ℕ × List ℕ)). unwrap_or o (input, [])) (h.same ∙ ap (option_map (preceded_by h.front)) (divides_here rest line behind first is)))
 
 -- no line does

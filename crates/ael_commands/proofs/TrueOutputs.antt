@@ -1,7 +1,7 @@
 -- What `sim --order --dump` prints of a program is a true output of it.
 use Rattle.std.proofs.Common.{◌≡◌, ◌≢◌, ℕ, ◌+◌, ◌^◌, ◌<◌, Bool, true, false, List, [], ◌∷◌, ◌++◌, Option, Some, None, length, map, cond, refl, sym, ap, ap₂, subst, append_assoc, ◌∙◌, arith}
 use Rattle.std.specs.Prelude.{All, codes, option_map, unwrap_or}
-use Rattle.std.specs.List.{AllByRecursion, join_with_byte, onto_first, slice_split}
+use Rattle.std.specs.List.{AllByRecursion, join_with_byte, onto_first}
 use borrow.Author.Tests.{eqb-true}
 use Rattle.std.proofs.lemmas.List.{length-append, length-map, map-append}
 use Rattle.std.proofs.lemmas.List.Elements.{All-head, All-tail}
@@ -30,6 +30,8 @@ use Rattle.gc_core.specs.Dumped.{dumped}
 use Rattle.gc_core.specs.Run.{Ran}
 use Rattle.heap_audit.specs.Lines.{IsPrinted, SeenFits}
 use Rattle.heap_audit.specs.Part.{IsPart, Output, part_text}
+use Rattle.concordance_text.specs.Words.{ends_line, lines_of}
+use Rattle.concordance_text.proofs.Cuts.{slice_split-append}
 use Rattle.ael_commands.specs.declared.arguments.options.RunOptions.{RunOptions}
 use Rattle.ael_commands.specs.declared.arguments.options.SimOptions.{SimOptions}
 use Rattle.ael_commands.specs.declared.status.Status.{Status}
@@ -39,12 +41,8 @@ use Rattle.ael_commands.specs.Runs.Orders.{shown_order}
 use Rattle.ael_commands.specs.Runs.Run.{HasFitEnd, IsRun, Scheduled, flag_lines}
 use Rattle.ael_commands.specs.Runs.Told.{heap_lines, told_of}
 use Rattle.ael_commands.specs.Tasks.Audit.{HasTrueOutput}
-use Rattle.ael_commands.specs.Tasks.Division.{divide_lines, divided, ends_line, output_line, preceded_by}
+use Rattle.ael_commands.specs.Tasks.Division.{divide_lines, divided, output_line, preceded_by}
 use Rattle.ael_commands.proofs.InputLines.{divides, passes}
-
--- the lines of some bytes
-abbrev lines_of : List ℕ → List (List ℕ)
-lines_of bytes = slice_split ends_line bytes
 
 -- ---- no line of a program is `.output`
 
@@ -70,20 +68,8 @@ other_lines before (line ∷ lines) after all clean is = (
 
 -- ---- the lines of two texts, one behind the other
 
-onto_first_front : (x : ℕ) (ls more : List (List ℕ)) → 0 < length ls → onto_first x (ls ++ more) ≡ onto_first x ls ++ more
-onto_first_front x [] more some = absurd (omega (arith, some))
-onto_first_front x (l ∷ ls) more some = refl
-
 split_behind : (front behind : List ℕ) → lines_of (front ++ 10 ∷ behind) ≡ lines_of front ++ lines_of behind
-split_behind [] behind = slice_split-cons_yes ends_line 10 behind refl
-split_behind (x ∷ front) behind = by (split_behind front behind) (ends_line x) refl
-  where
-    by : lines_of (front ++ 10 ∷ behind) ≡ lines_of front ++ lines_of behind → (b : Bool) → ends_line x ≡ b → lines_of (x ∷ (front ++ 10 ∷ behind)) ≡ lines_of (x ∷ front) ++ lines_of behind
-    by split true is = slice_split-cons_yes ends_line x (front ++ 10 ∷ behind) is ∙ ap (λ ls. [] ∷ ls) split ∙ ap (λ ls. ls ++ lines_of behind) (sym (slice_split-cons_yes ends_line x front is))
-    by split false is =
-        let some = length-slice_split ends_line front in
-        slice_split-cons_no ends_line x (front ++ 10 ∷ behind) is ∙ ap (onto_first x) split ∙ onto_first_front x (lines_of front) (lines_of behind) (omega (arith, some))
-        ∙ ap (λ ls. ls ++ lines_of behind) (sym (slice_split-cons_no ends_line x front is))
+split_behind front behind = slice_split-append ends_line front 10 behind refl
 
 -- ---- where they are divided
 

@@ -1,23 +1,9 @@
 //! The division of an input into the text of a program and what should be its output.
 
-ghost use Rattle.std.specs.Prelude.{◌≡◌, ◌+◌, ◌<◌, ◌≤◌, length};
-ghost use Rattle.ael_commands.specs.Tasks.Division.{BeginsWithLine, divided};
+ghost use Rattle.std.specs.Prelude.{◌≡◌, ◌+◌, ◌≤◌, length};
+ghost use Rattle.ael_commands.specs.Tasks.Division.{divided};
 
-/// The first line of some bytes, without its end, and what comes behind it.
-fn first_line(bytes: &[u8]) -> (&[u8], &[u8])
-    requires some { 0 < length bytes.now }
-    ensures line { BeginsWithLine bytes.now result.0.now result.1.now }
-    ensures behind { length result.1.now < length bytes.now }
-{
-    let end = bytes
-        .iter()
-        .position(|byte| *byte == b'\n')
-        .unwrap_or(bytes.len());
-    match bytes.split_at(end) {
-        (line, [_, behind @ ..]) => (line, behind),
-        (line, rest) => (line, rest),
-    }
-}
+use concordance_text::first_line;
 
 /// The text before the first line that is `.output`, and the part behind that line. If there is no such line the text is all of the input.
 pub fn divided(input: &[u8]) -> (&[u8], &[u8])

@@ -8,11 +8,10 @@ ghost use Rattle.ael_threads.specs.Seats.{first_number};
 ghost use Rattle.concordance.specs.Full.{WasFullFor};
 ghost use Rattle.concordance.specs.Lone.{IsLone, KeepsSeat, desk_of};
 ghost use Rattle.concordance.specs.Notes.Invariant.{NoneIsLater};
-ghost use Rattle.concordance.specs.Pieces.{IsFirstLine};
 ghost use Rattle.concordance.specs.Notes.Desks.{KeepsNotesTo, HasNotedJust};
 
 use crate::clerk::{Clerk, Full};
-use concordance_text::{Part, lower_cased, separates};
+use concordance_text::{Part, first_line, lower_cased, separates};
 use std::sync::Wait;
 
 impl<'h> Clerk<'h> {
@@ -57,23 +56,6 @@ impl<'h> Clerk<'h> {
             rest = behind;
         }
         Ok(())
-    }
-}
-
-/// The first line of a text, without its end, and what comes behind it.
-fn first_line(text: &[u8]) -> (&[u8], &[u8])
-    requires some { 0 < length text.now }
-    ensures line { IsFirstLine text.now result.0.now result.1.now }
-    ensures bytes { length result.0.now + length result.1.now ≤ length text.now }
-    ensures behind { length result.1.now < length text.now }
-{
-    let end = text
-        .iter()
-        .position(|byte| *byte == b'\n')
-        .unwrap_or(text.len());
-    match text.split_at(end) {
-        (line, [_, behind @ ..]) => (line, behind),
-        (line, rest) => (line, rest),
     }
 }
 

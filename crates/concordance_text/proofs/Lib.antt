@@ -7,6 +7,7 @@ pub mod Entries
 pub mod Rests
 pub mod LineOrder
 pub mod Pieces
+pub mod FirstLine
 pub mod WordRuns
 pub mod LongRuns
 pub mod Additions

@@ -1,9 +1,11 @@
 -- The pieces of a list that is split, each by what stands before and behind it.
-use Rattle.std.proofs.Common.{◌≡◌, ℕ, zero, suc, ◌+◌, ◌<◌, Bool, true, false, cond, List, [], ◌∷◌, ◌++◌, length, refl, sym, ap, ◌∙◌, subst, arith, count_by, true≢false}
-use Rattle.std.specs.List.{AllByRecursion, slice_split, onto_first}
+use Rattle.std.proofs.Common.{◌≡◌, ℕ, zero, suc, ◌+◌, ◌<◌, Bool, true, false, cond, List, [], ◌∷◌, ◌++◌, Option, Some, None, length, take, drop, unwrap_or, take-append-drop, refl, sym, ap, ◌∙◌, subst, arith, count_by, true≢false}
+use Rattle.std.specs.List.{AllByRecursion, onto_first, position_from, slice_split}
+use Rattle.std.proofs.lemmas.List.{drop_all, drop_at, take_all, take_at}
 use Rattle.std.proofs.lemmas.List.Splits.{length-slice_split}
 use Rattle.std.proofs.lemmas.List.Sums.{sum_by-append}
 use Rattle.concordance_text.specs.Runs.{BeginsWith, EndsWith}
+use Rattle.concordance_text.proofs.LongWords.{found, none}
 
 pub count_by-cons : {X : Type 0} (p : X → Bool) (x : X) (xs : List X) → count_by p (x ∷ xs) ≡ cond (p x) 1 0 + count_by p xs
 count_by-cons p x xs = sum_by-append (λ y. cond (p y) 1 0) (x ∷ []) xs ∙ ap (λ n. n + count_by p xs) (omega arith)
@@ -161,17 +163,40 @@ pub at_last : {X : Type 0} (p : X → Bool) (xs : List X) → AtLast p xs
 at_last p [] = record { front = []; rest = []; is = refl; ends = tt; none = tt }
 at_last p (x ∷ xs) = let l = at_last p xs in last_by p x xs l.front l.rest (p x) refl l.is l.ends l.none
 
-pub record AtFirst {X : Type 0} (p : X → Bool) (xs : List X) : Type 0 where
-  pub front : List X
-  pub rest : List X
+-- cut at the first element that passes, or at the end
+pub record CutsAtFirst {X : Type 0} (p : X → Bool) (xs front rest : List X) : Type 0 where
   pub is : xs ≡ front ++ rest
   pub none : AllByRecursion (λ x. p x ≡ false) front
   pub begins : BeginsWith p rest
 
+pub record AtFirst {X : Type 0} (p : X → Bool) (xs : List X) : Type 0 where
+  pub front : List X
+  pub rest : List X
+  pub cut : CutsAtFirst p xs front rest
+
 first_by : {X : Type 0} (p : X → Bool) (x : X) (xs : List X) (b : Bool) → p x ≡ b → AtFirst p xs → AtFirst p (x ∷ xs)
-first_by p x xs true is f = record { front = []; rest = x ∷ xs; is = refl; none = tt; begins = is }
-first_by p x xs false is f = record { front = x ∷ f.front; rest = f.rest; is = ap (λ l. x ∷ l) f.is; none = (is, f.none); begins = f.begins }
+first_by p x xs true is f = record { front = []; rest = x ∷ xs; cut = record { is = refl; none = tt; begins = is } }
+first_by p x xs false is f = record { front = x ∷ f.front; rest = f.rest; cut = record { is = ap (λ l. x ∷ l) f.cut.is; none = (is, f.cut.none); begins = f.cut.begins } }
 
 pub at_first : {X : Type 0} (p : X → Bool) (xs : List X) → AtFirst p xs
-at_first p [] = record { front = []; rest = []; is = refl; none = tt; begins = tt }
+at_first p [] = record { front = []; rest = []; cut = record { is = refl; none = tt; begins = tt } }
 at_first p (x ∷ xs) = first_by p x xs (p x) refl (at_first p xs)
+
+cut_by : {X : Type 0} (p : X → Bool) (xs : List X) (o : Option ℕ) → position_from p 0 xs ≡ o → CutsAtFirst p xs (take (unwrap_or o (length xs)) xs) (drop (unwrap_or o (length xs)) xs)
+cut_by p xs None is = record {
+  is = sym (take-append-drop (length xs) xs);
+  none = rw (take_all (length xs) xs (omega arith)) (none p xs 0 is);
+  begins = rw (drop_all (length xs) xs (omega arith)) tt;
+}
+cut_by p xs (Some n) is =
+    let f = found p xs 0 n is in
+    let count : length f.before ≡ n = omega (arith, f.place_is) in
+    record {
+      is = sym (take-append-drop n xs);
+      none = rw (ap (take n) f.is ∙ take_at f.before (f.item ∷ f.after) n count) f.misses;
+      begins = rw (ap (drop n) f.is ∙ drop_at f.before (f.item ∷ f.after) n count) f.hits;
+    }
+
+-- at the place of that element, or at the length
+pub cuts_at_first : {X : Type 0} (p : X → Bool) (xs front rest : List X) (end : ℕ) → end ≡ unwrap_or (position_from p 0 xs) (length xs) → front ≡ take end xs → rest ≡ drop end xs → CutsAtFirst p xs front rest
+cuts_at_first p xs front rest end ends is_front is_rest = rw (is_front ∙ ap (λ k. take k xs) ends, is_rest ∙ ap (λ k. drop k xs) ends) (cut_by p xs (position_from p 0 xs) refl)

@@ -171,14 +171,14 @@ from_run text m r =
     let f = at_last ends_line r.front in
     let b = at_first ends_line r.back in
     let line = f.rest ++ (r.run ++ b.front) in
-    let text_is : text ≡ f.front ++ (line ++ b.rest) = r.text_is ∙ ap₂ (λ xs ys. xs ++ (r.run ++ ys)) f.is b.is ∙ sym (joined f.front f.rest r.run b.front b.rest) in
+    let text_is : text ≡ f.front ++ (line ++ b.rest) = r.text_is ∙ ap₂ (λ xs ys. xs ++ (r.run ++ ys)) f.is b.cut.is ∙ sym (joined f.front f.rest r.run b.front b.rest) in
     let at_line : At (lines_of text) (count_by ends_line f.front) line = at_piece ends_line text line _ (record {
       front = f.front;
       back = b.rest;
       is = text_is;
-      inside = all_append _ f.rest (r.run ++ b.front) f.none (all_append _ r.run b.front (no_line_ends r.run r.letters) b.none);
+      inside = all_append _ f.rest (r.run ++ b.front) f.none (all_append _ r.run b.front (no_line_ends r.run r.letters) b.cut.none);
       before = f.ends;
-      behind = b.begins;
+      behind = b.cut.begins;
       place = refl;
     }) in
     let at_word : At (slice_split separates line) (count_by separates f.rest) r.run = at_piece separates line r.run _ (record {
@@ -187,7 +187,7 @@ from_run text m r =
       is = refl;
       inside = r.letters;
       before = ends_rest f.front f.rest (subst (EndsWith separates) f.is r.before);
-      behind = begins_front b.front b.rest (subst (BeginsWith separates) b.is r.behind);
+      behind = begins_front b.front b.rest (subst (BeginsWith separates) b.cut.is r.behind);
       place = refl;
     }) in
     let k = count_by ends_line f.front in

@@ -1,11 +1,8 @@
 -- An input of two parts: the text of a program, and behind a line `.output` what should be an output of it.
-use Rattle.std.specs.Prelude.{◌≡◌, ◌⊎◌, ℕ, ◌==◌, Bool, false, List, [], ◌∷◌, ◌++◌, Option, Some, None, codes, if◌then◌else◌, option_map, unwrap_or}
-use Rattle.std.specs.List.{AllByRecursion, join_with_byte, slice_split}
+use Rattle.std.specs.Prelude.{◌≡◌, ℕ, List, [], ◌∷◌, ◌++◌, Option, Some, None, codes, if◌then◌else◌, option_map, unwrap_or}
+use Rattle.std.specs.List.{join_with_byte}
 use Rattle.std.specs.Str.{bytes_eq}
-
--- LF ends a line
-abbrev pub ends_line : ℕ → Bool
-ends_line byte = byte == 10
+use Rattle.concordance_text.specs.Words.{lines_of}
 
 -- the line between them
 abbrev pub output_line : List ℕ
@@ -23,19 +20,14 @@ divide_lines (line ∷ lines) =
 
 -- no line of an input is `.output`
 abbrev pub HasNoPart : List ℕ → Type 0
-HasNoPart input = divide_lines (slice_split ends_line input) ≡ None
+HasNoPart input = divide_lines (lines_of input) ≡ None
 
 -- the text and the part of an input; if there is no line `.output` the text is all of it
 unfoldable pub divided : List ℕ → List ℕ × List ℕ
-divided input = unwrap_or (divide_lines (slice_split ends_line input)) (input, [])
+divided input = unwrap_or (divide_lines (lines_of input)) (input, [])
 
 abbrev pub text_in : List ℕ → List ℕ
 text_in input = (divided input).0
 
 abbrev pub part_in : List ℕ → List ℕ
 part_in input = (divided input).1
-
--- some bytes are a line, its end, and what is behind; or a line alone
-pub record BeginsWithLine (bytes line behind : List ℕ) : Type 0 where
-  pub one : AllByRecursion (λ byte. ends_line byte ≡ false) line
-  pub whole : (bytes ≡ line ++ 10 ∷ behind) ⊎ ((bytes ≡ line) × (behind ≡ []))
