@@ -1,7 +1,7 @@
 //! Outputs that are audited.
 
 use super::dumps::{RUNNING, dump_lines};
-use super::rows::{Row, lines, number_before};
+use super::rows::{Row, lines};
 use super::{AMPLE, FIRST, call};
 use std::alloc::Global;
 use std::marker::Sync;
@@ -15,27 +15,51 @@ no output|audit|.mutator/li r1 7/new r0 2/st r0 1 r1/ld r2 r0 1/out r2/halt/||ae
 neither text nor output|audit|||ael: line 1: error 5: no mutator/|1
 an output without its text|audit|.output/0: halt/||ael: line 1: error 5: no mutator/|1";
 
-/// The number of a line stands before each row, and its text is what stands in that line's place. The first text has seven lines, and
-/// `.output` is the eighth. The place P of the table is in line P + 15.
+/// The text of each row is what is changed of an input, with semicolons between: the number of a line, and what stands in that line's
+/// place. The first text has seven lines, and `.output` is the eighth. Line 13 has the registers, and the place P of the table is in line
+/// P + 15. Other registers stand in the place of @.
 const CHANGES: &str = "\
-0|as it was printed|audit||audit: yes/||0
-242|another word of a record|audit|0000000000000020/|audit: no: word 227/||9
-9|another number|audit|0: 8/|audit: no: line 1/||9
-10|no end|audit|0: stopped/|audit: no: line 2/||9
-11|a mark less|audit|order 0 0 0 0 0/|audit: no: line 2/||9
-11|marks that change nothing|audit|order F5 T 7 0 0 0 0 0 0 0/|audit: yes/||0
-14|what is kept has no header|audit|0000000000000009 0000000000000009/|audit: yes/||0
-240|a capital letter in a word|audit|000000000001002A/||ael: line 232: error 10: bad output/|1
-647|the last line is missing|audit|||ael: line 639: error 10: bad output/|1
-647|the last line has no end|audit|0000000000000000||ael: line 639: error 10: bad output/|1
-647|a line more|audit|0000000000000000/0000000000000000/||ael: line 640: error 10: bad output/|1
-12|a dump of two mutators|audit|dump 4 2 2/||ael: line 4: error 10: bad output/|1
-9|a leading zero|audit|0: 07/||ael: line 1: error 10: bad output/|1
-8|a space behind .output|audit|.output /||ael: line 8: error 1: unknown instruction/|1
-0|fewer turns|audit --turns 3||audit: no: line 1/||9";
+as it was printed|audit||audit: yes/||0
+another word of a record|audit|242=0000000000000020/|audit: no: word 227/||9
+another number|audit|9=0: 8/|audit: no: line 1/||9
+no end|audit|10=0: stopped/|audit: no: line 2/||9
+a mark less|audit|11=order 0 0 0 0 0/|audit: no: line 2/||9
+marks that change nothing|audit|11=order F5 T 7 0 0 0 0 0 0 0/|audit: yes/||0
+a register of a mutator that has its end|audit|13=@/|audit: yes/||0
+a mutator that was stopped|audit|10=0: stopped/;11=order 0 0 0 0 0/|audit: yes/||0
+a register comes before the records|audit|10=0: stopped/;11=order 0 0 0 0 0/;13=@/;242=0000000000000020/|audit: no: register 0 0/||9
+a register that leads to a closed page|audit|10=0: stopped/;11=order 0 0 0 0 0/;34=0000000000000000/|audit: no: register 0 0/||9
+a closed page to which nothing leads|audit|34=0000000000000000/|audit: yes/||0
+a record of another kind|audit|240=0000000000010026/|audit: no: word 225/||9
+a record that was never made|audit|240=0000000000020022/|audit: no: word 225/||9
+a record that stands twice|audit|243=0000000000010022/;245=000000000000001c/|audit: no: word 228/||9
+a number where a record would begin|audit|243=0000000000000004/|audit: no: word 228/||9
+a record that passes the end|audit|243=0000000000020642/|audit: no: word 228/||9
+a number in the rest of a page|audit|248=0000000000000004/|audit: yes/||0
+another word of the board|audit|563=0000000000000004/|audit: no: word 548/||9
+an area comes before the board|audit|13=@/;19=00000000030000c8/;563=0000000000000004/|audit: no: word 4/||9
+an area comes before the registers|audit|10=0: stopped/;11=order 0 0 0 0 0/;13=@/;19=00000000030000c8/|audit: no: word 4/||9
+more pages in use than there are|audit|27=0000000000000005/|audit: no: word 12/||9
+more pages in use of a space that isn't walked|audit|28=0000000000000005/|audit: yes/||0
+more pages in use of a space that is still walked|audit|17=0000000000000000/;28=0000000000000005/|audit: no: word 13/||9
+words that aren't looked at|audit|15=1209090900000000/;21=0000000000000009/;22=0000000000000009/;29=0000000000000009/;43=0000000000000009/;624=0000000000000009/|audit: yes/||0
+what is kept has no header|audit|14=0000000000000009 0000000000000009/|audit: yes/||0
+a capital letter in a word|audit|240=000000000001002A/||ael: line 232: error 10: bad output/|1
+the last line is missing|audit|647=||ael: line 639: error 10: bad output/|1
+the last line has no end|audit|647=0000000000000000||ael: line 639: error 10: bad output/|1
+a line more|audit|647=0000000000000000/0000000000000000/||ael: line 640: error 10: bad output/|1
+a dump of two mutators|audit|12=dump 4 2 2/||ael: line 4: error 10: bad output/|1
+a leading zero|audit|9=0: 07/||ael: line 1: error 10: bad output/|1
+a space behind .output|audit|8=.output /||ael: line 8: error 1: unknown instruction/|1
+fewer turns|audit --turns 3||audit: no: line 1/||9";
+
+/// The registers that were printed, but for the first, which leads into the record.
+const ASTRAY: &str = "\
+0000000000000305 000000000000001c 000000000000001c 0000000000000000 \
+0000000000000000 0000000000000000 0000000000000000 0000000000000000";
 
 /// The text with this in place of one of its lines.
-fn changed(alloc: Global, text: &str, number: u64, with: &str) -> Result<String, Fail> {
+fn with_line(alloc: Global, text: &str, number: u64, with: &str) -> Result<String, Fail> {
     let mut changed = String::new(alloc);
     let mut here = 0u64;
     for line in text.lines() {
@@ -46,6 +70,16 @@ fn changed(alloc: Global, text: &str, number: u64, with: &str) -> Result<String,
             changed.push_str(line)?;
             changed.push('\n')?;
         }
+    }
+    Ok(changed)
+}
+
+/// The text with these changes.
+fn changed(alloc: Global, text: &str, changes: &str) -> Result<String, Fail> {
+    let mut changed = String::from_str(alloc, text)?;
+    for change in changes.split_terminator(';') {
+        let (number, with) = change.split_once('=').ok_or("a line's number is missing")?;
+        changed = with_line(alloc, &changed, number.parse::<u64>()?, with)?;
     }
     Ok(changed)
 }
@@ -61,17 +95,16 @@ fn printed(alloc: Global) -> Result<String, Fail> {
     Ok(format!(in alloc; "0: 7\n0: halt\norder 0 0 0 0 0 0\n{dump}")?)
 }
 
-/// Audits the input with the change of a row.
+/// Audits the input with the changes of a row.
 fn check_change<R: Threads + Wait + Sync>(
     rt: &R,
     alloc: Global,
     input: &str,
-    line: &str,
+    row: &str,
 ) -> Result<(), Fail> {
-    let (number, row) = number_before(line)?;
-    let row = lines(alloc, row)?;
+    let row = lines(alloc, &row.replace(alloc, '@', ASTRAY)?)?;
     let row = Row::read(alloc, &row)?;
-    let text = changed(alloc, input, number, row.text)?;
+    let text = changed(alloc, input, row.text)?;
     let row = Row { text: &text, ..row };
     row.check(rt, alloc, AMPLE)
 }
@@ -79,8 +112,51 @@ fn check_change<R: Threads + Wait + Sync>(
 #[test]
 fn a_change_of_an_output_is_found(rt: HostRuntime) -> Result<(), Fail> {
     let input = input(rt.alloc(), &printed(rt.alloc())?)?;
-    for line in CHANGES.split('\n') {
-        check_change(&rt, rt.alloc(), &input, line)?;
+    for row in CHANGES.split('\n') {
+        check_change(&rt, rt.alloc(), &input, row)?;
+    }
+    Ok(())
+}
+
+/// Fails unless the front of an output is told to be wrong in this line.
+fn check_front<R: Threads + Wait + Sync>(
+    rt: &R,
+    alloc: Global,
+    front: &[u8],
+    line: u64,
+) -> Result<(), Fail> {
+    let text = input(alloc, str::from_utf8(front)?)?;
+    let err = format!(in alloc; "ael: line {line}: error 10: bad output\n")?;
+    let row = Row {
+        name: "a front of an output",
+        words: "audit",
+        text: &text,
+        out: "",
+        err: &err,
+        status: 1,
+    };
+    row.check(rt, alloc, AMPLE)
+}
+
+/// The first lines of an output, up to the first word of the table, have all forms that its lines have.
+const FORMS: u64 = 7;
+
+/// The first line that isn't whole is wrong, also where nothing stands in it. Fronts end at each byte of the first lines, and behind each
+/// line.
+#[test]
+fn each_front_of_an_output_is_bad(rt: HostRuntime) -> Result<(), Fail> {
+    let output = printed(rt.alloc())?;
+    let output = output.as_bytes();
+    let mut line = 1u64;
+    let mut begins = true;
+    for length in 0..output.len() {
+        if begins || line <= FORMS {
+            check_front(&rt, rt.alloc(), &output[..length], line)?;
+        }
+        begins = output[length] == b'\n';
+        if begins {
+            line = line.saturating_add(1);
+        }
     }
     Ok(())
 }

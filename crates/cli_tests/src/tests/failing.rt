@@ -25,6 +25,10 @@ const ROWS: &str = "\
 2|steps that run out|sim --cycles --steps 1|.mutator/|0: stopped/cycles 0 live 0/|ael: steps out/|4
 2|a refused text|sim --cycles --dump|.mutator/foo/||ael: line 2: error 1: unknown instruction/|1
 1|an empty input|sim --cycles --dump|||ael: line 1: error 5: no mutator/|1
+4|an output|audit|.mutator/li r1 7/new r0 2/st r0 1 r1/ld r2 r0 1/out r2/halt/.output/0: 7/0: halt/order 0 0 0 0 0 0/@|audit: yes/||0
+4|an output of another program|audit|.mutator/li r1 7/new r0 2/st r0 1 r1/ld r2 r0 1/out r2/halt/.output/0: 8/0: halt/order 0 0 0 0 0 0/@|audit: no: line 1/||9
+4|a line behind an output|audit|.mutator/li r1 7/new r0 2/st r0 1 r1/ld r2 r0 1/out r2/halt/.output/0: 7/0: halt/order 0 0 0 0 0 0/@0/||ael: line 640: error 10: bad output/|1
+2|a text without an output|audit|.mutator/li r1 7/new r0 2/st r0 1 r1/ld r2 r0 1/out r2/halt/||ael: line 1: error 10: bad output/|1
 0|the benchmark|bench 3 1||0: 8/0: halt/1: 8/1: halt/2: 8/2: halt/3: 8/3: halt/cycles 0 live 0/||0
 0|no seed|bench 3|||usage: ael asm, sim, run, concord or bench/|2";
 
