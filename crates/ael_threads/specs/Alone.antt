@@ -18,7 +18,7 @@ use Rattle.ael_threads.specs.Histories.{Each}
 
 -- ---- calls
 
--- the task names no word of the board; an end that is given in an instruction's place names none
+-- the task names no word of the board and makes no cell; an end that is given in an instruction's place does neither
 abbrev pub task_leaves_board : Task → Bool
 task_leaves_board (Calls instr) = leaves_board instr
 task_leaves_board (Stops end) = true
@@ -87,8 +87,8 @@ pub record ComesToTheSame (from other : Plain) (m : ℕ) (calls : List Call) : T
   pub mutator : slice_get (after_all from (alone_history calls)).mutators m ≡ slice_get other.mutators m
   pub records : made_by (after_all from (alone_history calls)).heap m ≡ made_by other.heap m
 
--- In a history, the calls of a mutator that names no word of the board come to what they come to alone on an empty plain heap, which
--- has no records, whatever the others do: they may use the board, and share among themselves.
+-- In a history, the calls of a mutator that names no word of the board and makes no cell come to what they come to alone on an empty plain
+-- heap, which has no records, whatever the others do: they may use the board, make cells, and share among themselves.
 abbrev pub LoneCallsComeToTheSame : Type 0
 LoneCallsComeToTheSame = (mutators : ℕ) (log : List Entry) (m : ℕ) → IsLegal (opening_plain mutators) log → Each LeavesBoard (calls_of m log)
     → ComesToTheSame (opening_plain mutators) (after_all (opening_plain mutators) log) m (calls_of m log)

@@ -1,4 +1,4 @@
--- Histories in which nobody reads the board, and the words that stand on it.
+-- Histories in which nobody reads the board or makes a cell, and the words that stand on it.
 use Rattle.std.specs.Prelude.{◌≡◌, ◌≢◌, ◌⊎◌, ⊤, ℕ, List, [], ◌∷◌, ◌++◌, Some, map, slice_get}
 use Rattle.plain_state.specs.State.{Mutator, Plain}
 use Rattle.mutator_asm.specs.declared.instr.Instr.{Instr}
@@ -31,11 +31,11 @@ pub record IsPut (c : Call) (place : Operand) (a : ℕ) : Type 0 where
   pub task : c.task ≡ Calls (instrs.Put place a)
   pub did : c.did ≡ Done
 
--- the call doesn't read the board: it names no word of it, or put a register there
+-- the call doesn't read the board and makes no cell: it names no word of the board, or put a register there
 abbrev pub LeavesUnread : Call → Type 0
 LeavesUnread c = LeavesBoard c ⊎ ((place : Operand) × (a : ℕ) × IsPut c place a)
 
--- the call leaves word x of the board: it names no word, or put a register in another one, which it named by a number
+-- the call leaves word x of the board, and makes no cell: it names no word, or put a register in another one, which it named by a number
 abbrev pub LeavesWord : (x : ℕ) → Call → Type 0
 LeavesWord x c = LeavesBoard c ⊎ ((y : ℕ) × (a : ℕ) × (y ≢ x) × IsPut c (operands.Number y) a)
 
@@ -56,7 +56,8 @@ as_move c = record c { task = task_as_move c.task }
 
 -- ---- the laws
 
--- In a history in which nobody reads the board, the calls of each mutator come to what they come to alone, with moves in place of its puts.
+-- In a history in which nobody reads the board or makes a cell, the calls of each mutator come to what they come to alone, with moves in
+-- place of its puts.
 abbrev pub UnreadBoardsShareNothing : Type 0
 UnreadBoardsShareNothing = (mutators : ℕ) (log : List Entry) (m : ℕ) → IsLegal (opening_plain mutators) log → EachCall LeavesUnread log
     → ComesToTheSame (opening_plain mutators) (after_all (opening_plain mutators) log) m (map as_move (calls_of m log))

@@ -1,5 +1,5 @@
 -- Whose the turn is.
-use Rattle.std.proofs.Common.{◌≡◌, ℕ, ◌+◌, ◌-◌, ◌≤◌, List, arith, refl, ap, ◌∙◌}
+use Rattle.std.proofs.Common.{◌≡◌, ℕ, ◌+◌, ◌-◌, ◌≤◌, ◌⊎◌, inl, inr, List, arith, refl, ap, ◌∙◌}
 use Rattle.atom_store.specs.declared.reply.Reply.{Reply}
 use Rattle.atom_store.specs.declared.reply.Reply.TheVariants as reply
 use Rattle.atom_store.specs.declared.step.Step.TheVariants.{Exchange}
@@ -16,9 +16,30 @@ use Rattle.cell_walk.specs.declared.walk_end.WalkEnd.TheVariants.{Another}
 use Rattle.cell_walk.specs.declared.walk_stage.WalkStage.{WalkStage}
 use Rattle.cell_walk.specs.declared.walk_stage.WalkStage.TheVariants.{LoadsTurn, TakesTurn, LoadsWeak, LoadsTarget, LoadsTargetHeader, StoresTarget, LoadsLink, Ended}
 use Rattle.cell_walk.specs.Taken.{along, by_turn, stage_after, told, walk_machine}
-use Rattle.cell_walk.specs.Theorems.{OthersShowIt, ShowsAnother, OfNoEarlierEpoch, OtherWord}
+use Rattle.cell_walk.specs.Soundness.{FitsStage}
+use Rattle.cell_walk.specs.Theorems.{HasTurn, OthersShowIt, ShowsAnother, OfNoEarlierEpoch, OtherWord, TurnsAreWon, WinsTurn}
 use Rattle.cell_walk.specs.Walking.{Walking, most_cells}
 use Rattle.cell_walk.proofs.Along.{of_along, of_target, of_turn}
+
+-- ---- the turn is won
+
+wins : (v : Walking) (x : WalkStage) (r : Reply) → FitsStage v.layout v.epoch x → HasTurn (stage_after v.layout v.epoch x r)
+    → HasTurn x ⊎ WinsTurn (record v { stage = x }) r
+wins v LoadsTurn (reply.Value w) fits =
+    of_turn (λ z. HasTurn z → HasTurn LoadsTurn ⊎ WinsTurn (record v { stage = LoadsTurn }) (reply.Value w)) v.epoch w (λ past has. inl has) (λ before has. inl has)
+wins v (TakesTurn found) reply.Won fits = λ has. inr (record { found = found; takes = refl; earlier = omega arith; exchanges = refl; won = refl })
+wins v (TakesTurn found) (reply.Lost w) fits = λ has. inl has
+wins v LoadsWeak r fits = λ has. inl tt
+wins v (LoadsTarget cell) r fits = λ has. inl tt
+wins v (LoadsTargetHeader cell old) r fits = λ has. inl tt
+wins v (StoresTarget cell word) r fits = λ has. inl tt
+wins v (LoadsLink cell) r fits = λ has. inl tt
+wins v x r fits = λ has. inl has
+
+pub turns_are_won : TurnsAreWon
+turns_are_won v r sound has = wins v v.stage r sound.fits has
+
+-- ---- another has it
 
 late : (epoch found word : ℕ) → told (by_turn epoch found) ≡ Finished (Another word) → (word ≡ found) × (epoch + 1 ≤ found)
 late epoch found word =

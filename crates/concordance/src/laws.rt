@@ -6,7 +6,7 @@ ghost use Rattle.concordance.specs.Notes.Worked.{HoldsWorkedOut};
 ghost use Rattle.concordance.specs.OneMutator.{LoneFlipsAreFew, LoneFlipsAreNow, LoneHistories};
 ghost use Rattle.concordance.specs.Whole.{WholeCalls};
 
-/// The history of a heap with one mutator.
+/// The history of a heap with one mutator, which makes no cell.
 pub fn lone_histories_are_plain()
     ensures calls { LoneHistories }
     ensures now { LoneFlipsAreNow }
@@ -20,7 +20,7 @@ pub fn lone_fulls_are_filled()
     ensures full { LoneFullsAreFilled }
 {}
 
-/// The calls of a clerk that has taken in all others are those of the plain machine, one after another.
+/// The calls of a clerk that has taken in all others are those of the plain machine, one after another, if nobody makes a cell.
 pub fn whole_calls_are_plain()
     ensures { WholeCalls }
 {}

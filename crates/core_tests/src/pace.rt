@@ -50,7 +50,7 @@ fn longest(rt: &impl Abort, alloc: Global, lines: &str, pages: u8) -> Result<u32
 /// Counted by a plain implementation of the same steps too.
 #[test]
 fn the_longest_instruction_is_short_enough(rt: HostRuntime) -> Result<(), Fail> {
-    for (lines, pages, counted) in [(GARBAGE.lines, 4, 499), (LIST, 4, 1931), (LIST, 16, 7739)] {
+    for (lines, pages, counted) in [(GARBAGE.lines, 4, 502), (LIST, 4, 1934), (LIST, 16, 7742)] {
         assert_same(&rt, &longest(&rt, rt.alloc(), lines, pages)?, &counted);
         assert_same(
             &rt,

@@ -19,6 +19,12 @@ use Rattle.space_map.specs.Table.{Gate, Traced, Area, Page}
 use Rattle.page_slots.specs.declared.claimed.Claimed.{Claimed}
 use Rattle.page_slots.specs.Claim.{Claiming, begun, claim_machine}
 use Rattle.page_slots.specs.Claim as claim
+use Rattle.cell_walk.specs.declared.walk_end.WalkEnd.{WalkEnd}
+use Rattle.cell_walk.specs.declared.walk_end.WalkEnd.TheVariants.{Passed, Another}
+use Rattle.cell_walk.specs.Taken.{walk_machine}
+use Rattle.cell_walk.specs.Taken as walk_replies
+use Rattle.cell_walk.specs.Walking.{Walking}
+use Rattle.cell_walk.specs.Walking as walk
 use Rattle.fault_duty.specs.declared.caller.Caller.{Caller}
 use Rattle.fault_duty.specs.declared.caller.Caller.TheVariants.{Faulted, Allocates, Scans}
 use Rattle.fault_duty.specs.declared.findings.Findings.{Findings}
@@ -30,7 +36,7 @@ use Rattle.fault_duty.specs.declared.page_state.PageState.TheVariants.{Opened, S
 use Rattle.fault_duty.specs.declared.round_end.RoundEnd.TheVariants as round_end
 use Rattle.fault_duty.specs.declared.round_end.RoundEnd.TheVariants.{AllLeft, NothingNow}
 use Rattle.fault_duty.specs.declared.duty_stage.DutyStage.{DutyStage}
-use Rattle.fault_duty.specs.declared.duty_stage.DutyStage.TheVariants.{LoadsGate, LoadsTraced, LoadsWanted, LoadsFrontFor, LoadsFront, LoadsPage, Claims, EndGate, EndArea, EndPage, EndFilling, EndAreaAgain, Traces, Ended}
+use Rattle.fault_duty.specs.declared.duty_stage.DutyStage.TheVariants.{LoadsGate, LoadsTraced, LoadsWanted, LoadsFrontFor, LoadsFront, LoadsPage, Claims, EndGate, EndArea, EndPage, EndFilling, EndAreaAgain, Walks, Traces, Ended}
 use Rattle.fault_duty.specs.Duty
 use Rattle.fault_duty.specs.Duty.{Round, at_stage, duty_machine, told, taken_at}
 use Rattle.fault_duty.specs.Soundness.{IsSoundRound}
@@ -125,6 +131,17 @@ filling_by_never look loaded says Past c is = cc
 filling_never : (d : Round) (look : EndLook) (loaded : ℕ) (o : Option PageWord) (c : Claiming) → Duty.looked_at_filling d look loaded o ≡ Claims c → ⊥
 filling_never d look loaded (Some says) c is = filling_by_never look loaded says (Duty.state_of says d.epoch) c is
 filling_never d look loaded None c is = cc
+
+walk_went_never : (traced : ℕ) (v : Walking) (turn : Turn WalkEnd) (c : Claiming) → Duty.walk_went traced v turn ≡ Claims c → ⊥
+walk_went_never traced v More c is = cc
+walk_went_never traced v (Finished Passed) c is = cc
+walk_went_never traced v (Finished (Another word)) c is = cc
+
+walk_never : (d : Round) (traced : ℕ) (v : Walking) (o : Option Step) (before : List ℕ) (c : Claiming)
+    → (after_step duty_machine (at_stage d (Walks traced v)) o before).stage ≡ Claims c → ⊥
+walk_never d traced v None before c is = cc
+walk_never d traced v (Some step) before c is =
+    let next : Walking = after_step walk_machine v (Some step) before in walk_went_never traced next (walk_replies.told next.stage) c is
 
 trace_never : (d : Round) (traced : ℕ) (b : Bool) (found : ℕ) (c : Claiming)
     → (taken_at (at_stage d (Traces traced)) (Traces traced) (cond b reply.Won (reply.Lost found))).stage ≡ Claims c → ⊥
@@ -254,6 +271,7 @@ claims_for d (EndFilling look) before c sound is =
     let loaded : ℕ = word_of_row d (Page (page_of look.front)) before in filling_never (at_stage d (EndFilling look)) look loaded (decode_page loaded) c is
 claims_for d (EndAreaAgain look filling) before c sound is =
     claims_filling (at_stage d (EndAreaAgain look filling)) look filling before (decode_area (word_of_row d (Area (to_space d.epoch)) before)) c refl is
+claims_for d (Walks traced v) before c sound is = walk_never d traced v (walk.wanted v) before c is
 claims_for d (Traces traced) before c sound is = trace_never d traced _ (word_of_row d Traced before) c is
 claims_for d (Ended result) before c sound is = cc
 

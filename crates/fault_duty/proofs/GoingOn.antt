@@ -7,8 +7,9 @@ use Rattle.atom_store.specs.declared.reply.Reply.{Reply}
 use Rattle.atom_store.specs.declared.reply.Reply.TheVariants.{Won, Lost}
 use Rattle.atom_store.specs.declared.step.Step.{Step}
 use Rattle.page_slots.proofs.GoingOn.{claims_go_on}
+use Rattle.cell_walk.proofs.GoingOn as walk_goes_on
 use Rattle.fault_duty.specs.declared.duty_stage.DutyStage.{DutyStage}
-use Rattle.fault_duty.specs.declared.duty_stage.DutyStage.TheVariants.{LoadsGate, LoadsTraced, LoadsWanted, LoadsFrontFor, LoadsFront, LoadsPage, Claims, EndGate, EndArea, EndPage, EndFilling, EndAreaAgain, Traces, Ended}
+use Rattle.fault_duty.specs.declared.duty_stage.DutyStage.TheVariants.{LoadsGate, LoadsTraced, LoadsWanted, LoadsFrontFor, LoadsFront, LoadsPage, Claims, EndGate, EndArea, EndPage, EndFilling, EndAreaAgain, Walks, Traces, Ended}
 use Rattle.fault_duty.specs.Duty.{Round, wanted_at, advances_at}
 use Rattle.fault_duty.specs.HeldUp.{IsHeldUp, GoesOn}
 
@@ -16,7 +17,7 @@ none : {A : Type 0} (o : Option A) → is_some o ≡ false → o ≡ None
 none None is = refl
 none (Some x) is = absurd (cc)
 
--- the exchange ends the round, whether it is won or lost
+-- an exchange takes the round on, whether it is won or lost
 exchanged : (traced : ℕ) (won : Bool) (word : ℕ) → advances_at (Traces traced) (if won then Won else Lost word) ≡ true
 exchanged traced true word = refl
 exchanged traced false word = refl
@@ -38,6 +39,7 @@ module _ (step : Step) (met : List ℕ) where
   held d (EndPage look page) wants = subst (λ (s : Step). Holds (EndPage look page) (reply_of s met)) (same_Some _ _ wants) (λ stays. absurd (cc))
   held d (EndFilling look) wants = subst (λ (s : Step). Holds (EndFilling look) (reply_of s met)) (same_Some _ _ wants) (λ stays. none _ stays)
   held d (EndAreaAgain look filling) wants = subst (λ (s : Step). Holds (EndAreaAgain look filling) (reply_of s met)) (same_Some _ _ wants) (λ stays. none _ stays)
+  held d (Walks traced v) wants = λ stays. absurd (let on = walk_goes_on.goes v.layout v.epoch v.stage step met wants in let e : true ≡ false = sym on ∙ stays in cc)
   held d (Traces traced) wants =
       subst (λ (s : Step). Holds (Traces traced) (reply_of s met)) (same_Some _ _ wants) (λ stays. absurd (let e : true ≡ false = sym (exchanged traced _ _) ∙ stays in cc))
   held d (Ended result) wants = absurd (cc)

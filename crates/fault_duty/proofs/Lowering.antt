@@ -18,6 +18,12 @@ use Rattle.page_slots.specs.Claim.{Claiming}
 use Rattle.page_slots.specs.Claim as claim
 use Rattle.page_slots.specs.declared.claimed.Claimed.{Claimed}
 use Rattle.page_slots.proofs.ClaimsLeft as claims_left
+use Rattle.cell_walk.specs.declared.walk_end.WalkEnd.{WalkEnd}
+use Rattle.cell_walk.specs.declared.walk_end.WalkEnd.TheVariants.{Passed, Another}
+use Rattle.cell_walk.specs.Left as walk_steps
+use Rattle.cell_walk.specs.Taken as walk_replies
+use Rattle.cell_walk.specs.Walking.{Walking}
+use Rattle.cell_walk.proofs.GoingOn as walk_falls
 use Rattle.fault_duty.specs.declared.caller.Caller.{Caller}
 use Rattle.fault_duty.specs.declared.caller.Caller.TheVariants.{Faulted, Allocates, Scans}
 use Rattle.fault_duty.specs.declared.findings.Findings.{Findings}
@@ -27,44 +33,44 @@ use Rattle.fault_duty.specs.declared.wanted_page.WantedPage.{WantedPage}
 use Rattle.fault_duty.specs.declared.page_state.PageState.{PageState}
 use Rattle.fault_duty.specs.declared.page_state.PageState.TheVariants.{Opened, Scanned, Waits, Past}
 use Rattle.fault_duty.specs.declared.duty_stage.DutyStage.{DutyStage}
-use Rattle.fault_duty.specs.declared.duty_stage.DutyStage.TheVariants.{LoadsGate, LoadsTraced, LoadsWanted, LoadsFrontFor, LoadsFront, LoadsPage, Claims, EndGate, EndArea, EndPage, EndFilling, EndAreaAgain, Traces, Ended}
+use Rattle.fault_duty.specs.declared.duty_stage.DutyStage.TheVariants.{LoadsGate, LoadsTraced, LoadsWanted, LoadsFrontFor, LoadsFront, LoadsPage, Claims, EndGate, EndArea, EndPage, EndFilling, EndAreaAgain, Walks, Traces, Ended}
 use Rattle.fault_duty.specs.Duty
 use Rattle.fault_duty.specs.Duty.{Round, left, left_at, taken, taken_at, advances, advances_at}
-use Rattle.fault_duty.specs.Soundness.{IsChoice, IsOwnClaim, FitsDutyStage, IsSoundRound}
+use Rattle.fault_duty.specs.Soundness.{IsChoice, IsOwnClaim, IsOwnWalk, FitsDutyStage, IsSoundRound}
 
 -- what a test chooses has a property if either choice has it where it is made
-by_test : {A : Type 0} (P : A → Type 0) (b : Bool) (x y : A) → (b ≡ true → P x) → (b ≡ false → P y) → P (cond b x y)
+pub by_test : {A : Type 0} (P : A → Type 0) (b : Bool) (x y : A) → (b ≡ true → P x) → (b ≡ false → P y) → P (cond b x y)
 by_test P true x y then otherwise = then refl
 by_test P false x y then otherwise = otherwise refl
 
 -- ---- by the word that was loaded
 
-by_mutator : (d : Round) (word : ℕ) (gate : GateWord) → left (Duty.mutator_at_gate d word gate) < 2 * d.layout.pages + 32
+by_mutator : (d : Round) (word : ℕ) (gate : GateWord) → left (Duty.mutator_at_gate d word gate) < 2 * d.layout.pages + 32 + Duty.walk_left d
 by_mutator d word gate =
-    by_test (λ (s : DutyStage). left_at d s < 2 * d.layout.pages + 32) (nat_eq gate.epoch d.epoch) (LoadsTraced (Duty.hindrance_in word gate)) (Ended _)
+    by_test (λ (s : DutyStage). left_at d s < 2 * d.layout.pages + 32 + Duty.walk_left d) (nat_eq gate.epoch d.epoch) (LoadsTraced (Duty.hindrance_in word gate)) (Ended _)
     (λ _. omega arith) (λ _. omega arith)
 
-by_scanner : (d : Round) (mutators word : ℕ) (gate : GateWord) → left (Duty.scanner_at_gate d mutators word gate) < 2 * d.layout.pages + 32
+by_scanner : (d : Round) (mutators word : ℕ) (gate : GateWord) → left (Duty.scanner_at_gate d mutators word gate) < 2 * d.layout.pages + 32 + Duty.walk_left d
 by_scanner d mutators word gate =
-    by_test (λ (e : Round). left e < 2 * d.layout.pages + 32) (nat_eq gate.left mutators) _ _ (λ _. omega arith) (λ _. omega arith)
+    by_test (λ (e : Round). left e < 2 * d.layout.pages + 32 + Duty.walk_left d) (nat_eq gate.left mutators) _ _ (λ _. omega arith) (λ _. omega arith)
 
-by_caller : (d : Round) (caller : Caller) (word : ℕ) (gate : GateWord) → left (Duty.looked_by_gate d caller word gate) < 2 * d.layout.pages + 32
+by_caller : (d : Round) (caller : Caller) (word : ℕ) (gate : GateWord) → left (Duty.looked_by_gate d caller word gate) < 2 * d.layout.pages + 32 + Duty.walk_left d
 by_caller d (Faulted page) word gate = by_mutator d word gate
 by_caller d Allocates word gate = by_mutator d word gate
 by_caller d (Scans mutators) word gate = by_scanner d mutators word gate
 
-by_gate : (d : Round) (word : ℕ) (o : Option GateWord) → IsTrue (is_some o) → left (Duty.looked_at_gate d word o) < 2 * d.layout.pages + 32
+by_gate : (d : Round) (word : ℕ) (o : Option GateWord) → IsTrue (is_some o) → left (Duty.looked_at_gate d word o) < 2 * d.layout.pages + 32 + Duty.walk_left d
 by_gate d word (Some gate) t = by_caller d d.caller word gate
 by_gate d word None t = cc
 
-first_look-le : (d : Round) (caller : Caller) (seen : Findings) → left_at d (Duty.first_look caller seen) ≤ 2 * d.layout.pages + 30
+first_look-le : (d : Round) (caller : Caller) (seen : Findings) → left_at d (Duty.first_look caller seen) ≤ 2 * d.layout.pages + 30 + Duty.walk_left d
 first_look-le d (Faulted page) seen = omega arith
 first_look-le d Allocates seen = omega arith
 first_look-le d (Scans mutators) seen = omega arith
 
-by_traced : (d : Round) (hindrance : Option ℕ) (word : ℕ) → left_at d (Duty.looked_at_traced d hindrance word) < 2 * d.layout.pages + 31
+by_traced : (d : Round) (hindrance : Option ℕ) (word : ℕ) → left_at d (Duty.looked_at_traced d hindrance word) < 2 * d.layout.pages + 31 + Duty.walk_left d
 by_traced d hindrance word =
-    by_test (λ (s : DutyStage). left_at d s < 2 * d.layout.pages + 31) (nat_eq word (d.epoch + 1)) (Ended _) (Duty.first_look d.caller _) (λ _. omega arith)
+    by_test (λ (s : DutyStage). left_at d s < 2 * d.layout.pages + 31 + Duty.walk_left d) (nat_eq word (d.epoch + 1)) (Ended _) (Duty.first_look d.caller _) (λ _. omega arith)
     (λ _. let first = first_look-le d d.caller (record { traced = word; hindrance = hindrance }) in omega (arith, first))
 
 -- a claim has at most 26 steps
@@ -78,34 +84,34 @@ claimed_by-le d page says in_place Past = omega arith
 claimed_by-le d page says in_place Opened = omega arith
 claimed_by-le d page says in_place Scanned = omega arith
 
-wanted_one-le : (d : Round) (seen : Findings) (w : WantedPage) → left_at d (Duty.wanted_one d seen w) ≤ 2 * d.layout.pages + 29
+wanted_one-le : (d : Round) (seen : Findings) (w : WantedPage) → left_at d (Duty.wanted_one d seen w) ≤ 2 * d.layout.pages + 29 + Duty.walk_left d
 wanted_one-le d seen w =
-    by_test (λ (s : DutyStage). left_at d s ≤ 2 * d.layout.pages + 29) (nat_eq w.page (board_page d.layout.pages)) (Duty.claim_by_state d w.page w.says false _) (LoadsFrontFor seen w)
+    by_test (λ (s : DutyStage). left_at d s ≤ 2 * d.layout.pages + 29 + Duty.walk_left d) (nat_eq w.page (board_page d.layout.pages)) (Duty.claim_by_state d w.page w.says false _) (LoadsFrontFor seen w)
     (λ _. let claim = claimed_by-le d w.page w.says false (Duty.state_of w.says d.epoch) in omega (arith, claim)) (λ _. omega arith)
 
 by_wanted_state : (d : Round) (seen : Findings) (page word : ℕ) (says : PageWord) (state : PageState)
-    → left_at d (Duty.wanted_by d seen page word says state) < 2 * d.layout.pages + 30
+    → left_at d (Duty.wanted_by d seen page word says state) < 2 * d.layout.pages + 30 + Duty.walk_left d
 by_wanted_state d seen page word says Opened = omega arith
 by_wanted_state d seen page word says Scanned = omega arith
 by_wanted_state d seen page word says Waits = let one = wanted_one-le d seen (record { page = page; says = says }) in omega (arith, one)
 by_wanted_state d seen page word says Past = let one = wanted_one-le d seen (record { page = page; says = says }) in omega (arith, one)
 
 by_wanted : (d : Round) (seen : Findings) (page word : ℕ) (o : Option PageWord) → IsTrue (is_some o)
-    → left_at d (Duty.looked_at_wanted d seen page word o) < 2 * d.layout.pages + 30
+    → left_at d (Duty.looked_at_wanted d seen page word o) < 2 * d.layout.pages + 30 + Duty.walk_left d
 by_wanted d seen page word (Some says) t = by_wanted_state d seen page word says (Duty.state_of says d.epoch)
 by_wanted d seen page word None t = cc
 
 by_front_for : (d : Round) (seen : Findings) (w : WantedPage) (o : Option AreaWord) → IsTrue (is_some o)
-    → left_at d (Duty.found_front_for d seen w o) < 2 * d.layout.pages + 29
+    → left_at d (Duty.found_front_for d seen w o) < 2 * d.layout.pages + 29 + Duty.walk_left d
 by_front_for d seen w (Some area) t =
-    by_test (λ (s : DutyStage). left_at d s < 2 * d.layout.pages + 29) (Duty.is_full (Duty.front_of d area) w.page) (Duty.claim_by_state d w.page w.says false _) (LoadsFront seen)
+    by_test (λ (s : DutyStage). left_at d s < 2 * d.layout.pages + 29 + Duty.walk_left d) (Duty.is_full (Duty.front_of d area) w.page) (Duty.claim_by_state d w.page w.says false _) (LoadsFront seen)
     (λ _. let claim = claimed_by-le d w.page w.says false (Duty.state_of w.says d.epoch) in omega (arith, claim)) (λ _. omega arith)
 by_front_for d seen w None t = cc
 
 board_tested : (n : ℕ) → nat_eq (board_page n) (board_page n) ≡ true
 board_tested n = grind (arith, nat_tests)
 
-by_front : (d : Round) (seen : Findings) (o : Option AreaWord) → IsTrue (is_some o) → left_at d (Duty.found_front d seen o) < 2 * d.layout.pages + 28
+by_front : (d : Round) (seen : Findings) (o : Option AreaWord) → IsTrue (is_some o) → left_at d (Duty.found_front d seen o) < 2 * d.layout.pages + 28 + Duty.walk_left d
 by_front d seen (Some area) t = rw (board_tested d.layout.pages) (omega arith)
 by_front d seen None t = cc
 
@@ -164,20 +170,20 @@ further : (d : Round) (front page : ℕ) → IsPageCount d.layout.pages → IsCh
     → Duty.pages_left d (Duty.page_after d page) < Duty.pages_left d page
 further d front page few choice full = further_by d front page (nat_eq page (board_page d.layout.pages)) refl few choice full
 
-after_choice-le : (d : Round) (seen : Findings) (hindrance : Option ℕ) → left_at d (Duty.after_choice seen hindrance) ≤ d.layout.pages + 6
+after_choice-le : (d : Round) (seen : Findings) (hindrance : Option ℕ) → left_at d (Duty.after_choice seen hindrance) ≤ d.layout.pages + 6 + Duty.walk_left d
 after_choice-le d seen (Some word) = omega arith
 after_choice-le d seen None = omega arith
 
 passed_by-lt : (d : Round) (choice : Choice) (page : ℕ) → IsPageCount d.layout.pages → IsChoice d choice.front page
-    → left_at d (Duty.passed_page d choice page) < Duty.pages_left d page + d.layout.pages + 26
+    → left_at d (Duty.passed_page d choice page) < Duty.pages_left d page + d.layout.pages + 26 + Duty.walk_left d
 passed_by-lt d choice page few fits =
-    by_test (λ (s : DutyStage). left_at d s < Duty.pages_left d page + d.layout.pages + 26) (Duty.is_full choice.front (Duty.page_after d page))
+    by_test (λ (s : DutyStage). left_at d s < Duty.pages_left d page + d.layout.pages + 26 + Duty.walk_left d) (Duty.is_full choice.front (Duty.page_after d page))
     (LoadsPage choice (Duty.page_after d page)) (Duty.after_choice choice.seen choice.seen.hindrance)
     (λ full. let fewer = further d choice.front page few fits full in omega (arith, fewer))
     (λ _. let after = after_choice-le d choice.seen choice.seen.hindrance in omega (arith, after))
 
 by_page_state : (d : Round) (choice : Choice) (page word : ℕ) (says : PageWord) (state : PageState) → IsPageCount d.layout.pages
-    → IsChoice d choice.front page → left_at d (Duty.chosen_by d choice page word says state) < Duty.pages_left d page + d.layout.pages + 26
+    → IsChoice d choice.front page → left_at d (Duty.chosen_by d choice page word says state) < Duty.pages_left d page + d.layout.pages + 26 + Duty.walk_left d
 by_page_state d choice page word says Opened few fits = passed_by-lt d choice page few fits
 by_page_state d choice page word says Scanned few fits = passed_by-lt d (Duty.hindered choice word) page few fits
 by_page_state d choice page word says Waits few fits =
@@ -185,7 +191,7 @@ by_page_state d choice page word says Waits few fits =
 by_page_state d choice page word says Past few fits = omega arith
 
 by_page : (d : Round) (choice : Choice) (page word : ℕ) (o : Option PageWord) → IsPageCount d.layout.pages → IsChoice d choice.front page
-    → IsTrue (is_some o) → left_at d (Duty.looked_at_page d choice page word o) < Duty.pages_left d page + d.layout.pages + 26
+    → IsTrue (is_some o) → left_at d (Duty.looked_at_page d choice page word o) < Duty.pages_left d page + d.layout.pages + 26 + Duty.walk_left d
 by_page d choice page word (Some says) few fits t = by_page_state d choice page word says (Duty.state_of says d.epoch) few fits
 by_page d choice page word None few fits t = cc
 
@@ -204,53 +210,67 @@ by_claim d c r own t =
 
 -- ---- the end of the area
 
-by_end_gate : (d : Round) (traced word : ℕ) (o : Option GateWord) → IsTrue (is_some o) → left_at d (Duty.ended_gate d traced word o) < d.layout.pages + 6
+by_end_gate : (d : Round) (traced word : ℕ) (o : Option GateWord) → IsTrue (is_some o) → left_at d (Duty.ended_gate d traced word o) < d.layout.pages + 6 + Duty.walk_left d
 by_end_gate d traced word (Some gate) t =
-    by_test (λ (s : DutyStage). left_at d s < d.layout.pages + 6) (nat_eq gate.epoch d.epoch && nat_eq gate.behind 0) (EndArea traced) (Ended _) (λ _. omega arith)
+    by_test (λ (s : DutyStage). left_at d s < d.layout.pages + 6 + Duty.walk_left d) (nat_eq gate.epoch d.epoch && nat_eq gate.behind 0) (EndArea traced) (Ended _) (λ _. omega arith)
     (λ _. omega arith)
 by_end_gate d traced word None t = cc
 
-by_end_area : (d : Round) (traced : ℕ) (o : Option AreaWord) → IsTrue (is_some o) → left_at d (Duty.ended_area d traced o) < d.layout.pages + 5
+by_end_area : (d : Round) (traced : ℕ) (o : Option AreaWord) → IsTrue (is_some o) → left_at d (Duty.ended_area d traced o) < d.layout.pages + 5 + Duty.walk_left d
 by_end_area d traced (Some area) t = rw (board_tested d.layout.pages) (omega arith)
 by_end_area d traced None t = cc
 
-after_pages-le : (d : Round) (look : EndLook) → left_at d (Duty.after_pages d look) ≤ 3
+after_pages-le : (d : Round) (look : EndLook) → left_at d (Duty.after_pages d look) ≤ 3 + Duty.walk_left d
 after_pages-le d look =
-    by_test (λ (s : DutyStage). left_at d s ≤ 3) (nat_eq (look.front % 64) 0) (EndAreaAgain look _) (EndFilling look) (λ _. omega arith) (λ _. omega arith)
+    by_test (λ (s : DutyStage). left_at d s ≤ 3 + Duty.walk_left d) (nat_eq (look.front % 64) 0) (EndAreaAgain look _) (EndFilling look) (λ _. omega arith) (λ _. omega arith)
 
 by_end_page : (d : Round) (look : EndLook) (page word : ℕ) → IsPageCount d.layout.pages → IsChoice d look.front page
-    → left_at d (Duty.ended_page d look page word) < Duty.pages_left d page + 3
+    → left_at d (Duty.ended_page d look page word) < Duty.pages_left d page + 3 + Duty.walk_left d
 by_end_page d look page word few fits =
     let some = pages_left-gt d look.front page fits in
-    let P : DutyStage → Type 0 = λ s. left_at d s < Duty.pages_left d page + 3 in
+    let P : DutyStage → Type 0 = λ s. left_at d s < Duty.pages_left d page + 3 + Duty.walk_left d in
     by_test P (nat_eq word _) _ (Ended _)
     (λ _. by_test P (Duty.is_full look.front (Duty.page_after d page)) (EndPage look (Duty.page_after d page)) (Duty.after_pages d look)
     (λ full. let fewer = further d look.front page few fits full in omega (arith, fewer))
     (λ _. let after = after_pages-le d look in omega (arith, after, some)))
     (λ _. omega (arith, some))
 
-by_filling_state : (d : Round) (look : EndLook) (word : ℕ) (says : PageWord) (state : PageState) → left_at d (Duty.filling_by look word says state) < 3
+by_filling_state : (d : Round) (look : EndLook) (word : ℕ) (says : PageWord) (state : PageState) → left_at d (Duty.filling_by look word says state) < 3 + Duty.walk_left d
 by_filling_state d look word says Scanned = omega arith
 by_filling_state d look word says Opened = omega arith
 by_filling_state d look word says Waits = omega arith
 by_filling_state d look word says Past = omega arith
 
-by_filling : (d : Round) (look : EndLook) (word : ℕ) (o : Option PageWord) → IsTrue (is_some o) → left_at d (Duty.looked_at_filling d look word o) < 3
+by_filling : (d : Round) (look : EndLook) (word : ℕ) (o : Option PageWord) → IsTrue (is_some o) → left_at d (Duty.looked_at_filling d look word o) < 3 + Duty.walk_left d
 by_filling d look word (Some says) t = by_filling_state d look word says (Duty.state_of says d.epoch)
 by_filling d look word None t = cc
 
-by_end_state : (d : Round) (look : EndLook) (filling : PageWord) (state : PageState) → left_at d (Duty.ends_by d look filling state) < 2
+by_end_state : (d : Round) (look : EndLook) (filling : PageWord) (state : PageState) → left_at d (Duty.ends_by d look filling state) < 2 + Duty.walk_left d
 by_end_state d look filling Opened = omega arith
 by_end_state d look filling Waits = omega arith
 by_end_state d look filling Past = omega arith
 by_end_state d look filling Scanned = omega arith
 
 by_end_area_again : (d : Round) (look : EndLook) (filling : PageWord) (word : ℕ) (o : Option AreaWord) → IsTrue (is_some o)
-    → left_at d (Duty.ended_area_again d look filling word o) < 2
+    → left_at d (Duty.ended_area_again d look filling word o) < 2 + Duty.walk_left d
 by_end_area_again d look filling word (Some area) t =
-    by_test (λ (s : DutyStage). left_at d s < 2) (nat_eq (Duty.front_of d area) look.front) (Duty.ends_by d look filling _) (Ended _)
+    by_test (λ (s : DutyStage). left_at d s < 2 + Duty.walk_left d) (nat_eq (Duty.front_of d area) look.front) (Duty.ends_by d look filling _) (Ended _)
     (λ _. by_end_state d look filling (Duty.state_of filling d.epoch)) (λ _. omega arith)
 by_end_area_again d look filling word None t = cc
+
+-- ---- the walk
+
+walk_went-le : (d : Round) (traced : ℕ) (v : Walking) (turn : Turn WalkEnd) → left_at d (Duty.walk_went traced v turn) ≤ walk_steps.left v + 1
+walk_went-le d traced v More = omega arith
+walk_went-le d traced v (Finished Passed) = omega arith
+walk_went-le d traced v (Finished (Another word)) = omega arith
+
+by_walk : (d : Round) (traced : ℕ) (v : Walking) (r : Reply) → IsOwnWalk d v → IsTrue (walk_steps.advances v.stage r)
+    → left_at d (Duty.walk_went traced (walk_replies.taken v r) (walk_replies.told (walk_replies.taken v r).stage)) < walk_steps.left v + 1
+by_walk d traced v r own t =
+    let fewer = (walk_falls.falls v.layout v.epoch v.stage r (walk_falls.counted v.layout v.epoch v.stage own.sound.fits) t).0 in
+    let went = walk_went-le d traced (walk_replies.taken v r) (walk_replies.told (walk_replies.taken v r).stage) in
+    omega (arith, fewer, went)
 
 -- ---- all
 
@@ -268,6 +288,7 @@ lowers d (EndArea traced) (Value word) few fits t = by_end_area d traced (decode
 lowers d (EndPage look page) (Value word) few fits t = by_end_page d look page word few fits.1
 lowers d (EndFilling look) (Value word) few fits t = by_filling d look word (decode_page word) t
 lowers d (EndAreaAgain look filling) (Value word) few fits t = by_end_area_again d look filling word (decode_area word) t
+lowers d (Walks traced v) r few fits t = by_walk d traced v r fits.1 t
 lowers d (Traces traced) Won few fits t = omega arith
 lowers d (Traces traced) (Lost word) few fits t = omega arith
 lowers d stage r few fits t = cc

@@ -12,6 +12,9 @@ use Rattle.space_map.specs.Spaces.{board_page, first_word}
 use Rattle.page_slots.specs.declared.claimed.Claimed.{Claimed}
 use Rattle.page_slots.specs.declared.claimed.Claimed.TheVariants as claimed
 use Rattle.page_slots.specs.Claim.{Claiming}
+use Rattle.cell_walk.specs.declared.walk_end.WalkEnd.{WalkEnd}
+use Rattle.cell_walk.specs.declared.walk_end.WalkEnd.TheVariants as walk_end
+use Rattle.cell_walk.specs.Walking.{Walking}
 use Rattle.fault_duty.specs.declared.caller.Caller.{Caller}
 use Rattle.fault_duty.specs.declared.caller.Caller.TheVariants.{Faulted, Allocates, Scans}
 use Rattle.fault_duty.specs.declared.findings.Findings.{Findings}
@@ -24,7 +27,7 @@ use Rattle.fault_duty.specs.declared.round_end.RoundEnd.{RoundEnd}
 use Rattle.fault_duty.specs.declared.round_end.RoundEnd.TheVariants.{ScanPage, ScanInPlace, Marked, Traced, AllLeft, NothingNow}
 use Rattle.fault_duty.specs.declared.duty_stage.DutyStage.TheVariants.{LoadsTraced, LoadsFrontFor, LoadsFront, LoadsPage, EndArea, EndPage, EndFilling, EndAreaAgain, Ended}
 use Rattle.fault_duty.specs.Duty
-use Rattle.fault_duty.specs.Duty.{Round, told, told_at}
+use Rattle.fault_duty.specs.Duty.{Round, told, told_at, taken_at}
 use Rattle.fault_duty.specs.Theorems.{IsLater}
 
 -- ---- what a page's word says
@@ -392,3 +395,12 @@ area_again_ends d look filling loaded result (Some area) tells = by_test (nat_eq
     by_test true test e = let ends = ends_state d look filling (Duty.state_of filling d.epoch) result refl e in ByFilling ends.0 ends.1
     by_test false test e = ByFront area refl (let other : Duty.front_of d area ≢ look.front = grind (arith, nat_tests) in other) (cc)
 area_again_ends d look filling loaded result None tells = cc
+
+-- ---- the walk
+
+-- it ends the round only where another worker has the turn, or had it
+pub walk_ends : (traced : ℕ) (v : Walking) (turn : Turn WalkEnd) (result : RoundEnd) → told_at (Duty.walk_went traced v turn) ≡ Finished result
+    → (word : ℕ) × (turn ≡ Finished (walk_end.Another word)) × (result ≡ NothingNow word)
+walk_ends traced v (Finished (walk_end.Another word)) result e = (word, refl, cc)
+walk_ends traced v (Finished walk_end.Passed) result e = cc
+walk_ends traced v More result e = cc

@@ -1,5 +1,5 @@
 -- What a round's step does to the words, by what it then tells.
-use Rattle.std.proofs.Common.{◌≡◌, ℕ, ◌+◌, ◌<◌, Bool, true, false, cond, nat_eq, ◌⊎◌, inl, inr, List, slice_index, Option, Some, None, arith, refl, sym, ap, subst, ◌∙◌}
+use Rattle.std.proofs.Common.{◌≡◌, ◌≢◌, ℕ, ◌+◌, ◌<◌, Bool, true, false, cond, nat_eq, ◌⊎◌, inl, inr, List, slice_index, Option, Some, None, arith, refl, sym, ap, subst, ◌∙◌}
 use Rattle.atom_store.specs.declared.reply.Reply.{Reply}
 use Rattle.atom_store.specs.declared.reply.Reply.TheVariants as reply
 use Rattle.atom_store.specs.declared.step.Step.{Step}
@@ -7,7 +7,7 @@ use Rattle.atom_store.specs.declared.step.Step.TheVariants.{Exchange}
 use Rattle.atom_store.specs.declared.turn.Turn.TheVariants.{Finished}
 use Rattle.atom_store.specs.Acts.{MakesStep, after_next_step}
 use Rattle.atom_store.specs.Runs.{after_step}
-use Rattle.atom_store.specs.Step.{reply_of}
+use Rattle.atom_store.specs.Step.{reply_of, words_after}
 use Rattle.atom_store.proofs.Acting.{no_step}
 use Rattle.atom_store.proofs.Steps.{slice_index-words_after, slice_index-won, won_exactly, lost_tells_another, words_after-lost}
 use Rattle.space_map.specs.declared.area_word.AreaWord.{AreaWord}
@@ -17,13 +17,19 @@ use Rattle.space_map.specs.AreaWord.{decode_area}
 use Rattle.space_map.specs.GateWord.{decode_gate}
 use Rattle.space_map.specs.PageWord.{encode_page, decode_page}
 use Rattle.space_map.specs.Spaces.{to_space, page_of, first_word}
-use Rattle.space_map.specs.Table.{Gate, Traced, Area, Page, place_of}
-use Rattle.space_map.specs.TableWords.{HoldsTable}
+use Rattle.space_map.specs.Table.{Row, Gate, Traced, Area, Page, IsRow, place_of}
+use Rattle.space_map.specs.TableWords.{row_word, HoldsTable, ChangesOnly}
 use Rattle.space_map.proofs.PageWords.{encode_page-decode_page}
 use Rattle.space_map.proofs.Rows.{place_of-lt}
 use Rattle.page_slots.specs.Claim.{Claiming, claim_machine}
 use Rattle.page_slots.specs.Claim as claim
 use Rattle.page_slots.proofs.Claiming as claims
+use Rattle.cell_walk.specs.declared.walk_end.WalkEnd.TheVariants.{Another}
+use Rattle.cell_walk.specs.Taken.{walk_machine}
+use Rattle.cell_walk.specs.Taken as walk_replies
+use Rattle.cell_walk.specs.Walking.{Walking}
+use Rattle.cell_walk.specs.Walking as walk
+use Rattle.cell_walk.proofs.Turns.{others_show_it}
 use Rattle.fault_duty.specs.declared.caller.Caller.{Caller}
 use Rattle.fault_duty.specs.declared.caller.Caller.TheVariants.{Faulted, Allocates, Scans}
 use Rattle.fault_duty.specs.declared.choice.Choice.{Choice}
@@ -32,15 +38,41 @@ use Rattle.fault_duty.specs.declared.round_end.RoundEnd.{RoundEnd}
 use Rattle.fault_duty.specs.declared.round_end.RoundEnd.TheVariants as round_end
 use Rattle.fault_duty.specs.declared.round_end.RoundEnd.TheVariants.{Marked, AllLeft, NothingNow}
 use Rattle.fault_duty.specs.declared.duty_stage.DutyStage.{DutyStage}
-use Rattle.fault_duty.specs.declared.duty_stage.DutyStage.TheVariants.{LoadsGate, LoadsTraced, LoadsWanted, LoadsFrontFor, LoadsFront, LoadsPage, Claims, EndGate, EndArea, EndPage, EndFilling, EndAreaAgain, Traces, Ended}
+use Rattle.fault_duty.specs.declared.duty_stage.DutyStage.TheVariants.{LoadsGate, LoadsTraced, LoadsWanted, LoadsFrontFor, LoadsFront, LoadsPage, Claims, EndGate, EndArea, EndPage, EndFilling, EndAreaAgain, Walks, Traces, Ended}
 use Rattle.fault_duty.specs.Duty
 use Rattle.fault_duty.specs.Duty.{Round, at_stage, duty_machine, told, told_at, taken_at}
 use Rattle.fault_duty.specs.Soundness.{Forbids, PageInScan, IsHindrance, IsSoundRound}
 use Rattle.fault_duty.specs.Theorems.{word_of_row, IsPastPage, ShowsNothing, SeesTraced, SeesAllLeft, MarksEpoch, ClaimsPage}
-use Rattle.fault_duty.proofs.RoundEnds.{gate_ends, left_ends, traced_ends, wanted_ends, front_for_ends, front_never, ChoiceEnds, ByHindrance, ByScan, ByPast, page_ends, claim_nothing, claimed_page, claim_scans, claim_never, end_gate_ends, end_area_never, end_page_ends, filling_ends, AreaAgainEnds, ByFront, ByFilling, area_again_ends}
+use Rattle.fault_duty.proofs.RoundEnds.{gate_ends, left_ends, traced_ends, wanted_ends, front_for_ends, front_never, ChoiceEnds, ByHindrance, ByScan, ByPast, page_ends, claim_nothing, claimed_page, claim_scans, claim_never, end_gate_ends, end_area_never, end_page_ends, filling_ends, AreaAgainEnds, ByFront, ByFilling, area_again_ends, walk_ends}
 
 told_word : (word other : ℕ) → NothingNow word ≡ NothingNow other → word ≡ other
 told_word word other same = cc
+
+-- ---- an exchange on a row of the table
+
+-- it changed the row's word from this to that, and no other word
+pub record Exchanged (n : ℕ) (row : Row) (old new : ℕ) (before after : List ℕ) : Type 0 where
+  pub was : row_word n row before ≡ old
+  pub is : row_word n row after ≡ new
+  pub others : ChangesOnly n row before after
+
+pub won_on : (n : ℕ) (row : Row) (old new : ℕ) (before after : List ℕ) → IsRow n row → HoldsTable n before
+    → after ≡ words_after (Exchange (place_of n row) old new) before → reply_of (Exchange (place_of n row) old new) before ≡ reply.Won
+    → Exchanged n row old new before after
+won_on n row old new before after is_row whole makes won =
+    let place : ℕ = place_of n row in
+    let inside = place_of-lt n row is_row in
+    record {
+      was = (won_exactly place old new before).0 won;
+      is = ap (λ ws. slice_index ws place) makes ∙ slice_index-won place old new before (omega (arith, inside, whole)) won;
+      others = λ other apart. ap (λ ws. slice_index ws other) makes ∙ slice_index-words_after (Exchange place old new) before other apart;
+    }
+
+-- one that is lost tells another word that stands there, and changes none
+lost_on : (n : ℕ) (row : Row) (old new word : ℕ) (before after : List ℕ) → after ≡ words_after (Exchange (place_of n row) old new) before
+    → reply_of (Exchange (place_of n row) old new) before ≡ reply.Lost word → ((word ≡ row_word n row before) × (word ≢ old)) × (after ≡ before)
+lost_on n row old new word before after makes lost =
+    (lost_tells_another (place_of n row) old new word before lost, makes ∙ words_after-lost (place_of n row) old new word before lost)
 
 -- ---- the exchange of TRACED
 
@@ -70,6 +102,22 @@ same_page c (Some step) before = refl
 same_place : (c : Claiming) (o : Option Step) (before : List ℕ) → (after_step claim_machine c o before).in_place ≡ c.in_place
 same_place c None before = refl
 same_place c (Some step) before = refl
+
+-- ---- the walk's step is the round's too
+
+walk_tells : (d : Round) (traced : ℕ) (v : Walking) (o : Option Step) (before : List ℕ) (result : RoundEnd)
+    → told (after_step duty_machine (at_stage d (Walks traced v)) o before) ≡ Finished result
+    → told_at (Duty.walk_went traced (after_step walk_machine v o before) (walk_replies.told (after_step walk_machine v o before).stage)) ≡ Finished result
+walk_tells d traced v None before result e = cc
+walk_tells d traced v (Some step) before result e = e
+
+-- the walk tells a word of the turn, and so does the round
+walk_nothing : (d : Round) (traced : ℕ) (v : Walking) (before : List ℕ) (result : RoundEnd)
+    → told (after_next_step duty_machine (at_stage d (Walks traced v)) before) ≡ Finished result
+    → (word : ℕ) × (walk_replies.told (after_next_step walk_machine v before).stage ≡ Finished (Another word)) × (result ≡ NothingNow word)
+walk_nothing d traced v before result tells =
+    let next : Walking = after_next_step walk_machine v before in
+    walk_ends traced next (walk_replies.told next.stage) result (walk_tells d traced v (walk.wanted v) before result tells)
 
 -- ---- nothing to do now
 
@@ -145,11 +193,13 @@ nothing d (EndAreaAgain look filling) before after word sound acts =
     let loaded : ℕ = word_of_row d (Area (to_space d.epoch)) before in
     let ends = area_again_ends (at_stage d (EndAreaAgain look filling)) look filling loaded (NothingNow word) (decode_area loaded) acts.tells in
     (again_shows (at_stage d (EndAreaAgain look filling)) look filling before word ends, acts.makes)
+nothing d (Walks traced v) before after word sound acts =
+    let ends = walk_nothing d traced v before (NothingNow word) acts.tells in
+    let same = told_word word ends.0 ends.2 in
+    others_show_it v before after word (record { has_step = acts.has_step; makes = acts.makes; tells = ends.1 ∙ ap (λ w. Finished (Another w)) (sym same) })
 nothing d (Traces traced) before after word sound acts =
-    let place : ℕ = place_of d.layout.pages Traced in
-    let lost = trace_loses d traced (reply_of (Exchange place traced (d.epoch + 1)) before) word acts.tells in
-    let another = lost_tells_another place traced (d.epoch + 1) word before lost in
-    (another, acts.makes ∙ words_after-lost place traced (d.epoch + 1) word before lost)
+    let lost = trace_loses d traced (reply_of (Exchange (place_of d.layout.pages Traced) traced (d.epoch + 1)) before) word acts.tells in
+    lost_on d.layout.pages Traced traced (d.epoch + 1) word before after acts.makes lost
 nothing d (Ended result) before after word sound acts = absurd (no_step acts.has_step)
 
 -- ---- the other results come at the gate, at a claim, and where TRACED is loaded or exchanged
@@ -236,6 +286,7 @@ elsewhere d (EndAreaAgain look filling) before after result acts =
     let loaded : ℕ = word_of_row d (Area (to_space d.epoch)) before in
     again_told (at_stage d (EndAreaAgain look filling)) look filling loaded result (decode_area loaded)
     (area_again_ends (at_stage d (EndAreaAgain look filling)) look filling loaded result (decode_area loaded) acts.tells)
+elsewhere d (Walks traced v) before after result acts = let ends = walk_nothing d traced v before result acts.tells in (ends.0, ends.2)
 elsewhere d (Traces traced) before after result acts = tt
 elsewhere d (Ended result') before after result acts = absurd (no_step acts.has_step)
 
@@ -269,6 +320,7 @@ last_alone (EndArea traced) result other is = other.not_nothing is.0 is.1
 last_alone (EndPage look page) result other is = other.not_nothing is.0 is.1
 last_alone (EndFilling look) result other is = other.not_nothing is.0 is.1
 last_alone (EndAreaAgain look filling) result other is = other.not_nothing is.0 is.1
+last_alone (Walks traced v) result other is = other.not_nothing is.0 is.1
 last_alone (Ended result') result other is = other.not_nothing is.0 is.1
 
 marked_other : IsOther Marked
@@ -281,24 +333,18 @@ claimed_other false page = record { not_nothing = λ word e. cc; not_traced = λ
 -- ---- marked
 
 marks_by : (d : Round) (stage : DutyStage) (before after : List ℕ) → IsLast stage → IsSoundRound (at_stage d stage) → HoldsTable d.layout.pages before
-    → MakesStep duty_machine (at_stage d stage) before after (Finished Marked) → MarksEpoch d before after
+    → MakesStep duty_machine (at_stage d stage) before after (Finished Marked) → MarksEpoch (at_stage d stage) before after
 marks_by d (Claims c) before after last sound whole acts =
     let tells = claim_tells d c (claim.wanted c) before Marked acts.tells in
     absurd ((claim_never (after_next_step claim_machine c before) (claim.told (after_next_step claim_machine c before)) Marked tells).0 refl)
 marks_by d (Traces traced) before after last sound whole acts =
-    let place : ℕ = place_of d.layout.pages Traced in
-    let won = trace_wins d traced (reply_of (Exchange place traced (d.epoch + 1)) before) acts.tells in
-    let was = (won_exactly place traced (d.epoch + 1) before).0 won in
-    let inside = place_of-lt d.layout.pages Traced tt in
-    record {
-      was = λ same. sound.stage (sym was ∙ same);
-      is = ap (λ ws. slice_index ws place) acts.makes ∙ slice_index-won place traced (d.epoch + 1) before (omega (arith, inside, whole)) won;
-      others = λ other apart. ap (λ ws. slice_index ws other) acts.makes ∙ slice_index-words_after (Exchange place traced (d.epoch + 1)) before other apart;
-    }
+    let won = trace_wins d traced (reply_of (Exchange (place_of d.layout.pages Traced) traced (d.epoch + 1)) before) acts.tells in
+    let it = won_on d.layout.pages Traced traced (d.epoch + 1) before after tt whole acts.makes won in
+    record { traced = traced; exchanges = refl; was = λ same. sound.stage.1 (sym it.was ∙ same); is = it.is; others = it.others }
 marks_by d _ before after last sound whole acts = elim last [ ]
 
 pub marks : (d : Round) (stage : DutyStage) (before after : List ℕ) → IsSoundRound (at_stage d stage) → HoldsTable d.layout.pages before
-    → MakesStep duty_machine (at_stage d stage) before after (Finished Marked) → MarksEpoch d before after
+    → MakesStep duty_machine (at_stage d stage) before after (Finished Marked) → MarksEpoch (at_stage d stage) before after
 marks d stage before after sound whole acts =
     marks_by d stage before after (last_alone stage Marked marked_other (elsewhere d stage before after Marked acts)) sound whole acts
 
@@ -368,6 +414,7 @@ sees_traced d (EndArea traced) before after acts = absurd (no_traced (elsewhere 
 sees_traced d (EndPage look page) before after acts = absurd (no_traced (elsewhere d (EndPage look page) before after round_end.Traced acts))
 sees_traced d (EndFilling look) before after acts = absurd (no_traced (elsewhere d (EndFilling look) before after round_end.Traced acts))
 sees_traced d (EndAreaAgain look filling) before after acts = absurd (no_traced (elsewhere d (EndAreaAgain look filling) before after round_end.Traced acts))
+sees_traced d (Walks traced v) before after acts = absurd (no_traced (elsewhere d (Walks traced v) before after round_end.Traced acts))
 sees_traced d (Ended result) before after acts = absurd (no_step acts.has_step)
 
 -- ---- all have left
@@ -410,4 +457,5 @@ sees_left d (EndArea traced) before after word acts = absurd (no_left word (else
 sees_left d (EndPage look page) before after word acts = absurd (no_left word (elsewhere d (EndPage look page) before after (AllLeft word) acts))
 sees_left d (EndFilling look) before after word acts = absurd (no_left word (elsewhere d (EndFilling look) before after (AllLeft word) acts))
 sees_left d (EndAreaAgain look filling) before after word acts = absurd (no_left word (elsewhere d (EndAreaAgain look filling) before after (AllLeft word) acts))
+sees_left d (Walks traced v) before after word acts = absurd (no_left word (elsewhere d (Walks traced v) before after (AllLeft word) acts))
 sees_left d (Ended result) before after word acts = absurd (no_step acts.has_step)

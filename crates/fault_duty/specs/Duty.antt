@@ -20,6 +20,12 @@ use Rattle.page_slots.specs.declared.claimed.Claimed.{Claimed}
 use Rattle.page_slots.specs.declared.claimed.Claimed.TheVariants as claimed
 use Rattle.page_slots.specs.Claim.{Claiming}
 use Rattle.page_slots.specs.Claim as claim
+use Rattle.cell_walk.specs.declared.walk_end.WalkEnd.{WalkEnd}
+use Rattle.cell_walk.specs.declared.walk_end.WalkEnd.TheVariants.{Passed, Another}
+use Rattle.cell_walk.specs.Left as walk_steps
+use Rattle.cell_walk.specs.Taken as walk_replies
+use Rattle.cell_walk.specs.Walking.{Walking}
+use Rattle.cell_walk.specs.Walking as walk
 use Rattle.fault_duty.specs.declared.caller.Caller.{Caller}
 use Rattle.fault_duty.specs.declared.caller.Caller.TheVariants.{Faulted, Allocates, Scans}
 use Rattle.fault_duty.specs.declared.findings.Findings.{Findings}
@@ -32,7 +38,7 @@ use Rattle.fault_duty.specs.declared.round_end.RoundEnd.{RoundEnd}
 use Rattle.fault_duty.specs.declared.round_end.RoundEnd.TheVariants as round_end
 use Rattle.fault_duty.specs.declared.round_end.RoundEnd.TheVariants.{ScanPage, ScanInPlace, Marked, AllLeft, NothingNow}
 use Rattle.fault_duty.specs.declared.duty_stage.DutyStage.{DutyStage}
-use Rattle.fault_duty.specs.declared.duty_stage.DutyStage.TheVariants.{LoadsGate, LoadsTraced, LoadsWanted, LoadsFrontFor, LoadsFront, LoadsPage, Claims, EndGate, EndArea, EndPage, EndFilling, EndAreaAgain, Traces, Ended}
+use Rattle.fault_duty.specs.declared.duty_stage.DutyStage.TheVariants.{LoadsGate, LoadsTraced, LoadsWanted, LoadsFrontFor, LoadsFront, LoadsPage, Claims, EndGate, EndArea, EndPage, EndFilling, EndAreaAgain, Walks, Traces, Ended}
 
 -- a round by a worker in an epoch, for this caller; a scanner's epoch is the gate's, once that is read
 pub record Round : Type 0 where
@@ -97,12 +103,14 @@ wants_at d (EndArea traced) = Some (Load (Area (to_space d.epoch)))
 wants_at d (EndPage look page) = Some (Load (Page page))
 wants_at d (EndFilling look) = Some (Load (Page (page_of look.front)))
 wants_at d (EndAreaAgain look filling) = Some (Load (Area (to_space d.epoch)))
+wants_at d (Walks traced v) = walk.wants_at v.epoch v.stage
 wants_at d (Traces traced) = Some (Exchange Traced traced (d.epoch + 1))
 wants_at d (Ended result) = None
 
--- a claim has a layout of its own
+-- a claim and a walk have a layout of their own
 abbrev pub wanted_at : Round → DutyStage → Option Step
 wanted_at d (Claims c) = claim.wanted c
+wanted_at d (Walks traced v) = walk.wanted v
 wanted_at d stage = option_map (step_at (place_of d.layout.pages)) (wants_at d stage)
 
 abbrev pub wanted : Round → Option Step
@@ -244,9 +252,9 @@ abbrev pub looked_at_filling : Round → EndLook → (word : ℕ) → Option Pag
 looked_at_filling d look word (Some says) = filling_by look word says (state_of says d.epoch)
 looked_at_filling d look word None = EndFilling look
 
--- FRONT still stands: all is open, or the filling page is to be claimed
+-- FRONT still stands: all is open, and the walk over the chain of cells begins, or the filling page is to be claimed
 abbrev pub ends_by : Round → EndLook → PageWord → PageState → DutyStage
-ends_by d look filling Opened = Traces look.traced
+ends_by d look filling Opened = Walks look.traced (walk.begun d.layout d.epoch)
 ends_by d look filling Waits = claim_by_state d (page_of look.front) filling true Waits
 ends_by d look filling Past = claim_by_state d (page_of look.front) filling true Past
 ends_by d look filling Scanned = claim_by_state d (page_of look.front) filling true Scanned
@@ -255,6 +263,12 @@ abbrev pub ended_area_again : Round → EndLook → PageWord → (word : ℕ) �
 ended_area_again d look filling word (Some area) =
     if front_of d area == look.front then ends_by d look filling (state_of filling d.epoch) else Ended (NothingNow word)
 ended_area_again d look filling word None = EndAreaAgain look filling
+
+-- what the walk comes to: once it has passed all cells, TRACED is to be exchanged; another worker's turn ends the round
+abbrev pub walk_went : (traced : ℕ) → Walking → Turn WalkEnd → DutyStage
+walk_went traced v More = Walks traced v
+walk_went traced v (Finished Passed) = Traces traced
+walk_went traced v (Finished (Another word)) = Ended (NothingNow word)
 
 abbrev pub taken_at : Round → DutyStage → Reply → Round
 taken_at d LoadsGate (Value word) = looked_at_gate d word (decode_gate word)
@@ -269,6 +283,7 @@ taken_at d (EndArea traced) (Value word) = at_stage d (ended_area d traced (deco
 taken_at d (EndPage look page) (Value word) = at_stage d (ended_page d look page word)
 taken_at d (EndFilling look) (Value word) = at_stage d (looked_at_filling d look word (decode_page word))
 taken_at d (EndAreaAgain look filling) (Value word) = at_stage d (ended_area_again d look filling word (decode_area word))
+taken_at d (Walks traced v) answer = at_stage d (walk_went traced (walk_replies.taken v answer) (walk_replies.told (walk_replies.taken v answer).stage))
 taken_at d (Traces traced) Won = at_stage d (Ended Marked)
 taken_at d (Traces traced) (Lost word) = at_stage d (Ended (NothingNow word))
 taken_at d stage answer = d
@@ -295,19 +310,24 @@ duty_machine = record { wanted = wanted; taken = taken; told = told }
 abbrev pub pages_left : Round → (page : ℕ) → ℕ
 pages_left d page = if page == board_page d.layout.pages then d.layout.pages + 1 else to_page d + d.layout.pages - page
 
+-- a walk that has done nothing yet has so many
+abbrev pub walk_left : Round → ℕ
+walk_left d = walk_steps.left (walk.begun d.layout d.epoch)
+
 abbrev pub left_at : Round → DutyStage → ℕ
-left_at d LoadsGate = 2 * d.layout.pages + 32
-left_at d (LoadsTraced hindrance) = 2 * d.layout.pages + 31
-left_at d (LoadsWanted seen page) = 2 * d.layout.pages + 30
-left_at d (LoadsFrontFor seen wanted) = 2 * d.layout.pages + 29
-left_at d (LoadsFront seen) = 2 * d.layout.pages + 28
-left_at d (LoadsPage choice page) = pages_left d page + d.layout.pages + 26
+left_at d LoadsGate = 2 * d.layout.pages + 32 + walk_left d
+left_at d (LoadsTraced hindrance) = 2 * d.layout.pages + 31 + walk_left d
+left_at d (LoadsWanted seen page) = 2 * d.layout.pages + 30 + walk_left d
+left_at d (LoadsFrontFor seen wanted) = 2 * d.layout.pages + 29 + walk_left d
+left_at d (LoadsFront seen) = 2 * d.layout.pages + 28 + walk_left d
+left_at d (LoadsPage choice page) = pages_left d page + d.layout.pages + 26 + walk_left d
 left_at d (Claims c) = claim.left c
-left_at d (EndGate traced) = d.layout.pages + 6
-left_at d (EndArea traced) = d.layout.pages + 5
-left_at d (EndPage look page) = pages_left d page + 3
-left_at d (EndFilling look) = 3
-left_at d (EndAreaAgain look filling) = 2
+left_at d (EndGate traced) = d.layout.pages + 6 + walk_left d
+left_at d (EndArea traced) = d.layout.pages + 5 + walk_left d
+left_at d (EndPage look page) = pages_left d page + 3 + walk_left d
+left_at d (EndFilling look) = 3 + walk_left d
+left_at d (EndAreaAgain look filling) = 2 + walk_left d
+left_at d (Walks traced v) = walk_steps.left v + 1
 left_at d (Traces traced) = 1
 left_at d (Ended result) = 0
 
@@ -328,6 +348,7 @@ advances_at (EndArea traced) (Value word) = is_some (decode_area word)
 advances_at (EndPage look page) (Value word) = true
 advances_at (EndFilling look) (Value word) = is_some (decode_page word)
 advances_at (EndAreaAgain look filling) (Value word) = is_some (decode_area word)
+advances_at (Walks traced v) answer = walk_steps.advances v.stage answer
 advances_at (Traces traced) Won = true
 advances_at (Traces traced) (Lost word) = true
 advances_at stage answer = false

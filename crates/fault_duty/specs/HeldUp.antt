@@ -1,4 +1,4 @@
--- What alone holds a round of the duty up: a word that can't be there. A lost exchange ends it.
+-- What alone holds a round of the duty up: a word that can't be there. Nothing holds its walk up, and a lost exchange ends it.
 use Rattle.std.specs.Prelude.{◌≡◌, ℕ, false, List, Some, None}
 use Rattle.atom_store.specs.declared.reply.Reply.{Reply}
 use Rattle.atom_store.specs.declared.reply.Reply.TheVariants.{Value}

@@ -1,10 +1,10 @@
 -- Worked rows of the duty, in a heap of 4 pages a space whose mutator has one record, copied to the first words of space 1: each
 -- step with its reply, words as numbers.
-use Rattle.std.specs.Prelude.{◌++◌, List, [], ◌∷◌}
+use Rattle.std.specs.Prelude.{◌+◌, ◌++◌, List, [], ◌∷◌}
 use Rattle.atom_store.specs.declared.step.Step.{Step}
-use Rattle.atom_store.specs.declared.step.Step.TheVariants.{Load, Exchange}
+use Rattle.atom_store.specs.declared.step.Step.TheVariants.{Load, Store, Exchange}
 use Rattle.atom_store.specs.declared.reply.Reply.{Reply}
-use Rattle.atom_store.specs.declared.reply.Reply.TheVariants.{Value, Won, Lost}
+use Rattle.atom_store.specs.declared.reply.Reply.TheVariants.{Value, Done, Won, Lost}
 use Rattle.atom_store.specs.Machine.{RunsTo}
 use Rattle.space_map.specs.Worked.{four_pages}
 use Rattle.fault_duty.specs.declared.caller.Caller.{Caller}
@@ -32,10 +32,15 @@ abbrev pub FillingPageIsClaimed : Type 0
 FillingPageIsClaimed =
     ScannerComesTo ((Load 0, Value 0x0000_0001_0000_0001) ∷ (Load 2, Value 1) ∷ (Load 5, Value 0x0000_03d0_0400_0003) ∷ (Load 24, Value 65537) ∷ (Load 0, Value 0x0000_0001_0000_0001) ∷ (Load 5, Value 0x0000_03d0_0400_0003) ∷ (Load 24, Value 65537) ∷ (Load 20, Value 0) ∷ (Load 5, Value 0x0000_03d0_0400_0003) ∷ (Exchange 20 0 65542, Won) ∷ []) (ScanInPlace 4)
 
--- once that is open too, the next marks the epoch traced
+-- once that is open too, the next takes the turn, finds that no cell was copied, and marks the epoch traced
 abbrev pub EpochIsMarked : Type 0
 EpochIsMarked =
-    ScannerComesTo ((Load 0, Value 0x0000_0001_0000_0001) ∷ (Load 2, Value 1) ∷ (Load 5, Value 0x0000_03d0_0400_0003) ∷ (Load 24, Value 65537) ∷ (Load 0, Value 0x0000_0001_0000_0001) ∷ (Load 5, Value 0x0000_03d0_0400_0003) ∷ (Load 24, Value 65537) ∷ (Load 20, Value 65537) ∷ (Load 5, Value 0x0000_03d0_0400_0003) ∷ (Exchange 2 1 2, Won) ∷ []) Marked
+    ScannerComesTo ((Load 0, Value 0x0000_0001_0000_0001) ∷ (Load 2, Value 1) ∷ (Load 5, Value 0x0000_03d0_0400_0003) ∷ (Load 24, Value 65537) ∷ (Load 0, Value 0x0000_0001_0000_0001) ∷ (Load 5, Value 0x0000_03d0_0400_0003) ∷ (Load 24, Value 65537) ∷ (Load 20, Value 65537) ∷ (Load 5, Value 0x0000_03d0_0400_0003) ∷ (Load 7, Value 1) ∷ (Exchange 7 1 2, Won) ∷ (Load 6, Value 0) ∷ (Exchange 2 1 2, Won) ∷ []) Marked
+
+-- where a cell was copied behind the record, to 258, whose target leads to 198, where a header stands, it is emptied before
+abbrev pub CellIsEmptied : Type 0
+CellIsEmptied =
+    ScannerComesTo ((Load 0, Value 0x0000_0001_0000_0001) ∷ (Load 2, Value 1) ∷ (Load 5, Value 0x0000_03b0_0400_0005) ∷ (Load 24, Value 65537) ∷ (Load 0, Value 0x0000_0001_0000_0001) ∷ (Load 5, Value 0x0000_03b0_0400_0005) ∷ (Load 24, Value 65537) ∷ (Load 20, Value 65537) ∷ (Load 5, Value 0x0000_03b0_0400_0005) ∷ (Load 7, Value 1) ∷ (Exchange 7 1 2, Won) ∷ (Load 6, Value 0x103) ∷ (Load (33 + 259), Value 0x319) ∷ (Load (33 + 198), Value 0x0000_0000_0004_0012) ∷ (Store (33 + 259) 0, Done) ∷ (Load (33 + 260), Value 0) ∷ (Exchange 2 1 2, Won) ∷ []) Marked
 
 -- after that a round finds it traced
 abbrev pub TracedEpochIsFound : Type 0
@@ -47,10 +52,21 @@ abbrev pub ScannerEndsWithMutators : Type 0
 ScannerEndsWithMutators =
     ScannerComesTo ((Load 0, Value 0x0200_0000_0000_0001) ∷ []) (AllLeft 0x0200_0000_0000_0001)
 
--- another worker may mark it first
+-- another worker may have the turn, or have had it in a later epoch
+abbrev pub TurnIsAnothers : Type 0
+TurnIsAnothers =
+    (ScannerComesTo ((Load 0, Value 0x0000_0001_0000_0001) ∷ (Load 2, Value 1) ∷ (Load 5, Value 0x0000_03d0_0400_0003) ∷ (Load 24, Value 65537) ∷ (Load 0, Value 0x0000_0001_0000_0001) ∷ (Load 5, Value 0x0000_03d0_0400_0003) ∷ (Load 24, Value 65537) ∷ (Load 20, Value 65537) ∷ (Load 5, Value 0x0000_03d0_0400_0003) ∷ (Load 7, Value 2) ∷ []) (NothingNow 2))
+    × (ScannerComesTo ((Load 0, Value 0x0000_0001_0000_0001) ∷ (Load 2, Value 1) ∷ (Load 5, Value 0x0000_03d0_0400_0003) ∷ (Load 24, Value 65537) ∷ (Load 0, Value 0x0000_0001_0000_0001) ∷ (Load 5, Value 0x0000_03d0_0400_0003) ∷ (Load 24, Value 65537) ∷ (Load 20, Value 65537) ∷ (Load 5, Value 0x0000_03d0_0400_0003) ∷ (Load 7, Value 3) ∷ []) (NothingNow 3))
+
+-- or take it first
+abbrev pub LostTurnEnds : Type 0
+LostTurnEnds =
+    ScannerComesTo ((Load 0, Value 0x0000_0001_0000_0001) ∷ (Load 2, Value 1) ∷ (Load 5, Value 0x0000_03d0_0400_0003) ∷ (Load 24, Value 65537) ∷ (Load 0, Value 0x0000_0001_0000_0001) ∷ (Load 5, Value 0x0000_03d0_0400_0003) ∷ (Load 24, Value 65537) ∷ (Load 20, Value 65537) ∷ (Load 5, Value 0x0000_03d0_0400_0003) ∷ (Load 7, Value 1) ∷ (Exchange 7 1 2, Lost 2) ∷ []) (NothingNow 2)
+
+-- or have changed TRACED by then
 abbrev pub LostMarkEnds : Type 0
 LostMarkEnds =
-    ScannerComesTo ((Load 0, Value 0x0000_0001_0000_0001) ∷ (Load 2, Value 1) ∷ (Load 5, Value 0x0000_03d0_0400_0003) ∷ (Load 24, Value 65537) ∷ (Load 0, Value 0x0000_0001_0000_0001) ∷ (Load 5, Value 0x0000_03d0_0400_0003) ∷ (Load 24, Value 65537) ∷ (Load 20, Value 65537) ∷ (Load 5, Value 0x0000_03d0_0400_0003) ∷ (Exchange 2 1 2, Lost 2) ∷ []) (NothingNow 2)
+    ScannerComesTo ((Load 0, Value 0x0000_0001_0000_0001) ∷ (Load 2, Value 1) ∷ (Load 5, Value 0x0000_03d0_0400_0003) ∷ (Load 24, Value 65537) ∷ (Load 0, Value 0x0000_0001_0000_0001) ∷ (Load 5, Value 0x0000_03d0_0400_0003) ∷ (Load 24, Value 65537) ∷ (Load 20, Value 65537) ∷ (Load 5, Value 0x0000_03d0_0400_0003) ∷ (Load 7, Value 1) ∷ (Exchange 7 1 2, Won) ∷ (Load 6, Value 0) ∷ (Exchange 2 1 2, Lost 2) ∷ []) (NothingNow 2)
 
 -- or claim the board
 abbrev pub LostBoardEnds : Type 0
@@ -100,7 +116,7 @@ FillingPageIsNotWanted =
 -- where FRONT is a page's first word there is no filling page
 abbrev pub NoFillingPage : Type 0
 NoFillingPage =
-    MutatorComesTo Allocates ((Load 0, Value 0x0000_0101_0000_0001) ∷ (Load 2, Value 1) ∷ (Load 5, Value 0x0000_00a0_0300_0080) ∷ (Load 24, Value 65537) ∷ (Load 20, Value 65537) ∷ (Load 21, Value 65537) ∷ (Load 0, Value 0x0000_0101_0000_0001) ∷ (Load 5, Value 0x0000_00a0_0300_0080) ∷ (Load 24, Value 65537) ∷ (Load 20, Value 65537) ∷ (Load 21, Value 65537) ∷ (Load 5, Value 0x0000_00a0_0300_0080) ∷ (Exchange 2 1 2, Won) ∷ []) Marked
+    MutatorComesTo Allocates ((Load 0, Value 0x0000_0101_0000_0001) ∷ (Load 2, Value 1) ∷ (Load 5, Value 0x0000_00a0_0300_0080) ∷ (Load 24, Value 65537) ∷ (Load 20, Value 65537) ∷ (Load 21, Value 65537) ∷ (Load 0, Value 0x0000_0101_0000_0001) ∷ (Load 5, Value 0x0000_00a0_0300_0080) ∷ (Load 24, Value 65537) ∷ (Load 20, Value 65537) ∷ (Load 21, Value 65537) ∷ (Load 5, Value 0x0000_00a0_0300_0080) ∷ (Load 7, Value 1) ∷ (Exchange 7 1 2, Won) ∷ (Load 6, Value 0) ∷ (Exchange 2 1 2, Won) ∷ []) Marked
 
 -- a wanted page of a later epoch, which no mutator comes upon, would end the round where the claim would begin
 abbrev pub LaterWantedPageEnds : Type 0

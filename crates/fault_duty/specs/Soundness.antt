@@ -1,5 +1,6 @@
 -- What a round keeps of itself: the rows that it wants are in the table, FRONT as it was read is in the space or at its end, the
--- pages that it looks at are full, and what it holds as forbidding to end the tracing forbids it.
+-- pages that it looks at are full, what it holds as forbidding to end the tracing forbids it, and by TRACED, as it read it, its
+-- epoch is untraced. A claim or a walk that it makes is its own, and sound.
 use Rattle.std.specs.Prelude.{◌≡◌, ◌≢◌, ℕ, ◌+◌, ◌*◌, ◌%◌, ◌^◌, ◌<◌, ◌≤◌, ⊤, Option, Some, None}
 use Rattle.space_map.specs.declared.gate_word.GateWord.{GateWord}
 use Rattle.space_map.specs.declared.page_word.PageWord.TheVariants.{Scanning}
@@ -9,11 +10,13 @@ use Rattle.space_map.specs.PageWord.{PageFits, decode_page}
 use Rattle.space_map.specs.Spaces.{IsPageCount, board_page, first_word}
 use Rattle.page_slots.specs.Claim.{Claiming}
 use Rattle.page_slots.specs.Soundness.{IsClaimGoing, IsSoundClaim}
+use Rattle.cell_walk.specs.Soundness.{IsSound}
+use Rattle.cell_walk.specs.Walking.{Walking, IsGoing}
 use Rattle.fault_duty.specs.declared.caller.Caller.{Caller}
 use Rattle.fault_duty.specs.declared.caller.Caller.TheVariants.{Faulted, Allocates, Scans}
 use Rattle.fault_duty.specs.declared.findings.Findings.{Findings}
 use Rattle.fault_duty.specs.declared.duty_stage.DutyStage.{DutyStage}
-use Rattle.fault_duty.specs.declared.duty_stage.DutyStage.TheVariants.{LoadsGate, LoadsTraced, LoadsWanted, LoadsFrontFor, LoadsFront, LoadsPage, Claims, EndGate, EndArea, EndPage, EndFilling, EndAreaAgain, Traces, Ended}
+use Rattle.fault_duty.specs.declared.duty_stage.DutyStage.TheVariants.{LoadsGate, LoadsTraced, LoadsWanted, LoadsFrontFor, LoadsFront, LoadsPage, Claims, EndGate, EndArea, EndPage, EndFilling, EndAreaAgain, Walks, Traces, Ended}
 use Rattle.fault_duty.specs.declared.page_state.PageState.TheVariants.{Opened}
 use Rattle.fault_duty.specs.Duty.{Round, state_of, to_start, to_page}
 
@@ -52,9 +55,20 @@ pub record IsOwnClaim (d : Round) (c : Claiming) : Type 0 where
   pub going : IsClaimGoing c.stage
   pub sound : IsSoundClaim c
 
--- what a round has found: TRACED isn't that of its epoch, and what is held as forbidding to end the tracing forbids it
+-- the walk is this round's
+pub record IsOwnWalk (d : Round) (v : Walking) : Type 0 where
+  pub layout : v.layout ≡ d.layout
+  pub epoch : v.epoch ≡ d.epoch
+  pub going : IsGoing v.stage
+  pub sound : IsSound v
+
+-- this word of TRACED is of no epoch before this one, and doesn't say that this one is traced
+abbrev pub IsUntraced : (epoch traced : ℕ) → Type 0
+IsUntraced epoch traced = (epoch ≤ traced) × (traced ≢ epoch + 1)
+
+-- what a round has found: its epoch is untraced by TRACED, and what is held as forbidding to end the tracing forbids it
 pub record FitsFindings (epoch : ℕ) (found : Findings) : Type 0 where
-  pub untraced : found.traced ≢ epoch + 1
+  pub untraced : IsUntraced epoch found.traced
   pub hindrance : IsHindrance epoch found.hindrance
 
 abbrev pub FitsDutyStage : Round → DutyStage → Type 0
@@ -65,13 +79,14 @@ FitsDutyStage d (LoadsFrontFor seen w) = FitsFindings d.epoch seen × (d.caller 
 FitsDutyStage d (LoadsFront seen) = FitsFindings d.epoch seen
 FitsDutyStage d (LoadsPage choice page) = FitsFindings d.epoch choice.seen × IsChoice d choice.front page
 FitsDutyStage d (Claims c) = IsOwnClaim d c
-FitsDutyStage d (EndGate traced) = traced ≢ d.epoch + 1
-FitsDutyStage d (EndArea traced) = traced ≢ d.epoch + 1
-FitsDutyStage d (EndPage look page) = (look.traced ≢ d.epoch + 1) × IsChoice d look.front page
-FitsDutyStage d (EndFilling look) = (look.traced ≢ d.epoch + 1) × FitsFront d look.front × (look.front % 64 ≢ 0)
+FitsDutyStage d (EndGate traced) = IsUntraced d.epoch traced
+FitsDutyStage d (EndArea traced) = IsUntraced d.epoch traced
+FitsDutyStage d (EndPage look page) = IsUntraced d.epoch look.traced × IsChoice d look.front page
+FitsDutyStage d (EndFilling look) = IsUntraced d.epoch look.traced × FitsFront d look.front × (look.front % 64 ≢ 0)
 FitsDutyStage d (EndAreaAgain look filling) =
-    (look.traced ≢ d.epoch + 1) × FitsFront d look.front × PageFits filling × (look.front % 64 ≡ 0 → state_of filling d.epoch ≡ Opened)
-FitsDutyStage d (Traces traced) = traced ≢ d.epoch + 1
+    IsUntraced d.epoch look.traced × FitsFront d look.front × PageFits filling × (look.front % 64 ≡ 0 → state_of filling d.epoch ≡ Opened)
+FitsDutyStage d (Walks traced v) = IsUntraced d.epoch traced × IsOwnWalk d v
+FitsDutyStage d (Traces traced) = IsUntraced d.epoch traced
 FitsDutyStage d (Ended result) = ⊤
 
 pub record IsSoundRound (d : Round) : Type 0 where
@@ -85,6 +100,11 @@ pub record IsSoundRound (d : Round) : Type 0 where
 abbrev pub IsClaiming : DutyStage → Type 0
 IsClaiming (Claims c) = ⊤
 IsClaiming stage = ⊥
+
+-- the round makes the walk
+abbrev pub IsWalking : DutyStage → Type 0
+IsWalking (Walks traced v) = ⊤
+IsWalking stage = ⊥
 
 -- the round has a next step
 abbrev pub IsRoundGoing : DutyStage → Type 0

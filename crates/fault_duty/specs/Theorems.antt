@@ -1,5 +1,6 @@
 -- What is proved of a round of the duty, by the words on which it makes its steps.
-use Rattle.std.specs.Prelude.{◌≡◌, ◌≢◌, ℕ, ◌+◌, ◌<◌, ◌⊎◌, ◌≤◌, Bool, true, false, List, Option, Some}
+use Rattle.std.specs.Prelude.{◌≡◌, ◌≢◌, ℕ, ◌+◌, ◌*◌, ◌<◌, ◌⊎◌, ◌≤◌, ⊤, Bool, true, false, List, Option, Some}
+use Rattle.atom_store.specs.declared.reply.Reply.{Reply}
 use Rattle.atom_store.specs.declared.turn.Turn.TheVariants.{More, Finished}
 use Rattle.atom_store.specs.Acts.{MakesStep, after_next_step}
 use Rattle.space_map.specs.declared.area_word.AreaWord.{AreaWord}
@@ -10,10 +11,17 @@ use Rattle.space_map.specs.AreaWord.{decode_area}
 use Rattle.space_map.specs.GateWord.{decode_gate}
 use Rattle.space_map.specs.PageWord.{age_of, encode_page, decode_page}
 use Rattle.space_map.specs.Spaces.{to_space, page_of, board_page, first_word}
-use Rattle.space_map.specs.Table.{Row, Gate, Traced, Area, Page}
+use Rattle.space_map.specs.Table.{Row, Gate, Traced, Area, WeakTurn, Page}
 use Rattle.space_map.specs.TableWords.{row_word, HoldsTable, ChangesOnly}
 use Rattle.page_slots.specs.Claim.{Claiming, begun, claim_machine}
 use Rattle.page_slots.specs.Theorems.{WinsPage, ShowsTaken}
+use Rattle.cell_walk.specs.declared.linked_cell.LinkedCell.{LinkedCell}
+use Rattle.cell_walk.specs.declared.walk_end.WalkEnd.TheVariants.{Passed}
+use Rattle.cell_walk.specs.declared.walk_stage.WalkStage.TheVariants.{TakesTurn, LoadsTarget}
+use Rattle.cell_walk.specs.Taken as walk_replies
+use Rattle.cell_walk.specs.Taken.{walk_machine}
+use Rattle.cell_walk.specs.Theorems.{HasTurn, ShowsAnother}
+use Rattle.cell_walk.specs.Walking.{Walking}
 use Rattle.fault_duty.specs.declared.caller.Caller.TheVariants.{Scans}
 use Rattle.fault_duty.specs.declared.choice.Choice.{Choice}
 use Rattle.fault_duty.specs.declared.end_look.EndLook.{EndLook}
@@ -21,9 +29,9 @@ use Rattle.fault_duty.specs.declared.wanted_page.WantedPage.{WantedPage}
 use Rattle.fault_duty.specs.declared.round_end.RoundEnd.TheVariants as round_end
 use Rattle.fault_duty.specs.declared.round_end.RoundEnd.TheVariants.{ScanPage, ScanInPlace, Marked, AllLeft, NothingNow}
 use Rattle.fault_duty.specs.declared.duty_stage.DutyStage.{DutyStage}
-use Rattle.fault_duty.specs.declared.duty_stage.DutyStage.TheVariants.{LoadsGate, LoadsTraced, LoadsWanted, LoadsFrontFor, LoadsFront, LoadsPage, Claims, EndGate, EndArea, EndPage, EndFilling, EndAreaAgain, Traces, Ended}
-use Rattle.fault_duty.specs.Duty.{Round, at_stage, front_of, page_after, duty_machine}
-use Rattle.fault_duty.specs.Soundness.{Forbids, IsChoice, IsOwnClaim, IsSoundRound}
+use Rattle.fault_duty.specs.declared.duty_stage.DutyStage.TheVariants.{LoadsGate, LoadsTraced, LoadsWanted, LoadsFrontFor, LoadsFront, LoadsPage, Claims, EndGate, EndArea, EndPage, EndFilling, EndAreaAgain, Walks, Traces, Ended}
+use Rattle.fault_duty.specs.Duty.{Round, at_stage, front_of, page_after, duty_machine, taken_at}
+use Rattle.fault_duty.specs.Soundness.{Forbids, IsChoice, IsOwnClaim, IsOwnWalk, IsSoundRound}
 
 -- the word of a row of the round's table
 abbrev pub word_of_row : Round → Row → List ℕ → ℕ
@@ -89,6 +97,8 @@ ShowsNothing d (EndFilling look) words word =
     (word ≡ word_of_row d (Page (page_of look.front)) words) × ((worker : ℕ) × (decode_page word ≡ Some (page_word.Scanning d.epoch worker)))
 -- or the word of the filling page, as it was read, is of this epoch or a later one
 ShowsNothing d (EndAreaAgain look filling) words word = FrontMoved d look words word ⊎ ((word ≡ encode_page filling) × (d.epoch < age_of filling))
+-- another worker has the turn, or had it: WEAKTURN is of this epoch or a later one, or no longer what was read
+ShowsNothing d (Walks traced v) words word = ShowsAnother v words word
 ShowsNothing d (Traces traced) words word = (word ≡ word_of_row d Traced words) × (word ≢ traced)
 ShowsNothing d (Ended result) words word = ⊥
 
@@ -139,8 +149,11 @@ AllLeftIsTold = (d : Round) (mutators : ℕ) (gate : GateWord) (words : List ℕ
 
 -- ---- what is done
 
--- TRACED was another word, and says then that the round's epoch is traced; no other word changes
+-- the round has come to the exchange of TRACED, which was another word, and says then that the round's epoch is traced; no other
+-- word changes
 pub record MarksEpoch (d : Round) (before after : List ℕ) : Type 0 where
+  pub traced : ℕ
+  pub exchanges : d.stage ≡ Traces traced
   pub was : word_of_row d Traced before ≢ d.epoch + 1
   pub is : word_of_row d Traced after ≡ d.epoch + 1
   pub others : ChangesOnly d.layout.pages Traced before after
@@ -148,6 +161,41 @@ pub record MarksEpoch (d : Round) (before after : List ℕ) : Type 0 where
 abbrev pub MarkedEpochsAreTraced : Type 0
 MarkedEpochsAreTraced = (d : Round) (before after : List ℕ) → IsSoundRound d → HoldsTable d.layout.pages before
     → MakesStep duty_machine d before after (Finished Marked) → MarksEpoch d before after
+
+-- with this step the round's walk, which has the turn, has passed all cells
+pub record PassesCells (d : Round) (traced : ℕ) (before after : List ℕ) : Type 0 where
+  pub walk : Walking
+  pub walks : d.stage ≡ Walks traced walk
+  pub own : IsOwnWalk d walk
+  pub turn : HasTurn walk.stage
+  pub passes : MakesStep walk_machine walk before after (Finished Passed)
+
+-- the round has the turn: its walk goes over the chain of cells, or has passed it
+abbrev pub HasRoundTurn : DutyStage → Type 0
+HasRoundTurn (Walks traced v) = HasTurn v.stage
+HasRoundTurn (Traces traced) = ⊤
+HasRoundTurn stage = ⊥
+
+-- the round's walk exchanges WEAKTURN, from the number of an earlier epoch, as it was read, to that of its own; no other word
+-- changes
+pub record WinsTurn (d : Round) (before after : List ℕ) : Type 0 where
+  pub traced : ℕ
+  pub walk : Walking
+  pub walks : d.stage ≡ Walks traced walk
+  pub turn : ℕ
+  pub takes : walk.stage ≡ TakesTurn turn
+  pub earlier : turn < d.epoch + 1
+  pub was : word_of_row d WeakTurn before ≡ turn
+  pub is : word_of_row d WeakTurn after ≡ d.epoch + 1
+  pub others : ChangesOnly d.layout.pages WeakTurn before after
+
+-- a round comes to the exchange of TRACED only from a walk that has passed all cells, and has the turn only from such an exchange
+-- of WEAKTURN on
+pub record CellsArePassedBeforeTheMark : Type 0 where
+  pub passed : (d : Round) (before after : List ℕ) (traced : ℕ) → IsSoundRound d → MakesStep duty_machine d before after More
+      → (after_next_step duty_machine d before).stage ≡ Traces traced → PassesCells d traced before after
+  pub turn_won : (d : Round) (before after : List ℕ) → IsSoundRound d → HoldsTable d.layout.pages before → MakesStep duty_machine d before after More
+      → HasRoundTurn (after_next_step duty_machine d before).stage → HasRoundTurn d.stage ⊎ WinsTurn d before after
 
 -- the round's own claim of this page wins it
 pub record ClaimsPage (d : Round) (page : ℕ) (in_place : Bool) (before after : List ℕ) : Type 0 where
@@ -207,3 +255,11 @@ ClaimsFor d stage words c = ⊥
 abbrev pub ClaimsHaveCause : Type 0
 ClaimsHaveCause = (d : Round) (before after : List ℕ) (c : Claiming) → IsSoundRound d → MakesStep duty_machine d before after More
     → (after_next_step duty_machine d before).stage ≡ Claims c → ClaimsFor d d.stage before c
+
+-- ---- what a round knows of itself
+
+-- a round at its walk stays sound, where links lead to cells of the heap
+abbrev pub WalksStaySound : Type 0
+WalksStaySound = (d : Round) (traced : ℕ) (v : Walking) (reply : Reply) → IsSoundRound (at_stage d (Walks traced v))
+    → ((cell : LinkedCell) → (walk_replies.taken v reply).stage ≡ LoadsTarget cell → cell.at + 2 < 128 * d.layout.pages)
+    → IsSoundRound (taken_at (at_stage d (Walks traced v)) (Walks traced v) reply)

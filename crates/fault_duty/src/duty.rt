@@ -119,6 +119,7 @@ impl Duty {
             DutyStage::EndFilling(look) => Step::Load(spaces.page_place(spaces.page_of(
                 look.front,
             ))),
+            DutyStage::Walks(_, walk) => walk.want(),
             DutyStage::Traces(traced) => Step::Exchange(
                 spaces.traced_place(),
                 traced,
@@ -179,18 +180,21 @@ impl Duty {
             DutyStage::EndPage(look, page) => self.end_at_page(look, page, word),
             DutyStage::EndFilling(look) => self.end_at_filling(look, word),
             DutyStage::EndAreaAgain(look, filling) => self.end_at_area_again(look, filling, word),
+            DutyStage::Walks(..) => self.go_on_walking(Reply::Value(word)),
             DutyStage::Traces(_) | DutyStage::Ended(_) => {}
         }
     }
 
-    /// Takes what became of an exchange.
+    /// Takes what became of an exchange or a store.
     #[inline(always)]
     fn hear(&mut self, reply: Reply)
-        requires { (word : ℕ) → reply ≢ Reply.Value word }
+        requires other { (word : ℕ) → reply ≢ Reply.Value word }
+        requires allowed { IsSoundRound (taken self.old reply) }
         ensures { self.new ≡ taken self.old reply }
     {
         match self.stage {
             DutyStage::Claims(_) => self.go_on_claiming(reply),
+            DutyStage::Walks(..) => self.go_on_walking(reply),
             DutyStage::Traces(_) => match reply {
                 Reply::Won => self.end(RoundEnd::Marked),
                 Reply::Lost(word) => self.end(RoundEnd::NothingNow(word)),

@@ -3,6 +3,7 @@ use crate::end_look::EndLook;
 use crate::findings::Findings;
 use crate::round_end::RoundEnd;
 use crate::wanted_page::WantedPage;
+use cell_walk::Walk;
 use page_slots::Claim;
 use space_map::PageWord;
 
@@ -33,7 +34,9 @@ pub enum DutyStage {
     EndFilling(EndLook),
     /// Load the area once more: FRONT must still be there. The filling page's word says this, or there is none.
     EndAreaAgain(EndLook, PageWord),
-    /// Exchange TRACED from this word.
+    /// Make the next step of the walk over the chain of cells. This is the word of TRACED.
+    Walks(u64, Walk),
+    /// All cells are passed. Exchange TRACED from this word.
     Traces(u64),
     /// Nothing more: it has come to this.
     Ended(RoundEnd),

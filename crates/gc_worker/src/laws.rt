@@ -12,7 +12,7 @@ ghost use Rattle.gc_worker.specs.Laws.Claims.{TracedPagesAreOpen, FlipsAreOfTrac
 ghost use Rattle.gc_worker.specs.Laws.Copied.{CopiedWasLive, FullTellsLive};
 ghost use Rattle.gc_worker.specs.Laws.Cycles.{LowFallsByClaims, SizesStay, SizesAreWithin, SeenFlipsDouble, SizesHold, ClaimsAreSetAside, SetAsideIsForRecords, FlipsAreFirst, FlipsStayFirst, CallsGoOn};
 ghost use Rattle.gc_worker.specs.Laws.FullTold.{FullIsTold, SizesReadAreSo, FullIsToldInHeaps};
-ghost use Rattle.gc_worker.specs.Laws.PastEpochs.{PastClaimsAreLost, PastMarksAreLost, PagesAreWonNow};
+ghost use Rattle.gc_worker.specs.Laws.PastEpochs.{PastClaimsAreLost, PastTurnsAreLost, PastMarksAreLost, PagesAreWonNow};
 ghost use Rattle.gc_worker.specs.Workers.Counted.{CountedFit, CountsAreApart};
 ghost use Rattle.gc_worker.specs.Laws.Represented.{RepresentedWorkersStand};
 ghost use Rattle.gc_worker.specs.Laws.Stories.{EmptiedWorkersStand, StoriesKeep};
@@ -180,6 +180,7 @@ pub fn pages_are_opened_by_claims()
 /// that of TRACED. No word changes, and the round ends with nothing done. So a page is won in the gate's epoch alone.
 pub fn exchanges_of_past_epochs_are_lost()
     ensures pages { PastClaimsAreLost }
+    ensures turn { PastTurnsAreLost }
     ensures traced { PastMarksAreLost }
     ensures won { PagesAreWonNow }
 {}

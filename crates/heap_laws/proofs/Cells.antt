@@ -9,4 +9,4 @@ pub mod Placed
 pub mod Walked
 pub mod Turned
 pub mod Short
-pub mod Lifted
+pub mod Kept

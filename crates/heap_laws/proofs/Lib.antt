@@ -12,3 +12,4 @@ pub mod Gate
 pub mod Saving
 pub mod Cells
 pub mod Targets
+pub mod Walking

@@ -6,4 +6,3 @@ pub mod Placed
 pub mod Walked
 pub mod Traced
 pub mod Ended
-pub mod Lifted

@@ -2,3 +2,4 @@ pub mod Looks
 pub mod Traced
 pub mod Copied
 pub mod Live
+pub mod Turns

@@ -1,5 +1,5 @@
 -- What a load may answer, by what the worker is about; and that the row which is read is one of the table.
-use Rattle.std.specs.Prelude.{◌≡◌, ◌≢◌, ℕ, ◌+◌, ◌*◌, ◌<◌, ◌≤◌, ◌⊎◌, ⊤, true, false, Some, None, is_some, length}
+use Rattle.std.specs.Prelude.{◌≡◌, ◌≢◌, ℕ, ◌+◌, ◌-◌, ◌*◌, ◌<◌, ◌≤◌, ◌⊎◌, ⊤, true, false, Some, None, is_some, length}
 use Rattle.heap_words.specs.declared.kind.Kind.{Kind as HeaderKind}
 use Rattle.heap_words.specs.declared.kind.Kind.TheVariants as header_kinds
 use Rattle.heap_words.specs.Decoded.{Decoded, NumberWord, HeaderWord, BusyWord, ForwardWord, decode}
@@ -13,7 +13,7 @@ use Rattle.heap_state.specs.Configuration.{Configuration, Stands, table, era, me
 use Rattle.heap_state.specs.Memory.Era.{Era, Memory}
 use Rattle.heap_state.specs.Invariant.Ghost.{Ghost, Lands}
 use Rattle.heap_state.specs.Invariant.Parts.Knowledge.{Passes}
-use Rattle.heap_state.specs.Worker.{Team, Passage, Enter, Park, Request, RequestSnap, Clear, Forwarded, Resume, Leave, Quest, Copy, SeenHeader, Scan, SeenRecord}
+use Rattle.heap_state.specs.Worker.{Team, Passage, Enter, Park, Request, RequestSnap, Clear, Forwarded, Resume, Leave, Quest, Copy, SeenHeader, Scan, SeenRecord, Visit, Begins, At}
 use Rattle.heap_laws.specs.Gate.{gate_after}
 use Rattle.heap_laws.specs.Scanning.Words.{AtField, IsScanning}
 use Rattle.heap_laws.specs.Steps.{Ready, IsAreaNow}
@@ -73,6 +73,31 @@ pub record ScanAnswers (E : Era) (m : Memory) (g : Ghost) (s : Scan) : Type 0 wh
 
 abbrev pub ScansAreAnswered : Type 0
 ScansAreAnswered = (E : Era) (m : Memory) (team : Team) (g : Ghost) (k : ℕ) (s : Scan) → Ready E m team g k → IsScanning team k s → ScanAnswers E m g s
+
+-- ---- a walk over the chain of copied cells
+
+-- the word leads to a cell of the table, or is 0
+abbrev pub LeadsToCell : Era → (word more : ℕ) → Type 0
+LeadsToCell E word more = (word ≡ 0) ⊎ ((a : ℕ) × (word ≡ a + 1) × (a + 3 ≤ E.board) × (0 < more))
+
+-- the first word of an old record where nobody copies any more: its header, or a forward to the copy
+pub data SettledHeader (E : Era) (front : ℕ) : Decoded → Type 0 where
+  NotCopied : (kind : HeaderKind) (len serial mutator : ℕ) → SettledHeader E front (HeaderWord kind len serial mutator)
+  CopiedTo : (len to : ℕ) → (E.start ≤ to) × (to < front) → SettledHeader E front (ForwardWord len to)
+
+-- What the walk reads at a cell: the cell lies in the table with its three words; the old record to which its target leads does, too, and
+-- its first word says whether it is copied; the link leads to a cell, of which as many may come as are left, or is 0.
+pub record WalkAnswers (E : Era) (m : Memory) (v : Visit) : Type 0 where
+  pub cell : v.cell + 3 ≤ E.board
+  pub old : (b : ℕ) → v.past ≡ false → v.old ≡ Some b → (b < E.board) × SettledHeader E m.front (decode (m.heap b))
+  pub link : v.past ≡ true → LeadsToCell E (m.heap (v.cell + 2)) (v.more - 1)
+
+abbrev pub WalksAreAnswered : Type 0
+WalksAreAnswered = (E : Era) (m : Memory) (team : Team) (g : Ghost) (k : ℕ) (v : Visit) → Ready E m team g k → (team.worker k).pass ≡ Some (At v) → WalkAnswers E m v
+
+-- what it reads at its beginning: WEAK leads to a cell, or is 0
+abbrev pub ChainsAreAnswered : Type 0
+ChainsAreAnswered = (E : Era) (m : Memory) (team : Team) (g : Ghost) (k more : ℕ) → Ready E m team g k → (team.worker k).pass ≡ Some Begins → E.span < 3 * (more + 1) → LeadsToCell E m.weak more
 
 -- ---- the gate
 

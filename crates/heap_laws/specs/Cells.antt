@@ -2,4 +2,3 @@ pub mod Frames
 pub mod Links
 pub mod Flips
 pub mod Walks
-pub mod Lifting

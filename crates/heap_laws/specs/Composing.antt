@@ -79,6 +79,14 @@ LessAtGate w v = record {
   asks : (is_asking w.post ≡ true) ⊎ (is_some w.gate_step ≡ true) → w.traced_seen ≡ v.traced_seen;
 }
 
+-- Of the chain of copied cells it knows the same, and if it walks over the chain, it knows the same of its second look.
+abbrev pub SameAtChain : (w v : Worker) → Type 0
+SameAtChain w v = record {
+  linking : w.linking ≡ v.linking;
+  pass : w.pass ≡ v.pass;
+  walks : is_some v.pass ≡ true → w.last_look ≡ v.last_look;
+}
+
 -- worker w knows at most what v knows, and scans the same page as far, if it scans
 pub record IsAtMost (w v : Worker) : Type 0 where
   pub others : SameToOthers w v
@@ -87,13 +95,14 @@ pub record IsAtMost (w v : Worker) : Type 0 where
   pub round : (r : Round) → w.round ≡ Some r → IsLessRound r v.round
   pub pages : LessAtPages w v
   pub gate : LessAtGate w v
+  pub chain : SameAtChain w v
 
--- a worker whose round of the duty ends: it forgets the round, its claim and its looks
+-- a worker whose round of the duty ends, and that doesn't walk over the chain: it forgets the round, its claim and its looks
 abbrev pub ends_round : Worker → Worker
 ends_round w = record w { round = None; claim = None; look = None; last_look = None }
 
 abbrev pub RoundsAreForgotten : Type 0
-RoundsAreForgotten = (w : Worker) → IsAtMost (ends_round w) w
+RoundsAreForgotten = (w : Worker) → w.pass ≡ None → IsAtMost (ends_round w) w
 
 -- a worker whose the request isn't, and that doesn't pass the gate, forgets that the epoch is traced
 abbrev pub unaware : Worker → Worker

@@ -1,5 +1,5 @@
 -- Atomic steps that are several changes of what a worker knows.
-use Rattle.std.specs.Prelude.{◌≡◌, ℕ, ◌+◌, ◌<◌, ◌≤◌, ◌⊎◌, true, Option, Some, None, false}
+use Rattle.std.specs.Prelude.{◌≡◌, ℕ, ◌+◌, ◌<◌, ◌≤◌, ◌⊎◌, true, Option, Some, None}
 use Rattle.heap_words.specs.Decoded.{PointerWord, ForwardWord, decode}
 use Rattle.space_map.specs.declared.page_word.PageWord.{PageWord}
 use Rattle.space_map.specs.declared.page_word.PageWord.TheVariants.{Open}
@@ -22,7 +22,7 @@ use Rattle.space_map.specs.declared.spaces.TheConstants.{PAGE_WORDS}
 -- copy of the record that register j leads to.
 pub data AsksAt (registers : ℕ → ℕ) (j : ℕ) : Option Quest → Type 0 where
   AllDone : j ≡ 8 → AsksAt registers j None
-  AsksNext : (a : ℕ) → j < 8 → decode (registers j) ≡ PointerWord a → AsksAt registers j (Some (record { old = a; origin = Register j; found = None; links = false }))
+  AsksNext : (a : ℕ) → j < 8 → decode (registers j) ≡ PointerWord a → AsksAt registers j (Some (record { old = a; origin = Register j; found = None }))
 
 -- the registers from one up to another lead nowhere old
 abbrev pub LeadNowhere : Era → (registers : ℕ → ℕ) → (from to : ℕ) → Type 0
@@ -45,7 +45,7 @@ forwarded_to w v j q = record w { registers = put w.registers w.done v; done = j
 -- a register's copy is found where its old record's header was loaded: the register gets the pointer, and the next ones are passed
 abbrev pub RegistersFindForwards : Type 0
 RegistersFindForwards = (E : Era) (m : Memory) (team : Team) (g : Ghost) (k : ℕ) (q : Quest) (len b v j : ℕ) (next : Option Quest) → Ready E m team g k → is_late E.epoch (team.worker k) ≡ true
-    → (team.worker k).copy ≡ None → (team.worker k).quest ≡ Some q → q.origin ≡ Register (team.worker k).done → (team.worker k).done < 8
+    → (team.worker k).copy ≡ None → (team.worker k).linking ≡ None → (team.worker k).quest ≡ Some q → q.origin ≡ Register (team.worker k).done → (team.worker k).done < 8
     → decode (m.heap q.old) ≡ ForwardWord len b → decode v ≡ PointerWord b
     → (team.worker k).done < j → j ≤ 8 → LeadNowhere E (team.worker k).registers ((team.worker k).done + 1) j → AsksAt (team.worker k).registers j next
     → Steps E m team g k None (forwarded_to (team.worker k) v j next) g
@@ -53,7 +53,7 @@ RegistersFindForwards = (E : Era) (m : Memory) (team : Team) (g : Ghost) (k : �
 -- the announce of a copy that was made for a register is cleared, with the same
 abbrev pub RegistersAreSettled : Type 0
 RegistersAreSettled = (E : Era) (m : Memory) (team : Team) (g : Ghost) (k : ℕ) (q : Quest) (b v j : ℕ) (next : Option Quest) → Ready E m team g k
-    → (team.worker k).copy ≡ None → HasFoundCopy E team k q b → decode v ≡ PointerWord b
+    → (team.worker k).copy ≡ None → (team.worker k).linking ≡ None → HasFoundCopy E team k q b → decode v ≡ PointerWord b
     → (team.worker k).done < j → j ≤ 8 → LeadNowhere E (team.worker k).registers ((team.worker k).done + 1) j → AsksAt (team.worker k).registers j next
     → Steps E m team g k (Some (AnnounceIs k 0)) (forwarded_to (team.worker k) v j next) g
 
@@ -67,9 +67,9 @@ LookingAtLastPageKeeps = (E : Era) (m : Memory) (team : Team) (g : Ghost) (k : �
 
 -- a claim begins, and what the round has read is forgotten
 abbrev pub ClaimsBegin : Type 0
-ClaimsBegin = (E : Era) (m : Memory) (team : Team) (g : Ghost) (k p : ℕ) (old : PageWord) → Ready E m team g k → MayClaim E m team k p old
+ClaimsBegin = (E : Era) (m : Memory) (team : Team) (g : Ghost) (k p : ℕ) (old : PageWord) → Ready E m team g k → (team.worker k).pass ≡ None → MayClaim E m team k p old
     → Steps E m team g k None (claiming (ends_round (team.worker k)) (claim_by_word old p)) g
 
--- a round ends, whatever it was about to do
+-- a round ends, whatever it was about to do, but for a walk over the chain
 abbrev pub RoundsEnd : Type 0
-RoundsEnd = (E : Era) (m : Memory) (team : Team) (g : Ghost) (k : ℕ) → Ready E m team g k → Steps E m team g k None (ends_round (team.worker k)) g
+RoundsEnd = (E : Era) (m : Memory) (team : Team) (g : Ghost) (k : ℕ) → Ready E m team g k → (team.worker k).pass ≡ None → Steps E m team g k None (ends_round (team.worker k)) g

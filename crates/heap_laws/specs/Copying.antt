@@ -1,16 +1,15 @@
 -- Copying a record, step by step: the header is taken, a place announced and reserved, the words copied, the crossings stored,
 -- and the copy published by a forward.
-use Rattle.std.specs.Prelude.{◌≡◌, ℕ, ◌+◌, ◌-◌, ◌^◌, ◌<◌, ◌≤◌, ◌⊎◌, Bool, true, false, Some, None}
+use Rattle.std.specs.Prelude.{◌≡◌, ℕ, ◌+◌, ◌-◌, ◌^◌, ◌<◌, ◌≤◌, ◌⊎◌, true, false, Option, Some, None}
 use Rattle.heap_words.specs.declared.kind.Kind.{Kind}
 use Rattle.heap_words.specs.declared.kind.Kind.TheVariants as HeaderKind
 use Rattle.heap_words.specs.Decoded.{HeaderWord, BusyWord, ForwardWord, decode}
 use Rattle.space_map.specs.declared.area_word.AreaWord.{AreaWord}
 use Rattle.space_map.specs.Spaces.{to_space, page_of, first_word}
-use Rattle.heap_state.specs.Cells.{IsCopiedCell}
 use Rattle.heap_state.specs.Memory.Era.{Era, Memory}
 use Rattle.heap_state.specs.Functions.{put}
 use Rattle.heap_state.specs.Invariant.Ghost.{Ghost}
-use Rattle.heap_state.specs.Worker.{Worker, Team, Quest, Copy}
+use Rattle.heap_state.specs.Worker.{Worker, Team, Linking, Quest, Copy}
 use Rattle.heap_state.specs.Memory.Entries.{WordIs, AreaIs, WeakIs, CrossIs, AnnounceIs}
 use Rattle.heap_laws.specs.Steps.{Ready, Steps, IsAreaNow}
 
@@ -129,34 +128,45 @@ published g k a b = record g { writer = put g.writer b 0; keeper = put g.keeper 
 abbrev pub KeepsCell : Copy → Type 0
 KeepsCell c = (serial : ℕ) × (mutator : ℕ) × (decode c.header ≡ HeaderWord HeaderKind.Weak 2 serial mutator)
 
+-- what the copier has to link then: the copy, if it is a cell
+abbrev pub LinksCopy : Copy → Option Linking → Type 0
+LinksCopy c l = (KeepsCell c × (l ≡ Some (record { cell = c.to; read = None; stored = false }))) ⊎ (¬ (KeepsCell c) × (l ≡ None))
+
+-- the worker that has published a copy, and found with it what it was asked for
+abbrev pub has_published : Worker → Copy → Quest → Option Linking → Worker
+has_published w c q l = record w { copy = None; quest = Some (record q { found = Some c.to }); linking = l }
+
 -- Of a whole copy, with the crossings of all pages that begin in it, the forward is stored at the old place. The worker has
--- found the copy that it was asked for. It has it to link only if it is a cell.
+-- found the copy that it was asked for, and has it to link if it is a cell.
 abbrev pub CopiesArePublished : Type 0
-CopiesArePublished = (E : Era) (m : Memory) (team : Team) (g : Ghost) (k : ℕ) (c : Copy) (q : Quest) (v : ℕ) (links : Bool) → Ready E m team g k
+CopiesArePublished = (E : Era) (m : Memory) (team : Team) (g : Ghost) (k : ℕ) (c : Copy) (q : Quest) (v : ℕ) (l : Option Linking) → Ready E m team g k
     → (team.worker k).copy ≡ Some c → (team.worker k).quest ≡ Some q → c.reserved ≡ true → c.done ≡ c.size → c.to + c.size ≤ first_word c.crossed
-    → decode v ≡ ForwardWord (c.size - 1) c.to → (links ≡ true → KeepsCell c)
-    → Steps E m team g k (Some (WordIs c.from v)) (record (team.worker k) { copy = None; quest = Some (record q { found = Some c.to; links = links }) }) (published g k c.from c.to)
+    → decode v ≡ ForwardWord (c.size - 1) c.to → LinksCopy c l
+    → Steps E m team g k (Some (WordIs c.from v)) (has_published (team.worker k) c q l) (published g k c.from c.to)
 
 -- ---- the chain of copied cells
 
--- a word behind a cell's header gets a word below 2^62: its target or its link
-abbrev pub CellWordsAreStored : Type 0
-CellWordsAreStored = (E : Era) (m : Memory) (team : Team) (g : Ghost) (k b i v : ℕ) → Ready E m team g k → IsCopiedCell E m.front g b → 0 < i → i < g.size b → v < 2 ^ 62
-    → Steps E m team g k (Some (WordIs (b + i) v)) (team.worker k) g
+-- the worker with this cell to link, or with none
+abbrev pub with_linking : Worker → Option Linking → Worker
+with_linking w l = record w { linking = l }
 
--- the cell that worker k has copied, and has still to link, stands at this place
-pub record HasToLink (team : Team) (k : ℕ) (q : Quest) (b : ℕ) : Type 0 where
-  pub asks : (team.worker k).quest ≡ Some q
-  pub found : q.found ≡ Some b
-  pub links : q.links ≡ true
+-- WEAK is loaded, by a worker that has a cell to link
+abbrev pub WeakIsLoaded : Type 0
+WeakIsLoaded = (E : Era) (m : Memory) (team : Team) (g : Ghost) (k : ℕ) (l : Linking) → Ready E m team g k → (team.worker k).linking ≡ Some l
+    → Steps E m team g k None (with_linking (team.worker k) (Some (record { cell = l.cell; read = Some m.weak; stored = false }))) g
 
--- a word below 2^62 is stored as the cell's link
+-- a worker forgets what it has read of WEAK: another cell was linked
+abbrev pub WeakIsForgotten : Type 0
+WeakIsForgotten = (E : Era) (m : Memory) (team : Team) (g : Ghost) (k : ℕ) (l : Linking) → Ready E m team g k → (team.worker k).linking ≡ Some l
+    → Steps E m team g k None (with_linking (team.worker k) (Some (record { cell = l.cell; read = None; stored = false }))) g
+
+-- the word that was read, which is below 2^62, is stored as the cell's link
 abbrev pub LinksAreStored : Type 0
-LinksAreStored = (E : Era) (m : Memory) (team : Team) (g : Ghost) (k : ℕ) (q : Quest) (b v : ℕ) → Ready E m team g k → HasToLink team k q b → v < 2 ^ 62
-    → Steps E m team g k (Some (WordIs (b + 2) v)) (team.worker k) g
+LinksAreStored = (E : Era) (m : Memory) (team : Team) (g : Ghost) (k : ℕ) (l : Linking) (v : ℕ) → Ready E m team g k → (team.worker k).linking ≡ Some l → v < 2 ^ 62
+    → Steps E m team g k (Some (WordIs (l.cell + 2) v)) (with_linking (team.worker k) (Some (record { cell = l.cell; read = Some v; stored = true }))) g
 
--- WEAK gets a word below 2^62, and the worker has no cell to link any more
+-- the exchange of WEAK is won: the cell, whose place fits a word below 2^62, is the first of the chain
 abbrev pub CellsAreLinked : Type 0
-CellsAreLinked = (E : Era) (m : Memory) (team : Team) (g : Ghost) (k : ℕ) (q : Quest) (word : ℕ) → Ready E m team g k
-    → (team.worker k).copy ≡ None → (team.worker k).quest ≡ Some q → word < 2 ^ 62
-    → Steps E m team g k (Some (WeakIs word)) (record (team.worker k) { quest = Some (record q { links = false }) }) g
+CellsAreLinked = (E : Era) (m : Memory) (team : Team) (g : Ghost) (k : ℕ) (l : Linking) → Ready E m team g k
+    → (team.worker k).linking ≡ Some l → l.read ≡ Some m.weak → l.stored ≡ true → l.cell + 1 < 2 ^ 62
+    → Steps E m team g k (Some (WeakIs (l.cell + 1))) (with_linking (team.worker k) None) g

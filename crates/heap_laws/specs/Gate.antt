@@ -54,13 +54,13 @@ pub record WinsGate (m : Memory) (team : Team) (k : ℕ) (s : GateStep) : Type 0
   pub unchanged : m.gate ≡ s.read
 
 abbrev pub PassingGateKeeps : Type 0
-PassingGateKeeps = (E : Era) (m : Memory) (team : Team) (g : Ghost) (k : ℕ) (s : GateStep) → Ready E m team g k → WinsGate m team k s
+PassingGateKeeps = (E : Era) (m : Memory) (team : Team) (g : Ghost) (k : ℕ) (s : GateStep) → Ready E m team g k → (team.worker k).pass ≡ None → WinsGate m team k s
     → Steps E m team g k (Some (GateIs (gate_after s.passage s.read))) (worker_after s.read.epoch s.passage (team.worker k)) g
 
--- a scanner that scans nothing takes the epoch of the gate that it reads
+-- a scanner that scans nothing, and doesn't walk over the chain, takes the epoch of the gate that it reads
 abbrev pub TakingEpochKeeps : Type 0
 TakingEpochKeeps = (E : Era) (m : Memory) (team : Team) (g : Ghost) (k : ℕ) → Ready E m team g k
-    → (team.worker k).post ≡ Scanner → (team.worker k).scan ≡ None → Steps E m team g k None (into_epoch (team.worker k) m.gate.epoch) g
+    → (team.worker k).post ≡ Scanner → (team.worker k).scan ≡ None → (team.worker k).pass ≡ None → Steps E m team g k None (into_epoch (team.worker k) m.gate.epoch) g
 
 -- what the gate counts fits its word
 abbrev pub GatesFit : Type 0

@@ -5,6 +5,7 @@ pub mod Targets
 pub mod Lifting
 pub mod Scanning
 pub mod Tracing
+pub mod Walking
 pub mod Flipping
 pub mod Opening
 pub mod Fields

@@ -4,10 +4,8 @@ use Rattle.plain_state.specs.declared.value.Value.TheVariants.{Number}
 use Rattle.plain_state.specs.State as plain
 use Rattle.space_map.specs.Spaces.{IsPageCount, board_page}
 use Rattle.space_map.specs.declared.page_word.PageWord.TheVariants.{Open}
-use Rattle.heap_state.specs.Cells.{no_ranks, ChainIn}
 use Rattle.heap_state.specs.Configuration.{Configuration, Stands, era, memory, team}
 use Rattle.heap_state.specs.Cycles.Cycle.{Cycle}
-use Rattle.heap_state.specs.Targets.{TargetsIn}
 use Rattle.heap_state.specs.Memory.Entries.{Entry, TracedIs, AreaIs, WeakTurnIs, SizeIs, PageIs, written}
 use Rattle.heap_state.specs.Worker.{Worker, Outside, Scanner, fresh}
 use Rattle.heap_laws.specs.Flipping.Reset.{whole_area}
@@ -56,13 +54,10 @@ opening_plain mutators = record {
 
 -- ---- the law
 
--- the configuration stands for the plain state, and keeps what a cycle keeps that begins in it; the chain of copied cells is empty, and
--- targets lead where they may
+-- the configuration stands for the plain state, and keeps what a cycle keeps that begins in it
 pub record BeginsCycle (c : Configuration) (p : plain.Plain) : Type 0 where
   pub stands : Stands c p
   pub cycle : Cycle (era c) (memory c) (team c) stands.ghost p
-  pub chain : ChainIn c stands.ghost no_ranks
-  pub targets : TargetsIn c stands.ghost
 
 abbrev pub OpeningStands : Type 0
 OpeningStands = (n least mutators scanners : ℕ) → IsPageCount n → 4 ≤ least → least ≤ n → mutators ≤ MOST_MUTATORS → mutators + scanners ≤ MOST_MUTATORS + MOST_SCANNERS

@@ -1,5 +1,5 @@
 -- One step of one worker: the row that it writes, and what it keeps.
-use Rattle.std.specs.Prelude.{◌≡◌, ℕ, ◌+◌, ◌^◌, ◌<◌, ◌≤◌, ⊤, Option, Some, None}
+use Rattle.std.specs.Prelude.{◌≡◌, ℕ, ◌+◌, ◌^◌, ◌<◌, ◌≤◌, ⊤, true, Option, Some, None, is_some}
 use Rattle.plain_state.specs.State.{Plain}
 use Rattle.space_map.specs.declared.area_word.AreaWord.{AreaWord}
 use Rattle.space_map.specs.declared.gate_word.GateWord.{GateWord}
@@ -16,7 +16,8 @@ use Rattle.heap_state.specs.Functions.{put}
 use Rattle.heap_state.specs.Invariant.Ghost.{Ghost}
 use Rattle.heap_state.specs.Invariant.Inductive.{Invariant, Knows}
 use Rattle.heap_state.specs.Meaning.Values.{Shown}
-use Rattle.heap_state.specs.Worker.{Worker, Team}
+use Rattle.heap_state.specs.Cells.{KnowsCopy}
+use Rattle.heap_state.specs.Worker.{Worker, Team, is_cleared}
 use Rattle.space_map.specs.declared.spaces.TheConstants.{PAGE_WORDS, MOST_MUTATORS, MOST_SCANNERS}
 
 -- The invariant holds, the gate is of the epoch, and worker k is one of the team. This is the first premise of each law.
@@ -63,6 +64,14 @@ with_page m page word = record m { page = put m.page page word }
 abbrev pub with_crossing : Memory → (page place : ℕ) → Memory
 with_crossing m page place = record m { cross = put m.cross page place }
 
+-- WEAK is stored
+abbrev pub with_weak : Memory → ℕ → Memory
+with_weak m word = record m { weak = word }
+
+-- WEAKTURN is stored
+abbrev pub with_weak_turn : Memory → ℕ → Memory
+with_weak_turn m word = record m { weak_turn = word }
+
 -- a heap word is stored
 abbrev pub with_word : Memory → (addr word : ℕ) → Memory
 with_word m addr word = record m { heap = put m.heap addr word }
@@ -71,10 +80,8 @@ with_word m addr word = record m { heap = put m.heap addr word }
 abbrev pub with_announced : Memory → (worker place : ℕ) → Memory
 with_announced m worker place = record m { announced = put m.announced worker place }
 
--- the row is one of which the epoch sees nothing, of the chain of copied cells or of checkpoints, and what is written fits its word
+-- the row is one of checkpoints, of which the epoch sees nothing, and what is written fits its word
 abbrev pub IsBeside : Era → Entry → Type 0
-IsBeside E (WeakIs word) = word < 2 ^ 62
-IsBeside E (WeakTurnIs word) = ⊤
 IsBeside E (SnapIs number) = ⊤
 IsBeside E (DoneIs number) = ⊤
 IsBeside E (SaveIs page word) = (page ≤ page_of E.board) × SaveFits word
@@ -88,6 +95,8 @@ pub data WritesRow (E : Era) (m : Memory) : Option Entry → Memory → Type 0 w
   InTraced : (word : ℕ) → WritesRow E m (Some (TracedIs word)) (with_traced m word)
   InArea : (area : AreaWord) → AreaFits area → WritesRow E m (Some (AreaIs (to_space E.epoch) area)) (with_area m (E.start + area.front) (E.start + area.low) area.owed)
   InOldArea : (area : AreaWord) → AreaFits area → WritesRow E m (Some (AreaIs (from_space E.epoch) area)) (with_old_area m (E.old_start + area.front) (E.old_start + area.low) area.owed)
+  InWeak : (word : ℕ) → word < 2 ^ 62 → WritesRow E m (Some (WeakIs word)) (with_weak m word)
+  InWeakTurn : (word : ℕ) → WritesRow E m (Some (WeakTurnIs word)) (with_weak_turn m word)
   InPage : (page : ℕ) (word : PageWord) → page ≤ page_of E.board → PageFits word → WritesRow E m (Some (PageIs page word)) (with_page m page word)
   InCross : (page place : ℕ) → page < page_of E.board → WritesRow E m (Some (CrossIs page place)) (with_crossing m page place)
   InWord : (addr word : ℕ) → addr < E.board + PAGE_WORDS → WritesRow E m (Some (WordIs addr word)) (with_word m addr word)
@@ -126,7 +135,17 @@ pub record StepsTo (E : Era) (m : Memory) (team : Team) (g : Ghost) (k : ℕ) (e
 
 -- ---- what others read of a worker
 
--- The worker w has the post, epoch, account, registers, stock and scan of u. These are what others read of a worker.
+-- Worker w has the cell to link and the walk over the chain that u has. If it has a cell to link, it has still found the copy that it
+-- asks for; if it walks, it knows the same of its second look. It hasn't stored WEAK for a flip since.
+pub record SameInChain (w u : Worker) : Type 0 where
+  pub linking : w.linking ≡ u.linking
+  pub pass : w.pass ≡ u.pass
+  pub asked : is_some u.linking ≡ true → KnowsCopy u → KnowsCopy w
+  pub look : is_some u.pass ≡ true → w.last_look ≡ u.last_look
+  pub cleared : is_cleared w.reset ≡ true → is_cleared u.reset ≡ true
+
+-- The worker w has the post, epoch, account, registers, stock and scan of u, and its part in the chain of copied cells. These are what
+-- others read of a worker.
 pub record Alike (w u : Worker) : Type 0 where
   pub post : w.post ≡ u.post
   pub epoch : w.epoch ≡ u.epoch
@@ -135,6 +154,7 @@ pub record Alike (w u : Worker) : Type 0 where
   pub done : w.done ≡ u.done
   pub stock : w.stock ≡ u.stock
   pub scan : w.scan ≡ u.scan
+  pub chain : SameInChain w u
 
 -- a step that changes what worker k knows, and nothing else: a load
 abbrev pub KnowledgeChangesAlone : Type 0

@@ -3,4 +3,3 @@ pub mod Copies
 pub mod Records
 pub mod Walks
 pub mod Flips
-pub mod Lifting

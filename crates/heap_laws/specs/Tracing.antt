@@ -10,8 +10,8 @@ use Rattle.heap_state.specs.Cycles.Cycle.{Cycle, IsCopied}
 use Rattle.heap_state.specs.Memory.Era.{Era, Memory, IsLaidOut}
 use Rattle.heap_state.specs.Invariant.Ghost.{Ghost, Here, Leads}
 use Rattle.heap_state.specs.Invariant.Inductive.{Invariant}
-use Rattle.heap_state.specs.Worker.{Worker, Team, Copy, Scan, Round, Claim, Look, LastLook, is_mutator}
-use Rattle.heap_state.specs.Memory.Entries.{TracedIs}
+use Rattle.heap_state.specs.Worker.{Worker, Team, Copy, Scan, Round, Claim, Look, LastLook, Begins, Done, is_mutator}
+use Rattle.heap_state.specs.Memory.Entries.{TracedIs, WeakTurnIs}
 use Rattle.heap_laws.specs.Steps.{Ready, Steps}
 use Rattle.space_map.specs.Spaces.{page_of, first_word}
 use Rattle.space_map.specs.declared.spaces.TheConstants.{PAGE_WORDS}
@@ -94,7 +94,7 @@ abbrev pub about_to_trace : Worker → Look → Worker
 about_to_trace w l = record w { look = None; last_look = Some (record { traced = l.traced }) }
 
 abbrev pub LookingAgainKeeps : Type 0
-LookingAgainKeeps = (E : Era) (m : Memory) (team : Team) (g : Ghost) (k : ℕ) (l : Look) → Ready E m team g k → LooksAgain E m team k l
+LookingAgainKeeps = (E : Era) (m : Memory) (team : Team) (g : Ghost) (k : ℕ) (l : Look) → Ready E m team g k → (team.worker k).pass ≡ None → LooksAgain E m team k l
     → l.filled ≡ true → Steps E m team g k None (about_to_trace (team.worker k) l) g
 
 -- where the filling page had the word of an epoch before, it is claimed
@@ -109,15 +109,29 @@ ClaimingFillingPageKeeps = (E : Era) (m : Memory) (team : Team) (g : Ghost) (k :
     → l.start ≤ first_word p → first_word p < l.front → l.front < first_word p + PAGE_WORDS → age_of old ≤ (team.worker k).epoch
     → Steps E m team g k None (about_to_fill (team.worker k) p old) g
 
+-- ---- the turn is taken
+
+-- the worker that has the turn: its walk over the chain of copied cells begins
+abbrev pub has_turn : Worker → Worker
+has_turn w = record w { pass = Some Begins }
+
+-- The exchange of WEAKTURN is won, from a word below the one that says that the turn of the worker's epoch is taken. The TRACED that the
+-- second look keeps is of that epoch.
+abbrev pub TurnsAreTaken : Type 0
+TurnsAreTaken = (E : Era) (m : Memory) (team : Team) (g : Ghost) (k : ℕ) (l : LastLook) → Ready E m team g k
+    → (team.worker k).last_look ≡ Some l → (team.worker k).epoch ≤ l.traced → m.weak_turn < (team.worker k).epoch + 1
+    → Steps E m team g k (Some (WeakTurnIs ((team.worker k).epoch + 1))) (has_turn (team.worker k)) g
+
 -- ---- TRACED is exchanged
 
--- worker k wins the exchange: TRACED is the word that was read
+-- worker k, which has walked over the chain of copied cells, wins the exchange: TRACED is the word that was read
 pub record WinsTraced (m : Memory) (team : Team) (k : ℕ) (l : LastLook) : Type 0 where
   pub looks : (team.worker k).last_look ≡ Some l
   pub unchanged : m.traced ≡ l.traced
+  pub walked : (team.worker k).pass ≡ Some Done
 
 abbrev pub has_traced : Worker → Worker
-has_traced w = record w { last_look = None }
+has_traced w = record w { last_look = None; pass = None }
 
 -- only a worker of the current epoch wins it, and what it does keeps all
 pub record Traces (E : Era) (m : Memory) (team : Team) (g : Ghost) (k : ℕ) : Type 0 where

@@ -1,16 +1,9 @@
 //! The chain of copied cells: what each kind of step keeps of it. Each function here does nothing: its contract is what is proved.
 
-ghost use Rattle.heap_laws.specs.Cells.Frames.{ChainPartsAreFree, PlainChainPartsAreFree, ChainIsCarried, UnreadRowsCarryChain, UnreadWordsCarryChain, NoCellWords, SameFrontCarriesChain};
+ghost use Rattle.heap_laws.specs.Cells.Frames.{ChainIsCarried, UnreadRowsCarryChain, UnreadWordsCarryChain, NoCellWords, SameFrontCarriesChain};
 ghost use Rattle.heap_laws.specs.Cells.Flips.{SizesCarryChain, ClearingWeakCarriesChain, FlippingCarriesChain, PlacingCarriesChain};
 ghost use Rattle.heap_laws.specs.Cells.Walks.{ChainIsShort, TakingTurnCarriesChain, WalkIsDone, TracingCarriesChain, BeginningWalkCarriesChain, GoingOnCarriesChain, FindingTargetCarriesChain, HeadersReplaceTargets, FindingWordCarriesChain, ReplacingTargetCarriesChain};
-ghost use Rattle.heap_laws.specs.Cells.Lifting.{ChainIsLifted, UnreadRowsAreLifted, SizedChainIsLifted, FlippedChainIsLifted};
 ghost use Rattle.heap_laws.specs.Cells.Links.{ReservationsCarryChain, PublishingCarriesChain, ReadingWeakCarriesChain, StoringLinkCarriesChain, LinkingCarriesChain};
-
-/// After a step a worker may have any cell to link and any walk over the chain.
-pub fn chain_parts_are_free()
-    ensures steps { ChainPartsAreFree }
-    ensures plain_steps { PlainChainPartsAreFree }
-{}
 
 /// A step that leaves what the chain is made of keeps it.
 pub fn chain_is_carried()
@@ -90,12 +83,4 @@ pub fn turns_carry_chain()
 pub fn tracing_carries_chain()
     ensures done { WalkIsDone }
     ensures traced { TracingCarriesChain }
-{}
-
-/// What the laws say of the chain is so of configurations.
-pub fn chain_is_lifted()
-    ensures steps { ChainIsLifted }
-    ensures unread { UnreadRowsAreLifted }
-    ensures sizes { SizedChainIsLifted }
-    ensures flips { FlippedChainIsLifted }
 {}

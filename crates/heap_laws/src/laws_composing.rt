@@ -27,8 +27,8 @@ pub fn steps_follow()
     ensures plain { PlainStepsFollow }
 {}
 
-/// A step that writes no row of the epoch's may write one that the epoch doesn't see, of the chain of copied cells or of checkpoints: all is
-/// kept as if it had written none.
+/// A step that writes no row of the epoch's may write one of checkpoints, which the epoch doesn't see: all is kept as if it had
+/// written none.
 pub fn rows_beside_are_written()
     ensures kept { StepsWriteBeside }
     ensures plain { PlainStepsWriteBeside }

@@ -1,6 +1,6 @@
 //! Copying a record: each step of the worker that copies it. Each function here does nothing: its contract is what is proved.
 
-ghost use Rattle.heap_laws.specs.Copying.{HeadersAreTaken, WordsAreCopied, ForwardsAreFound, PlacesAreAimed, PlacesAreAnnounced, AnnouncesAreCleared, OldWordsAreLoaded, CrossingsAreStored, CopiesArePublished, CopiesHaveRoom, PlacesAreReserved, CellWordsAreStored, LinksAreStored, CellsAreLinked};
+ghost use Rattle.heap_laws.specs.Copying.{HeadersAreTaken, WordsAreCopied, ForwardsAreFound, PlacesAreAimed, PlacesAreAnnounced, AnnouncesAreCleared, OldWordsAreLoaded, CrossingsAreStored, CopiesArePublished, CopiesHaveRoom, PlacesAreReserved, WeakIsLoaded, WeakIsForgotten, LinksAreStored, CellsAreLinked};
 ghost use Rattle.heap_laws.specs.Steps.{KnowledgeChangesAlone, NothingChanges};
 
 /// A word of the old record, or its header, is stored in its place in the copy.
@@ -53,14 +53,15 @@ pub fn copies_are_published()
     ensures { CopiesArePublished }
 {}
 
+/// A worker that has copied a cell loads WEAK, or forgets what it has loaded.
+pub fn weak_is_read()
+    ensures loaded { WeakIsLoaded }
+    ensures forgotten { WeakIsForgotten }
+{}
+
 /// The link of a cell that was copied is stored.
 pub fn links_are_stored()
     ensures { LinksAreStored }
-{}
-
-/// A word of a cell that was copied is stored, its target or its link.
-pub fn cell_words_are_stored()
-    ensures { CellWordsAreStored }
 {}
 
 /// A cell that was copied is linked, as the first of the chain.

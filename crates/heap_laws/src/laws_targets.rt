@@ -6,7 +6,6 @@ ghost use Rattle.heap_laws.specs.Targets.Copies.{ReservationsCarryTargets, Publi
 ghost use Rattle.heap_laws.specs.Targets.Records.{ClaimingCarriesTargets, PlacingCarriesTargets, NewTargetsAreZero};
 ghost use Rattle.heap_laws.specs.Targets.Walks.{TargetsAreFound, ReplacingCarriesTargets, TracingCarriesTargets, TracedTargetsAreHeld};
 ghost use Rattle.heap_laws.specs.Targets.Flips.{SizesCarryTargets, FlippingCarriesTargets};
-ghost use Rattle.heap_laws.specs.Targets.Lifting.{TargetsAreLifted, UnreadTargetsAreLifted, SizedTargetsAreLifted, FlippedTargetsAreLifted};
 
 /// A step that leaves the targets and what they lead to keeps what is known of them.
 pub fn targets_are_carried()
@@ -70,12 +69,4 @@ pub fn tracing_carries_targets()
 pub fn flips_carry_targets()
     ensures sizes { SizesCarryTargets }
     ensures flips { FlippingCarriesTargets }
-{}
-
-/// What the laws say of targets is so of configurations.
-pub fn targets_are_lifted()
-    ensures steps { TargetsAreLifted }
-    ensures unread { UnreadTargetsAreLifted }
-    ensures sizes { SizedTargetsAreLifted }
-    ensures flips { FlippedTargetsAreLifted }
 {}

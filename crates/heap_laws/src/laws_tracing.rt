@@ -1,6 +1,6 @@
 //! The end of the copied area: it is looked at, TRACED is exchanged, and then nothing leads into the old space.
 
-ghost use Rattle.heap_laws.specs.Tracing.{ReadingTracedKeeps, ReadingRoundFrontKeeps, BeginningLookKeeps, LookingAtFrontKeeps, LookingAtBoardKeeps, LookingAtPageKeeps, LookingAtFillingPageKeeps, LookingAgainKeeps, ClaimingFillingPageKeeps, TracingKeeps, SleeperLosesTraced, TracedLeadsNowhere, TracedCopiesReachable};
+ghost use Rattle.heap_laws.specs.Tracing.{ReadingTracedKeeps, ReadingRoundFrontKeeps, BeginningLookKeeps, LookingAtFrontKeeps, LookingAtBoardKeeps, LookingAtPageKeeps, LookingAtFillingPageKeeps, LookingAgainKeeps, ClaimingFillingPageKeeps, TurnsAreTaken, TracingKeeps, SleeperLosesTraced, TracedLeadsNowhere, TracedCopiesReachable};
 ghost use Rattle.heap_laws.specs.Flipping.Live.{TracedIsLive};
 
 /// The loads of a round of the duty.
@@ -18,6 +18,11 @@ pub fn the_end_is_looked_at()
     ensures filling { LookingAtFillingPageKeeps }
     ensures again { LookingAgainKeeps }
     ensures claim { ClaimingFillingPageKeeps }
+{}
+
+/// The exchange of WEAKTURN: who wins it has the turn of the epoch, alone.
+pub fn turns_are_taken()
+    ensures { TurnsAreTaken }
 {}
 
 /// The exchange of TRACED: who wins it is of the current epoch, and keeps all.

@@ -2,6 +2,7 @@ pub mod Puts
 pub mod Table
 pub mod Walks
 pub mod Records
+pub mod Cells
 pub mod Represents
 pub mod Holds
 pub mod Workers

@@ -1,12 +1,11 @@
 -- The chain of copied cells: cells that were copied in an epoch are linked from WEAK, and one worker walks over them when all else of
--- the epoch is done. This stands beside the invariant.
+-- the epoch is done.
 use Rattle.std.specs.Prelude.{◌≡◌, ℕ, ◌+◌, ◌<◌, ◌≤◌, ◌⊎◌, true, false, if◌then◌else◌, Some, is_some}
 use Rattle.plain_state.specs.declared.kind.Kind.TheVariants.{Weak}
 use Rattle.heap_words.specs.Decoded.{NumberWord, PointerWord, decode}
-use Rattle.heap_state.specs.Configuration.{Configuration, table, era, memory, team}
 use Rattle.heap_state.specs.Memory.Era.{Era, Memory}
 use Rattle.heap_state.specs.Invariant.Ghost.{Ghost, Leads}
-use Rattle.heap_state.specs.Worker.{Worker, Team, Scan, LastLook, Linking, Visit, Pass, Begins, At, Done, cell_to_link, is_late, is_cleared}
+use Rattle.heap_state.specs.Worker.{Worker, Team, Quest, Scan, LastLook, Linking, Visit, Pass, Begins, At, Done, cell_to_link, is_late, is_cleared}
 
 -- ---- the chain
 
@@ -43,12 +42,17 @@ pub record Linked (E : Era) (m : Memory) (weak : ℕ) (g : Ghost) (r : Ranks) : 
 abbrev pub MayCopy : Era → Worker → Type 0
 MayCopy E w = ((s : Scan) × (w.scan ≡ Some s)) ⊎ (is_late E.epoch w ≡ true)
 
--- a copied cell waits for its copier, who knows which word the cell's link has
+-- the worker asks for a copy, and has found it
+abbrev pub KnowsCopy : Worker → Type 0
+KnowsCopy w = (q : Quest) × (w.quest ≡ Some q) × (is_some q.found ≡ true)
+
+-- a copied cell waits for its copier, who has asked for it, and knows which word the cell's link has
 pub record Links (E : Era) (m : Memory) (g : Ghost) (r : Ranks) (w : Worker) (l : Linking) : Type 0 where
   pub copying : m.traced ≤ E.epoch
   pub cell : IsCopiedCell E m.front g l.cell
   pub unlinked : r.rank l.cell ≡ 0
   pub licensed : MayCopy E w
+  pub asked : KnowsCopy w
   pub stored : (v : ℕ) → l.read ≡ Some v → l.stored ≡ true → m.heap (l.cell + 2) ≡ v
 
 -- some worker has the cell to link
@@ -69,14 +73,17 @@ passed_from r Done = 1
 abbrev pub ReplacesTarget : Ghost → (b word : ℕ) → Type 0
 ReplacesTarget g b word = ((d : ℕ) × (g.copy b ≡ d + 1) × (decode word ≡ PointerWord d)) ⊎ ((g.copy b ≡ 0) × (decode word ≡ NumberWord 0))
 
--- What the walker knows of the cell that it has come to: it is linked, and no more cells come than may; its target leads to a record
--- of the old space, and what is to replace it, until it is replaced.
+-- the cell's target leads to this record of the old space
+abbrev pub TargetsOld : Era → Memory → Ghost → (cell b : ℕ) → Type 0
+TargetsOld E m g cell b = (decode (m.heap (cell + 1)) ≡ PointerWord b) × (0 < g.size b) × (E.old_start ≤ b) × (b < E.old_start + E.old_span)
+
+-- What the walker knows of the cell that it has come to: it is linked, and no more cells come than may; which record of the old space
+-- its target leads to, or what is to replace the target that leads to one, until it is replaced.
 pub record Visits (E : Era) (m : Memory) (g : Ghost) (r : Ranks) (v : Visit) : Type 0 where
   pub linked : 0 < r.rank v.cell
   pub few : r.rank v.cell ≤ v.more
-  pub old : (b : ℕ) → v.past ≡ false → v.old ≡ Some b
-      → (decode (m.heap (v.cell + 1)) ≡ PointerWord b) × (0 < g.size b) × (E.old_start ≤ b) × (b < E.old_start + E.old_span)
-  pub word : (b x : ℕ) → v.past ≡ false → v.old ≡ Some b → v.word ≡ Some x → ReplacesTarget g b x
+  pub old : (b : ℕ) → v.past ≡ false → v.old ≡ Some b → TargetsOld E m g v.cell b
+  pub word : (x : ℕ) → v.past ≡ false → v.word ≡ Some x → (b : ℕ) × TargetsOld E m g v.cell b × ReplacesTarget g b x
 
 -- The walker is of this epoch, which isn't traced, and has the turn. TRACED is as it was at its second look. No target that it has
 -- passed leads into the old space.
@@ -109,7 +116,3 @@ pub record Chain (E : Era) (m : Memory) (weak turn : ℕ) (team : Team) (g : Gho
   pub walker : m.traced ≤ E.epoch → turn ≡ E.epoch + 1 → HasWalker team
   pub reset : (k : ℕ) → k < team.count → is_cleared (team.worker k).reset ≡ true → weak ≡ 0
   pub three : (a : ℕ) → 0 < g.size a → g.kind a ≡ Weak → g.size a ≡ 3
-
--- what stands of the chain in a configuration
-abbrev pub ChainIn : Configuration → Ghost → Ranks → Type 0
-ChainIn c g r = Chain (era c) (memory c) (table c).weak (table c).weak_turn (team c) g r

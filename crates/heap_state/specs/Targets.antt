@@ -1,10 +1,8 @@
--- Where the targets of weak cells lead, by the words and by what the proofs know beside them. This stands beside the invariant and the
--- chain of copied cells.
+-- Where the targets of weak cells lead, by the words and by what the proofs know beside them.
 use Rattle.std.specs.Prelude.{◌≡◌, ℕ, ◌+◌, ◌<◌, ◌≤◌, ◌⊎◌}
 use Rattle.plain_state.specs.declared.kind.Kind.TheVariants.{Weak}
 use Rattle.heap_words.specs.Decoded.{PointerWord, decode}
 use Rattle.heap_state.specs.Cells.{IsCopiedCell}
-use Rattle.heap_state.specs.Configuration.{Configuration, era, memory}
 use Rattle.heap_state.specs.Memory.Era.{Era, Memory}
 use Rattle.heap_state.specs.Invariant.Ghost.{Ghost, Leads, Lands}
 
@@ -27,7 +25,3 @@ pub record Targets (E : Era) (m : Memory) (g : Ghost) : Type 0 where
   pub new : (a : ℕ) → IsCell g a → m.low ≤ a → a < E.start + E.span → ¬ (Leads E (m.heap (a + 1)))
   pub clean : m.traced ≡ E.epoch + 1 → (a : ℕ) → IsCopiedCell E m.front g a → ¬ (Leads E (m.heap (a + 1)))
   pub older : m.traced ≤ E.epoch → (a b : ℕ) → IsCell g a → IsOld E a → decode (m.heap (a + 1)) ≡ PointerWord b → (0 < g.size b) × IsOld E b
-
--- where targets lead in a configuration
-abbrev pub TargetsIn : Configuration → Ghost → Type 0
-TargetsIn c g = Targets (era c) (memory c) g

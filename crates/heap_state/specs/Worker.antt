@@ -134,13 +134,11 @@ pub data Origin : Type 0 where
   Register : (r : ℕ) → Origin
   Scanned : (addr : ℕ) → Origin
 
--- the search for the copy of the record at an old place; the copy's place once it is known; and whether it is a cell that this
--- worker has copied and not linked yet
+-- the search for the copy of the record at an old place, and the copy's place once it is known
 pub record Quest : Type 0 where
   pub old : ℕ
   pub origin : Origin
   pub found : Option ℕ
-  pub links : Bool
 
 -- A copy in progress: the header kept, the old place, the new one, the record's size, the words copied so far, the word
 -- after them once it is loaded, whether the new place was read as FRONT, whether it is announced, whether it is reserved, and
@@ -213,8 +211,8 @@ abbrev pub cell_to_link : Option Linking → Option ℕ
 cell_to_link None = None
 cell_to_link (Some l) = Some l.cell
 
--- A walk that has come to a cell: the cell's place; the old place that its target leads to, and the word that is to replace the
--- target, once these are known; whether the walk has done with the target; and how many cells may still come, this one with them.
+-- A walk that has come to a cell: the cell's place; the old place that its target leads to, or the word that is to replace the
+-- target, once this is known; whether the walk has done with the target; and how many cells may still come, this one with them.
 pub record Visit : Type 0 where
   pub cell : ℕ
   pub old : Option ℕ

@@ -2,6 +2,7 @@
 use Rattle.std.specs.Prelude.{ℕ, ◌+◌, ◌*◌, ◌^◌, nat_lt, if◌then◌else◌}
 use Rattle.space_map.specs.declared.spaces.TheConstants.{PAGE_WORDS}
 use Rattle.space_map.specs.Spaces.{Layout}
+use Rattle.cell_walk.specs.Walking.{most_cells}
 use Rattle.heap_state.specs.Functions.{sum_below}
 
 -- ---- the bound
@@ -36,7 +37,7 @@ most_flips = 10
 
 -- ---- what the parts cost
 
--- a round of the duty, and the steps before and after it
+-- a round of the duty without its walk over the chain of cells, and the steps before and after it
 abbrev pub round_cost : ℕ → ℕ
 round_cost n = 2 * n + 35
 
@@ -44,9 +45,13 @@ round_cost n = 2 * n + 35
 abbrev pub page_cost : ℕ → ℕ
 page_cost n = round_cost n + 452
 
--- the tracing of a whole epoch: the board and all pages, and five steps for each word that is copied
+-- the walk over the chain of cells, once an epoch
+abbrev pub walk_cost : ℕ → ℕ
+walk_cost n = 4 * most_cells n + 3
+
+-- the tracing of a whole epoch: the board and all pages, five steps for each word that is copied, and the walk
 unfoldable pub longest_tracing : ℕ → ℕ
-longest_tracing n = page_cost n * (n + 1) + round_cost n + 5 * (PAGE_WORDS * n)
+longest_tracing n = page_cost n * (n + 1) + round_cost n + 5 * (PAGE_WORDS * n) + walk_cost n
 
 -- a look before a write, and the save that it may make
 abbrev pub guard_cost : ℕ

@@ -5,6 +5,10 @@ use Rattle.space_map.specs.Spaces.{to_space}
 use Rattle.alloc_end.specs.declared.place_stage.PlaceStage.{PlaceStage}
 use Rattle.alloc_end.specs.declared.place_stage.PlaceStage.TheVariants as place_stage
 use Rattle.alloc_end.specs.Place as place
+use Rattle.cell_walk.specs.declared.walk_stage.WalkStage.{WalkStage}
+use Rattle.cell_walk.specs.declared.walk_stage.WalkStage.TheVariants.{LoadsTurn, TakesTurn}
+use Rattle.fault_duty.specs.declared.duty_stage.DutyStage.{DutyStage}
+use Rattle.fault_duty.specs.declared.duty_stage.DutyStage.TheVariants as duty_stage
 use Rattle.fault_duty.specs.Duty as duty
 use Rattle.gate_core.specs.declared.passage.Passage.{Passage}
 use Rattle.gate_core.specs.declared.passage.Passage.TheVariants.{Look, Attach, Park, Request, Resume, Forwarded, Leave, Clear}
@@ -84,6 +88,23 @@ abbrev pub write_left : (n size : ℕ) → Held → Write → ℕ
 write_left n size x (OfAccess a) = access_left a
 write_left n size x (OfPlace p) = place_left n size x p p.stage
 
+-- the steps of a round's walk over the chain of cells, as long as the round may come to the turn
+abbrev pub walk_ahead_at : duty.Round → WalkStage → ℕ
+walk_ahead_at d LoadsTurn = duty.walk_left d
+walk_ahead_at d (TakesTurn found) = duty.walk_left d
+walk_ahead_at d stage = 0
+
+abbrev pub walk_ahead : duty.Round → DutyStage → ℕ
+walk_ahead d (duty_stage.Claims c) = 0
+walk_ahead d (duty_stage.Walks traced v) = walk_ahead_at d v.stage
+walk_ahead d (duty_stage.Traces traced) = 0
+walk_ahead d (duty_stage.Ended result) = 0
+walk_ahead d stage = duty.walk_left d
+
+-- what a round has left without those: the tracing pays them once an epoch, when the turn is taken
+abbrev pub round_steps : duty.Round → DutyStage → ℕ
+round_steps d stage = duty.left_at d stage - walk_ahead d stage
+
 -- what it goes back to after a round
 abbrev pub back_left : (n size : ℕ) → Held → Back → ℕ
 back_left n size x (ToAccess a) = access_left a
@@ -152,7 +173,7 @@ stage_left n size left due late x (Flips f) = flip.left f + 45 + recall_cost + l
 stage_left n size left due late x (Forwards w) = copy_left w.evac.stage + registers_left w.register + recall_cost + longest_placing + growing_left n size + due
 stage_left n size left due late x (Accesses a) = access_left a + due
 stage_left n size left due late x (Places p) = place_left n size x p p.stage + due
-stage_left n size left due late x (Serves d back) = duty.left d + back_left n size x back + round_left left due back
+stage_left n size left due late x (Serves d back) = round_steps d d.stage + back_left n size x back + round_left left due back
 stage_left n size left due late x (Scans s back) = scan.left s + 1 + round_cost n + back_left n size x back + again_left n back + left
 stage_left n size left due late x (Evacuates v s back) = copy_left v.stage + scan.left s + 1 + round_cost n + back_left n size x back + again_left n back + left
 stage_left n size left due late x (Opens o s back) = open_page.left o + round_cost n + back_left n size x back + again_left n back + left
@@ -169,10 +190,10 @@ abbrev pub size_in : Table → ℕ
 size_in t = t.in_use (to_space t.gate.epoch)
 
 abbrev pub left_in : ℕ → Table → ℕ
-left_in n t = tracing_left n t.gate.epoch t.traced (t.area (to_space t.gate.epoch)).owed t.page
+left_in n t = tracing_left n t.gate.epoch t.traced t.weak_turn (t.area (to_space t.gate.epoch)).owed t.page
 
 abbrev pub due_in : ℕ → Table → ℕ
-due_in n t = tracing_due n t.gate.epoch t.traced (t.area (to_space t.gate.epoch)).owed t.page
+due_in n t = tracing_due n t.gate.epoch t.traced t.weak_turn (t.area (to_space t.gate.epoch)).owed t.page
 
 abbrev pub potential_at : ℕ → Table → Held → Stage → ℕ
 potential_at n t x stage = stage_left n (size_in t) (left_in n t) (due_in n t) (nat_lt x.epoch t.gate.epoch) x stage

@@ -5,6 +5,8 @@ use Rattle.space_map.specs.declared.page_word.PageWord.TheVariants.{Open}
 use Rattle.space_map.specs.declared.spaces.TheConstants.{PAGE_WORDS}
 use Rattle.space_map.specs.PageWord.{age_of}
 use Rattle.space_map.specs.Spaces.{board_page, first_word, page_of}
+use Rattle.cell_walk.specs.declared.walk_stage.WalkStage.{WalkStage}
+use Rattle.cell_walk.specs.declared.walk_stage.WalkStage.TheVariants.{TakesTurn}
 use Rattle.fault_duty.specs.declared.caller.Caller.{Caller}
 use Rattle.fault_duty.specs.declared.caller.Caller.TheVariants.{Faulted}
 use Rattle.fault_duty.specs.declared.findings.Findings.{Findings}
@@ -12,7 +14,7 @@ use Rattle.fault_duty.specs.declared.wanted_page.WantedPage.{WantedPage}
 use Rattle.fault_duty.specs.declared.choice.Choice.{Choice}
 use Rattle.fault_duty.specs.declared.end_look.EndLook.{EndLook}
 use Rattle.fault_duty.specs.declared.duty_stage.DutyStage.{DutyStage}
-use Rattle.fault_duty.specs.declared.duty_stage.DutyStage.TheVariants.{LoadsGate, LoadsTraced, LoadsWanted, LoadsFrontFor, LoadsFront, LoadsPage, Claims, EndGate, EndArea, EndPage, EndFilling, EndAreaAgain, Traces, Ended}
+use Rattle.fault_duty.specs.declared.duty_stage.DutyStage.TheVariants.{LoadsGate, LoadsTraced, LoadsWanted, LoadsFrontFor, LoadsFront, LoadsPage, Claims, EndGate, EndArea, EndPage, EndFilling, EndAreaAgain, Walks, Traces, Ended}
 use Rattle.fault_duty.specs.Duty.{Round}
 use Rattle.gc_worker.specs.declared.stage.back.Back.{Back}
 use Rattle.gc_worker.specs.declared.stage.back.Back.TheVariants.{ToSnap}
@@ -49,6 +51,11 @@ pub record LookedAt (m : Memory) (look : EndLook) : Type 0 where
   pub traced : look.traced ≡ m.traced
   pub front : look.front ≡ m.front
 
+-- WEAKTURN is as it was read
+abbrev pub TurnStands : (turn : ℕ) → WalkStage → Type 0
+TurnStands turn (TakesTurn found) = found ≡ turn
+TurnStands turn stage = ⊤
+
 -- nobody is behind, and the board and all full pages are open
 abbrev pub IsQuiet : Era → Memory → Type 0
 IsQuiet E m = Quiet E m.gate.behind m.front m.page
@@ -66,6 +73,7 @@ FoundAt E m d (EndArea traced) = IsQuiet E m × (traced ≡ m.traced)
 FoundAt E m d (EndPage look page) = IsQuiet E m × LookedAt m look
 FoundAt E m d (EndFilling look) = LookedAt m look
 FoundAt E m d (EndAreaAgain look filling) = LookedAt m look × (look.front % PAGE_WORDS ≢ 0 → filling ≡ m.page (page_of look.front))
+FoundAt E m d (Walks traced v) = (traced ≡ m.traced) × TurnStands m.weak_turn v.stage
 FoundAt E m d (Traces traced) = traced ≡ m.traced
 FoundAt E m d (Ended result) = ⊤
 

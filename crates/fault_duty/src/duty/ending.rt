@@ -1,4 +1,4 @@
-//! The end of the copied area, once no page is left to choose.
+//! The end of the copied area, once no page is left to choose, and then the walk over the chain of cells.
 
 ghost use Rattle.std.specs.Prelude.{◌≡◌, ◌≤◌};
 ghost use Rattle.space_map.specs.AreaWord.{decode_area};
@@ -6,14 +6,16 @@ ghost use Rattle.space_map.specs.GateWord.{decode_gate};
 ghost use Rattle.space_map.specs.PageWord.{decode_page};
 ghost use Rattle.space_map.specs.Spaces.{board_page};
 ghost use Rattle.fault_duty.specs.Duty as round;
-ghost use Rattle.fault_duty.specs.Duty.{told, at_stage};
-ghost use Rattle.fault_duty.specs.Soundness.{IsSoundRound};
+ghost use Rattle.fault_duty.specs.Duty.{taken, at_stage};
+ghost use Rattle.fault_duty.specs.Soundness.{IsSoundRound, IsWalking};
 
 use super::{Duty, is_full};
 use crate::duty_stage::DutyStage;
 use crate::end_look::EndLook;
 use crate::page_state::PageState;
 use crate::round_end::RoundEnd;
+use atom_store::{Reply, Turn};
+use cell_walk::{Walk, WalkEnd};
 use space_map::{AreaWord, GateWord, PAGE_WORDS, PageWord};
 
 impl Duty {
@@ -91,8 +93,30 @@ impl Duty {
             return self.end(RoundEnd::NothingNow(word));
         }
         match self.state_of(filling) {
-            PageState::Opened => self.go_to(DutyStage::Traces(look.traced)),
+            PageState::Opened => {
+                let walk = Walk::new(self.spaces, self.epoch);
+                self.go_to(DutyStage::Walks(look.traced, walk))
+            }
             _ => self.claim(self.spaces.page_of(look.front), filling, true),
+        }
+    }
+
+    /// Once all cells are passed, TRACED is to be exchanged. Another worker's turn ends the round.
+    #[inline(always)]
+    pub(super) fn go_on_walking(&mut self, reply: Reply)
+        requires walking { IsWalking self.old.stage }
+        requires allowed { IsSoundRound (taken self.old reply) }
+        ensures { self.new ≡ taken self.old reply }
+    {
+        let DutyStage::Walks(traced, walk) = &mut self.stage else {
+            unreachable!();
+        };
+        match walk.take(reply) {
+            Turn::More => {}
+            Turn::Finished(WalkEnd::Passed) => self.stage = DutyStage::Traces(*traced),
+            Turn::Finished(WalkEnd::Another(word)) => {
+                self.stage = DutyStage::Ended(RoundEnd::NothingNow(word))
+            }
         }
     }
 }

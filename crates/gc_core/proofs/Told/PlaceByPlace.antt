@@ -19,7 +19,7 @@ use Rattle.gc_worker.specs.Workers.Knows.{knows, copy_at, copy_in}
 use Rattle.gc_worker.specs.Steps.Stepped.{header_kept, place_kept}
 use Rattle.gc_worker.specs.Laws.Step.{nobody, held_at}
 use Rattle.gc_core.specs.Core.{CoreState, workers_of}
-use Rattle.gc_core.specs.Readers.{mutators_in, seen_of, kept_in}
+use Rattle.gc_core.specs.Readers.{mutators_in, seen_of, registers_in, kept_in}
 
 abbrev seen_in : Held → Seen
 seen_in x = record { printed = x.account.printed; end = x.account.end }
@@ -38,6 +38,10 @@ module _ (s : CoreState) (enough : s.heap.mutators ≤ workers_of s) where
     -- what is seen of a mutator
     pub seen_there : slice_get (seen_of s) m ≡ Some (seen_in (held_at s.heap m))
     seen_there = slice_get-map seen_in (mutators_in s) m ∙ ap (λ (o : Option Held). option_map seen_in o) there
+
+    -- and the words of its registers
+    pub registers_there : slice_get (registers_in s) m ≡ Some (held_at s.heap m).registers
+    registers_there = slice_get-map (λ (x : Held). x.registers) (mutators_in s) m ∙ ap (λ (o : Option Held). option_map (λ (x : Held). x.registers) o) there
 
 -- what a worker keeps
 kept_there : (s : CoreState) (w : ℕ) → w < workers_of s → slice_get (kept_in s) w ≡ Some (kept_by (knows (held_at s.heap w)).copy)

@@ -1,5 +1,5 @@
 -- What the readers of a core read of one worker.
-use Rattle.std.proofs.Common.{◌≡◌, ℕ, ◌<◌, ◌≤◌, length, get_or, slice_get, Option, Some, ap, sym, ◌∙◌, arith}
+use Rattle.std.proofs.Common.{◌≡◌, ℕ, ◌<◌, ◌≤◌, length, get_or, slice_get, List, Option, Some, ap, sym, ◌∙◌, arith}
 use Rattle.std.specs.Prelude.{take}
 use Rattle.std.specs.List.{list_all}
 use Rattle.std.specs.Option.{is_some, option_map}
@@ -11,9 +11,9 @@ use Rattle.gc_worker.specs.Workers.Held.{Held}
 use Rattle.gc_worker.specs.Laws.Step.{held_at, nobody}
 use Rattle.gc_worker.specs.Steps.Stepped.{header_kept, place_kept}
 use Rattle.gc_core.specs.Core.{CoreState, workers_of}
-use Rattle.gc_core.specs.Readers.{seen_of, kept_in}
+use Rattle.gc_core.specs.Readers.{seen_of, registers_in, kept_in}
 use Rattle.gc_core.specs.Run.{all_ended}
-use Rattle.gc_core.proofs.Told.PlaceByPlace.{seen_length, seen_there, kept_told}
+use Rattle.gc_core.proofs.Told.PlaceByPlace.{seen_length, seen_there, registers_there, kept_told}
 
 -- who is read is the worker that is held there
 pub read_held : (s : CoreState) (m : ℕ) (z : Held) → m < workers_of s → z ≡ get_or s.heap.workers m z → z ≡ held_at s.heap m
@@ -28,6 +28,23 @@ module _ (s : CoreState) (m : ℕ) (z : Held) (is : z ≡ get_or s.heap.workers 
       let held = read_held s m z (omega (arith, n, few, enough)) is in
       ap (λ (o : Option Seen). option_map (λ (k : Seen). k.end) o) (seen_there s enough m (omega (arith, n, few)))
       ∙ ap (λ (o : Option End). Some o) (ap (λ (x : Held). x.account.end) (sym held) ∙ sym end_is)
+
+  -- the numbers that it has printed
+  pub outputs_there : s.heap.mutators ≤ workers_of s → m < length (seen_of s) → (printed : List ℕ) → printed ≡ z.account.printed
+      → option_map (λ (k : Seen). k.printed) (slice_get (seen_of s) m) ≡ Some printed
+  outputs_there enough few printed printed_is =
+      let n = seen_length s enough in
+      let held = read_held s m z (omega (arith, n, few, enough)) is in
+      ap (λ (o : Option Seen). option_map (λ (k : Seen). k.printed) o) (seen_there s enough m (omega (arith, n, few)))
+      ∙ ap (λ (o : List ℕ). Some o) (ap (λ (x : Held). x.account.printed) (sym held) ∙ sym printed_is)
+
+  -- the words in its registers
+  pub registers_here : s.heap.mutators ≤ workers_of s → m < length (seen_of s) → (registers : List ℕ) → registers ≡ z.registers
+      → slice_get (registers_in s) m ≡ Some registers
+  registers_here enough few registers registers_are =
+      let n = seen_length s enough in
+      let held = read_held s m z (omega (arith, n, few, enough)) is in
+      registers_there s enough m (omega (arith, n, few)) ∙ ap (λ (o : List ℕ). Some o) (ap (λ (x : Held). x.registers) (sym held) ∙ sym registers_are)
 
   -- what a worker keeps
   pub kept_here : m < workers_of s → (header place : ℕ) → header ≡ header_kept z.stage → place ≡ place_kept z.stage → slice_get (kept_in s) m ≡ Some (record { header = header; place = place })

@@ -55,6 +55,7 @@ round_epoch own d (duty_stage.EndArea traced) e = e
 round_epoch own d (duty_stage.EndPage look page) e = e
 round_epoch own d (duty_stage.EndFilling look) e = e
 round_epoch own d (duty_stage.EndAreaAgain look filling) e = e
+round_epoch own d (duty_stage.Walks traced walk) e = e
 round_epoch own d (duty_stage.Traces traced) e = e
 round_epoch own d (duty_stage.Ended result) e = e
 

@@ -281,7 +281,7 @@ module _ (h : Heap) (p o : Plain) (k : ℕ) (x : Held) (st : WorkersStand h p o)
   by_stage (Accesses a) q is asked = quiet (Accesses a) q a.spaces.pages (Some (access.wants_at a.spaces a.stage)) refl (access_rows.writes IsNoArea (λ addr. tt) a.spaces a.stage) asked
   by_stage (Places z) q is asked = places z z.stage q is asked
   by_stage (Serves d back) q is asked =
-      quiet (Serves d back) q d.layout.pages (duty.wants_at d d.stage) refl (duty_rows.writes IsNoArea tt (λ page. tt) d d.stage) (sym (duty_rows.by_rows d d.stage is.fits.stage.0.sound.stage) ∙ asked)
+      quiet (Serves d back) q d.layout.pages (duty.wants_at d d.stage) refl (duty_rows.writes IsNoArea tt tt (λ page. tt) (λ addr. tt) d d.stage) (sym (duty_rows.by_rows d d.stage is.fits.stage.0.sound.stage) ∙ asked)
   by_stage (Scans s back) q is asked = quiet (Scans s back) q s.layout.pages (scan.wants_at s.page s.epoch s.stage) refl (scan_rows.writes IsNoArea (λ addr. tt) s.page s.epoch s.stage) asked
   by_stage (Evacuates v s back) q is asked =
       let copy = is.fits.stage.0 in

@@ -162,7 +162,7 @@ module _ (h : Heap) (p o : Plain) (k : ℕ) (x : Held) (st : WorkersStand h p o)
     by_stage (Accesses a) q is asked = beside a.spaces.pages (Some (access.wants_at a.spaces a.stage)) q (access_rows.writes IsNoSize (λ addr. tt) a.spaces a.stage) asked
     by_stage (Places z) q is asked = places z z.stage q is asked
     by_stage (Serves d back) q is asked =
-        beside d.layout.pages (duty.wants_at d d.stage) q (duty_rows.writes IsNoSize tt (λ page. tt) d d.stage) (sym (duty_rows.by_rows d d.stage is.fits.stage.0.sound.stage) ∙ asked)
+        beside d.layout.pages (duty.wants_at d d.stage) q (duty_rows.writes IsNoSize tt tt (λ page. tt) (λ addr. tt) d d.stage) (sym (duty_rows.by_rows d d.stage is.fits.stage.0.sound.stage) ∙ asked)
     by_stage (Scans s back) q is asked = beside s.layout.pages (scan.wants_at s.page s.epoch s.stage) q (scan_rows.writes IsNoSize (λ addr. tt) s.page s.epoch s.stage) asked
     by_stage (Evacuates v s back) q is asked = copies v v.stage q asked
     by_stage (Opens s z back) q is asked = beside s.layout.pages (open_page.wants_at s s.stage) q (opening_writes IsNoSize (λ page. tt) s s.stage) asked

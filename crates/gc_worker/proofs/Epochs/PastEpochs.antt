@@ -12,7 +12,7 @@ use Rattle.space_map.specs.declared.page_word.PageWord.{PageWord}
 use Rattle.space_map.specs.declared.page_word.PageWord.TheVariants.{Unset, Scanning}
 use Rattle.space_map.specs.PageWord.{PageFits, age_of, encode_page}
 use Rattle.space_map.specs.Spaces.{Layout}
-use Rattle.space_map.specs.Table.{Row, IsRow, Page, Traced, place_of}
+use Rattle.space_map.specs.Table.{WeakTurn, Row, IsRow, Page, Traced, place_of}
 use Rattle.space_map.proofs.PageWords.{decode_page-encode_page}
 use Rattle.page_slots.specs.declared.claim_stage.ClaimStage.{ClaimStage}
 use Rattle.page_slots.specs.declared.claim_stage.ClaimStage.TheVariants.{Exchanges}
@@ -34,11 +34,12 @@ use Rattle.gc_worker.specs.Steps.Goes.{Is}
 use Rattle.gc_worker.specs.Workers.Held.{Held, at_stage}
 use Rattle.gc_worker.specs.Workers.Knows.{claim_with, looked_all}
 use Rattle.gc_worker.specs.Laws.Step.{Heap, IsOut, read, WorkersStand, age, held_at}
-use Rattle.gc_worker.specs.Laws.PastEpochs.{LosesPage, LosesTraced, PastClaimsAreLost, PastMarksAreLost, PagesAreWonNow, exchanges_next, traces_next}
+use Rattle.gc_worker.specs.Laws.PastEpochs.{LosesPage, LosesTurn, LosesTraced, PastClaimsAreLost, PastTurnsAreLost, PastMarksAreLost, takes_turn_next, PagesAreWonNow, exchanges_next, traces_next}
 use Rattle.gc_worker.specs.Steps.Turned.{PageWon, won, won_at, won_by, won_in}
 use Rattle.gc_worker.specs.Steps.Wanted.{wanted}
 use Rattle.gc_worker.proofs.Between.Pages.Claims.{of_now}
 use Rattle.gc_worker.proofs.Workers.Members.{member}
+use Rattle.gc_worker.proofs.Stages.Rounds.Walking.{turn_word}
 use Rattle.gc_worker.proofs.Stages.Rounds.Words.{page_age, traced_word}
 
 -- ---- the words
@@ -60,9 +61,12 @@ age_as : (n : ℕ) (words : List ℕ) (page : ℕ) (says : PageWord) → PageFit
 age_as n words page says fits same =
     ap (λ (w : ℕ). age_of (page_word_in w)) same ∙ ap (λ o. age_of (unwrap_or o Unset)) (decode_page-encode_page says fits)
 
--- the two exchanges
+-- the three exchanges
 abbrev claims_page : Claiming → Step
 claims_page q = Exchange (place_of q.layout.pages (Page q.page)) (encode_page q.found) (encode_page (Scanning q.epoch q.worker))
+
+abbrev takes_turn : Round → ℕ → Step
+takes_turn d turn = Exchange (place_of d.layout.pages WeakTurn) turn (d.epoch + 1)
 
 abbrev marks_traced : Round → ℕ → Step
 marks_traced d found = Exchange (place_of d.layout.pages Traced) found (d.epoch + 1)
@@ -104,6 +108,23 @@ module _ (h : Heap) (p o : Plain) (k : ℕ) (st : WorkersStand h p o) (y : Held)
         let l = other_word h.pages q.layout.pages h.words (Page q.page) (encode_page q.found) (encode_page (Scanning q.epoch q.worker)) pages out.page other in
         record { out = out; lost = record { reply = l.reply; unchanged = l.unchanged; none = refl; silent = refl; ends = refl; goes_back = refl } }
 
+  -- the exchange of WEAKTURN
+  module _ (found turn : ℕ) (is : Is c k (at_stage y (Serves (takes_turn_next d found turn) back))) where
+    pages_turned : d.layout.pages ≡ h.pages
+    pages_turned = ap (λ (l : Layout). l.pages) is.fits.stage.0.layout ∙ is.fits.pages
+
+    loses_turn : LosesTurn h (at_stage y (Serves (takes_turn_next d found turn) back)) d back found turn (takes_turn d turn)
+    loses_turn =
+        let now = of_now h p o st in
+        let top = st.stands.invariant.cells.chain.top in
+        let free = is.fits.stage.0.sound.stage.1.sound.fits in
+        let w = turn_word c in
+        let l = other_word h.pages d.layout.pages h.words WeakTurn turn (d.epoch + 1) pages_turned tt (λ same. omega (arith, top, free, now, w, same, past)) in
+        record {
+          taken = omega (arith, top, now, w, past);
+          lost = record { reply = l.reply; unchanged = l.unchanged; none = refl; silent = refl; ends = refl; goes_back = refl };
+        }
+
   -- the exchange of TRACED
   module _ (found : ℕ) (is : Is c k (at_stage y (Serves (traces_next d found) back))) where
     pages_traced : d.layout.pages ≡ h.pages
@@ -130,6 +151,12 @@ past_claims_are_lost h p o k x d back c q st below holds staged past asked =
     let own : x ≡ at_stage x (Serves (exchanges_next d c) back) = ap (at_stage x) staged in
     let lost = loses_page h p o k st x d back past c (subst (Is (read h) k) own (member h p o k x st below holds)) in
     subst (LosesPage h x d back c) (same_Some (claims_page c) q (ap wanted (sym own) ∙ asked)) (subst (λ (z : Held). LosesPage h z d back c (claims_page c)) (sym own) lost)
+
+pub past_turns_are_lost : PastTurnsAreLost
+past_turns_are_lost h p o k x d back found turn q st below holds staged past asked =
+    let own : x ≡ at_stage x (Serves (takes_turn_next d found turn) back) = ap (at_stage x) staged in
+    let lost = loses_turn h p o k st x d back past found turn (subst (Is (read h) k) own (member h p o k x st below holds)) in
+    subst (LosesTurn h x d back found turn) (same_Some (takes_turn d turn) q (ap wanted (sym own) ∙ asked)) (subst (λ (z : Held). LosesTurn h z d back found turn (takes_turn d turn)) (sym own) lost)
 
 pub past_marks_are_lost : PastMarksAreLost
 past_marks_are_lost h p o k x d back found q st below holds staged past asked =

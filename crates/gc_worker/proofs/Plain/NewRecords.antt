@@ -95,6 +95,13 @@ holds_by Raw n fits mixed = absurd (cc)
 holds_by (Mixed fields) n fits mixed = omega (arith, fits)
 holds_by Weak n fits mixed = absurd (cc)
 
+-- a cell takes three words
+pub cell_size : (kind : Kind) (n : ℕ) → FitsKind kind n → kind ≡ Weak → header_len kind n + 1 ≡ 3
+cell_size Fields n fits e = absurd (cc)
+cell_size Raw n fits e = absurd (cc)
+cell_size (Mixed fields) n fits e = absurd (cc)
+cell_size Weak n fits e = omega (arith, fits)
+
 -- its kind is the one that its header says, with its fields
 pub kind_said : (kind : Kind) → kind_with (header_kind kind) (fields_of kind) ≡ kind
 kind_said Fields = refl

@@ -24,6 +24,7 @@ use Rattle.fault_duty.specs.declared.caller.Caller.{Caller}
 use Rattle.fault_duty.specs.declared.caller.Caller.TheVariants.{Faulted}
 use Rattle.fault_duty.specs.declared.duty_stage.DutyStage.{DutyStage}
 use Rattle.fault_duty.specs.declared.duty_stage.DutyStage.TheVariants as duty_stage
+use Rattle.cell_walk.proofs.GoingOn as walk_going
 use Rattle.fault_duty.specs.Duty as duty
 use Rattle.fault_duty.specs.Soundness.{FitsCaller, IsSoundRound}
 use Rattle.forwarding.specs.declared.evac_stage.EvacStage.{EvacStage}
@@ -193,6 +194,7 @@ module _ (c : Configuration) (p : Plain) (s : Stands c p) (k : ℕ) where
         (Advances (says_page d.layout.pages same (page_of look.front) (omega (arith, high, space))))
     serving (duty_stage.EndAreaAgain look filling) sound asked =
         subst (On (duty.advances_at (duty_stage.EndAreaAgain look filling))) (same_Some _ q asked) (Advances (says_area d.layout.pages same d.epoch))
+    serving (duty_stage.Walks traced walk) sound asked = Advances (walk_going.goes_on walk q c.words sound.stage.1.sound asked).0
     serving (duty_stage.Traces traced) sound asked = subst (On (duty.advances_at (duty_stage.Traces traced))) (same_Some _ q asked) (either_way _ _ _ _ refl refl)
     serving (duty_stage.Ended result) sound asked = absurd (cc)
 

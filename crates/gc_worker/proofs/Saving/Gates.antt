@@ -253,7 +253,7 @@ module _ (c : Configuration) (p : Plain) (z : Frozen) (saver : ℕ → Saver) (k
         fits : GateFits (gate_after passage gate)
         fits =
             rw same (steps_are_lifted c p b.stands (Some (GateIs (laws.gate_after q gate))) k (laws.worker_after gate.epoch q ((team c).worker k)) b.stands.ghost b.is.below
-            (passes_gate (era c) (memory c) (team c) b.stands.ghost k step ready_now wins_gate)).fits
+            (passes_gate (era c) (memory c) (team c) b.stands.ghost k step ready_now (ap (λ (w : Worker). w.pass) b.is.as_known) wins_gate)).fits
 
         stands : SavingStands (table_after (table c) (Some entry)) (saves c) z (team c).count (put saver k (saver_of (turned x Won)))
         stands =

@@ -10,4 +10,5 @@ pub mod EndPages
 pub mod Looking
 pub mod Winning
 pub mod EndAgain
+pub mod Walking
 pub mod Whole

@@ -7,7 +7,7 @@ use Rattle.space_map.specs.GateWord.{decode_gate}
 use Rattle.fault_duty.specs.declared.caller.Caller.{Caller}
 use Rattle.fault_duty.specs.declared.caller.Caller.TheVariants.{Faulted, Allocates, Scans}
 use Rattle.fault_duty.specs.declared.duty_stage.DutyStage.{DutyStage}
-use Rattle.fault_duty.specs.declared.duty_stage.DutyStage.TheVariants.{LoadsGate, LoadsTraced, LoadsWanted, LoadsFrontFor, LoadsFront, LoadsPage, Claims, EndGate, EndArea, EndPage, EndFilling, EndAreaAgain, Traces, Ended}
+use Rattle.fault_duty.specs.declared.duty_stage.DutyStage.TheVariants.{LoadsGate, LoadsTraced, LoadsWanted, LoadsFrontFor, LoadsFront, LoadsPage, Claims, EndGate, EndArea, EndPage, EndFilling, EndAreaAgain, Walks, Traces, Ended}
 use Rattle.fault_duty.specs.Duty.{Round, at_stage, begun, looked_at_gate, looked_by_gate, taken, taken_at}
 use Rattle.gc_worker.specs.declared.stage.back.Back.{Back}
 use Rattle.gc_worker.specs.declared.stage.back.Back.TheVariants.{ToAccess, ToPlace, ToSnap, ToScanner}
@@ -80,6 +80,7 @@ kept d (EndAreaAgain look filling) (Value word) = refl
 kept d (EndAreaAgain look filling) Done = refl
 kept d (EndAreaAgain look filling) Won = refl
 kept d (EndAreaAgain look filling) (Lost word) = refl
+kept d (Walks traced walk) reply = refl
 kept d (Traces traced) (Value word) = refl
 kept d (Traces traced) Done = refl
 kept d (Traces traced) Won = refl

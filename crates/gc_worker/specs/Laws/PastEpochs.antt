@@ -1,14 +1,16 @@
--- A round that slept past a flip wins nothing: its claim of a page and its exchange of TRACED are lost.
+-- A round that slept past a flip wins nothing: its claim of a page and its exchanges of WEAKTURN and TRACED are lost.
 use Rattle.std.specs.Prelude.{◌≡◌, ℕ, ◌<◌, List, length, Some, None}
 use Rattle.plain_state.specs.State.{Plain}
 use Rattle.atom_store.specs.declared.reply.Reply.TheVariants.{Lost}
 use Rattle.atom_store.specs.declared.step.Step.{Step}
 use Rattle.atom_store.specs.declared.turn.Turn.TheVariants.{Finished}
 use Rattle.atom_store.specs.Step.{words_after, reply_of}
-use Rattle.space_map.specs.Table.{Page, Traced}
+use Rattle.space_map.specs.Table.{Page, Traced, WeakTurn}
 use Rattle.page_slots.specs.declared.claim_stage.ClaimStage.TheVariants.{Exchanges}
 use Rattle.page_slots.specs.Claim.{Claiming}
-use Rattle.fault_duty.specs.declared.duty_stage.DutyStage.TheVariants.{Claims, Traces}
+use Rattle.cell_walk.specs.declared.walk_stage.WalkStage.TheVariants.{TakesTurn}
+use Rattle.cell_walk.specs.Walking.{begun}
+use Rattle.fault_duty.specs.declared.duty_stage.DutyStage.TheVariants.{Claims, Walks, Traces}
 use Rattle.fault_duty.specs.declared.round_end.RoundEnd.TheVariants.{NothingNow}
 use Rattle.fault_duty.specs.Duty as duty
 use Rattle.fault_duty.specs.Duty.{Round}
@@ -43,6 +45,19 @@ pub record LosesPage (h : Heap) (x : Held) (d : Round) (back : Back) (c : Claimi
 abbrev pub PastClaimsAreLost : Type 0
 PastClaimsAreLost = (h : Heap) (p o : Plain) (k : ℕ) (x : Held) (d : Round) (back : Back) (c : Claiming) (q : Step) → WorkersStand h p o → k < length h.workers → held_at h k ≡ x
     → x.stage ≡ Serves (exchanges_next d c) back → d.epoch < epoch_of_heap h → wanted x ≡ Some q → LosesPage h x d back c q
+
+-- the round that exchanges WEAKTURN next, which it has read as this word, and TRACED as that
+abbrev pub takes_turn_next : Round → (found turn : ℕ) → Round
+takes_turn_next d found turn = record d { stage = Walks found (record (begun d.layout d.epoch) { stage = TakesTurn turn }) }
+
+-- There the exchange of WEAKTURN is lost: it says that the turn of the round's epoch or of a later one was taken.
+pub record LosesTurn (h : Heap) (x : Held) (d : Round) (back : Back) (found turn : ℕ) (q : Step) : Type 0 where
+  pub taken : d.epoch < word_in h.pages h.words WeakTurn
+  pub lost : IsLost h.words x (takes_turn_next d found turn) back q (word_in h.pages h.words WeakTurn)
+
+abbrev pub PastTurnsAreLost : Type 0
+PastTurnsAreLost = (h : Heap) (p o : Plain) (k : ℕ) (x : Held) (d : Round) (back : Back) (found turn : ℕ) (q : Step) → WorkersStand h p o → k < length h.workers → held_at h k ≡ x
+    → x.stage ≡ Serves (takes_turn_next d found turn) back → d.epoch < epoch_of_heap h → wanted x ≡ Some q → LosesTurn h x d back found turn q
 
 -- the round that exchanges TRACED next, which it has read as this word
 abbrev pub traces_next : Round → (found : ℕ) → Round

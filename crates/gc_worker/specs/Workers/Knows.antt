@@ -11,7 +11,12 @@ use Rattle.alloc_end.specs.declared.place_stage.PlaceStage.TheVariants as place_
 use Rattle.alloc_end.specs.declared.new_pages.NewPages.{NewPages}
 use Rattle.alloc_end.specs.declared.run.Run.{Run}
 use Rattle.alloc_end.specs.Place.{Placing, words_for}
+use Rattle.cell_walk.specs.declared.linked_cell.LinkedCell.{LinkedCell}
+use Rattle.cell_walk.specs.declared.walk_end.WalkEnd.TheVariants.{Passed, Another}
+use Rattle.cell_walk.specs.declared.walk_stage.WalkStage.{WalkStage}
+use Rattle.cell_walk.specs.declared.walk_stage.WalkStage.TheVariants as walk_stage
 use Rattle.fault_duty.specs.declared.duty_stage.DutyStage.{DutyStage}
+use Rattle.heap_laws.specs.Cells.Walks.{visit, passed, replacing}
 use Rattle.fault_duty.specs.declared.duty_stage.DutyStage.TheVariants as duty_stage
 use Rattle.fault_duty.specs.declared.page_state.PageState.{PageState}
 use Rattle.fault_duty.specs.declared.page_state.PageState.TheVariants as page_state
@@ -40,7 +45,7 @@ use Rattle.page_slots.specs.declared.claim_stage.ClaimStage.TheVariants as claim
 use Rattle.page_slots.specs.Claim.{Claiming}
 use Rattle.heap_laws.specs.Allocation.Records.{stored_ahead}
 use Rattle.heap_laws.specs.Copying.{begun}
-use Rattle.heap_state.specs.Worker.{Worker, Post, Outside, Running, Stopped, Flipping, Snapping, Passage, Enter, Park, Request, RequestSnap, Clear, Forwarded, Resume, Leave, GateStep, Reset, Stock, SeenHeader, SeenRecord, Role, FieldRole, NumberRole, UnknownRole, Origin, Register, Scanned, Quest, Copy, Scan, Round, Claim, Look, LastLook, Linking}
+use Rattle.heap_state.specs.Worker.{Worker, Post, Outside, Running, Stopped, Flipping, Snapping, Passage, Enter, Park, Request, RequestSnap, Clear, Forwarded, Resume, Leave, GateStep, Reset, Stock, SeenHeader, SeenRecord, Role, FieldRole, NumberRole, UnknownRole, Origin, Register, Scanned, Quest, Copy, Scan, Round, Claim, Look, LastLook, Linking, Visit, Pass, Begins, At, Done}
 use Rattle.heap_state.specs.Worker as workers
 use Rattle.heap_state.specs.Worker.{Access}
 use Rattle.gc_worker.specs.declared.access.access_stage.AccessStage.{AccessStage}
@@ -323,27 +328,14 @@ opened_in l stage = None
 
 -- ---- copies
 
--- the copy's place, once the worker has found it, and whether it is a cell that the worker has still to link
-pub record Finding : Type 0 where
-  pub place : Option ℕ
-  pub links : Bool
-
-abbrev pub nothing_found : Finding
-nothing_found = record { place = None; links = false }
-
-abbrev pub found_at : (to : ℕ) → Finding
-found_at to = record { place = Some to; links = false }
-
-abbrev pub cell_found_at : (to : ℕ) → Finding
-cell_found_at to = record { place = Some to; links = true }
-
-abbrev pub found_in : EvacStage → Finding
-found_in (evac_stage.LoadsWeak to) = cell_found_at to
-found_in (evac_stage.StoresLink to word) = cell_found_at to
-found_in (evac_stage.TakesWeak to word) = cell_found_at to
-found_in (evac_stage.Clears to) = found_at to
-found_in (evac_stage.Ended to) = found_at to
-found_in stage = nothing_found
+-- the copy's place, once the worker has found it
+abbrev pub found_in : EvacStage → Option ℕ
+found_in (evac_stage.LoadsWeak to) = Some to
+found_in (evac_stage.StoresLink to word) = Some to
+found_in (evac_stage.TakesWeak to word) = Some to
+found_in (evac_stage.Clears to) = Some to
+found_in (evac_stage.Ended to) = Some to
+found_in stage = None
 
 -- a copy whose place was read as FRONT, and is announced or not
 abbrev pub placing : (addr to : ℕ) → KeptHeader → (announced : Bool) → Copy
@@ -406,7 +398,7 @@ linking_in (Evacuates v s back) = linking_at v.stage
 linking_in stage = None
 
 abbrev pub quest_for : Origin → evac.Evacuation → Quest
-quest_for origin v = let finding = found_in v.stage in record { old = v.addr; origin = origin; found = finding.place; links = finding.links }
+quest_for origin v = record { old = v.addr; origin = origin; found = found_in v.stage }
 
 -- ---- scans
 
@@ -455,7 +447,7 @@ scan_in stage = None
 
 -- what a scan asks for: the word at the cursor led there, and the copy is found
 abbrev pub quest_at : ScanStage → Option Quest
-quest_at (scan_stage.StoresCopy asked to) = Some (record { old = asked.old; origin = Scanned (scan.address_of asked.spot); found = Some to; links = false })
+quest_at (scan_stage.StoresCopy asked to) = Some (record { old = asked.old; origin = Scanned (scan.address_of asked.spot); found = Some to })
 quest_at stage = None
 
 -- where a scan that asks stands
@@ -536,8 +528,30 @@ look_at d (duty_stage.EndAreaAgain l filling) =
 look_at d stage = None
 
 abbrev pub last_look_at : DutyStage → Option LastLook
+last_look_at (duty_stage.Walks traced walk) = Some (record { traced = traced })
 last_look_at (duty_stage.Traces traced) = Some (record { traced = traced })
 last_look_at stage = None
+
+-- a cell that a walk has come to, of which nothing is known yet
+abbrev pub visited : LinkedCell → Visit
+visited cell = visit cell.at cell.most
+
+-- how far the walk over the chain of copied cells is, from the turn on
+abbrev pub pass_of : WalkStage → Option Pass
+pass_of walk_stage.LoadsTurn = None
+pass_of (walk_stage.TakesTurn turn) = None
+pass_of walk_stage.LoadsWeak = Some Begins
+pass_of (walk_stage.LoadsTarget cell) = Some (At (visited cell))
+pass_of (walk_stage.LoadsTargetHeader cell old) = Some (At (record (visited cell) { old = Some old }))
+pass_of (walk_stage.StoresTarget cell word) = Some (At (replacing (visited cell) word))
+pass_of (walk_stage.LoadsLink cell) = Some (At (passed (visited cell)))
+pass_of (walk_stage.Ended Passed) = Some Done
+pass_of (walk_stage.Ended (Another word)) = None
+
+abbrev pub pass_at : DutyStage → Option Pass
+pass_at (duty_stage.Walks traced walk) = pass_of walk.stage
+pass_at (duty_stage.Traces traced) = Some Done
+pass_at stage = None
 
 abbrev pub round_in : Stage → Option Round
 round_in (Serves d back) = round_at d.stage
@@ -554,6 +568,10 @@ look_in stage = None
 abbrev pub last_look_in : Stage → Option LastLook
 last_look_in (Serves d back) = last_look_at d.stage
 last_look_in stage = None
+
+abbrev pub pass_in : Stage → Option Pass
+pass_in (Serves d back) = pass_at d.stage
+pass_in stage = None
 
 -- ---- the whole
 
@@ -576,7 +594,7 @@ known_at x stage = record {
   look = look_in stage;
   last_look = last_look_in stage;
   linking = linking_in stage;
-  pass = None;
+  pass = pass_in stage;
   traced_seen = traced_seen_in stage;
   size_seen = size_seen_in stage;
   gate_step = gate_step_in x stage;

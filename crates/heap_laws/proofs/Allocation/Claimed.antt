@@ -12,11 +12,13 @@ use Rattle.heap_state.specs.Invariant.Parts.Knowledge.{Resets}
 use Rattle.heap_state.specs.Invariant.Parts.Pages.{Shut}
 use Rattle.heap_state.specs.Invariant.Parts.Records.{Laid, NewArea, NewWritten}
 use Rattle.heap_state.specs.Invariant.Parts.Stocks.{Stocks, Stocked}
+use Rattle.heap_state.specs.Targets.{Targets}
 use Rattle.heap_state.specs.Worker.{Worker, Team, Stock, is_running, Reset}
 use Rattle.heap_state.proofs.Workers.Frames.{counted_put, staffed_put, scanned_put, stocks_anew, numbered_put, rooted_put}
 use Rattle.heap_state.proofs.Puts.{team_put, none≢some, some_same}
 use Rattle.heap_laws.specs.Steps.{Ready, Preserves}
-use Rattle.heap_laws.proofs.Allocation.Stocks.{stocked_knows, with_stock}
+use Rattle.heap_laws.proofs.Allocation.Stocks.{stocked_knows, stocked_in_chain, with_stock}
+use Rattle.heap_laws.proofs.Cells.Kept.{same_cells, same_words_keep}
 use Rattle.heap_laws.proofs.Flipping.Sums.{sum_below-term}
 use Rattle.heap_laws.proofs.Steps.Learning.{shown_put}
 use Rattle.heap_laws.proofs.Scanning.Scanners.{open_age}
@@ -46,7 +48,8 @@ pub record FitsPages (E : Era) (m : Memory) (n owed : ℕ) : Type 0 where
   pub beside : m.traced ≤ E.epoch → (owed ≡ m.owed) × (m.front + 64 * n + owed ≤ m.low)
   pub small : owed ≤ m.owed
 
-module _ (E : Era) (m : Memory) (team : Team) (g : Ghost) (k n owed : ℕ) (lay : IsLaidOut E) (inv : Invariant E m team g) (l : k < team.count) (run : is_running (team.worker k).post ≡ true) (has : FitsPages E m n owed) where
+module _ (E : Era) (m : Memory) (team : Team) (g : Ghost) (k n owed : ℕ) (lay : IsLaidOut E) (inv : Invariant E m team g) (l : k < team.count) (run : is_running (team.worker k).post ≡ true) (has : FitsPages E m n owed)
+    (targets : Targets E (with_low m (m.low - 64 * n) owed) g) where
   abbrev low : ℕ
   low = m.low - 64 * n
 
@@ -146,15 +149,16 @@ module _ (E : Era) (m : Memory) (team : Team) (g : Ghost) (k n owed : ℕ) (lay 
       let p8 : NewWritten E low g.size g.writer = record { written = λ a st u e. inv.new_written.written a st (above a st u) e } in
       let p9 = stocks in
       let p10 = numbered_put team.worker k w refl inv.numbered in
-      let p11 = team_put team.count (Knows E m.gate m.traced m.front low m.old_front m.old_low m.old_owed g m.page m.cross m.announced m.heap) team.worker k (record (team.worker k) { stock = Some new })
+      let p11 = same_words_keep E m (with_low m low owed) team g g k w (record { weak = refl; weak_turn = refl }) (record { traced = refl; front = refl }) refl (same_cells g) (stocked_in_chain E (team.worker k) (Some new) (team.worker k).account) targets inv.cells in
+      let p12 = team_put team.count (Knows E m.gate m.traced m.front low m.old_front m.old_low m.old_owed g m.page m.cross m.announced m.heap) team.worker k (record (team.worker k) { stock = Some new })
       (λ j u d. worker j (team.worker j) (inv.workers j u))
       (stocked_knows E (with_low m low owed) g k (team.worker k) new (sym (me.timely.running run)) (worker k (team.worker k) me)) in
       assumption
 
 pub stocks_are_claimed : (E : Era) (m : Memory) (team : Team) (g : Ghost) (k n owed : ℕ) → Ready E m team g k → is_running (team.worker k).post ≡ true → FitsPages E m n owed
-    → Preserves E m (with_low m (m.low - 64 * n) owed) team (with_stock team k (below_low E m n)) g g
-stocks_are_claimed E m team g k n owed ready run has = record {
-  invariant = keeps E m team g k n owed ready.laid_out ready.invariant ready.member run has;
+    → Targets E (with_low m (m.low - 64 * n) owed) g → Preserves E m (with_low m (m.low - 64 * n) owed) team (with_stock team k (below_low E m n)) g g
+stocks_are_claimed E m team g k n owed ready run has targets = record {
+  invariant = keeps E m team g k n owed ready.laid_out ready.invariant ready.member run has targets;
   shown = λ p s. shown_put E m (with_low m (m.low - 64 * n) owed) team g k (record (team.worker k) { stock = Some (below_low E m n) }) p refl refl refl s;
   cycle = λ p cy. record { copying = cy.copying; rooted = rooted_put team.worker k (record (team.worker k) { stock = Some (below_low E m n) }) refl refl refl (λ _ _ a b. (a, b)) cy.rooted };
   ages = λ p. omega arith;

@@ -12,6 +12,7 @@ use Rattle.plain_state.specs.declared.value.Identity.{Identity}
 use Rattle.space_map.specs.declared.page_word.PageWord.TheVariants.{Open}
 use Rattle.heap_state.specs.Memory.Era.{Era, IsLaidOut, Memory}
 use Rattle.heap_state.specs.Functions.{put}
+use Rattle.heap_state.specs.Invariant.Parts.Cells.{Cells}
 use Rattle.heap_state.specs.Invariant.Ghost.{Ghost, Leads, Lands, header_kind}
 use Rattle.heap_state.specs.Invariant.Inductive.{Invariant, Knows}
 use Rattle.heap_state.specs.Invariant.Parts.Stocks.{Stocks, Stocked, Numbered}
@@ -231,8 +232,8 @@ module _ (E : Era) (m : Memory) (team : Team) (g : Ghost) (k : ℕ) (q : Stock) 
       let a : (s : Stock) → w.stock ≡ Some s → s.epoch ≡ w.epoch = λ s e. rw (← some_same e) (p.stock q places.own.has) in
       assumption
 
-  pub records_are_placed : Invariant E (with_word m q.at v) (with_worker team k w) g'
-  records_are_placed = record {
+  pub records_are_placed : Cells E (with_word m q.at v) (with_worker team k w) g' → Invariant E (with_word m q.at v) (with_worker team k w) g'
+  records_are_placed cells = record {
     counted = counted_put team.worker k w refl refl inv.counted;
     staffed = staffed_put team.worker k w refl inv.staffed;
     laid = laid_allocated new_place;
@@ -260,6 +261,7 @@ module _ (E : Era) (m : Memory) (team : Team) (g : Ghost) (k : ℕ) (q : Stock) 
     crossing = crossing_allocated new_place g.writer m.cross inv.crossing;
     stocks = stocks;
     numbered = numbered;
+    cells = cells;
     workers = team_put team.count (Knows E m.gate m.traced m.front m.low m.old_front m.old_low m.old_owed g' m.page m.cross m.announced heap) team.worker k w (λ j l d. known j (team.worker j) (inv.workers j l)) own;
   }
 

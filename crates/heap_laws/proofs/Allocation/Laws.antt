@@ -8,13 +8,15 @@ use Rattle.space_map.specs.Spaces.{to_space}
 use Rattle.heap_state.specs.Memory.Entries.{AreaIs, PageIs}
 use Rattle.heap_state.specs.Memory.Era.{Era, Memory}
 use Rattle.heap_state.specs.Invariant.Ghost.{Ghost}
+use Rattle.heap_state.specs.Targets.{Targets}
 use Rattle.heap_state.specs.Worker.{Team, Stock, is_running}
 use Rattle.heap_laws.specs.Allocation.Stocks.{HasRoomForPages, StocksAreClaimed, StocksAreZeroed, StocksAreOpened, claimed, lowered, owed_beside, stocked, opened_further, RoomIsSeen}
-use Rattle.heap_laws.specs.Steps.{Ready, IsAreaNow, Steps, Preserves, InArea, InPage, InWord, with_area, with_page, with_worker}
+use Rattle.heap_laws.specs.Steps.{Ready, IsAreaNow, Steps, Preserves, WritesRow, InArea, InPage, InWord, with_area, with_page, with_worker}
 use Rattle.heap_laws.proofs.Allocation.Claimed.{FitsPages, below_low, with_low, stocks_are_claimed}
 use Rattle.heap_laws.proofs.Allocation.Opened.{stocks_are_opened}
 use Rattle.heap_laws.proofs.Allocation.Stocks.{owns, opens_of, with_stock}
 use Rattle.heap_laws.proofs.Allocation.Zeroed.{stocks_are_zeroed}
+use Rattle.heap_laws.proofs.Targets.Placed.{claiming_carries_targets}
 
 -- ---- pages claimed
 
@@ -55,12 +57,19 @@ module _ (E : Era) (m : Memory) (team : Team) (g : Ghost) (k n owed : ℕ) (area
   stock_is : claimed (team.worker k).epoch E.start area n ≡ below_low E m n
   stock_is = λ i. record { epoch = epoch i; at = low_is i; end = sym now.low i; zeroed = low_is i; opened = low_is i; ahead = [] }
 
+  writes : WritesRow E m (Some (AreaIs (to_space E.epoch) (lowered area n owed))) (with_area m (E.start + area.front) (E.start + (area.low - 64 * n)) owed)
+  writes = InArea (lowered area n owed) row_fits
+
+  targets : Targets E (with_low m (m.low - 64 * n) owed) g
+  targets = subst (λ (x : Memory). Targets E x g) memory_is
+      (claiming_carries_targets E m (with_area m (E.start + area.front) (E.start + (area.low - 64 * n)) owed) team g k n owed area ready now has writes ready.invariant.cells.targets)
+
   claims : Steps E m team g k (Some (AreaIs (to_space E.epoch) (lowered area n owed))) (stocked (team.worker k) (claimed (team.worker k).epoch E.start area n)) g
   claims = record {
     later = with_area m (E.start + area.front) (E.start + (area.low - 64 * n)) owed;
-    writes = InArea (lowered area n owed) row_fits;
+    writes = writes;
     keeps = subst (λ (x : Memory). Preserves E m x team (with_worker team k (stocked (team.worker k) (claimed (team.worker k).epoch E.start area n))) g g) (sym memory_is)
-        (subst (λ (q : Stock). Preserves E m (with_low m (m.low - 64 * n) owed) team (with_stock team k q) g g) (sym stock_is) (stocks_are_claimed E m team g k n owed ready runs fits));
+        (subst (λ (q : Stock). Preserves E m (with_low m (m.low - 64 * n) owed) team (with_stock team k q) g g) (sym stock_is) (stocks_are_claimed E m team g k n owed ready runs fits targets));
   }
 
 pub claims_pages : StocksAreClaimed

@@ -17,7 +17,8 @@ use Rattle.heap_state.proofs.Workers.Frames.{counted_put, staffed_put, scanned_p
 use Rattle.heap_state.proofs.Puts.{put_at, put_other, each_put, team_put, some_same}
 use Rattle.heap_laws.specs.Allocation.Stocks.{opened_further}
 use Rattle.heap_laws.specs.Steps.{Ready, Preserves, with_page}
-use Rattle.heap_laws.proofs.Allocation.Stocks.{stocked_knows, is_not_ahead, nothing_ahead, Opens, with_stock}
+use Rattle.heap_laws.proofs.Allocation.Stocks.{stocked_knows, stocked_in_chain, is_not_ahead, nothing_ahead, Opens, with_stock}
+use Rattle.heap_laws.proofs.Cells.Kept.{same_cells, same_keeps}
 use Rattle.heap_laws.proofs.Steps.Learning.{shown_put}
 use Rattle.heap_laws.proofs.Frames.PageWords.{Turns, stays, grows, quiet_turns, tracing_turns, aged_turns, old_pages_turn, old_space_turns, scans_beside, knows_turns}
 use Rattle.heap_laws.proofs.Scanning.Scanners.{scan_age}
@@ -135,7 +136,8 @@ module _ (E : Era) (m : Memory) (team : Team) (g : Ghost) (k p : ℕ) (q : Stock
       let p11 = old_pages_turn turn inv.old_pages in
       let p12 = stocks in
       let p13 = numbered_put team.worker k w refl inv.numbered in
-      let p14 = team_put team.count (Knows E m.gate m.traced m.front m.low m.old_front m.old_low m.old_owed g page m.cross m.announced m.heap) team.worker k w
+      let p14 = same_keeps E m (with_page m p (Open E.epoch)) team g g k w (assumption) (assumption) (same_cells g) (stocked_in_chain E (team.worker k) (Some next) (team.worker k).account) inv.cells in
+      let p15 = team_put team.count (Knows E m.gate m.traced m.front m.low m.old_front m.old_low m.old_owed g page m.cross m.announced m.heap) team.worker k w
       (λ j l d. known j (team.worker j) (inv.workers j l))
       (stocked_knows E (with_page m p (Open E.epoch)) g k (team.worker k) next ((inv.workers k opens.own.worker).stock q opens.own.has) (known k (team.worker k) (inv.workers k opens.own.worker))) in
       assumption

@@ -1,13 +1,16 @@
 -- A mutator stores a new record's header, and points to it, in one step.
-use Rattle.std.proofs.Common.{◌≡◌, ◌≢◌, ℕ, ◌<◌, Some, None, sym, ap, ◌∙◌, arith, ⊎_elim}
+use Rattle.std.proofs.Common.{◌≡◌, ◌≢◌, ℕ, ◌+◌, ◌<◌, Some, None, refl, sym, ap, ◌∙◌, arith, ⊎_elim, inl}
 use Rattle.std.proofs.Math.ListN.{length-set}
 use Rattle.std.proofs.lemmas.Bool.{cases_eq}
 use Rattle.heap_words.specs.Decoded.{PointerWord, decode}
 use Rattle.plain_state.specs.State as plain
 use Rattle.plain_state.specs.Writing.{gained}
 use Rattle.plain_state.specs.declared.kind.Kind.{Kind}
+use Rattle.plain_state.specs.declared.kind.Kind.TheVariants.{Weak}
 use Rattle.plain_state.specs.declared.value.Identity.{Identity}
 use Rattle.plain_state.specs.declared.value.Value.TheVariants.{Reference}
+use Rattle.heap_state.specs.Invariant.Parts.Cells.{Cells}
+use Rattle.heap_state.specs.Memory.Entries.{WordIs}
 use Rattle.heap_state.specs.Memory.Era.{Era, Memory}
 use Rattle.heap_state.specs.Invariant.Ghost.{Ghost}
 use Rattle.heap_state.specs.Meaning.Values.{Shown, Shows, value_of}
@@ -16,16 +19,20 @@ use Rattle.heap_state.specs.Worker.{Worker, Team, Stock, Access}
 use Rattle.heap_state.proofs.Puts.{put_at, put_other, put_same, put_twice}
 use Rattle.heap_laws.specs.Fields.Held.{MayHold, HoldsValue, MutatorGoesOn}
 use Rattle.heap_laws.specs.Fields.Stores.{IsAs, MutatorsPlace, with_record, with_reference, plain_next}
-use Rattle.heap_laws.specs.Allocation.Records.{allocated, next_identity}
-use Rattle.heap_laws.specs.Steps.{Ready, with_word, with_worker, InWord}
+use Rattle.heap_laws.specs.Allocation.Records.{PlacesNext, allocated, next_identity}
+use Rattle.heap_laws.specs.Steps.{Ready, WritesRow, InWord, with_word, with_worker}
+use Rattle.heap_laws.specs.Targets.Records.{MayBeTarget}
 use Rattle.heap_laws.proofs.Allocation.Header.{placed, new_place, records_are_placed, placed_is_held}
 use Rattle.heap_laws.proofs.Allocation.Cycle.{placing_keeps_cycle}
 use Rattle.heap_laws.proofs.Allocation.Parts.{NewPlace, lands_on, unused}
 use Rattle.heap_laws.proofs.Allocation.Shown.{placing_shows, within as maker_there}
-use Rattle.heap_laws.proofs.Allocation.Stocks.{Places, places_of}
+use Rattle.heap_laws.proofs.Allocation.Stocks.{Places, places_of, stocked_in_chain}
 use Rattle.heap_laws.proofs.Allocation.Values.{value_allocated}
 use Rattle.heap_laws.proofs.Allocation.Workers.{accesses_allocated}
+use Rattle.heap_laws.proofs.Cells.Kept.{of_chain}
+use Rattle.heap_laws.proofs.Cells.Placed.{placing_carries_chain}
 use Rattle.heap_laws.proofs.Fields.Laws.{both, goes_as}
+use Rattle.heap_laws.proofs.Targets.Placed.{placing_carries_targets, new_targets_are_zero}
 use Rattle.plain_state.proofs.Gained.{gained_serial}
 use Rattle.plain_state.proofs.Lists.{slice_get-set_same, slice_get-set_other}
 
@@ -98,16 +105,33 @@ module _ (E : Era) (m : Memory) (team : Team) (g : Ghost) (p : plain.Plain) (k :
       named : i ≡ next'
       named = λ x. record { mutator = k; serial = same_serial x }
 
+-- the row of the header
+writes_header : (E : Era) (m : Memory) (team : Team) (g : Ghost) (k : ℕ) (s : Stock) (c : Kind) (z v : ℕ) → Ready E m team g k → Places E team k s c z v → WritesRow E m (Some (WordIs s.at v)) (with_word m s.at v)
+writes_header E m team g k s c z v ready places =
+    let ok = (ready.invariant.stocks.stocked k ready.member s places.own.has places.own.epoch).lies in
+    InWord s.at v (let lay = ready.laid_out in let f = places.fits in let n = places.some in omega (arith, ok, lay.below, f, n))
+
+-- what is known of the cells then
+cells_after : (E : Era) (m : Memory) (team : Team) (g : Ghost) (k : ℕ) (s : Stock) (c : Kind) (z v : ℕ) → Ready E m team g k → PlacesNext team k s c z v → (c ≡ Weak → z ≡ 3)
+    → Cells E (with_word m s.at v) (with_worker team k (placed team k s z)) (allocated g s.at z c (next_identity team k))
+cells_after E m team g k s c z v ready next_one three =
+    let before = ready.invariant.cells in
+    let w : Worker = placed team k s z in
+    let writes = writes_header E m team g k s c z v ready (places_of s c z v ready next_one) in
+    let zero : c ≡ Weak → MayBeTarget E g (m.heap (s.at + 1)) = λ e. inl (new_targets_are_zero E m team g k s z v ready (rw e at next_one)) in
+    of_chain {m = m} (record { weak = refl; weak_turn = refl })
+    (placing_carries_chain E m (with_word m s.at v) m.weak m.weak_turn team g before.ranks k s c z v w ready next_one three writes (stocked_in_chain E (team.worker k) w.stock w.account) before.chain)
+    (placing_carries_targets E m (with_word m s.at v) m.weak m.weak_turn team g before.ranks k s c z v ready next_one zero writes before.chain before.targets)
+
 pub mutators_place : MutatorsPlace
-mutators_place E m team g p k next q s c z v d pointer r ready shown next_one behind small points goes same =
+mutators_place E m team g p k next q s c z v d pointer r ready shown next_one three behind small points goes same =
     let places : Places E team k s c z v = places_of s c z v ready next_one in
     let t = put_twice team.worker k (placed team k s z) (with_record next s z d pointer) in
     let w = put_same team.worker k (placed team k s z) in
-    let inv = records_are_placed E m team g k s c z v ready.laid_out ready.invariant places in
-    let ok = (ready.invariant.stocks.stocked k ready.member s places.own.has places.own.epoch).lies in
+    let inv = records_are_placed E m team g k s c z v ready.laid_out ready.invariant places (cells_after E m team g k s c z v ready next_one three) in
     record {
       later = with_word m s.at v;
-      writes = InWord s.at v (let lay = ready.laid_out in let f = places.fits in let n = places.some in omega (arith, ok, lay.below, f, n));
+      writes = writes_header E m team g k s c z v ready places;
       makes = rw (← t) (both (λ o cy. placing_keeps_cycle E m team g o k s c z v ready.laid_out ready.invariant places cy) (λ page. omega arith)
           (goes_as E _ (with_worker team k (placed team k s z)) _ _ k (with_record next s z d pointer) (with_reference p.heap k q d) inv ready.member (rw w places.runs)
           (placing_shows E m team g p k s c z v r ready.laid_out ready.invariant places behind shown)

@@ -10,9 +10,12 @@ use Rattle.heap_state.specs.Meaning.Values.{value_of}
 use Rattle.heap_state.specs.Worker.{Team, Stock, Worker}
 use Rattle.heap_state.proofs.Workers.Frames.{counted_put, staffed_put, scanned_put, stocks_anew, numbered_put, rooted_put}
 use Rattle.heap_state.proofs.Puts.{put_other, team_put, some_same}
-use Rattle.heap_laws.specs.Steps.{Ready, Preserves, with_word}
+use Rattle.heap_laws.specs.Cells.Frames.{IsNoCellWord}
+use Rattle.heap_laws.specs.Steps.{Ready, Preserves, InWord, with_word}
+use Rattle.heap_laws.specs.Targets.Frames.{IsNoTarget}
 use Rattle.heap_laws.proofs.Allocation.FreeWords.{IsFree, headed_free, raw_free, opened_free, landing_free, older_free, old_space_free, worker_free, objects_free, board_free, copying_free, rooted_free, counts_free}
-use Rattle.heap_laws.proofs.Allocation.Stocks.{stocked_knows, Owns, with_stock}
+use Rattle.heap_laws.proofs.Allocation.Stocks.{stocked_knows, stocked_in_chain, Owns, with_stock}
+use Rattle.heap_laws.proofs.Cells.Kept.{same_cells, word_keeps, words_unread}
 use Rattle.heap_laws.proofs.Frames.OtherWords.{stocked_same}
 use Rattle.heap_laws.proofs.Steps.Learning.{shown_put}
 
@@ -44,6 +47,14 @@ module _ {E : Era} {m : Memory} {team : Team} {g : Ghost} {k x v : ℕ} {q next 
     below = let b = stores.ready.laid_out.below in omega (arith, place, b);
   }
 
+  -- the word lies behind FRONT, where no copied cell is
+  no_cell : IsNoCellWord E m g x
+  no_cell = (words_unread stores.ready).behind x (omega (arith, ok.lies, inside, inv.laid.order))
+
+  -- and it is in no record
+  no_target : IsNoTarget g x
+  no_target a c e = let z = inv.cells.chain.three a c.stands c.weak in let f = free.free a c.stands in omega (arith, z, f, e)
+
   theirs : (s : Stock) → (s.end ≤ q.at) ⊎ (q.end ≤ s.at) → Stocked E m.low g.size m.heap m.page s → Stocked E m.low g.size (put m.heap x v) m.page s
   theirs s beside y = stocked_same s (λ a l u. put_other m.heap x v a (λ e. omega (arith, e, l, u, beside, y.so_far, inside))) y
 
@@ -72,7 +83,8 @@ module _ {E : Era} {m : Memory} {team : Team} {g : Ghost} {k x v : ℕ} {q next 
       let p10 = old_space_free free g.writer g.kind m.heap v m.traced m.old_front m.old_low m.page stores.ready.laid_out place.0 place.1 inv.old_space in
       let p11 = stocks in
       let p12 = numbered_put team.worker k w refl inv.numbered in
-      let p13 = team_put team.count (Knows E m.gate m.traced m.front m.low m.old_front m.old_low m.old_owed g m.page m.cross m.announced (put m.heap x v)) team.worker k w
+      let p13 = word_keeps E m (with_word m x v) team g g k x v w (InWord x v (let b = free.below in omega (arith, b))) no_cell no_target (same_cells g) (stocked_in_chain E (team.worker k) (Some next) (team.worker k).account) inv.cells in
+      let p15 = team_put team.count (Knows E m.gate m.traced m.front m.low m.old_front m.old_low m.old_owed g m.page m.cross m.announced (put m.heap x v)) team.worker k w
       (λ j l d. worker_free E m g x v j (team.worker j) free (inv.workers j l))
       (stocked_knows E (with_word m x v) g k (team.worker k) next (alike.2 ∙ (inv.workers k own.worker).stock q own.has) (worker_free E m g x v k (team.worker k) free (inv.workers k own.worker))) in
       assumption

@@ -1,5 +1,5 @@
 -- A worker's stock: that it is of the epoch, and what the worker knows where it alone changes.
-use Rattle.std.proofs.Common.{◌≡◌, ◌≢◌, ℕ, ◌+◌, ◌-◌, ◌*◌, ◌<◌, ◌≤◌, ◌⊎◌, true, Some, length, refl, ap, ◌∙◌, arith, ⊎_elim, inl, inr}
+use Rattle.std.proofs.Common.{◌≡◌, ◌≢◌, ℕ, ◌+◌, ◌-◌, ◌*◌, ◌<◌, ◌≤◌, ◌⊎◌, true, Option, Some, length, refl, ap, ◌∙◌, arith, ⊎_elim, inl, inr}
 use Rattle.std.proofs.lemmas.Bool.{cases_eq, cases_lt}
 use Rattle.heap_words.specs.Decoded.{HeaderWord, decode}
 use Rattle.plain_state.specs.declared.kind.Kind.{Kind}
@@ -10,13 +10,15 @@ use Rattle.heap_state.specs.Invariant.Ghost.{Ghost, header_kind}
 use Rattle.heap_state.specs.Invariant.Inductive.{Knows}
 use Rattle.heap_state.specs.Invariant.Parts.Stocks.{Stocked}
 use Rattle.space_map.specs.declared.page_word.PageWord.{PageWord}
-use Rattle.heap_state.specs.Worker.{Worker, Team, Stock, IsNotAhead, is_running}
+use Rattle.heap_state.specs.Worker.{Worker, Team, Stock, Account, IsNotAhead, is_running}
 use Rattle.heap_state.proofs.Puts.{some_same}
 use Rattle.heap_state.specs.Memory.FieldSpan.{fields_end}
 use Rattle.heap_state.proofs.Records.Layouts.{values_behind_header}
 use Rattle.heap_laws.specs.Allocation.Stocks.{HasStock, OpensNext}
 use Rattle.heap_laws.specs.Allocation.Records.{PlacesNext, stored_ahead}
+use Rattle.heap_laws.specs.Cells.Frames.{GoesOnInChain}
 use Rattle.heap_laws.specs.Steps.{Ready, with_worker}
+use Rattle.heap_laws.proofs.Cells.Kept.{in_chain}
 
 -- what it knows
 pub stocked_knows : (E : Era) (m : Memory) (g : Ghost) (k : ℕ) (w : Worker) (q : Stock) → q.epoch ≡ w.epoch
@@ -25,6 +27,10 @@ pub stocked_knows : (E : Era) (m : Memory) (g : Ghost) (k : ℕ) (w : Worker) (q
 stocked_knows E m g k w q now p =
     let a : (s : Stock) → Some q ≡ Some s → s.epoch ≡ w.epoch = λ s e. rw (← some_same e) now in
     assumption
+
+-- its part in the chain of copied cells is the same, whatever its stock and its account
+pub stocked_in_chain : (E : Era) (w : Worker) (stock : Option Stock) (account : Account) → GoesOnInChain E (record w { stock = stock; account = account }) w
+stocked_in_chain E w stock account = in_chain E (record w { stock = stock; account = account }) w refl refl refl (record { linking = refl; pass = refl; asked = λ _ k. k; look = λ _. refl; cleared = λ c. c })
 
 -- ---- words stored ahead
 

@@ -50,6 +50,12 @@ module _ {E : Era} {front low : ℕ} {size copy keeper : ℕ → ℕ} {a z : ℕ
     clear = λ e y b k st w. let n = written_old cr writer b (omega (arith, w)) in p.clear e y b k (was cr b n st) (rw (same_writer cr writer b n) at w);
   }
 
+  pub seeks_allocated : (q : Quest) → Seeks E size writer copy q → Seeks E size' writer' copy q
+  seeks_allocated q p = let d = not_new cr q.old p.old.0 in record {
+    old = rw (same_size cr q.old d) p.old;
+    found = λ b e. let f = p.found b e in (f.0, each_put (λ j w. w ≡ 0) writer a 0 b (λ _. f.1) (λ _. refl));
+  }
+
   module _ (kind : ℕ → Kind) (c : Kind) where
     abbrev kind' : ℕ → Kind
     kind' = put kind a c
@@ -62,13 +68,6 @@ module _ {E : Era} {front low : ℕ} {size copy keeper : ℕ → ℕ} {a z : ℕ
       first = rw (same_kind cr writer kind c f.at d) p.first;
       word = rw (same_size cr f.at d) p.word;
       role = rw (same_kind cr writer kind c f.at d) p.role;
-    }
-
-    pub seeks_allocated : (q : Quest) → Seeks E size writer copy kind q → Seeks E size' writer' copy kind' q
-    seeks_allocated q p = let d = not_new cr q.old p.old.0 in record {
-      old = rw (same_size cr q.old d) p.old;
-      found = λ b e. let f = p.found b e in (f.0, each_put (λ j w. w ≡ 0) writer a 0 b (λ _. f.1) (λ _. refl));
-      links = λ e. rw (same_size cr q.old d, same_kind cr writer kind c q.old d) (p.links e);
     }
 
     pub origin_allocated : (heap : ℕ → ℕ) (late : Bool) (done : ℕ) (registers : ℕ → ℕ) (scan : Option Scan) (old : ℕ) (o : Origin) → IsOrigin E size writer kind heap late done registers scan old o → IsOrigin E size' writer' kind' heap late done registers scan old o
@@ -124,7 +123,7 @@ worker_allocated E m g a z c i heap k w cr zeros p =
     let o1 = λ (u : is_mutator w.post ≡ true) (n : w.account.end ≡ None). clean_allocated cr g.writer (is_late E.epoch w) w.done w.registers (p.registers u n) in
     let o2 = λ (f : Access) (e : w.access ≡ Some f). accesses_allocated cr g.writer g.kind c f (p.access f e) in
     let o3 = λ (q : Quest) (e : w.quest ≡ Some q). origin_allocated cr g.writer g.kind c heap (is_late E.epoch w) w.done w.registers w.scan q.old q.origin (p.origin q e) in
-    let o4 = λ (q : Quest) (e : w.quest ≡ Some q). seeks_allocated cr g.writer g.kind c q (p.quest q e) in
+    let o4 = λ (q : Quest) (e : w.quest ≡ Some q). seeks_allocated cr g.writer q (p.quest q e) in
     let o5 = λ (y : Copy) (e : w.copy ≡ Some y). copies_allocated cr g.writer g.kept m.announced m.cross heap k y (p.copy y e) in
     let o6 = λ (y : Copy) (e : w.copy ≡ Some y). keeps_allocated cr g.writer g.kind c g.identity i g.kept m.announced m.cross heap k y (p.copy y e) (p.keeps y e) in
     let o7 = λ (s : Scan) (e : w.scan ≡ Some s). scans_allocated cr g.writer g.kind c heap zeros m.page k s (p.scan s e) in

@@ -1,7 +1,7 @@
 -- A step that leaves what the chain of copied cells is made of: what is known of it is known after the step.
 use Rattle.std.proofs.Common.{◌≡◌, ◌≢◌, ℕ, ◌+◌, ◌<◌, ◌≤◌, true, Some, is_some, refl, sym, ap, ◌∙◌, arith}
 use Rattle.plain_state.specs.declared.kind.Kind.TheVariants.{Weak}
-use Rattle.heap_state.specs.Cells.{Ranks, IsCopiedCell, MayCopy, Links, Linked, Passing, Chain}
+use Rattle.heap_state.specs.Cells.{Ranks, IsCopiedCell, MayCopy, KnowsCopy, Links, Linked, TargetsOld, Passing, Chain}
 use Rattle.heap_state.specs.Memory.Era.{Era, Memory}
 use Rattle.heap_state.specs.Functions.{put}
 use Rattle.heap_state.specs.Invariant.Ghost.{Ghost}
@@ -14,12 +14,13 @@ use Rattle.heap_laws.specs.Steps.{with_worker}
 
 -- what a copier knows of its cell
 pub links_stay : (E : Era) (m later : Memory) (g h : Ghost) (r : Ranks) (w u : Worker) (l : Linking) → later.traced ≡ m.traced → ((a : ℕ) → IsCopiedCell E m.front g a → IsCopiedCell E later.front h a)
-    → later.heap (l.cell + 2) ≡ m.heap (l.cell + 2) → (MayCopy E u → MayCopy E w) → Links E m g r u l → Links E later h r w l
+    → later.heap (l.cell + 2) ≡ m.heap (l.cell + 2) → (KnowsCopy u → MayCopy E u → MayCopy E w × KnowsCopy w) → Links E m g r u l → Links E later h r w l
 links_stay E m later g h r w u l traced cells same licence o = record {
   copying = rw traced o.copying;
   cell = cells l.cell o.cell;
   unlinked = o.unlinked;
-  licensed = licence o.licensed;
+  licensed = (licence o.asked o.licensed).0;
+  asked = (licence o.asked o.licensed).1;
   stored = λ v e f. same ∙ o.stored v e f;
 }
 
@@ -32,11 +33,14 @@ passing_stays E m later turn g h r w u q traced targets copy stands epoch look o
   at = λ v e. let z = o.at v e in record {
     linked = z.linked;
     few = z.few;
-    old = λ b p f. let y = z.old b p f in (rw (targets v.cell z.linked) y.0, stands b y.1, y.2, y.3);
-    word = λ b x p f i. rw copy (z.word b x p f i);
+    old = λ b p f. leads_still v.cell z.linked b (z.old b p f);
+    word = λ x p f. let y = z.word x p f in (y.0, leads_still v.cell z.linked y.0 y.1, rw copy y.2);
   };
   passed = λ a p l. rw (targets a p) (o.passed a p l);
 }
+  where
+    leads_still : (cell : ℕ) → 0 < r.rank cell → (b : ℕ) → TargetsOld E m g cell b → TargetsOld E later h cell b
+    leads_still cell p b y = (rw (targets cell p) y.0, stands b y.1, y.2, y.3)
 
 -- ---- the whole
 
@@ -105,7 +109,7 @@ module _ (E : Era) (m later : Memory) (weak turn : ℕ) (team : Team) (g h : Gho
       passing_stays E m later turn g h r x (team.worker j) q carries.traced (λ a p. carries.targets a ((chain.linked o.now.1).ranked a p).0)
       (carries.copies (record { worker = j; member = y; walks = ap is_some e })) carries.stands epoch look o
 
-  links : (j : ℕ) (l : Linking) (x : Worker) → j < team.count → (team.worker j).linking ≡ Some l → (MayCopy E (team.worker j) → MayCopy E x) → Links E later h r x l
+  links : (j : ℕ) (l : Linking) (x : Worker) → j < team.count → (team.worker j).linking ≡ Some l → (KnowsCopy (team.worker j) → MayCopy E (team.worker j) → MayCopy E x × KnowsCopy x) → Links E later h r x l
   links j l x y e licence =
       let o = chain.linking j l y e in
       links_stay E m later g h r x (team.worker j) l carries.traced carries.cells (carries.links l.cell o.cell) licence o
@@ -116,7 +120,7 @@ module _ (E : Era) (m later : Memory) (weak turn : ℕ) (team : Team) (g h : Gho
     fewer = carries.fewer;
     cells = carries.cells;
     links = λ le a p. carries.links a ((chain.linked le).ranked a p).0;
-    others_link = λ j l y d e. links j l (team.worker j) y e (λ z. z);
+    others_link = λ j l y d e. links j l (team.worker j) y e (λ q z. (z, q));
     own_link = λ l y e. let f : (team.worker k).linking ≡ Some l = sym on.linking ∙ e in links k l w y f (on.licence (ap is_some f));
     same_cell = ap cell_to_link on.linking;
     others_pass = λ j q y d e. passes j q (team.worker j) y e refl refl;

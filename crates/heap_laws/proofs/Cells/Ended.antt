@@ -9,7 +9,7 @@ use Rattle.heap_state.specs.Worker.{Worker, Team, Linking, Pass, Reset, cell_to_
 use Rattle.heap_laws.specs.Cells.Flips.{SizesCarryChain, ClearingWeakCarriesChain, FlippingCarriesChain}
 use Rattle.heap_laws.specs.Flipping.Flip.{Flips, next_era, next_memory, next_ghost, after_flip}
 use Rattle.heap_laws.specs.Flipping.Sizes.{sized_era, after_size}
-use Rattle.heap_laws.specs.Steps.{Ready, with_worker}
+use Rattle.heap_laws.specs.Steps.{Ready, with_weak, with_worker}
 use Rattle.heap_laws.proofs.Cells.Linked.{weak_memory}
 use Rattle.heap_laws.proofs.Cells.Parts.{chain_of, cell_in, value_in, flipper_traced, none_links, none_passes}
 use Rattle.heap_laws.proofs.Flipping.Sums.{stood}
@@ -57,8 +57,8 @@ module _ (E : Era) (m : Memory) (weak turn : ℕ) (team : Team) (g : Ghost) (r :
       (λ j l y _. links_none j l y) (λ l y e. links_none k l y e) (λ j q y _. passes_none j q y) (λ q y e. passes_none k q y e)
       (λ j y _. chain.reset j y) (λ y e. chain.reset k y (rw has e)) chain.three
 
-  pub clears : (w : Worker) → w.linking ≡ (team.worker k).linking → w.pass ≡ (team.worker k).pass → Chain E m 0 turn (with_worker team k w) g r
-  clears w linking pass = ended E m 0 turn team g r k w traced (chain.turned traced) chain.apart chain.one
+  pub clears : (w : Worker) → w.linking ≡ (team.worker k).linking → w.pass ≡ (team.worker k).pass → Chain E (with_weak m 0) 0 turn (with_worker team k w) g r
+  clears w linking pass = ended E (with_weak m 0) 0 turn team g r k w traced (chain.turned traced) chain.apart chain.one
       (λ j l y _. links_none j l y) (λ l y e. links_none k l y (sym linking ∙ e)) (λ j q y _. passes_none j q y) (λ q y e. passes_none k q y (sym pass ∙ e))
       (λ _ _ _ _. refl) (λ _ _. refl) chain.three
 
@@ -102,7 +102,7 @@ sizes_carry_chain E m weak turn team g r k z q ready has chain = sizes E m weak 
 
 pub clearing_weak_carries_chain : ClearingWeakCarriesChain
 clearing_weak_carries_chain E m later weak turn team g r k z w ready has linking pass writes chain =
-    let s : later ≡ m = weak_memory writes refl in
+    let s : later ≡ with_weak m 0 = weak_memory writes refl in
     rw s (clears E m weak turn team g r k z ready has chain w linking pass)
 
 pub flipping_carries_chain : FlippingCarriesChain

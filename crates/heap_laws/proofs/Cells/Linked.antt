@@ -1,25 +1,28 @@
 -- WEAK is read, the link of a cell is stored, and WEAK is exchanged.
 use Rattle.std.proofs.Common.{◌≡◌, ◌≢◌, ℕ, ◌+◌, ◌<◌, true, Option, Some, None, is_some, refl, sym, ap, ◌∙◌, arith, ⊎_elim, inl, inr}
 use Rattle.std.proofs.lemmas.Bool.{cases_eq}
-use Rattle.heap_state.specs.Cells.{Ranks, IsCopiedCell, LeadsToRank, MayCopy, Links, Linked, HasCopier, Chain}
+use Rattle.heap_state.specs.Cells.{Ranks, IsCopiedCell, LeadsToRank, MayCopy, KnowsCopy, Links, Linked, HasCopier, Chain}
 use Rattle.heap_state.specs.Memory.Entries.{Entry, WeakIs}
 use Rattle.heap_state.specs.Memory.Era.{Era, Memory}
 use Rattle.heap_state.specs.Invariant.Ghost.{Ghost}
 use Rattle.heap_state.specs.Worker.{Worker, Team, Linking, Pass, cell_to_link}
 use Rattle.heap_state.proofs.Puts.{put_at, put_other, put_same, some_same, none≢some, true_false}
 use Rattle.heap_laws.specs.Cells.Links.{SameBesideLinking, ReadingWeakCarriesChain, StoringLinkCarriesChain, LinkingCarriesChain, one_more}
-use Rattle.heap_laws.specs.Steps.{Ready, WritesRow, NoRow, Beside, with_worker}
+use Rattle.heap_laws.specs.Steps.{Ready, WritesRow, NoRow, InWeak, Beside, with_weak, with_worker}
 use Rattle.heap_laws.proofs.Cells.Carried.{goes_on, links_stay}
 use Rattle.heap_laws.proofs.Cells.Parts.{chain_of, value_in, none_walks, no_walker, none_cleared}
 use Rattle.heap_laws.proofs.Cells.Rows.{StoresWord, stores_word}
 use Rattle.heap_laws.proofs.Frames.Values.{one_place}
 
 -- who scans or is late still does
-pub may_copy_still : (E : Era) (w u : Worker) → w.post ≡ u.post → w.epoch ≡ u.epoch → w.scan ≡ u.scan → MayCopy E u → MayCopy E w
-may_copy_still E w u post epoch scan may = ⊎_elim (λ s. inl (s.0, scan ∙ s.1)) (λ l. inr (rw (post, epoch) l)) may
+pub may_copy_now : (E : Era) (w u : Worker) → w.post ≡ u.post → w.epoch ≡ u.epoch → w.scan ≡ u.scan → MayCopy E u → MayCopy E w
+may_copy_now E w u post epoch scan may = ⊎_elim (λ s. inl (s.0, scan ∙ s.1)) (λ l. inr (rw (post, epoch) l)) may
 
-pub may_copy : (E : Era) (w u : Worker) → SameBesideLinking w u → MayCopy E u → MayCopy E w
-may_copy E w u same may = may_copy_still E w u same.post same.epoch same.scan may
+pub may_copy_still : (E : Era) (w u : Worker) → w.post ≡ u.post → w.epoch ≡ u.epoch → w.scan ≡ u.scan → (KnowsCopy u → KnowsCopy w) → KnowsCopy u → MayCopy E u → MayCopy E w × KnowsCopy w
+may_copy_still E w u post epoch scan asked knows may = (may_copy_now E w u post epoch scan may, asked knows)
+
+pub may_copy : (E : Era) (w u : Worker) → SameBesideLinking w u → KnowsCopy u → MayCopy E u → MayCopy E w × KnowsCopy w
+may_copy E w u same knows may = may_copy_still E w u same.post same.epoch same.scan same.asked knows may
 
 -- ---- rows
 
@@ -28,8 +31,9 @@ pub same_memory : {E : Era} {m : Memory} {e : Option Entry} {later : Memory} →
 same_memory NoRow is = refl
 same_memory _ is = absurd (cc)
 
-pub weak_memory : {E : Era} {m : Memory} {e : Option Entry} {later : Memory} {word : ℕ} → WritesRow E m e later → e ≡ Some (WeakIs word) → later ≡ m
-weak_memory (Beside e beside) is = refl
+pub weak_memory : {E : Era} {m : Memory} {e : Option Entry} {later : Memory} {word : ℕ} → WritesRow E m e later → e ≡ Some (WeakIs word) → later ≡ with_weak m word
+weak_memory {m = m} {word = word} (InWeak other small) is = let a : other ≡ word = cc in ap (with_weak m) a
+weak_memory {word = word} (Beside e beside) is = absurd (let f : e ≡ WeakIs word = cc in rw f at beside)
 weak_memory _ is = absurd (cc)
 
 -- ---- what the copier knows of its cell changes
@@ -58,14 +62,15 @@ module _ (E : Era) (m later : Memory) (weak turn : ℕ) (team : Team) (g : Ghost
     others_link = λ j x y d e.
         let o = chain.linking j x y e in
         links_stay E m later g g r (team.worker j) (team.worker j) x traced come
-        (links x.cell o.cell (λ f. d (chain.apart j k l.cell y ready.member (ap cell_to_link e ∙ ap Some f) (ap cell_to_link has)))) (λ z. z) o;
+        (links x.cell o.cell (λ f. d (chain.apart j k l.cell y ready.member (ap cell_to_link e ∙ ap Some f) (ap cell_to_link has)))) (λ q z. (z, q)) o;
     own_link = λ x _ e.
         let s : n ≡ x = some_same (sym gets ∙ e) in
         rw (← s) (record {
           copying = rw traced mine.copying;
           cell = rw (cell, front) mine.cell;
           unlinked = rw cell mine.unlinked;
-          licensed = may_copy E w (team.worker k) like mine.licensed;
+          licensed = (may_copy E w (team.worker k) like mine.asked mine.licensed).0;
+          asked = (may_copy E w (team.worker k) like mine.asked mine.licensed).1;
           stored = λ v f i. rw cell (stored v f i);
         });
     same_cell = rw (gets, has) (ap Some cell);
@@ -151,7 +156,7 @@ module _ (E : Era) (m : Memory) (weak turn : ℕ) (team : Team) (g : Ghost) (r :
       (cases_eq b c))
       (cases_eq a c)
 
-  linked : Linked E m (c + 1) g after
+  linked : Linked E (with_weak m (c + 1)) (c + 1) g after
   linked = record {
     ranked = λ a p. ⊎_elim
         (λ (x : a ≡ c). (rw x own.cell, let f = at_cell a x in omega (arith, f)))
@@ -176,14 +181,14 @@ module _ (E : Era) (m : Memory) (weak turn : ℕ) (team : Team) (g : Ghost) (r :
       let d : o.worker ≢ k = λ e. (let y : cell_to_link (team.worker k).linking ≡ Some a = rw e at o.links in x (some_same (sym y ∙ ap cell_to_link has))) in
       record { worker = o.worker; member = o.member; links = rw (put_other team.worker k w o.worker d) o.links }
 
-  others : (j : ℕ) (x : Linking) → j < team.count → j ≢ k → (team.worker j).linking ≡ Some x → Links E m g after (team.worker j) x
+  others : (j : ℕ) (x : Linking) → j < team.count → j ≢ k → (team.worker j).linking ≡ Some x → Links E (with_weak m (c + 1)) g after (team.worker j) x
   others j x y d e =
       let o = chain.linking j x y e in
       let s : x.cell ≢ c = λ f. d (chain.apart j k c y ready.member (ap cell_to_link e ∙ ap Some f) (ap cell_to_link has)) in
-      record { copying = o.copying; cell = o.cell; unlinked = elsewhere x.cell s ∙ o.unlinked; licensed = o.licensed; stored = o.stored }
+      record { copying = o.copying; cell = o.cell; unlinked = elsewhere x.cell s ∙ o.unlinked; licensed = o.licensed; asked = o.asked; stored = o.stored }
 
-  pub links_cell : Chain E m (c + 1) turn (with_worker team k w) g after
-  links_cell = chain_of E m (c + 1) turn team g after k w (record {
+  pub links_cell : Chain E (with_weak m (c + 1)) (c + 1) turn (with_worker team k w) g after
+  links_cell = chain_of E (with_weak m (c + 1)) (c + 1) turn team g after k w (record {
     top = chain.top;
     turned = chain.turned;
     linked = λ _. linked;
@@ -202,5 +207,5 @@ module _ (E : Era) (m : Memory) (weak turn : ℕ) (team : Team) (g : Ghost) (r :
 
 pub linking_carries_chain : LinkingCarriesChain
 linking_carries_chain E m later weak turn team g r k l w ready has read stored gets writes like chain =
-    let s : later ≡ m = weak_memory writes refl in
+    let s : later ≡ with_weak m (l.cell + 1) = weak_memory writes refl in
     rw s (links_cell E m weak turn team g r k l w ready has read stored gets like chain)

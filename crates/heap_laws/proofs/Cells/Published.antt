@@ -1,35 +1,28 @@
 -- The copy of a record is published, which is a cell or not.
 use Rattle.std.proofs.Common.{◌≡◌, ◌≢◌, ℕ, ◌+◌, ◌-◌, ◌<◌, ◌≤◌, true, false, Some, None, refl, sym, ap, ◌∙◌, arith, ⊎_elim}
 use Rattle.std.proofs.lemmas.Bool.{cases_eq, cases_lt}
-use Rattle.plain_state.specs.declared.kind.Kind.{Kind}
-use Rattle.plain_state.specs.declared.kind.Kind.TheVariants.{Fields, Raw, Mixed, Weak}
+use Rattle.plain_state.specs.declared.kind.Kind.TheVariants.{Weak}
 use Rattle.heap_words.specs.declared.kind.Kind.TheVariants as header
 use Rattle.heap_words.specs.Decoded.{HeaderWord, decode}
-use Rattle.heap_state.specs.Cells.{Ranks, IsCopiedCell, MayCopy, Linked, HasCopier, Chain}
+use Rattle.heap_state.specs.Cells.{Ranks, IsCopiedCell, MayCopy, KnowsCopy, Linked, HasCopier, Chain}
 use Rattle.heap_state.specs.Memory.Era.{Era, Memory}
 use Rattle.heap_state.specs.Invariant.Ghost.{Ghost, header_kind}
 use Rattle.heap_state.specs.Invariant.Inductive.{Invariant, Knows}
 use Rattle.heap_state.specs.Invariant.Parts.Copying.{Copies}
 use Rattle.heap_state.specs.Worker.{Worker, Team, Pass, Copy, cell_to_link}
 use Rattle.heap_state.proofs.Puts.{put_at, put_other, each_put, some_same, none≢some}
+use Rattle.heap_state.proofs.Records.Headers.{weak_header}
 use Rattle.heap_laws.specs.Cells.Links.{SameBesideLinking, PublishingCarriesChain}
 use Rattle.heap_laws.specs.Copying.{KeepsCell, published}
 use Rattle.heap_laws.specs.Steps.{Ready, with_worker}
 use Rattle.heap_laws.proofs.Cells.Carried.{carried, links_stay}
-use Rattle.heap_laws.proofs.Cells.Linked.{may_copy}
+use Rattle.heap_laws.proofs.Cells.Linked.{may_copy_now}
 use Rattle.heap_laws.proofs.Cells.Parts.{chain_of, none_walks, no_walker, value_in, cell_in}
 use Rattle.heap_laws.proofs.Cells.Rows.{StoresWord, stores_word, no_cell_words}
 use Rattle.heap_laws.proofs.Copying.Room.{untraced}
 
--- the header's kind of a cell is that of no other record
-weak_kind : (c : Kind) → header_kind c ≡ header.Weak → c ≡ Weak
-weak_kind Fields e = absurd (cc)
-weak_kind Raw e = absurd (cc)
-weak_kind (Mixed count) e = absurd (cc)
-weak_kind Weak e = refl
-
 module _ (E : Era) (m later : Memory) (weak turn : ℕ) (team : Team) (g : Ghost) (r : Ranks) (k : ℕ) (c : Copy) (v : ℕ) (w : Worker) (ready : Ready E m team g k) (has : (team.worker k).copy ≡ Some c) (res : c.reserved ≡ true)
-    (free : (team.worker k).linking ≡ None) (s : StoresWord m later c.from v) (like : SameBesideLinking w (team.worker k)) (chain : Chain E m weak turn team g r) where
+    (free : (team.worker k).linking ≡ None) (s : StoresWord m later c.from v) (knows : KnowsCopy w) (like : SameBesideLinking w (team.worker k)) (chain : Chain E m weak turn team g r) where
   abbrev inv : Invariant E m team g
   inv = ready.invariant
 
@@ -47,6 +40,9 @@ module _ (E : Era) (m later : Memory) (weak turn : ℕ) (team : Team) (g : Ghost
 
   kind : g.kind c.to ≡ g.kind c.from
   kind = (inv.copied.target c.from c.to stands placed.1).6
+
+  may_copies : MayCopy E (team.worker k) → MayCopy E w × KnowsCopy w
+  may_copies y = (may_copy_now E w (team.worker k) like.post like.epoch like.scan y, knows)
 
   may : MayCopy E (team.worker k)
   may = me.licensed.licensed c has
@@ -106,7 +102,7 @@ module _ (E : Era) (m later : Memory) (weak turn : ℕ) (team : Team) (g : Ghost
     linking = gets ∙ sym free;
     pass = like.pass;
     cleared = λ e. rw like.reset at e;
-    licence = λ _ y. may_copy E w (team.worker k) like y;
+    licence = λ _ _ y. may_copies y;
     look = λ _. (like.epoch, like.last_look);
   }) chain
 
@@ -118,7 +114,7 @@ module _ (E : Era) (m later : Memory) (weak turn : ℕ) (team : Team) (g : Ghost
         let y : decode c.header ≡ HeaderWord (header_kind (g.kind c.from)) (c.size - 1) (g.identity c.from).serial (g.identity c.from).mutator = (me.keeps c has).keeps in
         let z : HeaderWord (header_kind (g.kind c.from)) (c.size - 1) (g.identity c.from).serial (g.identity c.from).mutator ≡ HeaderWord header.Weak 2 cell.0 cell.1 = sym y ∙ cell.2 in
         let e : header_kind (g.kind c.from) ≡ header.Weak = cc in
-        kind ∙ weak_kind (g.kind c.from) e
+        kind ∙ weak_header (g.kind c.from) e
 
     now_cell : IsCopiedCell E later.front h c.to
     now_cell = record {
@@ -163,12 +159,13 @@ module _ (E : Era) (m later : Memory) (weak turn : ℕ) (team : Team) (g : Ghost
       turned = λ e. chain.turned (sym s.memory.traced ∙ e);
       linked = λ _. linked;
       all = λ _. all;
-      others_link = λ j l y d e. let o = chain.linking j l y e in links_stay E m later g h r (team.worker j) (team.worker j) l s.memory.traced come (words l.cell o.cell).1 (λ z. z) o;
+      others_link = λ j l y d e. let o = chain.linking j l y e in links_stay E m later g h r (team.worker j) (team.worker j) l s.memory.traced come (words l.cell o.cell).1 (λ q z. (z, q)) o;
       own_link = λ l _ e. rw (← some_same (sym gets ∙ e)) (record {
         copying = rw s.memory.traced still_copies;
         cell = now_cell;
         unlinked = unlinked;
-        licensed = may_copy E w (team.worker k) like may;
+        licensed = (may_copies may).0;
+        asked = knows;
         stored = λ x f _. none≢some f;
       });
       own_apart = λ j a y _ _ e f.
@@ -185,9 +182,9 @@ module _ (E : Era) (m later : Memory) (weak turn : ℕ) (team : Team) (g : Ghost
     }) chain.apart chain.one
 
 pub publishing_carries_chain : PublishingCarriesChain
-publishing_carries_chain E m later weak turn team g r k c v w ready has res free writes to_link like chain =
+publishing_carries_chain E m later weak turn team g r k c v w ready has res free writes to_link knows like chain =
     let s : StoresWord m later c.from v = stores_word writes refl in
     ⊎_elim
-    (λ z. publishes_cell E m later weak turn team g r k c v w ready has res free s like chain z.0 z.1)
-    (λ z. publishes_other E m later weak turn team g r k c v w ready has res free s like chain z.0 z.1)
+    (λ z. publishes_cell E m later weak turn team g r k c v w ready has res free s knows like chain z.0 z.1)
+    (λ z. publishes_other E m later weak turn team g r k c v w ready has res free s knows like chain z.0 z.1)
     to_link

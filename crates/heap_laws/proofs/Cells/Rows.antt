@@ -8,26 +8,12 @@ use Rattle.heap_state.specs.Memory.Entries.{Entry, AreaIs, WordIs}
 use Rattle.heap_state.specs.Memory.Era.{Era, Memory, from_space}
 use Rattle.heap_state.specs.Functions.{put}
 use Rattle.heap_state.specs.Invariant.Ghost.{Ghost}
-use Rattle.heap_state.specs.Worker.{Worker, Team, Linking, Pass}
+use Rattle.heap_state.specs.Worker.{Team}
 use Rattle.heap_state.proofs.Puts.{put_other}
-use Rattle.heap_laws.specs.Cells.Frames.{SameCells, IsUnreadRow, WordsAreUnread, UnreadRowsCarryChain, UnreadWordsCarryChain, NoCellWords, SameFrontCarriesChain, CarriesChain, ChainPartsAreFree, PlainChainPartsAreFree, in_chain}
-use Rattle.heap_laws.specs.Composing.{IsAtMost, SameScan}
-use Rattle.heap_laws.specs.Steps.{Ready, WritesRow, NoRow, InGate, InTraced, InArea, InOldArea, InPage, InCross, InWord, InAnnounce, Beside}
+use Rattle.heap_laws.specs.Cells.Frames.{SameCells, IsUnreadRow, WordsAreUnread, UnreadRowsCarryChain, UnreadWordsCarryChain, NoCellWords, SameFrontCarriesChain, CarriesChain}
+use Rattle.heap_laws.specs.Steps.{Ready, WritesRow, NoRow, InGate, InTraced, InArea, InOldArea, InWeak, InWeakTurn, InPage, InCross, InWord, InAnnounce, Beside}
 use Rattle.heap_laws.proofs.Cells.Carried.{carried}
 use Rattle.heap_laws.proofs.Frames.Values.{one_place}
-use Rattle.heap_laws.proofs.Steps.Composing.{steps_forget, plain_steps_forget}
-use Rattle.heap_laws.proofs.Steps.Forgotten.{same_to_others, same_at_hand, same_round, same_at_pages, same_at_gate}
-
--- ---- a worker's own part
-
-at_most : (w : Worker) (l : Option Linking) (q : Option Pass) → IsAtMost (in_chain w l q) w
-at_most w l q = record { others = same_to_others w; scan = SameScan refl; hand = same_at_hand w; round = same_round w; pages = same_at_pages w; gate = same_at_gate w }
-
-pub chain_parts_are_free : ChainPartsAreFree
-chain_parts_are_free E m team g k e w h l q s = steps_forget E m team g k e w (in_chain w l q) h s (at_most w l q)
-
-pub plain_chain_parts_are_free : PlainChainPartsAreFree
-plain_chain_parts_are_free E m team g k e w h p l q s = plain_steps_forget E m team g k e w (in_chain w l q) h p s (at_most w l q)
 
 -- ---- rows
 
@@ -50,6 +36,8 @@ unread (InGate gate fits at) u = record { memory = record { traced = refl; front
 unread (InTraced word) u = absurd u
 unread {E} (InArea area fits) u = absurd (omega (arith, u))
 unread (InOldArea area fits) u = record { memory = record { traced = refl; front = refl }; low = refl; heap = refl }
+unread (InWeak word small) u = absurd u
+unread (InWeakTurn word) u = absurd u
 unread (InPage page word below fits) u = record { memory = record { traced = refl; front = refl }; low = refl; heap = refl }
 unread (InCross page place below) u = record { memory = record { traced = refl; front = refl }; low = refl; heap = refl }
 unread (InWord addr word below) u = absurd u

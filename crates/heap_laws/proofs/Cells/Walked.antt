@@ -2,13 +2,13 @@
 use Rattle.std.proofs.Common.{◌≡◌, ◌≢◌, ℕ, ◌+◌, ◌-◌, ◌<◌, ◌≤◌, ◌⊎◌, true, false, Some, None, is_some, refl, sym, ap, ◌∙◌, arith, ⊎_elim, inl, inr}
 use Rattle.std.proofs.lemmas.Bool.{cases_eq}
 use Rattle.heap_words.specs.Decoded.{HeaderWord, BusyWord, ForwardWord}
-use Rattle.heap_state.specs.Cells.{Ranks, IsCopiedCell, LeadsToRank, Linked, Links, Visits, Passing, passed_from, Chain}
+use Rattle.heap_state.specs.Cells.{Ranks, KnowsCopy, IsCopiedCell, LeadsToRank, Linked, Links, TargetsOld, ReplacesTarget, Visits, Passing, passed_from, Chain}
 use Rattle.heap_state.specs.Memory.Era.{Era, Memory}
 use Rattle.heap_state.specs.Invariant.Ghost.{Ghost, Leads, header_kind}
 use Rattle.heap_state.specs.Worker.{Worker, Team, Linking, Visit, Pass, Begins, At, Done, cell_to_link}
 use Rattle.heap_state.proofs.Puts.{put_at, put_other, some_same, none≢some}
 use Rattle.heap_state.proofs.Records.Holding.{First, OwnHeader, KeptBy, GoneTo, first}
-use Rattle.heap_laws.specs.Cells.Walks.{SameBesidePass, ComesTo, visit, HeaderReplaces, BeginningWalkCarriesChain, GoingOnCarriesChain, FindingTargetCarriesChain, HeadersReplaceTargets, FindingWordCarriesChain, ReplacingTargetCarriesChain}
+use Rattle.heap_laws.specs.Cells.Walks.{SameBesidePass, ComesTo, visit, passed as has_passed, replacing, HeaderReplaces, BeginningWalkCarriesChain, GoingOnCarriesChain, FindingTargetCarriesChain, HeadersReplaceTargets, FindingWordCarriesChain, ReplacingTargetCarriesChain}
 use Rattle.heap_laws.specs.Steps.{Ready, with_worker}
 use Rattle.heap_laws.proofs.Cells.Carried.{goes_on, links_stay}
 use Rattle.heap_laws.proofs.Cells.Linked.{same_memory, may_copy_still}
@@ -29,10 +29,10 @@ module _ (E : Era) (m later : Memory) (weak turn : ℕ) (team : Team) (g : Ghost
   others : (j : ℕ) (x : Pass) → j < team.count → j ≢ k → ¬ ((team.worker j).pass ≡ Some x)
   others j x y d e = d (chain.one j k y below (ap is_some e) (ap is_some has))
 
-  keeps_links : (j : ℕ) (l : Linking) (x : Worker) → j < team.count → (team.worker j).linking ≡ Some l → x.post ≡ (team.worker j).post → x.epoch ≡ (team.worker j).epoch → x.scan ≡ (team.worker j).scan → Links E later g r x l
-  keeps_links j l x y e post epoch scan =
+  keeps_links : (j : ℕ) (l : Linking) (x : Worker) → j < team.count → (team.worker j).linking ≡ Some l → x.post ≡ (team.worker j).post → x.epoch ≡ (team.worker j).epoch → x.scan ≡ (team.worker j).scan → (KnowsCopy (team.worker j) → KnowsCopy x) → Links E later g r x l
+  keeps_links j l x y e post epoch scan asked =
       let o = chain.linking j l y e in
-      links_stay E m later g g r x (team.worker j) l traced (λ a c. rw front c) (links l.cell o.cell) (may_copy_still E x (team.worker j) post epoch scan) o
+      links_stay E m later g g r x (team.worker j) l traced (λ a c. rw front c) (links l.cell o.cell) (may_copy_still E x (team.worker j) post epoch scan asked) o
 
   pub walks_on : Chain E later weak turn (with_worker team k w) g r
   walks_on = goes_on E m later weak turn team g g r k w (record {
@@ -40,8 +40,8 @@ module _ (E : Era) (m later : Memory) (weak turn : ℕ) (team : Team) (g : Ghost
     fewer = λ a c. rw front at c;
     cells = λ a c. rw front c;
     links = λ le a y. links a ((chain.linked le).ranked a y).0;
-    others_link = λ j l y _ e. keeps_links j l (team.worker j) y e refl refl refl;
-    own_link = λ l y e. keeps_links k l w y (sym like.linking ∙ e) like.post like.epoch like.scan;
+    others_link = λ j l y _ e. keeps_links j l (team.worker j) y e refl refl refl (λ z. z);
+    own_link = λ l y e. keeps_links k l w y (sym like.linking ∙ e) like.post like.epoch like.scan like.asked;
     same_cell = ap cell_to_link like.linking;
     others_pass = λ j x y d e. absurd (others j x y d e);
     own_pass = λ x _ e. rw (← some_same (sym gets ∙ e)) (record {
@@ -71,7 +71,7 @@ module _ (E : Era) (m : Memory) (weak : ℕ) (g : Ghost) (r : Ranks) (linked : L
 -- a walk that comes to a cell knows nothing of it
 module _ (E : Era) (m : Memory) (g : Ghost) (r : Ranks) where
   visits : (a more : ℕ) → 0 < r.rank a → r.rank a ≤ more → (v : Visit) → At (visit a more) ≡ At v → Visits E m g r v
-  visits a more p l v e = rw (← same) (record { linked = p; few = l; old = λ b _ f. none≢some f; word = λ b x _ f _. none≢some f })
+  visits a more p l v e = rw (← same) (record { linked = p; few = l; old = λ b _ f. none≢some f; word = λ x _ f. none≢some f })
     where
       same : visit a more ≡ v
       same = cc
@@ -137,9 +137,9 @@ module _ (E : Era) (m : Memory) (weak turn : ℕ) (team : Team) (g : Ghost) (r :
       (λ x e. let s : u ≡ x = cc in rw (← s) at) passed
 
   -- it doesn't lead into the old space
-  pub finds_nothing : v.past ≡ false → ¬ (Leads E (m.heap (v.cell + 1))) → u ≡ record v { past = true } → Chain E m weak turn (with_worker team k w) g r
+  pub finds_nothing : v.past ≡ false → ¬ (Leads E (m.heap (v.cell + 1))) → u ≡ has_passed v → Chain E m weak turn (with_worker team k w) g r
   finds_nothing before clean is = learns
-      (rw is (record { linked = visited.linked; few = visited.few; old = λ b f _. absurd (cc); word = λ b x f _ _. absurd (cc) }))
+      (rw is (record { linked = visited.linked; few = visited.few; old = λ b f _. absurd (cc); word = λ x f _. absurd (cc) }))
       (λ a y l.
       let from : passed_from r (At u) ≡ r.rank v.cell = rw is refl in
       ⊎_elim
@@ -161,23 +161,23 @@ finding_target_carries_chain E m later weak turn team g r k v u w below has befo
     let at : Visits E m g r (record v { old = Some z.0; word = None }) = record {
       linked = y.linked;
       few = y.few;
-      old = λ b _ e. rw (← some_same e) (z.1, z.2, z.3, z.4);
-      word = λ b x _ _ e. none≢some e;
+      old = λ b _ e. rw (← some_same e) z.1;
+      word = λ x _ e. none≢some e;
     } in
-    finds E m weak turn team g r k v u w below has gets like chain before (ap (λ (x : Visit). x.past) z.5) (ap (λ (x : Visit). x.cell) z.5) (rw z.5 at))
+    finds E m weak turn team g r k v u w below has gets like chain before (ap (λ (x : Visit). x.past) z.2) (ap (λ (x : Visit). x.cell) z.2) (rw z.2 at))
     finds_it)
 
 pub finding_word_carries_chain : FindingWordCarriesChain
 finding_word_carries_chain E m later weak turn team g r k v b x w below has before old replaces gets writes like chain =
     let s : later ≡ m = same_memory writes refl in
     let y = (chain.pass k (At v) below has).at v refl in
-    let at : Visits E m g r (record v { word = Some x }) = record {
+    let at : Visits E m g r (replacing v x) = record {
       linked = y.linked;
       few = y.few;
-      old = y.old;
-      word = λ a z _ e f. let i : b ≡ a = some_same (sym old ∙ e) in let j : x ≡ z = some_same f in rw (← i, ← j) replaces;
+      old = λ c _ e. none≢some e;
+      word = λ z _ e. (b, y.old b before old, rw (← some_same e) replaces);
     } in
-    rw s (finds E m weak turn team g r k v (record v { word = Some x }) w below has gets like chain before refl refl at)
+    rw s (finds E m weak turn team g r k v (replacing v x) w below has gets like chain before refl refl at)
 
 -- ---- headers
 
@@ -200,8 +200,8 @@ headers_replace_targets E m team g k b ready st from to = by_first (first E m te
 
 -- ---- the target is replaced
 
-module _ (E : Era) (m later : Memory) (weak turn : ℕ) (team : Team) (g : Ghost) (r : Ranks) (k : ℕ) (v : Visit) (b x : ℕ) (w : Worker) (ready : Ready E m team g k) (has : (team.worker k).pass ≡ Some (At v)) (before : v.past ≡ false)
-    (leads : v.old ≡ Some b) (word : v.word ≡ Some x) (gets : w.pass ≡ Some (At (record v { past = true }))) (s : StoresWord m later (v.cell + 1) x) (like : SameBesidePass w (team.worker k)) (chain : Chain E m weak turn team g r) where
+module _ (E : Era) (m later : Memory) (weak turn : ℕ) (team : Team) (g : Ghost) (r : Ranks) (k : ℕ) (v : Visit) (x : ℕ) (w : Worker) (ready : Ready E m team g k) (has : (team.worker k).pass ≡ Some (At v)) (before : v.past ≡ false)
+    (word : v.word ≡ Some x) (gets : w.pass ≡ Some (At (has_passed v))) (s : StoresWord m later (v.cell + 1) x) (like : SameBesidePass w (team.worker k)) (chain : Chain E m weak turn team g r) where
   was : Passing E m turn g r (team.worker k) (At v)
   was = chain.pass k (At v) ready.member has
 
@@ -211,20 +211,24 @@ module _ (E : Era) (m later : Memory) (weak turn : ℕ) (team : Team) (g : Ghost
   chained : Linked E m weak g r
   chained = chain.linked was.now.1
 
+  -- the target leads to an old record, for which the word stands
+  was_old : (b : ℕ) × TargetsOld E m g v.cell b × ReplacesTarget g b x
+  was_old = here.word x before word
+
   -- the word doesn't lead into the old space
   clean : ¬ (Leads E x)
   unfolding Leads
   clean to =
-      let o = here.old b before leads in
+      let o = was_old.1 in
       ⊎_elim
       (λ z.
-      let t = ready.invariant.copied.target b z.0 o.1 z.1 in
+      let t = ready.invariant.copied.target was_old.0 z.0 o.1 z.1 in
       let e : to.0 ≡ z.0 = pointer_same x to.0 z.0 to.1 z.2 in
       let p = ready.laid_out.apart in
       let i = ready.invariant.laid.order in
       omega (arith, e, to.2, to.3, t.2, t.3, p, i))
       (λ z. absurd (let e = sym to.1 ∙ z.1 in cc))
-      (here.word b x before leads word)
+      was_old.2
 
   links_same : (a : ℕ) → IsCopiedCell E m.front g a → later.heap (a + 2) ≡ m.heap (a + 2)
   links_same a c =
@@ -239,8 +243,8 @@ module _ (E : Era) (m later : Memory) (weak turn : ℕ) (team : Team) (g : Ghost
       ) refl
 
   pub replaces : Chain E later weak turn (with_worker team k w) g r
-  replaces = walks_on E m later weak turn team g r k (At v) (At (record v { past = true })) w ready.member has gets like chain s.memory.traced s.memory.front links_same
-      (λ u e. let f : record v { past = true } ≡ u = cc in rw (← f) (record { linked = here.linked; few = here.few; old = λ b f _. absurd (cc); word = λ b x f _ _. absurd (cc) }))
+  replaces = walks_on E m later weak turn team g r k (At v) (At (has_passed v)) w ready.member has gets like chain s.memory.traced s.memory.front links_same
+      (λ u e. let f : has_passed v ≡ u = cc in rw (← f) (record { linked = here.linked; few = here.few; old = λ b f _. absurd (cc); word = λ x f _. absurd (cc) }))
       (λ a y l. ⊎_elim
       (λ (e : a ≡ v.cell). rw (s.heap, put_at m.heap (v.cell + 1) x (a + 1) (ap (λ z. z + 1) e)) clean)
       (λ (more : r.rank v.cell + 1 ≤ r.rank a).
@@ -249,5 +253,5 @@ module _ (E : Era) (m later : Memory) (weak turn : ℕ) (team : Team) (g : Ghost
       (same_or_more E m weak g r chained v.cell a here.linked l))
 
 pub replacing_target_carries_chain : ReplacingTargetCarriesChain
-replacing_target_carries_chain E m later weak turn team g r k v b x w ready has before leads word gets writes like chain =
-    replaces E m later weak turn team g r k v b x w ready has before leads word gets (stores_word writes refl) like chain
+replacing_target_carries_chain E m later weak turn team g r k v x w ready has before word gets writes like chain =
+    replaces E m later weak turn team g r k v x w ready has before word gets (stores_word writes refl) like chain

@@ -1,32 +1,44 @@
--- A cell that was copied: a word of it is stored, as its link, and then WEAK is exchanged.
-use Rattle.std.proofs.Common.{◌≡◌, ℕ, ◌+◌, ◌^◌, ◌<◌, true, false, Some, refl, sym, ap, ◌∙◌, arith, inl, inr, subst}
+-- A cell that was copied: WEAK is read, the word is stored as the cell's link, and then WEAK is exchanged.
+use Rattle.std.proofs.Common.{◌≡◌, ℕ, ◌+◌, ◌^◌, ◌<◌, true, false, Option, Some, None, refl, sym, ap, ◌∙◌, arith, inl, inr}
 use Rattle.plain_state.specs.declared.kind.Kind.TheVariants.{Mixed, Weak}
 use Rattle.plain_state.specs.Layout.{is_field, is_raw, values_at, word_of_value}
 use Rattle.plain_state.specs.State as plain
-use Rattle.heap_state.specs.Cells.{IsCopiedCell}
-use Rattle.heap_state.specs.Memory.Entries.{WeakIs, WordIs}
+use Rattle.heap_state.specs.Cells.{IsCopiedCell, Links}
+use Rattle.heap_state.specs.Invariant.Parts.Cells.{Cells}
+use Rattle.heap_state.specs.Cycles.Cycle.{Cycle}
+use Rattle.heap_state.specs.Memory.Entries.{WordIs, WeakIs}
 use Rattle.heap_state.specs.Memory.Era.{Era, Memory}
 use Rattle.heap_state.specs.Functions.{put}
 use Rattle.heap_state.specs.Invariant.Ghost.{Ghost, Here}
 use Rattle.heap_state.specs.Invariant.Inductive.{Invariant}
-use Rattle.heap_state.specs.Invariant.Parts.Copying.{IsOrigin, Seeks, Licensed}
 use Rattle.heap_state.specs.Meaning.Values.{Shown, Shows, value_of}
-use Rattle.heap_state.specs.Worker.{Team, Quest, is_late}
-use Rattle.heap_state.proofs.Puts.{put_is, put_other, some_same, none≢some, true_false}
+use Rattle.heap_state.specs.Worker.{Worker, Team, Linking, Pass}
+use Rattle.heap_state.proofs.Workers.Frames.{rooted_put}
+use Rattle.heap_state.proofs.Puts.{put_other}
 use Rattle.heap_state.proofs.Records.Layouts.{count_stays, value_within}
-use Rattle.heap_laws.specs.Copying.{CellWordsAreStored, LinksAreStored, CellsAreLinked}
-use Rattle.heap_laws.specs.Steps.{Ready, InWord, Steps, Preserves, with_word, with_worker}
-use Rattle.heap_laws.proofs.Copying.Knowledge.{learns_alone}
+use Rattle.heap_laws.specs.Copying.{WeakIsLoaded, WeakIsForgotten, LinksAreStored, CellsAreLinked, with_linking}
+use Rattle.heap_laws.specs.Cells.Links.{SameBesideLinking, one_more}
+use Rattle.heap_laws.specs.Steps.{Ready, NoRow, InWord, InWeak, Steps, Preserves, with_weak, with_word, with_worker}
+use Rattle.heap_laws.proofs.Cells.Kept.{targets_stay}
+use Rattle.heap_laws.proofs.Cells.Linked.{reading_weak_carries_chain, storing_link_carries_chain, linking_carries_chain}
 use Rattle.heap_laws.proofs.Fields.Cycle.{store_keeps_cycle}
 use Rattle.heap_laws.proofs.Fields.Slots.{IsRecordWord, here_field}
-use Rattle.heap_laws.proofs.Fields.Stored.{Stores, slot_keeps}
+use Rattle.heap_laws.proofs.Fields.Stored.{Stores, with_chain_part, slot_keeps}
 use Rattle.heap_laws.proofs.Frames.Values.{one_place}
-use Rattle.heap_laws.proofs.Steps.Composing.{steps_write_beside}
+use Rattle.heap_laws.proofs.Steps.Learning.{links, shown_put}
 use Rattle.heap_laws.proofs.Steps.Rows.{below_board}
+use Rattle.heap_laws.proofs.Targets.Rows.{storing_link_carries_targets}
 
 -- ---- a word of a cell
 
-module _ (E : Era) (m : Memory) (team : Team) (g : Ghost) (k b i v : ℕ) (ready : Ready E m team g k) (cell : IsCopiedCell E m.front g b) (inner : 0 < i) (room : i < g.size b) (small : v < 2 ^ 62) where
+-- A word of a copied cell is stored, by a worker that knows something else of the chain then, if the chain stands after it.
+abbrev pub CellWordsAreStored : Type 0
+CellWordsAreStored = (E : Era) (m : Memory) (team : Team) (g : Ghost) (k b i v : ℕ) (l : Option Linking) (p : Option Pass) → Ready E m team g k
+    → IsCopiedCell E m.front g b → 0 < i → i < g.size b → v < 2 ^ 62 → Cells E (with_word m (b + i) v) (with_worker team k (with_chain_part (team.worker k) l p)) g
+    → Steps E m team g k (Some (WordIs (b + i) v)) (with_chain_part (team.worker k) l p) g
+
+module _ (E : Era) (m : Memory) (team : Team) (g : Ghost) (k b i v : ℕ) (l : Option Linking) (p : Option Pass) (ready : Ready E m team g k) (cell : IsCopiedCell E m.front g b) (inner : 0 < i) (room : i < g.size b) (small : v < 2 ^ 62)
+    (cells : Cells E (with_word m (b + i) v) (with_worker team k (with_chain_part (team.worker k) l p)) g) where
   abbrev inv : Invariant E m team g
   inv = ready.invariant
 
@@ -41,7 +53,7 @@ module _ (E : Era) (m : Memory) (team : Team) (g : Ghost) (k b i v : ℕ) (ready
 
   -- a word of a record that is this one is one of a cell
   of_cell : (a j : ℕ) → j < g.size a → a + j ≡ b + i → g.kind a ≡ Weak
-  of_cell a j l e = ap g.kind (one_place g.size a b j i inv.laid.apart l room e) ∙ cell.weak
+  of_cell a j below e = ap g.kind (one_place g.size a b j i inv.laid.apart below room e) ∙ cell.weak
 
   unread : ¬ (Here E g.size g.writer g.kind (b + i))
   unread h = let f = here_field ready.laid_out inv.laid g.writer g.kind (b + i) h b i room refl in let t : is_field Weak i ≡ true = ap (λ z. is_field z i) (sym cell.weak) ∙ f.1 in absurd (cc)
@@ -99,51 +111,97 @@ module _ (E : Era) (m : Memory) (team : Team) (g : Ghost) (k b i v : ℕ) (ready
 
   -- ---- the step
 
-  -- who stores it knows what it knew
-  same_team : team ≡ with_worker team k (team.worker k)
-  same_team = ap (λ (worker : ℕ → _). record team { worker = worker }) (put_is team.worker team.worker k (team.worker k) refl (λ j d. refl))
+  abbrev later : Memory
+  later = with_word m (b + i) v
 
-  keeps : Preserves E m (with_word m (b + i) v) team team g g
-  keeps = record {
-    invariant = slot_keeps E m team g (b + i) v store inv;
-    shown = shown;
-    cycle = λ p cy. store_keeps_cycle E m team g p (b + i) v store inv cy;
-    ages = λ page. omega arith;
-  }
+  abbrev w : Worker
+  w = with_chain_part (team.worker k) l p
 
-  pub stores_cell : Steps E m team g k (Some (WordIs (b + i) v)) (team.worker k) g
+  cycle : (y : plain.Plain) → Cycle E m team g y → Cycle E later (with_worker team k w) g y
+  cycle y before =
+      let c = store_keeps_cycle E m team g y (b + i) v store inv before in
+      record { copying = c.copying; rooted = rooted_put team.worker k w refl refl refl (λ _ _ late done. (late, done)) c.rooted }
+
+  pub stores_cell : Steps E m team g k (Some (WordIs (b + i) v)) w g
   stores_cell = record {
-    later = with_word m (b + i) v;
+    later = later;
     writes = InWord (b + i) v (let below = below_board ready b cell.stands in omega (arith, below, room));
-    keeps = subst (λ (after : Team). Preserves E m (with_word m (b + i) v) team after g g) same_team keeps;
+    keeps = record { invariant = slot_keeps E m team g k (b + i) v l p store ready cells; shown = λ y s. shown_put E later later team g k w y refl refl refl (shown y s); cycle = cycle; ages = λ page. omega arith };
   }
-
--- ---- the link
 
 pub cell_words_are_stored : CellWordsAreStored
-cell_words_are_stored E m team g k b i v ready cell inner room small = stores_cell E m team g k b i v ready cell inner room small
+cell_words_are_stored = stores_cell
+
+-- ---- what a worker knows of the chain
+
+module _ (E : Era) (m : Memory) (team : Team) (g : Ghost) (k : ℕ) (l : Linking) (ready : Ready E m team g k) (has : (team.worker k).linking ≡ Some l) where
+  abbrev me : Worker
+  me = team.worker k
+
+  abbrev before : Cells E m team g
+  before = ready.invariant.cells
+
+  mine : Links E m g before.ranks me l
+  mine = before.chain.linking k l ready.member has
+
+  -- worker k with another cell to link, or with something else known of it
+  abbrev after : Option Linking → Team
+  after n = with_worker team k (with_linking me n)
+
+  like : (n : Option Linking) → SameBesideLinking (with_linking me n) me
+  like n = record { post = refl; epoch = refl; scan = refl; asked = λ y. y; last_look = refl; reset = refl; pass = refl }
+
+  -- WEAK has this word, and the cells are known
+  relinked : (n : Option Linking) (word : ℕ) → Cells E (with_weak m word) (after n) g → Preserves E m (with_weak m word) team (after n) g g
+  relinked n word cells = links E m team g k (with_linking me n) ready.invariant (assumption) (λ s e. (s, e, refl)) word m.weak_turn cells (let u = ready.invariant.workers k ready.member in assumption)
+
+  reads : (n : Linking) → n.cell ≡ l.cell → n.stored ≡ false → Steps E m team g k None (with_linking me (Some n)) g
+  reads n cell loose = record {
+    later = m;
+    writes = NoRow;
+    keeps = relinked (Some n) m.weak (record {
+      ranks = before.ranks;
+      chain = reading_weak_carries_chain E m m m.weak m.weak_turn team g before.ranks k l n (with_linking me (Some n)) ready has refl cell loose NoRow (like (Some n)) before.chain;
+      targets = before.targets;
+    });
+  }
+
+  pub loads_weak : Steps E m team g k None (with_linking me (Some (record { cell = l.cell; read = Some m.weak; stored = false }))) g
+  loads_weak = reads (record { cell = l.cell; read = Some m.weak; stored = false }) refl refl
+
+  pub forgets_weak : Steps E m team g k None (with_linking me (Some (record { cell = l.cell; read = None; stored = false }))) g
+  forgets_weak = reads (record { cell = l.cell; read = None; stored = false }) refl refl
+
+  pub stores_link : (v : ℕ) → v < 2 ^ 62 → Steps E m team g k (Some (WordIs (l.cell + 2) v)) (with_linking me (Some (record { cell = l.cell; read = Some v; stored = true }))) g
+  stores_link v small =
+      let n : Linking = record { cell = l.cell; read = Some v; stored = true } in
+      let room : 2 < g.size l.cell = (let z = before.chain.three l.cell mine.cell.stands mine.cell.weak in omega (arith, z)) in
+      let below = below_board ready l.cell mine.cell.stands in
+      stores_cell E m team g k l.cell 2 v (Some n) me.pass ready mine.cell (omega arith) room small (record {
+        ranks = before.ranks;
+        chain = storing_link_carries_chain E m (with_word m (l.cell + 2) v) m.weak m.weak_turn team g before.ranks k l v (with_linking me (Some n)) ready has refl (InWord (l.cell + 2) v (omega (arith, below, room))) (like (Some n)) before.chain;
+        targets = storing_link_carries_targets E m (with_word m (l.cell + 2) v) m.weak m.weak_turn team g before.ranks k l v ready has (InWord (l.cell + 2) v (omega (arith, below, room))) before.chain before.targets;
+      })
+
+  pub links_cell : l.read ≡ Some m.weak → l.stored ≡ true → l.cell + 1 < 2 ^ 62 → Steps E m team g k (Some (WeakIs (l.cell + 1))) (with_linking me None) g
+  links_cell read stored small = record {
+    later = with_weak m (l.cell + 1);
+    writes = InWeak (l.cell + 1) small;
+    keeps = relinked None (l.cell + 1) (record {
+      ranks = one_more before.ranks l.cell;
+      chain = linking_carries_chain E m (with_weak m (l.cell + 1)) m.weak m.weak_turn team g before.ranks k l (with_linking me None) ready has read stored refl (InWeak (l.cell + 1) small) (like None) before.chain;
+      targets = targets_stay (InWeak (l.cell + 1) small) tt before.targets;
+    });
+  }
+
+pub weak_is_loaded : WeakIsLoaded
+weak_is_loaded = loads_weak
+
+pub weak_is_forgotten : WeakIsForgotten
+weak_is_forgotten = forgets_weak
 
 pub links_are_stored : LinksAreStored
-links_are_stored E m team g k q b v ready has small =
-    let inv = ready.invariant in
-    let seeks : Seeks E g.size g.writer g.copy g.kind q = (inv.workers k ready.member).quest q has.asks in
-    let found = seeks.found b has.found in
-    let links = seeks.links has.links in
-    let twin = inv.copied.target q.old b seeks.old.0 found.0 in
-    let room : 2 < g.size b = let s = links.1 in let t = twin.4 in omega (arith, s, t) in
-    stores_cell E m team g k b 2 v ready (record { stands = omega (arith, room); written = found.1; weak = twin.6 ∙ links.0; inside = (twin.2, twin.3) }) (omega arith) room small
-
--- ---- the exchange
+links_are_stored E m team g k l v ready has small = stores_link E m team g k l ready has v small
 
 pub cells_are_linked : CellsAreLinked
-cells_are_linked E m team g k q word ready idle asks small =
-    let me = ready.invariant.workers k ready.member in
-    let r : Quest = record q { links = false } in
-    let origin : (x : Quest) → Some r ≡ Some x → IsOrigin E g.size g.writer g.kind m.heap (is_late E.epoch (team.worker k)) (team.worker k).done (team.worker k).registers (team.worker k).scan x.old x.origin =
-    λ x e. rw (← some_same e) (me.origin q asks) in
-    let seeks : (x : Quest) → Some r ≡ Some x → Seeks E g.size g.writer g.copy g.kind x =
-    λ x e. rw (← some_same e) (let s = me.quest q asks in record { old = s.old; found = s.found; links = λ f. true_false refl f }) in
-    let licence : Licensed m.gate.behind g.kept k (is_late E.epoch (team.worker k)) (team.worker k).copy (Some r) (team.worker k).scan =
-    record { licensed = λ c e. none≢some (sym idle ∙ e); asked = λ c e. none≢some (sym idle ∙ e); counted = me.licensed.counted; idle = me.licensed.idle } in
-    steps_write_beside E m team g k (WeakIs word) (record (team.worker k) { quest = Some r }) g small
-    (record { later = m; writes = Rattle.heap_laws.specs.Steps.NoRow; keeps = learns_alone E m team g k ready (record (team.worker k) { quest = Some r }) (assumption) (assumption) })
+cells_are_linked E m team g k l ready has read stored small = links_cell E m team g k l ready has read stored small

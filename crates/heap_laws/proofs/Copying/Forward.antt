@@ -1,12 +1,12 @@
 -- The copy is whole, and the forward to it is stored at the old place.
-use Rattle.std.proofs.Common.{◌≡◌, ◌≢◌, ℕ, ◌+◌, ◌-◌, ◌*◌, ◌/◌, ◌^◌, ◌<◌, ◌≤◌, Bool, true, false, refl, sym, ap, ◌∙◌, arith, Option, Some, None, ⊎_elim, ◌⊎◌, inl, inr}
+use Rattle.std.proofs.Common.{◌≡◌, ◌≢◌, ℕ, ◌+◌, ◌-◌, ◌*◌, ◌/◌, ◌^◌, ◌<◌, ◌≤◌, Bool, true, false, refl, sym, ap, ◌∙◌, arith, Option, Some, None, ⊎_elim, ◌⊎◌, inl, inr, add-zero}
 use Rattle.std.proofs.lemmas.Bool.{cases_eq}
-use Rattle.plain_state.specs.declared.kind.Kind.TheVariants.{Mixed, Weak}
-use Rattle.heap_words.specs.declared.kind.Kind.TheVariants as HeaderKind
+use Rattle.plain_state.specs.declared.kind.Kind.TheVariants.{Mixed}
 use Rattle.heap_words.specs.Word.{number_word}
 use Rattle.heap_words.specs.Decoded.{HeaderWord, ForwardWord, PointerWord, decode}
 use Rattle.plain_state.specs.Layout.{is_field}
 use Rattle.space_map.specs.declared.page_word.PageWord.TheVariants.{Scanning}
+use Rattle.heap_state.specs.Invariant.Parts.Cells.{Cells}
 use Rattle.heap_state.specs.Memory.Era.{Era, Memory}
 use Rattle.heap_state.specs.Functions.{put}
 use Rattle.heap_state.specs.Invariant.Ghost.{Ghost, IsField, Here, Lands, header_kind}
@@ -19,17 +19,20 @@ use Rattle.heap_state.specs.Invariant.Parts.Leading.{Opened, Landing, Older}
 use Rattle.heap_state.specs.Invariant.Parts.Pages.{Shut}
 use Rattle.heap_state.specs.Invariant.Parts.Records.{Headed, RawWords, Counts}
 use Rattle.heap_state.specs.Invariant.Parts.Scanning.{Scans, Stepping, Claims}
-use Rattle.heap_state.specs.Worker.{Worker, Team, Quest, Copy, Scan, Claim, Access, Origin, Register, Scanned, is_late, is_mutator}
+use Rattle.heap_state.specs.Worker.{Worker, Team, Quest, Copy, Scan, Claim, Access, Origin, Register, Scanned, Linking, is_late, is_mutator}
 use Rattle.heap_state.proofs.Workers.Frames.{counted_put, staffed_put, scanned_put, stocks_put, numbered_put}
 use Rattle.heap_state.proofs.Puts.{put_at, put_other, put_same, team_put, each_put, some_same, none≢some}
-use Rattle.heap_state.proofs.Records.Headers.{weak_header}
-use Rattle.heap_laws.specs.Copying.{KeepsCell, published}
-use Rattle.heap_laws.specs.Steps.{Ready, with_worker, with_word}
+use Rattle.heap_laws.specs.Copying.{LinksCopy, has_published, published}
+use Rattle.heap_laws.specs.Steps.{Ready, InWord, with_worker, with_word}
+use Rattle.heap_laws.proofs.Cells.Kept.{of_chain, finds_nothing, nothing_to_link}
+use Rattle.heap_laws.proofs.Cells.Published.{publishing_carries_chain}
+use Rattle.heap_laws.proofs.Targets.Published.{publishing_carries_targets}
 use Rattle.heap_laws.proofs.Copying.UnreadWords.{UnreadWord, opened_unread, landing_unread, older_unread, new_unread, space_unread, raw_unread, counts_unread, stocks_unread, origin_unread, scans_unread}
 use Rattle.heap_laws.proofs.Copying.Words.{knows_unread}
+use Rattle.heap_laws.proofs.Steps.Rows.{below_board}
 
 -- a whole copy, and the forward to it
-pub record Publishing (E : Era) (m : Memory) (team : Team) (g : Ghost) (k : ℕ) (c : Copy) (q : Quest) (v : ℕ) (links : Bool) : Type 0 where
+pub record Publishing (E : Era) (m : Memory) (team : Team) (g : Ghost) (k : ℕ) (c : Copy) (q : Quest) (v : ℕ) (l : Option Linking) : Type 0 where
   pub ready : Ready E m team g k
   pub has : (team.worker k).copy ≡ Some c
   pub asks : (team.worker k).quest ≡ Some q
@@ -37,9 +40,9 @@ pub record Publishing (E : Era) (m : Memory) (team : Team) (g : Ghost) (k : ℕ)
   pub full : c.done ≡ c.size
   pub crossed : c.to + c.size ≤ 64 * c.crossed
   pub word : decode v ≡ ForwardWord (c.size - 1) c.to
-  pub cell : links ≡ true → KeepsCell c
+  pub cell : LinksCopy c l
 
-module _ {E : Era} {m : Memory} {team : Team} {g : Ghost} {k : ℕ} {c : Copy} {q : Quest} {v : ℕ} {links : Bool} (publishing : Publishing E m team g k c q v links) where
+module _ {E : Era} {m : Memory} {team : Team} {g : Ghost} {k : ℕ} {c : Copy} {q : Quest} {v : ℕ} {l : Option Linking} (publishing : Publishing E m team g k c q v l) where
   open publishing use {ready, has, asks, res, full, crossed, word, cell}
 
   abbrev inv : Invariant E m team g
@@ -49,10 +52,10 @@ module _ {E : Era} {m : Memory} {team : Team} {g : Ghost} {k : ℕ} {c : Copy} {
   heap' = put m.heap (c.from + 0) v
 
   abbrev pub found : Quest
-  found = record q { found = Some c.to; links = links }
+  found = record q { found = Some c.to }
 
   abbrev pub w' : Worker
-  w' = record (team.worker k) { copy = None; quest = Some found }
+  w' = has_published (team.worker k) c q l
 
   abbrev pub g' : Ghost
   g' = published g k c.from c.to
@@ -274,16 +277,16 @@ module _ {E : Era} {m : Memory} {team : Team} {g : Ghost} {k : ℕ} {c : Copy} {
   origin late done r scan old (Register x) p = p
   origin late done r scan old (Scanned x) p = (p.0, here_on x p.1, p.2)
 
-  seeks : (x : Quest) → Seeks E g.size g.writer g.copy g.kind x → Seeks E g'.size g'.writer g'.copy g'.kind x
-  seeks x p = record { old = p.old; found = λ b e. let y = p.found b e in (y.0, written_on b y.1); links = p.links }
+  seeks : (x : Quest) → Seeks E g.size g.writer g.copy x → Seeks E g'.size g'.writer g'.copy x
+  seeks x p = record { old = p.old; found = λ b e. let y = p.found b e in (y.0, written_on b y.1) }
 
-  -- what a worker knows, but for its quest and its copy
-  stays : (j : ℕ) → j < team.count → (q : Option Quest) (o : Option Copy)
+  -- what a worker knows, but for its quest and its copy, whatever it has to link
+  stays : (j : ℕ) → j < team.count → (q : Option Quest) (o : Option Copy) (n : Option Linking)
       → ((x : Quest) → q ≡ Some x → IsOrigin E g'.size g'.writer g'.kind heap' (is_late E.epoch (team.worker j)) (team.worker j).done (team.worker j).registers (team.worker j).scan x.old x.origin)
-      → ((x : Quest) → q ≡ Some x → Seeks E g'.size g'.writer g'.copy g'.kind x) → Licensed m.gate.behind g'.kept j (is_late E.epoch (team.worker j)) o q (team.worker j).scan
+      → ((x : Quest) → q ≡ Some x → Seeks E g'.size g'.writer g'.copy x) → Licensed m.gate.behind g'.kept j (is_late E.epoch (team.worker j)) o q (team.worker j).scan
       → ((x : Copy) → o ≡ Some x → Copies E m.front g'.size g'.writer g'.copy g'.keeper g'.kept m.announced m.cross heap' j x) → ((x : Copy) → o ≡ Some x → Keeps g'.kind g'.identity heap' x)
-      → Knows E m.gate m.traced m.front m.low m.old_front m.old_low m.old_owed g' m.page m.cross m.announced heap' j (record (team.worker j) { quest = q; copy = o })
-  stays j l q o from quest licence copies keeps =
+      → Knows E m.gate m.traced m.front m.low m.old_front m.old_low m.old_owed g' m.page m.cross m.announced heap' j (record (team.worker j) { quest = q; copy = o; linking = n })
+  stays j l q o n from quest licence copies keeps =
       let u = inv.workers j l in
       let o1 = λ (i : is_mutator (team.worker j).post ≡ true) (e : (team.worker j).account.end ≡ None). registers (is_late E.epoch (team.worker j)) (team.worker j).done (team.worker j).registers (u.registers i e) in
       let o2 = λ (f : Access) (e : (team.worker j).access ≡ Some f). accesses f (u.access f e) in
@@ -295,7 +298,7 @@ module _ {E : Era} {m : Memory} {team : Team} {g : Ghost} {k : ℕ} {c : Copy} {
   others : (j : ℕ) → j < team.count → j ≢ k → Knows E m.gate m.traced m.front m.low m.old_front m.old_low m.old_owed g' m.page m.cross m.announced heap' j (team.worker j)
   others j l d =
       let u = knows_unread E m.gate m.traced m.front m.low m.old_front m.old_low m.old_owed g m.page m.cross m.announced m.heap k c.from 0 v unread_word j (team.worker j) d inv.older (inv.workers j l) in
-      stays j l (team.worker j).quest (team.worker j).copy
+      stays j l (team.worker j).quest (team.worker j).copy (team.worker j).linking
       (λ x e. origin (is_late E.epoch (team.worker j)) (team.worker j).done (team.worker j).registers (team.worker j).scan x.old x.origin (u.origin x e))
       (λ x e. seeks x (u.quest x e))
       (record { licensed = u.licensed.licensed; asked = u.licensed.asked; counted = u.licensed.counted; idle = λ e. rw (put_other g.kept k 0 j d) (u.licensed.idle e) })
@@ -318,9 +321,9 @@ module _ {E : Era} {m : Memory} {team : Team} {g : Ghost} {k : ℕ} {c : Copy} {
           }
 
   own : Knows E m.gate m.traced m.front m.low m.old_front m.old_low m.old_owed g' m.page m.cross m.announced heap' k w'
-  own = stays k ready.member w'.quest w'.copy
+  own = stays k ready.member w'.quest w'.copy l
       (λ x e. rw (← some_same e) (origin _ (team.worker k).done (team.worker k).registers (team.worker k).scan q.old q.origin (origin_unread unread_word m.heap v g.kind _ (team.worker k).done (team.worker k).registers (team.worker k).scan q.old q.origin (me.origin q asks))))
-      (λ x e. rw (← some_same e) (record { old = (me.quest q asks).old; found = λ b i. let z : c.to ≡ b = some_same i in rw (← z) at_copy; links = at_cell }))
+      (λ x e. rw (← some_same e) (record { old = (me.quest q asks).old; found = λ b i. let z : c.to ≡ b = some_same i in rw (← z) at_copy }))
       (record { licensed = λ x e. none≢some e; asked = λ x e. none≢some e; counted = me.licensed.counted; idle = λ e. put_same g.kept k 0 })
       (λ x e. none≢some e)
       (λ x e. none≢some e)
@@ -331,15 +334,18 @@ module _ {E : Era} {m : Memory} {team : Team} {g : Ghost} {k : ℕ} {c : Copy} {
       at_copy : (g.copy q.old ≡ c.to + 1) × (g'.writer c.to ≡ 0)
       at_copy = (ap g.copy from ∙ placed.1, put_same g.writer c.to 0)
 
-      at_cell : links ≡ true → (g.kind q.old ≡ Weak) × (2 < g.size q.old)
-      at_cell e =
-          let says = cell e in
-          let z : HeaderWord (header_kind (g.kind c.from)) (c.size - 1) (g.identity c.from).serial (g.identity c.from).mutator ≡ HeaderWord HeaderKind.Weak 2 says.0 says.1 =
-          sym (me.keeps c has).keeps ∙ says.2 in
-          let kind : header_kind (g.kind c.from) ≡ HeaderKind.Weak = cc in
-          let len : c.size - 1 ≡ 2 = cc in
-          let size : g.size q.old ≡ c.size = ap g.size from ∙ mine.old.1 in
-          (ap g.kind from ∙ weak_header (g.kind c.from) kind, omega (arith, len, size))
+  -- who copies has found nothing yet, so it has nothing to link
+  free : (team.worker k).linking ≡ None
+  free = let a = me.licensed.asked c has in nothing_to_link inv.cells ready.member (finds_nothing (team.worker k) a.0 a.1 a.3)
+
+  cells : Cells E (with_word m c.from v) (with_worker team k w') g'
+  cells =
+      let before = inv.cells in
+      let below = below_board ready c.from (let o = mine.old in omega (arith, o)) in
+      of_chain {m = m} (record { weak = refl; weak_turn = refl })
+      (publishing_carries_chain E m (with_word m c.from v) m.weak m.weak_turn team g before.ranks k c v w' ready has res free (InWord c.from v (let o = mine.old in omega (arith, below, o))) cell (found, refl, refl)
+      (record { post = refl; epoch = refl; scan = refl; asked = λ _. (found, refl, refl); last_look = refl; reset = refl; pass = refl }) before.chain)
+      (publishing_carries_targets E m (with_word m c.from v) m.weak m.weak_turn team g before.ranks k c v ready has res full (InWord c.from v (let o = mine.old in omega (arith, below, o))) before.chain before.targets)
 
   pub invariant : Invariant E (with_word m (c.from + 0) v) (with_worker team k w') g'
   invariant = record {
@@ -370,5 +376,6 @@ module _ {E : Era} {m : Memory} {team : Team} {g : Ghost} {k : ℕ} {c : Copy} {
     crossing = crossing;
     stocks = stocks_put team.worker k w' (λ _ e. e) (stocks_unread unread_word m.heap v team.count m.page team.worker inv.stocks);
     numbered = numbered_put team.worker k w' refl inv.numbered;
+    cells = rw (add-zero c.from) cells;
     workers = team_put team.count (Knows E m.gate m.traced m.front m.low m.old_front m.old_low m.old_owed g' m.page m.cross m.announced heap') team.worker k w' others own;
   }

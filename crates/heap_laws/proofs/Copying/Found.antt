@@ -39,7 +39,7 @@ found_copy E m team g k w v b q out inv below has found led word = record {
       none≢some (sym a.3 ∙ (y ∙ found));
 }
   where
-    seeks : Seeks E g.size g.writer g.copy g.kind q
+    seeks : Seeks E g.size g.writer g.copy q
     seeks = (inv.workers k below).quest q has
 
     target : (E.old_start ≤ q.old) × (q.old < E.old_start + E.old_span) × (E.start ≤ b) × (b < m.front) × (g.size b ≡ g.size q.old)

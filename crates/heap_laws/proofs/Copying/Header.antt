@@ -6,6 +6,7 @@ use Rattle.heap_words.specs.declared.kind.Kind.{Kind as HeaderKind}
 use Rattle.plain_state.specs.Reachable.{Reachable}
 use Rattle.plain_state.specs.State as plain
 use Rattle.heap_state.specs.Cycles.Cycle.{Copying}
+use Rattle.heap_state.specs.Invariant.Parts.Cells.{Cells}
 use Rattle.heap_state.specs.Memory.Era.{Era, Memory}
 use Rattle.heap_state.specs.Functions.{put}
 use Rattle.heap_state.specs.Invariant.Ghost.{Ghost, header_kind}
@@ -19,10 +20,13 @@ use Rattle.heap_state.proofs.Workers.Frames.{counted_put, staffed_put, scanned_p
 use Rattle.heap_state.proofs.Records.Holding.{First, OwnHeader, KeptBy, GoneTo, first}
 use Rattle.heap_state.proofs.Puts.{put_at, put_other, put_same, team_put, some_same, none≢some}
 use Rattle.heap_laws.specs.Copying.{copying, begun, taken}
-use Rattle.heap_laws.specs.Steps.{Ready, with_worker, with_word, Preserves}
+use Rattle.heap_laws.specs.Steps.{Ready, InWord, with_worker, with_word, Preserves}
+use Rattle.heap_laws.proofs.Cells.Kept.{word_keeps, words_no_targets, words_unread}
+use Rattle.heap_laws.proofs.Copying.InProgress.{copies_in_chain}
 use Rattle.heap_laws.proofs.Copying.Roots.{asked_reachable}
 use Rattle.heap_laws.proofs.Copying.UnreadWords.{UnreadWord, opened_unread, landing_unread, older_unread, new_unread, space_unread, raw_unread, counts_unread, stocks_unread, origin_unread, scans_unread, objects_unread, board_unread}
 use Rattle.heap_laws.proofs.Copying.Words.{knows_unread, copying_unread, rooted_unread}
+use Rattle.heap_laws.proofs.Steps.Rows.{below_board}
 
 -- a record whose own header stands in its place was not copied, and nobody keeps its header
 record Untaken (g : Ghost) (a len : ℕ) : Type 0 where
@@ -168,6 +172,12 @@ module _ (E : Era) (m : Memory) (team : Team) (g : Ghost) (k : ℕ) (q : Quest) 
       let o5 = λ (s : Scan) (e : (team.worker k).scan ≡ Some s). scans_unread unread_word m.heap v g.kind m.page k s (me.scan s e) in
       assumption
 
+  cells : Cells E (with_word m (a + 0) v) (with_worker team k w') g'
+  cells =
+      let below = below_board ready a old.0 in
+      word_keeps E m (with_word m (a + 0) v) team g g' k (a + 0) v w' (InWord (a + 0) v (omega (arith, below))) (rw (add-zero a) ((words_unread ready).first a old.0)) (rw (add-zero a) ((words_no_targets ready).first a old.0))
+      (record { size = refl; writer = refl; kind = refl; copy = refl }) (copies_in_chain E (team.worker k) c) inv.cells
+
   invariant : Invariant E (with_word m (a + 0) v) (with_worker team k w') g'
   invariant =
       let p1 = counted_put team.worker k w' refl refl inv.counted in
@@ -186,6 +196,7 @@ module _ (E : Era) (m : Memory) (team : Team) (g : Ghost) (k : ℕ) (q : Quest) 
       let p13 = stocks_put team.worker k w' (λ _ e. e) (stocks_unread unread_word m.heap v team.count m.page team.worker inv.stocks) in
       let p14 = numbered_put team.worker k w' refl inv.numbered in
       let p15 = team_put team.count (Knows E m.gate m.traced m.front m.low m.old_front m.old_low m.old_owed g' m.page m.cross m.announced heap') team.worker k w' others own in
+      let p17 = cells in
       assumption
 
   cycle_taken : (p : plain.Plain) → Reachable p (g.identity a) → Copying E m.front g.size g.writer g.copy g.keeper g.kind g.identity heap' p

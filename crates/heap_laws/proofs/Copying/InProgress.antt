@@ -1,5 +1,5 @@
 -- Who goes on copying the same record knows the rest as before.
-use Rattle.std.proofs.Common.{◌≡◌, ℕ, sym, ap, ◌∙◌, Some}
+use Rattle.std.proofs.Common.{◌≡◌, ℕ, refl, sym, ap, ◌∙◌, Some}
 use Rattle.space_map.specs.declared.gate_word.GateWord.{GateWord}
 use Rattle.space_map.specs.declared.page_word.PageWord.{PageWord}
 use Rattle.heap_state.specs.Memory.Era.{Era}
@@ -9,7 +9,9 @@ use Rattle.heap_state.specs.Invariant.Parts.Copying.{IsOrigin, Copies, Keeps, Li
 use Rattle.heap_state.specs.Invariant.Parts.Scanning.{Scans}
 use Rattle.heap_state.specs.Worker.{Worker, Quest, Copy, Scan, is_late}
 use Rattle.heap_state.proofs.Puts.{some_same, none≢some}
+use Rattle.heap_laws.specs.Cells.Frames.{GoesOnInChain}
 use Rattle.heap_laws.specs.Copying.{copying}
+use Rattle.heap_laws.proofs.Cells.Kept.{in_chain}
 
 -- who goes on copying the same record knows the rest as before, where the heap still has what the rest speaks of
 pub knows_copying : (E : Era) (gate : GateWord) (traced front low old_front old_low old_owed : ℕ) (g : Ghost) (page : ℕ → PageWord) (cross announced heap crossed claimed stored : ℕ → ℕ) (k : ℕ) (w : Worker) (c d : Copy)
@@ -28,3 +30,7 @@ knows_copying E gate traced front low old_front old_low old_owed g page cross an
     let o2 : (x : Copy) → Some d ≡ Some x → Copies E front g.size g.writer g.copy g.keeper g.kept claimed crossed stored k x = λ x m. rw (← some_same m) copies in
     let o3 : (x : Copy) → Some d ≡ Some x → Keeps g.kind g.identity stored x = λ x m. rw (← some_same m) keeps in
     assumption
+
+-- and it has the same part in the chain of copied cells
+pub copies_in_chain : (E : Era) (w : Worker) (c : Copy) → GoesOnInChain E (copying w c) w
+copies_in_chain E w c = in_chain E (copying w c) w refl refl refl (record { linking = refl; pass = refl; asked = λ _ y. y; look = λ _. refl; cleared = λ e. e })

@@ -1,7 +1,8 @@
 -- Steps that write no heap word: what a worker learns, the place that it announces, a page's crossing.
-use Rattle.std.proofs.Common.{◌≡◌, ◌≢◌, ℕ, ◌+◌, ◌-◌, ◌*◌, ◌<◌, ◌≤◌, true, false, refl, sym, ap, ◌∙◌, arith, Some, None, ⊎_elim}
+use Rattle.std.proofs.Common.{◌≡◌, ◌≢◌, ℕ, ◌+◌, ◌-◌, ◌*◌, ◌<◌, ◌≤◌, true, false, refl, sym, ap, ◌∙◌, arith, Some, None, is_some, ⊎_elim}
 use Rattle.std.proofs.lemmas.Bool.{cases_eq}
 use Rattle.heap_words.specs.Decoded.{HeaderWord, BusyWord, ForwardWord, decode}
+use Rattle.heap_state.specs.Cells.{KnowsCopy}
 use Rattle.heap_state.specs.Memory.Era.{Era, Memory}
 use Rattle.heap_state.specs.Functions.{put}
 use Rattle.heap_state.specs.Invariant.Ghost.{Ghost, header_kind}
@@ -29,7 +30,7 @@ module _ (E : Era) (m : Memory) (team : Team) (g : Ghost) (k : ℕ) (ready : Rea
       → ((j : ℕ) (c : Copy) → j < team.count → j ≢ k → (team.worker j).copy ≡ Some c → Copies E m.front g.size g.writer g.copy g.keeper g.kept claimed crossed m.heap j c)
       → Knows E m.gate m.traced m.front m.low m.old_front m.old_low m.old_owed g m.page crossed claimed m.heap k w
       → Preserves E m (record m { cross = crossed; announced = claimed }) team (with_worker team k w) g g
-  learns w alike = marks E m team g k w inv (record { post = alike.post; epoch = alike.epoch; account = alike.account; registers = alike.registers; done = alike.done; stock = alike.stock }) (λ s e. (s, alike.scan ∙ e, refl))
+  learns w alike = marks E m team g k w inv (record { post = alike.post; epoch = alike.epoch; account = alike.account; registers = alike.registers; done = alike.done; stock = alike.stock; chain = alike.chain }) (λ s e. (s, alike.scan ∙ e, refl))
 
   pub learns_alone : (w : Worker) → Alike w (team.worker k) → Knows E m.gate m.traced m.front m.low m.old_front m.old_low m.old_owed g m.page m.cross m.announced m.heap k w
       → Preserves E m m team (with_worker team k w) g g
@@ -162,9 +163,10 @@ module _ (E : Era) (m : Memory) (team : Team) (g : Ghost) (k : ℕ) (ready : Rea
               (omega (arith, n, e), rw e (t.7 ∙ y))
 
       pub forward_found : Preserves E m m team (with_worker team k (record (team.worker k) { quest = Some found })) g g
-      forward_found = learns_alone (record (team.worker k) { quest = Some found }) (assumption)
+      forward_found = learns_alone (record (team.worker k) { quest = Some found })
+          (let asked : is_some (team.worker k).linking ≡ true → KnowsCopy (team.worker k) → KnowsCopy (record (team.worker k) { quest = Some found }) = λ _ _. (found, refl, refl) in assumption)
           (let u = me in
           let origin : (x : Quest) → Some found ≡ Some x → IsOrigin E g.size g.writer g.kind m.heap (is_late E.epoch (team.worker k)) (team.worker k).done (team.worker k).registers (team.worker k).scan x.old x.origin = λ x e. rw (← some_same e) (me.origin q asks) in
-          let seeks : (x : Quest) → Some found ≡ Some x → Seeks E g.size g.writer g.copy g.kind x = λ x e. rw (← some_same e) (record { old = old; found = λ y i. let z : b ≡ y = some_same i in rw (← z) at_copy; links = (me.quest q asks).links }) in
+          let seeks : (x : Quest) → Some found ≡ Some x → Seeks E g.size g.writer g.copy x = λ x e. rw (← some_same e) (record { old = old; found = λ y i. let z : b ≡ y = some_same i in rw (← z) at_copy }) in
           let licence : Licensed m.gate.behind g.kept k (is_late E.epoch (team.worker k)) (team.worker k).copy (Some found) (team.worker k).scan = record { licensed = λ c e. none≢some (sym idle ∙ e); asked = λ c e. none≢some (sym idle ∙ e); counted = me.licensed.counted; idle = me.licensed.idle } in
           assumption)

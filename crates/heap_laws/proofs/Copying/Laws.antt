@@ -70,7 +70,7 @@ places_are_reserved E m team g k c area ready has announced loose at_front now =
       later = with_area m (E.start + (area.front + c.size)) (E.start + area.low) (area.owed - c.size);
       writes = InArea (moved_by c.size area) (moved_fits E m c area (copies_have_room E m team g k c ready has loose) now);
       keeps = rw (same_area m (c.to + c.size) m.low (m.owed - c.size) (E.start + (area.front + c.size)) (E.start + area.low) (area.owed - c.size) front now.low (ap (λ x. x - c.size) now.owed)) at
-          (place_reserved E m team g k c ready has announced loose at_front);
+          (place_reserved E m team g k c area ready has announced loose at_front now);
     }
 
 -- ---- words and crossings

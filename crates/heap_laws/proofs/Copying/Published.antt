@@ -1,5 +1,5 @@
 -- What a forward to a whole copy leaves shown, and what the cycle keeps of it.
-use Rattle.std.proofs.Common.{◌≡◌, ◌≢◌, ℕ, ◌+◌, ◌-◌, ◌<◌, ◌≤◌, Bool, true, refl, sym, ap, ◌∙◌, arith, Some, None, ⊎_elim, ◌⊎◌, inl, inr, add-zero, slice_get, length, ◌*◌}
+use Rattle.std.proofs.Common.{◌≡◌, ◌≢◌, ℕ, ◌+◌, ◌-◌, ◌<◌, ◌≤◌, true, refl, sym, ap, ◌∙◌, arith, Option, Some, ⊎_elim, ◌⊎◌, inl, inr, add-zero, slice_get, length, ◌*◌}
 use Rattle.std.proofs.lemmas.Bool.{cases_eq}
 use Rattle.std.proofs.lemmas.Option.{slice_get_within}
 use Rattle.heap_words.specs.Decoded.{PointerWord, decode, ForwardWord}
@@ -14,18 +14,18 @@ use Rattle.heap_state.specs.Functions.{put}
 use Rattle.heap_state.specs.Invariant.Ghost.{Ghost, Here}
 use Rattle.heap_state.specs.Invariant.Inductive.{Invariant}
 use Rattle.heap_state.specs.Meaning.Values.{ShowsAll, Shows, value_of}
-use Rattle.heap_state.specs.Worker.{Worker, Team, Quest, Copy}
+use Rattle.heap_state.specs.Worker.{Worker, Team, Quest, Copy, Linking}
 use Rattle.heap_state.proofs.Workers.Frames.{accounts_put, registers_put, rooted_put}
 use Rattle.heap_state.proofs.Puts.{put_at, put_other, some_same}
 use Rattle.heap_state.proofs.Records.Layouts.{count_stays, field_is_value, field_within, value_within, values_behind_header}
-use Rattle.heap_laws.specs.Copying.{KeepsCell, published}
+use Rattle.heap_laws.specs.Copying.{LinksCopy, has_published, published}
 use Rattle.heap_laws.specs.Steps.{with_worker, with_word, Preserves, Ready}
 use Rattle.heap_laws.proofs.Copying.Forward.{Publishing, mine, placed, from_written, unread_word, twin, copied_word, was_written, written_on, here_cases, old_target, invariant}
 use Rattle.heap_laws.proofs.Copying.UnreadWords.{here_same, inner_same, shows_unread, objects_unread, board_unread}
 use Rattle.heap_laws.proofs.Copying.Words.{rooted_unread}
 use Rattle.heap_laws.proofs.Frames.Values.{pointer_from_value, value_from_pointer, copied_within}
 
-module _ {E : Era} {m : Memory} {team : Team} {g : Ghost} {k : ℕ} {c : Copy} {q : Quest} {v : ℕ} {links : Bool} (publishing : Publishing E m team g k c q v links) where
+module _ {E : Era} {m : Memory} {team : Team} {g : Ghost} {k : ℕ} {c : Copy} {q : Quest} {v : ℕ} {l : Option Linking} (publishing : Publishing E m team g k c q v l) where
   abbrev inv : Invariant E m team g
   inv = publishing.ready.invariant
 
@@ -33,7 +33,7 @@ module _ {E : Era} {m : Memory} {team : Team} {g : Ghost} {k : ℕ} {c : Copy} {
   heap' = put m.heap (c.from + 0) v
 
   abbrev w' : Worker
-  w' = record (team.worker k) { copy = None; quest = Some (record q { found = Some c.to; links = links }) }
+  w' = has_published (team.worker k) c q l
 
   abbrev g' : Ghost
   g' = published g k c.from c.to
@@ -174,9 +174,9 @@ module _ {E : Era} {m : Memory} {team : Team} {g : Ghost} {k : ℕ} {c : Copy} {
   pub copy_published : Preserves E m (with_word m c.from v) team (with_worker team k w') g g'
   copy_published = rw (add-zero c.from) at preserves
 
-pub copy_published_by : (E : Era) (m : Memory) (team : Team) (g : Ghost) (k : ℕ) (c : Copy) (q : Quest) (v : ℕ) (links : Bool) → Ready E m team g k
+pub copy_published_by : (E : Era) (m : Memory) (team : Team) (g : Ghost) (k : ℕ) (c : Copy) (q : Quest) (v : ℕ) (l : Option Linking) → Ready E m team g k
     → (team.worker k).copy ≡ Some c → (team.worker k).quest ≡ Some q → c.reserved ≡ true → c.done ≡ c.size → c.to + c.size ≤ 64 * c.crossed
-    → decode v ≡ ForwardWord (c.size - 1) c.to → (links ≡ true → KeepsCell c)
-    → Preserves E m (with_word m c.from v) team (with_worker team k (record (team.worker k) { copy = None; quest = Some (record q { found = Some c.to; links = links }) })) g (published g k c.from c.to)
-copy_published_by E m team g k c q v links ready has asks res full crossed word cell =
+    → decode v ≡ ForwardWord (c.size - 1) c.to → LinksCopy c l
+    → Preserves E m (with_word m c.from v) team (with_worker team k (has_published (team.worker k) c q l)) g (published g k c.from c.to)
+copy_published_by E m team g k c q v l ready has asks res full crossed word cell =
     copy_published (record { ready = ready; has = has; asks = asks; res = res; full = full; crossed = crossed; word = word; cell = cell })

@@ -7,6 +7,7 @@ use Rattle.plain_state.specs.State as plain
 use Rattle.plain_state.specs.declared.value.Identity.{Identity}
 use Rattle.plain_state.specs.declared.value.Value.TheVariants.{Reference}
 use Rattle.plain_state.specs.Layout.{is_field, word_of_value, size_of}
+use Rattle.space_map.specs.declared.area_word.AreaWord.{AreaWord}
 use Rattle.heap_state.specs.Cycles.Cycle.{Copying, Rooted, IsCopied, StillLeads, RootLeads, ByBoard, ByRegister}
 use Rattle.heap_state.specs.Memory.Era.{Era, Memory}
 use Rattle.heap_state.specs.Functions.{put}
@@ -18,7 +19,7 @@ use Rattle.heap_state.proofs.Workers.Frames.{accounts_put, registers_put, rooted
 use Rattle.heap_state.proofs.Puts.{put_at, put_other}
 use Rattle.heap_state.proofs.Records.Layouts.{value_within}
 use Rattle.heap_laws.specs.Copying.{reserved, copying as in_progress}
-use Rattle.heap_laws.specs.Steps.{with_worker, with_area, Preserves, Ready}
+use Rattle.heap_laws.specs.Steps.{with_worker, with_area, Preserves, Ready, IsAreaNow}
 use Rattle.heap_laws.proofs.Copying.Reservation.{not_new, was, is, was_written, written_on, here_back, old_side, value_reserved}
 use Rattle.heap_laws.proofs.Copying.Reserving.{Reserving, w', g', mine, reservation, invariant}
 
@@ -185,8 +186,8 @@ module _ {E : Era} {m : Memory} {team : Team} {g : Ghost} {k : ℕ} {c : Copy} (
   pub preserves : Preserves E m (with_area m (c.to + c.size) m.low (m.owed - c.size)) team (with_worker team k (w' reserving)) g after
   preserves = record { invariant = invariant reserving; ages = λ page. omega arith; shown = shown; cycle = λ p cy. record { copying = copying p cy.copying; rooted = rooted p cy.rooted } }
 
-pub place_reserved : (E : Era) (m : Memory) (team : Team) (g : Ghost) (k : ℕ) (c : Copy) → Ready E m team g k
-    → (team.worker k).copy ≡ Some c → c.announced ≡ true → c.reserved ≡ false → c.to ≡ m.front
+pub place_reserved : (E : Era) (m : Memory) (team : Team) (g : Ghost) (k : ℕ) (c : Copy) (area : AreaWord) → Ready E m team g k
+    → (team.worker k).copy ≡ Some c → c.announced ≡ true → c.reserved ≡ false → c.to ≡ m.front → IsAreaNow E m area
     → Preserves E m (with_area m (c.to + c.size) m.low (m.owed - c.size)) team
     (with_worker team k (in_progress (team.worker k) (record c { reserved = true; crossed = (c.to + 63) / 64 }))) g (reserved g k c.from c.to c.size)
-place_reserved E m team g k c ready has ann loose at_front = preserves (record { ready = ready; has = has; ann = ann; loose = loose; at_front = at_front })
+place_reserved E m team g k c area ready has ann loose at_front now = preserves (record { ready = ready; has = has; ann = ann; loose = loose; at_front = at_front; area = area; now = now })

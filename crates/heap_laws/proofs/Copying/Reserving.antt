@@ -3,6 +3,8 @@ use Rattle.std.proofs.Common.{◌≡◌, ◌≢◌, ℕ, ◌+◌, ◌-◌, ◌*�
 use Rattle.std.proofs.lemmas.Bool.{cases_eq, cases_lt, ne_eqb}
 use Rattle.space_map.specs.declared.page_word.PageWord.TheVariants.{Open, Scanning}
 use Rattle.space_map.specs.PageWord.{age_of}
+use Rattle.space_map.specs.declared.area_word.AreaWord.{AreaWord}
+use Rattle.heap_state.specs.Invariant.Parts.Cells.{Cells}
 use Rattle.heap_state.specs.Memory.Era.{Era, Memory}
 use Rattle.heap_state.specs.Functions.{sum_below}
 use Rattle.heap_state.specs.Invariant.Ghost.{Ghost}
@@ -16,11 +18,16 @@ use Rattle.heap_state.specs.Worker.{Worker, Team, Quest, Copy, Scan, Claim, Look
 use Rattle.heap_state.proofs.Workers.Frames.{counted_put, staffed_put, scanned_put, stocks_put, numbered_put}
 use Rattle.heap_state.proofs.Puts.{put_at, put_other, put_same, team_put, some_same, none≢some, sum_below-change}
 use Rattle.heap_state.proofs.Holds.Still.{open_scanning, still}
-use Rattle.heap_laws.specs.Copying.{copying, reserved}
-use Rattle.heap_laws.specs.Steps.{Ready, with_worker, with_area}
+use Rattle.heap_laws.specs.Copying.{copying, moved_by, reserved}
+use Rattle.heap_laws.specs.Steps.{Ready, IsAreaNow, with_worker, with_area}
+use Rattle.heap_laws.proofs.Cells.Kept.{of_chain}
+use Rattle.heap_laws.proofs.Cells.Reserved.{reserves}
+use Rattle.heap_laws.proofs.Cells.Rows.{StoresArea}
+use Rattle.heap_laws.proofs.Copying.InProgress.{copies_in_chain}
 use Rattle.heap_laws.proofs.Copying.Reservation.{Reservation, empty, not_new, was, is, source_other, old_side, laid_reserved, headed_reserved, copied_reserved, once_reserved, written_on, here_back, here_on, lands_reserved, opened_reserved, landing_reserved, older_reserved, raw_reserved, counts_reserved, new_reserved, written_reserved, space_reserved, crossing_reserved, stocks_reserved, numbered_reserved}
 use Rattle.heap_laws.proofs.Copying.Room.{untraced, alone, goes_on, at_source, has_room}
 use Rattle.heap_laws.proofs.Scanning.Scanners.{open_age, scan_age, scan_scan}
+use Rattle.heap_laws.proofs.Targets.Reserved.{reserves as reserves_targets}
 use Rattle.heap_state.proofs.Workers.Posts.{flips_ask}
 
 pub record Reserving (E : Era) (m : Memory) (team : Team) (g : Ghost) (k : ℕ) (c : Copy) : Type 0 where
@@ -29,9 +36,11 @@ pub record Reserving (E : Era) (m : Memory) (team : Team) (g : Ghost) (k : ℕ) 
   pub ann : c.announced ≡ true
   pub loose : c.reserved ≡ false
   pub at_front : c.to ≡ m.front
+  pub area : AreaWord
+  pub now : IsAreaNow E m area
 
 module _ {E : Era} {m : Memory} {team : Team} {g : Ghost} {k : ℕ} {c : Copy} (reserving : Reserving E m team g k c) where
-  open reserving use {ready, has, ann, loose, at_front}
+  open reserving use {ready, has, ann, loose, at_front, area, now}
 
   abbrev inv : Invariant E m team g
   inv = ready.invariant
@@ -187,7 +196,7 @@ module _ {E : Era} {m : Memory} {team : Team} {g : Ghost} {k : ℕ} {c : Copy} (
   origin late done r scan old (Register x) p = p
   origin late done r scan old (Scanned x) p = (p.0, here_on reservation x p.1, p.2)
 
-  seeks : (x : Quest) → Seeks E g.size g.writer g.copy g.kind x → Seeks E g'.size g'.writer g'.copy g'.kind x
+  seeks : (x : Quest) → Seeks E g.size g.writer g.copy x → Seeks E g'.size g'.writer g'.copy x
   seeks x p = record {
     old = (is reservation x.old p.old.0, p.old.1, p.old.2);
     found = λ b e.
@@ -196,7 +205,6 @@ module _ {E : Era} {m : Memory} {team : Team} {g : Ghost} {k : ℕ} {c : Copy} (
         let t = inv.copied.target x.old b p.old.0 y.0 in
         let n : b ≢ c.to = omega (arith, t.3, at_front) in
         (rw (put_other g.copy c.from (c.to + 1) (x.old) d) (y.0), rw (put_other g.writer c.to (k + 1) b n) (y.1));
-    links = λ e. let n = not_new reservation x.old p.old.0 in rw (put_other g.size c.to c.size x.old n, put_other g.kind c.to (g.kind c.from) x.old n) (p.links e);
   }
 
   scans : (j : ℕ) (s : Scan) → Scans E m.front g.size g.writer g.kind m.heap m.page j s → Scans E (c.to + c.size) g'.size g'.writer g'.kind m.heap m.page j s
@@ -349,6 +357,15 @@ module _ {E : Era} {m : Memory} {team : Team} {g : Ghost} {k : ℕ} {c : Copy} (
   kept : Keepers g'.size g'.keeper team.count
   kept = record { kept = λ b j st y. inv.kept.kept b j (was reservation b (λ e. let q : g.keeper b ≡ g.keeper c.to = ap g.keeper e in let z = (inv.copied.blank c.to (empty reservation)).1 in omega (arith, q, z, y)) st) y }
 
+  cells : Cells E (with_area m (c.to + c.size) m.low (m.owed - c.size)) (with_worker team k w') g'
+  cells =
+      let before = inv.cells in
+      let front = now.front in
+      let s : StoresArea E m (with_area m (c.to + c.size) m.low (m.owed - c.size)) (moved_by c.size area) = record { traced = refl; front = omega (arith, front, at_front); low = now.low; heap = refl } in
+      of_chain {m = m} (record { weak = refl; weak_turn = refl })
+      (reserves E m (with_area m (c.to + c.size) m.low (m.owed - c.size)) m.weak m.weak_turn team g before.ranks k c area w' ready has loose at_front now s (copies_in_chain E (team.worker k) got) before.chain)
+      (reserves_targets E m (with_area m (c.to + c.size) m.low (m.owed - c.size)) team g k c area ready has loose at_front now s before.targets)
+
   pub invariant : Invariant E (with_area m (c.to + c.size) m.low (m.owed - c.size)) (with_worker team k w') g'
   invariant = record {
     counted = counted_put team.worker k w' refl refl inv.counted;
@@ -378,5 +395,6 @@ module _ {E : Era} {m : Memory} {team : Team} {g : Ghost} {k : ℕ} {c : Copy} (
     crossing = crossing_reserved reservation m.cross inv.crossing;
     stocks = stocks_put team.worker k w' (λ _ e. e) (stocks_reserved reservation team.count m.heap m.page team.worker inv.stocks);
     numbered = numbered_put team.worker k w' refl (numbered_reserved reservation team.mutators team.worker inv.numbered);
+    cells = cells;
     workers = team_put team.count (Knows E m.gate m.traced (c.to + c.size) m.low m.old_front m.old_low m.old_owed g' m.page m.cross m.announced m.heap) team.worker k w' others own;
   }

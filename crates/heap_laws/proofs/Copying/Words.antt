@@ -8,6 +8,7 @@ use Rattle.plain_state.specs.declared.value.Value.TheVariants.{Reference}
 use Rattle.space_map.specs.declared.gate_word.GateWord.{GateWord}
 use Rattle.space_map.specs.declared.page_word.PageWord.{PageWord}
 use Rattle.heap_state.specs.Cycles.Cycle.{Copying, Rooted, RootLeads, ByBoard, ByRegister}
+use Rattle.heap_state.specs.Invariant.Parts.Cells.{Cells}
 use Rattle.heap_state.specs.Memory.Era.{Era, Memory}
 use Rattle.heap_state.specs.Functions.{put}
 use Rattle.heap_state.specs.Invariant.Ghost.{Ghost, header_kind}
@@ -23,10 +24,12 @@ use Rattle.heap_state.proofs.Puts.{put_at, put_other, team_put, none≢some}
 use Rattle.heap_state.proofs.Records.Layouts.{values_behind_header}
 use Rattle.plain_state.specs.Layout.{word_of_value}
 use Rattle.heap_laws.specs.Copying.{copying, IsNextWord}
-use Rattle.heap_laws.specs.Steps.{Ready, with_worker, with_word, Preserves}
-use Rattle.heap_laws.proofs.Copying.InProgress.{knows_copying}
+use Rattle.heap_laws.specs.Steps.{Ready, InWord, with_worker, with_word, Preserves}
+use Rattle.heap_laws.proofs.Cells.Kept.{word_keeps, words_no_targets, words_unread}
+use Rattle.heap_laws.proofs.Copying.InProgress.{knows_copying, copies_in_chain}
 use Rattle.heap_laws.proofs.Copying.UnreadWords.{UnreadWord, opened_unread, landing_unread, older_unread, new_unread, space_unread, raw_unread, counts_unread, stocks_unread, origin_unread, scans_unread, copies_unread, keeps_unread, shows_unread, objects_unread, board_unread, here_same, inner_same, board_same}
 use Rattle.heap_laws.proofs.Frames.Values.{one_place, copied_within}
+use Rattle.heap_laws.proofs.Steps.Rows.{below_board}
 
 -- ---- any write at a unread_word
 
@@ -131,6 +134,16 @@ module _ (E : Era) (m : Memory) (team : Team) (g : Ghost) (k : ℕ) (c : Copy) (
       by_word (inl q) = let y : c.to ≡ c.to + c.done = omega (arith, q.0) in rw (put_at m.heap (c.to + c.done) v c.to y, q.1) ((me.keeps c has).keeps)
       by_word (inr q) = let p = (mine.loaded v q).0 in let y : c.to ≢ c.to + c.done = omega (arith, p) in rw (put_other m.heap (c.to + c.done) v c.to y) ((me.keeps c has).head p)
 
+  -- the place is written, so it isn't a cell
+  cells : Cells E (with_word m (c.to + c.done) v) (with_worker team k w') g
+  cells =
+      let inside : c.done < g.size c.to = omega (arith, placed.3, more) in
+      let below = below_board ready c.to (omega (arith, inside)) in
+      word_keeps E m (with_word m (c.to + c.done) v) team g g k (c.to + c.done) v w' (InWord (c.to + c.done) v (omega (arith, below, inside)))
+      ((words_unread ready).of_others c.to c.done inside (λ z. let w = z.written in omega (arith, w, placed.2)))
+      ((words_no_targets ready).of_others c.to c.done inside (λ z. let w = z.written in omega (arith, w, placed.2))) (record { size = refl; writer = refl; kind = refl; copy = refl })
+      (copies_in_chain E (team.worker k) further) inv.cells
+
   invariant : Invariant E (with_word m (c.to + c.done) v) (with_worker team k w') g
   invariant =
       let p1 = counted_put team.worker k w' refl refl inv.counted in
@@ -151,6 +164,7 @@ module _ (E : Era) (m : Memory) (team : Team) (g : Ghost) (k : ℕ) (c : Copy) (
       (λ q e. origin_unread unread_word m.heap v g.kind _ (team.worker k).done (team.worker k).registers (team.worker k).scan q.old q.origin (me.origin q e))
       (λ s e. scans_unread unread_word m.heap v g.kind m.page k s (me.scan s e)) in
       let p6 = team_put team.count (Knows E m.gate m.traced m.front m.low m.old_front m.old_low m.old_owed g m.page m.cross m.announced heap') team.worker k w' others mine in
+      let p7 = cells in
       assumption
 
   pub word_copied : Preserves E m (with_word m (c.to + c.done) v) team (with_worker team k w') g g

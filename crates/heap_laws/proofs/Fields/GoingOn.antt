@@ -25,6 +25,7 @@ use Rattle.heap_laws.specs.Steps.{with_worker}
 use Rattle.plain_state.proofs.Lists.{slice_get-set_other, set-found}
 use Rattle.heap_laws.proofs.Scanning.Scanners.{now_not_late}
 use Rattle.heap_laws.proofs.Frames.Values.{still_leads}
+use Rattle.heap_laws.proofs.Cells.Kept.{same_keeps, in_chain, less_in_chain}
 use Rattle.heap_laws.proofs.Steps.Composing.{knows_less}
 use Rattle.heap_laws.proofs.Steps.Forgotten.{same_round}
 use Rattle.space_map.specs.declared.spaces.TheConstants.{PAGE_WORDS}
@@ -102,6 +103,7 @@ module _ (E : Era) (m : Memory) (team : Team) (g : Ghost) (k : ℕ) (next : Work
     round = λ r e. same_round w r (goes.round r e);
     pages = goes.pages;
     gate = record { gate_step = λ s e. none≢some (sym goes.gate_step ∙ e); reset = goes.reset; sized = sized; size_seen = λ p e. e; traced_seen = λ e. e; asks = λ _. refl };
+    chain = goes.chain;
   }
 
   -- and what it then learns is so
@@ -128,6 +130,7 @@ module _ (E : Era) (m : Memory) (team : Team) (g : Ghost) (k : ℕ) (next : Work
       let d = numbered_put team.worker k next goes.serial inv.numbered in
       let e = stocks_put team.worker k next goes.stock inv.stocks in
       let f = team_put team.count (Knows E m.gate m.traced m.front m.low m.old_front m.old_low m.old_owed g m.page m.cross m.announced m.heap) team.worker k next (λ j s d. inv.workers j s) knows in
+      let h = same_keeps E m m team g g k next (assumption) (assumption) (assumption) (in_chain E next w goes.post goes.epoch goes.scan (less_in_chain next w goes.quest goes.reset goes.chain)) inv.cells in
       assumption
 
   -- ---- the cycle

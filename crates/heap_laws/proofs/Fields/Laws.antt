@@ -70,8 +70,8 @@ pub accounts_in : {before after : plain.Heap} {k : ℕ} {a : Account} {q : plain
 accounts_in same a = record { counter = a.counter; printed = a.printed; executed = a.executed; end = a.end; serial = a.serial ∙ sym same }
 
 pub mutators_store : MutatorsStore
-mutators_store E m team g p k next q a x v r y ready runs s word opens may is stands goes same =
-    let inv = words_are_stored E m team g a x v ready.laid_out ready.invariant word opens may in
+mutators_store E m team g p k next q a x v r y ready runs s other word opens may is stands goes same =
+    let inv = words_are_stored E m team g k ready a x v other word opens may in
     let account = accounts_in (stored_serial p.heap (g.identity a) r x y is k) same.account in
     record {
       later = with_word m (a + word_of_value (g.kind a) x) v;
@@ -83,7 +83,7 @@ mutators_store E m team g p k next q a x v r y ready runs s word opens may is st
 
 pub mutators_store_on_board : MutatorsStoreOnBoard
 mutators_store_on_board E m team g p k next q x v y ready runs s l opens holds goes same =
-    let inv = board_is_stored E m team g x v ready.laid_out ready.invariant l opens holds.held in
+    let inv = board_is_stored E m team g k ready x v l opens holds.held in
     record {
       later = with_word m (E.board + x) v;
       writes = InWord (E.board + x) v (omega (arith, l));

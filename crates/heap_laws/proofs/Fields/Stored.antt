@@ -1,18 +1,26 @@
 -- A mutator's store in a word of a record or on the board keeps the invariant and the cycle.
-use Rattle.std.proofs.Common.{◌≡◌, ◌≢◌, ℕ, ◌+◌, ◌/◌, ◌<◌, true, false, Some, refl, sym, ap, ◌∙◌, arith, ⊎_elim, ◌⊎◌, inl, inr}
+use Rattle.std.proofs.Common.{◌≡◌, ◌≢◌, ℕ, ◌+◌, ◌/◌, ◌<◌, true, false, Option, Some, refl, sym, ap, ◌∙◌, arith, subst, ⊎_elim, ◌⊎◌, inl, inr}
 use Rattle.plain_state.specs.Layout.{is_field, word_of_value}
+use Rattle.plain_state.specs.declared.kind.Kind.TheVariants.{Weak}
 use Rattle.space_map.specs.declared.page_word.PageWord.TheVariants.{Open, Scanning}
+use Rattle.heap_state.specs.Invariant.Parts.Cells.{Cells}
 use Rattle.heap_state.specs.Memory.Era.{Era, IsLaidOut, Memory}
 use Rattle.heap_state.specs.Functions.{put}
 use Rattle.heap_state.specs.Invariant.Ghost.{Ghost, InRecord, OnBoard, Here}
 use Rattle.heap_state.specs.Invariant.Inductive.{Invariant, Knows}
-use Rattle.heap_state.specs.Worker.{Worker, Team, Quest, Copy, Scan, is_late}
+use Rattle.heap_state.specs.Worker.{Worker, Team, Quest, Copy, Scan, Linking, Pass, is_late}
+use Rattle.heap_state.proofs.Workers.Frames.{counted_put, staffed_put, scanned_put, stocks_put, numbered_put}
+use Rattle.heap_state.proofs.Puts.{put_is, team_put}
 use Rattle.heap_state.proofs.Records.Layouts.{values_behind_header}
+use Rattle.heap_laws.specs.Cells.Frames.{IsNoCellWord}
 use Rattle.heap_laws.specs.Fields.Words.{IsWordOf, MayStore, WordsAreLoaded, BoardIsLoaded, AccessesAreAllowed}
 use Rattle.heap_laws.specs.Fields.Held.{MayHold}
-use Rattle.heap_laws.specs.Steps.{with_word}
+use Rattle.heap_laws.specs.Steps.{Ready, InWord, with_word, with_worker}
+use Rattle.heap_laws.specs.Targets.Frames.{IsNoTarget}
+use Rattle.heap_laws.proofs.Cells.Kept.{in_chain, word_keeps, words_no_targets, words_unread}
 use Rattle.heap_laws.proofs.Fields.Slots.{Slot, here_slot, headed_slot, raw_slot, counts_slot, opened_slot, landing_slot, older_slot, new_slot, old_space_slot, stocks_slot, scans_slot, copies_slot, keeps_slot, origin_slot}
 use Rattle.heap_laws.proofs.Frames.Values.{one_place, board_here, field_here}
+use Rattle.heap_laws.proofs.Steps.Rows.{below_board}
 
 -- a store on an open page, or in a word that mutators don't read
 pub record Stores (E : Era) (m : Memory) (g : Ghost) (x v : ℕ) : Type 0 where
@@ -43,19 +51,51 @@ worker_slot E m g x v k w st p =
         (λ (unread : ¬ (Here E g.size g.writer g.kind x)). absurd (unread (rw y at here)))
         st.opens
 
-pub slot_keeps : (E : Era) (m : Memory) (team : Team) (g : Ghost) (x v : ℕ) → Stores E m g x v → Invariant E m team g → Invariant E (with_word m x v) team g
-slot_keeps E m team g x v st inv =
-    let a = headed_slot st.slot m.heap inv.headed in
-    let b = raw_slot st.slot m.heap inv.raw_words in
-    let n = counts_slot st.slot m.heap inv.counts in
-    let c = opened_slot st.slot m.heap inv.opened in
-    let d = landing_slot st.slot m.heap inv.landing in
-    let e = older_slot st.slot m.heap inv.older in
-    let f = new_slot st.slot m.heap st.slot.lay.below inv.new in
-    let h = old_space_slot st.slot m.heap inv.old_space in
-    let i = stocks_slot st.slot m.heap inv.stocks in
-    let j = λ (k : ℕ) (l : k < team.count). worker_slot E m g x v k (team.worker k) st (inv.workers k l) in
-    assumption
+-- the worker with this cell to link, and this walk over the chain
+abbrev pub with_chain_part : Worker → Option Linking → Option Pass → Worker
+with_chain_part w l p = record w { linking = l; pass = p }
+
+-- The invariant is kept if what is known of the cells is. Worker k may have another cell to link then, or walk elsewhere.
+module _ (E : Era) (m : Memory) (team : Team) (g : Ghost) (k x v : ℕ) (l : Option Linking) (p : Option Pass) (st : Stores E m g x v) (ready : Ready E m team g k)
+    (cells : Cells E (with_word m x v) (with_worker team k (with_chain_part (team.worker k) l p)) g) where
+  abbrev w : Worker
+  w = with_chain_part (team.worker k) l p
+
+  abbrev KnowsThen : ℕ → Worker → Type 0
+  KnowsThen = Knows E m.gate m.traced m.front m.low m.old_front m.old_low m.old_owed g m.page m.cross m.announced (put m.heap x v)
+
+  knows : (j : ℕ) → j < team.count → KnowsThen j (team.worker j)
+  knows j below = worker_slot E m g x v j (team.worker j) st (ready.invariant.workers j below)
+
+  own : KnowsThen k w
+  own = let u = knows k ready.member in assumption
+
+  pub slot_keeps : Invariant E (with_word m x v) (with_worker team k w) g
+  slot_keeps =
+      let inv = ready.invariant in
+      let a = headed_slot st.slot m.heap inv.headed in
+      let b = raw_slot st.slot m.heap inv.raw_words in
+      let n = counts_slot st.slot m.heap inv.counts in
+      let c = opened_slot st.slot m.heap inv.opened in
+      let d = landing_slot st.slot m.heap inv.landing in
+      let e = older_slot st.slot m.heap inv.older in
+      let f = new_slot st.slot m.heap st.slot.lay.below inv.new in
+      let h = old_space_slot st.slot m.heap inv.old_space in
+      let i = stocks_put team.worker k w (λ _ e. e) (stocks_slot st.slot m.heap inv.stocks) in
+      let p1 = counted_put team.worker k w refl refl inv.counted in
+      let p2 = staffed_put team.worker k w refl inv.staffed in
+      let p3 = scanned_put team.worker k w refl inv.scanned in
+      let p4 = numbered_put team.worker k w refl inv.numbered in
+      let p5 = team_put team.count KnowsThen team.worker k w (λ j below _. knows j below) own in
+      assumption
+
+-- a word is stored that is no cell's, and no worker changes
+pub slot_stays : (E : Era) (m : Memory) (team : Team) (g : Ghost) (k x v : ℕ) → Stores E m g x v → Ready E m team g k → IsNoCellWord E m g x → IsNoTarget g x → x < E.board + 64 → Invariant E (with_word m x v) team g
+slot_stays E m team g k x v st ready none no_target below =
+    let w : Worker = team.worker k in
+    subst (λ (f : ℕ → Worker). Invariant E (with_word m x v) (record team { worker = f }) g) (sym (put_is team.worker team.worker k w refl (λ _ _. refl)))
+    (slot_keeps E m team g k x v w.linking w.pass st ready
+    (word_keeps E m (with_word m x v) team g g k x v w (InWord x v below) none no_target (assumption) (in_chain E w w refl refl refl (assumption)) ready.invariant.cells))
 
 -- ---- the two places
 
@@ -93,21 +133,18 @@ on_board E m team g x v lay inv l open_page may = record {
   opens = inl (let e : (E.board + x) / 64 ≡ E.board / 64 = omega (arith, lay.board, l) in rw e open_page);
 }
 
--- a store in a word of a record, whose page is open
-abbrev pub WordsAreStored : Type 0
-WordsAreStored = (E : Era) (m : Memory) (team : Team) (g : Ghost) (a x v : ℕ) → IsLaidOut E → Invariant E m team g → IsWordOf E g.size g.writer g.kind a x
-    → m.page ((a + word_of_value (g.kind a) x) / 64) ≡ Open E.epoch → MayStore E g.size g.writer (g.kind a) x v → Invariant E (with_word m (a + word_of_value (g.kind a) x) v) team g
+module _ (E : Era) (m : Memory) (team : Team) (g : Ghost) (k : ℕ) (ready : Ready E m team g k) where
+  -- a store in a word of a record that is no cell, whose page is open
+  pub words_are_stored : (a x v : ℕ) → g.kind a ≢ Weak → IsWordOf E g.size g.writer g.kind a x → m.page ((a + word_of_value (g.kind a) x) / 64) ≡ Open E.epoch → MayStore E g.size g.writer (g.kind a) x v
+      → Invariant E (with_word m (a + word_of_value (g.kind a) x) v) team g
+  words_are_stored a x v other f o may = slot_stays E m team g k (a + word_of_value (g.kind a) x) v (in_word E m team g a x v ready.laid_out ready.invariant f o may) ready
+      ((words_unread ready).of_others a (word_of_value (g.kind a) x) f.last (λ c. other c.weak)) ((words_no_targets ready).of_others a (word_of_value (g.kind a) x) f.last (λ c. other c.weak))
+      (let below = below_board ready a f.stands in let z = f.last in omega (arith, below, z))
 
-pub words_are_stored : WordsAreStored
-words_are_stored E m team g a x v lay inv f o may = slot_keeps E m team g (a + word_of_value (g.kind a) x) v (in_word E m team g a x v lay inv f o may) inv
-
--- a store on the board, which is open
-abbrev pub BoardIsStored : Type 0
-BoardIsStored = (E : Era) (m : Memory) (team : Team) (g : Ghost) (x v : ℕ) → IsLaidOut E → Invariant E m team g → x < 16
-    → m.page (E.board / 64) ≡ Open E.epoch → MayHold E g.size g.writer v → Invariant E (with_word m (E.board + x) v) team g
-
-pub board_is_stored : BoardIsStored
-board_is_stored E m team g x v lay inv l o may = slot_keeps E m team g (E.board + x) v (on_board E m team g x v lay inv l o may) inv
+  -- a store on the board, which is open
+  pub board_is_stored : (x v : ℕ) → x < 16 → m.page (E.board / 64) ≡ Open E.epoch → MayHold E g.size g.writer v → Invariant E (with_word m (E.board + x) v) team g
+  board_is_stored x v l o may = slot_stays E m team g k (E.board + x) v (on_board E m team g x v ready.laid_out ready.invariant l o may) ready
+      ((words_unread ready).behind (E.board + x) (let o = ready.invariant.laid.order in let lay = ready.laid_out.below in omega (arith, o, lay))) ((words_no_targets ready).board (E.board + x) (omega arith)) (omega (arith, l))
 
 -- ---- loads
 

@@ -9,6 +9,7 @@ use Rattle.plain_state.specs.declared.value.Value.TheVariants.{Reference}
 use Rattle.plain_state.specs.Reachable.{Reachable, FromRegister, FromBoard}
 use Rattle.plain_state.specs.State as plain
 use Rattle.space_map.specs.declared.gate_word.GateWord.{GateWord}
+use Rattle.heap_state.specs.Cells.{no_ranks}
 use Rattle.heap_state.specs.Cycles.Cycle.{Cycle, Copying, Rooted, RootLeads, ByBoard, ByRegister, IsRoot, InRegister, OnTheBoard, StillLeads}
 use Rattle.heap_state.specs.Memory.Era.{Era, Memory, IsLaidOut, era_of, memory_of}
 use Rattle.heap_state.specs.Functions.{put, sum_below, count_one}
@@ -26,6 +27,8 @@ use Rattle.heap_state.specs.Memory.Entries.{GateIs, with_entry}
 use Rattle.heap_laws.specs.Steps as laws
 use Rattle.heap_laws.specs.Flipping.Flip.{next_era, next_memory, next_ghost, flipped_gate, after_flip, Flips, FlipKeeps}
 use Rattle.heap_laws.specs.Steps.{with_worker}
+use Rattle.heap_laws.proofs.Cells.Ended.{flipping_carries_chain}
+use Rattle.heap_laws.proofs.Targets.Ended.{flipping_carries_targets}
 use Rattle.heap_laws.proofs.Flipping.Parts.{ReadyToFlip, nothing, was, laid, headed, copied, once, kept, room, raw_words, counts, shut, filling, tracing, aged, scanned, old_area, old_pages, lands_on, here_board, board_here, opened, landing, older, new, new_written, crossing, old_space}
 use Rattle.heap_laws.proofs.Flipping.Reset.{one_asks}
 use Rattle.heap_laws.proofs.Flipping.Workers.{late_is, done_none, other, flipper, none_true, not_live}
@@ -148,6 +151,7 @@ module _ (E : Era) (m : Memory) (team : Team) (g : Ghost) (k : ℕ) (r : Reset) 
     crossing = crossing ready;
     stocks = stocks;
     numbered = numbered;
+    cells = record { ranks = no_ranks; chain = flipping_carries_chain E m m.weak m.weak_turn team g inv.cells.ranks k r start flips flips.cleared inv.cells.chain; targets = flipping_carries_targets E m team g k r start flips inv.cells.targets };
     workers = team_put team.count (Knows (next_era E) (flipped_gate m.gate) m.traced m.old_front m.old_low m.front m.low m.owed (next_ghost E g) m.page m.cross m.announced m.heap) team.worker k w'
         (λ j l d. other ready j l (not_asking j l d)) (flipper ready k start.member flips.asked flips.post);
   }

@@ -7,6 +7,7 @@ use Rattle.plain_state.specs.declared.value.Identity.{Identity}
 use Rattle.plain_state.specs.Reachable.{Reachable}
 use Rattle.plain_state.specs.State as plain
 use Rattle.space_map.specs.declared.gate_word.GateWord.{GateWord}
+use Rattle.heap_state.specs.Cells.{KnowsCopy}
 use Rattle.heap_state.specs.Cycles.Cycle.{Rooted, RootLeads, ByBoard, ByRegister, IsCopied, StillLeads}
 use Rattle.heap_state.specs.Memory.Era.{Era, Memory}
 use Rattle.heap_state.specs.Functions.{put}
@@ -17,9 +18,11 @@ use Rattle.heap_state.specs.Invariant.Parts.Knowledge.{Clean, Passes, Timely}
 use Rattle.heap_state.specs.Meaning.Values.{Shown, RegistersShow, value_of}
 use Rattle.heap_state.specs.Worker.{Worker, Team, Post, Passage, Outside, Enter, Park, Request, Forwarded, Resume, Leave, Origin, Register, Quest, Copy, is_mutator, is_live, is_late, GateStep, RequestSnap, Clear}
 use Rattle.heap_state.proofs.Workers.Frames.{counted_put, staffed_put, scanned_put, stocks_put, numbered_put, accounts_put}
-use Rattle.heap_state.proofs.Puts.{put_at, put_other, put_same, each_put, team_put, none≢some, some_same, put_is, true_false}
+use Rattle.heap_state.proofs.Puts.{put_at, put_other, put_same, each_put, team_put, none≢some, some_same, put_is}
 use Rattle.heap_laws.specs.Flipping.Registers.{forwarded, HasRegister, PassingRegisterKeeps, asking_for, AskingForRegisterKeeps, HasFoundCopy, past_register}
-use Rattle.heap_laws.specs.Steps.{with_worker, Ready, Steps, Preserves}
+use Rattle.heap_laws.specs.Cells.Frames.{GoesOnInChain}
+use Rattle.heap_laws.specs.Steps.{with_worker, NoRow, Ready, Steps, Preserves}
+use Rattle.heap_laws.proofs.Cells.Kept.{idle_in_chain, none_is_some, unread_keeps}
 use Rattle.heap_laws.proofs.Copying.Roots.{late_lives, late_mutator, late_unended}
 use Rattle.heap_laws.proofs.Copying.Found.{found_copy}
 use Rattle.heap_laws.proofs.Steps.Learning.{learns, learnt}
@@ -57,7 +60,7 @@ module _ (E : Era) (m : Memory) (team : Team) (g : Ghost) (k : ℕ) (inv : Invar
 
   -- the register becomes v, which leads nowhere old, and denotes what the register denoted
   module _ (v : ℕ) (fine : ¬ (Leads E v)) (lands : Lands g.size g.writer v) (same : value_of g.identity v ≡ value_of g.identity ((team.worker k).registers (team.worker k).done))
-      (idle : (c : Copy) → (team.worker k).copy ≡ Some c → ⊥) (seen : (i : Identity) → StillLeads E g.identity ((team.worker k).registers (team.worker k).done) i → IsCopied E m.front g.size g.writer g.identity i) where
+      (idle : (c : Copy) → (team.worker k).copy ≡ Some c → ⊥) (none_links : is_some (team.worker k).linking ≡ true → KnowsCopy (team.worker k) → ⊥) (seen : (i : Identity) → StillLeads E g.identity ((team.worker k).registers (team.worker k).done) i → IsCopied E m.front g.size g.writer g.identity i) where
     abbrev w' : Worker
     w' = forwarded (team.worker k) v
 
@@ -79,11 +82,14 @@ module _ (E : Era) (m : Memory) (team : Team) (g : Ghost) (k : ℕ) (inv : Invar
         let o2 : (team.worker k).post ≡ Outside → (j : ℕ) → j < 8 → registers' j ≡ 0 = λ e. absurd (let q : is_live (team.worker k).post ≡ false = ap is_live e in let r = sym q ∙ late_lives E.epoch (team.worker k) has.late in cc) in
         let o3 = λ (mu : is_mutator (team.worker k).post ≡ true) (e : (team.worker k).account.end ≡ None). clean' in
         let o4 : (q : Quest) → None ≡ Some q → IsOrigin E g.size g.writer g.kind m.heap (is_late E.epoch (team.worker k)) ((team.worker k).done + 1) registers' (team.worker k).scan q.old q.origin = λ q e. none≢some e in
-        let o5 : (q : Quest) → None ≡ Some q → Seeks E g.size g.writer g.copy g.kind q = λ q e. none≢some e in
+        let o5 : (q : Quest) → None ≡ Some q → Seeks E g.size g.writer g.copy q = λ q e. none≢some e in
         let o6 : Licensed m.gate.behind g.kept k (is_late E.epoch (team.worker k)) (team.worker k).copy None (team.worker k).scan =
         record { licensed = λ c e. absurd (idle c e); asked = λ c e. absurd (idle c e); counted = me.licensed.counted; idle = me.licensed.idle } in
         let o7 = λ (s : GateStep) (e : (team.worker k).gate_step ≡ Some s). passes_on (team.worker k).post (team.worker k).epoch (team.worker k).done ((team.worker k).done + 1) (is_some (team.worker k).account.end) (team.worker k).traced_seen s.read s.passage has.left (me.passage s e) in
         assumption
+
+    goes : GoesOnInChain E w' (team.worker k)
+    goes = record { linking = refl; pass = refl; cleared = λ e. e; licence = λ l knows _. absurd (none_links l knows); look = λ _. (refl, refl) }
 
     invariant : Invariant E m (with_worker team k w') g
     invariant =
@@ -92,6 +98,7 @@ module _ (E : Era) (m : Memory) (team : Team) (g : Ghost) (k : ℕ) (inv : Invar
         let p3 = scanned_put team.worker k w' refl inv.scanned in
         let p4 = stocks_put team.worker k w' (λ _ e. e) inv.stocks in
         let p5 = numbered_put team.worker k w' refl inv.numbered in
+        let p7 = unread_keeps E m m team g g k None w' NoRow tt tt (assumption) goes inv.cells in
         let p6 = team_put team.count (Knows E m.gate m.traced m.front m.low m.old_front m.old_low m.old_owed g m.page m.cross m.announced m.heap) team.worker k w' (λ j l d. inv.workers j l) own in
         assumption
 
@@ -154,7 +161,7 @@ passes_register E m team g k ready has idle fine =
     let w = (team.worker k).registers (team.worker k).done in
     let same : put (team.worker k).registers (team.worker k).done w ≡ (team.worker k).registers = sym (put_is (team.worker k).registers (team.worker k).registers (team.worker k).done w refl (λ x d. refl)) in
     let passed : forwarded (team.worker k) w ≡ past_register (team.worker k) = λ i. record (past_register (team.worker k)) { registers = same i; quest = sym idle i } in
-    learnt (rw passed at (register_keeps E m team g k inv ready.member has w fine ((clean E m team g k inv ready.member has).lands (team.worker k).done has.left) refl (no_copy E m team g k inv ready.member idle)
+    learnt (rw passed at (register_keeps E m team g k inv ready.member has w fine ((clean E m team g k inv ready.member has).lands (team.worker k).done has.left) refl (no_copy E m team g k inv ready.member idle) (λ _ knows. none≢some (sym idle ∙ knows.1))
     (λ i t. absurd (fine (still_leads E g.identity w i t)))))
 
 pub asks_for_register : AskingForRegisterKeeps
@@ -163,15 +170,17 @@ asks_for_register E m team g k a ready has idle leads =
     let me = inv.workers k ready.member in
     let is_clean = clean E m team g k inv ready.member has in
     let old = is_clean.old has.late (team.worker k).done a (omega arith) has.left leads in
-    let q : Quest = record { old = a; origin = Register (team.worker k).done; found = None; links = false } in
+    let q : Quest = record { old = a; origin = Register (team.worker k).done; found = None } in
     let st : 0 < g.size a = pointer_lands g.size g.writer ((team.worker k).registers (team.worker k).done) a (is_clean.lands (team.worker k).done has.left) leads in
-    learnt (learns E m team g k (asking_for (team.worker k) a) inv (assumption) (λ t e. (t, e, refl))
+    learnt (learns E m team g k (asking_for (team.worker k) a) inv
+    (let c = idle_in_chain (asking_for (team.worker k) a) (team.worker k) idle refl refl refl refl in
+    assumption) (λ t e. (t, e, refl))
     (let origin : (r : Quest) → Some q ≡ Some r → IsOrigin E g.size g.writer g.kind m.heap (is_late E.epoch (team.worker k)) (team.worker k).done (team.worker k).registers (team.worker k).scan r.old r.origin = λ r e. rw (← some_same e) (has.late, refl, has.left, leads) in
-    let seeks : (r : Quest) → Some q ≡ Some r → Seeks E g.size g.writer g.copy g.kind r = λ r e. rw (← some_same e) (record { old = (st, old.0, old.1); found = λ b f. none≢some f; links = λ f. true_false refl f }) in
+    let seeks : (r : Quest) → Some q ≡ Some r → Seeks E g.size g.writer g.copy r = λ r e. rw (← some_same e) (record { old = (st, old.0, old.1); found = λ b f. none≢some f }) in
     let licence : Licensed m.gate.behind g.kept k (is_late E.epoch (team.worker k)) (team.worker k).copy (Some q) (team.worker k).scan = record { licensed = me.licensed.licensed; asked = λ c e. absurd (no_copy E m team g k inv ready.member idle c e); counted = me.licensed.counted; idle = me.licensed.idle } in
     assumption))
 
-module _ (E : Era) (m : Memory) (team : Team) (g : Ghost) (k : ℕ) (q : Quest) (b v : ℕ) (ready : Ready E m team g k) (has : HasFoundCopy E team k q b) (points : decode v ≡ PointerWord b) where
+module _ (E : Era) (m : Memory) (team : Team) (g : Ghost) (k : ℕ) (q : Quest) (b v : ℕ) (ready : Ready E m team g k) (has : HasFoundCopy E team k q b) (linked : (team.worker k).linking ≡ None) (points : decode v ≡ PointerWord b) where
   abbrev inv : Invariant E m team g
   inv = ready.invariant
 
@@ -190,4 +199,4 @@ module _ (E : Era) (m : Memory) (team : Team) (g : Ghost) (k : ℕ) (q : Quest) 
   pub forwards_register : Steps E m team g k None (forwarded (team.worker k) v) g
   forwards_register =
       let c = found_copy E m team g k w v b q ready.laid_out inv ready.member has.quest has.found led points in
-      learnt (register_keeps E m team g k inv ready.member has.register v c.clean c.lands c.value c.copies_nothing c.seen)
+      learnt (register_keeps E m team g k inv ready.member has.register v c.clean c.lands c.value c.copies_nothing (λ l _. none_is_some linked l) c.seen)

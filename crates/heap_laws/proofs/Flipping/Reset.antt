@@ -1,7 +1,7 @@
 -- The steps of a flipper before the flip.
 use Rattle.std.proofs.Common.{◌≡◌, ◌≢◌, ℕ, ◌+◌, ◌<◌, true, false, Some, refl, ◌∙◌, arith, ⊎_elim, ◌≤◌, ap}
 use Rattle.std.proofs.lemmas.Bool.{cases_eq}
-use Rattle.heap_state.specs.Memory.Entries.{WeakIs}
+use Rattle.heap_state.specs.Invariant.Parts.Cells.{Cells}
 use Rattle.heap_state.specs.Memory.Era.{Era, Memory, IsLaidOut}
 use Rattle.heap_state.specs.Functions.{count_one}
 use Rattle.heap_state.specs.Invariant.Ghost.{Ghost}
@@ -9,13 +9,15 @@ use Rattle.heap_state.specs.Invariant.Inductive.{Invariant, Knows}
 use Rattle.heap_state.specs.Invariant.Parts.Knowledge.{Resets}
 use Rattle.heap_state.specs.Invariant.Parts.OldSpace.{OldSpace, OldArea}
 use Rattle.heap_state.specs.Invariant.Parts.Pages.{OldPages}
-use Rattle.heap_state.specs.Worker.{Worker, Team, Reset, is_flipper, is_sized, is_asking}
+use Rattle.heap_state.specs.Worker.{Worker, Team, Reset, is_flipper, is_sized, is_cleared, is_asking}
 use Rattle.heap_state.proofs.Workers.Frames.{counted_put, staffed_put, scanned_put, stocks_put, numbered_put, rooted_put}
 use Rattle.heap_state.proofs.Puts.{team_put, some_same, none≢some, true_false}
 use Rattle.heap_laws.specs.Flipping.Reset.{resetting, found_still, FindingStillKeeps, ReadingSizeKeeps, ReadingUsedKeeps, StoringAreaKeeps, ClearingWeakKeeps, whole_area}
-use Rattle.heap_laws.specs.Steps.{with_worker, with_old_area, InOldArea, Preserves}
+use Rattle.heap_laws.specs.Cells.Frames.{GoesOnInChain}
+use Rattle.heap_laws.specs.Steps.{Ready, with_worker, with_old_area, with_weak, InOldArea, InWeak, Preserves}
+use Rattle.heap_laws.proofs.Cells.Ended.{clearing_weak_carries_chain}
+use Rattle.heap_laws.proofs.Cells.Kept.{same_keeps, targets_stay}
 use Rattle.heap_laws.proofs.Flipping.Sums.{sum_below-two, one_of, at_most_one}
-use Rattle.heap_laws.proofs.Steps.Composing.{steps_write_beside}
 use Rattle.heap_laws.proofs.Steps.Learning.{shown_put, learns, learnt}
 use Rattle.heap_state.proofs.Workers.Posts.{flips_ask}
 
@@ -38,13 +40,43 @@ one_flipper E m team g inv j k lj lk a b =
 -- a flipper that knows more of its flip
 module _ (E : Era) (m : Memory) (team : Team) (g : Ghost) (k : ℕ) (r : Reset) (inv : Invariant E m team g) (below : k < team.count) (flips : is_flipper (team.worker k).post ≡ true)
     (new : Resets E m.gate m.front m.low m.old_front m.old_low m.old_owed r) (smaller : r.sized ≡ false → E.old_span ≤ E.span) where
-  pub resets_more : Preserves E m m team (with_worker team k (resetting (team.worker k) r)) g g
-  resets_more = learns E m team g k (resetting (team.worker k) r) inv (assumption) (λ s e. (s, e, refl))
-      (let me = inv.workers k below in
+  pub knows_more : Knows E m.gate m.traced m.front m.low m.old_front m.old_low m.old_owed g m.page m.cross m.announced m.heap k (resetting (team.worker k) r)
+  knows_more =
+      let me = inv.workers k below in
       let a : (q : Reset) → Some r ≡ Some q → is_flipper (team.worker k).post ≡ true = λ q e. flips in
       let b : (q : Reset) → Some r ≡ Some q → Resets E m.gate m.front m.low m.old_front m.old_low m.old_owed q = λ q e. rw (← some_same e) new in
       let c : is_asking (team.worker k).post ≡ true → is_sized (Some r) ≡ false → E.old_span ≤ E.span = λ _ e. smaller e in
-      assumption)
+      assumption
+
+  -- and that has not stored WEAK since
+  pub resets_more : (r.cleared ≡ true → is_cleared (team.worker k).reset ≡ true) → Preserves E m m team (with_worker team k (resetting (team.worker k) r)) g g
+  resets_more cleared = learns E m team g k (resetting (team.worker k) r) inv (assumption) (λ s e. (s, e, refl)) knows_more
+
+  -- it stores WEAK
+  module _ (z : Reset) (ready : Ready E m team g k) (has : (team.worker k).reset ≡ Some z) where
+    cleared_then : Invariant E (with_weak m 0) (with_worker team k (resetting (team.worker k) r)) g
+    cleared_then =
+        let w' = resetting (team.worker k) r in
+        let p1 = counted_put team.worker k w' refl refl inv.counted in
+        let p2 = staffed_put team.worker k w' refl inv.staffed in
+        let p3 = scanned_put team.worker k w' refl inv.scanned in
+        let p4 = stocks_put team.worker k w' (λ _ e. e) inv.stocks in
+        let p5 = numbered_put team.worker k w' refl inv.numbered in
+        let p6 : Cells E (with_weak m 0) (with_worker team k w') g = record {
+          ranks = inv.cells.ranks;
+          chain = clearing_weak_carries_chain E m (with_weak m 0) m.weak m.weak_turn team g inv.cells.ranks k z w' ready has refl refl (InWeak 0 (omega arith)) inv.cells.chain;
+          targets = targets_stay (InWeak 0 (omega arith)) tt inv.cells.targets;
+        } in
+        let p7 = team_put team.count (Knows E m.gate m.traced m.front m.low m.old_front m.old_low m.old_owed g m.page m.cross m.announced m.heap) team.worker k w' (λ j l d. inv.workers j l) knows_more in
+        assumption
+
+    pub stores_weak : Preserves E m (with_weak m 0) team (with_worker team k (resetting (team.worker k) r)) g g
+    stores_weak = record {
+      invariant = cleared_then;
+      shown = λ p s. shown_put E m (with_weak m 0) team g k (resetting (team.worker k) r) p refl refl refl s;
+      cycle = λ p c. record { copying = c.copying; rooted = rooted_put team.worker k (resetting (team.worker k) r) refl refl refl (λ _ _ a b. (a, b)) c.rooted };
+      ages = λ p. omega arith;
+    }
 
 pub finds_still : FindingStillKeeps
 finds_still E m team g k ready flips none still behind = learnt (resets_more E m team g k (found_still m.gate) ready.invariant ready.member flips
@@ -57,14 +89,14 @@ finds_still E m team g k ready flips none still behind = learnt (resets_more E m
       sized = λ e. absurd (cc);
       stored = λ e. absurd (cc);
     })
-    (λ _. (ready.invariant.workers k ready.member).unsized (flips_ask (team.worker k).post flips) (ap is_sized none)))
+    (λ _. (ready.invariant.workers k ready.member).unsized (flips_ask (team.worker k).post flips) (ap is_sized none)) (λ e. absurd (cc)))
 
 pub reads_size : ReadingSizeKeeps
 reads_size E m team g k r p ready e size =
     let me = ready.invariant.workers k ready.member in let o = me.reset r e in
     learnt (resets_more E m team g k (record r { size = Some p }) ready.invariant ready.member (me.resets r e)
     (record { unmoved = o.unmoved; stopped = o.stopped; size = λ q f. let z : p ≡ q = some_same f in rw (← z) size; grown = o.grown; used = o.used; sized = o.sized; stored = o.stored })
-    (λ loose. me.unsized (flips_ask (team.worker k).post (me.resets r e)) (ap is_sized e ∙ loose)))
+    (λ loose. me.unsized (flips_ask (team.worker k).post (me.resets r e)) (ap is_sized e ∙ loose)) (λ c. rw e c))
 
 pub reads_used : ReadingUsedKeeps
 reads_used E m team g k r u q ready e loose used grown =
@@ -79,15 +111,18 @@ reads_used E m team g k r u q ready e loose used grown =
       sized = λ f. true_false loose f;
       stored = λ f. true_false loose (o.stored f).0;
     })
-    (λ _. me.unsized (flips_ask (team.worker k).post (me.resets r e)) (ap is_sized e ∙ loose)))
+    (λ _. me.unsized (flips_ask (team.worker k).post (me.resets r e)) (ap is_sized e ∙ loose)) (λ c. rw e c))
 
 pub clears_weak : ClearingWeakKeeps
 clears_weak E m team g k r ready e =
     let me = ready.invariant.workers k ready.member in let o = me.reset r e in
-    steps_write_beside E m team g k (WeakIs 0) (resetting (team.worker k) (record r { cleared = true })) g (omega arith)
-    (learnt (resets_more E m team g k (record r { cleared = true }) ready.invariant ready.member (me.resets r e)
-    (record { unmoved = o.unmoved; stopped = o.stopped; size = o.size; grown = o.grown; used = o.used; sized = o.sized; stored = o.stored })
-    (λ loose. me.unsized (flips_ask (team.worker k).post (me.resets r e)) (ap is_sized e ∙ loose))))
+    record {
+      later = with_weak m 0;
+      writes = InWeak 0 (omega arith);
+      keeps = stores_weak E m team g k (record r { cleared = true }) ready.invariant ready.member (me.resets r e)
+          (record { unmoved = o.unmoved; stopped = o.stopped; size = o.size; grown = o.grown; used = o.used; sized = o.sized; stored = o.stored })
+          (λ loose. me.unsized (flips_ask (team.worker k).post (me.resets r e)) (ap is_sized e ∙ loose)) r ready e;
+    }
 
 module _ (E : Era) (m : Memory) (team : Team) (g : Ghost) (k : ℕ) (r : Reset) (front low u : ℕ) (out : IsLaidOut E) (inv : Invariant E m team g) (below : k < team.count)
     (has : (team.worker k).reset ≡ Some r) (sized : r.sized ≡ true) (used : r.used ≡ Some u) (at_start : front ≡ E.old_start) (at_end : low ≡ E.old_start + E.old_span) where
@@ -133,6 +168,8 @@ module _ (E : Era) (m : Memory) (team : Team) (g : Ghost) (k : ℕ) (r : Reset) 
       let p5 : OldPages E front m.page = record { old = λ p l n. absurd (omega (arith, at_start, l, n)) } in
       let p6 = stocks_put team.worker k w' (λ _ e. e) inv.stocks in
       let p7 = numbered_put team.worker k w' refl inv.numbered in
+      let goes : GoesOnInChain E w' (team.worker k) = record { linking = refl; pass = refl; cleared = λ e. rw has e; licence = λ _ knows may. (may, knows); look = λ _. (refl, refl) } in
+      let p10 = same_keeps E m (with_old_area m front low u) team g g k w' (assumption) (assumption) (assumption) goes inv.cells in
       let p8 = team_put team.count KnowsNow team.worker k w' others own in
       assumption
 

@@ -26,9 +26,11 @@ use Rattle.heap_state.proofs.Puts.{team_put, some_same, true_false}
 use Rattle.heap_laws.specs.Flipping.Sizes.{sized_era, after_size, SizeKeeps, SizesAreStored}
 use Rattle.heap_laws.specs.Steps.{with_worker, Ready}
 use Rattle.heap_laws.specs.Tracing.{NothingLeads}
+use Rattle.heap_laws.proofs.Cells.Ended.{sizes_carry_chain}
 use Rattle.heap_laws.proofs.Flipping.Reset.{one_asks}
 use Rattle.heap_laws.proofs.Flipping.Sums.{sum_below-term, one_of}
 use Rattle.heap_laws.proofs.Steps.Learning.{shown_put}
+use Rattle.heap_laws.proofs.Targets.Ended.{sizes_carry_targets}
 use Rattle.heap_laws.proofs.Tracing.Traced.{leads_nowhere}
 use Rattle.heap_state.proofs.Workers.Posts.{flips_ask}
 
@@ -322,6 +324,7 @@ module _ (E : Era) (m : Memory) (team : Team) (g : Ghost) (k : ℕ) (r : Reset) 
         crossing = crossing;
         stocks = stocks;
         numbered = p3;
+        cells = record { ranks = inv.cells.ranks; chain = sizes_carry_chain E m m.weak m.weak_turn team g inv.cells.ranks k r q start has inv.cells.chain; targets = sizes_carry_targets E m team g k r q start has out' inv.cells.targets };
         workers = team_put team.count KnowsNow team.worker k w' others own;
       }
 

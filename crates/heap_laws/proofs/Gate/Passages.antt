@@ -3,6 +3,7 @@ use Rattle.std.proofs.Common.{◌≡◌, ◌≢◌, ℕ, ◌+◌, ◌-◌, ◌<�
 use Rattle.std.proofs.lemmas.Bool.{eq-eqb}
 use Rattle.space_map.specs.declared.gate_word.GateWord.{GateWord}
 use Rattle.space_map.specs.declared.page_word.PageWord.TheVariants.{Open}
+use Rattle.heap_state.specs.Cells.{KnowsCopy}
 use Rattle.heap_state.specs.Memory.Era.{Era, Memory}
 use Rattle.heap_state.specs.Functions.{count_one}
 use Rattle.heap_state.specs.Invariant.Ghost.{Ghost}
@@ -14,8 +15,10 @@ use Rattle.heap_state.specs.Invariant.Parts.Scanning.{Claims, Looks, LastLooks}
 use Rattle.heap_state.specs.Worker.{Worker, Team, Post, Scanner, Outside, Running, Stopped, Flipping, Gone, Passage, Enter, Park, Request, Forwarded, Resume, Leave, Origin, Register, Scanned, Quest, Claim, Look, LastLook, GateStep, Reset, Access, is_mutator, is_flipper, is_gone, is_live, is_running, is_late, Snapping, RequestSnap, Clear, is_asking}
 use Rattle.heap_state.proofs.Puts.{none≢some, true_false}
 use Rattle.heap_state.specs.Memory.Entries.{GateIs}
+use Rattle.heap_laws.specs.Cells.Frames.{GoesOnInChain}
 use Rattle.heap_laws.specs.Gate.{gate_after, into_epoch, worker_after, WinsGate, PassingGateKeeps, out_of_run}
 use Rattle.heap_laws.specs.Steps.{with_worker, Ready, Steps, InGate, with_gate, Preserves}
+use Rattle.heap_laws.proofs.Cells.Kept.{none_is_some}
 use Rattle.heap_laws.proofs.Flipping.Sums.{sum_below-term, sum_below-two, one_of}
 use Rattle.heap_laws.proofs.Gate.Counts.{counted_moves, fits}
 use Rattle.heap_laws.proofs.Gate.Team.{passing_keeps, usual}
@@ -35,7 +38,7 @@ runs (Flipping asked) e = absurd (cc)
 runs Snapping e = absurd (cc)
 runs Gone e = absurd (cc)
 
-module _ (E : Era) (m : Memory) (team : Team) (g : Ghost) (k : ℕ) (s : GateStep) (ready : Ready E m team g k) (wins : WinsGate m team k s) where
+module _ (E : Era) (m : Memory) (team : Team) (g : Ghost) (k : ℕ) (s : GateStep) (ready : Ready E m team g k) (free : (team.worker k).pass ≡ None) (wins : WinsGate m team k s) where
   abbrev inv : Invariant E m team g
   inv = ready.invariant
 
@@ -72,6 +75,17 @@ module _ (E : Era) (m : Memory) (team : Team) (g : Ghost) (k : ℕ) (s : GateSte
   clean_now : w.epoch ≡ E.epoch → is_mutator w.post ≡ true → w.account.end ≡ None → Clean E g.size g.writer false 0 w.registers
   clean_now now mu end = let c = me.registers mu end in record { clean = λ j l f. c.clean j l (λ t. not_late now t); lands = c.lands; old = λ t. true_false refl t }
 
+  -- who was not late, or has nothing to link, has the same part in the chain of copied cells
+  goes : (u : Worker) → u.linking ≡ w.linking → u.pass ≡ w.pass → u.reset ≡ w.reset → u.quest ≡ w.quest → u.scan ≡ w.scan
+      → (is_late E.epoch w ≡ true → KnowsCopy w → ⊥) → (is_some w.pass ≡ true → (u.epoch ≡ w.epoch) × (u.last_look ≡ w.last_look)) → GoesOnInChain E u w
+  goes u linking pass reset quest scan none_links look = record {
+    linking = linking;
+    pass = pass;
+    cleared = λ e. rw reset at e;
+    licence = λ _ knows may. (⊎_elim (λ y. inl (y.0, scan ∙ y.1)) (λ y. absurd (none_links y knows)) may, (knows.0, quest ∙ knows.1, knows.2));
+    look = look;
+  }
+
   -- ---- in
 
   enters : w.post ≡ Outside → s.read.request ≡ false → s.read.behind ≡ 0 → Preserves E m (with_gate m (gate_after Enter m.gate)) team (with_worker team k (worker_after m.gate.epoch Enter w)) g g
@@ -88,6 +102,7 @@ module _ (E : Era) (m : Memory) (team : Team) (g : Ghost) (k : ℕ) (s : GateSte
         registers = refl;
         scan = refl;
         stock = λ y e. none≢some e;
+        goes = goes (worker_after m.gate.epoch Enter w) refl refl refl refl refl (λ y _. true_false (late E.epoch) y) (λ walks. none_is_some free walks);
         none_left = λ r l y d. true_false (late E.epoch) y;
       })
       (no_reset E m team g inv (inl q))
@@ -139,6 +154,7 @@ module _ (E : Era) (m : Memory) (team : Team) (g : Ghost) (k : ℕ) (s : GateSte
         registers = refl;
         scan = refl;
         stock = λ y e. e;
+        goes = goes w' refl refl refl refl refl (λ y _. not_late now y) (λ _. (refl, refl));
         none_left = λ r l y d. not_late now y;
       })
       none
@@ -311,6 +327,7 @@ module _ (E : Era) (m : Memory) (team : Team) (g : Ghost) (k : ℕ) (s : GateSte
           registers = refl;
           scan = refl;
           stock = λ y e. none≢some e;
+          goes = goes (worker_after m.gate.epoch Forwarded w) refl refl refl refl refl (λ _ knows. absurd (not_asked knows.0 knows.1)) (λ walks. none_is_some free walks);
           none_left = λ r l y d. omega (arith, l, d, all);
         })
         (gate_after Forwarded m.gate)
@@ -360,8 +377,8 @@ same_epoch Resume gate = refl
 same_epoch Leave gate = refl
 
 pub passes_gate : PassingGateKeeps
-passes_gate E m team g k s ready wins =
-    let keeps = by_passage E m team g k s ready wins s.passage ((ready.invariant.workers k ready.member).passage s wins.step) in
+passes_gate E m team g k s ready free wins =
+    let keeps = by_passage E m team g k s ready free wins s.passage ((ready.invariant.workers k ready.member).passage s wins.step) in
     subst (λ (read : GateWord). Steps E m team g k (Some (GateIs (gate_after s.passage read))) (worker_after read.epoch s.passage (team.worker k)) g) wins.unchanged (record {
       later = with_gate m (gate_after s.passage m.gate);
       writes = InGate (gate_after s.passage m.gate) (fits E _ _ g keeps.invariant) (same_epoch s.passage m.gate ∙ ready.at_gate);

@@ -8,13 +8,14 @@ use Rattle.heap_state.specs.Worker.{Worker, Team, Scanner, Origin, Register, Sca
 use Rattle.heap_state.proofs.Puts.{none≢some, true_false}
 use Rattle.heap_laws.specs.Gate.{TakingEpochKeeps, into_epoch}
 use Rattle.heap_laws.specs.Steps.{with_worker, Preserves}
+use Rattle.heap_laws.proofs.Cells.Kept.{none_is_some}
 use Rattle.heap_laws.proofs.Gate.Counts.{counted_moves}
 use Rattle.heap_laws.proofs.Gate.Team.{passing_keeps}
 use Rattle.heap_laws.proofs.Gate.Worker.{none_at_pages, knows_then}
 use Rattle.heap_laws.proofs.Steps.Learning.{learnt}
 
 module _ (E : Era) (m : Memory) (team : Team) (g : Ghost) (k : ℕ) (inv : Invariant E m team g) (below : k < team.count) (at_gate : m.gate.epoch ≡ E.epoch) (scanner : (team.worker k).post ≡ Scanner)
-    (idle : (team.worker k).scan ≡ None) where
+    (idle : (team.worker k).scan ≡ None) (free : (team.worker k).pass ≡ None) where
   abbrev w : Worker
   w = team.worker k
 
@@ -47,6 +48,7 @@ module _ (E : Era) (m : Memory) (team : Team) (g : Ghost) (k : ℕ) (inv : Invar
         registers = refl;
         scan = refl;
         stock = λ q e. none≢some e;
+        goes = record { linking = refl; pass = refl; cleared = λ e. e; licence = λ _ knows _. absurd (no_quest knows.0 knows.1); look = λ walks. none_is_some free walks };
         none_left = λ r l y d. true_false (not_late E.epoch) y;
       })
       m.gate
@@ -74,4 +76,4 @@ module _ (E : Era) (m : Memory) (team : Team) (g : Ghost) (k : ℕ) (inv : Invar
       }))
 
 pub takes_epoch_of_gate : TakingEpochKeeps
-takes_epoch_of_gate E m team g k ready scanner idle = learnt (takes_epoch E m team g k ready.invariant ready.member ready.at_gate scanner idle)
+takes_epoch_of_gate E m team g k ready scanner idle free = learnt (takes_epoch E m team g k ready.invariant ready.member ready.at_gate scanner idle free)

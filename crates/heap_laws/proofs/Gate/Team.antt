@@ -11,7 +11,9 @@ use Rattle.heap_state.specs.Invariant.Parts.Pages.{Filling, Tracing, Sizes}
 use Rattle.heap_state.specs.Worker.{Worker, Team, Stock, Reset, is_mutator, is_late}
 use Rattle.heap_state.proofs.Workers.Frames.{staffed_put, scanned_put, stocks_put, numbered_put, rooted_put}
 use Rattle.heap_state.proofs.Puts.{team_put}
+use Rattle.heap_laws.specs.Cells.Frames.{GoesOnInChain}
 use Rattle.heap_laws.specs.Steps.{with_worker, with_gate, Preserves}
+use Rattle.heap_laws.proofs.Cells.Kept.{same_keeps}
 use Rattle.heap_laws.proofs.Gate.Worker.{NoneFlips}
 use Rattle.heap_laws.proofs.Steps.Learning.{shown_put}
 
@@ -24,6 +26,7 @@ pub record GoesPastGate (E : Era) (m : Memory) (team : Team) (g : Ghost) (k : �
   pub registers : w'.registers ≡ (team.worker k).registers
   pub scan : w'.scan ≡ (team.worker k).scan
   pub stock : (q : Stock) → w'.stock ≡ Some q → (team.worker k).stock ≡ Some q
+  pub goes : GoesOnInChain E w' (team.worker k)
   pub none_left : (r : ℕ) → r < 8 → is_late E.epoch (team.worker k) ≡ true → (team.worker k).done ≤ r → ⊥
 
 module _ {E : Era} {m : Memory} {team : Team} {g : Ghost} {k : ℕ} {w' : Worker} (passing : GoesPastGate E m team g k w') (gate' : GateWord) where
@@ -41,6 +44,7 @@ module _ {E : Era} {m : Memory} {team : Team} {g : Ghost} {k : ℕ} {w' : Worker
         let p2 = scanned_put team.worker k w' passing.scan inv.scanned in
         let p3 = stocks_put team.worker k w' passing.stock inv.stocks in
         let p4 = numbered_put team.worker k w' (ap (λ a. a.serial) passing.account) inv.numbered in
+        let p6 = same_keeps E m (with_gate m gate') team g g k w' (assumption) (assumption) (assumption) passing.goes inv.cells in
         let p5 = team_put team.count (Knows E gate' m.traced m.front m.low m.old_front m.old_low m.old_owed g m.page m.cross m.announced m.heap) team.worker k w' others own in
         assumption;
     shown = λ p s. shown_put E m (with_gate m gate') team g k w' p passing.account passing.registers refl s;

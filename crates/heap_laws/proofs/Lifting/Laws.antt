@@ -5,13 +5,13 @@ use Rattle.space_map.specs.Spaces.{to_space, space_start}
 use Rattle.space_map.specs.GateWord.{GateFits}
 use Rattle.space_map.specs.Table.{Size}
 use Rattle.heap_state.specs.Configuration.{Configuration, table, era, memory, team}
-use Rattle.heap_state.specs.Memory.Entries.{Entry, GateIs, WeakIs, WeakTurnIs, SizeIs, SnapIs, DoneIs, SaveIs, ImageIs}
+use Rattle.heap_state.specs.Memory.Entries.{Entry, GateIs, SizeIs, SnapIs, DoneIs, SaveIs, ImageIs}
 use Rattle.heap_state.specs.Memory.Era.{Memory, IsLaidOut, era_of, era_at, memory_of, from_space}
 use Rattle.heap_state.specs.Memory.Table.{Table, word_in}
 use Rattle.heap_state.proofs.Table.LaidOut.{laid_out, table_in_use}
 use Rattle.heap_state.proofs.Table.Seen.{follows}
 use Rattle.heap_laws.specs.Lifting.{table_after, RowFits, StepsAreLifted, PlainStepsAreLifted, words_after_row, SizesAreLifted, Flipped, FlipsAreLifted}
-use Rattle.heap_laws.specs.Steps.{WritesRow, NoRow, InGate, InTraced, InArea, InOldArea, InPage, InCross, InWord, InAnnounce, Beside, IsBeside}
+use Rattle.heap_laws.specs.Steps.{WritesRow, NoRow, InGate, InTraced, InArea, InOldArea, InWeak, InWeakTurn, InPage, InCross, InWord, InAnnounce, Beside, IsBeside}
 use Rattle.heap_laws.proofs.Lifting.Configurations.{board_at, seen, stand, ready}
 use Rattle.heap_laws.specs.Flipping.Flip.{FlipKeeps, flipped_gate, after_flip, next_ghost, next_era, next_memory}
 use Rattle.heap_laws.specs.Flipping.Sizes.{sized_era, after_size}
@@ -38,16 +38,16 @@ memory_at t gate epoch = record {
   old_front = space_start t.pages (from_space epoch) + (t.area (from_space epoch)).front;
   old_low = space_start t.pages (from_space epoch) + (t.area (from_space epoch)).low;
   old_owed = (t.area (from_space epoch)).owed;
+  weak = t.weak;
+  weak_turn = t.weak_turn;
   page = t.page;
   cross = t.cross;
   heap = t.heap;
   announced = t.announced;
 }
 
--- of the chain of copied cells and of checkpoints it sees nothing
+-- of checkpoints it sees nothing
 seen_beside : (c : Configuration) (e : Entry) → IsBeside (era c) e → RowSeen c (Some e) (memory c)
-seen_beside c (WeakIs word) beside = record { fits = beside; era_stays = refl; memory_is = refl }
-seen_beside c (WeakTurnIs word) beside = record { fits = tt; era_stays = refl; memory_is = refl }
 seen_beside c (SnapIs number) beside = record { fits = tt; era_stays = refl; memory_is = refl }
 seen_beside c (DoneIs number) beside = record { fits = tt; era_stays = refl; memory_is = refl }
 seen_beside c (SaveIs page word) beside = record { fits = (let b = board_at c in omega (arith, b, beside.0), beside.1); era_stays = refl; memory_is = refl }
@@ -64,6 +64,8 @@ row_seen c _ _ (InGate gate fits same) = record {
 row_seen c _ _ (InTraced word) = record { fits = tt; era_stays = refl; memory_is = refl }
 row_seen c _ _ (InArea area fits) = record { fits = (omega arith, fits); era_stays = refl; memory_is = (follows.area (table c) area).now }
 row_seen c _ _ (InOldArea area fits) = record { fits = (omega arith, fits); era_stays = refl; memory_is = (follows.area (table c) area).old }
+row_seen c _ _ (InWeak word small) = record { fits = small; era_stays = refl; memory_is = refl }
+row_seen c _ _ (InWeakTurn word) = record { fits = tt; era_stays = refl; memory_is = refl }
 row_seen c _ _ (InPage page word below fits) = record { fits = (let b = board_at c in omega (arith, b, below), fits); era_stays = refl; memory_is = refl }
 row_seen c _ _ (InCross page place below) = record { fits = let b = board_at c in omega (arith, b, below); era_stays = refl; memory_is = refl }
 row_seen c _ _ (InWord addr word below) = record { fits = let b = board_at c in omega (arith, b, below); era_stays = refl; memory_is = refl }

@@ -1,5 +1,5 @@
 -- The opening keeps the invariant, and shows the plain state in which nothing was made.
-use Rattle.std.proofs.Common.{◌≡◌, ◌≢◌, ℕ, ◌+◌, ◌*◌, ◌/◌, ◌<◌, ◌≤◌, [], length, replicate, List, None, is_some, refl, sym, ap, ◌∙◌, arith, ⊎_elim, inl, inr}
+use Rattle.std.proofs.Common.{◌≡◌, ◌≢◌, ℕ, ◌+◌, ◌*◌, ◌/◌, ◌<◌, ◌≤◌, [], length, replicate, List, None, refl, sym, ap, ◌∙◌, arith, ⊎_elim, inl}
 use Rattle.std.proofs.lemmas.Bool.{cases_eq, cases_lt}
 use Rattle.std.proofs.lemmas.List.{get_or-replicate, length-replicate, get_or_past}
 use Rattle.plain_state.specs.declared.kind.Kind.TheVariants.{Fields}
@@ -9,7 +9,7 @@ use Rattle.plain_state.specs.State as plain
 use Rattle.space_map.specs.declared.page_word.PageWord.TheVariants.{Unset, Open, Scanning}
 use Rattle.space_map.specs.PageWord.{age_of}
 use Rattle.space_map.specs.Spaces.{IsPageCount}
-use Rattle.heap_state.specs.Cells.{no_ranks, Chain}
+use Rattle.heap_state.specs.Invariant.Parts.Cells.{Cells}
 use Rattle.heap_state.specs.Cycles.Cycle.{Cycle, IsRoot, InRegister, OnTheBoard, StillLeads}
 use Rattle.heap_state.specs.Memory.Entries.{table_with, EachFits}
 use Rattle.heap_state.specs.Theorems.Rows.{Written}
@@ -19,9 +19,9 @@ use Rattle.heap_state.specs.Invariant.Ghost.{Ghost}
 use Rattle.heap_state.specs.Invariant.Inductive.{Invariant, Knows}
 use Rattle.heap_state.specs.Invariant.Parts.Pages.{Quiet}
 use Rattle.heap_state.specs.Memory.Table.{Table}
-use Rattle.heap_state.specs.Targets.{Targets}
 use Rattle.heap_state.specs.Meaning.Values.{value_of, Accounts, RegistersShow, Shown}
-use Rattle.heap_state.specs.Worker.{Worker, Outside, Scanner, fresh, cell_to_link}
+use Rattle.heap_state.specs.Worker.{Worker, Outside, Scanner, fresh}
+use Rattle.heap_state.proofs.Cells.NoCells.{no_cells}
 use Rattle.heap_state.proofs.Workers.Idle.{idle_knows}
 use Rattle.heap_state.proofs.Puts.{put_at, put_other, none≢some, true_false}
 use Rattle.heap_state.proofs.Table.Writing.{writes_tables}
@@ -130,6 +130,10 @@ module _ (n least : ℕ) where
     no_stock : (k : ℕ) → ((opening_team mutators scanners).worker k).stock ≡ None
     no_stock k = each_fresh mutators scanners k (λ w. w.stock ≡ None) refl refl
 
+    -- no cell stands, nobody has one to link or walks, and the epoch is traced
+    cells : Cells E m (opening_team mutators scanners) nothing
+    cells = no_cells E m (opening_team mutators scanners) nothing (omega arith, omega arith) refl refl (λ k _. each_fresh mutators scanners k (λ w. (w.linking ≡ None) × (w.pass ≡ None)) (refl, refl) (refl, refl)) (λ a st. absurd (omega (arith, st)))
+
     keeps : least ≤ n → mutators ≤ 16 → mutators + scanners ≤ 24 → Invariant E m (opening_team mutators scanners) nothing
     keeps short few all =
         let f = front in
@@ -162,6 +166,7 @@ module _ (n least : ℕ) where
           crossing = record { crossing = λ p a s u st. absurd (omega (arith, st)) };
           stocks = record { stocked = λ k u q e. absurd (let z = no_stock k in none≢some (sym z ∙ e)); apart = λ i k u v d p q e. absurd (let z = no_stock i in none≢some (sym z ∙ e)) };
           numbered = record { maker = λ a st. absurd (omega (arith, st)); last = λ a st. absurd (omega (arith, st)) };
+          cells = cells;
           workers = λ k u. each_fresh mutators scanners k (λ w. Known k w) (outside k) (scanner k);
         }
 
@@ -223,40 +228,6 @@ module _ (n least : ℕ) where
         zero_registers : (k j : ℕ) → ((opening_team mutators scanners).worker k).registers j ≡ 0
         zero_registers k j = each_fresh mutators scanners k (λ w. w.registers j ≡ 0) refl refl
 
-    -- nobody has a cell to link or walks, and the epoch is traced
-    chain : Chain E m T.weak T.weak_turn (opening_team mutators scanners) nothing no_ranks
-    chain = record {
-      top = inr refl;
-      turned = λ _. refl;
-      linked = λ le. absurd (omega (arith, le));
-      all = λ le. absurd (omega (arith, le));
-      linking = λ k l _ e. none≢some (sym (no_cell k) ∙ e);
-      apart = λ j k a _ _ e _. none≢some (sym (ap cell_to_link (no_cell j)) ∙ e);
-      pass = λ k q _ e. none≢some (sym (no_pass k) ∙ e);
-      one = λ j k _ _ e _. absurd (let z = sym (ap is_some (no_pass j)) ∙ e in cc);
-      walker = λ le. absurd (omega (arith, le));
-      reset = λ k _ _. refl;
-      three = λ a st. absurd (omega (arith, st));
-    }
-      where
-        no_cell : (k : ℕ) → ((opening_team mutators scanners).worker k).linking ≡ None
-        no_cell k = each_fresh mutators scanners k (λ w. w.linking ≡ None) refl refl
-
-        no_pass : (k : ℕ) → ((opening_team mutators scanners).worker k).pass ≡ None
-        no_pass k = each_fresh mutators scanners k (λ w. w.pass ≡ None) refl refl
-
--- ---- targets
-
--- no cell stands
-targets : (n least : ℕ) → Targets (era_of (table_with n (opening_entries n least))) (memory_of (table_with n (opening_entries n least))) nothing
-targets n least = record {
-  lands = λ a c. absurd (let st = c.stands in omega (arith, st));
-  aims = λ a b c. absurd (let st = c.stands in omega (arith, st));
-  new = λ a c. absurd (let st = c.stands in omega (arith, st));
-  clean = λ _ a c. absurd (let st = c.stands in omega (arith, st));
-  older = λ _ a b c. absurd (let st = c.stands in omega (arith, st));
-}
-
 -- ---- the words
 
 entries_fit : (n least : ℕ) → IsPageCount n → 4 ≤ least → least ≤ n → EachFits n (opening_entries n least)
@@ -278,6 +249,4 @@ opening_stands n least mutators scanners size some short few all =
         shown = rw w.says (shows n least mutators scanners);
       };
       cycle = rw w.says (cycle n least mutators scanners);
-      chain = rw w.says (chain n least mutators scanners);
-      targets = rw w.says (targets n least);
     }

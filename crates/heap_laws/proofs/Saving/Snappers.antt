@@ -17,6 +17,7 @@ use Rattle.heap_state.proofs.Workers.Frames.{counted_put, staffed_put, scanned_p
 use Rattle.heap_state.proofs.Represents.Snapped.{snaps_show}
 use Rattle.heap_laws.specs.Saving.Snapping.{about_to_clear, SnappersStep}
 use Rattle.heap_laws.specs.Steps.{Beside, with_worker}
+use Rattle.heap_laws.proofs.Cells.Kept.{same_keeps, in_chain}
 use Rattle.heap_laws.proofs.Fields.GoingOn.{going_on_shows}
 use Rattle.heap_laws.proofs.Fields.Laws.{accounts_in}
 
@@ -61,6 +62,7 @@ module _ (E : Era) (m : Memory) (team : Team) (g : Ghost) (k : ℕ) (account : A
       let d = numbered_put team.worker k next serial inv.numbered in
       let e = stocks_put team.worker k next (λ q e. e) inv.stocks in
       let f = team_put team.count (Knows E m.gate m.traced m.front m.low m.old_front m.old_low m.old_owed g m.page m.cross m.announced m.heap) team.worker k next (λ j s d. inv.workers j s) knows in
+      let h = same_keeps E m m team g g k next (assumption) (assumption) (assumption) (in_chain E next w refl refl refl (assumption)) inv.cells in
       assumption
 
   -- ---- the cycle

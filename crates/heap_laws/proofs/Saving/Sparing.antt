@@ -19,7 +19,7 @@ use Rattle.heap_state.specs.Worker.{Team, Origin, Register, Scanned, Stock, Ques
 use Rattle.heap_state.proofs.Puts.{true_false}
 use Rattle.heap_laws.specs.Allocation.Stocks.{HasStock, OpensNext}
 use Rattle.heap_laws.specs.Saving.Rows.{SparesWord, SparesPage, SparesTraced}
-use Rattle.heap_laws.specs.Saving.Sparing.{IsTracing, AsksForCopy, CopiesRecord, ScansPage, WinsItsPage, WinsItsTraced, TracingIsBefore, TracedWordsAreSpared, ClaimsAreSpared, ScannedPagesAreSpared, TracedIsSpared, MayStoreOn, StoresAtRest, StoresGuarded, StoresAreSpared, ZerosAreSpared, MayOpenNew, OpensBeforeAll, OpensMarked, NewPagesAreSpared, NewPagesAreLoose}
+use Rattle.heap_laws.specs.Saving.Sparing.{IsTracing, AsksForCopy, CopiesRecord, ScansPage, WalksChain, WinsItsPage, WinsItsTraced, TracingIsBefore, TracedWordsAreSpared, ClaimsAreSpared, ScannedPagesAreSpared, TracedIsSpared, MayStoreOn, StoresAtRest, StoresGuarded, StoresAreSpared, ZerosAreSpared, MayOpenNew, OpensBeforeAll, OpensMarked, NewPagesAreSpared, NewPagesAreLoose}
 use Rattle.heap_laws.specs.Scanning.Claims.{WinsPage}
 use Rattle.heap_laws.specs.Steps.{Ready}
 use Rattle.heap_laws.specs.Tracing.{WinsTraced}
@@ -88,6 +88,7 @@ module _ (E : Era) (m : Memory) (team : Team) (g : Ghost) (k : ℕ) (ready : Rea
   by_cases (AsksForCopy q is) traced = nobody_asks traced q is
   by_cases (CopiesRecord c is) traced = nobody_copies traced c is
   by_cases (ScansPage s is) traced = nobody_scans traced s is
+  by_cases (WalksChain q is) traced = let now = (inv.cells.chain.pass k q ready.member is).now.1 in omega (arith, now, traced)
   by_cases (WinsItsPage q wins) traced = nobody_claims q wins traced
   by_cases (WinsItsTraced l wins) traced = nobody_traces l wins traced
 

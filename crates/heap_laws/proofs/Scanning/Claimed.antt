@@ -16,6 +16,7 @@ use Rattle.heap_state.specs.Worker.{Worker, Team, Origin, Register, Scanned, Sca
 use Rattle.heap_state.proofs.Records.Holding.{writer}
 use Rattle.heap_state.proofs.Puts.{put_at, put_other, put_same, some_same, none≢some}
 use Rattle.heap_state.specs.Memory.Entries.{PageIs}
+use Rattle.heap_laws.specs.Cells.Frames.{GoesOnInChain}
 use Rattle.heap_laws.specs.Scanning.Claims.{WinsPage, scan_from, begins_scan, ClaimsPage, SleeperLosesPage}
 use Rattle.heap_laws.specs.Steps.{Ready, Steps, InPage, with_page}
 use Rattle.heap_laws.proofs.Frames.PageWords.{Turns, quiet_turns, scans_beside, knows_turns}
@@ -183,12 +184,16 @@ module _ (E : Era) (m : Memory) (team : Team) (g : Ghost) (k : ℕ) (q : Claim) 
       origin old (Register r) y = y
       origin old (Scanned x) y = none≢some (sym wins.idle ∙ y.0.1)
 
+  -- who had a cell to link still may copy
+  goes : GoesOnInChain E w' (team.worker k)
+  goes = record { linking = refl; pass = refl; cleared = λ e. e; licence = λ _ knows _. (inl (scan_from q, refl), knows); look = λ _. (refl, refl) }
+
   pub claims : ClaimsPage E m team g k q
   claims = record {
     now = of_now;
     steps = subst (λ (e : ℕ). Steps E m team g k (Some (PageIs q.page (Scanning e k))) w' g) (sym of_now) (record {
       later = with_page m q.page v;
       writes = InPage q.page v (page_below ready q.page place) (rw ready.at_gate at inv.counted.epoch_fits, let f = few ready in omega (arith, f));
-      keeps = keeps_turned E m team g k q.page v (Some (scan_from q)) None inv turns scanned shut opened filling others own;
+      keeps = keeps_turned E m team g k q.page v (Some (scan_from q)) None inv turns scanned shut opened filling goes others own;
     });
   }

@@ -1,5 +1,5 @@
 -- The fields of a page that is scanned: passed where they are clean, and replaced by the copy's address where they are not.
-use Rattle.std.proofs.Common.{◌≤◌, ◌≡◌, ◌≢◌, ℕ, ◌+◌, ◌-◌, ◌/◌, ◌<◌, Some, None, refl, sym, ◌∙◌, arith, ⊎_elim, inl, inr, subst, ap, Option, false}
+use Rattle.std.proofs.Common.{◌≤◌, ◌≡◌, ◌≢◌, ℕ, ◌+◌, ◌-◌, ◌/◌, ◌<◌, Some, None, refl, sym, ◌∙◌, arith, ⊎_elim, inl, inr, subst, ap, Option}
 use Rattle.std.proofs.lemmas.Bool.{cases_eq}
 use Rattle.heap_words.specs.Decoded.{PointerWord, decode}
 use Rattle.heap_state.specs.Memory.Era.{Era, Memory, IsLaidOut}
@@ -11,12 +11,14 @@ use Rattle.heap_state.specs.Invariant.Parts.Pages.{ScannedBy}
 use Rattle.heap_state.specs.Invariant.Parts.Scanning.{Stepping}
 use Rattle.heap_state.specs.Worker.{Worker, Team, Origin, Scanned, Quest, Copy, Scan, SeenRecord, is_late}
 use Rattle.heap_state.proofs.Workers.Frames.{counted_put, staffed_put, stocks_put, numbered_put, rooted_put}
-use Rattle.heap_state.proofs.Puts.{put_same, team_put, some_same, none≢some, true_false}
+use Rattle.heap_state.proofs.Puts.{put_same, team_put, some_same, none≢some}
 use Rattle.heap_state.specs.Memory.FieldSpan.{next_scanned, next_from}
 use Rattle.heap_state.proofs.Records.FieldSpans.{passes_no_field, next_within, span-within, field-span}
 use Rattle.heap_state.specs.Memory.Entries.{WordIs}
+use Rattle.heap_laws.specs.Cells.Frames.{GoesOnInChain}
 use Rattle.heap_laws.specs.Scanning.Words.{scanning, on_to, AtField, PassingFieldKeeps, asking, AskingKeeps, HasFound, past_word}
 use Rattle.heap_laws.specs.Steps.{with_worker, with_word, Ready, Steps, InWord, Preserves}
+use Rattle.heap_laws.proofs.Cells.Kept.{idle_in_chain, none_is_some, word_keeps, field_is_unread}
 use Rattle.heap_laws.proofs.Fields.Cycle.{slot_keeps_cycle}
 use Rattle.heap_laws.proofs.Fields.Slots.{Slot, here_slot, headed_slot, raw_slot, counts_slot, opened_slot, landing_slot, older_slot, new_slot, old_space_slot, stocks_slot, scans_slot, copies_slot, keeps_slot, origin_slot, objects_slot, board_slot, here_field}
 use Rattle.heap_laws.proofs.Copying.Found.{FoundCopy, found_copy}
@@ -98,11 +100,13 @@ asks E m team g k s a ready is at going leads low high =
     let inv = ready.invariant in
     let me = inv.workers k ready.member in
     let h = here E m team g k s ready.laid_out inv ready.member is.scans at in
-    let q : Quest = record { old = a; origin = Scanned s.cursor; found = None; links = false } in
+    let q : Quest = record { old = a; origin = Scanned s.cursor; found = None } in
     let st : 0 < g.size a = pointer_lands g.size g.writer (m.heap s.cursor) a (inv.landing.lands s.cursor h) leads in
-    learnt (learns E m team g k (asking (team.worker k) q) inv (assumption) (λ t e. (t, e, refl))
+    learnt (learns E m team g k (asking (team.worker k) q) inv
+    (let c = idle_in_chain (asking (team.worker k) q) (team.worker k) is.asks_nothing refl refl refl refl in
+    assumption) (λ t e. (t, e, refl))
     (let origin : (r : Quest) → Some q ≡ Some r → IsOrigin E g.size g.writer g.kind m.heap (is_late E.epoch (team.worker k)) (team.worker k).done (team.worker k).registers (team.worker k).scan r.old r.origin = λ r e. rw (← some_same e) ((s, is.scans, refl, at.on_page, going), h, leads) in
-    let seeks : (r : Quest) → Some q ≡ Some r → Seeks E g.size g.writer g.copy g.kind r = λ r e. rw (← some_same e) (record { old = (st, low, high); found = λ b f. none≢some f; links = λ f. true_false refl f }) in
+    let seeks : (r : Quest) → Some q ≡ Some r → Seeks E g.size g.writer g.copy r = λ r e. rw (← some_same e) (record { old = (st, low, high); found = λ b f. none≢some f }) in
     let licence : Licensed m.gate.behind g.kept k (is_late E.epoch (team.worker k)) (team.worker k).copy (Some q) (team.worker k).scan = record { licensed = me.licensed.licensed; asked = λ c e. absurd (no_copy E m team g k inv ready.member is.asks_nothing c e); counted = me.licensed.counted; idle = me.licensed.idle } in
     assumption))
 
@@ -110,11 +114,11 @@ asks E m team g k s a ready is at going leads low high =
 pub passes : PassingFieldKeeps
 passes E m team g k s ready is at fine =
     let inv = ready.invariant in
-    learnt (goes_on E m team g k s inv ready.member is.scans (no_copy E m team g k inv ready.member is.asks_nothing) (past_word E s)
+    learnt (goes_on E m team g k s inv ready.member is.scans (no_copy E m team g k inv ready.member is.asks_nothing) is.asks_nothing (past_word E s)
     (next E m team g k s ready.laid_out inv ready.member is.scans at m.heap fine))
 
 -- the copy's address is stored
-module _ (E : Era) (m : Memory) (team : Team) (g : Ghost) (k : ℕ) (s : Scan) (q : Quest) (b v : ℕ) (ready : Ready E m team g k) (has : HasFound E team k s q b) (word : decode v ≡ PointerWord b) where
+module _ (E : Era) (m : Memory) (team : Team) (g : Ghost) (k : ℕ) (s : Scan) (q : Quest) (b v : ℕ) (ready : Ready E m team g k) (has : HasFound E team k s q b) (linked : (team.worker k).linking ≡ None) (word : decode v ≡ PointerWord b) where
   abbrev out : IsLaidOut E
   out = ready.laid_out
 
@@ -174,6 +178,9 @@ module _ (E : Era) (m : Memory) (team : Team) (g : Ghost) (k : ℕ) (s : Scan) (
   own : KnowsNow k w'
   own = knows_on E m team g k s inv ready.member has.scans copy.copies_nothing heap' t on (scans_slot slot m.heap k s (known.scan s has.scans))
 
+  goes : GoesOnInChain E w' (team.worker k)
+  goes = record { linking = refl; pass = refl; cleared = λ e. e; licence = λ l _ _. none_is_some linked l; look = λ _. (refl, refl) }
+
   invariant : Invariant E (with_word m s.cursor v) (with_worker team k w') g
   invariant =
       let p1 = counted_put team.worker k w' refl refl inv.counted in
@@ -189,6 +196,9 @@ module _ (E : Era) (m : Memory) (team : Team) (g : Ghost) (k : ℕ) (s : Scan) (
       let p10 = old_space_slot slot m.heap inv.old_space in
       let p11 = stocks_put team.worker k w' (λ _ e. e) (stocks_slot slot m.heap inv.stocks) in
       let p12 = numbered_put team.worker k w' refl inv.numbered in
+      let unread = field_is_unread E m team g k s.cursor ready h in
+      let p15 = word_keeps E m (with_word m s.cursor v) team g g k s.cursor v w' (InWord s.cursor v (here_below ready s.cursor h)) unread.0 unread.1
+      (assumption) goes inv.cells in
       let p13 = team_put team.count KnowsNow team.worker k w' others own in
       assumption
 

@@ -12,6 +12,7 @@ use Rattle.heap_state.proofs.Records.Holding.{writer}
 use Rattle.heap_state.proofs.Puts.{some_same, none≢some}
 use Rattle.heap_laws.specs.Scanning.Words.{scanning, is_past, on_to}
 use Rattle.heap_laws.specs.Steps.{with_worker, Preserves}
+use Rattle.heap_laws.proofs.Cells.Kept.{idle_in_chain}
 use Rattle.heap_laws.proofs.Steps.Learning.{learns}
 
 -- from s the scan may go on as t over these words
@@ -67,7 +68,7 @@ module _ (E : Era) (m : Memory) (team : Team) (g : Ghost) (k : ℕ) (s : Scan) (
   knows_on heap t on sc =
       let u = me in
       let o1 : (q : Quest) → None ≡ Some q → IsOrigin E g.size g.writer g.kind heap (is_late E.epoch (team.worker k)) (team.worker k).done (team.worker k).registers (Some t) q.old q.origin = λ q e. none≢some e in
-      let o2 : (q : Quest) → None ≡ Some q → Seeks E g.size g.writer g.copy g.kind q = λ q e. none≢some e in
+      let o2 : (q : Quest) → None ≡ Some q → Seeks E g.size g.writer g.copy q = λ q e. none≢some e in
       let o3 : Licensed m.gate.behind g.kept k (is_late E.epoch (team.worker k)) (team.worker k).copy None (Some t) =
       record { licensed = λ c e. absurd (no_copy c e); asked = λ c e. absurd (no_copy c e); counted = me.licensed.counted; idle = me.licensed.idle } in
       let o4 : (c : Copy) → (team.worker k).copy ≡ Some c → Copies E m.front g.size g.writer g.copy g.keeper g.kept m.announced m.cross heap k c = λ c e. absurd (no_copy c e) in
@@ -78,8 +79,11 @@ module _ (E : Era) (m : Memory) (team : Team) (g : Ghost) (k : ℕ) (s : Scan) (
       assumption
 
   -- a load after which the scan goes on
-  pub goes_on : (t : Scan) → ScanGoesOn E m.front g.size g.writer g.kind m.heap s t → Preserves E m m team (with_worker team k (scanning (team.worker k) t)) g g
-  goes_on t on = learns E m team g k (scanning (team.worker k) t) inv (assumption) (same_page t on.page) (knows_on m.heap t on (me.scan s scans))
+  pub goes_on : (team.worker k).quest ≡ None → (t : Scan) → ScanGoesOn E m.front g.size g.writer g.kind m.heap s t → Preserves E m m team (with_worker team k (scanning (team.worker k) t)) g g
+  goes_on idle t on = learns E m team g k (scanning (team.worker k) t) inv
+      (let c = idle_in_chain (scanning (team.worker k) t) (team.worker k) idle refl refl refl refl in
+      assumption)
+      (same_page t on.page) (knows_on m.heap t on (me.scan s scans))
 
 -- who asks for nothing copies nothing
 pub no_copy : (E : Era) (m : Memory) (team : Team) (g : Ghost) (k : ℕ) → Invariant E m team g → k < team.count → (team.worker k).quest ≡ None → (c : Copy) → (team.worker k).copy ≡ Some c → ⊥

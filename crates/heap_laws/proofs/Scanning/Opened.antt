@@ -16,6 +16,7 @@ use Rattle.heap_state.specs.Worker.{Worker, Team, Origin, Register, Scanned, Cop
 use Rattle.heap_state.proofs.Records.Holding.{writer}
 use Rattle.heap_state.proofs.Puts.{put_at, put_other, each_put, some_same, none≢some}
 use Rattle.heap_state.specs.Memory.Entries.{PageIs}
+use Rattle.heap_laws.specs.Cells.Frames.{GoesOnInChain}
 use Rattle.heap_laws.specs.Scanning.Claims.{HasScanned, ends_scan, OpensPage}
 use Rattle.heap_laws.specs.Steps.{Ready, Steps, InPage, with_page}
 use Rattle.heap_laws.proofs.Frames.PageWords.{Turns, quiet_turns, scans_beside, knows_turns}
@@ -138,6 +139,16 @@ module _ (E : Era) (m : Memory) (team : Team) (g : Ghost) (k : ℕ) (s : Scan) (
       origin old (Register r) y = y
       origin old (Scanned x) y = not_late E.epoch (team.worker k) of_now (no_origin old (Scanned x) y)
 
+  -- and it has no cell to link
+  goes : GoesOnInChain E w' (team.worker k)
+  goes = record {
+    linking = refl;
+    pass = refl;
+    cleared = λ e. e;
+    licence = λ _ knows _. not_late E.epoch (team.worker k) of_now (no_origin knows.0.old knows.0.origin (me.origin knows.0 knows.1));
+    look = λ _. (refl, refl);
+  }
+
   pub opens : OpensPage E m team g k s
   opens = record {
     now = of_now;
@@ -145,6 +156,6 @@ module _ (E : Era) (m : Memory) (team : Team) (g : Ghost) (k : ℕ) (s : Scan) (
     steps = subst (λ (e : ℕ). Steps E m team g k (Some (PageIs s.page (Open e))) w' g) (sym of_now) (record {
       later = with_page m s.page v;
       writes = InPage s.page v (page_below ready s.page mine.place) (rw ready.at_gate at inv.counted.epoch_fits);
-      keeps = keeps_turned E m team g k s.page v None (team.worker k).claim inv turns scanned shut opened filling others own;
+      keeps = keeps_turned E m team g k s.page v None (team.worker k).claim inv turns scanned shut opened filling goes others own;
     });
   }

@@ -77,7 +77,7 @@ module _ (E : Era) (m : Memory) (team : Team) (g : Ghost) (k : ℕ) (s : Scan) (
       rw c (o.1, w, o.2, o.3)
 
   pub crosses : Preserves E m m team (with_worker team k (scanning (team.worker k) (record s { over = Some (m.cross s.page) }))) g g
-  crosses = goes_on E m team g k s inv below is.scans idle (record s { over = Some (m.cross s.page) }) (record {
+  crosses = goes_on E m team g k s inv below is.scans idle is.asks_nothing (record s { over = Some (m.cross s.page) }) (record {
     page = refl;
     clean = λ x u e l n. absurd (omega (arith, l, n));
     top = mine.cursor;
@@ -115,7 +115,7 @@ module _ (E : Era) (m : Memory) (team : Team) (g : Ghost) (k : ℕ) (s : Scan) (
       let span = span-within (g.kind a) (g.size a) st (λ n k. (inv.counts.counts a n st w k).1) in
       let first = ap first_field h.0 in
       let y = enters_within seen kind size refl refl (omega (arith, span, first, h.1)) s.cursor (omega (arith, h.1, d)) in
-      goes_on E m team g k s inv below is.scans idle (scan_in_record E s a kind size) (record {
+      goes_on E m team g k s inv below is.scans idle is.asks_nothing (scan_in_record E s a kind size) (record {
         page = refl;
         clean = λ x u p f o. absurd (no_field x u (omega (arith, c, f)) f (omega (arith, y.2, o)) o h.0 h.1);
         top = inr (omega (arith, y.2, h.1, n));
@@ -149,7 +149,7 @@ module _ (E : Era) (m : Memory) (team : Team) (g : Ghost) (k : ℕ) (s : Scan) (
       → decode (m.heap a) ≡ HeaderWord header_kinds.Mixed len serial mutator → Preserves E m m team (with_worker team k (scanning (team.worker k) (scan_headed s a (len + 1)))) g g
   heads a len serial mutator st w l n c d e =
       let h = header a len serial mutator header_kinds.Mixed st w l n e in
-      goes_on E m team g k s inv below is.scans idle (scan_headed s a (len + 1)) (record {
+      goes_on E m team g k s inv below is.scans idle is.asks_nothing (scan_headed s a (len + 1)) (record {
         page = refl;
         clean = λ x u p f o. absurd (omega (arith, f, o));
         top = mine.cursor;
@@ -243,7 +243,7 @@ module _ (E : Era) (m : Memory) (team : Team) (g : Ghost) (k : ℕ) (s : Scan) (
       (cases_eq s.cursor m.front)
     where
       at_front : s.cursor ≡ m.front → Preserves E m m team (with_worker team k (scanning (team.worker k) (record s { ended = true }))) g g
-      at_front e = goes_on E m team g k s inv below is.scans idle (record s { ended = true }) (record {
+      at_front e = goes_on E m team g k s inv below is.scans idle is.asks_nothing (record s { ended = true }) (record {
         page = refl;
         clean = λ x u p l n. absurd (omega (arith, l, n));
         top = mine.cursor;
@@ -251,7 +251,7 @@ module _ (E : Era) (m : Memory) (team : Team) (g : Ghost) (k : ℕ) (s : Scan) (
       })
 
       before : s.cursor ≢ m.front → Preserves E m m team (with_worker team k (scanning (team.worker k) (record s { inner = true }))) g g
-      before n = goes_on E m team g k s inv below is.scans idle (record s { inner = true }) (record {
+      before n = goes_on E m team g k s inv below is.scans idle is.asks_nothing (record s { inner = true }) (record {
         page = refl;
         clean = λ x u p l o. absurd (omega (arith, l, o));
         top = mine.cursor;

@@ -3,6 +3,7 @@ use Rattle.std.proofs.Common.{◌≡◌, ℕ, ◌<◌, true, Option, Some, None,
 use Rattle.plain_state.specs.State.{Plain}
 use Rattle.plain_state.specs.declared.kind.Kind.{Kind}
 use Rattle.space_map.specs.declared.page_word.PageWord.{PageWord}
+use Rattle.heap_state.specs.Invariant.Parts.Cells.{Cells}
 use Rattle.heap_state.specs.Cycles.Cycle.{Cycle}
 use Rattle.heap_state.specs.Memory.Entries.{Entry}
 use Rattle.heap_state.specs.Memory.Era.{Era, Memory}
@@ -15,8 +16,10 @@ use Rattle.heap_state.specs.Meaning.Values.{Shown}
 use Rattle.heap_state.specs.Worker.{Worker, Team, Account, Quest, Scan, Round, Origin, Register, Scanned, is_mutator, is_flipper, is_late, is_asking}
 use Rattle.heap_state.proofs.Workers.Frames.{counted_put, staffed_put, stocks_put, numbered_put, rooted_put}
 use Rattle.heap_state.proofs.Puts.{put_same, put_twice, each_put, some_same}
+use Rattle.heap_laws.specs.Cells.Frames.{GoesOnInChain}
 use Rattle.heap_laws.specs.Composing.{IsAtMost, IsLess, IsLessScan, IsLessRound, LessAtPages, IsScanWithin, SameScan, LessScan, StepsForget, StepsAreReady, StepsFollow, PlainStepsForget, PlainStepsAreReady, PlainStepsFollow, StepsWriteBeside, PlainStepsWriteBeside}
 use Rattle.heap_laws.specs.Steps.{WritesRow, NoRow, InGate, with_worker, Preserves, Steps, Beside, Makes}
+use Rattle.heap_laws.proofs.Cells.Kept.{same_keeps, still_in_chain, less_in_chain}
 use Rattle.heap_laws.proofs.Steps.Learning.{shown_put, scanned_on}
 
 -- ---- forgetting
@@ -162,9 +165,14 @@ module _ (E : Era) (n : Memory) (team : Team) (h : Ghost) (k : ℕ) (w v : Worke
           let p3 = scanned_on before.worker k w on inv.scanned in
           let p4 = stocks_put before.worker k w (λ q e. ap (λ (u : Worker). u.stock) there ∙ most.hand.stock q e) inv.stocks in
           let p5 = numbered_put before.worker k w (same (λ u. u.account.serial) (ap (λ (a : Account). a.serial) most.others.account)) inv.numbered in
-          let p6 : (j : ℕ) → j < before.count → KnowsThen j (put before.worker k w j) = λ j l. each_put KnowsThen before.worker k w j (λ d. inv.workers j l) (λ e. rw e (own (rw e at l))) in
+          let p6 : Cells E n (with_worker before k w) h = same_keeps E n n before h h k w (assumption) (assumption) (assumption) goes inv.cells in
+          let p7 : (j : ℕ) → j < before.count → KnowsThen j (put before.worker k w j) = λ j l. each_put KnowsThen before.worker k w j (λ d. inv.workers j l) (λ e. rw e (own (rw e at l))) in
           assumption
         where
+          goes : GoesOnInChain E w (before.worker k)
+          goes = rw there (still_in_chain E w v most.others.post most.others.epoch (λ u e. let z = (within most.scan).has u e in (z.0, z.1))
+              (less_in_chain w v most.others.quest most.gate.reset most.chain))
+
           own : k < before.count → KnowsThen k w
           own l = knows_less E n h k w v most (rw there at (inv.workers k l))
 

@@ -1,5 +1,5 @@
 -- Atomic steps that are several changes of what a worker knows.
-use Rattle.std.proofs.Common.{◌≡◌, ℕ, zero, suc, ◌+◌, ◌-◌, ◌<◌, ◌≤◌, true, Option, Some, None, refl, sym, ap, ◌∙◌, arith, subst, false}
+use Rattle.std.proofs.Common.{◌≡◌, ℕ, zero, suc, ◌+◌, ◌-◌, ◌<◌, ◌≤◌, true, Option, Some, None, refl, sym, ap, ◌∙◌, arith, subst}
 use Rattle.heap_words.specs.Decoded.{decode}
 use Rattle.heap_state.specs.Memory.Entries.{Entry, AnnounceIs}
 use Rattle.heap_state.specs.Memory.Era.{Era, Memory}
@@ -69,7 +69,7 @@ module _ (E : Era) (m : Memory) (team : Team) (g : Ghost) (k j : ℕ) (ready : R
 
   asked : (q : Option Quest) → AsksAt (team.worker k).registers j q → Steps E m team g k None (come_to (team.worker k) j q) g
   asked _ (AllDone e) = subst (λ (q : Option Quest). Steps E m team g k None (record (team.worker k) { done = j; quest = q }) g) idle passed
-  asked _ (AsksNext a l leads) = on ready passed (λ w. record w { quest = Some (record { old = a; origin = Register w.done; found = None; links = false }) }) g
+  asked _ (AsksNext a l leads) = on ready passed (λ w. record w { quest = Some (record { old = a; origin = Register w.done; found = None }) }) g
       (asks_for_register E passed.later (then ready passed) g k a (is_ready ready passed)
       (record { late = ap (is_late E.epoch) (there ready passed) ∙ late; left = let d = ap (λ (w : Worker). w.done) (there ready passed) in omega (arith, d, l) })
       (ap (λ (w : Worker). w.quest) (there ready passed) ∙ idle)
@@ -97,7 +97,7 @@ goes_on_to {E} {m} {team} {g} {k} {e} {h} w v j next ready late from to clean as
     asks_still _ (AsksNext a l leads) = AsksNext a l (rw (put_other w.registers w.done v j (λ x. omega (arith, from, x))) leads)
 
 pub registers_find_forwards : RegistersFindForwards
-registers_find_forwards E m team g k q len b v j next ready late idle asks origin left word points from to clean after =
+registers_find_forwards E m team g k q len b v j next ready late idle still asks origin left word points from to clean after =
     goes_on_to (team.worker k) v j next ready late from to clean after
     (subst (λ (w : Worker). Steps E m team g k None w g) forgets_quest
     (on ready found (λ w. forwarded w v) g
@@ -108,6 +108,7 @@ registers_find_forwards E m team g k q len b v j next ready late idle asks origi
       origin = origin ∙ ap (λ (w : Worker). Register w.done) (sym (there ready found));
       found = refl;
     })
+    (ap (λ (w : Worker). w.linking) (there ready found) ∙ still)
     points)))
   where
     found : Steps E m team g k None (record (team.worker k) { quest = Some (record q { found = Some b }) }) g
@@ -117,7 +118,7 @@ registers_find_forwards E m team g k q len b v j next ready late idle asks origi
     forgets_quest = refl
 
 pub registers_are_settled : RegistersAreSettled
-registers_are_settled E m team g k q b v j next ready idle has points from to clean after =
+registers_are_settled E m team g k q b v j next ready idle still has points from to clean after =
     goes_on_to (team.worker k) v j next ready has.register.late from to clean after
     (on ready cleared (λ w. forwarded w v) g
     (forwards_register E cleared.later (then ready cleared) g k q b v (is_ready ready cleared)
@@ -127,6 +128,7 @@ registers_are_settled E m team g k q b v j next ready idle has points from to cl
       origin = has.origin ∙ ap (λ (w : Worker). Register w.done) (sym (there ready cleared));
       found = has.found;
     })
+    (ap (λ (w : Worker). w.linking) (there ready cleared) ∙ still)
     points))
   where
     cleared : Steps E m team g k (Some (AnnounceIs k 0)) (team.worker k) g
@@ -145,8 +147,8 @@ looks_at_last_page E m team g k l p ready is next opened none =
     page = looks_at_page E m team g k l p ready is next opened
 
 pub rounds_end : RoundsEnd
-rounds_end E m team g k ready = steps_forget E m team g k None (team.worker k) (ends_round (team.worker k)) g (nothing_else_changes E m team g k ready) (rounds_are_forgotten (team.worker k))
+rounds_end E m team g k ready still = steps_forget E m team g k None (team.worker k) (ends_round (team.worker k)) g (nothing_else_changes E m team g k ready) (rounds_are_forgotten (team.worker k) still)
 
 pub claims_begin : ClaimsBegin
-claims_begin E m team g k p old ready may = steps_forget E m team g k None (claiming (team.worker k) (claim_by_word old p)) (claiming (ends_round (team.worker k)) (claim_by_word old p)) g (begins_claim E m team g k p old ready may)
-    (of_round (claiming (team.worker k) (claim_by_word old p)) (Some (claim_by_word old p)) None (λ _ e. e) (λ _ e. absurd (cc)))
+claims_begin E m team g k p old ready still may = steps_forget E m team g k None (claiming (team.worker k) (claim_by_word old p)) (claiming (ends_round (team.worker k)) (claim_by_word old p)) g (begins_claim E m team g k p old ready may)
+    (of_round (claiming (team.worker k) (claim_by_word old p)) (Some (claim_by_word old p)) None still (λ _ e. e) (λ _ e. absurd (cc)))

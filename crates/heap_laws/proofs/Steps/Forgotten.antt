@@ -2,7 +2,7 @@
 use Rattle.std.proofs.Common.{◌≡◌, Bool, false, Option, Some, None, is_some, refl, sym, ap, ◌∙◌, ⊎_elim, ℕ}
 use Rattle.heap_state.specs.Worker.{Worker, Scan, Round, Claim, Look, LastLook, GateStep, Reset, is_sized}
 use Rattle.heap_state.proofs.Puts.{some_same, none≢some}
-use Rattle.heap_laws.specs.Composing.{SameToOthers, LessAtHand, LessAtPages, LessAtGate, IsAtMost, IsLess, IsLessScan, SameScan, LessScan, IsLessRound, of_no_record, RoundsAreForgotten, TracedIsForgotten, ScannedRecordsAreForgotten, RoundFrontsAreForgotten, SizesAreForgotten}
+use Rattle.heap_laws.specs.Composing.{SameToOthers, LessAtHand, LessAtPages, LessAtGate, SameAtChain, IsAtMost, IsLess, IsLessScan, SameScan, LessScan, IsLessRound, of_no_record, RoundsAreForgotten, TracedIsForgotten, ScannedRecordsAreForgotten, RoundFrontsAreForgotten, SizesAreForgotten}
 
 module _ (w : Worker) where
   pub same_to_others : SameToOthers w w
@@ -20,14 +20,17 @@ module _ (w : Worker) where
   pub same_at_gate : LessAtGate w w
   same_at_gate = assumption
 
+  pub same_at_chain : SameAtChain w w
+  same_at_chain = assumption
+
 -- a worker that knows less of its scan
 pub of_scan : (w : Worker) (a b : Scan) → w.scan ≡ Some b → IsLessScan a b → IsAtMost (record w { scan = Some a }) w
-of_scan w a b has less = record { others = same_to_others w; scan = LessScan a b refl has less; hand = same_at_hand w; round = same_round w; pages = same_at_pages w; gate = same_at_gate w }
+of_scan w a b has less = record { others = same_to_others w; scan = LessScan a b refl has less; hand = same_at_hand w; round = same_round w; pages = same_at_pages w; gate = same_at_gate w; chain = same_at_chain w }
 
 -- of the gate
 of_gate : (w : Worker) (gate_step : Option GateStep) (reset : Option Reset) (seen : Bool) (size : Option ℕ) → LessAtGate (record w { gate_step = gate_step; reset = reset; traced_seen = seen; size_seen = size }) w
     → IsAtMost (record w { gate_step = gate_step; reset = reset; traced_seen = seen; size_seen = size }) w
-of_gate w gate_step reset seen size less = record { others = same_to_others w; scan = SameScan refl; hand = same_at_hand w; round = same_round w; pages = same_at_pages w; gate = less }
+of_gate w gate_step reset seen size less = record { others = same_to_others w; scan = SameScan refl; hand = same_at_hand w; round = same_round w; pages = same_at_pages w; gate = less; chain = same_at_chain w }
 
 -- ---- the cases
 
@@ -35,19 +38,20 @@ pub scanned_records_are_forgotten : ScannedRecordsAreForgotten
 scanned_records_are_forgotten w s has =
     of_scan w (of_no_record s) s has (record { page = refl; cursor = refl; in_place = refl; over = λ _ e. absurd (cc); headed = λ _ e. absurd (cc); current = λ _ e. absurd (cc); inner = λ e. e; ended = refl })
 
--- a round and its last look, and what is to be forgotten of its claim and its look
-pub of_round : (w : Worker) (claim : Option Claim) (look : Option Look) → IsLess claim w.claim → IsLess look w.look → IsAtMost (record w { round = None; claim = claim; look = look; last_look = None }) w
-of_round w claim look less_claim less_look = record {
+-- a round and its last look, and what is to be forgotten of its claim and its look, where the worker doesn't walk over the chain
+pub of_round : (w : Worker) (claim : Option Claim) (look : Option Look) → w.pass ≡ None → IsLess claim w.claim → IsLess look w.look → IsAtMost (record w { round = None; claim = claim; look = look; last_look = None }) w
+of_round w claim look still less_claim less_look = record {
   others = same_to_others w;
   scan = SameScan refl;
   hand = same_at_hand w;
   round = λ _ e. absurd (cc);
   pages = let no_look : (l : LastLook) → None ≡ Some l → w.last_look ≡ Some l = λ _ e. absurd (cc) in assumption (same_at_pages w);
   gate = same_at_gate w;
+  chain = record { linking = refl; pass = refl; walks = λ walks. absurd (let q = sym (ap is_some still) ∙ walks in cc) };
 }
 
 pub rounds_are_forgotten : RoundsAreForgotten
-rounds_are_forgotten w = of_round w None None (λ _ e. absurd (cc)) (λ _ e. absurd (cc))
+rounds_are_forgotten w still = of_round w None None still (λ _ e. absurd (cc)) (λ _ e. absurd (cc))
 
 -- that a round read FRONT
 pub round_fronts_are_forgotten : RoundFrontsAreForgotten
@@ -58,6 +62,7 @@ round_fronts_are_forgotten w r has = record {
   round = λ z e. record { more = r; is = has; traced = ap (λ (y : Round). y.traced) (sym (some_same e)); front = λ f y. absurd (let q = ap (λ (y : Round). y.front) (some_same e) in none≢some (q ∙ y)) };
   pages = same_at_pages w;
   gate = same_at_gate w;
+  chain = same_at_chain w;
 }
 
 -- that the epoch is traced

@@ -3,6 +3,7 @@ use Rattle.std.proofs.Common.{◌≡◌, ◌≢◌, ℕ, ◌<◌, Some, refl, sy
 use Rattle.std.proofs.lemmas.Bool.{cases_eq}
 use Rattle.plain_state.specs.State as plain
 use Rattle.space_map.specs.declared.page_word.PageWord.{PageWord}
+use Rattle.heap_state.specs.Invariant.Parts.Cells.{Cells}
 use Rattle.heap_state.specs.Memory.Era.{Era, Memory}
 use Rattle.heap_state.specs.Functions.{put}
 use Rattle.heap_state.specs.Invariant.Ghost.{Ghost}
@@ -14,7 +15,8 @@ use Rattle.heap_state.specs.Meaning.Values.{Shown}
 use Rattle.heap_state.specs.Worker.{Worker, Team, Copy, Scan, is_mutator}
 use Rattle.heap_state.proofs.Workers.Frames.{counted_put, staffed_put, stocks_put, numbered_put, accounts_put, registers_put, rooted_put}
 use Rattle.heap_state.proofs.Puts.{put_at, put_other, team_put}
-use Rattle.heap_laws.specs.Steps.{with_worker, NoRow, Steps, Preserves}
+use Rattle.heap_laws.specs.Steps.{with_worker, NoRow, SameInChain, Steps, Preserves}
+use Rattle.heap_laws.proofs.Cells.Kept.{same_keeps, still_in_chain}
 
 -- what is shown by the same words is shown by the team after the change
 pub shown_put : (E : Era) (m n : Memory) (team : Team) (g : Ghost) (k : ℕ) (w : Worker) (p : plain.Plain) → w.account ≡ (team.worker k).account → w.registers ≡ (team.worker k).registers → n.heap ≡ m.heap
@@ -45,7 +47,7 @@ scanned_on {E} {count} {page} worker k w on s = record {
     here j y p r e f = let z : (worker k).scan ≡ Some r = rw y at e in let t = on r z in (t.0, ap (λ u. u.scan) (put_at worker k w j y) ∙ t.1, t.2 ∙ f)
 
 -- w stands at the post of worker k in the same epoch, with the same account, registers and stock, and has forwarded as many registers
-pub record StandsAlike (worker : ℕ → Worker) (k : ℕ) (w : Worker) : Type 0 where
+pub record StandsThere (worker : ℕ → Worker) (k : ℕ) (w : Worker) : Type 0 where
   pub post : w.post ≡ (worker k).post
   pub epoch : w.epoch ≡ (worker k).epoch
   pub account : w.account ≡ (worker k).account
@@ -53,33 +55,68 @@ pub record StandsAlike (worker : ℕ → Worker) (k : ℕ) (w : Worker) : Type 0
   pub done : w.done ≡ (worker k).done
   pub stock : w.stock ≡ (worker k).stock
 
-module _ (E : Era) (m : Memory) (team : Team) (g : Ghost) (k : ℕ) (w : Worker) (inv : Invariant E m team g) (like : StandsAlike team.worker k w)
-    (on : (s : Scan) → (team.worker k).scan ≡ Some s → (t : Scan) × (w.scan ≡ Some t) × (t.page ≡ s.page)) where
+-- w stands so, and has the same part in the chain of copied cells
+pub record StandsAlike (worker : ℕ → Worker) (k : ℕ) (w : Worker) : Type 0 where
+  pub post : w.post ≡ (worker k).post
+  pub epoch : w.epoch ≡ (worker k).epoch
+  pub account : w.account ≡ (worker k).account
+  pub registers : w.registers ≡ (worker k).registers
+  pub done : w.done ≡ (worker k).done
+  pub stock : w.stock ≡ (worker k).stock
+  pub chain : SameInChain w (worker k)
+
+-- w scans the page that worker k scans, if it does
+abbrev pub ScansOn : (worker : ℕ → Worker) (k : ℕ) (w : Worker) → Type 0
+ScansOn worker k w = (s : Scan) → (worker k).scan ≡ Some s → (t : Scan) × (w.scan ≡ Some t) × (t.page ≡ s.page)
+
+-- the memory with other crossings and announced places, and with other words in WEAK and WEAKTURN
+abbrev pub marked : Memory → (crossed claimed : ℕ → ℕ) (weak turn : ℕ) → Memory
+marked m crossed claimed weak turn = record m { cross = crossed; announced = claimed; weak = weak; weak_turn = turn }
+
+module _ (E : Era) (m : Memory) (team : Team) (g : Ghost) (k : ℕ) (w : Worker) (inv : Invariant E m team g) (like : StandsThere team.worker k w) (on : ScansOn team.worker k w)
+    (crossed claimed : ℕ → ℕ) (weak turn : ℕ) (cells : Cells E (marked m crossed claimed weak turn) (with_worker team k w) g) (crossing : Crossing E m.front g.size g.writer crossed)
+    (others : (j : ℕ) (c : Copy) → j < team.count → j ≢ k → (team.worker j).copy ≡ Some c
+    → Copies E m.front g.size g.writer g.copy g.keeper g.kept claimed crossed m.heap j c)
+    (own : Knows E m.gate m.traced m.front m.low m.old_front m.old_low m.old_owed g m.page crossed claimed m.heap k w) where
+  knows : (j : ℕ) → j < team.count → j ≢ k → Knows E m.gate m.traced m.front m.low m.old_front m.old_low m.old_owed g m.page crossed claimed m.heap j (team.worker j)
+  knows j l d = let u = inv.workers j l in let c = λ (c : Copy) (e : (team.worker j).copy ≡ Some c). others j c l d e in assumption
+
+  kept : Invariant E (marked m crossed claimed weak turn) (with_worker team k w) g
+  kept =
+      let p1 = counted_put team.worker k w like.post like.epoch inv.counted in
+      let p2 = staffed_put team.worker k w (ap is_mutator like.post) inv.staffed in
+      let p3 = scanned_on team.worker k w on inv.scanned in
+      let p4 = stocks_put team.worker k w (λ q e. sym like.stock ∙ e) inv.stocks in
+      let p5 = numbered_put team.worker k w (ap (λ a. a.serial) like.account) inv.numbered in
+      let p6 = team_put team.count (Knows E m.gate m.traced m.front m.low m.old_front m.old_low m.old_owed g m.page crossed claimed m.heap) team.worker k w knows own in
+      assumption
+
+  pub marks_all : Preserves E m (marked m crossed claimed weak turn) team (with_worker team k w) g g
+  marks_all = record {
+    invariant = kept;
+    shown = λ p s. shown_put E m (marked m crossed claimed weak turn) team g k w p like.account like.registers refl s;
+    cycle = λ p c. record { copying = c.copying; rooted = rooted_put team.worker k w (ap is_mutator like.post) like.account like.registers (λ _ _ a b. (rw (like.post, like.epoch) a, rw like.done b)) c.rooted };
+    ages = λ p. omega arith;
+  }
+
+-- WEAK and WEAKTURN are others, where the cells are right
+pub links : (E : Era) (m : Memory) (team : Team) (g : Ghost) (k : ℕ) (w : Worker) → Invariant E m team g → StandsThere team.worker k w → ScansOn team.worker k w → (weak turn : ℕ)
+    → Cells E (record m { weak = weak; weak_turn = turn }) (with_worker team k w) g → Knows E m.gate m.traced m.front m.low m.old_front m.old_low m.old_owed g m.page m.cross m.announced m.heap k w
+    → Preserves E m (record m { weak = weak; weak_turn = turn }) team (with_worker team k w) g g
+links E m team g k w inv like on weak turn cells own = marks_all E m team g k w inv like on m.cross m.announced weak turn cells inv.crossing (λ j c l d e. (inv.workers j l).copy c e) own
+
+module _ (E : Era) (m : Memory) (team : Team) (g : Ghost) (k : ℕ) (w : Worker) (inv : Invariant E m team g) (like : StandsAlike team.worker k w) (on : ScansOn team.worker k w) where
   -- with other crossings and announced places
   module _ (crossed claimed : ℕ → ℕ) (crossing : Crossing E m.front g.size g.writer crossed)
       (others : (j : ℕ) (c : Copy) → j < team.count → j ≢ k → (team.worker j).copy ≡ Some c
       → Copies E m.front g.size g.writer g.copy g.keeper g.kept claimed crossed m.heap j c)
       (own : Knows E m.gate m.traced m.front m.low m.old_front m.old_low m.old_owed g m.page crossed claimed m.heap k w) where
-    knows : (j : ℕ) → j < team.count → j ≢ k → Knows E m.gate m.traced m.front m.low m.old_front m.old_low m.old_owed g m.page crossed claimed m.heap j (team.worker j)
-    knows j l d = let u = inv.workers j l in let c = λ (c : Copy) (e : (team.worker j).copy ≡ Some c). others j c l d e in assumption
-
-    kept : Invariant E (record m { cross = crossed; announced = claimed }) (with_worker team k w) g
-    kept =
-        let p1 = counted_put team.worker k w like.post like.epoch inv.counted in
-        let p2 = staffed_put team.worker k w (ap is_mutator like.post) inv.staffed in
-        let p3 = scanned_on team.worker k w on inv.scanned in
-        let p4 = stocks_put team.worker k w (λ q e. sym like.stock ∙ e) inv.stocks in
-        let p5 = numbered_put team.worker k w (ap (λ a. a.serial) like.account) inv.numbered in
-        let p6 = team_put team.count (Knows E m.gate m.traced m.front m.low m.old_front m.old_low m.old_owed g m.page crossed claimed m.heap) team.worker k w knows own in
-        assumption
+    cells_kept : Cells E (record m { cross = crossed; announced = claimed }) (with_worker team k w) g
+    cells_kept = same_keeps E m (record m { cross = crossed; announced = claimed }) team g g k w (assumption) (assumption) (assumption)
+        (still_in_chain E w (team.worker k) like.post like.epoch (λ s e. let t = on s e in (t.0, t.1)) like.chain) inv.cells
 
     pub marks : Preserves E m (record m { cross = crossed; announced = claimed }) team (with_worker team k w) g g
-    marks = record {
-      invariant = kept;
-      shown = λ p s. shown_put E m (record m { cross = crossed; announced = claimed }) team g k w p like.account like.registers refl s;
-      cycle = λ p c. record { copying = c.copying; rooted = rooted_put team.worker k w (ap is_mutator like.post) like.account like.registers (λ _ _ a b. (rw (like.post, like.epoch) a, rw like.done b)) c.rooted };
-      ages = λ p. omega arith;
-    }
+    marks = marks_all E m team g k w inv (assumption (like)) on crossed claimed m.weak m.weak_turn cells_kept crossing others own
 
   pub learns : Knows E m.gate m.traced m.front m.low m.old_front m.old_low m.old_owed g m.page m.cross m.announced m.heap k w → Preserves E m m team (with_worker team k w) g g
   learns own = marks m.cross m.announced inv.crossing (λ j c l d e. (inv.workers j l).copy c e) own

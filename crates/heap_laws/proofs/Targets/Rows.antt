@@ -9,7 +9,7 @@ use Rattle.heap_state.specs.Targets.{IsCell, Targets}
 use Rattle.heap_state.specs.Worker.{Team}
 use Rattle.heap_state.proofs.Puts.{put_other}
 use Rattle.heap_laws.specs.Cells.Frames.{SameCells}
-use Rattle.heap_laws.specs.Steps.{Ready, WritesRow, Beside}
+use Rattle.heap_laws.specs.Steps.{Ready, WritesRow, InWeak, InWeakTurn, Beside}
 use Rattle.heap_laws.specs.Targets.Frames.{IsNoTargetRow, WordsAreNoTargets, UnreadRowsCarryTargets, UnreadWordsCarryTargets, NoTargetWords}
 use Rattle.heap_laws.proofs.Cells.Rows.{SameMemory, SameWords, same, unread, StoresWord, stores_word}
 use Rattle.heap_laws.proofs.Frames.Values.{one_place}
@@ -19,6 +19,8 @@ use Rattle.heap_laws.proofs.Targets.Carried.{carried, cell_of}
 -- ---- rows
 
 unread_by_targets : {E : Era} {m : Memory} {e : Option Entry} {later : Memory} → WritesRow E m e later → IsNoTargetRow E e → SameWords m later
+unread_by_targets (InWeak word small) none = record { memory = record { traced = refl; front = refl }; low = refl; heap = refl }
+unread_by_targets (InWeakTurn word) none = record { memory = record { traced = refl; front = refl }; low = refl; heap = refl }
 unread_by_targets {m = m} (Beside e beside) none = same m
 unread_by_targets writes none = unread writes none
 
@@ -27,7 +29,7 @@ module _ (E : Era) (m later : Memory) (g h : Ghost) (cells : SameCells g h) (mem
   gone : (a : ℕ) → IsCell h a → IsCell g a
   gone a c = record { stands = rw (← cells.size) c.stands; written = rw (← cells.writer) c.written; weak = rw (← cells.kind) c.weak }
 
-  by_targets : ((a : ℕ) → IsCell g a → later.heap (a + 1) ≡ m.heap (a + 1)) → Targets E later h
+  pub by_targets : ((a : ℕ) → IsCell g a → later.heap (a + 1) ≡ m.heap (a + 1)) → Targets E later h
   by_targets words = carried E m later g h (record {
     traced = memory.traced;
     front = let f = memory.front in omega (arith, f);

@@ -2,7 +2,7 @@
 use Rattle.std.proofs.Common.{◌≡◌, ◌≢◌, ℕ, ◌+◌, ◌-◌, ◌<◌, ◌≤◌, false, Some, refl, sym, ap, ◌∙◌, arith, ⊎_elim, inl, inr}
 use Rattle.std.proofs.lemmas.Bool.{cases_eq, cases_lt}
 use Rattle.heap_words.specs.Decoded.{PointerWord, decode}
-use Rattle.heap_state.specs.Cells.{Ranks, IsCopiedCell, Visits, Passing, Chain}
+use Rattle.heap_state.specs.Cells.{Ranks, IsCopiedCell, TargetsOld, ReplacesTarget, Visits, Passing, Chain}
 use Rattle.heap_state.specs.Memory.Era.{Era, Memory}
 use Rattle.heap_state.specs.Invariant.Ghost.{Ghost, Lands}
 use Rattle.heap_state.specs.Targets.{Targets}
@@ -51,7 +51,7 @@ module _ (E : Era) (m : Memory) (weak turn : ℕ) (team : Team) (g : Ghost) (r :
         let l = landed g.size g.writer (m.heap (v.cell + 1)) b (t.lands v.cell (cell_of E m.front g v.cell cell) cell.inside.0 in_space) e in
         let o = ready.invariant.laid.order in
         ⊎_elim
-        (λ old. inr (b, e, l.0, old.0, old.1, refl))
+        (λ old. inr (b, (e, l.0, old.0, old.1), refl))
         (λ i. absurd (omega (arith, i, out, o)))
         (t.aims v.cell b cell e);
   }
@@ -61,8 +61,8 @@ targets_are_found E m weak turn team g r k v ready has chain t = found E m weak 
 
 -- ---- its target is replaced
 
-module _ (E : Era) (m later : Memory) (weak turn : ℕ) (team : Team) (g : Ghost) (r : Ranks) (k : ℕ) (v : Visit) (b x : ℕ) (ready : Ready E m team g k) (has : (team.worker k).pass ≡ Some (At v)) (before : v.past ≡ false)
-    (leads : v.old ≡ Some b) (word : v.word ≡ Some x) (s : StoresWord m later (v.cell + 1) x) (chain : Chain E m weak turn team g r) (t : Targets E m g) where
+module _ (E : Era) (m later : Memory) (weak turn : ℕ) (team : Team) (g : Ghost) (r : Ranks) (k : ℕ) (v : Visit) (x : ℕ) (ready : Ready E m team g k) (has : (team.worker k).pass ≡ Some (At v)) (before : v.past ≡ false)
+    (word : v.word ≡ Some x) (s : StoresWord m later (v.cell + 1) x) (chain : Chain E m weak turn team g r) (t : Targets E m g) where
   here : Visits E m g r v
   here = visited E m weak turn team g r k v ready has chain
 
@@ -72,17 +72,21 @@ module _ (E : Era) (m later : Memory) (weak turn : ℕ) (team : Team) (g : Ghost
   untraced : m.traced ≤ E.epoch
   untraced = (passing E m weak turn team g r k v ready has chain).now.1
 
+  -- the target leads to an old record, for which the word stands
+  was_old : (b : ℕ) × TargetsOld E m g v.cell b × ReplacesTarget g b x
+  was_old = here.word x before word
+
   -- a pointer is one to a copy
   copy_at : (d : ℕ) → decode x ≡ PointerWord d → (0 < g.size d) × (E.start ≤ d) × (d < m.front)
   copy_at d e = ⊎_elim
       (λ z.
-      let o = here.old b before leads in
-      let c = ready.invariant.copied.target b z.0 o.1 z.1 in
+      let o = was_old.1 in
+      let c = ready.invariant.copied.target was_old.0 z.0 o.1 z.1 in
       let same : d ≡ z.0 = pointer_same x d z.0 e z.2 in
       let st = o.1 in
       (omega (arith, same, c.4, st, ap g.size same), omega (arith, same, c.2), omega (arith, same, c.3)))
       (λ z. absurd (let f = sym e ∙ z.1 in cc))
-      (here.word b x before leads word)
+      was_old.2
 
   lands : Lands g.size g.writer x
   lands = lands_at g.size g.writer x (λ d e. let c = copy_at d e in (c.0, none_writes E m weak turn team g r k v ready has chain d c.0))
@@ -121,8 +125,8 @@ module _ (E : Era) (m later : Memory) (weak turn : ℕ) (team : Team) (g : Ghost
   }
 
 pub replacing_carries_targets : ReplacingCarriesTargets
-replacing_carries_targets E m later weak turn team g r k v b x ready has before leads word writes chain t =
-    replaces E m later weak turn team g r k v b x ready has before leads word (stores_word writes refl) chain t
+replacing_carries_targets E m later weak turn team g r k v x ready has before word writes chain t =
+    replaces E m later weak turn team g r k v x ready has before word (stores_word writes refl) chain t
 
 -- ---- TRACED
 
@@ -131,7 +135,7 @@ module _ (E : Era) (m : Memory) (weak turn : ℕ) (team : Team) (g : Ghost) (r :
   now = (chain.pass k Done ready.member has).now.0
 
   all : IsWalked E m g
-  all = walked E m weak turn team g r k ready has chain
+  all = walked E m weak turn team g r k Done ready has chain refl
 
   pub traces : Targets E (with_traced m ((team.worker k).epoch + 1)) g
   traces = record {

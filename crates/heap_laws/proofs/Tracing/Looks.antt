@@ -1,5 +1,5 @@
 -- The loads of a round and of the look at the end of the area.
-use Rattle.std.proofs.Common.{◌≡◌, ◌≢◌, ℕ, ◌+◌, ◌*◌, ◌/◌, ◌<◌, ◌≤◌, true, Some, None, refl, sym, ◌∙◌, arith, ⊎_elim, inl, inr}
+use Rattle.std.proofs.Common.{◌≡◌, ◌≢◌, ℕ, ◌+◌, ◌*◌, ◌/◌, ◌<◌, ◌≤◌, true, Some, None, is_some, refl, sym, ap, ◌∙◌, arith, ⊎_elim, inl, inr}
 use Rattle.std.proofs.lemmas.Bool.{cases_eq}
 use Rattle.space_map.specs.declared.page_word.PageWord.{PageWord}
 use Rattle.space_map.specs.PageWord.{age_of}
@@ -157,11 +157,12 @@ module _ (E : Era) (m : Memory) (team : Team) (g : Ghost) (k : ℕ) (l : Look) (
   }
 
 pub looks_again : LookingAgainKeeps
-looks_again E m team g k l ready again filled =
+looks_again E m team g k l ready still again filled =
     let inv = ready.invariant in
     let me = inv.workers k ready.member in
     learnt (learns E m team g k (about_to_trace (team.worker k) l) inv
-    (assumption) (λ s e. (s, e, refl))
+    (let look : is_some (team.worker k).pass ≡ true → Some (record { traced = l.traced }) ≡ (team.worker k).last_look = λ walks. absurd (let q = sym (ap is_some still) ∙ walks in cc) in assumption)
+    (λ s e. (s, e, refl))
     (let c : (q : LastLook) → Some (record { traced = l.traced }) ≡ Some q → LastLooks E m.traced m.gate.behind m.front m.page (team.worker k).epoch q = λ q e. rw (← some_same e) (looks_last E m team g k l inv ready.member again filled) in
     let none : (q : Look) → None ≡ Some q → Looks E m.gate.behind m.front m.page (team.worker k).epoch q = λ q e. none≢some e in
     assumption))

@@ -1,7 +1,8 @@
 -- TRACED is exchanged, and what holds then.
-use Rattle.std.proofs.Common.{◌≡◌, ◌≢◌, ℕ, ◌+◌, ◌*◌, ◌/◌, ◌<◌, ◌≤◌, true, Some, None, refl, arith, ⊎_elim, ◌⊎◌, subst, sym}
+use Rattle.std.proofs.Common.{◌≡◌, ◌≢◌, ℕ, ◌+◌, ◌*◌, ◌/◌, ◌<◌, ◌≤◌, true, Some, None, is_some, refl, ap, arith, ⊎_elim, ◌⊎◌, subst, sym}
 use Rattle.std.proofs.lemmas.Bool.{cases_lt}
 use Rattle.space_map.specs.declared.page_word.PageWord.TheVariants.{Open}
+use Rattle.heap_state.specs.Invariant.Parts.Cells.{Cells}
 use Rattle.heap_state.specs.Memory.Era.{Era, Memory, IsLaidOut}
 use Rattle.heap_state.specs.Invariant.Ghost.{Ghost, Here, Leads}
 use Rattle.heap_state.specs.Invariant.Inductive.{Invariant, Knows}
@@ -13,10 +14,13 @@ use Rattle.heap_state.specs.Worker.{Worker, Team, Copy, Scan, Round, LastLook, i
 use Rattle.heap_state.proofs.Workers.Frames.{counted_put, staffed_put, scanned_put, stocks_put, numbered_put, rooted_put}
 use Rattle.heap_state.proofs.Puts.{team_put, none≢some}
 use Rattle.heap_state.specs.Memory.Entries.{TracedIs}
-use Rattle.heap_laws.specs.Steps.{with_worker, Ready, Steps, InTraced, with_traced}
+use Rattle.heap_laws.specs.Steps.{with_worker, Ready, Steps, WritesRow, InTraced, with_traced}
 use Rattle.heap_laws.specs.Tracing.{WinsTraced, has_traced, Traces, SleeperLosesTraced, NothingLeads}
+use Rattle.heap_laws.proofs.Cells.Kept.{of_chain}
+use Rattle.heap_laws.proofs.Cells.Turned.{tracing_carries_chain}
 use Rattle.heap_laws.proofs.Steps.Learning.{shown_put}
 use Rattle.heap_laws.proofs.Scanning.Scanners.{open_scan, scans_last, copies_last, none_writes, here_lies}
+use Rattle.heap_laws.proofs.Targets.Walked.{tracing_carries_targets}
 
 pub sleeper_loses_traced : SleeperLosesTraced
 sleeper_loses_traced E m team g k l ready looks past won = let o = (ready.invariant.workers k ready.member).pages.last_look l looks in let a = o.late past in let b = o.earlier in omega (arith, a, b, won)
@@ -68,6 +72,13 @@ module _ (E : Era) (m : Memory) (team : Team) (g : Ghost) (k : ℕ) (l : LastLoo
       let c : (team.worker k).traced_seen ≡ true → ((is_running (team.worker k).post ≡ true) ⊎ (is_asking (team.worker k).post ≡ true)) × (E.epoch + 1 ≡ E.epoch + 1) = λ e. ((u.seen_traced e).0, refl) in
       assumption
 
+  cells : Cells E (with_traced m (E.epoch + 1)) (with_worker team k w') g
+  cells =
+      let writes : WritesRow E m (Some (TracedIs ((team.worker k).epoch + 1))) (with_traced m (E.epoch + 1)) = rw of_now (InTraced (E.epoch + 1)) in
+      of_chain {m = m} (assumption)
+      (tracing_carries_chain E m (with_traced m (E.epoch + 1)) m.weak m.weak_turn team g inv.cells.ranks k w' ready (ap is_some wins.walked) refl refl refl writes inv.cells.chain)
+      (tracing_carries_targets E m (with_traced m (E.epoch + 1)) m.weak m.weak_turn team g inv.cells.ranks k ready wins.walked writes inv.cells.chain inv.cells.targets)
+
   invariant : Invariant E (with_traced m (E.epoch + 1)) (with_worker team k w') g
   invariant =
       let p1 = counted_put team.worker k w' refl refl inv.counted in
@@ -78,7 +89,8 @@ module _ (E : Era) (m : Memory) (team : Team) (g : Ghost) (k : ℕ) (l : LastLoo
       let p6 : OldSpace E (E.epoch + 1) m.old_front m.old_low g.size m.heap m.page = record { walks = λ y. absurd (omega (arith, y)) } in
       let p7 = stocks_put team.worker k w' (λ _ e. e) inv.stocks in
       let p8 = numbered_put team.worker k w' refl inv.numbered in
-      let p9 = team_put team.count KnowsNow team.worker k w' others own in
+      let p9 = cells in
+      let p10 = team_put team.count KnowsNow team.worker k w' others own in
       assumption
 
   pub traces : Traces E m team g k

@@ -1,41 +1,24 @@
 -- The chain of copied cells: what each kind of step keeps of it.
 use Rattle.std.specs.Prelude.{◌≡◌, ◌≢◌, ℕ, ◌+◌, ◌<◌, ◌≤◌, ⊤, true, Option, Some, None, is_some}
-use Rattle.plain_state.specs.State.{Plain}
 use Rattle.plain_state.specs.declared.kind.Kind.TheVariants.{Weak}
 use Rattle.space_map.specs.declared.area_word.AreaWord.{AreaWord}
 use Rattle.space_map.specs.Spaces.{to_space}
-use Rattle.heap_state.specs.Cells.{Ranks, IsCopiedCell, MayCopy, HasWalker, Chain}
+use Rattle.heap_state.specs.Cells.{Ranks, IsCopiedCell, MayCopy, KnowsCopy, HasWalker, Chain}
 use Rattle.heap_state.specs.Memory.Entries.{Entry, GateIs, AreaIs, PageIs, CrossIs, WordIs, AnnounceIs, SnapIs, DoneIs, SaveIs, ImageIs}
 use Rattle.heap_state.specs.Memory.Era.{Era, Memory, from_space}
 use Rattle.heap_state.specs.Invariant.Ghost.{Ghost}
-use Rattle.heap_state.specs.Worker.{Worker, Team, Linking, Pass, is_cleared}
-use Rattle.heap_laws.specs.Steps.{Ready, WritesRow, Steps, StepsTo, with_worker}
-
--- ---- a worker's own part
-
--- the worker with this cell to link and this walk
-abbrev pub in_chain : Worker → Option Linking → Option Pass → Worker
-in_chain w l q = record w { linking = l; pass = q }
-
--- the invariant reads nothing of the cell to link and of the walk: after a step the worker may have any
-abbrev pub ChainPartsAreFree : Type 0
-ChainPartsAreFree = (E : Era) (m : Memory) (team : Team) (g : Ghost) (k : ℕ) (e : Option Entry) (w : Worker) (h : Ghost) (l : Option Linking) (q : Option Pass)
-    → Steps E m team g k e w h → Steps E m team g k e (in_chain w l q) h
-
--- the same after a step of the plain machine
-abbrev pub PlainChainPartsAreFree : Type 0
-PlainChainPartsAreFree = (E : Era) (m : Memory) (team : Team) (g : Ghost) (k : ℕ) (e : Option Entry) (w : Worker) (h : Ghost) (p : Plain) (l : Option Linking) (q : Option Pass)
-    → StepsTo E m team g k e w h p → StepsTo E m team g k e (in_chain w l q) h p
+use Rattle.heap_state.specs.Worker.{Worker, Team, is_cleared}
+use Rattle.heap_laws.specs.Steps.{Ready, WritesRow, with_worker}
 
 -- ---- what the chain reads
 
--- The worker w has the cell to link and the walk of u. If it has a cell to link it may still copy, and if it walks it is of the same
+-- The worker w has the cell to link and the walk of u. If it has a cell to link, it may still copy and has found the copy that it asks for, and if it walks it is of the same
 -- epoch and knows the same of its second look.
 pub record GoesOnInChain (E : Era) (w u : Worker) : Type 0 where
   pub linking : w.linking ≡ u.linking
   pub pass : w.pass ≡ u.pass
   pub cleared : is_cleared w.reset ≡ true → is_cleared u.reset ≡ true
-  pub licence : is_some u.linking ≡ true → MayCopy E u → MayCopy E w
+  pub licence : is_some u.linking ≡ true → KnowsCopy u → MayCopy E u → MayCopy E w × KnowsCopy w
   pub look : is_some u.pass ≡ true → (w.epoch ≡ u.epoch) × (w.last_look ≡ u.last_look)
 
 -- the same records stand and are written, of the same kinds and with the same copies

@@ -1,15 +1,15 @@
 -- The chain of copied cells grows: a copy of a cell is published, its link is stored, and WEAK is exchanged.
-use Rattle.std.specs.Prelude.{◌≡◌, ℕ, ◌+◌, ◌⊎◌, true, false, Some, None}
+use Rattle.std.specs.Prelude.{◌≡◌, ℕ, ◌+◌, true, false, Some, None}
 use Rattle.space_map.specs.declared.area_word.AreaWord.{AreaWord}
 use Rattle.space_map.specs.Spaces.{to_space}
-use Rattle.heap_state.specs.Cells.{Ranks, Chain}
+use Rattle.heap_state.specs.Cells.{Ranks, KnowsCopy, Chain}
 use Rattle.heap_state.specs.Functions.{put}
 use Rattle.heap_state.specs.Memory.Entries.{WordIs, AreaIs, WeakIs}
 use Rattle.heap_state.specs.Memory.Era.{Era, Memory}
 use Rattle.heap_state.specs.Invariant.Ghost.{Ghost}
 use Rattle.heap_state.specs.Worker.{Worker, Team, Linking, Copy}
 use Rattle.heap_laws.specs.Cells.Frames.{GoesOnInChain}
-use Rattle.heap_laws.specs.Copying.{KeepsCell, published, reserved, moved_by}
+use Rattle.heap_laws.specs.Copying.{LinksCopy, published, reserved, moved_by}
 use Rattle.heap_laws.specs.Steps.{Ready, WritesRow, IsAreaNow, with_worker}
 
 -- but for the cell to link, the chain reads of worker w what it reads of u
@@ -17,6 +17,7 @@ pub record SameBesideLinking (w u : Worker) : Type 0 where
   pub post : w.post ≡ u.post
   pub epoch : w.epoch ≡ u.epoch
   pub scan : w.scan ≡ u.scan
+  pub asked : KnowsCopy u → KnowsCopy w
   pub last_look : w.last_look ≡ u.last_look
   pub reset : w.reset ≡ u.reset
   pub pass : w.pass ≡ u.pass
@@ -30,15 +31,11 @@ ReservationsCarryChain = (E : Era) (m later : Memory) (weak turn : ℕ) (team : 
     → WritesRow E m (Some (AreaIs (to_space E.epoch) (moved_by c.size area))) later → GoesOnInChain E w (team.worker k)
     → Chain E m weak turn team g r → Chain E later weak turn (with_worker team k w) (reserved g k c.from c.to c.size) r
 
--- who has published a copy has it to link if it is a cell
-abbrev pub HasCopyToLink : Copy → Worker → Type 0
-HasCopyToLink c w = (KeepsCell c × (w.linking ≡ Some (record { cell = c.to; read = None; stored = false }))) ⊎ (¬ (KeepsCell c) × (w.linking ≡ None))
-
 -- the forward is stored, by a worker that had no cell to link
 abbrev pub PublishingCarriesChain : Type 0
 PublishingCarriesChain = (E : Era) (m later : Memory) (weak turn : ℕ) (team : Team) (g : Ghost) (r : Ranks) (k : ℕ) (c : Copy) (v : ℕ) (w : Worker) → Ready E m team g k
     → (team.worker k).copy ≡ Some c → c.reserved ≡ true → (team.worker k).linking ≡ None → WritesRow E m (Some (WordIs c.from v)) later
-    → HasCopyToLink c w → SameBesideLinking w (team.worker k)
+    → LinksCopy c w.linking → KnowsCopy w → SameBesideLinking w (team.worker k)
     → Chain E m weak turn team g r → Chain E later weak turn (with_worker team k w) (published g k c.from c.to) r
 
 -- ---- the link

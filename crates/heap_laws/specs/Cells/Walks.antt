@@ -1,8 +1,8 @@
 -- The walk over the chain of copied cells: the turn is taken, each target is looked at and replaced, and TRACED is exchanged.
-use Rattle.std.specs.Prelude.{◌≡◌, ℕ, ◌+◌, ◌-◌, ◌*◌, ◌<◌, ◌≤◌, ◌⊎◌, true, false, Some, None}
+use Rattle.std.specs.Prelude.{◌≡◌, ℕ, ◌+◌, ◌-◌, ◌*◌, ◌<◌, ◌≤◌, ◌⊎◌, true, false, Some, None, is_some}
 use Rattle.heap_words.specs.declared.kind.Kind.{Kind as HeaderKind}
 use Rattle.heap_words.specs.Decoded.{NumberWord, PointerWord, HeaderWord, ForwardWord, decode}
-use Rattle.heap_state.specs.Cells.{Ranks, IsCopiedCell, ReplacesTarget, Chain}
+use Rattle.heap_state.specs.Cells.{Ranks, KnowsCopy, IsCopiedCell, TargetsOld, ReplacesTarget, Chain}
 use Rattle.heap_state.specs.Memory.Entries.{WordIs, TracedIs, WeakTurnIs}
 use Rattle.heap_state.specs.Memory.Era.{Era, Memory}
 use Rattle.heap_state.specs.Invariant.Ghost.{Ghost, Leads}
@@ -14,6 +14,7 @@ pub record SameBesidePass (w u : Worker) : Type 0 where
   pub post : w.post ≡ u.post
   pub epoch : w.epoch ≡ u.epoch
   pub scan : w.scan ≡ u.scan
+  pub asked : KnowsCopy u → KnowsCopy w
   pub last_look : w.last_look ≡ u.last_look
   pub reset : w.reset ≡ u.reset
   pub linking : w.linking ≡ u.linking
@@ -57,10 +58,18 @@ GoingOnCarriesChain = (E : Era) (m later : Memory) (weak turn : ℕ) (team : Tea
 
 -- ---- a cell's target
 
+-- a cell whose target the walk has done with
+abbrev pub passed : Visit → Visit
+passed v = record v { old = None; word = None; past = true }
+
+-- one whose target this word is to replace
+abbrev pub replacing : Visit → (word : ℕ) → Visit
+replacing v word = record v { old = None; word = Some word }
+
 -- what the walk knows of a target once it is loaded: that it doesn't lead into the old space, or where it leads there
 abbrev pub FindsTarget : Era → Memory → Ghost → (v u : Visit) → Type 0
-FindsTarget E m g v u = (¬ (Leads E (m.heap (v.cell + 1))) × (u ≡ record v { past = true }))
-    ⊎ ((b : ℕ) × (decode (m.heap (v.cell + 1)) ≡ PointerWord b) × (0 < g.size b) × (E.old_start ≤ b) × (b < E.old_start + E.old_span) × (u ≡ record v { old = Some b; word = None }))
+FindsTarget E m g v u = (¬ (Leads E (m.heap (v.cell + 1))) × (u ≡ passed v))
+    ⊎ ((b : ℕ) × TargetsOld E m g v.cell b × (u ≡ record v { old = Some b; word = None }))
 
 -- the target is loaded
 abbrev pub FindingTargetCarriesChain : Type 0
@@ -79,13 +88,13 @@ HeadersReplaceTargets = (E : Era) (m : Memory) (team : Team) (g : Ghost) (k b : 
 -- that word is known
 abbrev pub FindingWordCarriesChain : Type 0
 FindingWordCarriesChain = (E : Era) (m later : Memory) (weak turn : ℕ) (team : Team) (g : Ghost) (r : Ranks) (k : ℕ) (v : Visit) (b x : ℕ) (w : Worker) → k < team.count
-    → (team.worker k).pass ≡ Some (At v) → v.past ≡ false → v.old ≡ Some b → ReplacesTarget g b x → w.pass ≡ Some (At (record v { word = Some x })) → WritesRow E m None later → SameBesidePass w (team.worker k)
+    → (team.worker k).pass ≡ Some (At v) → v.past ≡ false → v.old ≡ Some b → ReplacesTarget g b x → w.pass ≡ Some (At (replacing v x)) → WritesRow E m None later → SameBesidePass w (team.worker k)
     → Chain E m weak turn team g r → Chain E later weak turn (with_worker team k w) g r
 
 -- it is stored as the target
 abbrev pub ReplacingTargetCarriesChain : Type 0
-ReplacingTargetCarriesChain = (E : Era) (m later : Memory) (weak turn : ℕ) (team : Team) (g : Ghost) (r : Ranks) (k : ℕ) (v : Visit) (b x : ℕ) (w : Worker) → Ready E m team g k
-    → (team.worker k).pass ≡ Some (At v) → v.past ≡ false → v.old ≡ Some b → v.word ≡ Some x → w.pass ≡ Some (At (record v { past = true }))
+ReplacingTargetCarriesChain = (E : Era) (m later : Memory) (weak turn : ℕ) (team : Team) (g : Ghost) (r : Ranks) (k : ℕ) (v : Visit) (x : ℕ) (w : Worker) → Ready E m team g k
+    → (team.worker k).pass ≡ Some (At v) → v.past ≡ false → v.word ≡ Some x → w.pass ≡ Some (At (passed v))
     → WritesRow E m (Some (WordIs (v.cell + 1) x)) later → SameBesidePass w (team.worker k)
     → Chain E m weak turn team g r → Chain E later weak turn (with_worker team k w) g r
 
@@ -98,9 +107,9 @@ pub record IsWalked (E : Era) (m : Memory) (g : Ghost) : Type 0 where
 abbrev pub WalkIsDone : Type 0
 WalkIsDone = (E : Era) (m : Memory) (weak turn : ℕ) (team : Team) (g : Ghost) (r : Ranks) (k : ℕ) → Ready E m team g k → (team.worker k).pass ≡ Some Done → Chain E m weak turn team g r → IsWalked E m g
 
--- the exchange of TRACED is won
+-- the exchange of TRACED is won, by who has the turn
 abbrev pub TracingCarriesChain : Type 0
 TracingCarriesChain = (E : Era) (m later : Memory) (weak turn : ℕ) (team : Team) (g : Ghost) (r : Ranks) (k : ℕ) (w : Worker) → Ready E m team g k
-    → (team.worker k).pass ≡ Some Done → w.pass ≡ None → w.linking ≡ (team.worker k).linking → w.reset ≡ (team.worker k).reset
+    → is_some (team.worker k).pass ≡ true → w.pass ≡ None → w.linking ≡ (team.worker k).linking → w.reset ≡ (team.worker k).reset
     → WritesRow E m (Some (TracedIs ((team.worker k).epoch + 1))) later
     → Chain E m weak turn team g r → Chain E later weak turn (with_worker team k w) g r

@@ -8,7 +8,7 @@ use Rattle.heap_state.specs.Invariant.Ghost.{Ghost, Leads, Lands}
 use Rattle.heap_state.specs.Invariant.Parts.Knowledge.{Accesses}
 use Rattle.heap_state.specs.Meaning.Values.{value_of}
 use Rattle.heap_state.specs.Worker.{Worker, Stock, Access, Round, Reset, Account, Team}
-use Rattle.heap_laws.specs.Composing.{LessAtPages}
+use Rattle.heap_laws.specs.Composing.{LessAtPages, SameAtChain}
 use Rattle.heap_laws.specs.Steps.{Ready}
 use Rattle.space_map.specs.declared.spaces.TheConstants.{PAGE_WORDS}
 
@@ -26,7 +26,7 @@ pub record HoldsValue (E : Era) (g : Ghost) (w : ℕ) (y : Value) : Type 0 where
 abbrev pub SameWords : Type 0
 SameWords = (E : Era) (m : Memory) (team : Team) (g : Ghost) (k v w : ℕ) (x y : Value) → Ready E m team g k → HoldsValue E g v x → HoldsValue E g w y → (v ≡ w) ↔ (x ≡ y)
 
--- Mutator w goes on as `next`. It stands where it stood, and copies and scans what it did. What it knows it knew before, but
+-- Mutator w goes on as `next`. It stands where it stood, and copies, links and scans what it did. What it knows it knew before, but
 -- for its access, a page found open, whether the epoch is traced and its space's size, of which what it says is so. Its registers hold what a mutator may
 -- hold, as long as it has no end.
 pub record MutatorGoesOn (E : Era) (m : Memory) (g : Ghost) (w next : Worker) : Type 0 where
@@ -37,6 +37,7 @@ pub record MutatorGoesOn (E : Era) (m : Memory) (g : Ghost) (w next : Worker) : 
   pub quest : next.quest ≡ w.quest
   pub copy : next.copy ≡ w.copy
   pub scan : next.scan ≡ w.scan
+  pub chain : SameAtChain next w
   pub gate_step : next.gate_step ≡ None
   pub stock : (q : Stock) → next.stock ≡ Some q → w.stock ≡ Some q
   pub round : (r : Round) → next.round ≡ Some r → w.round ≡ Some r

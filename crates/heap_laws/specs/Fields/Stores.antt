@@ -7,6 +7,7 @@ use Rattle.plain_state.specs.declared.end.End.{End}
 use Rattle.plain_state.specs.declared.end.End.TheVariants.{HeapFull}
 use Rattle.plain_state.specs.declared.value.Value.TheVariants.{Reference}
 use Rattle.plain_state.specs.declared.kind.Kind.{Kind}
+use Rattle.plain_state.specs.declared.kind.Kind.TheVariants.{Weak}
 use Rattle.plain_state.specs.declared.value.Value.{Value}
 use Rattle.plain_state.specs.State as plain
 use Rattle.plain_state.specs.Writing.{with_heap, stored, with_board, gained, took}
@@ -46,10 +47,10 @@ MutatorsStep = (E : Era) (m : Memory) (team : Team) (g : Ghost) (p : plain.Plain
     → is_running (team.worker k).post ≡ true → Shown E m team g p → MutatorGoesOn E m g (team.worker k) next → IsAs g p.heap k next q
     → StepsTo E m team g k None next g (with_mutator p k q)
 
--- a store in a word of a record, whose page is open: the plain heap changes at that word
+-- a store in a word of a record that is no cell, and whose page is open: the plain heap changes at that word
 abbrev pub MutatorsStore : Type 0
 MutatorsStore = (E : Era) (m : Memory) (team : Team) (g : Ghost) (p : plain.Plain) (k : ℕ) (next : Worker) (q : plain.Mutator) (a x v : ℕ) (r : plain.Record) (y : Value)
-    → Ready E m team g k → is_running (team.worker k).post ≡ true → Shown E m team g p
+    → Ready E m team g k → is_running (team.worker k).post ≡ true → Shown E m team g p → ¬ (g.kind a ≡ Weak)
     → IsWordOf E g.size g.writer g.kind a x → m.page (page_of (a + word_of_value (g.kind a) x)) ≡ Open E.epoch → MayStore E g.size g.writer (g.kind a) x v
     → plain.record_of p.heap (g.identity a) ≡ Some r → StandsFor g (g.kind a) x v y
     → MutatorGoesOn E m g (team.worker k) next → IsAs g p.heap k next q
@@ -85,10 +86,10 @@ plain_next heap k = record { mutator = k; serial = plain.serial_of heap k + 1 }
 abbrev pub with_reference : plain.Heap → ℕ → plain.Mutator → ℕ → plain.Mutator
 with_reference heap k q d = record q { registers = slice_set q.registers d (Reference (plain_next heap k)) }
 
--- the store of a new record's header: the plain heap gains the record that the words behind it show
+-- the store of a new record's header, of three words if it is a cell: the plain heap gains the record that the words behind it show
 abbrev pub MutatorsPlace : Type 0
 MutatorsPlace = (E : Era) (m : Memory) (team : Team) (g : Ghost) (p : plain.Plain) (k : ℕ) (next : Worker) (q : plain.Mutator) (s : Stock) (c : Kind) (z v d pointer : ℕ) (r : plain.Record)
-    → Ready E m team g k → Shown E m team g p → PlacesNext team k s c z v → Shows (value_of g.identity) m.heap s.at c z r
+    → Ready E m team g k → Shown E m team g p → PlacesNext team k s c z v → (c ≡ Weak → z ≡ 3) → Shows (value_of g.identity) m.heap s.at c z r
     → d < 8 → decode pointer ≡ PointerWord s.at
     → MutatorGoesOn E m g (team.worker k) next → IsAs g p.heap k next q
     → StepsTo E m team g k (Some (WordIs s.at v)) (with_record next s z d pointer) (allocated g s.at z c (next_identity team k))

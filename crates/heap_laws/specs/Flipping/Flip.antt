@@ -52,12 +52,13 @@ abbrev pub after_flip : Worker → Worker
 after_flip w = record w { post = Stopped; traced_seen = false; reset = None }
 
 -- Worker k flips: it has asked for it, has read a gate with nobody running and nobody behind, and has stored the other space's
--- area. Another epoch fits the gate, and the other space is as large.
+-- area, and WEAK. Another epoch fits the gate, and the other space is as large.
 pub record Flips (E : Era) (team : Team) (k : ℕ) (r : Reset) : Type 0 where
   pub asked : ℕ
   pub post : (team.worker k).post ≡ Flipping asked
   pub reset : (team.worker k).reset ≡ Some r
   pub stored : r.stored ≡ true
+  pub cleared : r.cleared ≡ true
   pub fits : E.epoch + 1 < 2 ^ 32
   pub large : E.span ≤ E.old_span
 

@@ -1,5 +1,5 @@
 -- Each stopped mutator forwards its registers after the flip.
-use Rattle.std.specs.Prelude.{◌≡◌, ℕ, ◌+◌, ◌<◌, true, Some, None, false}
+use Rattle.std.specs.Prelude.{◌≡◌, ℕ, ◌+◌, ◌<◌, true, Some, None}
 use Rattle.heap_words.specs.Decoded.{PointerWord, decode}
 use Rattle.heap_state.specs.Memory.Era.{Era, Memory}
 use Rattle.heap_state.specs.Functions.{put}
@@ -23,7 +23,7 @@ PassingRegisterKeeps = (E : Era) (m : Memory) (team : Team) (g : Ghost) (k : ℕ
 
 -- for one that is a pointer, and so leads into the old space, the worker asks for the copy
 abbrev pub asking_for : Worker → ℕ → Worker
-asking_for w a = record w { quest = Some (record { old = a; origin = Register w.done; found = None; links = false }) }
+asking_for w a = record w { quest = Some (record { old = a; origin = Register w.done; found = None }) }
 
 abbrev pub AskingForRegisterKeeps : Type 0
 AskingForRegisterKeeps = (E : Era) (m : Memory) (team : Team) (g : Ghost) (k a : ℕ) → Ready E m team g k → HasRegister E team k
@@ -37,10 +37,10 @@ pub record HasFoundCopy (E : Era) (team : Team) (k : ℕ) (q : Quest) (b : ℕ) 
   pub origin : q.origin ≡ Register (team.worker k).done
   pub found : q.found ≡ Some b
 
--- the register gets a pointer to the copy
+-- the register gets a pointer to the copy, once this is no cell that is still to be linked
 abbrev pub forwarded : Worker → ℕ → Worker
 forwarded w v = record w { registers = put w.registers w.done v; done = w.done + 1; quest = None }
 
 abbrev pub ForwardingRegisterKeeps : Type 0
 ForwardingRegisterKeeps = (E : Era) (m : Memory) (team : Team) (g : Ghost) (k : ℕ) (q : Quest) (b v : ℕ) → Ready E m team g k → HasFoundCopy E team k q b
-    → decode v ≡ PointerWord b → Steps E m team g k None (forwarded (team.worker k) v) g
+    → (team.worker k).linking ≡ None → decode v ≡ PointerWord b → Steps E m team g k None (forwarded (team.worker k) v) g

@@ -15,7 +15,7 @@ use Rattle.heap_state.specs.Saving.Frozen.{Frozen}
 use Rattle.heap_state.specs.Saving.Parts.{SavingStands}
 use Rattle.heap_state.specs.Saving.Savers.{Saver}
 use Rattle.heap_state.specs.Saving.Words.{Saves}
-use Rattle.heap_state.specs.Worker.{Worker, Team, Stock, Quest, Copy, Scan, Claim, LastLook, Passage, Enter, Park, Request, RequestSnap, Clear, Forwarded, Resume, Leave, GateStep, Reset}
+use Rattle.heap_state.specs.Worker.{Worker, Team, Stock, Quest, Copy, Scan, Claim, LastLook, Pass, Passage, Enter, Park, Request, RequestSnap, Clear, Forwarded, Resume, Leave, GateStep, Reset}
 use Rattle.heap_laws.specs.Allocation.Stocks.{HasStock, OpensNext}
 use Rattle.heap_laws.specs.Flipping.Flip.{Flips, flipped_gate, after_flip}
 use Rattle.heap_laws.specs.Gate.{WinsGate, gate_after, worker_after}
@@ -29,12 +29,13 @@ use Rattle.heap_laws.specs.Tracing.{WinsTraced}
 
 -- ---- what traces an epoch
 
--- Worker k does what nobody does once the epoch is traced: it asks for a copy, copies or scans, or wins the exchange of a page's word
--- or of TRACED.
+-- Worker k does what nobody does once the epoch is traced: it asks for a copy, copies, scans or walks over the chain of copied
+-- cells, or wins the exchange of a page's word or of TRACED.
 pub data IsTracing (E : Era) (m : Memory) (team : Team) (k : ℕ) : Type 0 where
   AsksForCopy : (q : Quest) → (team.worker k).quest ≡ Some q → IsTracing E m team k
   CopiesRecord : (c : Copy) → (team.worker k).copy ≡ Some c → IsTracing E m team k
   ScansPage : (s : Scan) → (team.worker k).scan ≡ Some s → IsTracing E m team k
+  WalksChain : (q : Pass) → (team.worker k).pass ≡ Some q → IsTracing E m team k
   WinsItsPage : (q : Claim) → WinsPage E m team k q → IsTracing E m team k
   WinsItsTraced : (l : LastLook) → WinsTraced m team k l → IsTracing E m team k
 
@@ -42,8 +43,8 @@ pub data IsTracing (E : Era) (m : Memory) (team : Team) (k : ℕ) : Type 0 where
 abbrev pub TracingIsBefore : Type 0
 TracingIsBefore = (E : Era) (m : Memory) (team : Team) (g : Ghost) (k : ℕ) → Ready E m team g k → IsTracing E m team k → m.traced ≢ E.epoch + 1
 
--- So no checkpoint is in progress, and any word may be stored: that of a worker in place of a header, a copied word, a forward, and
--- a pointer to a copy.
+-- So no checkpoint is in progress, and any word may be stored: that of a worker in place of a header, a copied word, a forward, a
+-- pointer to a copy, and what replaces a cell's target.
 abbrev pub TracedWordsAreSpared : Type 0
 TracedWordsAreSpared = (t : Table) (s : Saves) (z : Frozen) (team : Team) (g : Ghost) (saver : ℕ → Saver) (k addr word : ℕ) → SavingStands t s z team.count saver
     → Ready (era_of t) (memory_of t) team g k → IsTracing (era_of t) (memory_of t) team k → Spares t s z team.count saver (Some (WordIs addr word))

@@ -108,7 +108,7 @@ asking w q = record w { quest = Some q }
 abbrev pub AskingKeeps : Type 0
 AskingKeeps = (E : Era) (m : Memory) (team : Team) (g : Ghost) (k : ℕ) (s : Scan) (a : ℕ) → Ready E m team g k → IsScanning team k s
     → AtField E s → s.ended ≡ false → decode (m.heap s.cursor) ≡ PointerWord a → E.old_start ≤ a → a < E.old_start + E.old_span
-    → Steps E m team g k None (asking (team.worker k) (record { old = a; origin = Scanned s.cursor; found = None; links = false })) g
+    → Steps E m team g k None (asking (team.worker k) (record { old = a; origin = Scanned s.cursor; found = None })) g
 
 -- worker k has found the copy that the word at the cursor asked for
 pub record HasFound (E : Era) (team : Team) (k : ℕ) (s : Scan) (q : Quest) (b : ℕ) : Type 0 where
@@ -118,7 +118,7 @@ pub record HasFound (E : Era) (team : Team) (k : ℕ) (s : Scan) (q : Quest) (b 
   pub found : q.found ≡ Some b
   pub at : AtField E s
 
--- a pointer to the copy is stored, and the word is passed
+-- a pointer to the copy is stored, which is no cell that is still to be linked, and the word is passed
 abbrev pub StoringCopyKeeps : Type 0
 StoringCopyKeeps = (E : Era) (m : Memory) (team : Team) (g : Ghost) (k : ℕ) (s : Scan) (q : Quest) (b v : ℕ) → Ready E m team g k → HasFound E team k s q b
-    → decode v ≡ PointerWord b → Steps E m team g k (Some (WordIs s.cursor v)) (scanning (team.worker k) (past_word E s)) g
+    → (team.worker k).linking ≡ None → decode v ≡ PointerWord b → Steps E m team g k (Some (WordIs s.cursor v)) (scanning (team.worker k) (past_word E s)) g

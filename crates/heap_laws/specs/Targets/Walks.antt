@@ -1,5 +1,5 @@
 -- Where the targets of weak cells lead: the walk over the chain loads each target and replaces it, and TRACED is exchanged.
-use Rattle.std.specs.Prelude.{◌≡◌, ℕ, ◌+◌, ◌<◌, ◌≤◌, ◌⊎◌, true, false, Some, None}
+use Rattle.std.specs.Prelude.{◌≡◌, ℕ, ◌+◌, ◌<◌, ◌≤◌, ◌⊎◌, false, Some, None}
 use Rattle.heap_words.specs.Decoded.{PointerWord, decode}
 use Rattle.heap_state.specs.Cells.{Ranks, Chain}
 use Rattle.heap_state.specs.Memory.Entries.{WordIs, TracedIs}
@@ -7,7 +7,7 @@ use Rattle.heap_state.specs.Memory.Era.{Era, Memory}
 use Rattle.heap_state.specs.Invariant.Ghost.{Ghost, Leads}
 use Rattle.heap_state.specs.Targets.{IsCell, Targets}
 use Rattle.heap_state.specs.Worker.{Team, Visit, At, Done}
-use Rattle.heap_laws.specs.Cells.Walks.{FindsTarget}
+use Rattle.heap_laws.specs.Cells.Walks.{FindsTarget, passed}
 use Rattle.heap_laws.specs.Fields.Held.{MayHold}
 use Rattle.heap_laws.specs.Steps.{Ready, WritesRow}
 
@@ -16,7 +16,7 @@ use Rattle.heap_laws.specs.Steps.{Ready, WritesRow}
 -- What the walk finds by the target of the cell that it has come to: one that doesn't lead into the old space is passed; and a pointer
 -- out of the epoch's space leads to a record of the old one.
 pub record TargetIsFound (E : Era) (m : Memory) (g : Ghost) (v : Visit) : Type 0 where
-  pub passed : ¬ (Leads E (m.heap (v.cell + 1))) → FindsTarget E m g v (record v { past = true })
+  pub passed : ¬ (Leads E (m.heap (v.cell + 1))) → FindsTarget E m g v (passed v)
   pub old : (b : ℕ) → decode (m.heap (v.cell + 1)) ≡ PointerWord b → (b < E.start) ⊎ (E.start + E.span ≤ b) → FindsTarget E m g v (record v { old = Some b; word = None })
 
 abbrev pub TargetsAreFound : Type 0
@@ -27,8 +27,8 @@ TargetsAreFound = (E : Era) (m : Memory) (weak turn : ℕ) (team : Team) (g : Gh
 
 -- a pointer to the copy is stored as the target, or the number 0
 abbrev pub ReplacingCarriesTargets : Type 0
-ReplacingCarriesTargets = (E : Era) (m later : Memory) (weak turn : ℕ) (team : Team) (g : Ghost) (r : Ranks) (k : ℕ) (v : Visit) (b x : ℕ) → Ready E m team g k
-    → (team.worker k).pass ≡ Some (At v) → v.past ≡ false → v.old ≡ Some b → v.word ≡ Some x → WritesRow E m (Some (WordIs (v.cell + 1) x)) later
+ReplacingCarriesTargets = (E : Era) (m later : Memory) (weak turn : ℕ) (team : Team) (g : Ghost) (r : Ranks) (k : ℕ) (v : Visit) (x : ℕ) → Ready E m team g k
+    → (team.worker k).pass ≡ Some (At v) → v.past ≡ false → v.word ≡ Some x → WritesRow E m (Some (WordIs (v.cell + 1) x)) later
     → Chain E m weak turn team g r → Targets E m g → Targets E later g
 
 -- ---- TRACED

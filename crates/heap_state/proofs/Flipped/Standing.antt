@@ -1,5 +1,5 @@
 -- The configuration after a flip stands, and shows its plain state.
-use Rattle.std.proofs.Common.{◌≡◌, ◌≢◌, ℕ, ◌+◌, ◌<◌, [], ◌∷◌, Some, true, zero, suc, refl, sym, ◌∙◌, arith, ⊎_elim, inr}
+use Rattle.std.proofs.Common.{◌≡◌, ◌≢◌, ℕ, ◌+◌, ◌<◌, [], ◌∷◌, Some, None, true, zero, suc, refl, sym, ◌∙◌, arith, ⊎_elim, inr}
 use Rattle.std.specs.Prelude.{slice_get}
 use Rattle.std.proofs.lemmas.Bool.{cases_eq, ne_eqb}
 use Rattle.plain_state.specs.declared.kind.Kind.TheVariants.{Raw}
@@ -12,6 +12,7 @@ use Rattle.heap_state.specs.Memory.Entries.{EachFits, HasSizes}
 use Rattle.heap_state.specs.Memory.Era.{era_of, memory_of}
 use Rattle.heap_state.specs.Examples.Flipped.{flipped, flipped_entries, flipped_plain, late_mutator}
 use Rattle.heap_state.specs.Functions.{put}
+use Rattle.heap_state.specs.Invariant.Parts.Cells.{Cells}
 use Rattle.heap_state.specs.Invariant.Inductive.{Invariant, Knows}
 use Rattle.heap_state.specs.Invariant.Parts.Knowledge.{Clean}
 use Rattle.std.proofs.Common.{◌⊎◌, inl, inr, ◌≤◌}
@@ -24,6 +25,7 @@ use Rattle.heap_state.specs.Memory.Walk.{walk, old_walk_of}
 use Rattle.heap_state.specs.Examples.Worked.{made}
 use Rattle.heap_state.specs.Worker.{Worker}
 use Rattle.heap_state.proofs.Flipped.Parts.{flipped_table, flipped_era, flipped_ghost, workers, heap, page, size, none, identity, only, blank_word, zero_word, first_register, number_lands, pointer_lands, counted, staffed, laid, headed, copied, once, kept_by, room, raw_words, counts, shut, filling, tracing, aged, scanned, opened, landing, older, new_area, new_written, old_space, old_words, old_pages, crossing, stocks, numbered}
+use Rattle.heap_state.proofs.Cells.NoCells.{no_cells}
 use Rattle.heap_state.proofs.Workers.Idle.{idle_knows}
 use Rattle.heap_state.proofs.Holds.Keeping.{holds}
 use Rattle.heap_state.proofs.Puts.{none≢some, true_false}
@@ -64,9 +66,17 @@ knows : (k : ℕ) → k < 1 → Known k (workers.worker k)
 knows zero l = mutator_knows
 knows (suc k) l = absurd (omega arith)
 
+-- nobody has a cell to link or walks
+idle : (k : ℕ) → k < 1 → ((workers.worker k).linking ≡ None) × ((workers.worker k).pass ≡ None)
+idle zero l = (refl, refl)
+idle (suc k) l = absurd (omega arith)
+
+cells : Cells (era_of flipped_table) (memory_of flipped_table) (team flipped) flipped_ghost
+cells = no_cells (era_of flipped_table) (memory_of flipped_table) (team flipped) flipped_ghost (omega arith, omega arith) refl refl idle (λ a st e. absurd (cc))
+
 keeps : Invariant (era_of flipped_table) (memory_of flipped_table) (team flipped) flipped_ghost
 unfolding put
-keeps = assumption (counted, staffed, laid, headed, copied, once, kept_by, room, raw_words, counts, shut, filling, tracing, aged, scanned, opened, landing, older, new_area, new_written, old_space, old_words, old_pages, crossing, stocks, numbered, knows)
+keeps = assumption (counted, staffed, laid, headed, copied, once, kept_by, room, raw_words, counts, shut, filling, tracing, aged, scanned, opened, landing, older, new_area, new_written, old_space, old_words, old_pages, crossing, stocks, numbered, cells, knows)
 
 -- ---- the plain state
 

@@ -1,13 +1,15 @@
 -- The invariant without the records of the old space, once the epoch is traced: what workers know of it, and the whole.
-use Rattle.std.proofs.Common.{◌≡◌, ℕ, ◌+◌, ◌<◌, true, arith, Some, None}
+use Rattle.std.proofs.Common.{◌≡◌, ℕ, ◌+◌, ◌<◌, ◌≤◌, true, arith, Some, None, ◌∙◌, ⊎_elim}
 use Rattle.heap_state.specs.Memory.Table.{IsFormed}
 use Rattle.heap_state.specs.Configuration.{Configuration, era, memory, team}
 use Rattle.heap_state.specs.Memory.Era.{Era, Memory}
-use Rattle.heap_state.specs.Invariant.Ghost.{Ghost}
+use Rattle.heap_state.specs.Invariant.Ghost.{Ghost, Leads}
 use Rattle.heap_state.specs.Invariant.Inductive.{Invariant, Knows}
+use Rattle.heap_state.specs.Invariant.Parts.Cells.{Cells}
 use Rattle.heap_state.specs.Invariant.Parts.Copying.{IsOrigin, Seeks, Copies, Keeps}
 use Rattle.heap_state.specs.Invariant.Parts.Knowledge.{Clean, Accesses}
 use Rattle.heap_state.specs.Invariant.Parts.Scanning.{Scans, Stepping, Claims}
+use Rattle.heap_state.specs.Targets.{IsCell, Targets}
 use Rattle.heap_state.specs.Worker.{Worker, Origin, Register, Scanned, Quest, Copy, Access, Scan, Claim, is_mutator, is_late}
 use Rattle.heap_state.proofs.Holds.Still.{nobody_scans, nobody_copies}
 use Rattle.heap_state.proofs.Represents.Dropping as drop
@@ -71,12 +73,55 @@ module _ (c : Configuration) (g : Ghost) (formed : IsFormed c.pages c.words) (in
     knows : Knows E m.gate m.traced m.front m.low m.old_front m.old_low m.old_owed h m.page m.cross m.announced m.heap k w
     knows =
         let origin : (q : Quest) → w.quest ≡ Some q → IsOrigin E h.size h.writer h.kind m.heap (is_late E.epoch w) w.done w.registers w.scan q.old q.origin = λ q e. absurd (asks_not q e) in
-        let quest : (q : Quest) → w.quest ≡ Some q → Seeks E h.size h.writer h.copy h.kind q = λ q e. absurd (asks_not q e) in
+        let quest : (q : Quest) → w.quest ≡ Some q → Seeks E h.size h.writer h.copy q = λ q e. absurd (asks_not q e) in
         let copy : (q : Copy) → w.copy ≡ Some q → Copies E m.front h.size h.writer h.copy h.keeper h.kept m.announced m.cross m.heap k q = λ q e. absurd (nobody_copies E m (team c) g inv traced k q l e) in
         let keeps : (q : Copy) → w.copy ≡ Some q → Keeps h.kind h.identity m.heap q = λ q e. absurd (nobody_copies E m (team c) g inv traced k q l e) in
         let scan : (s : Scan) → w.scan ≡ Some s → Scans E m.front h.size h.writer h.kind m.heap m.page k s = λ s e. absurd (nobody_scans E m (team c) g inv traced k s l e) in
         let stepping : (s : Scan) → w.scan ≡ Some s → Stepping E m.front h.size h.writer h.kind s = λ s e. absurd (nobody_scans E m (team c) g inv traced k s l e) in
         assumption (knew, registers, access, claim)
+
+  -- a cell that still stands was one, in the epoch's space
+  was_cell : (a : ℕ) → IsCell h a → IsCell g a
+  was_cell a z = record { stands = (drop.was c g formed inv traced a z.stands).0; written = z.written; weak = z.weak }
+
+  -- its target doesn't lead into the old space
+  clean_cell : (a : ℕ) → IsCell g a → E.start ≤ a → a < E.start + E.span → ¬ (Leads E (m.heap (a + 1)))
+  clean_cell a z from to = ⊎_elim
+      (λ (l : (E.start ≤ a) × (a + g.size a ≤ m.front)). inv.cells.targets.clean traced a (record { stands = z.stands; written = z.written; weak = z.weak; inside = (from, (let st = z.stands in omega (arith, l, st))) }))
+      (λ y. ⊎_elim
+      (λ l. inv.cells.targets.new a z l.0 to)
+      (λ l. absurd (let o = (drop.out c g formed inv traced).apart in let st = z.stands in omega (arith, l, from, to, o, st)))
+      y)
+      (inv.laid.lies a z.stands)
+
+  targets : Targets E m h
+  targets = let t = inv.cells.targets in record {
+    lands = λ a z from to. let y = was_cell a z in drop.lands_on c g formed inv traced (m.heap (a + 1)) (t.lands a y from to) (clean_cell a y from to);
+    aims = λ a b z e. t.aims a b (record { stands = (drop.was c g formed inv traced a z.stands).0; written = z.written; weak = z.weak; inside = z.inside }) e;
+    new = λ a z from to. t.new a (was_cell a z) from to;
+    clean = λ e a z. t.clean e a (record { stands = (drop.was c g formed inv traced a z.stands).0; written = z.written; weak = z.weak; inside = z.inside });
+    older = λ le. absurd (omega (arith, le, traced));
+  }
+
+  -- since the epoch is traced nobody links or walks
+  cells : Cells E m (team c) h
+  cells = let b = inv.cells.chain in record {
+    ranks = inv.cells.ranks;
+    chain = record {
+      top = b.top;
+      turned = b.turned;
+      linked = λ t. absurd (omega (arith, t, traced));
+      all = λ t. absurd (omega (arith, t, traced));
+      linking = λ k l y e. absurd (let z = (b.linking k l y e).copying in omega (arith, z, traced));
+      apart = b.apart;
+      pass = λ k q y e. absurd (let z = (b.pass k q y e).now in omega (arith, z, traced));
+      one = b.one;
+      walker = λ t. absurd (omega (arith, t, traced));
+      reset = b.reset;
+      three = λ a st e. let u = drop.was c g formed inv traced a st in u.3 ∙ b.three a u.0 e;
+    };
+    targets = targets;
+  }
 
   pub dropped : Invariant E m (team c) h
   dropped = record {
@@ -107,5 +152,6 @@ module _ (c : Configuration) (g : Ghost) (formed : IsFormed c.pages c.words) (in
     crossing = drop.crossing c g formed inv traced;
     stocks = drop.stocks c g formed inv traced;
     numbered = drop.numbered c g formed inv traced;
+    cells = cells;
     workers = knows;
   }

@@ -1,9 +1,10 @@
 -- The configuration in which a mutator has begun a checkpoint stands, and shows its plain state; where it runs on, it is told.
-use Rattle.std.proofs.Common.{◌≡◌, ℕ, ◌+◌, ◌<◌, List, ◌∷◌, zero, suc, refl, sym, ◌∙◌, arith}
+use Rattle.std.proofs.Common.{◌≡◌, ℕ, ◌+◌, ◌<◌, List, ◌∷◌, None, zero, suc, refl, sym, ◌∙◌, arith}
 use Rattle.std.specs.Prelude.{true}
 use Rattle.heap_state.specs.Configuration.{team, Stands}
 use Rattle.heap_state.specs.Examples.Flipped.{flipped_plain}
 use Rattle.heap_state.specs.Examples.Requested.{requested, requested_plain, requested_entries, running_on}
+use Rattle.heap_state.specs.Invariant.Parts.Cells.{Cells}
 use Rattle.heap_state.specs.Functions.{put, sum_below}
 use Rattle.heap_state.specs.Invariant.Holds.{GateHolds}
 use Rattle.heap_state.specs.Invariant.Inductive.{Invariant}
@@ -15,6 +16,7 @@ use Rattle.heap_state.specs.Theorems.Saves.{WrittenWhole}
 use Rattle.heap_state.specs.Theorems.Standing.{IsSound}
 use Rattle.heap_state.proofs.Flipped.Parts.{flipped_ghost, heap, identity, blank_word, zero_word, headed, once, kept_by, raw_words, counts, old_area}
 use Rattle.heap_state.proofs.Flipped.Standing.{objects, board_zero, registers}
+use Rattle.heap_state.proofs.Cells.NoCells.{no_cells}
 use Rattle.heap_state.proofs.Holds.Keeping.{holds}
 use Rattle.heap_state.proofs.Represents.Representing.{represents}
 use Rattle.heap_state.proofs.Represents.Snapped.{snaps_show}
@@ -28,9 +30,17 @@ knows : (k : ℕ) → k < 1 → Known k (workers.worker k)
 knows zero l = mutator_knows
 knows (suc k) l = absurd (omega arith)
 
+-- nobody has a cell to link or walks
+idle : (k : ℕ) → k < 1 → ((workers.worker k).linking ≡ None) × ((workers.worker k).pass ≡ None)
+idle zero l = (refl, refl)
+idle (suc k) l = absurd (omega arith)
+
+cells : Cells (era_of requested_table) (memory_of requested_table) (team requested) flipped_ghost
+cells = no_cells (era_of requested_table) (memory_of requested_table) (team requested) flipped_ghost (omega arith, omega arith) refl refl idle (λ a st e. absurd (cc))
+
 keeps : Invariant (era_of requested_table) (memory_of requested_table) (team requested) flipped_ghost
 unfolding put
-keeps = assumption (counted, staffed, laid, headed, copied, once, kept_by, room, raw_words, counts, shut, filling, tracing, aged, scanned, opened, landing, older, old_area, new_written, old_space, old_words, old_pages, larger, crossing, stocks, numbered, knows)
+keeps = assumption (counted, staffed, laid, headed, copied, once, kept_by, room, raw_words, counts, shut, filling, tracing, aged, scanned, opened, landing, older, old_area, new_written, old_space, old_words, old_pages, larger, crossing, stocks, numbered, cells, knows)
 
 -- ---- the plain state
 

@@ -11,12 +11,14 @@ use Rattle.heap_state.specs.Configuration.{team, Stands}
 use Rattle.heap_state.specs.Memory.Entries.{EachFits, HasSizes}
 use Rattle.heap_state.specs.Memory.Era.{era_of, memory_of}
 use Rattle.heap_state.specs.Functions.{put}
+use Rattle.heap_state.specs.Invariant.Parts.Cells.{Cells}
 use Rattle.heap_state.specs.Invariant.Inductive.{Invariant}
 use Rattle.heap_state.specs.Invariant.Parts.Pages.{Sizes}
 use Rattle.heap_state.specs.Invariant.Parts.Records.{RawWords, Counts}
 use Rattle.heap_state.specs.Meaning.Values.{value_of, Shows, ShowsAll, Accounts, RegistersShow, BoardShows, Shown}
 use Rattle.heap_state.specs.Examples.Worked.{worked, worked_entries, worked_plain, worked_mutator, made, zeros_after}
 use Rattle.heap_words.specs.Word.{pointer_word}
+use Rattle.heap_state.proofs.Cells.NoCells.{no_cells}
 use Rattle.heap_state.proofs.Puts.{some_same, none≢some}
 use Rattle.heap_state.proofs.Worked.Ghost.{worked_table, worked_era, worked_ghost, size, writer, copy, keeper, identity, each_place}
 use Rattle.heap_state.proofs.Worked.Pages.{workers, shut, filling, tracing, aged, old_area, old_pages, scanned}
@@ -41,9 +43,18 @@ counts = record { counts = λ a count st w e. absurd (cc) }
 sizes : Sizes worked_era false
 sizes = record { below = λ e. omega arith }
 
+-- nobody has a cell to link or walks
+idle : (k : ℕ) → k < 2 → ((workers.worker k).linking ≡ None) × ((workers.worker k).pass ≡ None)
+idle zero l = (refl, refl)
+idle (suc zero) l = (refl, refl)
+idle (suc (suc k)) l = absurd (omega arith)
+
+cells : Cells (era_of worked_table) (memory_of worked_table) (team worked) worked_ghost
+cells = no_cells (era_of worked_table) (memory_of worked_table) (team worked) worked_ghost (omega arith, omega arith) refl refl idle (λ a st e. absurd (cc))
+
 pub keeps : Invariant (era_of worked_table) (memory_of worked_table) (team worked) worked_ghost
 unfolding put
-keeps = assumption (counted, staffed, laid, headed, copied, once, kept_by, room, raw_words, counts, shut, filling, tracing, aged, scanned, opened, landing, older, new_area, new_written, old_space, old_area, old_pages, sizes, crossing, stocks, numbered, knows)
+keeps = assumption (counted, staffed, laid, headed, copied, once, kept_by, room, raw_words, counts, shut, filling, tracing, aged, scanned, opened, landing, older, new_area, new_written, old_space, old_area, old_pages, sizes, crossing, stocks, numbered, cells, knows)
 
 -- ---- the plain state
 

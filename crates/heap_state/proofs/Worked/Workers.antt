@@ -65,7 +65,7 @@ abbrev pub the_scan : Scan
 the_scan = record { page = 4; cursor = 258; in_place = true; over = None; headed = None; current = Some (record { at = 256; fields_end = 259; next = 259 }); inner = false; ended = false }
 
 abbrev pub the_quest : Quest
-the_quest = record { old = 195; origin = Scanned 258; found = None; links = false }
+the_quest = record { old = 195; origin = Scanned 258; found = None }
 
 copies : Copies worked_era 261 size writer copy keeper kept worked_table.announced worked_table.cross heap 1 the_copy
 unfolding put
@@ -120,8 +120,8 @@ stepping = record {
   ended = λ e. true_false refl e;
 }
 
-seeks : Seeks worked_era size writer copy (λ a. Fields) the_quest
-seeks = record { old = (omega arith, omega arith, omega arith); found = λ b e. none≢some e; links = λ e. true_false refl e }
+seeks : Seeks worked_era size writer copy the_quest
+seeks = record { old = (omega arith, omega arith, omega arith); found = λ b e. none≢some e }
 
 origin : IsOrigin worked_era size writer (λ a. Fields) heap false 0 (λ r. 0) (Some the_scan) 195 (Scanned 258)
 unfolding Here

@@ -70,7 +70,7 @@ worked_mutator = record (fresh Running) {
 abbrev pub worked_scanner : Worker
 worked_scanner = record (fresh Scanner) {
   epoch = 1;
-  quest = Some (record { old = 195; origin = Scanned 258; found = None; links = false });
+  quest = Some (record { old = 195; origin = Scanned 258; found = None });
   copy = Some (record { header = header_word heap_kind.Fields 1 2 0; from = 195; to = 259; size = 2; done = 1; word = None; aimed = true; announced = true; reserved = true; crossed = 0 });
   scan = Some (record { page = 4; cursor = 258; in_place = true; over = None; headed = None; current = Some (record { at = 256; fields_end = 259; next = 259 }); inner = false; ended = false });
 }

@@ -6,6 +6,7 @@ use Rattle.space_map.specs.declared.page_word.PageWord.TheVariants.{Open}
 use Rattle.space_map.specs.declared.spaces.TheConstants.{PAGE_WORDS}
 use Rattle.heap_state.specs.Memory.Era.{Era, Memory}
 use Rattle.heap_state.specs.Invariant.Ghost.{Ghost}
+use Rattle.heap_state.specs.Invariant.Parts.Cells.{Cells}
 use Rattle.heap_state.specs.Worker.{Worker, Team, Outside, Stock, GateStep, Reset, Access, Quest, Copy, Scan, Round, Claim, Look, LastLook, is_mutator, is_running, is_flipper, is_asking, is_late, is_sized}
 use Rattle.heap_state.specs.Invariant.Parts.Records.{Laid, Headed, NewArea, NewWritten, RawWords, Counts}
 use Rattle.heap_state.specs.Invariant.Parts.Copies.{Copied, Once, Keepers, Room}
@@ -37,7 +38,7 @@ pub record Knows (E : Era) (gate : GateWord) (traced front low old_front old_low
   pub access : (f : Access) → w.access ≡ Some f → Accesses E g.size g.writer g.kind f
   pub opened : (p : ℕ) → w.opened ≡ Some p → (is_running w.post ≡ true) × (page p ≡ Open E.epoch)
   pub origin : (q : Quest) → w.quest ≡ Some q → IsOrigin E g.size g.writer g.kind heap (is_late E.epoch w) w.done w.registers w.scan q.old q.origin
-  pub quest : (q : Quest) → w.quest ≡ Some q → Seeks E g.size g.writer g.copy g.kind q
+  pub quest : (q : Quest) → w.quest ≡ Some q → Seeks E g.size g.writer g.copy q
   pub licensed : Licensed gate.behind g.kept k (is_late E.epoch w) w.copy w.quest w.scan
   pub copy : (c : Copy) → w.copy ≡ Some c → Copies E front g.size g.writer g.copy g.keeper g.kept announced cross heap k c
   pub keeps : (c : Copy) → w.copy ≡ Some c → Keeps g.kind g.identity heap c
@@ -82,5 +83,6 @@ pub record Invariant (E : Era) (m : Memory) (team : Team) (g : Ghost) : Type 0 w
   pub crossing : Crossing E m.front g.size g.writer m.cross
   pub stocks : Stocks E m.low team.count g.size m.heap m.page team.worker
   pub numbered : Numbered team.mutators g.size g.identity team.worker
+  pub cells : Cells E m team g
   pub workers : (k : ℕ) → k < team.count
       → Knows E m.gate m.traced m.front m.low m.old_front m.old_low m.old_owed g m.page m.cross m.announced m.heap k (team.worker k)

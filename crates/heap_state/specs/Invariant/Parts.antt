@@ -9,3 +9,4 @@ pub mod Crossing
 pub mod Knowledge
 pub mod Copying
 pub mod Scanning
+pub mod Cells

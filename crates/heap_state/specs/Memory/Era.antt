@@ -47,7 +47,8 @@ pub record IsLaidOut (E : Era) : Type 0 where
 
 -- ---- the table as the epoch sees it
 
--- The table in its epoch: FRONT, LOW and owed are the epoch's, and as addresses; the old ones are those of the old space.
+-- The table in its epoch: FRONT, LOW and owed are the epoch's, and as addresses; the old ones are those of the old space. `weak` is the
+-- word of WEAK, and `weak_turn` that of WEAKTURN.
 pub record Memory : Type 0 where
   pub gate : GateWord
   pub traced : ℕ
@@ -57,6 +58,8 @@ pub record Memory : Type 0 where
   pub old_front : ℕ
   pub old_low : ℕ
   pub old_owed : ℕ
+  pub weak : ℕ
+  pub weak_turn : ℕ
   pub page : ℕ → PageWord
   pub cross : ℕ → ℕ
   pub heap : ℕ → ℕ
@@ -72,6 +75,8 @@ memory_of t = record {
   old_front = space_start t.pages (from_space t.gate.epoch) + (t.area (from_space t.gate.epoch)).front;
   old_low = space_start t.pages (from_space t.gate.epoch) + (t.area (from_space t.gate.epoch)).low;
   old_owed = (t.area (from_space t.gate.epoch)).owed;
+  weak = t.weak;
+  weak_turn = t.weak_turn;
   page = t.page;
   cross = t.cross;
   heap = t.heap;

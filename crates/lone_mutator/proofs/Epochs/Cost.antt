@@ -8,8 +8,8 @@ use Rattle.space_map.specs.PageWord.{age_of}
 use Rattle.space_map.specs.Spaces.{board_page, to_space}
 use Rattle.heap_state.specs.Functions.{put, sum_below}
 use Rattle.heap_state.proofs.Puts.{put_at, put_other, sum_below-change}
-use Rattle.lone_mutator.specs.Bound.{round_cost, page_cost, longest_tracing}
-use Rattle.lone_mutator.specs.Tracing.{waits, unclaimed, tracing_left, tracing_due}
+use Rattle.lone_mutator.specs.Bound.{round_cost, page_cost, walk_cost, longest_tracing}
+use Rattle.lone_mutator.specs.Tracing.{waits, unclaimed, walk_due, tracing_left, tracing_due}
 
 -- ---- sums
 
@@ -103,80 +103,105 @@ module _ (n e p : ℕ) (w : PageWord) (page : ℕ → PageWord) (new : age_of w 
     unclaimed-claimed (inl is) = at_board is
     unclaimed-claimed (inr is) = in_space is.0 is.1
 
+-- ---- the walk
+
+walk_due-taken : (n e turn : ℕ) → turn ≡ e + 1 → walk_due n e turn ≡ 0
+unfolding walk_due
+walk_due-taken n e turn is = rw (eq-eqb turn (e + 1) is) refl
+
+walk_due-free : (n e turn : ℕ) → turn ≢ e + 1 → walk_due n e turn ≡ walk_cost n
+unfolding walk_due
+walk_due-free n e turn other = rw (ne_eqb turn (e + 1) other) refl
+
+walk_due-le : (n e turn : ℕ) → walk_due n e turn ≤ walk_cost n
+walk_due-le n e turn = ⊎_elim
+    (λ (is : turn ≡ e + 1). let none = walk_due-taken n e turn is in omega (arith, none))
+    (λ (other : turn ≢ e + 1). let all = walk_due-free n e turn other in omega (arith, all))
+    (cases_eq turn (e + 1))
+
 -- ---- what is still to be paid
 
-module _ (n e traced owed : ℕ) (page : ℕ → PageWord) where
-  pub left_traced : traced ≡ e + 1 → tracing_left n e traced owed page ≡ 0
+module _ (n e traced turn owed : ℕ) (page : ℕ → PageWord) where
+  pub left_traced : traced ≡ e + 1 → tracing_left n e traced turn owed page ≡ 0
   unfolding tracing_left
   left_traced is = rw (eq-eqb traced (e + 1) is) refl
 
-  pub due_traced : traced ≡ e + 1 → tracing_due n e traced owed page ≡ 0
+  pub due_traced : traced ≡ e + 1 → tracing_due n e traced turn owed page ≡ 0
   unfolding tracing_due
   due_traced is = rw (eq-eqb traced (e + 1) is) refl
 
-  left_untraced : traced ≢ e + 1 → tracing_left n e traced owed page ≡ page_cost n * unclaimed n e page + 5 * owed
+  left_untraced : traced ≢ e + 1 → tracing_left n e traced turn owed page ≡ page_cost n * unclaimed n e page + 5 * owed + walk_due n e turn
   unfolding tracing_left
   left_untraced other = rw (ne_eqb traced (e + 1) other) refl
 
-  pub due_still : traced ≢ e + 1 → tracing_due n e traced owed page ≡ page_cost n * unclaimed n e page + 5 * owed + round_cost n
+  pub due_still : traced ≢ e + 1 → tracing_due n e traced turn owed page ≡ page_cost n * unclaimed n e page + 5 * owed + walk_due n e turn + round_cost n
   unfolding tracing_due
   due_still other = rw (ne_eqb traced (e + 1) other) refl
 
   -- a round is paid for where the epoch isn't traced
-  pub due_untraced : traced ≢ e + 1 → tracing_due n e traced owed page ≡ tracing_left n e traced owed page + round_cost n
+  pub due_untraced : traced ≢ e + 1 → tracing_due n e traced turn owed page ≡ tracing_left n e traced turn owed page + round_cost n
   due_untraced other = rw (left_untraced other, due_still other) refl
 
-  pub due_le_left : tracing_due n e traced owed page ≤ tracing_left n e traced owed page + round_cost n
+  pub due_le_left : tracing_due n e traced turn owed page ≤ tracing_left n e traced turn owed page + round_cost n
   due_le_left = ⊎_elim
       (λ (is : traced ≡ e + 1). rw (due_traced is) (omega arith))
       (λ (other : traced ≢ e + 1). rw (due_untraced other) (omega arith))
       (cases_eq traced (e + 1))
 
   -- it is no more than the tracing of a whole space
-  pub due_le_longest : owed ≤ PAGE_WORDS * n → tracing_due n e traced owed page ≤ longest_tracing n
+  pub due_le_longest : owed ≤ PAGE_WORDS * n → tracing_due n e traced turn owed page ≤ longest_tracing n
   unfolding longest_tracing
   due_le_longest few = ⊎_elim
       (λ (is : traced ≡ e + 1). rw (due_traced is) (omega arith))
       (λ (other : traced ≢ e + 1). rw (due_still other)
       (let pages : page_cost n * unclaimed n e page ≤ page_cost n * (n + 1) = mul-le-mul_left (page_cost n) (unclaimed-le n e page) in
-      omega (arith, pages, few)))
+      let walk = walk_due-le n e turn in
+      omega (arith, pages, few, walk)))
       (cases_eq traced (e + 1))
 
   -- ---- when it falls
 
+  -- the turn is taken: the walk is paid
+  pub left_turned : traced ≢ e + 1 → turn ≢ e + 1 → tracing_left n e traced (e + 1) owed page + walk_cost n ≡ tracing_left n e traced turn owed page
+  unfolding tracing_left
+  left_turned other free =
+      let none = walk_due-taken n e (e + 1) refl in
+      let all = walk_due-free n e turn free in
+      rw (ne_eqb traced (e + 1) other) (omega (arith, none, all))
+
   -- a copy's room is reserved: five steps for each of its words are paid
-  pub left_reserved : (z : ℕ) → traced ≢ e + 1 → z ≤ owed → tracing_left n e traced (owed - z) page + 5 * z ≡ tracing_left n e traced owed page
+  pub left_reserved : (z : ℕ) → traced ≢ e + 1 → z ≤ owed → tracing_left n e traced turn (owed - z) page + 5 * z ≡ tracing_left n e traced turn owed page
   unfolding tracing_left
   left_reserved z other few = rw (ne_eqb traced (e + 1) other) (omega (arith, few))
 
-module _ (n e traced owed : ℕ) (page : ℕ → PageWord) (p : ℕ) (w : PageWord) (new : age_of w ≡ e + 1) where
+module _ (n e traced turn owed : ℕ) (page : ℕ → PageWord) (p : ℕ) (w : PageWord) (new : age_of w ≡ e + 1) where
   -- a page is claimed: its scan and the next round are paid
   pub left_claimed : traced ≢ e + 1 → IsToBeTraced n e p → age_of (page p) ≢ e + 1
-      → tracing_left n e traced owed (put page p w) + page_cost n ≤ tracing_left n e traced owed page
+      → tracing_left n e traced turn owed (put page p w) + page_cost n ≤ tracing_left n e traced turn owed page
   left_claimed other is old =
       let one = unclaimed-claimed n e p w page new old is in
       let pages : page_cost n * (unclaimed n e (put page p w) + 1) ≤ page_cost n * unclaimed n e page = mul-le-mul_left (page_cost n) one in
-      let before = left_untraced n e traced owed page other in
-      let now = left_untraced n e traced owed (put page p w) other in
+      let before = left_untraced n e traced turn owed page other in
+      let now = left_untraced n e traced turn owed (put page p w) other in
       omega (arith, pages, before, now)
 
   -- a page that is opened is one less to be claimed, or was claimed before
-  pub left_opened : tracing_left n e traced owed (put page p w) ≤ tracing_left n e traced owed page
+  pub left_opened : tracing_left n e traced turn owed (put page p w) ≤ tracing_left n e traced turn owed page
   left_opened = ⊎_elim
-      (λ (is : traced ≡ e + 1). let now = left_traced n e traced owed (put page p w) is in omega (arith, now))
+      (λ (is : traced ≡ e + 1). let now = left_traced n e traced turn owed (put page p w) is in omega (arith, now))
       (λ (other : traced ≢ e + 1).
       let pages : page_cost n * unclaimed n e (put page p w) ≤ page_cost n * unclaimed n e page = mul-le-mul_left (page_cost n) (unclaimed-new n e p w page new) in
-      let before = left_untraced n e traced owed page other in
-      let now = left_untraced n e traced owed (put page p w) other in
+      let before = left_untraced n e traced turn owed page other in
+      let now = left_untraced n e traced turn owed (put page p w) other in
       omega (arith, pages, before, now))
       (cases_eq traced (e + 1))
 
-  pub due_opened : tracing_due n e traced owed (put page p w) ≤ tracing_due n e traced owed page
+  pub due_opened : tracing_due n e traced turn owed (put page p w) ≤ tracing_due n e traced turn owed page
   due_opened = ⊎_elim
-      (λ (is : traced ≡ e + 1). let now = due_traced n e traced owed (put page p w) is in omega (arith, now))
+      (λ (is : traced ≡ e + 1). let now = due_traced n e traced turn owed (put page p w) is in omega (arith, now))
       (λ (other : traced ≢ e + 1).
-      let before = due_untraced n e traced owed page other in
-      let now = due_untraced n e traced owed (put page p w) other in
+      let before = due_untraced n e traced turn owed page other in
+      let now = due_untraced n e traced turn owed (put page p w) other in
       let fewer = left_opened in
       omega (arith, before, now, fewer))
       (cases_eq traced (e + 1))

@@ -49,7 +49,7 @@ module _ (l : Layout) (least : ℕ) (size : IsPageCount l.pages) (least_fits : F
 
   -- the epoch is traced
   nothing_due : due_in l.pages opened ≡ 0
-  nothing_due = due_traced l.pages 0 1 (opened.area (to_space 0)).owed opened.page refl
+  nothing_due = due_traced l.pages 0 1 opened.weak_turn (opened.area (to_space 0)).owed opened.page refl
 
   cheap : (s : Saves) → potential_in l.pages opened x + saving_in l.checkpoints l.pages s < most_steps_of l
   cheap s =

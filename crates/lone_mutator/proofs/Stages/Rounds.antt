@@ -6,4 +6,6 @@ pub mod Going
 pub mod Traced
 pub mod Loads
 pub mod Winning
+pub mod Turns
+pub mod Walks
 pub mod Stages

@@ -201,7 +201,7 @@ module _ (owed : Owed) (h : Heap) (p o : Plain) (x : Held) (q : Step) (st : Work
     rest_costs rests =
         let small = stands.stands.invariant.room.small in
         let span = span_within (read later) p' stands.stands in
-        let due = due_le_longest h.pages t.gate.epoch t.traced (t.area (to_space t.gate.epoch)).owed t.page (omega (arith, small, span)) in
+        let due = due_le_longest h.pages t.gate.epoch t.traced t.weak_turn (t.area (to_space t.gate.epoch)).owed t.page (omega (arith, small, span)) in
         let saving = saving_in-le h.checkpoints h.pages (saves_in later) in
         let bound = costs_lt_most h.pages stands.stands.size.0 in
         let most = most_le_most_of (layout_of h) in

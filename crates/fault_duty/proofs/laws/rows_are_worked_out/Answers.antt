@@ -1,4 +1,6 @@
 use Rattle.std.proofs.Common.{refl}
+use Rattle.heap_words.specs.Decoded.{decode}
+use Rattle.heap_words.specs.Word.{tag_of, number_word, pointer_word}
 use Rattle.space_map.specs.AreaWord.{decode_area, area_in}
 use Rattle.space_map.specs.GateWord.{decode_gate, gate_in}
 use Rattle.space_map.specs.PageWord.{encode_page, decode_page}
@@ -17,6 +19,10 @@ pub returns-clause-epoch_is_marked : goal.returns-clause-epoch_is_marked
 unfolding decode_area area_in decode_gate gate_in encode_page decode_page place_of
 returns-clause-epoch_is_marked c = record { steps = refl; ends = refl }
 
+pub returns-clause-cell_is_emptied : goal.returns-clause-cell_is_emptied
+unfolding decode_area area_in decode_gate gate_in encode_page decode_page place_of decode tag_of number_word pointer_word
+returns-clause-cell_is_emptied c = record { steps = refl; ends = refl }
+
 pub returns-clause-traced_epoch_is_found : goal.returns-clause-traced_epoch_is_found
 unfolding decode_area area_in decode_gate gate_in encode_page decode_page place_of
 returns-clause-traced_epoch_is_found c = record { steps = refl; ends = refl }
@@ -24,6 +30,14 @@ returns-clause-traced_epoch_is_found c = record { steps = refl; ends = refl }
 pub returns-clause-scanner_ends_with_mutators : goal.returns-clause-scanner_ends_with_mutators
 unfolding decode_area area_in decode_gate gate_in encode_page decode_page place_of
 returns-clause-scanner_ends_with_mutators c = record { steps = refl; ends = refl }
+
+pub returns-clause-turn_is_anothers : goal.returns-clause-turn_is_anothers
+unfolding decode_area area_in decode_gate gate_in encode_page decode_page place_of
+returns-clause-turn_is_anothers c = (record { steps = refl; ends = refl }, record { steps = refl; ends = refl })
+
+pub returns-clause-lost_turn_ends : goal.returns-clause-lost_turn_ends
+unfolding decode_area area_in decode_gate gate_in encode_page decode_page place_of
+returns-clause-lost_turn_ends c = record { steps = refl; ends = refl }
 
 pub returns-clause-lost_mark_ends : goal.returns-clause-lost_mark_ends
 unfolding decode_area area_in decode_gate gate_in encode_page decode_page place_of

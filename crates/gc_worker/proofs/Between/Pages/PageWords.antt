@@ -21,6 +21,8 @@ use Rattle.alloc_end.specs.Place as place
 use Rattle.fault_duty.specs.declared.duty_stage.DutyStage.{DutyStage}
 use Rattle.fault_duty.specs.declared.duty_stage.DutyStage.TheVariants as duty_stage
 use Rattle.fault_duty.specs.Duty as duty
+use Rattle.cell_walk.specs.Walking as walk
+use Rattle.cell_walk.proofs.RowsFit as walk_rows
 use Rattle.forwarding.specs.declared.evac_stage.EvacStage.{EvacStage}
 use Rattle.forwarding.specs.declared.evac_stage.EvacStage.TheVariants as evac_stage
 use Rattle.forwarding.specs.Evacuation as evac
@@ -174,6 +176,9 @@ module _ (c : Configuration) (p : Plain) (s : Stands c p) (k : ℕ) (x : Held) w
 
   rounds : (d : duty.Round) (back : Back) (stage : DutyStage) → Is c k (at_stage x (Serves (record d { stage = stage }) back)) → LeavesBy c (duty.wanted_at d stage) (won_in stage)
   rounds d back (duty_stage.Claims q) is = claims d back q q.stage is
+  rounds d back (duty_stage.Walks word v) is =
+      spares c p s v.layout.pages (own v.layout (is.fits.stage.0.sound.stage.1.layout ∙ is.fits.stage.0.layout) is.fits.pages) (walk.wants_at v.epoch v.stage) none
+      (walk_rows.writes IsOther tt (λ addr. tt) v.epoch v.stage)
   rounds d back stage is = spares c p s d.layout.pages (own d.layout is.fits.stage.0.layout is.fits.pages) (duty.wants_at d stage) (won_in stage) tt
 
   -- ---- saves

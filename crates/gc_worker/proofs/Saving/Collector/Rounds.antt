@@ -1,30 +1,38 @@
--- A round of the duty keeps what is kept of checkpoints: a page is claimed, and TRACED exchanged, before the epoch is traced.
+-- A round of the duty keeps what is kept of checkpoints: a page is claimed, targets are replaced, and TRACED is exchanged, before the epoch is
+-- traced.
 use Rattle.std.proofs.Common.{◌≡◌, ℕ, ◌+◌, Some, true, refl, ap, subst, ◌∙◌, arith}
 use Rattle.plain_state.specs.State.{Plain}
-use Rattle.atom_store.specs.declared.step.Step.TheVariants.{Load, Exchange}
+use Rattle.atom_store.specs.declared.step.Step.TheVariants.{Load, Store, Exchange}
 use Rattle.space_map.specs.declared.page_word.PageWord.TheVariants.{Scanning}
 use Rattle.space_map.specs.PageWord.{encode_page}
 use Rattle.space_map.specs.Spaces.{Layout, page_of, to_space}
-use Rattle.space_map.specs.Table.{Announce, Area, Gate, Page, Traced, place_of}
+use Rattle.space_map.specs.Table.{Announce, Area, Gate, HeapWord, Page, Traced, WeakHead, WeakTurn, place_of}
 use Rattle.page_slots.specs.declared.claim_stage.ClaimStage.{ClaimStage}
 use Rattle.page_slots.specs.declared.claim_stage.ClaimStage.TheVariants as claim_stage
 use Rattle.page_slots.specs.Claim.{Claiming}
+use Rattle.cell_walk.specs.declared.linked_cell.LinkedCell.{LinkedCell}
+use Rattle.cell_walk.specs.declared.walk_stage.WalkStage.{WalkStage}
+use Rattle.cell_walk.specs.declared.walk_stage.WalkStage.TheVariants.{LoadsTurn, TakesTurn, LoadsWeak, LoadsTarget, LoadsTargetHeader, StoresTarget, LoadsLink}
+use Rattle.cell_walk.specs.declared.walk_stage.WalkStage.TheVariants as walk_stage
+use Rattle.cell_walk.specs.Walking.{Walking}
 use Rattle.fault_duty.specs.declared.duty_stage.DutyStage.{DutyStage}
-use Rattle.fault_duty.specs.declared.duty_stage.DutyStage.TheVariants.{LoadsGate, LoadsTraced, LoadsWanted, LoadsFrontFor, LoadsFront, LoadsPage, Claims, EndGate, EndArea, EndPage, EndFilling, EndAreaAgain, Traces, Ended}
+use Rattle.fault_duty.specs.declared.duty_stage.DutyStage.TheVariants.{LoadsGate, LoadsTraced, LoadsWanted, LoadsFrontFor, LoadsFront, LoadsPage, Claims, EndGate, EndArea, EndPage, EndFilling, EndAreaAgain, Walks, Traces, Ended}
 use Rattle.fault_duty.specs.Duty.{Round}
 use Rattle.fault_duty.specs.Duty as duty
 use Rattle.heap_state.specs.Configuration.{Configuration, table, team}
-use Rattle.heap_state.specs.Memory.Entries.{EntryFits, PageIs, TracedIs}
+use Rattle.heap_state.specs.Memory.Entries.{EntryFits, PageIs, TracedIs, WeakTurnIs, WordIs}
 use Rattle.heap_state.specs.Saving.Frozen.{Frozen}
 use Rattle.heap_state.specs.Saving.Savers.{Saver}
-use Rattle.heap_state.specs.Worker.{LastLook, Worker}
-use Rattle.heap_laws.specs.Saving.Rows.{Spares}
-use Rattle.heap_laws.proofs.Saving.Sparing.{claims_are_spared, traced_is_spared}
+use Rattle.heap_state.specs.Worker.{At, LastLook, Worker}
+use Rattle.heap_laws.specs.Saving.Rows.{Spares, SparesWeakTurn}
+use Rattle.heap_laws.specs.Cells.Walks.{replacing}
+use Rattle.heap_laws.specs.Saving.Sparing.{WalksChain}
+use Rattle.heap_laws.proofs.Saving.Sparing.{claims_are_spared, traced_is_spared, traced_words_are_spared}
 use Rattle.gc_worker.specs.declared.stage.back.Back.{Back}
 use Rattle.gc_worker.specs.declared.stage.Stage.TheVariants.{Serves}
 use Rattle.gc_worker.specs.Steps.Wanted.{wanted}
 use Rattle.gc_worker.specs.Workers.Held.{Held, at_stage}
-use Rattle.gc_worker.specs.Workers.Knows.{claim_with, looked_all}
+use Rattle.gc_worker.specs.Workers.Knows.{claim_with, looked_all, visited}
 use Rattle.gc_worker.proofs.Saving.Frame.Forgetting.{IsForgetful, SavesSo}
 use Rattle.gc_worker.proofs.Saving.Frame.Forgetting as by_row
 use Rattle.gc_worker.proofs.Saving.Frame.Rounding.{round_less}
@@ -84,6 +92,43 @@ module _ (c : Configuration) (p : Plain) (z : Frozen) (saver : ℕ → Saver) (k
   claims q (claim_stage.Ended result) b =
       by_row.nothing c p z saver k (here (Claims (record q { stage = claim_stage.Ended result }))) b (forgets (Claims (record q { stage = claim_stage.Ended result })) b) refl
 
+  -- ---- the walk over the chain of copied cells
+
+  module _ (traced : ℕ) (w : Walking) where
+    abbrev walks_at : WalkStage → DutyStage
+    walks_at stage = Walks traced (record w { stage = stage })
+
+    module _ (stage : WalkStage) (b : Before c p z saver k (here (walks_at stage))) where
+      walk_pages : w.layout.pages ≡ c.pages
+      walk_pages = ap (λ (l : Layout). l.pages) b.is.fits.stage.0.sound.stage.1.layout ∙ pages (walks_at stage) b
+
+      loads_it : (at : ℕ) → wanted (here (walks_at stage)) ≡ Some (Load at) → SavesSo c p saver k (here (walks_at stage))
+      loads_it at next = loads (walks_at stage) b at next
+
+    exchanges_turn : (turn : ℕ) → Before c p z saver k (here (walks_at (TakesTurn turn))) → SavesSo c p saver k (here (walks_at (TakesTurn turn)))
+    exchanges_turn turn b =
+        by_row.exchanges c p z saver k (here (walks_at (TakesTurn turn))) b (forgets (walks_at (TakesTurn turn)) b) (WeakTurnIs (w.epoch + 1)) tt turn (λ same. SparesWeakTurn (w.epoch + 1))
+        (ap (λ (n : ℕ). Some (Exchange (place_of n WeakTurn) turn (w.epoch + 1))) (walk_pages (TakesTurn turn) b))
+
+    stores_target : (cell : LinkedCell) (word : ℕ) → Before c p z saver k (here (walks_at (StoresTarget cell word))) → SavesSo c p saver k (here (walks_at (StoresTarget cell word)))
+    stores_target cell word b =
+        let inside = b.is.fits.stage.0.sound.stage.1.sound.fits.0.inside in
+        let n = walk_pages (StoresTarget cell word) b in
+        by_row.stores c p z saver k (here (walks_at (StoresTarget cell word))) b (forgets (walks_at (StoresTarget cell word)) b) (WordIs (cell.at + 1) word) (omega (arith, inside, n))
+        (traced_words_are_spared (table c) (saves c) z (team c) b.stands.ghost saver k (cell.at + 1) word b.saving (prepared c p z saver k (here (walks_at (StoresTarget cell word))) b)
+        (WalksChain (At (replacing (visited cell) word)) (ap (λ (u : Worker). u.pass) b.is.as_known)))
+        (ap (λ (n : ℕ). Some (Store (place_of n (HeapWord (cell.at + 1))) word)) n)
+
+    by_walk : (stage : WalkStage) → Before c p z saver k (here (walks_at stage)) → SavesSo c p saver k (here (walks_at stage))
+    by_walk LoadsTurn b = loads_it LoadsTurn b (place_of w.layout.pages WeakTurn) refl
+    by_walk (TakesTurn turn) b = exchanges_turn turn b
+    by_walk LoadsWeak b = loads_it LoadsWeak b (place_of w.layout.pages WeakHead) refl
+    by_walk (LoadsTarget cell) b = loads_it (LoadsTarget cell) b (place_of w.layout.pages (HeapWord (cell.at + 1))) refl
+    by_walk (LoadsTargetHeader cell old) b = loads_it (LoadsTargetHeader cell old) b (place_of w.layout.pages (HeapWord old)) refl
+    by_walk (StoresTarget cell word) b = stores_target cell word b
+    by_walk (LoadsLink cell) b = loads_it (LoadsLink cell) b (place_of w.layout.pages (HeapWord (cell.at + 2))) refl
+    by_walk (walk_stage.Ended end) b = by_row.nothing c p z saver k (here (walks_at (walk_stage.Ended end))) b (forgets (walks_at (walk_stage.Ended end)) b) refl
+
   -- ---- TRACED is exchanged
 
   module _ (traced : ℕ) (b : Before c p z saver k (here (Traces traced))) where
@@ -91,7 +136,7 @@ module _ (c : Configuration) (p : Plain) (z : Frozen) (saver : ℕ → Saver) (k
     traced_spared same =
         let look : LastLook = record { traced = traced } in
         let law = traced_is_spared (table c) (saves c) z (team c) b.stands.ghost saver k look b.saving (prepared c p z saver k (here (Traces traced)) b)
-        (record { looks = ap (λ (w : Worker). w.last_look) b.is.as_known; unchanged = traced_word c ∙ same }) in
+        (record { looks = ap (λ (w : Worker). w.last_look) b.is.as_known; unchanged = traced_word c ∙ same; walked = ap (λ (w : Worker). w.pass) b.is.as_known }) in
         subst (λ (w : Worker). Spares (table c) (saves c) z (team c).count saver (Some (TracedIs (w.epoch + 1)))) b.is.as_known law
 
     exchanges_traced : SavesSo c p saver k (here (Traces traced))
@@ -114,6 +159,7 @@ module _ (c : Configuration) (p : Plain) (z : Frozen) (saver : ℕ → Saver) (k
   by_stage (EndPage look page) b = loads (EndPage look page) b (place_of d.layout.pages (Page page)) refl
   by_stage (EndFilling look) b = loads (EndFilling look) b (place_of d.layout.pages (Page (page_of look.front))) refl
   by_stage (EndAreaAgain look filling) b = loads (EndAreaAgain look filling) b (place_of d.layout.pages (Area (to_space d.epoch))) refl
+  by_stage (Walks traced walk) b = by_walk traced walk walk.stage b
   by_stage (Traces traced) b = exchanges_traced traced b
   by_stage (Ended result) b = by_row.nothing c p z saver k (here (Ended result)) b (forgets (Ended result) b) refl
 

@@ -142,6 +142,13 @@ module _ (c : Configuration) (p : Plain) (s : Stands c p) (k : ℕ) (y : Held) w
       pub holds : HoldsValue (era c) s.ghost (word_held (role_of role) word) value_is.value
       holds = subst (λ (w : ℕ). HoldsValue (era c) s.ghost (word_held (role_of role) w) value_is.value) (heap_word c (field_at f)) value_is.loaded
 
+      -- it is of no cell
+      is_no_cell : ¬ (s.ghost.kind j.serial ≡ kind.Weak)
+      is_no_cell e =
+          let none = no_cell value_is.record_there.kind role (word_of_value value_is.record_there.kind x) value_is.role in
+          let cell : is_cell value_is.record_there.kind ≡ true = ap is_cell (value_is.kind ∙ e) in
+          absurd (let z = sym none ∙ cell in cc)
+
       -- it stands at the value's word
       there_is : j.serial + word_of_value (s.ghost.kind j.serial) x ≡ field_at f
       there_is = let b = (knew_access c p s k y stage is (known_access f) knows_it).first in omega (arith, b)
@@ -188,7 +195,7 @@ module _ (c : Configuration) (p : Plain) (s : Stands c p) (k : ℕ) (y : Held) w
         stored_law next now goes as_it =
             let here = there_is in
             rw here at (mutators_store (era c) (memory c) (team c) s.ghost p k next now j.serial x (word_as role v) value_is.record_there new
-            (ready c p s k y stage is) (running c p s k y stage is) s.shown value_is.word (rw here value_is.opens) may_store.0 value_is.is may_store.1 goes as_it)
+            (ready c p s k y stage is) (running c p s k y stage is) s.shown is_no_cell value_is.word (rw here value_is.opens) may_store.0 value_is.is may_store.1 goes as_it)
 
     module _ (d : ℕ) (is : Is c k (at c p s k y (LoadsField f d))) (executes : ExecutesAction y.account y.registers y.task (Loads d j x)) where
       loads_it : Goes c p s k None (at c p s k y (LoadsField f d)) (replies.Value word)

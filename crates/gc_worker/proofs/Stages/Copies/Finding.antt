@@ -32,7 +32,7 @@ use Rattle.gc_worker.specs.declared.stage.Stage.TheVariants.{Evacuates, Scans}
 use Rattle.gc_worker.specs.Workers.Fits.{Fits, FitsBack, HasAsked}
 use Rattle.gc_worker.specs.Steps.Goes.{Is, Goes, StepsSo}
 use Rattle.gc_worker.specs.Workers.Held.{Held}
-use Rattle.gc_worker.specs.Workers.Knows.{found_at, linking_at, nothing_found, knows, cursor_asked}
+use Rattle.gc_worker.specs.Workers.Knows.{linking_at, knows, cursor_asked}
 use Rattle.gc_worker.specs.Steps.Turned.{turned_copy}
 use Rattle.gc_worker.proofs.Stages.Copies.Hosts.{Host, ForScan, at, machine_at, wants_its, is_sound, has_pages, is_worker, takes, with_sound, tells_nothing, wins_nothing, copy_is, quest_with, quest_is}
 use Rattle.gc_worker.proofs.Stages.Copies.Publishing.{stays}
@@ -53,8 +53,8 @@ module _ (y : Held) (v : Evacuation) (scan : Scanning) (back : Back) where
 
   -- the scan knows of the quest what the copy knew
   answer_known : (z : EvacStage) (q : ScanStage) (to : ℕ) → linking_at z ≡ None → HasAsked (record v { stage = z }) q
-      → record (knows (asking z q)) { copy = None; quest = Some (quest_with y v (ForScan (record scan { stage = q }) back) (found_at to)) } ≡ knows (going_on q to)
-  answer_known z (Asks asked) to none has = λ i. record (knows (going_on (Asks asked) to)) { linking = none i; quest = Some (record { old = sym has i; origin = Rattle.heap_state.specs.Worker.Scanned (cursor_asked (Asks asked)); found = Some to; links = false }) }
+      → record (knows (asking z q)) { copy = None; quest = Some (quest_with y v (ForScan (record scan { stage = q }) back) (Some to)) } ≡ knows (going_on q to)
+  answer_known z (Asks asked) to none has = λ i. record (knows (going_on (Asks asked) to)) { linking = none i; quest = Some (record { old = sym has i; origin = Rattle.heap_state.specs.Worker.Scanned (cursor_asked (Asks asked)); found = Some to }) }
   answer_known z LoadsCross to none has = absurd has
   answer_known z (LoadsFirst a) to none has = absurd has
   answer_known z (LoadsCount h) to none has = absurd has
@@ -94,9 +94,9 @@ module _ (c : Configuration) (p : Plain) (s : Stands c p) (k : ℕ) (y : Held) (
   abbrev Finds : Type 0
   Finds = (len to : ℕ) → decode first_word ≡ ForwardWord len to → Goes c p s k None (at y o v LoadsHeader) (Value first_word)
 
-  pub answers : OldHeaderAnswers (era c) (memory c) s.ghost k (quest_with y v o nothing_found)
+  pub answers : OldHeaderAnswers (era c) (memory c) s.ghost k (quest_with y v o None)
   answers =
-      old_headers_are_read (era c) (memory c) (team c) s.ghost k (quest_with y v o nothing_found) (prepared c p s k (at y o v LoadsHeader) is)
+      old_headers_are_read (era c) (memory c) (team c) s.ghost k (quest_with y v o None) (prepared c p s k (at y o v LoadsHeader) is)
       (ap (λ (u : Worker). u.quest) is.as_known ∙ quest_is y v o LoadsHeader) (ap (λ (u : Worker). u.copy) is.as_known ∙ copy_is y v o LoadsHeader)
 
   by_word : (size : ℕ) (d : Decoded) → size ≡ s.ghost.size v.addr → decode first_word ≡ d → OldHeader (era c) (memory c).front k size d → Finds → Goes c p s k None (at y o v LoadsHeader) (Value first_word)
@@ -127,7 +127,7 @@ module _ (c : Configuration) (p : Plain) (s : Stands c p) (k : ℕ) (y : Held) (
   for_scan z = at y (ForScan scan back) v z
 
   abbrev found_by : (to : ℕ) → Worker → Worker
-  found_by to w = record w { copy = None; quest = Some (quest_with y v (ForScan scan back) (found_at to)) }
+  found_by to w = record w { copy = None; quest = Some (quest_with y v (ForScan scan back) (Some to)) }
 
   answers_scan : (e : Option Entry) (z : EvacStage) (to : ℕ) (reply : Reply) (h : Ghost) → Is c k (for_scan z) → linking_at z ≡ None → stage_after v.layout v.epoch z reply ≡ Ended to → to < 2 ^ 32
       → Law c p s k (for_scan z) e (found_by to (knows (for_scan z))) h → Goes c p s k e (for_scan z) reply
@@ -148,9 +148,9 @@ module _ (c : Configuration) (p : Plain) (s : Stands c p) (k : ℕ) (y : Held) (
         (λ len to e. answers_scan None LoadsHeader to (Value (word_in c.pages c.words (HeapWord v.addr))) s.ghost is refl
         (ap (by_first_word (word_in c.pages c.words (HeapWord v.addr))) e) (forward_bounds (word_in c.pages c.words (HeapWord v.addr)) len to e).1
         (subst (λ (u : Worker). Law c p s k (for_scan LoadsHeader) None (found_by to u) s.ghost) is.as_known
-        (subst (λ q. Law c p s k (for_scan LoadsHeader) None (record ((team c).worker k) { copy = q; quest = Some (quest_with y v (ForScan scan back) (found_at to)) }) s.ghost)
+        (subst (λ q. Law c p s k (for_scan LoadsHeader) None (record ((team c).worker k) { copy = q; quest = Some (quest_with y v (ForScan scan back) (Some to)) }) s.ghost)
         (ap (λ (u : Worker). u.copy) is.as_known)
-        (forwards_are_found (era c) (memory c) (team c) s.ghost k (quest_with y v (ForScan scan back) nothing_found) len to (prepared c p s k (for_scan LoadsHeader) is)
+        (forwards_are_found (era c) (memory c) (team c) s.ghost k (quest_with y v (ForScan scan back) None) len to (prepared c p s k (for_scan LoadsHeader) is)
         (ap (λ (u : Worker). u.copy) is.as_known) (ap (λ (u : Worker). u.quest) is.as_known) (ap decode (heap_word c v.addr) ∙ e)))))
 
   module _ (to : ℕ) (is : Is c k (for_scan (Clears to))) where

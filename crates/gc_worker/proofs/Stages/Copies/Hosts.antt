@@ -16,7 +16,7 @@ use Rattle.gc_worker.specs.declared.stage.Stage.{Stage}
 use Rattle.gc_worker.specs.declared.stage.Stage.TheVariants.{Forwards, Evacuates}
 use Rattle.gc_worker.specs.Workers.Fits.{Fits, FitsBack, Takes}
 use Rattle.gc_worker.specs.Workers.Held.{Held}
-use Rattle.gc_worker.specs.Workers.Knows.{Finding, knows, copy_at, found_in, linking_at, cursor_asked}
+use Rattle.gc_worker.specs.Workers.Knows.{knows, copy_at, found_in, linking_at, cursor_asked}
 use Rattle.gc_worker.specs.Steps.Turned.{Silent, turned, turned_copy, turned_register, told, won}
 use Rattle.gc_worker.specs.Steps.Wanted.{wanted}
 use Rattle.gc_worker.proofs.Workers.Parts.{refit}
@@ -33,6 +33,24 @@ stage_of (ForRegister r after) v = Forwards (record { register = r; evac = v; af
 abbrev pub origin_of : Host → Origin
 origin_of (ForScan s back) = Scanned (cursor_asked s.stage)
 origin_of (ForRegister r after) = Register r
+
+-- who has found nothing yet has nothing to link
+pub nothing_to_link : (z : EvacStage) → found_in z ≡ None → linking_at z ≡ None
+nothing_to_link LoadsHeader e = refl
+nothing_to_link (TakesHeader kept) e = refl
+nothing_to_link (LoadsArea kept) e = refl
+nothing_to_link (Announces kept area) e = refl
+nothing_to_link (Reserves kept area) e = refl
+nothing_to_link (StoresHeader r) e = refl
+nothing_to_link (LoadsWord r i) e = refl
+nothing_to_link (StoresWord r w) e = refl
+nothing_to_link (StoresCross r page) e = refl
+nothing_to_link (StoresForward r) e = refl
+nothing_to_link (LoadsWeak to) e = absurd (cc)
+nothing_to_link (StoresLink to word) e = absurd (cc)
+nothing_to_link (TakesWeak to word) e = absurd (cc)
+nothing_to_link (Clears to) e = refl
+nothing_to_link (Ended to) e = refl
 
 module _ (y : Held) (o : Host) (w : evac.Evacuation) where
   abbrev pub machine_at : EvacStage → evac.Evacuation
@@ -133,15 +151,19 @@ module _ (y : Held) (w : evac.Evacuation) where
   copy_is (ForScan s back) z = refl
   copy_is (ForRegister r after) z = refl
 
-  abbrev pub quest_with : Host → Finding → Quest
-  quest_with o finding = record { old = w.addr; origin = origin_of o; found = finding.place; links = finding.links }
+  abbrev pub quest_with : Host → Option ℕ → Quest
+  quest_with o finding = record { old = w.addr; origin = origin_of o; found = finding }
 
   pub quest_is : (o : Host) (z : EvacStage) → (knows (at y o w z)).quest ≡ Some (quest_with o (found_in z))
   quest_is (ForScan s back) z = refl
   quest_is (ForRegister r after) z = refl
 
+  pub linking_is : (o : Host) (z : EvacStage) → (knows (at y o w z)).linking ≡ linking_at z
+  linking_is (ForScan s back) z = refl
+  linking_is (ForRegister r after) z = refl
+
   -- from one stage to the next it is the same but for the copy, what is found, and the cell to link
-  pub becomes_known : (o : Host) (z q : EvacStage) (copy : Option Copy) (found : Finding) → copy_at w.layout w.addr w.epoch q ≡ copy → found_in q ≡ found
+  pub becomes_known : (o : Host) (z q : EvacStage) (copy : Option Copy) (found : Option ℕ) → copy_at w.layout w.addr w.epoch q ≡ copy → found_in q ≡ found
       → record (knows (at y o w z)) { copy = copy; quest = Some (quest_with o found); linking = linking_at q } ≡ knows (at y o w q)
   becomes_known (ForScan s back) z q copy found c f = λ i. record (knows (at y (ForScan s back) w q)) { copy = sym c i; quest = Some (quest_with (ForScan s back) (sym f i)) }
   becomes_known (ForRegister r after) z q copy found c f = λ i. record (knows (at y (ForRegister r after) w q)) { copy = sym c i; quest = Some (quest_with (ForRegister r after) (sym f i)) }

@@ -27,9 +27,9 @@ use Rattle.heap_laws.specs.Copying as law
 use Rattle.heap_laws.proofs.Copying.Laws.{places_are_aimed, places_are_announced, places_are_reserved}
 use Rattle.gc_worker.specs.Steps.Goes.{Is, Goes, StepsSo}
 use Rattle.gc_worker.specs.Workers.Held.{Held}
-use Rattle.gc_worker.specs.Workers.Knows.{nothing_found, placing, copy_at, found_in, scan_of}
+use Rattle.gc_worker.specs.Workers.Knows.{placing, copy_at, found_in, scan_of}
 use Rattle.gc_worker.proofs.Words.Eras.{ends_below, span_within}
-use Rattle.gc_worker.proofs.Stages.Copies.Hosts.{Host, ForScan, ForRegister, at, machine_at, wants_its, is_sound, has_pages, is_worker, copy_is, quest_with, quest_is}
+use Rattle.gc_worker.proofs.Stages.Copies.Hosts.{Host, ForScan, ForRegister, at, machine_at, wants_its, is_sound, has_pages, is_worker, copy_is, quest_with, quest_is, linking_is, nothing_to_link}
 use Rattle.gc_worker.proofs.Stages.Copies.Publishing.{goes, stays}
 use Rattle.gc_worker.proofs.Stages.Gate.Words.{wants}
 use Rattle.gc_worker.proofs.Words.RowSteps.{Law, exchanges, loads, stores, row_fits, prepared}
@@ -40,12 +40,16 @@ module _ (c : Configuration) (p : Plain) (s : Stands c p) (k : ℕ) (y : Held) (
 
   -- the worker with this copy, which is not found
   abbrev with_copy : Copy → Worker
-  with_copy copy = record ((team c).worker k) { copy = Some copy; quest = Some (quest_with y v o nothing_found) }
+  with_copy copy = record ((team c).worker k) { copy = Some copy; quest = Some (quest_with y v o None); linking = None }
 
   -- what a law says of a worker that seeks the copy
-  still_seeks : (z : EvacStage) (copy : Copy) → Is c k (here z) → found_in z ≡ nothing_found → law.copying ((team c).worker k) copy ≡ with_copy copy
+  still_seeks : (z : EvacStage) (copy : Copy) → Is c k (here z) → found_in z ≡ None → law.copying ((team c).worker k) copy ≡ with_copy copy
   still_seeks z copy is not_yet =
-      λ i. record ((team c).worker k) { copy = Some copy; quest = (ap (λ (u : Worker). u.quest) is.as_known ∙ quest_is y v o z ∙ ap (λ f. Some (quest_with y v o f)) not_yet) i }
+      λ i. record ((team c).worker k) {
+        copy = Some copy;
+        quest = (ap (λ (u : Worker). u.quest) is.as_known ∙ quest_is y v o z ∙ ap (λ f. Some (quest_with y v o f)) not_yet) i;
+        linking = (ap (λ (u : Worker). u.linking) is.as_known ∙ linking_is y v o z ∙ nothing_to_link z not_yet) i;
+      }
 
   module _ (area : AreaWord) (is : Is c k (here (Announces kept area))) where
     abbrev named : Copy
@@ -70,7 +74,7 @@ module _ (c : Configuration) (p : Plain) (s : Stands c p) (k : ℕ) (y : Held) (
         (wants_its y v o (Announces kept area) ∙ ap (λ n. Some (Store (place_of n (Announce v.worker)) place)) pages
         ∙ ap (λ n. Some (Store (place_of c.pages (Announce n)) place)) worker)
         (stores c p s k (here (Announces kept area)) (AnnounceIs k place) row
-        (goes c p s k y o v (Some (AnnounceIs k place)) (Announces kept area) (Reserves kept area) Done (Some named) nothing_found s.ghost is refl refl announce_law refl refl sound.fits))
+        (goes c p s k y o v (Some (AnnounceIs k place)) (Announces kept area) (Reserves kept area) Done (Some named) None s.ghost is refl refl announce_law refl refl sound.fits))
 
 -- ---- the area of the epoch's space
 
@@ -152,11 +156,11 @@ module _ (c : Configuration) (p : Plain) (s : Stands c p) (k : ℕ) (y : Held) (
       (ap (λ (u : Worker). u.copy) is.as_known ∙ copy_is y v o z ∙ at_z) loose)))
 
   -- FRONT is the copy's place, which is to be announced
-  aims : (z : EvacStage) (d : Copy) (reply : Reply) → Is c k (here_too z) → copy_at v.layout v.addr v.epoch z ≡ Some d → found_in z ≡ nothing_found → d.reserved ≡ false → d.size ≡ size_of kept
+  aims : (z : EvacStage) (d : Copy) (reply : Reply) → Is c k (here_too z) → copy_at v.layout v.addr v.epoch z ≡ Some d → found_in z ≡ None → d.reserved ≡ false → d.size ≡ size_of kept
       → record d { to = front_of v.layout v.epoch (area_read c); aimed = true; announced = false } ≡ placing v.addr (front_of v.layout v.epoch (area_read c)) kept false
       → IsKeptHeader v.layout.pages v.addr kept → stage_after v.layout v.epoch z reply ≡ Announces kept (area_read c) → Goes c p s k None (here_too z) reply
   aims z d reply is at_z not_yet loose size same keeps next =
-      goes c p s k y o v None z (Announces kept (area_read c)) reply (Some (placing v.addr (front_of v.layout v.epoch (area_read c)) kept false)) nothing_found s.ghost is next refl
+      goes c p s k y o v None z (Announces kept (area_read c)) reply (Some (placing v.addr (front_of v.layout v.epoch (area_read c)) kept false)) None s.ghost is next refl
       (subst (λ (u : Worker). Law c p s k (here_too z) None u s.ghost)
       (ap (law.copying ((team c).worker k)) same ∙ still_seeks c p s k y o v kept z (placing v.addr (front_of v.layout v.epoch (area_read c)) kept false) is not_yet)
       (places_are_aimed (era c) (memory c) (team c) s.ghost k d (front_of v.layout v.epoch (area_read c)) (prepared c p s k (here_too z) is)
@@ -208,7 +212,7 @@ module _ (c : Configuration) (p : Plain) (s : Stands c p) (k : ℕ) (y : Held) (
       moved =
           let copy : Copy = record announced { reserved = true; crossed = (front_of v.layout v.epoch area + 63) / 64 } in
           goes c p s k y o v (Some (AreaIs (to_space (era c).epoch) (area_past (size_of kept) area))) (Reserves kept area) (StoresHeader (reserved_at v.layout v.epoch kept area)) Won
-          (Some copy) nothing_found (law.reserved s.ghost k v.addr (front_of v.layout v.epoch area) (size_of kept)) is refl refl
+          (Some copy) None (law.reserved s.ghost k v.addr (front_of v.layout v.epoch area) (size_of kept)) is refl refl
           (subst (λ (u : Worker). Law c p s k (here_too (Reserves kept area)) (Some (AreaIs (to_space (era c).epoch) (area_past (size_of kept) area))) u
           (law.reserved s.ghost k v.addr (front_of v.layout v.epoch area) (size_of kept)))
           (still_seeks c p s k y o v kept (Reserves kept area) copy is refl)

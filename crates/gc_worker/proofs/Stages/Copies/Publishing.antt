@@ -1,5 +1,5 @@
 -- The old header is taken, and the forward stored in its place.
-use Rattle.std.proofs.Common.{◌≡◌, ℕ, ◌+◌, ◌-◌, Bool, true, false, cond, Option, Some, None, refl, sym, ap, subst, ◌∙◌, arith}
+use Rattle.std.proofs.Common.{◌≡◌, ℕ, ◌+◌, ◌-◌, ◌*◌, ◌≤◌, Bool, true, false, cond, Option, Some, None, refl, sym, ap, subst, ◌∙◌, arith, inl, inr}
 use Rattle.std.proofs.lemmas.Bool.{eqb-true}
 use Rattle.plain_state.specs.State.{Plain}
 use Rattle.atom_store.specs.declared.reply.Reply.{Reply}
@@ -23,17 +23,16 @@ use Rattle.heap_state.specs.Configuration.{Configuration, Stands, era, memory, t
 use Rattle.heap_state.specs.Memory.Entries.{Entry, WordIs}
 use Rattle.heap_state.specs.Invariant.Ghost.{Ghost}
 use Rattle.heap_state.specs.Memory.Table.{word_in}
-use Rattle.heap_state.specs.Worker.{Worker, Copy}
-use Rattle.heap_laws.specs.Copying.{begun, published, taken}
-use Rattle.heap_laws.proofs.Cells.Rows.{chain_parts_are_free}
+use Rattle.heap_state.specs.Worker.{Worker, Linking, Copy}
+use Rattle.heap_laws.specs.Copying.{LinksCopy, begun, published, taken}
 use Rattle.heap_laws.proofs.Copying.Laws.{headers_are_taken, copies_are_published}
 use Rattle.gc_worker.specs.Steps.Goes.{Is, Goes, StepsSo}
 use Rattle.gc_worker.specs.Workers.Held.{Held}
-use Rattle.gc_worker.specs.Workers.Knows.{Finding, nothing_found, found_at, cell_found_at, knows, copy_at, found_in, linking_at, moving, page_past}
-use Rattle.gc_worker.proofs.Stages.Copies.Hosts.{Host, at, machine_at, wants_its, tells_nothing, wins_nothing, turns, takes, is_sound, has_pages, is_worker, with_sound, refits, copy_is, quest_with, quest_is, becomes_known}
+use Rattle.gc_worker.specs.Workers.Knows.{knows, copy_at, found_in, linking_at, moving, page_past}
+use Rattle.gc_worker.proofs.Stages.Copies.Hosts.{Host, at, machine_at, wants_its, tells_nothing, wins_nothing, turns, takes, is_sound, has_pages, is_worker, with_sound, refits, copy_is, quest_with, quest_is, linking_is, becomes_known}
 use Rattle.gc_worker.proofs.Stages.Copies.Words.{heap_word}
 use Rattle.gc_worker.proofs.Stages.Gate.Words.{wants}
-use Rattle.gc_worker.proofs.Words.RowSteps.{Law, becomes, exchanges, nothing, stores, row_fits, prepared}
+use Rattle.gc_worker.proofs.Words.RowSteps.{Law, becomes, exchanges, nothing, stores, prepared}
 
 -- a cell's header is of the kind weak, and of two words
 pub cell_of : (kind : Kind) (len : ℕ) → is_cell_of kind len ≡ true → (kind ≡ Weak) × (len ≡ 2)
@@ -48,20 +47,30 @@ keeps_cell kept cell keeps =
     let is = cell_of kept.kind kept.len cell in
     (keeps.serial, keeps.mutator, keeps.says ∙ ap (λ kind. HeaderWord kind kept.len keeps.serial keeps.mutator) is.0 ∙ ap (λ len. HeaderWord Weak len keeps.serial keeps.mutator) is.1)
 
+-- the header that is kept of a cell says so
+keeps_other : {pages addr : ℕ} (kept : KeptHeader) → is_cell kept ≡ false → IsKeptHeader pages addr kept
+    → (serial : ℕ) × (mutator : ℕ) × (decode kept.word ≡ HeaderWord Weak 2 serial mutator) → ⊥
+keeps_other kept other keeps has =
+    let same : HeaderWord kept.kind kept.len keeps.serial keeps.mutator ≡ HeaderWord Weak 2 has.0 has.1 = sym keeps.says ∙ has.2 in
+    let kind : kept.kind ≡ Weak = cc in
+    let len : kept.len ≡ 2 = cc in
+    let is : is_cell_of kept.kind kept.len ≡ true = rw (kind, len) refl in
+    let z = sym other ∙ is in cc
+
 module _ (c : Configuration) (p : Plain) (s : Stands c p) (k : ℕ) (y : Held) (o : Host) (v : Evacuation) where
   abbrev pub here : EvacStage → Held
   here z = at y o v z
 
   -- the copy goes on, with this ghost
-  pub goes : (e : Option Entry) (z q : EvacStage) (reply : Reply) (copy : Option Copy) (found : Finding) (h : Ghost) → Is c k (here z) → stage_after v.layout v.epoch z reply ≡ q → told q ≡ More
-      → Law c p s k (here z) e (record ((team c).worker k) { copy = copy; quest = Some (quest_with y v o found) }) h
+  pub goes : (e : Option Entry) (z q : EvacStage) (reply : Reply) (copy : Option Copy) (found : Option ℕ) (h : Ghost) → Is c k (here z) → stage_after v.layout v.epoch z reply ≡ q → told q ≡ More
+      → Law c p s k (here z) e (record ((team c).worker k) { copy = copy; quest = Some (quest_with y v o found); linking = linking_at q }) h
       → copy_at v.layout v.addr v.epoch q ≡ copy → found_in q ≡ found → FitsStage v.layout.pages v.addr q → Goes c p s k e (here z) reply
   goes e z q reply copy found h is next more law copy_after found_after fits =
       let sound = is_sound y v c.pages c.mutators k o z is.fits in
       becomes c p s k (here z) e reply (here q) h (turns y v o z q reply next more) is.below
       (subst (λ (u : Worker). Law c p s k (here z) e u h)
       (ap (λ (u : Worker). record u { copy = copy; quest = Some (quest_with y v o found); linking = linking_at q }) is.as_known ∙ becomes_known y v o z q copy found copy_after found_after)
-      (chain_parts_are_free (era c) (memory c) (team c) s.ghost k e (record ((team c).worker k) { copy = copy; quest = Some (quest_with y v o found) }) h (linking_at q) ((team c).worker k).pass law))
+      law)
       (tells_nothing y v o z reply) (wins_nothing y v o z reply)
       (takes y v o z reply (subst (λ n. IsSound (record v { stage = n })) (sym next) (with_sound y v c.pages c.mutators k z q sound fits)))
       (refits y v c.pages c.mutators k o z q is.fits more fits)
@@ -85,41 +94,45 @@ module _ (c : Configuration) (p : Plain) (s : Stands c p) (k : ℕ) (y : Held) (
     abbrev forward : ℕ
     forward = forward_word r.kept.len r.to
 
-    -- whether the worker has the copy to link
-    abbrev with_copy : Bool → Worker
-    with_copy links = record ((team c).worker k) { copy = None; quest = Some (quest_with y v o (record { place = Some r.to; links = links })) }
+    -- the worker with the copy that it has found, and has to link if it is a cell
+    abbrev with_copy : Option Linking → Worker
+    with_copy l = record ((team c).worker k) { copy = None; quest = Some (quest_with y v o (Some r.to)); linking = l }
 
-    forward_law : (links : Bool) → (links ≡ true → is_cell r.kept ≡ true) → Law c p s k (here (StoresForward r)) (Some (WordIs v.addr forward)) (with_copy links) (published s.ghost k v.addr r.to)
-    forward_law links cell =
+    abbrev copied : Copy
+    copied = moving v.addr r (size_of r.kept) None (page_past r)
+
+    forward_law : (l : Option Linking) → LinksCopy copied l → Law c p s k (here (StoresForward r)) (Some (WordIs v.addr forward)) (with_copy l) (published s.ghost k v.addr r.to)
+    forward_law l links =
         let sound = is_sound y v c.pages c.mutators k o (StoresForward r) is.fits in
         let short = sound.fits.keeps.short in
         let inside = sound.fits.inside in
         let few = sound.pages in
         let len : r.kept.len + 1 - 1 ≡ r.kept.len = omega arith in
-        copies_are_published (era c) (memory c) (team c) s.ghost k (moving v.addr r (size_of r.kept) None (page_past r)) (quest_with y v o nothing_found) forward links
+        copies_are_published (era c) (memory c) (team c) s.ghost k copied (quest_with y v o None) forward l
         (prepared c p s k (here (StoresForward r)) is)
         (ap (λ (u : Worker). u.copy) is.as_known ∙ copy_is y v o (StoresForward r)) (ap (λ (u : Worker). u.quest) is.as_known ∙ quest_is y v o (StoresForward r)) refl refl (omega arith)
         (decode-forward_word r.kept.len r.to short (omega arith) ∙ ap (λ n. ForwardWord n r.to) (sym len))
-        (λ has. keeps_cell r.kept (cell has) sound.fits.keeps)
+        links
 
     forwards_so : (b : Bool) → is_cell r.kept ≡ b → Goes c p s k (Some (WordIs v.addr forward)) (here (StoresForward r)) Done
     forwards_so true cell =
         let sound = is_sound y v c.pages c.mutators k o (StoresForward r) is.fits in
         let inside = sound.fits.inside in
         let long = (cell_of r.kept.kind r.kept.len cell).1 in
-        goes (Some (WordIs v.addr forward)) (StoresForward r) (LoadsWeak r.to) Done None (cell_found_at r.to) (published s.ghost k v.addr r.to) is
-        (ap (λ b. cond b (LoadsWeak r.to) (Clears r.to)) cell) refl (forward_law true (λ _. cell)) refl refl (omega (arith, inside, long))
+        goes (Some (WordIs v.addr forward)) (StoresForward r) (LoadsWeak r.to) Done None (Some r.to) (published s.ghost k v.addr r.to) is
+        (ap (λ b. cond b (LoadsWeak r.to) (Clears r.to)) cell) refl (forward_law (linking_at (LoadsWeak r.to)) (inl (keeps_cell r.kept cell sound.fits.keeps, refl))) refl refl (omega (arith, inside, long))
     forwards_so false other =
         let sound = is_sound y v c.pages c.mutators k o (StoresForward r) is.fits in
         let inside = sound.fits.inside in
         let few = sound.pages in
-        goes (Some (WordIs v.addr forward)) (StoresForward r) (Clears r.to) Done None (found_at r.to) (published s.ghost k v.addr r.to) is
-        (ap (λ b. cond b (LoadsWeak r.to) (Clears r.to)) other) refl (forward_law false (λ has. absurd (cc))) refl refl (omega (arith, inside, few))
+        goes (Some (WordIs v.addr forward)) (StoresForward r) (Clears r.to) Done None (Some r.to) (published s.ghost k v.addr r.to) is
+        (ap (λ b. cond b (LoadsWeak r.to) (Clears r.to)) other) refl (forward_law None (inr (λ has. keeps_other r.kept other sound.fits.keeps has, refl))) refl refl (omega (arith, inside, few))
 
     pub stores_forward : StepsSo c p s k (here (StoresForward r))
     stores_forward =
+        let inside = (is_sound y v c.pages c.mutators k o (StoresForward r) is.fits).addr in
         let pages = has_pages y v c.pages c.mutators k o (StoresForward r) is.fits in
-        let row = row_fits c p s k (here (StoresForward r)) (WordIs v.addr forward) (with_copy false) (published s.ghost k v.addr r.to) is.below (forward_law false (λ has. absurd (cc))) in
+        let row : v.addr ≤ 128 * c.pages + 63 = omega (arith, inside, pages) in
         wants c p s k (here (StoresForward r)) (Store (place_of c.pages (HeapWord v.addr)) forward)
         (wants_its y v o (StoresForward r) ∙ ap (λ n. Some (Store (place_of n (HeapWord v.addr)) forward)) pages)
         (stores c p s k (here (StoresForward r)) (WordIs v.addr forward) row (forwards_so (is_cell r.kept) refl))
@@ -139,10 +152,14 @@ module _ (c : Configuration) (p : Plain) (s : Stands c p) (k : ℕ) (y : Held) (
         let short = keeps.short in
         let few = is.fits.few in
         let heap : (memory c).heap v.addr ≡ kept.word = heap_word c v.addr ∙ same in
-        goes (Some taking) (TakesHeader kept) (LoadsArea kept) Won (Some (begun kept.word v.addr (size_of kept))) nothing_found (taken s.ghost k v.addr) is refl refl
+        goes (Some taking) (TakesHeader kept) (LoadsArea kept) Won (Some (begun kept.word v.addr (size_of kept))) None (taken s.ghost k v.addr) is refl refl
         (subst (λ (u : Worker). Law c p s k (here (TakesHeader kept)) (Some taking) u (taken s.ghost k v.addr))
-        (λ i. record ((team c).worker k) { copy = Some (begun (heap i) v.addr (size_of kept)); quest = (ap (λ (u : Worker). u.quest) is.as_known ∙ quest_is y v o (TakesHeader kept)) i })
-        (headers_are_taken (era c) (memory c) (team c) s.ghost k (quest_with y v o nothing_found) kept.kind kept.len keeps.serial keeps.mutator (busy_word kept.len k)
+        (λ i. record ((team c).worker k) {
+          copy = Some (begun (heap i) v.addr (size_of kept));
+          quest = (ap (λ (u : Worker). u.quest) is.as_known ∙ quest_is y v o (TakesHeader kept)) i;
+          linking = (ap (λ (u : Worker). u.linking) is.as_known ∙ linking_is y v o (TakesHeader kept)) i;
+        })
+        (headers_are_taken (era c) (memory c) (team c) s.ghost k (quest_with y v o None) kept.kind kept.len keeps.serial keeps.mutator (busy_word kept.len k)
         (prepared c p s k (here (TakesHeader kept)) is) (ap (λ (u : Worker). u.copy) is.as_known ∙ copy_is y v o (TakesHeader kept))
         (ap (λ (u : Worker). u.quest) is.as_known ∙ quest_is y v o (TakesHeader kept)) refl (ap decode heap ∙ keeps.says)
         (decode-busy_word kept.len k short (omega arith)))) refl refl keeps

@@ -34,7 +34,7 @@ use Rattle.gc_worker.specs.declared.stage.Stage.TheVariants.{Forwards}
 use Rattle.gc_worker.specs.Workers.Fits.{AreValues, Fits, FitsEnd, FitsStage, FitsTask, FitsTaskAfter, IsOnSide}
 use Rattle.gc_worker.specs.Steps.Goes.{Is, Goes, StepsSo}
 use Rattle.gc_worker.specs.Workers.Held.{Held, at_stage}
-use Rattle.gc_worker.specs.Workers.Knows.{found_at, nothing_found, knows, found_in, linking_at}
+use Rattle.gc_worker.specs.Workers.Knows.{knows, found_in, linking_at}
 use Rattle.gc_worker.specs.Steps.Turned.{Pointed, first_pointer, passes, forwards_it, turned_register}
 use Rattle.gc_worker.proofs.Stages.Copies.Finding.{loads_header}
 use Rattle.gc_worker.proofs.Stages.Copies.Hosts.{Host, ForRegister, at, machine_at, wants_its, is_sound, has_pages, is_worker, takes, with_sound, tells_nothing, wins_nothing, quest_with, quest_is}
@@ -108,7 +108,7 @@ module _ (c : Configuration) (p : Plain) (s : Stands c p) (k : ℕ) (y : Held) (
           let n = origin.2 in settled 8 None n (omega arith) (λ i l u. none i l (omega (arith, u, n))) (AllDone refl)
       known_next (Some q) (There j a l u at before) =
           let n = origin.2 in
-          settled j (Some (record { old = a; origin = Register j; found = None; links = false })) (omega (arith, l)) (omega (arith, u, n)) before
+          settled j (Some (record { old = a; origin = Register j; found = None })) (omega (arith, l)) (omega (arith, u, n)) before
           (AsksNext a (omega (arith, u, n)) (ap decode (kept j l) ∙ is_pointer (decode (slice_index (with_it to).registers j)) a at))
 
       -- a register that holds a pointer leads into the table
@@ -184,8 +184,8 @@ module _ (c : Configuration) (p : Plain) (s : Stands c p) (k : ℕ) (y : Held) (
         let from = origin to LoadsHeader is short in
         let d = from.1 in
         answers_register to LoadsHeader is short None
-        (λ j next l u clean asks. registers_find_forwards (era c) (memory c) (team c) s.ghost k (quest_with y v host nothing_found) len to (pointer_word to) j next (prepared c p s k (here LoadsHeader) is)
-        from.0 (ap (λ (u : Worker). u.copy) is.as_known) (quest to LoadsHeader is short) (ap Register (sym d)) (left to LoadsHeader is short)
+        (λ j next l u clean asks. registers_find_forwards (era c) (memory c) (team c) s.ghost k (quest_with y v host None) len to (pointer_word to) j next (prepared c p s k (here LoadsHeader) is)
+        from.0 (ap (λ (u : Worker). u.copy) is.as_known) (ap (λ (u : Worker). u.linking) is.as_known) (quest to LoadsHeader is short) (ap Register (sym d)) (left to LoadsHeader is short)
         (ap decode (heap_word c v.addr) ∙ e) (decode-pointer_word to short) (omega (arith, d, l)) u (rw d clean) asks)
         refl refl (Value first_word) (ap (by_first_word first_word) e)
 
@@ -200,8 +200,9 @@ module _ (c : Configuration) (p : Plain) (s : Stands c p) (k : ℕ) (y : Held) (
     settles j next l u clean asks =
         let from = origin to (Clears to) is short in
         let d = from.1 in
-        registers_are_settled (era c) (memory c) (team c) s.ghost k (quest_with y v host (found_at to)) to (pointer_word to) j next (prepared c p s k (here (Clears to)) is)
+        registers_are_settled (era c) (memory c) (team c) s.ghost k (quest_with y v host (Some to)) to (pointer_word to) j next (prepared c p s k (here (Clears to)) is)
         (ap (λ (u : Worker). u.copy) is.as_known)
+        (ap (λ (u : Worker). u.linking) is.as_known)
         (record {
           register = record { late = from.0; left = left to (Clears to) is short };
           quest = quest to (Clears to) is short;

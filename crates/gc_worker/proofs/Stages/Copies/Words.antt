@@ -20,13 +20,12 @@ use Rattle.heap_state.specs.Memory.Entries.{Entry, WordIs, CrossIs}
 use Rattle.heap_state.specs.Worker.{Worker, Copy}
 use Rattle.heap_state.specs.Memory.Table.{table_of, word_in}
 use Rattle.heap_laws.specs.Copying.{IsNextWord, copying}
-use Rattle.heap_laws.proofs.Cells.Rows.{chain_parts_are_free}
 use Rattle.heap_laws.proofs.Copying.Laws.{words_are_copied, old_words_are_loaded, crossings_are_stored}
 use Rattle.gc_worker.specs.Steps.Goes.{Is, Goes, StepsSo}
 use Rattle.gc_worker.specs.Workers.Held.{Held}
-use Rattle.gc_worker.specs.Workers.Knows.{nothing_found, knows, copy_at, found_in, linking_at, moving}
+use Rattle.gc_worker.specs.Workers.Knows.{knows, copy_at, found_in, linking_at, moving}
 use Rattle.gc_worker.specs.Steps.Wanted.{wanted}
-use Rattle.gc_worker.proofs.Stages.Copies.Hosts.{Host, at, machine_at, wants_its, tells_nothing, wins_nothing, turns, takes, is_sound, has_pages, with_sound, refits, copy_is, quest_with, quest_is, becomes_known}
+use Rattle.gc_worker.proofs.Stages.Copies.Hosts.{Host, at, machine_at, wants_its, tells_nothing, wins_nothing, turns, takes, is_sound, has_pages, with_sound, refits, copy_is, quest_with, quest_is, linking_is, nothing_to_link, becomes_known}
 use Rattle.gc_worker.proofs.Stages.Gate.Words.{wants}
 use Rattle.gc_worker.proofs.Words.RowSteps.{Law, becomes, loads, stores, row_fits, prepared}
 
@@ -60,11 +59,11 @@ copied-copy l a e r n within =
     (λ b. let same : size_of r.kept ≡ n = omega arith in
     crossed-copy l a e r (first_page r) (omega arith) ∙ ap (λ m. Some (moving a r m None (first_page r))) same)
 
-crossed-found : (r : Reserved) (page : ℕ) → found_in (crossed r page) ≡ nothing_found
-crossed-found r page = of_crossed (λ z. found_in z ≡ nothing_found) r page (λ b. refl) (λ b. refl)
+crossed-found : (r : Reserved) (page : ℕ) → found_in (crossed r page) ≡ None
+crossed-found r page = of_crossed (λ z. found_in z ≡ None) r page (λ b. refl) (λ b. refl)
 
-copied-found : (r : Reserved) (n : ℕ) → found_in (copied r n) ≡ nothing_found
-copied-found r n = of_copied (λ z. found_in z ≡ nothing_found) r n (λ b. refl) (λ b. crossed-found r (first_page r))
+copied-found : (r : Reserved) (n : ℕ) → found_in (copied r n) ≡ None
+copied-found r n = of_copied (λ z. found_in z ≡ None) r n (λ b. refl) (λ b. crossed-found r (first_page r))
 
 crossed-more : (r : Reserved) (page : ℕ) → told (crossed r page) ≡ More
 crossed-more r page = of_crossed (λ z. told z ≡ More) r page (λ b. refl) (λ b. refl)
@@ -91,16 +90,20 @@ module _ (c : Configuration) (p : Plain) (s : Stands c p) (k : ℕ) (y : Held) (
   -- the copy goes on, and what the worker then knows is said by this law
   pub goes : (e : Option Entry) (z q : EvacStage) (reply : Reply) (copy : Copy) → Is c k (here z)
       → Rattle.forwarding.specs.Taken.stage_after v.layout v.epoch z reply ≡ q → told q ≡ More
-      → Law c p s k (here z) e (copying ((team c).worker k) copy) s.ghost → found_in z ≡ nothing_found
-      → copy_at v.layout v.addr v.epoch q ≡ Some copy → found_in q ≡ nothing_found → FitsStage v.layout.pages v.addr q → Goes c p s k e (here z) reply
+      → Law c p s k (here z) e (copying ((team c).worker k) copy) s.ghost → found_in z ≡ None
+      → copy_at v.layout v.addr v.epoch q ≡ Some copy → found_in q ≡ None → FitsStage v.layout.pages v.addr q → Goes c p s k e (here z) reply
   goes e z q reply copy is next more law not_yet copy_after found fits =
       let sound = is_sound y v c.pages c.mutators k o z is.fits in
       becomes c p s k (here z) e reply (here q) s.ghost (turns y v o z q reply next more) is.below
       (subst (λ (u : Worker). Law c p s k (here z) e u s.ghost)
-      (ap (λ (u : Worker). record u { copy = Some copy; linking = linking_at q }) is.as_known
-      ∙ (λ i. record (knows (here z)) { copy = Some copy; quest = (quest_is y v o z ∙ ap (λ f. Some (quest_with y v o f)) not_yet) i; linking = linking_at q })
-      ∙ becomes_known y v o z q (Some copy) nothing_found copy_after found)
-      (chain_parts_are_free (era c) (memory c) (team c) s.ghost k e (copying ((team c).worker k) copy) s.ghost (linking_at q) ((team c).worker k).pass law))
+      (ap (λ (u : Worker). record u { copy = Some copy }) is.as_known
+      ∙ (λ i. record (knows (here z)) {
+        copy = Some copy;
+        quest = (quest_is y v o z ∙ ap (λ f. Some (quest_with y v o f)) not_yet) i;
+        linking = (linking_is y v o z ∙ nothing_to_link z not_yet ∙ sym (nothing_to_link q found)) i;
+      })
+      ∙ becomes_known y v o z q (Some copy) None copy_after found)
+      law)
       (tells_nothing y v o z reply) (wins_nothing y v o z reply)
       (takes y v o z reply (subst (λ n. Rattle.forwarding.specs.Soundness.IsSound (record v { stage = n })) (sym next) (with_sound y v c.pages c.mutators k z q sound fits)))
       (refits y v c.pages c.mutators k o z q is.fits more fits)
@@ -139,7 +142,7 @@ module _ (c : Configuration) (p : Plain) (s : Stands c p) (k : ℕ) (y : Held) (
 
   -- a word is stored, which is the next one
   module _ (r : Reserved) (z : EvacStage) (done : ℕ) (word : Option ℕ) (value : ℕ) (is : Is c k (here z)) (has : HasReserved v.layout.pages v.addr r)
-      (at_z : copy_at v.layout v.addr v.epoch z ≡ Some (moving v.addr r done word (first_page r))) (not_yet : found_in z ≡ nothing_found) (below : done < size_of r.kept)
+      (at_z : copy_at v.layout v.addr v.epoch z ≡ Some (moving v.addr r done word (first_page r))) (not_yet : found_in z ≡ None) (below : done < size_of r.kept)
       (next : IsNextWord (moving v.addr r done word (first_page r)) value)
       (turns_to : Rattle.forwarding.specs.Taken.stage_after v.layout v.epoch z Done ≡ copied r (done + 1)) where
     copied_law : Law c p s k (here z) (Some (WordIs (r.to + done) value)) (copying ((team c).worker k) (moving v.addr r (done + 1) None (first_page r))) s.ghost

@@ -52,6 +52,7 @@ module _ (c : Configuration) (p : Plain) (s : Stands c p) (k : ℕ) (y : Held) (
       post = ap (λ (w : Worker). w.post) is.as_known;
       reset = ap (λ (w : Worker). w.reset) is.as_known;
       stored = refl;
+      cleared = refl;
       fits = subst (λ (n : ℕ). n + 1 < 2 ^ 32) (now c p s k y asked (Exchanges r) is) is.fits.stage.sound.epoch;
       large = larger;
     }

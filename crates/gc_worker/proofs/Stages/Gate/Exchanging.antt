@@ -59,7 +59,7 @@ module _ (c : Configuration) (p : Plain) (s : Stands c p) (k : ℕ) (y : Held) (
       passed : (table c).gate ≡ gate → Law c p s k x (Some (GateIs (gate_after passage gate))) (laws.worker_after gate.epoch q (knows x)) s.ghost
       passed now =
           rw same (subst (λ (w : Worker). Law c p s k x (Some (GateIs (laws.gate_after q gate))) (laws.worker_after gate.epoch q w) s.ghost) is.as_known
-          (passes_gate (era c) (memory c) (team c) s.ghost k (record { read = gate; passage = q }) (prepared c p s k x is)
+          (passes_gate (era c) (memory c) (team c) s.ghost k (record { read = gate; passage = q }) (prepared c p s k x is) (ap (λ (w : Worker). w.pass) is.as_known)
           (record { step = ap (λ (w : Worker). w.gate_step) is.as_known ∙ stands; unchanged = now })))
 
       wins : (z : Held) → turned x Won ≡ z → laws.worker_after gate.epoch q (knows x) ≡ knows z → Fits c.pages c.mutators k z

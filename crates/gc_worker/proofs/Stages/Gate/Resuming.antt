@@ -65,7 +65,7 @@ module _ (c : Configuration) (p : Plain) (s : Stands c p) (k : ℕ) (x : Held) (
     leads_by : (o : Option Pointed) → FirstPointer x.registers 8 0 o → Law c p s k x None (knows (at_stage x (forwards_it x after o))) s.ghost
     leads_by None (Nowhere none) = come 8 None (omega arith) (λ i l u. none i l u) (AllDone refl)
     leads_by (Some q) (There r a l u at before) =
-        come r (Some (record { old = a; origin = Register r; found = None; links = false })) (omega (arith, u)) before
+        come r (Some (record { old = a; origin = Register r; found = None })) (omega (arith, u)) before
         (AsksNext a u (ap decode (registers r) ∙ is_pointer (decode (slice_index x.registers r)) a at))
 
     -- a register that holds a pointer leads into the table

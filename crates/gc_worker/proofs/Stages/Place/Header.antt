@@ -54,7 +54,7 @@ use Rattle.gc_worker.proofs.Plain.AnswerSteps.{LawTo, IsIts, answers, its_mutato
 use Rattle.gc_worker.proofs.Plain.Effects.{moved, moved_goes, moved_as}
 use Rattle.gc_worker.proofs.Stages.Gate.Resuming.{end_none}
 use Rattle.gc_worker.proofs.Stages.Gate.Words.{wants}
-use Rattle.gc_worker.proofs.Plain.NewRecords.{made, made_is, fields_held, fields_is, fits_kind, header_made, kind_said, makes_named, sized}
+use Rattle.gc_worker.proofs.Plain.NewRecords.{cell_size, made, made_is, fields_held, fields_is, fits_kind, header_made, kind_said, makes_named, sized}
 use Rattle.gc_worker.proofs.Stages.Place.Acts.{makes_alike}
 use Rattle.gc_worker.proofs.Stages.Place.Claiming.{placing, at}
 use Rattle.gc_worker.proofs.Workers.Answered.{registers_put, values_set, settled_as, settled_fits}
@@ -199,7 +199,7 @@ module _ (c : Configuration) (p : Plain) (s : Stands c p) (k : ℕ) (y : Held) (
       law : LawTo c p s k x (Some entry) (knows after) ghost_after (after_outcome p k q (Calls instr) Done)
       law =
           let placed = mutators_place (era c) (memory c) (team c) s.ghost p k next (went_on q) stock m.kind size word m.into (pointer_word run.at) (filled m.kind m.len v)
-          (prepared c p s k x is) s.shown places (shows v (makes_named q instr m v acts).1) small points (moved_goes c p s k x is refl unended q its) (moved_as c p s k x is refl unended q its) in
+          (prepared c p s k x is) s.shown places (cell_size m.kind m.len (fits_kind y making)) (shows v (makes_named q instr m v acts).1) small points (moved_goes c p s k x is refl unended q its) (moved_as c p s k x is refl unended q its) in
           subst (λ (o : Result After End). LawTo c p s k x (Some entry) (knows after) ghost_after (settled p k q o)) (sym calls)
           (subst (λ (w : Worker). LawTo c p s k x (Some entry) w ghost_after (settled p k q (Ok (plain_allocated k p.heap q m.kind m.into m.len v)))) known placed)
 

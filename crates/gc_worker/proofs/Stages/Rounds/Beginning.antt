@@ -1,5 +1,5 @@
 -- A round begins: it loads the gate and TRACED.
-use Rattle.std.proofs.Common.{◌≡◌, ◌≢◌, ℕ, ◌+◌, Bool, true, false, cond, nat_eq, Option, Some, None, refl, sym, ap, subst, ◌∙◌, arith}
+use Rattle.std.proofs.Common.{◌≡◌, ◌≢◌, ℕ, ◌+◌, ◌≤◌, Bool, true, false, cond, nat_eq, Option, Some, None, refl, sym, ap, subst, ◌∙◌, arith}
 use Rattle.std.specs.Prelude.{nat_lt}
 use Rattle.std.proofs.lemmas.Bool.Decides.{nat_tests}
 use Rattle.plain_state.specs.State.{Plain}
@@ -67,7 +67,7 @@ module _ (c : Configuration) (p : Plain) (s : Stands c p) (k : ℕ) (y : Held) w
     mutator_by true test taken =
         goes_on c p s k y d back LoadsGate is None (Value (gate_now c)) (LoadsTraced (duty.hindrance_in (gate_now c) gate)) s.ghost taken refl refl
         (hinders d.epoch (nat_eq gate.behind 0) refl) (nothing c p s k here is (knows (at c p s k y d back (LoadsTraced (duty.hindrance_in (gate_now c) gate)))) same_knowledge)
-    mutator_by false test taken = ends c p s k y d back LoadsGate is (Value (gate_now c)) (gate_now c) taken refl (sym of_epoch)
+    mutator_by false test taken = ends c p s k y d back LoadsGate is (Value (gate_now c)) (gate_now c) taken refl refl (sym of_epoch)
 
     mutator : duty.taken_at (round c p s k y d back LoadsGate) LoadsGate (Value (gate_now c))
         ≡ duty.mutator_at_gate (round c p s k y d back LoadsGate) (gate_now c) gate → Goes c p s k None here (Value (gate_now c))
@@ -119,7 +119,7 @@ module _ (c : Configuration) (p : Plain) (s : Stands c p) (k : ℕ) (y : Held) w
     takes taken = becomes c p s k scanner None (Value (gate_now c)) taking s.ghost
         (ap (λ (r : Round). turned_round scanner r ToScanner (duty.told r)) taken) is.below
         (subst (λ (w : Worker). Law c p s k scanner None w s.ghost) (ap (λ (w : Worker). gate_laws.into_epoch w gate.epoch) is.as_known ∙ knows_taking)
-        (takes_epoch_of_gate (era c) (memory c) (team c) s.ghost k (prepared c p s k scanner is) (ap (λ (w : Worker). w.post) is.as_known) (ap (λ (w : Worker). w.scan) is.as_known)))
+        (takes_epoch_of_gate (era c) (memory c) (team c) s.ghost k (prepared c p s k scanner is) (ap (λ (w : Worker). w.post) is.as_known) (ap (λ (w : Worker). w.scan) is.as_known) (ap (λ (w : Worker). w.pass) is.as_known)))
         (ap (λ (r : Round). told_round (duty.told r)) taken) refl (subst IsSoundRound (sym taken) sound_taking)
         (refit c.pages c.mutators k scanner is.fits (Serves with_gate ToScanner) is.fits.end is.fits.side is.fits.task
         (record { layout = is.fits.stage.0.layout; worker = is.fits.stage.0.worker; caller = is.fits.stage.0.caller; epoch = tt; going = tt; sound = sound_taking }, no_run))
@@ -171,7 +171,15 @@ module _ (c : Configuration) (p : Plain) (s : Stands c p) (k : ℕ) (y : Held) w
         (λ e. other (sym (traced_word c) ∙ e ∙ ap (λ (w : Worker). w.epoch + 1) is.as_known))))
 
     fits_found : traced_now c ≢ d.epoch + 1 → duty_sound.FitsFindings d.epoch found
-    fits_found other = record { untraced = other; hindrance = is.fits.stage.0.sound.stage }
+    fits_found other = record { untraced = (no_earlier, other); hindrance = is.fits.stage.0.sound.stage }
+      where
+        no_earlier : d.epoch ≤ traced_now c
+        no_earlier =
+            let a = s.invariant.tracing.bottom in
+            let b = (s.invariant.workers k is.below).timely.past in
+            let e : ((team c).worker k).epoch ≡ d.epoch = ap (λ (w : Worker). w.epoch) is.as_known in
+            let t = traced_word c in
+            omega (arith, a, b, e, t)
 
     first_by : (caller : Caller) → d.caller ≡ caller → traced_now c ≢ d.epoch + 1
         → duty.taken_at (round c p s k y d back (LoadsTraced hindrance)) (LoadsTraced hindrance) (Value (traced_now c)) ≡ round c p s k y d back (duty.first_look caller found)
@@ -186,7 +194,7 @@ module _ (c : Configuration) (p : Plain) (s : Stands c p) (k : ℕ) (y : Held) w
     traced_by : (b : Bool) → nat_eq (traced_now c) (d.epoch + 1) ≡ b
         → duty.taken_at (round c p s k y d back (LoadsTraced hindrance)) (LoadsTraced hindrance) (Value (traced_now c))
         ≡ round c p s k y d back (cond b (Ended round_end.Traced) (duty.first_look d.caller found)) → Goes c p s k None before (Value (traced_now c))
-    traced_by true test taken = finds_traced c p s k y d (LoadsTraced hindrance) (Value (traced_now c)) taken refl refl back is (same_of (traced_now c) (d.epoch + 1) test)
+    traced_by true test taken = finds_traced c p s k y d (LoadsTraced hindrance) (Value (traced_now c)) taken refl refl refl back is (same_of (traced_now c) (d.epoch + 1) test)
     traced_by false test taken = first_by d.caller refl (other_of (traced_now c) (d.epoch + 1) test) taken
 
     pub loads_traced : StepsSo c p s k before

@@ -161,7 +161,7 @@ module _ (c : Configuration) (p : Plain) (s : Stands c p) (k : ℕ) (y : Held) (
     -- the page may be claimed: it is the board, or full by FRONT as it was read in this round
     may : duty.state_of says d.epoch ≡ Waits → MayClaim (era c) (memory c) (team c) k page says
     may waits = record {
-      earlier = earlier_now c p s k y d back (LoadsPage choice page) is page says refl waits;
+      earlier = earlier_now c p s k y d back (LoadsPage choice page) is page says refl refl waits;
       full = λ now. by_board (sym (ap (λ (v : Worker). v.epoch) is.as_known) ∙ now) (cases_eq page (board_page d.layout.pages));
     }
       where
@@ -195,7 +195,7 @@ module _ (c : Configuration) (p : Plain) (s : Stands c p) (k : ℕ) (y : Held) (
 
       after_by_hindrance : (o : Option ℕ) → duty.taken_at rd (LoadsPage choice page) (Value loaded) ≡ round c p s k y d back (duty.after_choice now o)
           → Goes c p s k None z (Value loaded)
-      after_by_hindrance (Some word) taken = ends c p s k y d back (LoadsPage choice page) is (Value loaded) word taken refl refl
+      after_by_hindrance (Some word) taken = ends c p s k y d back (LoadsPage choice page) is (Value loaded) word taken refl refl refl
       after_by_hindrance None taken =
           goes_on c p s k y d back (LoadsPage choice page) is None (Value loaded) (EndGate now.traced) s.ghost taken refl refl fits.untraced forgets
 
@@ -225,8 +225,8 @@ module _ (c : Configuration) (p : Plain) (s : Stands c p) (k : ℕ) (y : Held) (
     state_by Opened is_state taken = passes choice.seen refl found_fits taken
     state_by Scanned is_state taken = passes (record { traced = choice.seen.traced; hindrance = Some loaded }) refl (scans is_state) taken
     state_by Waits is_state taken =
-        begins c p s k y d back (LoadsPage choice page) is page says refl (Value loaded) (may is_state) is_state (PageFits-decode_page loaded says reads) is_choice.in_table taken refl
-    state_by Past is_state taken = ends c p s k y d back (LoadsPage choice page) is (Value loaded) loaded taken refl refl
+        begins c p s k y d back (LoadsPage choice page) is page says refl refl (Value loaded) (may is_state) is_state (PageFits-decode_page loaded says reads) is_choice.in_table taken refl
+    state_by Past is_state taken = ends c p s k y d back (LoadsPage choice page) is (Value loaded) loaded taken refl refl refl
 
     pub loads_page : StepsSo c p s k z
     loads_page = loads_it c p s k y d back (LoadsPage choice page) is (Page page) in_table refl

@@ -25,7 +25,7 @@ use Rattle.heap_laws.proofs.Steps.Composites.{claims_begin}
 use Rattle.gc_worker.specs.declared.stage.back.Back.{Back}
 use Rattle.gc_worker.specs.Steps.Goes.{Is, Goes}
 use Rattle.gc_worker.specs.Workers.Held.{Held}
-use Rattle.gc_worker.specs.Workers.Knows.{knows, claim_at, epoch_at}
+use Rattle.gc_worker.specs.Workers.Knows.{pass_at, knows, claim_at, epoch_at}
 use Rattle.gc_worker.specs.Steps.Turned.{won_in}
 use Rattle.gc_worker.proofs.Words.Eras.{board_is, start_is}
 use Rattle.gc_worker.proofs.Stages.Rounds.Going.{round, at, goes_on, same_pages}
@@ -85,9 +85,9 @@ module _ (c : Configuration) (p : Plain) (s : Stands c p) (k : ℕ) (y : Held) (
     fits_first false test = (omega arith, refl, (let other : page ≢ board_page d.layout.pages = grind (arith, nat_tests) in other))
 
     -- what it then knows
-    module _ (own : epoch_at y.epoch (round c p s k y d back stage) stage ≡ d.epoch) where
+    module _ (still : pass_at stage ≡ None) (own : epoch_at y.epoch (round c p s k y d back stage) stage ≡ d.epoch) where
       knows_claim : claiming (ends_round (knows x)) (claim_by_word says page) ≡ knows (at c p s k y d back (Claims claim))
-      knows_claim = λ i. record (knows (at c p s k y d back (Claims claim))) { epoch = own i; claim = claim_same (nat_eq page (board_page d.layout.pages)) refl i }
+      knows_claim = λ i. record (knows (at c p s k y d back (Claims claim))) { epoch = own i; pass = still i; claim = claim_same (nat_eq page (board_page d.layout.pages)) refl i }
 
       pub begins : (reply : Reply) → MayClaim (era c) (memory c) (team c) k page says → duty.state_of says d.epoch ≡ Waits → PageFits says
           → page ≤ board_page d.layout.pages → duty.taken_at (round c p s k y d back stage) stage reply ≡ round c p s k y d back (Claims claim)
@@ -111,7 +111,7 @@ module _ (c : Configuration) (p : Plain) (s : Stands c p) (k : ℕ) (y : Held) (
             };
           })
           (subst (λ (w : Worker). Law c p s k x None w s.ghost) (ap (λ (w : Worker). claiming (ends_round w) (claim_by_word says page)) is.as_known ∙ knows_claim)
-          (claims_begin (era c) (memory c) (team c) s.ghost k page says (prepared c p s k x is) may))
+          (claims_begin (era c) (memory c) (team c) s.ghost k page says (prepared c p s k x is) (ap (λ (w : Worker). w.pass) is.as_known ∙ still) may))
 
       -- the word is of an epoch before the worker's
       pub earlier_now : duty.state_of says d.epoch ≡ Waits → age_of says ≤ ((team c).worker k).epoch

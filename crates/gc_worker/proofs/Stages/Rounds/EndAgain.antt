@@ -10,8 +10,9 @@ use Rattle.space_map.specs.PageWord.{encode_page}
 use Rattle.space_map.specs.Spaces.{page_of, to_space}
 use Rattle.space_map.specs.Table.{Area}
 use Rattle.page_slots.specs.Claim as claim
+use Rattle.cell_walk.specs.Walking as walk
 use Rattle.fault_duty.specs.declared.duty_stage.DutyStage.{DutyStage}
-use Rattle.fault_duty.specs.declared.duty_stage.DutyStage.TheVariants.{Claims, EndAreaAgain, Traces, Ended}
+use Rattle.fault_duty.specs.declared.duty_stage.DutyStage.TheVariants.{Claims, EndAreaAgain, Walks, Ended}
 use Rattle.fault_duty.specs.declared.end_look.EndLook.{EndLook}
 use Rattle.fault_duty.specs.declared.page_state.PageState.{PageState}
 use Rattle.fault_duty.specs.declared.page_state.PageState.TheVariants.{Opened, Scanned, Waits, Past}
@@ -69,13 +70,17 @@ module _ (c : Configuration) (p : Plain) (s : Stands c p) (k : ℕ) (y : Held) (
       full = all_by (nat_lt look.front (duty.to_start d + 64)) refl;
     }
 
-  -- all is open
+  -- all is open: the walk over the chain of copied cells begins
+  abbrev next_walk : DutyStage
+  next_walk = Walks look.traced (walk.begun d.layout d.epoch)
+
   traces : duty.front_of d area ≡ look.front → duty.state_of filling d.epoch ≡ Opened
-      → duty.taken_at rd (EndAreaAgain look filling) (Value reply) ≡ round c p s k y d back (Traces look.traced) → Goes c p s k None x (Value reply)
+      → duty.taken_at rd (EndAreaAgain look filling) (Value reply) ≡ round c p s k y d back next_walk → Goes c p s k None x (Value reply)
   traces same e taken =
-      goes_on c p s k y d back (EndAreaAgain look filling) is None (Value reply) (Traces look.traced) s.ghost taken refl refl is.fits.stage.0.sound.stage.0
+      goes_on c p s k y d back (EndAreaAgain look filling) is None (Value reply) next_walk s.ghost taken refl refl
+      (is.fits.stage.0.sound.stage.0, record { layout = refl; epoch = refl; going = tt; sound = record { pages = is.fits.stage.0.sound.pages; fits = tt } })
       (subst (λ (w : Worker). Law c p s k x None (about_to_trace w (seen Opened)) s.ghost) is.as_known
-      (looks_again (era c) (memory c) (team c) s.ghost k (seen Opened) (prepared c p s k x is) (again same Opened e) refl))
+      (looks_again (era c) (memory c) (team c) s.ghost k (seen Opened) (prepared c p s k x is) (ap (λ (w : Worker). w.pass) is.as_known) (again same Opened e) refl))
 
   -- the filling page is claimed
   module _ (same : duty.front_of d area ≡ look.front) (e : duty.state_of filling d.epoch ≡ Waits) where
@@ -114,14 +119,14 @@ module _ (c : Configuration) (p : Plain) (s : Stands c p) (k : ℕ) (y : Held) (
       → duty.taken_at rd (EndAreaAgain look filling) (Value reply) ≡ round c p s k y d back (duty.ends_by rd look filling state) → Goes c p s k None x (Value reply)
   by_state same Opened e taken = traces same e taken
   by_state same Waits e taken = claims same e taken
-  by_state same Scanned e taken = ends c p s k y d back (EndAreaAgain look filling) is (Value reply) (encode_page filling) taken refl refl
-  by_state same Past e taken = ends c p s k y d back (EndAreaAgain look filling) is (Value reply) (encode_page filling) taken refl refl
+  by_state same Scanned e taken = ends c p s k y d back (EndAreaAgain look filling) is (Value reply) (encode_page filling) taken refl refl refl
+  by_state same Past e taken = ends c p s k y d back (EndAreaAgain look filling) is (Value reply) (encode_page filling) taken refl refl refl
 
   by_front : (b : Bool) → (duty.front_of d area == look.front) ≡ b
       → duty.taken_at rd (EndAreaAgain look filling) (Value reply) ≡ round c p s k y d back (if b then duty.ends_by rd look filling (duty.state_of filling d.epoch) else Ended (NothingNow reply))
       → Goes c p s k None x (Value reply)
   by_front true test taken = by_state (eqb-true (duty.front_of d area) look.front test) (duty.state_of filling d.epoch) refl taken
-  by_front false test taken = ends c p s k y d back (EndAreaAgain look filling) is (Value reply) reply taken refl refl
+  by_front false test taken = ends c p s k y d back (EndAreaAgain look filling) is (Value reply) reply taken refl refl refl
 
   pub loads_area_again : StepsSo c p s k x
   loads_area_again = loads_it c p s k y d back (EndAreaAgain look filling) is (Area space) (is_space d.epoch) refl

@@ -201,7 +201,7 @@ module _ (c : Configuration) (p : Plain) (s : Stands c p) (k : ℕ) (y : Held) (
       → duty.taken_at rd (EndPage look page) (Value loaded) ≡ round c p s k y d back (if b then (if duty.is_full look.front next then EndPage look next else duty.after_pages rd look) else Ended (NothingNow loaded))
       → Goes c p s k None x (Value loaded)
   open_by true test taken = next_by (duty.is_full look.front next) refl (eqb-true loaded (encode_page (Open d.epoch)) test) taken
-  open_by false test taken = ends c p s k y d back (EndPage look page) is (Value loaded) loaded taken refl refl
+  open_by false test taken = ends c p s k y d back (EndPage look page) is (Value loaded) loaded taken refl refl refl
 
   pub loads_page_again : StepsSo c p s k x
   loads_page_again = loads_it c p s k y d back (EndPage look page) is (Page page) in_table refl (open_by (loaded == encode_page (Open d.epoch)) refl refl)

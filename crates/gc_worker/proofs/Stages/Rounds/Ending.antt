@@ -22,10 +22,10 @@ use Rattle.fault_duty.specs.Duty as duty
 use Rattle.fault_duty.specs.Duty.{Round}
 use Rattle.heap_state.specs.Configuration.{Configuration, Stands, table, era, memory, team}
 use Rattle.heap_state.specs.Memory.Entries.{Entry, TracedIs}
-use Rattle.heap_state.specs.Worker.{Worker, Look, LastLook}
+use Rattle.heap_state.specs.Worker.{Worker, Look, LastLook, Done}
+use Rattle.heap_state.proofs.Puts.{some_same}
 use Rattle.heap_state.specs.Worker as workers
 use Rattle.heap_state.proofs.Table.LaidOut.{table_pages}
-use Rattle.heap_laws.specs.Composing.{ends_round}
 use Rattle.heap_laws.specs.Tracing.{look_begun, looking, has_traced}
 use Rattle.heap_laws.proofs.Steps.Composing.{steps_forget}
 use Rattle.heap_laws.proofs.Steps.Forgotten.{of_round}
@@ -40,7 +40,7 @@ use Rattle.gc_worker.proofs.Words.Areas.{area_now, area_says, is_space}
 use Rattle.gc_worker.proofs.Stages.Gate.Words.{wants, gate_now, gate_says}
 use Rattle.fault_duty.proofs.Lowering.{to_start-le}
 use Rattle.gc_worker.proofs.Stages.Rounds.Choosing.{front_for, first_choice}
-use Rattle.gc_worker.proofs.Stages.Rounds.Going.{round, at, done, goes_on, ends, ends_marked, ended_known, own_stock_same, loads_it, same_pages}
+use Rattle.gc_worker.proofs.Stages.Rounds.Going.{rests, round, at, done, goes_on, ends, ends_marked, ended_known, own_stock_same, loads_it, same_pages}
 use Rattle.gc_worker.proofs.Stages.Rounds.Words.{traced_now, traced_word, page_now, page_says}
 use Rattle.gc_worker.proofs.Words.RowSteps.{Law, exchanges, nothing, prepared}
 
@@ -74,17 +74,24 @@ module _ (c : Configuration) (p : Plain) (s : Stands c p) (k : ℕ) (y : Held) (
     wins same =
         let l : LastLook = record { traced = traced } in
         let t : Law c p s k x (Some (TracedIs (((team c).worker k).epoch + 1))) (has_traced ((team c).worker k)) s.ghost =
-        (tracing.traces (era c) (memory c) (team c) s.ghost k l (prepared c p s k x is) (record { looks = ap (λ (w : Worker). w.last_look) is.as_known; unchanged = traced_word c ∙ same })).steps in
-        let u : Law c p s k x (Some entry) (ends_round (knows x)) s.ghost =
+        (tracing.traces (era c) (memory c) (team c) s.ghost k l (prepared c p s k x is) (record { looks = ap (λ (w : Worker). w.last_look) is.as_known; unchanged = traced_word c ∙ same; walked = ap (λ (w : Worker). w.pass) is.as_known })).steps in
+        let u : Law c p s k x (Some entry) (rests (knows x)) s.ghost =
         subst (λ (w : Worker). Law c p s k x (Some (TracedIs (w.epoch + 1))) (has_traced w) s.ghost) is.as_known t in
         subst (λ (w : Worker). Law c p s k x (Some entry) w s.ghost) (sym (ended_known c p s k y d back (Traces traced) is refl (own_stock_same c p s k y d back (Traces traced) is))) u
+
+    -- who has walked over the chain has the turn, and nobody else changes TRACED
+    stays : traced_now c ≡ traced
+    stays =
+        let look = (s.invariant.cells.chain.pass k Done is.below (ap (λ (w : Worker). w.pass) is.as_known)).look in
+        let same : look.0 ≡ record { traced = traced } = some_same (sym look.1 ∙ ap (λ (w : Worker). w.last_look) is.as_known) in
+        sym (traced_word c) ∙ (sym look.2 ∙ ap (λ (l : LastLook). l.traced) same)
 
     pub exchanges_traced : StepsSo c p s k x
     exchanges_traced =
         wants c p s k x (Exchange (place_of c.pages Traced) traced (d.epoch + 1)) (ap (λ n. Some (Exchange (place_of n Traced) traced (d.epoch + 1))) (same_pages c p s k y d back (Traces traced) is))
         (exchanges c p s k x entry traced tt
         (λ same. ends_marked c p s k y d back (Traces traced) is (Some entry) Won s.ghost refl refl (wins same))
-        (λ other. ends c p s k y d back (Traces traced) is (Lost (traced_now c)) (traced_now c) refl refl refl))
+        (λ other. absurd (other stays)))
 
   -- ---- AREA
 
@@ -137,7 +144,7 @@ module _ (c : Configuration) (p : Plain) (s : Stands c p) (k : ℕ) (y : Held) (
         (begins_look (era c) (memory c) (team c) s.ghost k r (prepared c p s k x3 is)
         (record { round = ap (λ (w : Worker). w.round) is.as_known; same = of_now ∙ ap (λ (w : Worker). w.epoch) (sym is.as_known); none = none })) in
         steps_forget (era c) (memory c) (team c) s.ghost k None (looking (knows x3) (look_begun (era c) r)) (knows (at c p s k y d back (EndArea traced))) s.ghost t
-        (of_round (looking (knows x3) (look_begun (era c) r)) None (knows (at c p s k y d back (EndArea traced))).look (λ _ e. absurd (cc)) (λ l e. (rw (← start) refl) ∙ e))
+        (of_round (looking (knows x3) (look_begun (era c) r)) None (knows (at c p s k y d back (EndArea traced))).look refl (λ _ e. absurd (cc)) (λ l e. (rw (← start) refl) ∙ e))
 
     gate_by : (b : Bool) → ((gate.epoch == d.epoch) && (gate.behind == 0)) ≡ b
         → duty.taken_at (round c p s k y d back (EndGate traced)) (EndGate traced) (Value (gate_now c)) ≡ round c p s k y d back (if b then EndArea traced else Ended (NothingNow (gate_now c)))
@@ -146,7 +153,7 @@ module _ (c : Configuration) (p : Plain) (s : Stands c p) (k : ℕ) (y : Held) (
         let q = both_by (gate.epoch == d.epoch) (gate.behind == 0) test in
         goes_on c p s k y d back (EndGate traced) is None (Value (gate_now c)) (EndArea traced) s.ghost taken refl refl is.fits.stage.0.sound.stage
         (begins (eqb-true gate.epoch d.epoch q.0) (eqb-true gate.behind 0 q.1))
-    gate_by false test taken = ends c p s k y d back (EndGate traced) is (Value (gate_now c)) (gate_now c) taken refl refl
+    gate_by false test taken = ends c p s k y d back (EndGate traced) is (Value (gate_now c)) (gate_now c) taken refl refl refl
 
     pub loads_gate_again : StepsSo c p s k x3
     loads_gate_again = loads_it c p s k y d back (EndGate traced) is Gate tt refl
@@ -199,7 +206,7 @@ module _ (c : Configuration) (p : Plain) (s : Stands c p) (k : ℕ) (y : Held) (
     filling_by : (state : PageState) → duty.state_of says d.epoch ≡ state
         → duty.taken_at (round c p s k y d back (EndFilling look)) (EndFilling look) (Value (page_now c page)) ≡ round c p s k y d back (duty.filling_by look (page_now c page) says state)
         → Goes c p s k None x4 (Value (page_now c page))
-    filling_by Scanned state taken = ends c p s k y d back (EndFilling look) is (Value (page_now c page)) (page_now c page) taken refl refl
+    filling_by Scanned state taken = ends c p s k y d back (EndFilling look) is (Value (page_now c page)) (page_now c page) taken refl refl refl
     filling_by Opened state taken = goes_on c p s k y d back (EndFilling look) is None (Value (page_now c page)) next s.ghost taken refl refl next_fits (opened state)
     filling_by Waits state taken = goes_on c p s k y d back (EndFilling look) is None (Value (page_now c page)) next s.ghost taken refl refl next_fits
         (nothing c p s k x4 is (knows (at c p s k y d back next)) (other Waits state refl))

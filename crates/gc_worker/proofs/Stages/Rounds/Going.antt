@@ -6,7 +6,7 @@ use Rattle.atom_store.specs.declared.turn.Turn.TheVariants.{More, Finished}
 use Rattle.fault_duty.specs.declared.caller.Caller.{Caller}
 use Rattle.fault_duty.specs.declared.caller.Caller.TheVariants as callers
 use Rattle.fault_duty.specs.declared.duty_stage.DutyStage.{DutyStage}
-use Rattle.fault_duty.specs.declared.duty_stage.DutyStage.TheVariants.{LoadsGate, LoadsTraced, LoadsWanted, LoadsFrontFor, LoadsFront, LoadsPage, Claims, EndGate, EndArea, EndPage, EndFilling, EndAreaAgain, Traces, Ended}
+use Rattle.fault_duty.specs.declared.duty_stage.DutyStage.TheVariants.{LoadsGate, LoadsTraced, LoadsWanted, LoadsFrontFor, LoadsFront, LoadsPage, Claims, EndGate, EndArea, EndPage, EndFilling, EndAreaAgain, Walks, Traces, Ended}
 use Rattle.fault_duty.specs.declared.round_end.RoundEnd.{RoundEnd}
 use Rattle.fault_duty.specs.declared.round_end.RoundEnd.TheVariants.{NothingNow, Marked}
 use Rattle.fault_duty.specs.Duty as duty
@@ -29,7 +29,7 @@ use Rattle.gc_worker.specs.declared.stage.Stage.TheVariants.{Serves}
 use Rattle.gc_worker.specs.Workers.Fits.{Fits, FitsBack, IsCallerOf, IsEpochOf}
 use Rattle.gc_worker.specs.Steps.Goes.{Is, Goes, StepsSo}
 use Rattle.gc_worker.specs.Workers.Held.{Held, header_for}
-use Rattle.gc_worker.specs.Workers.Knows.{knows, own_stock, epoch_at}
+use Rattle.gc_worker.specs.Workers.Knows.{knows, own_stock, epoch_at, pass_at}
 use Rattle.gc_worker.specs.Steps.Turned.{turned_round, back_from, won_in, told_round, Silent, Empties}
 use Rattle.gc_worker.proofs.Workers.Parts.{with_parts, refit}
 use Rattle.gc_worker.proofs.Workers.GoingOn.{places_known}
@@ -51,8 +51,13 @@ going_on (EndArea traced) more = tt
 going_on (EndPage look page) more = tt
 going_on (EndFilling look) more = tt
 going_on (EndAreaAgain look filling) more = tt
+going_on (Walks traced walk) more = tt
 going_on (Traces traced) more = tt
 going_on (Ended result) more = absurd (cc)
+
+-- a worker whose round ends, and that doesn't walk over the chain of copied cells any more
+abbrev pub rests : Worker → Worker
+rests w = record (ends_round w) { pass = None }
 
 module _ (c : Configuration) (p : Plain) (s : Stands c p) (k : ℕ) (y : Held) (d : Round) (back : Back) where
   -- the round at a stage, and the worker that makes it
@@ -101,7 +106,7 @@ module _ (c : Configuration) (p : Plain) (s : Stands c p) (k : ℕ) (y : Held) (
     -- who ends its round knows what it knew but for that
     module _ (own : epoch_at y.epoch (round stage) stage ≡ d.epoch) (same : SameStock) where
       abbrev knew : Back → Worker
-      knew b = ends_round (knows (record y { stage = Serves (round stage) b }))
+      knew b = rests (knows (record y { stage = Serves (round stage) b }))
 
       -- with the round's epoch
       abbrev with_epoch : Back → Worker
@@ -119,7 +124,7 @@ module _ (c : Configuration) (p : Plain) (s : Stands c p) (k : ℕ) (y : Held) (
       knows_back ToSnap = refl
       knows_back ToScanner = refl
 
-      pub ended_known : knows (back_from done back) ≡ ends_round (knows x)
+      pub ended_known : knows (back_from done back) ≡ rests (knows x)
       ended_known = knows_back back ∙ same_worker back
 
     -- what it keeps of itself is of the round's epoch too
@@ -181,24 +186,24 @@ module _ (c : Configuration) (p : Plain) (s : Stands c p) (k : ℕ) (y : Held) (
     -- it becomes this with nothing, and what the round has read is forgotten
     pub ends_as : (reply : Reply) (result : RoundEnd) (next : Held) → duty.taken_at (round stage) stage reply ≡ round (Ended result)
         → turned_round x (round (Ended result)) back (Finished result) ≡ next → told_round (Finished result) ≡ Silent → won_in stage reply ≡ None
-        → knows next ≡ ends_round (knows x) → Fits c.pages c.mutators k next → Goes c p s k None x reply
-    ends_as reply result next taken comes silent none known fits = becomes c p s k x None reply next s.ghost
+        → pass_at stage ≡ None → knows next ≡ rests (knows x) → Fits c.pages c.mutators k next → Goes c p s k None x reply
+    ends_as reply result next taken comes silent none still known fits = becomes c p s k x None reply next s.ghost
         (ap (λ (r : Round). turned_round x r back (duty.told r)) taken ∙ comes)
         is.below
-        (subst (λ (w : Worker). Law c p s k x None w s.ghost) (ap ends_round is.as_known ∙ sym known)
-        (rounds_end (era c) (memory c) (team c) s.ghost k (prepared c p s k x is)))
+        (subst (λ (w : Worker). Law c p s k x None w s.ghost) (ap ends_round is.as_known ∙ (λ i. record (ends_round (knows x)) { pass = still i }) ∙ sym known)
+        (rounds_end (era c) (memory c) (team c) s.ghost k (prepared c p s k x is) (ap (λ (w : Worker). w.pass) is.as_known ∙ still)))
         (ap (λ (r : Round). told_round (duty.told r)) taken ∙ silent) none (subst IsSoundRound (sym taken) (sound_at (Ended result) tt)) fits
 
     -- the worker goes back
     pub goes_back_with : (reply : Reply) (result : RoundEnd) → duty.taken_at (round stage) stage reply ≡ round (Ended result)
         → turned_round x (round (Ended result)) back (Finished result) ≡ back_from done back → told_round (Finished result) ≡ Silent → won_in stage reply ≡ None
-        → epoch_at y.epoch (round stage) stage ≡ d.epoch → Goes c p s k None x reply
-    goes_back_with reply result taken comes silent none own = ends_as reply result (back_from done back) taken comes silent none (ended_known own own_stock_same) ended_fits
+        → pass_at stage ≡ None → epoch_at y.epoch (round stage) stage ≡ d.epoch → Goes c p s k None x reply
+    goes_back_with reply result taken comes silent none still own = ends_as reply result (back_from done back) taken comes silent none still (ended_known own own_stock_same) ended_fits
 
     -- there is nothing to do now
     pub ends : (reply : Reply) (word : ℕ) → duty.taken_at (round stage) stage reply ≡ round (Ended (NothingNow word)) → won_in stage reply ≡ None
-        → epoch_at y.epoch (round stage) stage ≡ d.epoch → Goes c p s k None x reply
-    ends reply word taken none own = goes_back_with reply (NothingNow word) taken refl refl none own
+        → pass_at stage ≡ None → epoch_at y.epoch (round stage) stage ≡ d.epoch → Goes c p s k None x reply
+    ends reply word taken none still own = goes_back_with reply (NothingNow word) taken refl refl none still own
 
     -- the pages of the round's heap are the heap's
     pub same_pages : d.layout.pages ≡ c.pages

@@ -107,7 +107,7 @@ module _ (c : Configuration) (p : Plain) (s : Stands c p) (k : ℕ) (y : Held) (
         ≡ round c p s k y d back (duty.claim_went (record q { stage = cond b (Ended (claimed.Taken w)) (cond (nat_eq n 23) LooksAtGate (LooksAtPlace (n + 1))) })
         (claim.told_at (cond b (Ended (claimed.Taken w)) (cond (nat_eq n 23) LooksAtGate (LooksAtPlace (n + 1))))))
         → Goes c p s k None x (Value w)
-    named_by true names taken = ends c p s k y d back (claims (LooksAtPlace n)) is (Value w) w taken refl refl
+    named_by true names taken = ends c p s k y d back (claims (LooksAtPlace n)) is (Value w) w taken refl refl refl
     named_by false names taken = last_by (nat_eq n 23) refl names taken
 
     pub looks_at_announced : StepsSo c p s k x
@@ -138,7 +138,7 @@ module _ (c : Configuration) (p : Plain) (s : Stands c p) (k : ℕ) (y : Held) (
     epoch_by true test taken =
         goes_on c p s k y d back (claims LooksAtGate) is None (Value (gate_now c)) (claims Exchanges) s.ghost taken refl refl
         (own_at LooksAtGate is Exchanges tt tt) (sure (same_of gate.epoch q.epoch test))
-    epoch_by false test taken = ends c p s k y d back (claims LooksAtGate) is (Value (gate_now c)) (gate_now c) taken refl refl
+    epoch_by false test taken = ends c p s k y d back (claims LooksAtGate) is (Value (gate_now c)) (gate_now c) taken refl refl refl
 
     pub looks_at_gate_again : StepsSo c p s k z
     looks_at_gate_again = loads_it c p s k y d back (claims LooksAtGate) is Gate tt

@@ -20,7 +20,7 @@ use Rattle.gc_worker.specs.declared.stage.back.Back.TheVariants.{ToAccess, ToPla
 use Rattle.gc_worker.specs.declared.stage.goal.Goal.TheVariants.{ForSnap, ForScanner}
 use Rattle.gc_worker.specs.Steps.Goes.{Is, Goes}
 use Rattle.gc_worker.specs.Workers.Held.{Held, at_stage}
-use Rattle.gc_worker.specs.Workers.Knows.{knows, epoch_at}
+use Rattle.gc_worker.specs.Workers.Knows.{knows, epoch_at, pass_at}
 use Rattle.gc_worker.specs.Steps.Turned.{checkpoints, goes_back, turned_round, won_in, told_round}
 use Rattle.gc_worker.proofs.Workers.Checkpointing.{has_room, round_for_snap, round_of_scanner}
 use Rattle.gc_worker.proofs.Stages.Rounds.Going.{at, done, ends_as, fits_done, goes_back_with, own_stock_same, sound_at}
@@ -32,7 +32,7 @@ module _ (c : Configuration) (p : Plain) (s : Stands c p) (k : ℕ) (y : Held) (
   abbrev Finds : Type 0
   Finds = duty.taken_at (record d { stage = stage }) stage reply ≡ record d { stage = Ended Traced }
 
-  module _ (taken : Finds) (none : won_in stage reply ≡ None) (own : epoch_at y.epoch (record d { stage = stage }) stage ≡ d.epoch) where
+  module _ (taken : Finds) (none : won_in stage reply ≡ None) (still : pass_at stage ≡ None) (own : epoch_at y.epoch (record d { stage = stage }) stage ≡ d.epoch) where
     -- ---- a mutator that begins a checkpoint has seen it
 
     module _ (is : Is c k (at c p s k y d ToSnap stage)) (traced : traced_now c ≡ d.epoch + 1) where
@@ -53,13 +53,13 @@ module _ (c : Configuration) (p : Plain) (s : Stands c p) (k : ℕ) (y : Held) (
           (traced_word c ∙ (traced ∙ sym (ap (λ (w : Worker). w.epoch + 1) is.as_known ∙ ap (λ (e : ℕ). e + 1) own)))
 
       knows_begun : knows begun ≡ aware (ends_round (knows x))
-      knows_begun = let stock = own_stock_same c p s k y d ToSnap stage is in λ i. record (knows begun) { epoch = sym own i; stock = stock i }
+      knows_begun = let stock = own_stock_same c p s k y d ToSnap stage is in λ i. record (knows begun) { epoch = sym own i; stock = stock i; pass = sym still i }
 
       law : Law c p s k x None (knows begun) s.ghost
       law =
           let w = aware ((team c).worker k) in
           subst (λ (v : Worker). Law c p s k x None v s.ghost) (ap (λ (v : Worker). aware (ends_round v)) is.as_known ∙ sym knows_begun)
-          (steps_forget (era c) (memory c) (team c) s.ghost k None w (ends_round w) s.ghost sees (rounds_are_forgotten w))
+          (steps_forget (era c) (memory c) (team c) s.ghost k None w (ends_round w) s.ghost sees (rounds_are_forgotten w (ap (λ (v : Worker). v.pass) is.as_known ∙ still)))
 
       goes : Goes c p s k None x reply
       goes =
@@ -84,16 +84,16 @@ module _ (c : Configuration) (p : Plain) (s : Stands c p) (k : ℕ) (y : Held) (
           let f = fits_done c p s k y d ToScanner stage is in
           let stock = own_stock_same c p s k y d ToScanner stage is in
           ends_as c p s k y d ToScanner stage is reply Traced helping taken
-          (ap (λ (b : Bool). at_stage scanner (cond b (checkpoints scanner ForScanner) (goes_back scanner ToScanner))) room) refl none
+          (ap (λ (b : Bool). at_stage scanner (cond b (checkpoints scanner ForScanner) (goes_back scanner ToScanner))) room) refl none still
           (λ i. record (knows helping) { epoch = sym own i; stock = stock i })
           (round_of_scanner c.pages c.mutators k scanner f is.fits.end room is.fits.side is.fits.task is.fits.stage.1)
       helps_by false room = goes_back_with c p s k y d ToScanner stage is reply Traced taken
-          (ap (λ (b : Bool). at_stage scanner (cond b (checkpoints scanner ForScanner) (goes_back scanner ToScanner))) room) refl none own
+          (ap (λ (b : Bool). at_stage scanner (cond b (checkpoints scanner ForScanner) (goes_back scanner ToScanner))) room) refl none still own
 
     -- ---- all
 
     pub finds_traced : (back : Back) → Is c k (at c p s k y d back stage) → traced_now c ≡ d.epoch + 1 → Goes c p s k None (at c p s k y d back stage) reply
-    finds_traced (ToAccess a) is traced = goes_back_with c p s k y d (ToAccess a) stage is reply Traced taken refl refl none own
-    finds_traced ToPlace is traced = goes_back_with c p s k y d ToPlace stage is reply Traced taken refl refl none own
+    finds_traced (ToAccess a) is traced = goes_back_with c p s k y d (ToAccess a) stage is reply Traced taken refl refl none still own
+    finds_traced ToPlace is traced = goes_back_with c p s k y d ToPlace stage is reply Traced taken refl refl none still own
     finds_traced ToSnap is traced = goes is traced
     finds_traced ToScanner is traced = helps_by is y.layout.checkpoints refl

@@ -66,7 +66,7 @@ module _ (c : Configuration) (p : Plain) (s : Stands c p) (k : ℕ) (y : Held) (
     -- the board needs no look at the area
     board : page ≡ board_page d.layout.pages → duty.state_of says d.epoch ≡ Waits → MayClaim (era c) (memory c) (team c) k page says
     board at_board waits = record {
-      earlier = earlier_now c p s k y d back (LoadsWanted found page) is page says refl waits;
+      earlier = earlier_now c p s k y d back (LoadsWanted found page) is page says refl refl waits;
       full = λ now. inl (at_board ∙ board_now c p s k y d back (LoadsWanted found page) is);
     }
 
@@ -76,10 +76,10 @@ module _ (c : Configuration) (p : Plain) (s : Stands c p) (k : ℕ) (y : Held) (
         ≡ round c p s k y d back (cond b (duty.claim_by_state (round c p s k y d back (LoadsWanted found page)) page says false state) (LoadsFrontFor found (record { page = page; says = says })))
         → Goes c p s k None x (Value loaded)
     one_by true test Waits waits taken =
-        begins c p s k y d back (LoadsWanted found page) is page says refl (Value loaded) (board (same_of page (board_page d.layout.pages) test) waits) waits fits_says inside taken refl
-    one_by true test Past past taken = ends c p s k y d back (LoadsWanted found page) is (Value loaded) (encode_page says) taken refl refl
-    one_by true test Opened opened taken = ends c p s k y d back (LoadsWanted found page) is (Value loaded) (encode_page says) taken refl refl
-    one_by true test Scanned scanned taken = ends c p s k y d back (LoadsWanted found page) is (Value loaded) (encode_page says) taken refl refl
+        begins c p s k y d back (LoadsWanted found page) is page says refl refl (Value loaded) (board (same_of page (board_page d.layout.pages) test) waits) waits fits_says inside taken refl
+    one_by true test Past past taken = ends c p s k y d back (LoadsWanted found page) is (Value loaded) (encode_page says) taken refl refl refl
+    one_by true test Opened opened taken = ends c p s k y d back (LoadsWanted found page) is (Value loaded) (encode_page says) taken refl refl refl
+    one_by true test Scanned scanned taken = ends c p s k y d back (LoadsWanted found page) is (Value loaded) (encode_page says) taken refl refl refl
     one_by false test state is_state taken =
         let own = is.fits.stage.0.sound in
         goes_on c p s k y d back (LoadsWanted found page) is None (Value loaded) (LoadsFrontFor found (record { page = page; says = says })) s.ghost taken refl refl
@@ -90,8 +90,8 @@ module _ (c : Configuration) (p : Plain) (s : Stands c p) (k : ℕ) (y : Held) (
         → duty.taken_at (round c p s k y d back (LoadsWanted found page)) (LoadsWanted found page) (Value loaded)
         ≡ round c p s k y d back (duty.wanted_by (round c p s k y d back (LoadsWanted found page)) found page loaded says state)
         → Goes c p s k None x (Value loaded)
-    state_by Opened is_state taken = ends c p s k y d back (LoadsWanted found page) is (Value loaded) loaded taken refl refl
-    state_by Scanned is_state taken = ends c p s k y d back (LoadsWanted found page) is (Value loaded) loaded taken refl refl
+    state_by Opened is_state taken = ends c p s k y d back (LoadsWanted found page) is (Value loaded) loaded taken refl refl refl
+    state_by Scanned is_state taken = ends c p s k y d back (LoadsWanted found page) is (Value loaded) loaded taken refl refl refl
     state_by Waits is_state taken =
         one_by (nat_eq page (board_page d.layout.pages)) refl (duty.state_of says d.epoch) refl taken
     state_by Past is_state taken =
@@ -143,7 +143,7 @@ module _ (c : Configuration) (p : Plain) (s : Stands c p) (k : ℕ) (y : Held) (
 
     may : duty.is_full (duty.front_of d area) w.page ≡ true → duty.state_of w.says d.epoch ≡ Waits → MayClaim (era c) (memory c) (team c) k w.page w.says
     may full waits = record {
-      earlier = earlier_now c p s k y d back (LoadsFrontFor found w) is w.page w.says refl waits;
+      earlier = earlier_now c p s k y d back (LoadsFrontFor found w) is w.page w.says refl refl waits;
       full = λ now. elim served [
         | inl at_board ↦ inl (at_board ∙ board_now c p s k y d back (LoadsFrontFor found w) is)
         | inr in_space ↦ inr (full_now (sym (ap (λ (v : Worker). v.epoch) is.as_known) ∙ now) in_space)
@@ -162,10 +162,10 @@ module _ (c : Configuration) (p : Plain) (s : Stands c p) (k : ℕ) (y : Held) (
         → duty.taken_at (round c p s k y d back (LoadsFrontFor found w)) (LoadsFrontFor found w) (Value (area_now c space))
         ≡ round c p s k y d back (duty.claim_by_state (round c p s k y d back (LoadsFrontFor found w)) w.page w.says false state) → Goes c p s k None z (Value (area_now c space))
     claimed_by Waits waits full taken =
-        begins c p s k y d back (LoadsFrontFor found w) is w.page w.says refl (Value (area_now c space)) (may full waits) waits is.fits.stage.0.sound.stage.2 within taken refl
-    claimed_by Past past full taken = ends c p s k y d back (LoadsFrontFor found w) is (Value (area_now c space)) (encode_page w.says) taken refl refl
-    claimed_by Opened opened full taken = ends c p s k y d back (LoadsFrontFor found w) is (Value (area_now c space)) (encode_page w.says) taken refl refl
-    claimed_by Scanned scanned full taken = ends c p s k y d back (LoadsFrontFor found w) is (Value (area_now c space)) (encode_page w.says) taken refl refl
+        begins c p s k y d back (LoadsFrontFor found w) is w.page w.says refl refl (Value (area_now c space)) (may full waits) waits is.fits.stage.0.sound.stage.2 within taken refl
+    claimed_by Past past full taken = ends c p s k y d back (LoadsFrontFor found w) is (Value (area_now c space)) (encode_page w.says) taken refl refl refl
+    claimed_by Opened opened full taken = ends c p s k y d back (LoadsFrontFor found w) is (Value (area_now c space)) (encode_page w.says) taken refl refl refl
+    claimed_by Scanned scanned full taken = ends c p s k y d back (LoadsFrontFor found w) is (Value (area_now c space)) (encode_page w.says) taken refl refl refl
 
     full_by : (b : Bool) → duty.is_full (duty.front_of d area) w.page ≡ b
         → duty.taken_at (round c p s k y d back (LoadsFrontFor found w)) (LoadsFrontFor found w) (Value (area_now c space))

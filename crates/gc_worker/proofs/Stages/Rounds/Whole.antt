@@ -5,7 +5,7 @@ use Rattle.page_slots.specs.declared.claim_stage.ClaimStage.{ClaimStage}
 use Rattle.page_slots.specs.declared.claim_stage.ClaimStage.TheVariants as claim_stage
 use Rattle.page_slots.specs.Claim.{Claiming}
 use Rattle.fault_duty.specs.declared.duty_stage.DutyStage.{DutyStage}
-use Rattle.fault_duty.specs.declared.duty_stage.DutyStage.TheVariants.{LoadsGate, LoadsTraced, LoadsWanted, LoadsFrontFor, LoadsFront, LoadsPage, Claims, EndGate, EndArea, EndPage, EndFilling, EndAreaAgain, Traces, Ended}
+use Rattle.fault_duty.specs.declared.duty_stage.DutyStage.TheVariants.{LoadsGate, LoadsTraced, LoadsWanted, LoadsFrontFor, LoadsFront, LoadsPage, Claims, EndGate, EndArea, EndPage, EndFilling, EndAreaAgain, Walks, Traces, Ended}
 use Rattle.fault_duty.specs.Duty.{Round}
 use Rattle.heap_state.specs.Configuration.{Configuration, Stands}
 use Rattle.gc_worker.specs.declared.stage.back.Back.{Back}
@@ -21,6 +21,7 @@ use Rattle.gc_worker.proofs.Stages.Rounds.Looking.{looks_at_announced, looks_at_
 use Rattle.gc_worker.proofs.Stages.Rounds.Winning.{exchanges_page}
 use Rattle.gc_worker.proofs.Stages.Rounds.EndAgain.{loads_area_again}
 use Rattle.gc_worker.proofs.Stages.Rounds.EndPages.{loads_page_again}
+use Rattle.gc_worker.proofs.Stages.Rounds.Walking.{walks}
 
 module _ (c : Configuration) (p : Plain) (s : Stands c p) (k : ℕ) (y : Held) (d : Round) (back : Back) where
   claims : (q : Claiming) (stage : ClaimStage) → Is c k (at c p s k y d back (Claims (record q { stage = stage })))
@@ -43,6 +44,7 @@ module _ (c : Configuration) (p : Plain) (s : Stands c p) (k : ℕ) (y : Held) (
   by_stage (EndPage look page) is = loads_page_again c p s k y d back look page is
   by_stage (EndFilling look) is = loads_filling c p s k y d back look is
   by_stage (EndAreaAgain look filling) is = loads_area_again c p s k y d back look filling is
+  by_stage (Walks traced walk) is = walks c p s k y d back traced walk is
   by_stage (Traces traced) is = exchanges_traced c p s k y d back traced is
   by_stage (Ended result) is = λ q asked. absurd (let none = asked in cc)
 

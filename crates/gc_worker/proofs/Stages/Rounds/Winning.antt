@@ -179,4 +179,4 @@ module _ (c : Configuration) (p : Plain) (s : Stands c p) (k : ℕ) (y : Held) (
       wants c p s k x (Exchange (place_of c.pages (Page q.page)) (encode_page q.found) (encode_page (Scanning q.epoch q.worker)))
       (ap (λ n. Some (Exchange (place_of n (Page q.page)) (encode_page q.found) (encode_page (Scanning q.epoch q.worker)))) pages)
       (exchanges c p s k x entry (encode_page q.found) inside (λ same. goes_won same)
-      (λ other. ends c p s k y d back (Claims (record q { stage = Exchanges })) is (Lost (page_now c q.page)) (page_now c q.page) refl refl refl))
+      (λ other. ends c p s k y d back (Claims (record q { stage = Exchanges })) is (Lost (page_now c q.page)) (page_now c q.page) refl refl refl refl))

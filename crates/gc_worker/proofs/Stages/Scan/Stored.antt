@@ -40,7 +40,7 @@ module _ (c : Configuration) (p : Plain) (s : Stands c p) (k : ℕ) (y : Held) (
   now = scan_at v asked.spot
 
   abbrev quest : Quest
-  quest = record { old = asked.old; origin = Scanned (address_of asked.spot); found = Some to; links = false }
+  quest = record { old = asked.old; origin = Scanned (address_of asked.spot); found = Some to }
 
   abbrev entry : Entry
   entry = WordIs (address_of asked.spot) (pointer_word to)
@@ -71,7 +71,7 @@ module _ (c : Configuration) (p : Plain) (s : Stands c p) (k : ℕ) (y : Held) (
         stored (passes_less y v back (era c) c.pages (board_at c) asked.spot on)
       where
         stored : Law c p s k x (Some entry) (scanning (knows x) (past_word (era c) now)) s.ghost
-        stored = rw is.as_known at (fields.stores (era c) (memory c) (team c) s.ghost k now quest to (pointer_word to) (prepared c p s k x is) found (decode-pointer_word to short))
+        stored = rw is.as_known at (fields.stores (era c) (memory c) (team c) s.ghost k now quest to (pointer_word to) (prepared c p s k x is) found (ap (λ (w : Worker). w.linking) is.as_known) (decode-pointer_word to short))
 
     goes : Goes c p s k (Some entry) x Done
     goes = quiet c p s k x (Some entry) Done s.ghost is.below law refl

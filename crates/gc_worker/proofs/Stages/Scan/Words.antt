@@ -143,7 +143,7 @@ module _ (c : Configuration) (p : Plain) (s : Stands c p) (k : ℕ) (y : Held) (
     goes_asking : (a : ℕ) → decode ((memory c).heap now.cursor) ≡ PointerWord a → (era c).old_start ≤ a → a < (era c).old_start + (era c).old_span
         → after (decode word) ≡ scan_stage.Asks (record { spot = spot; old = a }) → Goes c p s k None x (Value word)
     goes_asking a points low high same =
-        let l : Law c p s k x None (asking (knows x) (record { old = a; origin = Scanned now.cursor; found = None; links = false })) s.ghost =
+        let l : Law c p s k x None (asking (knows x) (record { old = a; origin = Scanned now.cursor; found = None })) s.ghost =
         rw is.as_known at (fields.asks (era c) (memory c) (team c) s.ghost k now a (prepared c p s k x is) scans field refl points low high) in
         let inside : a < 128 * x.layout.pages = let w = old_space_below c p s in rw is.fits.pages (omega (arith, w, high)) in
         quiet c p s k x None (Value word) s.ghost is.below (rw same l) refl

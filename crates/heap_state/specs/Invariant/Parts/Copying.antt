@@ -1,7 +1,6 @@
 -- What a worker knows that copies a record.
 use Rattle.std.specs.Prelude.{◌≡◌, ℕ, ◌+◌, ◌-◌, ◌<◌, ◌≤◌, ◌⊎◌, Bool, true, false, Option, Some, None}
 use Rattle.plain_state.specs.declared.kind.Kind.{Kind}
-use Rattle.plain_state.specs.declared.kind.Kind.TheVariants.{Weak}
 use Rattle.heap_words.specs.Decoded.{PointerWord, HeaderWord, decode}
 use Rattle.plain_state.specs.declared.value.Identity.{Identity}
 use Rattle.heap_state.specs.Memory.Era.{Era}
@@ -16,12 +15,10 @@ IsOrigin E size writer kind heap late done registers scan old (Register r) = (la
 IsOrigin E size writer kind heap late done registers scan old (Scanned x) =
     ((s : Scan) × (scan ≡ Some s) × (s.cursor ≡ x) × (page_of x ≡ s.page) × (s.ended ≡ false)) × Here E size writer kind x × (decode (heap x) ≡ PointerWord old)
 
--- A record stands at the old place; once the copy is known, it is the copy, and nobody writes it any more. It is linked only if it
--- is a cell, which has a word for its link.
-pub record Seeks (E : Era) (size writer copy : ℕ → ℕ) (kind : ℕ → Kind) (q : Quest) : Type 0 where
+-- A record stands at the old place; once the copy is known, it is the copy, and nobody writes it any more.
+pub record Seeks (E : Era) (size writer copy : ℕ → ℕ) (q : Quest) : Type 0 where
   pub old : (0 < size q.old) × (E.old_start ≤ q.old) × (q.old < E.old_start + E.old_span)
   pub found : (b : ℕ) → q.found ≡ Some b → (copy q.old ≡ b + 1) × (writer b ≡ 0)
-  pub links : q.links ≡ true → (kind q.old ≡ Weak) × (2 < size q.old)
 
 -- The record stands in the old space and this worker keeps its header. Its place was FRONT when it was read, and is at most
 -- FRONT now; it is reserved once AREA was exchanged, and announced before. The words after the header that were copied agree, and

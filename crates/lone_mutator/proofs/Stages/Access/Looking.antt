@@ -86,7 +86,7 @@ module _ (c : Configuration) (p : Plain) (s : Stands c p) (y : Held) where
     faults shut =
         let closed : says ≢ Open (table c).gate.epoch = (λ is. shut (is ∙ ap Open (sym now))) in
         let untraced : (table c).traced ≢ (table c).gate.epoch + 1 = (λ traced. closed (traced_open traced)) in
-        let due = due_untraced c.pages (table c).gate.epoch (table c).traced ((table c).area (to_space (table c).gate.epoch)).owed (table c).page untraced in
+        let due = due_untraced c.pages (table c).gate.epoch (table c).traced (table c).weak_turn ((table c).area (to_space (table c).gate.epoch)).owed (table c).page untraced in
         let n = a.is.fits.pages in
         record {
           remembers = record {

@@ -199,7 +199,7 @@ module _ (c : Configuration) (p : Plain) (s : Stands c p) (u : Evacuation) where
         let room = a.sound.fits.1.owed in
         let now = ap (λ (z : AreaWord). z.owed) (put_at t.area space past (to_space t.gate.epoch) same_space) in
         let before = ap (λ (z : AreaWord). z.owed) (ap t.area same_space ∙ a.stands) in
-        rw (now, before) (left_reserved n t.gate.epoch t.traced read.owed t.page (size_of kept) a.untraced room)
+        rw (now, before) (left_reserved n t.gate.epoch t.traced t.weak_turn read.owed t.page (size_of kept) a.untraced room)
 
     area_stands : word_in c.pages c.words (Area space) ≡ encode_area read
     area_stands = sym (encode_area-area_in (word_in c.pages c.words (Area space))) ∙ (ap encode_area (sym (area_word c space)) ∙ ap encode_area a.stands)
@@ -307,8 +307,8 @@ copy_goes c p s v q a asked = by_stage c p s v v.stage a q asked
 pub pays_due : (n : ℕ) (t after : Table) (v w : Evacuation) → t.traced ≢ t.gate.epoch + 1 → CopyGoes n t after v w
     → copy_left w.stage + due_in n after < copy_left v.stage + due_in n t
 pays_due n t after v w untraced goes =
-    let before = due_untraced n t.gate.epoch t.traced (t.area (to_space t.gate.epoch)).owed t.page untraced in
-    let now = due_untraced n after.gate.epoch after.traced (after.area (to_space after.gate.epoch)).owed after.page
+    let before = due_untraced n t.gate.epoch t.traced t.weak_turn (t.area (to_space t.gate.epoch)).owed t.page untraced in
+    let now = due_untraced n after.gate.epoch after.traced after.weak_turn (after.area (to_space after.gate.epoch)).owed after.page
     (λ (traced : after.traced ≡ after.gate.epoch + 1). untraced (sym goes.traced ∙ (traced ∙ ap (λ g. g.epoch + 1) goes.gate))) in
     let less = goes.left in
     omega (arith, before, now, less)

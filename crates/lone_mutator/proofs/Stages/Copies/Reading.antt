@@ -31,5 +31,5 @@ module _ (E : Era) (m : Memory) (team : Team) (g : Ghost) (i : Invariant E m tea
         inr (ap is_forward (i.headed.gone a b stands (let next : g.copy a ≡ b + 1 = omega (arith, is) in next) (unkept (g.keeper a) refl)))
 
   -- so who looks for a copy, and copies nothing yet, reads a header or a forward
-  pub reads_first : (q : Quest) → Seeks E g.size g.writer g.copy g.kind q → g.kept 0 ≡ 0 → IsFirstWord (decode (m.heap q.old))
+  pub reads_first : (q : Quest) → Seeks E g.size g.writer g.copy q → g.kept 0 ≡ 0 → IsFirstWord (decode (m.heap q.old))
   reads_first q seeks idle = by_copy q.old seeks.old.0 idle (g.copy q.old) refl seeks.old.1 seeks.old.2

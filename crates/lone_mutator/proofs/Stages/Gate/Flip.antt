@@ -201,7 +201,7 @@ module _ (c : Configuration) (p : Plain) (s : Stands c p) (y : Held) (asked : â„
         let used = fits.used in let size = fits.size.1 in
         let n = a.is.fits.pages in
         let e = ap (Î» (z : GateWord). ((table c).area (to_space (z.epoch + 1))).owed) (sym gate_is) in
-        due_le_longest c.pages (r.gate.epoch + 1) (table c).traced ((table c).area (to_space (r.gate.epoch + 1))).owed (table c).page (omega (arith, used, size, n, e, owed_is))
+        due_le_longest c.pages (r.gate.epoch + 1) (table c).traced (table c).weak_turn ((table c).area (to_space (r.gate.epoch + 1))).owed (table c).page (omega (arith, used, size, n, e, owed_is))
 
     falls : Lowers c.pages (saves c) (table c) flipped x (turned x Won)
     falls =

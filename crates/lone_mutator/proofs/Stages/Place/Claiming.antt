@@ -49,10 +49,10 @@ pub few_pages : (header : Header) → pages_for (size_of header) ≤ 64
 few_pages header = let short = header.short in omega (arith, short)
 
 -- where less is owed, no more is to be paid
-due-le_owed : (n e traced owed less : ℕ) (page : ℕ → PageWord) → less ≤ owed → tracing_due n e traced less page ≤ tracing_due n e traced owed page
-due-le_owed n e traced owed less page fewer = ⊎_elim
-    (λ (is : traced ≡ e + 1). let now = due_traced n e traced less page is in omega (arith, now))
-    (λ (other : traced ≢ e + 1). let now = due_still n e traced less page other in let before = due_still n e traced owed page other in omega (arith, now, before, fewer))
+due-le_owed : (n e traced turn owed less : ℕ) (page : ℕ → PageWord) → less ≤ owed → tracing_due n e traced turn less page ≤ tracing_due n e traced turn owed page
+due-le_owed n e traced turn owed less page fewer = ⊎_elim
+    (λ (is : traced ≡ e + 1). let now = due_traced n e traced turn less page is in omega (arith, now))
+    (λ (other : traced ≢ e + 1). let now = due_still n e traced turn less page other in let before = due_still n e traced turn owed page other in omega (arith, now, before, fewer))
     (cases_eq traced (e + 1))
 
 kept-le : (traced : Bool) (area : AreaWord) → kept_room traced area ≤ area.owed
@@ -137,7 +137,7 @@ module _ (c : Configuration) (p : Plain) (s : Stands c p) (y : Held) (run : Run)
     serves untraced =
         let n = a.is.fits.pages in
         let other : (table c).traced ≢ (table c).gate.epoch + 1 = (λ same. untraced (same ∙ ap (λ (e : ℕ). e + 1) (sym (now (LoadsArea traced size) a)))) in
-        let due = due_untraced c.pages (table c).gate.epoch (table c).traced ((table c).area (to_space (table c).gate.epoch)).owed (table c).page other in
+        let due = due_untraced c.pages (table c).gate.epoch (table c).traced (table c).weak_turn ((table c).area (to_space (table c).gate.epoch)).owed (table c).page other in
         record {
           remembers = record { began = λ past. a.remembers.began tt; quiet = a.remembers.quiet; stands = (record { untraced = inr other; found = λ wanted is. absurd (cc) }, tt) };
           falls = omega (arith, n, due);
@@ -221,7 +221,7 @@ module _ (c : Configuration) (p : Plain) (s : Stands c p) (y : Held) (run : Run)
         let owed : ((put (table c).area space lower) (to_space (table c).gate.epoch)).owed ≡ kept_room f.traced f.area = ap (λ (w : AreaWord). w.owed) (put_at (table c).area space lower (to_space (table c).gate.epoch) own) in
         let before : ((table c).area (to_space (table c).gate.epoch)).owed ≡ f.area.owed = ap (λ (w : AreaWord). w.owed) (ap (table c).area own ∙ a.remembers.stands) in
         let kept = kept-le f.traced f.area in
-        due-le_owed c.pages (table c).gate.epoch (table c).traced ((table c).area (to_space (table c).gate.epoch)).owed ((put (table c).area space lower) (to_space (table c).gate.epoch)).owed (table c).page (omega (arith, owed, before, kept))
+        due-le_owed c.pages (table c).gate.epoch (table c).traced (table c).weak_turn ((table c).area (to_space (table c).gate.epoch)).owed ((put (table c).area space lower) (to_space (table c).gate.epoch)).owed (table c).page (omega (arith, owed, before, kept))
 
     pub exchanges_area : StepsLower c z
     exchanges_area =

@@ -142,7 +142,7 @@ module _ (c : Configuration) (p : Plain) (s : Stands c p) (y : Held) (run : Run)
     due_after : due_in c.pages opened_at ≤ due_in c.pages (table c)
     due_after =
         let now = present c p s (on (OpensPage new)) a refl in
-        due_opened c.pages (table c).gate.epoch (table c).traced ((table c).area (to_space (table c).gate.epoch)).owed (table c).page new.next (Open y.epoch) (ap (λ (e : ℕ). e + 1) now)
+        due_opened c.pages (table c).gate.epoch (table c).traced (table c).weak_turn ((table c).area (to_space (table c).gate.epoch)).owed (table c).page new.next (Open y.epoch) (ap (λ (e : ℕ). e + 1) now)
 
     abbrev further : NewPages
     further = record { first = new.first; next = new.next + 1 }

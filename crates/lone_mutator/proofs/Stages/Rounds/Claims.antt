@@ -1,5 +1,5 @@
 -- A claim of a lone mutator finds no place announced, and no other epoch.
-use Rattle.std.proofs.Common.{◌≡◌, ℕ, ◌+◌, Bool, true, false, nat_eq, Some, refl, sym, ap, ◌∙◌}
+use Rattle.std.proofs.Common.{◌≡◌, ℕ, ◌+◌, Bool, true, false, nat_eq, Some, refl, sym, ap, ◌∙◌, arith}
 use Rattle.std.specs.Prelude.{is_some}
 use Rattle.std.proofs.lemmas.Bool.{eq-eqb}
 use Rattle.atom_store.specs.declared.reply.Reply.TheVariants.{Value}
@@ -20,8 +20,8 @@ module _ (E : Era) (m : Memory) (d : Round) (a : RoundIsAlone E m d) (q : Claimi
   at stage = record q { stage = stage }
 
   by_last : (k : ℕ) (b : Bool) → nat_eq k 23 ≡ b → RoundGoes E m d (Claims (at (LooksAtPlace k))) (Value 0)
-  by_last k true test = record { next = Claims (at LooksAtGate); same = rw test refl; more = refl; found = same; untraced = λ back is. is; advances = refl }
-  by_last k false test = record { next = Claims (at (LooksAtPlace (k + 1))); same = rw test refl; more = refl; found = same; untraced = λ back is. is; advances = refl }
+  by_last k true test = record { next = Claims (at LooksAtGate); same = rw test refl; more = refl; found = same; untraced = λ back is. is; advances = refl; steps = λ less. omega (arith, less) }
+  by_last k false test = record { next = Claims (at (LooksAtPlace (k + 1))); same = rw test refl; more = refl; found = same; untraced = λ back is. is; advances = refl; steps = λ less. omega (arith, less) }
 
   pub at_place : (k word : ℕ) → word ≡ 0 → RoundGoes E m d (Claims (at (LooksAtPlace k))) (Value word)
   at_place k word none = rw none (by_last k (nat_eq k 23) refl)
@@ -36,4 +36,5 @@ module _ (E : Era) (m : Memory) (d : Round) (a : RoundIsAlone E m d) (q : Claimi
         found = same;
         untraced = λ back is. is;
         advances = ap is_some read;
+        steps = λ less. omega (arith, less);
       }

@@ -11,10 +11,11 @@ use Rattle.space_map.specs.AreaWord.{decode_area}
 use Rattle.space_map.specs.GateWord.{decode_gate}
 use Rattle.space_map.specs.PageWord.{decode_page, encode_page, age_of}
 use Rattle.space_map.specs.Spaces.{board_page, page_of}
+use Rattle.cell_walk.specs.Walking as walk
 use Rattle.fault_duty.specs.declared.end_look.EndLook.{EndLook}
 use Rattle.fault_duty.specs.declared.page_state.PageState.TheVariants.{Opened, Waits}
 use Rattle.fault_duty.specs.declared.duty_stage.DutyStage.{DutyStage}
-use Rattle.fault_duty.specs.declared.duty_stage.DutyStage.TheVariants.{EndGate, EndArea, EndPage, EndFilling, EndAreaAgain, Traces}
+use Rattle.fault_duty.specs.declared.duty_stage.DutyStage.TheVariants.{EndGate, EndArea, EndPage, EndFilling, EndAreaAgain, Walks}
 use Rattle.fault_duty.specs.Duty
 use Rattle.fault_duty.specs.Duty.{Round, at_stage, front_of, page_after, is_full}
 use Rattle.fault_duty.specs.Soundness.{IsChoice}
@@ -35,6 +36,7 @@ module _ (E : Era) (m : Memory) (d : Round) (a : RoundIsAlone E m d) where
     found = (quiet, is);
     untraced = λ back is. is;
     advances = ap is_some read;
+    steps = λ less. omega (arith, less);
   }
 
   pub at_area : (traced word : ℕ) (area : AreaWord) → IsQuiet E m → traced ≡ m.traced → decode_area word ≡ Some area → front_of d area ≡ m.front
@@ -46,6 +48,7 @@ module _ (E : Era) (m : Memory) (d : Round) (a : RoundIsAlone E m d) where
     found = (quiet, record { traced = is; front = front });
     untraced = λ back is. is;
     advances = ap is_some read;
+    steps = λ less. omega (arith, less);
   }
 
   -- ---- the pages again
@@ -84,6 +87,7 @@ module _ (E : Era) (m : Memory) (d : Round) (a : RoundIsAlone E m d) where
       found = (quiet, is);
       untraced = λ back is. is;
       advances = refl;
+      steps = λ less. omega (arith, less);
     }
     by_full word false test read = by_rest (nat_eq (look.front % 64) 0) refl
       where
@@ -95,6 +99,7 @@ module _ (E : Era) (m : Memory) (d : Round) (a : RoundIsAlone E m d) where
           found = (is, λ rest. absurd (let e : look.front % 64 ≡ 0 = grind (arith, nat_tests) in rest e));
           untraced = λ back is. is;
           advances = refl;
+          steps = λ less. omega (arith, less);
         }
         by_rest false rest = record {
           next = EndFilling look;
@@ -103,6 +108,7 @@ module _ (E : Era) (m : Memory) (d : Round) (a : RoundIsAlone E m d) where
           found = is;
           untraced = λ back is. is;
           advances = refl;
+          steps = λ less. omega (arith, less);
         }
 
     pub at_page_again : (word : ℕ) → word ≡ encode_page (m.page page) → RoundGoes E m d (EndPage look page) (Value word)
@@ -124,7 +130,7 @@ module _ (E : Era) (m : Memory) (d : Round) (a : RoundIsAlone E m d) where
             (ap (λ (w : PageWord). Duty.state_of w d.epoch) now ∙ (ap (λ e. Duty.state_of (page_word.Open e) d.epoch) a.epoch ∙ opened_now d.epoch))
 
     pub at_filling : (word : ℕ) → decode_page word ≡ Some filling → RoundGoes E m d (EndFilling look) (Value word)
-    at_filling word read = record { next = EndAreaAgain look filling; same = goes_again word read; more = refl; found = (is, λ rest. refl); untraced = λ back is. is; advances = ap is_some read }
+    at_filling word read = record { next = EndAreaAgain look filling; same = goes_again word read; more = refl; found = (is, λ rest. refl); untraced = λ back is. is; advances = ap is_some read; steps = λ less. omega (arith, less) }
 
   -- ---- FRONT again
 
@@ -137,15 +143,16 @@ module _ (E : Era) (m : Memory) (d : Round) (a : RoundIsAlone E m d) where
         ap (λ o. at_stage d (Duty.ended_area_again d look filling word o)) read ∙ rw test refl
 
     -- all is open
-    traces : (word : ℕ) (area : AreaWord) → decode_area word ≡ Some area → front_of d area ≡ m.front → Duty.state_of filling d.epoch ≡ Opened
+    walks : (word : ℕ) (area : AreaWord) → decode_area word ≡ Some area → front_of d area ≡ m.front → Duty.state_of filling d.epoch ≡ Opened
         → RoundGoes E m d (EndAreaAgain look filling) (Value word)
-    traces word area read front state = record {
-      next = Traces look.traced;
+    walks word area read front state = record {
+      next = Walks look.traced (walk.begun d.layout d.epoch);
       same = stands word area read front ∙ ap (λ st. at_stage d (Duty.ends_by d look filling st)) state;
       more = refl;
-      found = is.traced;
+      found = (is.traced, tt);
       untraced = λ back is. is;
       advances = ap is_some read;
+      steps = λ less. omega (arith, less);
     }
 
     -- or the filling page is claimed
@@ -158,18 +165,19 @@ module _ (E : Era) (m : Memory) (d : Round) (a : RoundIsAlone E m d) where
       found = same;
       untraced = λ back is. is;
       advances = ap is_some read;
+      steps = λ less. omega arith;
     }
 
     by_filling : (word : ℕ) (area : AreaWord) → decode_area word ≡ Some area → front_of d area ≡ m.front → filling ≡ m.page (page_of look.front)
         → (age_of (m.page (page_of look.front)) ≤ d.epoch) ⊎ (m.page (page_of look.front) ≡ page_word.Open E.epoch) → RoundGoes E m d (EndAreaAgain look filling) (Value word)
     by_filling word area read front same (inl early) =
         claims word area read front same (ap (λ (w : PageWord). Duty.state_of w d.epoch) same ∙ waits_early (m.page (page_of look.front)) d.epoch early)
-    by_filling word area read front same (inr now) = traces word area read front
+    by_filling word area read front same (inr now) = walks word area read front
         (ap (λ (w : PageWord). Duty.state_of w d.epoch) (same ∙ now) ∙ (ap (λ e. Duty.state_of (page_word.Open e) d.epoch) a.epoch ∙ opened_now d.epoch))
 
     by_rest : (word : ℕ) (area : AreaWord) → decode_area word ≡ Some area → front_of d area ≡ m.front → (look.front % 64 ≡ 0) ⊎ (look.front % 64 ≢ 0)
         → RoundGoes E m d (EndAreaAgain look filling) (Value word)
-    by_rest word area read front (inl whole) = traces word area read front (none whole)
+    by_rest word area read front (inl whole) = walks word area read front (none whole)
     by_rest word area read front (inr rest) = by_filling word area read front (says rest) (by_page E m d a (page_of look.front))
 
     pub at_area_again : (word : ℕ) (area : AreaWord) → decode_area word ≡ Some area → front_of d area ≡ m.front → RoundGoes E m d (EndAreaAgain look filling) (Value word)

@@ -9,7 +9,7 @@ use Rattle.space_map.specs.Table.{Row, IsRow, place_of}
 use Rattle.fault_duty.specs.declared.caller.Caller.{Caller}
 use Rattle.fault_duty.specs.declared.caller.Caller.TheVariants as callers
 use Rattle.fault_duty.specs.declared.duty_stage.DutyStage.{DutyStage}
-use Rattle.fault_duty.specs.declared.duty_stage.DutyStage.TheVariants.{LoadsGate, LoadsTraced, LoadsWanted, LoadsFrontFor, LoadsFront, LoadsPage, Claims, EndGate, EndArea, EndPage, EndFilling, EndAreaAgain, Traces, Ended}
+use Rattle.fault_duty.specs.declared.duty_stage.DutyStage.TheVariants.{LoadsGate, LoadsTraced, LoadsWanted, LoadsFrontFor, LoadsFront, LoadsPage, Claims, EndGate, EndArea, EndPage, EndFilling, EndAreaAgain, Walks, Traces, Ended}
 use Rattle.fault_duty.specs.Duty as duty
 use Rattle.fault_duty.specs.Duty.{Round}
 use Rattle.fault_duty.proofs.Lowering as lowering
@@ -70,6 +70,7 @@ module _ (c : Configuration) (p : Plain) (s : Stands c p) (y : Held) (d : Round)
     known_epoch (EndPage look page) = refl
     known_epoch (EndFilling look) = refl
     known_epoch (EndAreaAgain look filling) = refl
+    known_epoch (Walks traced v) = refl
     known_epoch (Traces traced) = refl
     known_epoch (Ended result) = refl
 
@@ -131,7 +132,7 @@ module _ (c : Configuration) (p : Plain) (s : Stands c p) (y : Held) (d : Round)
       lower : Lowers c.pages (saves c) (table c) (table c) x next
       lower = record {
         remembers = record { began = a.remembers.began; quiet = a.remembers.quiet; stands = (record { untraced = goes.untraced back a.remembers.stands.0.untraced; found = goes.found }, back_stands) };
-        falls = (let same = same_back c.pages (size_in (table c)) next x back refl refl in let less = fewer in omega (arith, same, less));
+        falls = (let same = same_back c.pages (size_in (table c)) next x back refl refl in let less = goes.steps fewer in omega (arith, same, less));
       }
 
       pub goes_on : Owes c p s x (table c) reply

@@ -24,7 +24,7 @@ use Rattle.fault_duty.specs.Duty.{Round, at_stage, front_of, page_after, is_full
 use Rattle.fault_duty.specs.Soundness.{IsChoice}
 use Rattle.heap_state.specs.Memory.Era.{Era, Memory}
 use Rattle.lone_mutator.specs.Rounds.{IsForClosed, Found, Wanted, Chosen, OpenBelow, IsQuiet}
-use Rattle.lone_mutator.proofs.Stages.Rounds.Rounds.{RoundIsAlone, RoundGoes}
+use Rattle.lone_mutator.proofs.Stages.Rounds.Rounds.{RoundIsAlone, RoundGoes, first_stage-le}
 
 -- ---- what a page's word says
 
@@ -75,6 +75,7 @@ module _ (E : Era) (m : Memory) (d : Round) (a : RoundIsAlone E m d) where
     found = (closed, refl);
     untraced = λ back is. is;
     advances = ap is_some says;
+    steps = λ less. omega (arith, less);
   }
 
   -- ---- TRACED
@@ -97,6 +98,7 @@ module _ (E : Era) (m : Memory) (d : Round) (a : RoundIsAlone E m d) where
       found = (closed page is, seen_found);
       untraced = λ back known. untraced;
       advances = refl;
+      steps = λ less. omega (arith, less);
     }
     by_caller Allocates is closed = record {
       next = LoadsFront seen;
@@ -105,6 +107,7 @@ module _ (E : Era) (m : Memory) (d : Round) (a : RoundIsAlone E m d) where
       found = seen_found;
       untraced = λ back known. untraced;
       advances = refl;
+      steps = λ less. omega (arith, less);
     }
     by_caller (Scans mutators) is closed = absurd (a.mutator mutators is)
 
@@ -139,6 +142,7 @@ module _ (E : Era) (m : Memory) (d : Round) (a : RoundIsAlone E m d) where
       found = refl;
       untraced = λ back is. is;
       advances = ap is_some read;
+      steps = λ less. let few = first_stage-le d.layout.pages page false in omega (arith, few);
     }
     wanted_goes word false test read = record {
       next = LoadsFrontFor found w;
@@ -147,6 +151,7 @@ module _ (E : Era) (m : Memory) (d : Round) (a : RoundIsAlone E m d) where
       found = (record { says = refl; closed = closed }, is);
       untraced = λ back is. is;
       advances = ap is_some read;
+      steps = λ less. omega (arith, less);
     }
 
     pub at_wanted : (word : ℕ) → decode_page word ≡ Some says → RoundGoes E m d (LoadsWanted found page) (Value word)
@@ -165,6 +170,7 @@ module _ (E : Era) (m : Memory) (d : Round) (a : RoundIsAlone E m d) where
       found = wanted.says;
       untraced = λ back is. is;
       advances = ap is_some read;
+      steps = λ less. let few = first_stage-le d.layout.pages w.page false in omega (arith, few);
     }
     front_for word area false test read = record {
       next = LoadsFront found;
@@ -173,6 +179,7 @@ module _ (E : Era) (m : Memory) (d : Round) (a : RoundIsAlone E m d) where
       found = is;
       untraced = λ back is. is;
       advances = ap is_some read;
+      steps = λ less. omega (arith, less);
     }
 
     pub at_front_for : (word : ℕ) (area : AreaWord) → decode_area word ≡ Some area → RoundGoes E m d (LoadsFrontFor found w) (Value word)
@@ -189,6 +196,7 @@ module _ (E : Era) (m : Memory) (d : Round) (a : RoundIsAlone E m d) where
     found = record { found = is; front = front; passed = λ other. absurd (other refl) };
     untraced = λ back is. is;
     advances = ap is_some read;
+    steps = λ less. omega (arith, less);
   }
 
   -- ---- a page of the choice
@@ -196,6 +204,16 @@ module _ (E : Era) (m : Memory) (d : Round) (a : RoundIsAlone E m d) where
   module _ (choice : Choice) (page : ℕ) (is : Chosen E m d.layout.pages choice page) (fits : IsChoice d choice.front page) where
     abbrev next_page : ℕ
     next_page = page_after d page
+
+    -- it is one of the pages that are left, or pages are
+    some_left : (b : Bool) → nat_eq page (board_page d.layout.pages) ≡ b → 0 < Duty.pages_left d page + d.layout.pages
+    some_left true test = rw test (omega arith)
+    some_left false test =
+        let other : page ≢ board_page d.layout.pages = grind (arith, nat_tests) in
+        let from = fits.in_space other in
+        let full = fits.full other in
+        let high = fits.at.high in
+        rw test (omega (arith, from, full, high))
 
     -- a page that is claimed was not open
     claims_page : (word : ℕ) → decode_page word ≡ Some (m.page page) → age_of (m.page page) ≤ d.epoch → RoundGoes E m d (LoadsPage choice page) (Value word)
@@ -207,6 +225,7 @@ module _ (E : Era) (m : Memory) (d : Round) (a : RoundIsAlone E m d) where
       found = refl;
       untraced = λ back is. is;
       advances = ap is_some read;
+      steps = λ less. let few = first_stage-le d.layout.pages page false in let some = some_left (nat_eq page (board_page d.layout.pages)) refl in omega (arith, few, some);
     }
 
     module _ (now : m.page page ≡ page_word.Open E.epoch) where
@@ -258,6 +277,7 @@ module _ (E : Era) (m : Memory) (d : Round) (a : RoundIsAlone E m d) where
         found = record { found = is.found; front = is.front; passed = λ other. open_next };
         untraced = λ back is. is;
         advances = ap is_some read;
+        steps = λ less. omega (arith, less);
       }
       passed_by word false test read = record {
         next = EndGate choice.seen.traced;
@@ -267,6 +287,7 @@ module _ (E : Era) (m : Memory) (d : Round) (a : RoundIsAlone E m d) where
         found = (quiet test, is.found.traced_is);
         untraced = λ back is. is;
         advances = ap is_some read;
+        steps = λ less. omega (arith, less);
       }
 
     by_state : (word : ℕ) → decode_page word ≡ Some (m.page page) → (age_of (m.page page) ≤ d.epoch) ⊎ (m.page page ≡ page_word.Open E.epoch)

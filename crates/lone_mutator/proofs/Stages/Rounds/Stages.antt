@@ -8,7 +8,7 @@ use Rattle.page_slots.specs.declared.claim_stage.ClaimStage.{ClaimStage}
 use Rattle.page_slots.specs.declared.claim_stage.ClaimStage.TheVariants as claim_stage
 use Rattle.page_slots.specs.Claim.{Claiming}
 use Rattle.fault_duty.specs.declared.duty_stage.DutyStage.{DutyStage}
-use Rattle.fault_duty.specs.declared.duty_stage.DutyStage.TheVariants.{LoadsGate, LoadsTraced, LoadsWanted, LoadsFrontFor, LoadsFront, LoadsPage, Claims, EndGate, EndArea, EndPage, EndFilling, EndAreaAgain, Traces, Ended}
+use Rattle.fault_duty.specs.declared.duty_stage.DutyStage.TheVariants.{LoadsGate, LoadsTraced, LoadsWanted, LoadsFrontFor, LoadsFront, LoadsPage, Claims, EndGate, EndArea, EndPage, EndFilling, EndAreaAgain, Walks, Traces, Ended}
 use Rattle.fault_duty.specs.Duty.{Round}
 use Rattle.heap_state.specs.Configuration.{Configuration, Stands, table}
 use Rattle.heap_state.specs.Memory.Entries.{Entry, TracedIs, with_entry}
@@ -26,6 +26,7 @@ use Rattle.lone_mutator.proofs.Steps.GoingOn.{GoesAt, goes_back}
 use Rattle.lone_mutator.proofs.Stages.Rounds.Going.{of_epoch, era_epoch}
 use Rattle.lone_mutator.proofs.Stages.Rounds.Loads as loads
 use Rattle.lone_mutator.proofs.Stages.Rounds.Rounds.{left_again}
+use Rattle.lone_mutator.proofs.Stages.Rounds.Walks.{walks}
 use Rattle.lone_mutator.proofs.Stages.Rounds.Winning.{exchanges_page}
 use Rattle.lone_mutator.proofs.Steps.Owed.{wants, exchanges}
 use Rattle.lone_mutator.proofs.Epochs.Cost.{due_traced, due_untraced}
@@ -59,12 +60,12 @@ module _ (c : Configuration) (p : Plain) (s : Stands c p) (y : Held) (d : Round)
     goes = goes_back c.pages (saves c) (with_entry entry t) ended a.is.fits.pages began a.remembers.quiet back a.remembers.stands.1 a.is.fits.task
 
     marked : due_in c.pages (with_entry entry t) ≡ 0
-    marked = due_traced c.pages t.gate.epoch (d.epoch + 1) (t.area (to_space t.gate.epoch)).owed t.page (ap (λ e. e + 1) (sym (era_epoch c p s y d back (Traces traced) a)))
+    marked = due_traced c.pages t.gate.epoch (d.epoch + 1) t.weak_turn (t.area (to_space t.gate.epoch)).owed t.page (ap (λ e. e + 1) (sym (era_epoch c p s y d back (Traces traced) a)))
 
     -- who begins a checkpoint makes one more round, which is paid
     paid_again : round_left (left_in c.pages t) (due_in c.pages t) back ≡ left_in c.pages t + again_left c.pages back
     paid_again = left_again c.pages (left_in c.pages t) (due_in c.pages t)
-        (due_untraced c.pages t.gate.epoch t.traced (t.area (to_space t.gate.epoch)).owed t.page a.remembers.stands.0.untraced) back
+        (due_untraced c.pages t.gate.epoch t.traced t.weak_turn (t.area (to_space t.gate.epoch)).owed t.page a.remembers.stands.0.untraced) back
 
     lower : Lowers c.pages (saves c) t (with_entry entry t) x (back_from ended back)
     lower = record {
@@ -102,6 +103,7 @@ module _ (c : Configuration) (p : Plain) (s : Stands c p) (y : Held) (d : Round)
   by_stage (EndPage look page) a = loads.loads_page_again c p s y d back look page a
   by_stage (EndFilling look) a = loads.loads_filling c p s y d back look a
   by_stage (EndAreaAgain look filling) a = loads.loads_area_again c p s y d back look filling a
+  by_stage (Walks traced v) a = walks c p s y d back traced v a
   by_stage (Traces traced) a = marks traced a
   by_stage (Ended result) a = λ q asked. absurd (let none = asked in cc)
 

@@ -1,5 +1,5 @@
 -- A round of who begins a checkpoint finds the epoch traced, and a round for the checkpoint in progress follows.
-use Rattle.std.proofs.Common.{◌≡◌, ℕ, ◌+◌, Option, Some, true, nat_eq, refl, sym, ap, subst, ◌∙◌, arith}
+use Rattle.std.proofs.Common.{◌≡◌, ℕ, ◌+◌, Option, Some, true, nat_eq, refl, sym, ap, ◌∙◌, arith}
 use Rattle.std.proofs.lemmas.Bool.{eq-eqb}
 use Rattle.plain_state.specs.State.{Plain}
 use Rattle.atom_store.specs.declared.reply.Reply.TheVariants.{Value}

@@ -1,5 +1,5 @@
 -- A claim of a lone mutator is won: the page's scan and the next round are paid by the page, which is then claimed.
-use Rattle.std.proofs.Common.{◌≡◌, ℕ, ◌+◌, ◌*◌, ◌/◌, ◌<◌, ◌≤◌, inl, inr, ⊎_elim, Bool, true, false, cond, nat_eq, Some, refl, sym, ap, subst, ◌∙◌, arith}
+use Rattle.std.proofs.Common.{◌≡◌, ℕ, ◌+◌, ◌*◌, ◌/◌, ◌<◌, ◌≤◌, inl, inr, ⊎_elim, Bool, true, false, cond, nat_eq, Some, refl, sym, ap, ◌∙◌, arith}
 use Rattle.plain_state.specs.State.{Plain}
 use Rattle.atom_store.specs.declared.step.Step.TheVariants.{Exchange}
 use Rattle.atom_store.specs.declared.reply.Reply.TheVariants.{Won}
@@ -115,14 +115,14 @@ module _ (c : Configuration) (p : Plain) (s : Stands c p) (y : Held) (d : Round)
     to_be_traced = by_place q.in_place refl
 
     paid : left_in c.pages (with_entry entry t) + page_cost c.pages ≤ left_in c.pages t
-    paid = left_claimed c.pages t.gate.epoch t.traced (t.area (to_space t.gate.epoch)).owed t.page q.page (Scanning q.epoch q.worker)
+    paid = left_claimed c.pages t.gate.epoch t.traced t.weak_turn (t.area (to_space t.gate.epoch)).owed t.page q.page (Scanning q.epoch q.worker)
         (let e = own.epoch in omega (arith, e, now)) a.remembers.stands.0.untraced to_be_traced
         (λ (new : age_of (t.page q.page) ≡ t.gate.epoch + 1). let e = own.epoch in let l = own.sound.earlier in let f = ap age_of found in absurd (omega (arith, new, e, l, f, now)))
 
     -- the round that follows the scan is paid too
     paid_again : round_left (left_in c.pages t) (due_in c.pages t) back ≡ left_in c.pages t + again_left c.pages back
     paid_again = left_again c.pages (left_in c.pages t) (due_in c.pages t)
-        (due_untraced c.pages t.gate.epoch t.traced (t.area (to_space t.gate.epoch)).owed t.page a.remembers.stands.0.untraced) back
+        (due_untraced c.pages t.gate.epoch t.traced t.weak_turn (t.area (to_space t.gate.epoch)).owed t.page a.remembers.stands.0.untraced) back
 
     lower : Lowers c.pages (saves c) t (with_entry entry t) x scanner
     lower = record {

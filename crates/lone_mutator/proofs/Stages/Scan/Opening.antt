@@ -45,8 +45,8 @@ module _ (c : Configuration) (p : Plain) (s : Stands c p) (y : Held) (o : Openin
 
     paid : due_in c.pages (with_entry entry t) ≤ left_in c.pages t + round_cost c.pages
     paid =
-        let fewer = due_opened c.pages t.gate.epoch t.traced (t.area (to_space t.gate.epoch)).owed t.page o.page (Open o.epoch) (ap (λ e. e + 1) now) in
-        let before = due_le_left c.pages t.gate.epoch t.traced (t.area (to_space t.gate.epoch)).owed t.page in
+        let fewer = due_opened c.pages t.gate.epoch t.traced t.weak_turn (t.area (to_space t.gate.epoch)).owed t.page o.page (Open o.epoch) (ap (λ e. e + 1) now) in
+        let before = due_le_left c.pages t.gate.epoch t.traced t.weak_turn (t.area (to_space t.gate.epoch)).owed t.page in
         omega (arith, fewer, before)
 
     lower : Lowers c.pages (saves c) t (with_entry entry t) x (back_from x back)
