@@ -9,7 +9,7 @@ use Rattle.plain_state.specs.State.{Plain}
 use Rattle.gc_worker.specs.declared.calls.entry.Entry.{Entry}
 use Rattle.gc_worker.specs.declared.calls.entry.Entry.TheVariants.{Exchanged, Made, Emptied}
 use Rattle.gc_worker.specs.History.Legal.{IsLegal, after_call}
-use Rattle.gc_worker.specs.Plain.Stories.{with_emptied}
+use Rattle.gc_worker.specs.Plain.Answer.{with_emptied}
 use Rattle.gc_worker.specs.Steps.Turned.{Answers}
 use Rattle.gc_worker.proofs.Between.Others.{answers_leave_the_others}
 use Rattle.ael_threads.specs.Histories.{AreBy, Each, IsOnce}
@@ -59,7 +59,7 @@ each_is_there n xs once below many j small = by_any (list_any (eqb j) xs) refl
 pub are_by : (numbers : List ℕ) (p : Plain) (log : List Entry) → ((j : ℕ) → j < length p.mutators → Contains numbers j) → IsLegal p log → AreBy numbers log
 are_by numbers p [] all legal = tt
 are_by numbers p (Made c ∷ es) all legal =
-    let same : length (after_call p c).mutators ≡ length p.mutators = (answers_leave_the_others p c.by (Answers c.task c.did)).as_many in (
+    let same : length (after_call p c).mutators ≡ length p.mutators = (answers_leave_the_others [] p c.by (Answers c.task c.did)).as_many in (
       all c.by (slice_get_within p.mutators c.by legal.0.mutator legal.0.is),
       are_by numbers (after_call p c) es (λ j below. all j (omega (arith, below, same))) legal.1,
     )

@@ -7,3 +7,5 @@ pub mod Callers
 pub mod ProgramRuns
 pub mod Alone
 pub mod Unread
+pub mod Refusals
+pub mod ScannerActs

@@ -6,3 +6,4 @@ pub mod Underway
 pub mod FromActs
 pub mod OneMore
 pub mod AfterSnap
+pub mod AtRest

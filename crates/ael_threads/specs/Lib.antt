@@ -11,3 +11,5 @@ pub mod Running
 pub mod Outputs
 pub mod Alone
 pub mod Unread
+pub mod Refusals
+pub mod Rounds

@@ -7,7 +7,8 @@ use Rattle.atomic_table.specs.Table as table
 use Rattle.gc_worker.specs.Workers.Held.{Held}
 use Rattle.gc_worker.specs.Laws.Cycles.{IsInCall}
 use Rattle.gc_worker.specs.Laws.Gone.{ScannersAreLast}
-use Rattle.gc_worker.specs.Laws.Step.{IsOut, WorkersStand}
+use Rattle.gc_worker.specs.Laws.Step.{IsOut}
+use Rattle.gc_worker.specs.Laws.Stories.{StoryStands}
 use Rattle.gc_worker.specs.Steps.Turned.{PageWon}
 use Rattle.ael_threads.specs.declared.view.WonClaim.{WonClaim}
 use Rattle.gc_worker.specs.declared.calls.entry.Entry.{Entry}
@@ -63,9 +64,9 @@ pub record FitsView (plan : Plan) (words : List ℕ) (workers : List Held) (log 
   pub once : IsOnce v.claims
 
 -- THE RULE: with what all workers hold the words stand for the plain state after one legal history, and keep what a cycle keeps that
--- began at its last flip; once a scanner is gone, all mutators are; what is counted along the history fits the words and the workers;
--- each worker that is in a call began it by a look at a beginning of the history, in the epoch that it keeps, and where the history tells
--- that a worker found the heap full, a flip came since that look, or none can; what each seat knows fits these.
+-- began at its last flip, also in cells; once a scanner is gone, all mutators are; what is counted along the history fits the words and the
+-- workers; each worker that is in a call began it by a look at a beginning of the history, in the epoch that it keeps, and where the history
+-- tells that a worker found the heap full, a flip came since that look, or none can; what each seat knows fits these.
 pub record RuleHolds (plan : Plan) (s : table.State ℕ View) : Type 0 where
   pub log : List Entry
   pub workers : List Held
@@ -73,7 +74,7 @@ pub record RuleHolds (plan : Plan) (s : table.State ℕ View) : Type 0 where
   pub owner : ℕ → ℕ
   pub winner : WonClaim → ℕ
   pub legal : IsLegal (first_plain plan) log
-  pub stands : WorkersStand (heap_of plan s.words workers) (after_all (first_plain plan) log) (last_flip (first_plain plan) log)
+  pub story : StoryStands (heap_of plan s.words workers) (after_all (first_plain plan) log) (last_flip (first_plain plan) log)
   pub last : ScannersAreLast (heap_of plan s.words workers)
   pub tallied : IsTallied plan.least (heap_of plan s.words workers) (opening_tally plan) log
   pub begun : (m : ℕ) (x : Held) → get_elem? workers m ≡ some x → IsInCall x.stage → HasLooked plan m x log

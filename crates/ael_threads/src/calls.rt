@@ -18,7 +18,7 @@ use mutator_asm::Instr;
 use std::sync::Wait;
 
 /// How many acts a try has. Most instructions need fewer; who needs more waits for another worker, or copies.
-const ACTS: u32 = 64;
+pub(crate) const ACTS: u32 = 64;
 
 impl Mutator {
     /// Makes one call: the instruction is begun, and acts are made up to its effect or end. Between two tries it backs off. What `begin`

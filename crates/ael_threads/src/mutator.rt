@@ -1,13 +1,14 @@
 //! A mutator of the heap.
 
-ghost use Rattle.std.specs.Prelude.{◌≡◌, ◌<◌, Some, None, slice_index};
+ghost use Rattle.std.specs.Prelude.{◌≡◌, ◌<◌, Some, None, true, is_some, slice_index};
 ghost use Rattle.plain_state.specs.declared.end.End.{End};
 ghost use Rattle.plain_state.specs.declared.sizes.TheConstants.{REGISTERS};
-ghost use Rattle.gc_worker.specs.declared.stage.Stage.TheVariants.{Gone};
+ghost use Rattle.gc_worker.specs.declared.stage.Stage.TheVariants.{Gone, Looks};
 ghost use Rattle.gc_worker.specs.declared.task.Task.TheVariants.{Calls, Stops};
 ghost use Rattle.gc_worker.specs.Laws.Between.{with_task};
 ghost use Rattle.gc_worker.specs.Laws.Cycles.{IsInCall};
 ghost use Rattle.gc_worker.specs.Workers.Fits.{MayBegin, MayStop};
+ghost use Rattle.gc_worker.specs.Steps.AtRest.{is_at_rest};
 ghost use Rattle.gc_worker.specs.Steps.Stepped.{header_kept, place_kept};
 ghost use Rattle.ael_threads.specs.Readers.{IsReg, IsThere};
 ghost use Rattle.ael_threads.specs.Seats.{Absorbs, Acts, ShowsSeen};
@@ -158,6 +159,41 @@ impl Mutator {
         ensures there { IsThere self.now }
     {
         self.caller.worker.pc()
+    }
+
+    /// Its number, from 0 on, by which its calls stand in the history. Mutators may share out the words of the board by it.
+    pub fn number(&self) -> u8
+        ensures number { result ≡ self.now.worker.number }
+        ensures there { IsThere self.now }
+    {
+        self.caller.worker.number()
+    }
+
+    /// Tells a proof what a mutator shows at any time. It does nothing when the program runs.
+    pub(crate) fn known(&self)
+        ensures shows { ShowsSeen self.now.worker self.now.knows }
+        ensures there { IsThere self.now }
+    {
+        let _number = self.caller.worker.number();
+    }
+
+    /// Whether it rests between two calls: it looks at the gate and has no call under way, or has left. Then nobody waits for it but for a
+    /// flip or a checkpoint. One that has not come yet doesn't rest.
+    pub fn rests(&self) -> bool
+        ensures rests { result ≡ is_at_rest self.now.worker }
+        ensures no_task { result ≡ true → self.now.worker.task ≡ None }
+        ensures looks { result ≡ true → self.now.worker.account.end ≡ None → self.now.worker.stage ≡ Looks }
+        ensures shows { ShowsSeen self.now.worker self.now.knows }
+        ensures there { IsThere self.now }
+    {
+        self.caller.worker.is_at_rest()
+    }
+
+    /// Whether a call is under way: an instruction or an end is begun, and no act has answered it yet.
+    pub fn is_calling(&self) -> bool
+        ensures { result ≡ is_some self.now.worker.task }
+    {
+        self.caller.worker.is_calling()
     }
 
     /// The header that it keeps while it copies a record, and the address that it has reserved and one more; 0 for none.

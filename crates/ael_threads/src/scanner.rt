@@ -1,6 +1,7 @@
 //! A scanner of the heap.
 
 ghost use Rattle.std.specs.Prelude.{◌≡◌, ◌+◌, ◌^◌, ◌<◌, ◌-◌, min};
+ghost use Rattle.gc_worker.specs.Steps.AtRest.{is_at_rest};
 ghost use Rattle.gc_worker.specs.Steps.Stepped.{header_kept, place_kept};
 ghost use Rattle.ael_threads.specs.Readers.{steps_after};
 ghost use Rattle.ael_threads.specs.Seats.{Acts};
@@ -46,6 +47,13 @@ impl Scanner {
         ensures { result ≡ self.now.steps }
     {
         self.steps
+    }
+
+    /// Whether it begins a round of its duty, or is gone. Then nobody waits for it, and its thread may stop.
+    pub fn rests(&self) -> bool
+        ensures { result ≡ is_at_rest self.now.seated.worker }
+    {
+        self.caller.worker.is_at_rest()
     }
 
     /// The header that it keeps while it copies a record, and the address that it has reserved and one more; 0 for none.

@@ -7,7 +7,7 @@ use Rattle.atom_store.specs.declared.reply.Reply.{Reply}
 use Rattle.atom_store.specs.declared.reply.Reply.TheVariants.{Won, Lost}
 use Rattle.atom_store.specs.declared.step.Step.{Step}
 use Rattle.alloc_end.specs.declared.place_stage.PlaceStage.{PlaceStage}
-use Rattle.alloc_end.specs.declared.place_stage.PlaceStage.TheVariants.{LoadsTraced, LoadsSize, LoadsArea, ExchangesArea, StoresZero, StoresNew, OpensPage, StoresCount, StoresHeader, Ended}
+use Rattle.alloc_end.specs.declared.place_stage.PlaceStage.TheVariants.{LoadsTraced, LoadsSize, LoadsArea, ExchangesArea, StoresZero, StoresNew, OpensPage, StoresCount, StoresTarget, StoresLink, StoresHeader, Ended}
 use Rattle.alloc_end.specs.Place.{Placing, wanted_at, advances_at}
 use Rattle.alloc_end.specs.HeldUp.{IsHeldUp, GoesOn}
 
@@ -35,6 +35,8 @@ module _ (step : Step) (met : List ℕ) where
   held p (StoresNew new) wants = subst (λ (s : Step). Holds (StoresNew new) (reply_of s met)) (same_Some _ _ wants) (λ stays. absurd (cc))
   held p (OpensPage new) wants = subst (λ (s : Step). Holds (OpensPage new) (reply_of s met)) (same_Some _ _ wants) (λ stays. absurd (cc))
   held p StoresCount wants = subst (λ (s : Step). Holds StoresCount (reply_of s met)) (same_Some _ _ wants) (λ stays. absurd (cc))
+  held p StoresTarget wants = subst (λ (s : Step). Holds StoresTarget (reply_of s met)) (same_Some _ _ wants) (λ stays. absurd (cc))
+  held p StoresLink wants = subst (λ (s : Step). Holds StoresLink (reply_of s met)) (same_Some _ _ wants) (λ stays. absurd (cc))
   held p StoresHeader wants = subst (λ (s : Step). Holds StoresHeader (reply_of s met)) (same_Some _ _ wants) (λ stays. absurd (cc))
   held p (Ended result) wants = absurd (cc)
 

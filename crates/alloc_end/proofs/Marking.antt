@@ -29,7 +29,7 @@ use Rattle.alloc_end.specs.declared.allocated.Allocated.TheVariants.{Full}
 use Rattle.alloc_end.specs.declared.fitting.Fitting.{Fitting}
 use Rattle.alloc_end.specs.declared.new_pages.NewPages.{NewPages}
 use Rattle.alloc_end.specs.declared.place_stage.PlaceStage.{PlaceStage}
-use Rattle.alloc_end.specs.declared.place_stage.PlaceStage.TheVariants.{LoadsTraced, LoadsSize, LoadsArea, ExchangesArea, StoresZero, StoresNew, OpensPage, StoresCount, StoresHeader, Ended}
+use Rattle.alloc_end.specs.declared.place_stage.PlaceStage.TheVariants.{LoadsTraced, LoadsSize, LoadsArea, ExchangesArea, StoresZero, StoresNew, OpensPage, StoresCount, StoresTarget, StoresLink, StoresHeader, Ended}
 use Rattle.alloc_end.specs.Place.{Placing, begun, at_stage, fits, wants_at, size_of, pages_for, words_for, shortage, place_machine, stores_first, taken_at, looked_at_area, readies, cleared, after_opening}
 use Rattle.alloc_end.specs.Soundness.{IsSoundPlacing, HasRoomToMark}
 use Rattle.alloc_end.specs.Theorems.{area_word, AreNew, AreMarked, NoneIsMarkedYet, OpenedPagesAreNew}
@@ -43,10 +43,10 @@ first_store p Mixed words = tt
 first_store p Weak words = tt
 
 pub none_yet : NoneIsMarkedYet
-none_yet layout run header epoch fields snap words = by_test (nat_le (run.at + size_of header) run.end)
+none_yet layout run header epoch fields snap target words = by_test (nat_le (run.at + size_of header) run.end)
   where
-    by_test : (b : Bool) → AreMarked (begun layout run header epoch fields snap) (cond b (stores_first header.kind) LoadsTraced) words
-    by_test true = first_store (begun layout run header epoch fields snap) header.kind words
+    by_test : (b : Bool) → AreMarked (begun layout run header epoch fields snap target) (cond b (stores_first header.kind) LoadsTraced) words
+    by_test true = first_store (begun layout run header epoch fields snap target) header.kind words
     by_test false = tt
 
 -- ---- stores
@@ -148,6 +148,8 @@ marked p (OpensPage new) before after turn sound whole is acts =
     by_page p new after
     (λ some. new_stays p.layout.pages p.snap (page_of new.first) (new.next + 1) new.next (encode_page (Open p.epoch)) before after (omega (arith, stage)) (is some) acts.makes)
 marked p StoresCount before after turn sound whole is acts = tt
+marked p StoresTarget before after turn sound whole is acts = tt
+marked p StoresLink before after turn sound whole is acts = tt
 marked p StoresHeader before after turn sound whole is acts = tt
 marked p (Ended result) before after turn sound whole is acts = absurd (no_step acts.has_step)
 
@@ -166,6 +168,8 @@ opened_at p (ExchangesArea f) words page value sound is some wants = absurd (cc)
 opened_at p (StoresZero new) words page value sound is some wants = absurd (cc)
 opened_at p (StoresNew new) words page value sound is some wants = absurd (cc)
 opened_at p StoresCount words page value sound is some wants = absurd (cc)
+opened_at p StoresTarget words page value sound is some wants = absurd (cc)
+opened_at p StoresLink words page value sound is some wants = absurd (cc)
 opened_at p StoresHeader words page value sound is some wants = absurd (cc)
 opened_at p (Ended result) words page value sound is some wants = absurd (cc)
 

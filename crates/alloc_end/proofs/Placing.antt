@@ -1,6 +1,6 @@
 -- What an allocation's step does to the words, by its stage.
 use Rattle.std.proofs.Common.{◌≡◌, ◌≢◌, ℕ, ◌+◌, ◌*◌, ◌^◌, ◌<◌, ◌≤◌, ◌==◌, Bool, true, false, cond, nat_lt, inl, inr, List, slice_index, Option, Some, None, arith, refl, sym, ap, subst, ◌∙◌}
-use Rattle.std.proofs.lemmas.Bool.{cases_lt}
+use Rattle.std.proofs.lemmas.Bool.{cases_eq, cases_lt}
 use Rattle.std.proofs.lemmas.Bool.Decides.{nat_tests}
 use Rattle.atom_store.specs.declared.reply.Reply.{Reply}
 use Rattle.atom_store.specs.declared.reply.Reply.TheVariants as reply
@@ -32,7 +32,7 @@ use Rattle.alloc_end.specs.declared.new_pages.NewPages.{NewPages}
 use Rattle.alloc_end.specs.declared.allocated.Allocated.{Allocated}
 use Rattle.alloc_end.specs.declared.allocated.Allocated.TheVariants.{Placed, Full}
 use Rattle.alloc_end.specs.declared.place_stage.PlaceStage.{PlaceStage}
-use Rattle.alloc_end.specs.declared.place_stage.PlaceStage.TheVariants.{LoadsTraced, LoadsSize, LoadsArea, ExchangesArea, StoresZero, StoresNew, OpensPage, StoresCount, StoresHeader, Ended}
+use Rattle.alloc_end.specs.declared.place_stage.PlaceStage.TheVariants.{LoadsTraced, LoadsSize, LoadsArea, ExchangesArea, StoresZero, StoresNew, OpensPage, StoresCount, StoresTarget, StoresLink, StoresHeader, Ended}
 use Rattle.alloc_end.specs.Place.{Placing, at_stage, size_of, pages_for, words_for, fits, shortage, place_machine, stores_first, told, told_at, taken_at, looked_at_area, readies, cleared, after_opening}
 use Rattle.alloc_end.specs.Soundness.{IsSoundPlacing}
 use Rattle.alloc_end.specs.Theorems.{area_word, AreZero, AreOpen, AreCleared, IsRunReady, AwaitsHeader, IsReady, PlacesRecord, zeros_from}
@@ -116,6 +116,15 @@ zero_behind : (n from behind at upto value : ℕ) (before after : List ℕ) → 
 zero_behind n from behind at upto value before after zero later past makes a low high =
     other_word n a at value before after makes (omega arith) ∙ zero a (omega arith) high
 
+-- so they are, if 0 is stored in any word
+zero_kept : (n from upto at : ℕ) (before after : List ℕ) → HoldsTable n before → at ≤ 128 * n → AreZero n from upto before
+    → after ≡ words_after (Store (place_of n (HeapWord at)) 0) before → AreZero n from upto after
+zero_kept n from upto at before after whole inside zero makes a low high =
+    elim (cases_eq a at) [
+      | inl here ↦ rw here (this_word n at 0 before after whole (omega (arith, inside)) makes)
+      | inr apart ↦ other_word n a at 0 before after makes apart ∙ zero a low high
+    ]
+
 open_more : (n epoch from next : ℕ) (before after : List ℕ) → HoldsTable n before → next ≤ 2 * n → epoch < 2 ^ 32 → AreOpen n epoch from next before
     → after ≡ words_after (Store (place_of n (Page next)) (encode_page (Open epoch))) before → AreOpen n epoch from (next + 1) after
 open_more n epoch from next before after whole below late opened makes page low high =
@@ -174,11 +183,12 @@ zeros_from-pos Raw = omega arith
 zeros_from-pos Mixed = omega arith
 zeros_from-pos Weak = omega arith
 
--- a run that is ready awaits the header of a record that isn't mixed
-header_next : (p : Placing) (words : List ℕ) → p.header.kind ≢ Mixed → p.run.at < p.run.end → IsRunReady p words → AwaitsHeader p words
-header_next p words other room ready = record {
+-- a run that is ready awaits the header of a record that isn't mixed and no cell
+header_next : (p : Placing) (words : List ℕ) → p.header.kind ≢ Mixed → p.header.kind ≢ Weak → p.run.at < p.run.end → IsRunReady p words → AwaitsHeader p words
+header_next p words other strong room ready = record {
   place = ready.0 p.run.at (omega arith) room;
   counted = λ mixed. absurd (other mixed);
+  targeted = λ weak. absurd (strong weak);
   zero = λ a low high. ready.0 a (omega arith) high;
   opened = ready.1;
 }
@@ -186,9 +196,9 @@ header_next p words other room ready = record {
 -- where a run with room is ready, it is so for the record's first store
 ready_first : (p : Placing) (kind : Kind) (words : List ℕ) → p.header.kind ≡ kind → p.run.at < p.run.end → IsRunReady p words → IsReady p (stores_first kind) words
 ready_first p Mixed words is room ready = ready
-ready_first p Fields words is room ready = header_next p words (λ mixed. cc) room ready
-ready_first p Raw words is room ready = header_next p words (λ mixed. cc) room ready
-ready_first p Weak words is room ready = header_next p words (λ mixed. cc) room ready
+ready_first p Fields words is room ready = header_next p words (λ mixed. cc) (λ weak. cc) room ready
+ready_first p Raw words is room ready = header_next p words (λ mixed. cc) (λ weak. cc) room ready
+ready_first p Weak words is room ready = ready
 
 ready_by_page : (p : Placing) (new : NewPages) (words : List ℕ) → AreZero p.layout.pages new.first (new.first + words_for p.header) words
     → AreOpen p.layout.pages p.epoch (page_of new.first) (new.next + 1) words → IsReady (after_opening p new) (after_opening p new).stage words
@@ -214,8 +224,38 @@ count_stored p before after whole is room inside ready makes =
     record {
       place = other_word n at (at + 1) (number_word p.fields) before after makes (omega arith) ∙ ready.0 at (omega arith) (omega (arith, room));
       counted = λ mixed. this_word n (at + 1) (number_word p.fields) before after whole (omega (arith, room, inside)) makes;
+      targeted = λ weak. absurd (cc);
       zero = zero_behind n at (at + zeros_from p.header.kind) (at + 1) p.run.end (number_word p.fields) before after ready.0 (omega arith) (omega (arith, two)) makes;
       opened = open_stays n p.epoch (page_of at) (page_of p.run.end) (at + 1) (number_word p.fields) before after (omega (arith, inside)) (omega (arith, room, inside)) ready.1 makes;
+    }
+
+-- a cell's target is stored
+target_stored : (p : Placing) (before after : List ℕ) → HoldsTable p.layout.pages before → p.header.kind ≡ Weak → p.run.at + 1 < p.run.end → p.run.end ≤ 128 * p.layout.pages
+    → IsRunReady p before → after ≡ words_after (Store (place_of p.layout.pages (HeapWord (p.run.at + 1))) p.target) before → AwaitsHeader p after
+target_stored p before after whole is room inside ready makes =
+    let n : ℕ = p.layout.pages in
+    let at : ℕ = p.run.at in
+    let two : zeros_from p.header.kind ≡ 2 = ap zeros_from is in
+    record {
+      place = other_word n at (at + 1) p.target before after makes (omega arith) ∙ ready.0 at (omega arith) (omega (arith, room));
+      counted = λ mixed. absurd (cc);
+      targeted = λ weak. this_word n (at + 1) p.target before after whole (omega (arith, room, inside)) makes;
+      zero = zero_behind n at (at + zeros_from p.header.kind) (at + 1) p.run.end p.target before after ready.0 (omega arith) (omega (arith, two)) makes;
+      opened = open_stays n p.epoch (page_of at) (page_of p.run.end) (at + 1) p.target before after (omega (arith, inside)) (omega (arith, room, inside)) ready.1 makes;
+    }
+
+-- a cell's link is stored, which was 0 before
+link_stored : (p : Placing) (before after : List ℕ) → HoldsTable p.layout.pages before → p.header.kind ≡ Weak → p.run.at + 2 < p.run.end → p.run.end ≤ 128 * p.layout.pages
+    → AwaitsHeader p before → after ≡ words_after (Store (place_of p.layout.pages (HeapWord (p.run.at + 2))) 0) before → AwaitsHeader (at_stage p StoresHeader) after
+link_stored p before after whole is room inside awaits makes =
+    let n : ℕ = p.layout.pages in
+    let at : ℕ = p.run.at in
+    record {
+      place = other_word n at (at + 2) 0 before after makes (omega arith) ∙ awaits.place;
+      counted = λ mixed. absurd (cc);
+      targeted = λ weak. other_word n (at + 1) (at + 2) 0 before after makes (omega arith) ∙ awaits.targeted weak;
+      zero = zero_kept n (at + zeros_from p.header.kind) p.run.end (at + 2) before after whole (omega (arith, room, inside)) awaits.zero makes;
+      opened = open_stays n p.epoch (page_of at) (page_of p.run.end) (at + 2) 0 before after (omega (arith, inside)) (omega (arith, room, inside)) awaits.opened makes;
     }
 
 pub ready : (p : Placing) (stage : PlaceStage) (before after : List ℕ) (turn : Turn Allocated) → IsSoundPlacing (at_stage p stage) → HoldsTable p.layout.pages before
@@ -247,6 +287,20 @@ ready p StoresCount before after turn sound whole is acts =
     let run = sound.run in
     let inside = run.1 in
     count_stored (at_stage p StoresHeader) before after whole stage.0 (omega (arith, long, room)) inside is acts.makes
+ready p StoresTarget before after turn sound whole is acts =
+    let stage = sound.stage in
+    let long = stage.1 in
+    let room = stage.2 in
+    let run = sound.run in
+    let inside = run.1 in
+    target_stored (at_stage p StoresLink) before after whole stage.0 (omega (arith, long, room)) inside is acts.makes
+ready p StoresLink before after turn sound whole is acts =
+    let stage = sound.stage in
+    let long = stage.1 in
+    let room = stage.2 in
+    let run = sound.run in
+    let inside = run.1 in
+    link_stored (at_stage p StoresLink) before after whole stage.0 (omega (arith, long, room)) inside is acts.makes
 ready p StoresHeader before after turn sound whole is acts = tt
 ready p (Ended result) before after turn sound whole is acts = tt
 
@@ -308,6 +362,8 @@ places p (StoresZero new) before after at sound whole is acts = absurd (never_en
 places p (StoresNew new) before after at sound whole is acts = absurd (more_never_ends (Placed at) acts.tells)
 places p (OpensPage new) before after at sound whole is acts = absurd (never_ends_at_page p new (Placed at) acts.tells)
 places p StoresCount before after at sound whole is acts = absurd (more_never_ends (Placed at) acts.tells)
+places p StoresTarget before after at sound whole is acts = absurd (more_never_ends (Placed at) acts.tells)
+places p StoresLink before after at sound whole is acts = absurd (more_never_ends (Placed at) acts.tells)
 places p StoresHeader before after at sound whole is acts = subst (PlacesRecord (at_stage p StoresHeader) before after) same record_placed
   where
     same : p.run.at ≡ at
@@ -322,6 +378,7 @@ places p StoresHeader before after at sound whole is acts = subst (PlacesRecord 
           in_run = room;
           header = this_word p.layout.pages p.run.at (encode (header_says p.header)) before after whole (omega arith) acts.makes;
           counted = λ mixed. other_word p.layout.pages (p.run.at + 1) p.run.at (encode (header_says p.header)) before after acts.makes (omega arith) ∙ is.counted mixed;
+          targeted = λ weak. other_word p.layout.pages (p.run.at + 1) p.run.at (encode (header_says p.header)) before after acts.makes (omega arith) ∙ is.targeted weak;
           zero = zero_behind p.layout.pages (p.run.at + zeros_from p.header.kind) (p.run.at + zeros_from p.header.kind) p.run.at p.run.end (encode (header_says p.header))
               before after is.zero (omega arith) (omega (arith, zeros_from-pos p.header.kind)) acts.makes;
           opened = open_stays p.layout.pages p.epoch (page_of p.run.at) (page_of p.run.end) p.run.at (encode (header_says p.header)) before after (omega arith) (omega arith) is.opened acts.makes;

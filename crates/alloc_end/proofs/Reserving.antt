@@ -20,7 +20,7 @@ use Rattle.alloc_end.specs.declared.shortage.Shortage.{Shortage}
 use Rattle.alloc_end.specs.declared.allocated.Allocated.{Allocated}
 use Rattle.alloc_end.specs.declared.allocated.Allocated.TheVariants.{Placed, Full}
 use Rattle.alloc_end.specs.declared.place_stage.PlaceStage.{PlaceStage}
-use Rattle.alloc_end.specs.declared.place_stage.PlaceStage.TheVariants.{LoadsTraced, LoadsSize, LoadsArea, ExchangesArea, StoresZero, StoresNew, OpensPage, StoresCount, StoresHeader, Ended}
+use Rattle.alloc_end.specs.declared.place_stage.PlaceStage.TheVariants.{LoadsTraced, LoadsSize, LoadsArea, ExchangesArea, StoresZero, StoresNew, OpensPage, StoresCount, StoresTarget, StoresLink, StoresHeader, Ended}
 use Rattle.alloc_end.specs.Place.{Placing, at_stage, words_for, kept_room, room_in, fits, area_after, first_claimed, shortage, place_machine, told, taken_at, looked_at_area}
 use Rattle.alloc_end.specs.Soundness.{IsSoundPlacing}
 use Rattle.alloc_end.specs.Theorems.{area_word, LooksAtTraced, LooksAtSize, ShowsShortage, ClaimsPages, LosesPages}
@@ -150,6 +150,8 @@ fulls p (StoresZero new) before after s acts = absurd (never_ends_at_zero p new 
 fulls p (StoresNew new) before after s acts = absurd (more_never_ends (Full s) acts.tells)
 fulls p (OpensPage new) before after s acts = absurd (never_ends_at_page p new (Full s) acts.tells)
 fulls p StoresCount before after s acts = absurd (more_never_ends (Full s) acts.tells)
+fulls p StoresTarget before after s acts = absurd (more_never_ends (Full s) acts.tells)
+fulls p StoresLink before after s acts = absurd (more_never_ends (Full s) acts.tells)
 fulls p StoresHeader before after s acts = absurd (header_never_full p.run.at s acts.tells)
 fulls p (Ended result) before after s acts = absurd (no_step acts.has_step)
 

@@ -29,10 +29,10 @@ use Rattle.alloc_end.specs.declared.shortage.Shortage.{Shortage}
 use Rattle.alloc_end.specs.declared.allocated.Allocated.{Allocated}
 use Rattle.alloc_end.specs.declared.allocated.Allocated.TheVariants.{Placed, Full}
 use Rattle.alloc_end.specs.declared.place_stage.PlaceStage.{PlaceStage}
-use Rattle.alloc_end.specs.declared.place_stage.PlaceStage.TheVariants.{LoadsTraced, LoadsSize, LoadsArea, ExchangesArea, StoresZero, StoresNew, OpensPage, StoresCount, StoresHeader, Ended}
+use Rattle.alloc_end.specs.declared.place_stage.PlaceStage.TheVariants.{LoadsTraced, LoadsSize, LoadsArea, ExchangesArea, StoresZero, StoresNew, OpensPage, StoresCount, StoresTarget, StoresLink, StoresHeader, Ended}
 
--- The allocation of a record with this header, and if it is mixed with so many fields, by a mutator of an epoch that has this run and saw
--- so many checkpoints begun.
+-- The allocation of a record with this header, if it is mixed with so many fields, and if it is a cell with this word as its target, by a
+-- mutator of an epoch that has this run and saw so many checkpoints begun.
 pub record Placing : Type 0 where
   pub layout : Layout
   pub run : Run
@@ -40,6 +40,7 @@ pub record Placing : Type 0 where
   pub fields : ℕ
   pub epoch : ℕ
   pub snap : ℕ
+  pub target : ℕ
   pub stage : PlaceStage
 
 -- the words of a record with this header
@@ -56,20 +57,20 @@ words_for header = 64 * pages_for (size_of header)
 
 -- ---- how it begins
 
--- the first store of a record into a run: the count of a mixed one's fields, else the header
+-- the first store of a record into a run: the count of a mixed one's fields, a cell's target, else the header
 abbrev pub stores_first : Kind → PlaceStage
 stores_first Fields = StoresHeader
 stores_first Raw = StoresHeader
 stores_first Mixed = StoresCount
-stores_first Weak = StoresHeader
+stores_first Weak = StoresTarget
 
 -- in the run, where the record fits there
 abbrev pub first_stage : Run → Header → PlaceStage
 first_stage run header = if nat_le (run.at + size_of header) run.end then stores_first header.kind else LoadsTraced
 
-abbrev pub begun : Layout → Run → Header → (epoch fields snap : ℕ) → Placing
-begun layout run header epoch fields snap =
-    record { layout = layout; run = run; header = header; fields = fields; epoch = epoch; snap = snap; stage = first_stage run header }
+abbrev pub begun : Layout → Run → Header → (epoch fields snap target : ℕ) → Placing
+begun layout run header epoch fields snap target =
+    record { layout = layout; run = run; header = header; fields = fields; epoch = epoch; snap = snap; target = target; stage = first_stage run header }
 
 -- ---- the claim of pages
 
@@ -117,6 +118,8 @@ wants_at p (StoresZero new) = Some (Store (Within (HeapWord new.next)) 0)
 wants_at p (StoresNew new) = Some (Store (Behind (SaveOf new.next)) (encode_save (New p.snap)))
 wants_at p (OpensPage new) = Some (Store (Within (Page new.next)) (encode_page (Open p.epoch)))
 wants_at p StoresCount = Some (Store (Within (HeapWord (p.run.at + 1))) (number_word p.fields))
+wants_at p StoresTarget = Some (Store (Within (HeapWord (p.run.at + 1))) p.target)
+wants_at p StoresLink = Some (Store (Within (HeapWord (p.run.at + 2))) 0)
 wants_at p StoresHeader = Some (Store (Within (HeapWord p.run.at)) (encode (header_says p.header)))
 wants_at p (Ended result) = None
 
@@ -129,6 +132,8 @@ wanted p = wanted_at p p.stage
 -- the page on which it writes a word of its record next
 abbrev pub writes_on : Placing → PlaceStage → Option ℕ
 writes_on p StoresCount = Some (page_of (p.run.at + 1))
+writes_on p StoresTarget = Some (page_of (p.run.at + 1))
+writes_on p StoresLink = Some (page_of (p.run.at + 2))
 writes_on p StoresHeader = Some (page_of p.run.at)
 writes_on p stage = None
 
@@ -174,6 +179,8 @@ taken_at p (StoresZero new) Done = at_stage p (cleared (words_for p.header) p.sn
 taken_at p (StoresNew new) Done = at_stage p (OpensPage new)
 taken_at p (OpensPage new) Done = after_opening p new
 taken_at p StoresCount Done = at_stage p StoresHeader
+taken_at p StoresTarget Done = at_stage p StoresLink
+taken_at p StoresLink Done = at_stage p StoresHeader
 taken_at p StoresHeader Done = placed p
 taken_at p stage answer = p
 
@@ -195,16 +202,18 @@ place_machine = record { wanted = wanted; taken = taken; told = told }
 
 -- ---- the steps that are left, no exchange being lost
 
--- where the record needs so many pages
+-- where the record needs so many pages; at most two words stand ahead of its header, so up to the first store this bounds them
 abbrev pub left_at : (asked : ℕ) → PlaceStage → ℕ
-left_at asked LoadsTraced = 66 * asked + 6
-left_at asked (LoadsSize traced) = 66 * asked + 5
-left_at asked (LoadsArea traced size) = 66 * asked + 4
-left_at asked (ExchangesArea f) = 66 * asked + 3
-left_at asked (StoresZero new) = 66 * asked + 2 - (new.next - new.first)
-left_at asked (StoresNew new) = 2 * asked + 2 - 2 * (new.next - page_of new.first)
-left_at asked (OpensPage new) = 2 * asked + 1 - 2 * (new.next - page_of new.first)
+left_at asked LoadsTraced = 66 * asked + 7
+left_at asked (LoadsSize traced) = 66 * asked + 6
+left_at asked (LoadsArea traced size) = 66 * asked + 5
+left_at asked (ExchangesArea f) = 66 * asked + 4
+left_at asked (StoresZero new) = 66 * asked + 3 - (new.next - new.first)
+left_at asked (StoresNew new) = 2 * asked + 3 - 2 * (new.next - page_of new.first)
+left_at asked (OpensPage new) = 2 * asked + 2 - 2 * (new.next - page_of new.first)
 left_at asked StoresCount = 2
+left_at asked StoresTarget = 3
+left_at asked StoresLink = 2
 left_at asked StoresHeader = 1
 left_at asked (Ended result) = 0
 
@@ -221,6 +230,8 @@ advances_at (StoresZero new) Done = true
 advances_at (StoresNew new) Done = true
 advances_at (OpensPage new) Done = true
 advances_at StoresCount Done = true
+advances_at StoresTarget Done = true
+advances_at StoresLink Done = true
 advances_at StoresHeader Done = true
 advances_at stage answer = false
 

@@ -2,13 +2,13 @@
 -- pages are in use than a space has, the areas that it writes fit their words, and pages are marked new only for a checkpoint.
 use Rattle.std.specs.Prelude.{◌≡◌, ℕ, ◌+◌, ◌*◌, ◌^◌, ◌<◌, ◌≤◌, ⊤, false}
 use Rattle.space_map.specs.Spaces.{Layout, IsPageCount, page_of}
-use Rattle.heap_words.specs.declared.kind.Kind.TheVariants.{Mixed}
+use Rattle.heap_words.specs.declared.kind.Kind.TheVariants.{Mixed, Weak}
 use Rattle.record_layout.specs.declared.header.Header.{Header}
 use Rattle.alloc_end.specs.declared.run.Run.{Run}
 use Rattle.alloc_end.specs.declared.fitting.Fitting.{Fitting}
 use Rattle.alloc_end.specs.declared.new_pages.NewPages.{NewPages}
 use Rattle.alloc_end.specs.declared.place_stage.PlaceStage.{PlaceStage}
-use Rattle.alloc_end.specs.declared.place_stage.PlaceStage.TheVariants.{LoadsTraced, LoadsSize, LoadsArea, ExchangesArea, StoresZero, StoresNew, OpensPage, StoresCount, StoresHeader, Ended}
+use Rattle.alloc_end.specs.declared.place_stage.PlaceStage.TheVariants.{LoadsTraced, LoadsSize, LoadsArea, ExchangesArea, StoresZero, StoresNew, OpensPage, StoresCount, StoresTarget, StoresLink, StoresHeader, Ended}
 use Rattle.alloc_end.specs.Place.{Placing, size_of, pages_for, kept_room}
 
 -- the run lies in the spaces
@@ -18,6 +18,10 @@ RunLiesInSpaces n run = (run.at ≤ run.end) × (run.end ≤ 128 * n)
 -- a mixed record holds its fields and their count
 abbrev pub HoldsFields : Header → (fields : ℕ) → Type 0
 HoldsFields header fields = header.kind ≡ Mixed → fields < header.len
+
+-- a cell holds its target and its link
+abbrev pub HoldsTargetAndLink : Header → Type 0
+HoldsTargetAndLink header = header.kind ≡ Weak → 2 < size_of header
 
 -- the area has room for so many words, and its parts are in their ranges
 pub record AreaHoldsClaim (pages words : ℕ) (f : Fitting) : Type 0 where
@@ -47,6 +51,8 @@ FitsPlaceStage n asked snap run header (StoresZero new) = IsClaimed n (64 * aske
 FitsPlaceStage n asked snap run header (StoresNew new) = IsAtPage n asked new × (0 < snap)
 FitsPlaceStage n asked snap run header (OpensPage new) = IsAtPage n asked new
 FitsPlaceStage n asked snap run header StoresCount = (header.kind ≡ Mixed) × (1 < size_of header) × (run.at + size_of header ≤ run.end)
+FitsPlaceStage n asked snap run header StoresTarget = (header.kind ≡ Weak) × (2 < size_of header) × (run.at + size_of header ≤ run.end)
+FitsPlaceStage n asked snap run header StoresLink = (header.kind ≡ Weak) × (2 < size_of header) × (run.at + size_of header ≤ run.end)
 FitsPlaceStage n asked snap run header StoresHeader = run.at + size_of header ≤ run.end
 FitsPlaceStage n asked snap run header (Ended result) = ⊤
 
@@ -54,6 +60,7 @@ pub record IsSoundPlacing (p : Placing) : Type 0 where
   pub pages : IsPageCount p.layout.pages
   pub run : RunLiesInSpaces p.layout.pages p.run
   pub fields : HoldsFields p.header p.fields
+  pub cell : HoldsTargetAndLink p.header
   pub epoch : p.epoch < 2 ^ 32
   pub snap : p.snap < 2 ^ 32
   pub room : HasRoomToMark p.layout p.snap

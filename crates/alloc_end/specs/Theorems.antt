@@ -27,7 +27,7 @@ use Rattle.alloc_end.specs.declared.shortage.Shortage.{Shortage}
 use Rattle.alloc_end.specs.declared.allocated.Allocated.{Allocated}
 use Rattle.alloc_end.specs.declared.allocated.Allocated.TheVariants.{Placed, Full}
 use Rattle.alloc_end.specs.declared.place_stage.PlaceStage.{PlaceStage}
-use Rattle.alloc_end.specs.declared.place_stage.PlaceStage.TheVariants.{LoadsTraced, LoadsSize, LoadsArea, ExchangesArea, StoresZero, StoresNew, OpensPage, StoresCount, StoresHeader, Ended}
+use Rattle.alloc_end.specs.declared.place_stage.PlaceStage.TheVariants.{LoadsTraced, LoadsSize, LoadsArea, ExchangesArea, StoresZero, StoresNew, OpensPage, StoresCount, StoresTarget, StoresLink, StoresHeader, Ended}
 use Rattle.alloc_end.specs.Place.{Placing, begun, wants_at, at_stage, size_of, pages_for, words_for, kept_room, room_in, area_after, first_claimed, shortage, place_machine}
 use Rattle.alloc_end.specs.Soundness.{IsSoundPlacing}
 
@@ -94,25 +94,31 @@ AreZero n from upto words = (a : ℕ) → from ≤ a → a < upto → row_word n
 abbrev pub AreOpen : (pages epoch from upto : ℕ) → List ℕ → Type 0
 AreOpen n epoch from upto words = (page : ℕ) → from ≤ page → page < upto → decode_page (row_word n (Page page) words) ≡ Some (Open epoch)
 
--- at which word behind its place a new record's zeros begin: a mixed one's behind the count of its fields
+-- at which word behind its place a new record's zeros begin: a mixed one's behind the count of its fields, a cell's behind its target
 abbrev pub zeros_from : Kind → ℕ
 zeros_from Fields = 1
 zeros_from Raw = 1
 zeros_from Mixed = 2
-zeros_from Weak = 1
+zeros_from Weak = 2
 
 -- the count of a mixed record's fields stands behind the record's place
 abbrev pub IsCounted : Placing → (at : ℕ) → List ℕ → Type 0
 IsCounted p at words = p.header.kind ≡ Mixed → row_word p.layout.pages (HeapWord (at + 1)) words ≡ number_word p.fields
 
+-- a cell's target stands behind the cell's place
+abbrev pub IsTargeted : Placing → (at : ℕ) → List ℕ → Type 0
+IsTargeted p at words = p.header.kind ≡ Weak → row_word p.layout.pages (HeapWord (at + 1)) words ≡ p.target
+
 -- the run's words are 0, and its pages are open
 abbrev pub IsRunReady : Placing → List ℕ → Type 0
 IsRunReady p words = AreZero p.layout.pages p.run.at p.run.end words × AreOpen p.layout.pages p.epoch (page_of p.run.at) (page_of p.run.end) words
 
--- the run but for the header: of a mixed record the count of its fields stands behind the place, all other words are 0, and the pages are open
+-- the run but for the header: of a mixed record the count of its fields stands behind the place, of a cell its target, all other words are 0,
+-- its link with them, and the pages are open
 pub record AwaitsHeader (p : Placing) (words : List ℕ) : Type 0 where
   pub place : row_word p.layout.pages (HeapWord p.run.at) words ≡ 0
   pub counted : IsCounted p p.run.at words
+  pub targeted : IsTargeted p p.run.at words
   pub zero : AreZero p.layout.pages (p.run.at + zeros_from p.header.kind) p.run.end words
   pub opened : AreOpen p.layout.pages p.epoch (page_of p.run.at) (page_of p.run.end) words
 
@@ -121,7 +127,7 @@ abbrev pub AreCleared : Placing → NewPages → List ℕ → Type 0
 AreCleared p new words =
     AreZero p.layout.pages new.first (new.first + words_for p.header) words × AreOpen p.layout.pages p.epoch (page_of new.first) new.next words
 
--- What an allocation has made ready: words that are 0 or a count, pages that are open. A run that it is given is to be so.
+-- What an allocation has made ready: words that are 0, a count or a target, pages that are open. A run that it is given is to be so.
 abbrev pub IsReady : Placing → PlaceStage → List ℕ → Type 0
 IsReady p LoadsTraced words = ⊤
 IsReady p (LoadsSize traced) words = ⊤
@@ -131,6 +137,8 @@ IsReady p (StoresZero new) words = AreZero p.layout.pages new.first new.next wor
 IsReady p (StoresNew new) words = AreCleared p new words
 IsReady p (OpensPage new) words = AreCleared p new words
 IsReady p StoresCount words = IsRunReady p words
+IsReady p StoresTarget words = IsRunReady p words
+IsReady p StoresLink words = AwaitsHeader p words
 IsReady p StoresHeader words = AwaitsHeader p words
 IsReady p (Ended result) words = ⊤
 
@@ -141,12 +149,14 @@ PagesAreMadeReady = (p : Placing) (before after : List ℕ) (turn : Turn Allocat
     → IsReady (after_next_step place_machine p before) (after_next_step place_machine p before).stage after
 
 -- The record's header stands where the run was, inside it and on open pages; of a mixed record the count of its fields stands behind
--- it. The record's other words are 0, and so is what is left of the run, which goes on behind the record. No other word changes.
+-- it, of a cell its target. The record's other words are 0, so a cell's link is, and what is left of the run, which goes on behind the
+-- record. No other word changes.
 pub record PlacesRecord (p : Placing) (before after : List ℕ) (at : ℕ) : Type 0 where
   pub at_run : at ≡ p.run.at
   pub in_run : at + size_of p.header ≤ p.run.end
   pub header : row_word p.layout.pages (HeapWord at) after ≡ encode (header_says p.header)
   pub counted : IsCounted p at after
+  pub targeted : IsTargeted p at after
   pub zero : AreZero p.layout.pages (at + zeros_from p.header.kind) p.run.end after
   pub opened : AreOpen p.layout.pages p.epoch (page_of at) (page_of p.run.end) after
   pub run_goes_on : (after_next_step place_machine p before).run ≡ record { at = at + size_of p.header; end = p.run.end }
@@ -170,8 +180,8 @@ AreMarked p stage words = ⊤
 
 -- when an allocation begins, it has no page to open
 abbrev pub NoneIsMarkedYet : Type 0
-NoneIsMarkedYet = (layout : Layout) (run : Run) (header : Header) (epoch fields snap : ℕ) (words : List ℕ)
-    → AreMarked (begun layout run header epoch fields snap) (begun layout run header epoch fields snap).stage words
+NoneIsMarkedYet = (layout : Layout) (run : Run) (header : Header) (epoch fields snap target : ℕ) (words : List ℕ)
+    → AreMarked (begun layout run header epoch fields snap target) (begun layout run header epoch fields snap target).stage words
 
 -- nobody else writes these words; and the allocation's own steps keep it
 abbrev pub PagesAreMarked : Type 0

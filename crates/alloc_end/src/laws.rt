@@ -1,6 +1,6 @@
 //! What holds of the machines. Each function here does nothing: its contract is what is proved.
 
-ghost use Rattle.alloc_end.specs.Rows.{FirstPairIsPlaced, NextRecordIsPlaced, CountIsStoredFirst, MixedRecordIsPlaced, PagesAreMarkedAndOpened, ReserveIsKept, ReserveIsFreeOnceTraced, FullTellsItsNumbers, LongestIsFull, LostClaimIsTriedAgain};
+ghost use Rattle.alloc_end.specs.Rows.{FirstPairIsPlaced, NextRecordIsPlaced, CountIsStoredFirst, MixedRecordIsPlaced, TargetIsStoredFirst, CellIsPlaced, PagesAreMarkedAndOpened, ReserveIsKept, ReserveIsFreeOnceTraced, FullTellsItsNumbers, LongestIsFull, LostClaimIsTriedAgain};
 ghost use Rattle.alloc_end.specs.HeldUp.{GoesOn};
 ghost use Rattle.alloc_end.specs.Theorems.{TracedIsRead, SizeIsRead, PagesAreClaimed, PagesAreLost, PagesAreMadeReady, RecordsArePlaced, NoneIsMarkedYet, PagesAreMarked, OpenedPagesAreNew, FullHeapsAreShort, ShortHeapsAreFull};
 
@@ -12,7 +12,8 @@ pub fn claims_keep_the_reserve()
     ensures lost { PagesAreLost }
 {}
 
-/// A record is placed on open pages, in words that are 0, but for the count of a mixed one's fields, which stands there before it.
+/// A record is placed on open pages, in words that are 0, but for the count of a mixed one's fields and a cell's target, which
+/// stand there before it.
 pub fn records_are_placed_in_cleared_pages()
     ensures ready { PagesAreMadeReady }
     ensures placed { RecordsArePlaced }
@@ -42,6 +43,8 @@ pub fn rows_are_worked_out()
     ensures next_record_is_placed { NextRecordIsPlaced }
     ensures count_is_stored_first { CountIsStoredFirst }
     ensures mixed_record_is_placed { MixedRecordIsPlaced }
+    ensures target_is_stored_first { TargetIsStoredFirst }
+    ensures cell_is_placed { CellIsPlaced }
     ensures pages_are_marked_and_opened { PagesAreMarkedAndOpened }
     ensures reserve_is_kept { ReserveIsKept }
     ensures reserve_is_free_once_traced { ReserveIsFreeOnceTraced }

@@ -6,7 +6,8 @@
 //! Where one doesn't fit there, it claims pages for it. While the epoch is not traced, the words between FRONT and LOW have
 //! to suffice for all records that may still be copied, so a claim is made only where that many are left. Where it can't be
 //! made, the allocation tells the numbers that it read, with them how many pages of the space are in use.
-//! The store of its header makes a record; if it is mixed, the count of its fields is stored before that.
+//! The store of its header makes a record. If it is mixed, the count of its fields is stored before that; if it is a cell, its
+//! target and its link are, which is 0.
 //!
 //! Where a checkpoint was begun, a page is marked as new before it is opened: what it has is no part of that checkpoint.
 //!

@@ -5,7 +5,7 @@ ghost use Rattle.space_map.specs.AreaWord.{AreaFits, decode_area};
 ghost use Rattle.space_map.specs.Spaces.{to_space};
 ghost use Rattle.space_map.specs.Table.{Area, Size, place_of, table_length, whole_length};
 ghost use Rattle.alloc_end.specs.Place.{begun, wanted, taken, told, left, advances, size_of, pages_for, words_for, kept_room, looked_at_area, area_after, shortage, readies, cleared, writes_on, after_opening, placed, at_stage, first_claimed, stores_first};
-ghost use Rattle.alloc_end.specs.Soundness.{RunLiesInSpaces, HasRoomToMark, HoldsFields, IsSoundPlacing, IsPlacingGoing, FitsPlaceStage, AreaHoldsClaim};
+ghost use Rattle.alloc_end.specs.Soundness.{RunLiesInSpaces, HasRoomToMark, HoldsFields, HoldsTargetAndLink, IsSoundPlacing, IsPlacingGoing, FitsPlaceStage, AreaHoldsClaim};
 
 use crate::allocated::Allocated;
 use crate::fitting::Fitting;
@@ -28,6 +28,7 @@ pub struct Place {
     fields: u16,
     epoch: u32,
     snap: u32,
+    target: u64,
     stage: PlaceStage,
 }
 
@@ -37,16 +38,16 @@ impl Model for Place {
 
     ghost Value = { Placing };
 
-    ghost view = { λ p. record { layout = p.spaces; run = p.run; header = p.header; fields = p.fields; epoch = p.epoch; snap = p.snap; stage = p.stage } };
+    ghost view = { λ p. record { layout = p.spaces; run = p.run; header = p.header; fields = p.fields; epoch = p.epoch; snap = p.snap; target = p.target; stage = p.stage } };
 
-    ghost invariant = { λ p. IsSoundPlacing (record { layout = p.spaces; run = p.run; header = p.header; fields = p.fields; epoch = p.epoch; snap = p.snap; stage = p.stage }) };
+    ghost invariant = { λ p. IsSoundPlacing (record { layout = p.spaces; run = p.run; header = p.header; fields = p.fields; epoch = p.epoch; snap = p.snap; target = p.target; stage = p.stage }) };
 
-    ghost inverse = { λ p. record { spaces = p.layout; run = p.run; header = p.header; fields = p.fields; epoch = p.epoch; snap = p.snap; stage = p.stage } };
+    ghost inverse = { λ p. record { spaces = p.layout; run = p.run; header = p.header; fields = p.fields; epoch = p.epoch; snap = p.snap; target = p.target; stage = p.stage } };
 }
 
 impl Place {
-    /// The allocation of a record with this header, and if it is mixed with so many fields, by a mutator of this epoch that
-    /// has this run, and saw so many checkpoints begun.
+    /// The allocation of a record with this header, if it is mixed with so many fields, and if it is a cell with this word as
+    /// its target, by a mutator of this epoch that has this run, and saw so many checkpoints begun.
     pub fn new(
         spaces: Spaces,
         run: Run,
@@ -54,11 +55,13 @@ impl Place {
         epoch: u32,
         fields: u16,
         snap: u32,
+        target: u64,
     ) -> Place
         requires in_spaces { RunLiesInSpaces spaces.pages run }
         requires holds { HoldsFields header fields }
+        requires cell { HoldsTargetAndLink header }
         requires room { HasRoomToMark spaces snap }
-        ensures { result ≡ begun spaces run header epoch fields snap }
+        ensures { result ≡ begun spaces run header epoch fields snap target }
     {
         spaces.known();
         let stage = if run.at + size(header) <= run.end {
@@ -73,6 +76,7 @@ impl Place {
             fields,
             epoch,
             snap,
+            target,
             stage,
         }
     }
@@ -115,6 +119,10 @@ impl Place {
                 spaces.word_place(self.run.at + 1),
                 Word::number(u64::from(self.fields)).0,
             ),
+            PlaceStage::StoresTarget => {
+                Step::Store(spaces.word_place(self.run.at + 1), self.target)
+            }
+            PlaceStage::StoresLink => Step::Store(spaces.word_place(self.run.at + 2), 0),
             PlaceStage::StoresHeader => {
                 Step::Store(spaces.word_place(self.run.at), pack(&self.header))
             }
@@ -129,7 +137,10 @@ impl Place {
         let spaces = self.spaces;
         spaces.known();
         match self.stage {
-            PlaceStage::StoresCount => Some(spaces.page_of(self.run.at + 1)),
+            PlaceStage::StoresCount | PlaceStage::StoresTarget => {
+                Some(spaces.page_of(self.run.at + 1))
+            }
+            PlaceStage::StoresLink => Some(spaces.page_of(self.run.at + 2)),
             PlaceStage::StoresHeader => Some(spaces.page_of(self.run.at)),
             _ => None,
         }
@@ -168,7 +179,11 @@ impl Place {
                 Turn::More
             }
             (PlaceStage::OpensPage(new), Reply::Done) => self.open(new),
-            (PlaceStage::StoresCount, Reply::Done) => {
+            (PlaceStage::StoresTarget, Reply::Done) => {
+                self.stage = PlaceStage::StoresLink;
+                Turn::More
+            }
+            (PlaceStage::StoresCount | PlaceStage::StoresLink, Reply::Done) => {
                 self.stage = PlaceStage::StoresHeader;
                 Turn::More
             }
@@ -331,7 +346,8 @@ fn first_store(kind: Kind) -> PlaceStage
 {
     match kind {
         Kind::Mixed => PlaceStage::StoresCount,
-        Kind::Fields | Kind::Raw | Kind::Weak => PlaceStage::StoresHeader,
+        Kind::Weak => PlaceStage::StoresTarget,
+        Kind::Fields | Kind::Raw => PlaceStage::StoresHeader,
     }
 }
 

@@ -21,6 +21,10 @@ pub enum PlaceStage {
     OpensPage(NewPages),
     /// Store the count of a mixed record's fields in the word behind the run's place.
     StoresCount,
+    /// Store a cell's target in the word behind the run's place.
+    StoresTarget,
+    /// Store 0 as a cell's link, in the word behind its target.
+    StoresLink,
     /// Store the header at the run's place.
     StoresHeader,
     /// Nothing more: it has come to this.

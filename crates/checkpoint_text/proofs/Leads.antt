@@ -14,7 +14,7 @@ use Rattle.plain_state.specs.State.{Record, Snapped}
 use Rattle.plain_heap.specs.Checkpoint.{BoardRefers, FieldRefers, ReachedFrom, kept_record}
 use Rattle.heap_state.specs.Meaning.Values.{value_of, value_said}
 use Rattle.checkpoint_text.specs.declared.saved_record.SavedRecord.{SavedRecord}
-use Rattle.checkpoint_text.specs.Records.{first_value, record_there, told_by}
+use Rattle.checkpoint_text.specs.Records.{denoted_count, first_value, record_there}
 use Rattle.checkpoint_text.specs.Reached.{AreReached, FromBoard, FromField, Reaches}
 use Rattle.checkpoint_text.proofs.Pictures.{IsSaved, Pictured, board_of, board_word_is, place_within, reference_is, saved_at, saved_there, value_word_is}
 use Rattle.checkpoint_text.proofs.RecordKinds.{some_before}
@@ -106,8 +106,8 @@ module _ (kept : Snapped) (p : Pictured kept) where
         let low : x < from.fields = ⊎_elim
         (λ (low : x < from.fields). low)
         (λ (high : from.fields ≤ x).
-        let printed : told_by from.kind from.len ≡ from.len = s.told i (ap (λ k. is_field k (word_of_value k x)) (sym (ap (λ (q : Record). q.kind) same ∙ s.shows.kind)) ∙ field) in
-        absurd (no_number (p.frozen.heap (a + i)) j (s.shows.numbers x (omega (arith, within, s.len)) (s.behind x (omega (arith, within, printed)) high) ∙ its)))
+        let denoted : denoted_count from ≡ from.fields = s.denoted i (ap (λ k. is_field k (word_of_value k x)) (sym (ap (λ (q : Record). q.kind) same ∙ s.shows.kind)) ∙ field) in
+        absurd (no_number (p.frozen.heap (a + i)) j (s.shows.numbers x (omega (arith, within, s.len)) (s.behind x within (omega (arith, high, denoted))) ∙ its)))
         (cases_lt x from.fields) in
         let front = s.front x within low in
         let to = pointed (p.frozen.heap (a + i)) j (s.shows.fields x (omega (arith, within, s.len)) front ∙ its) in

@@ -19,7 +19,7 @@ use Rattle.plain_state.specs.Layout.{is_field, is_raw, word_of_value, values_at 
 use Rattle.plain_state.specs.State.{Record, Snapped}
 use Rattle.space_map.specs.Spaces.{board_page, first_word, page_of}
 use Rattle.space_map.specs.Table.{HeapWord, ImageOf, is_save_row, place_of, save_place_of}
-use Rattle.plain_heap.specs.Checkpoint.{identity_text, kept_record, kind_text, record_line, values_text, values_told}
+use Rattle.plain_heap.specs.Checkpoint.{identity_text, kept_record, kind_text, record_line, values_text}
 use Rattle.heap_state.specs.Memory.Table.{is_row, table_of, word_in}
 use Rattle.heap_state.specs.Invariant.Ghost.{header_kind}
 use Rattle.heap_state.specs.Meaning.Values.{CountShows, Shows, value_of, value_said}
@@ -29,9 +29,8 @@ use Rattle.heap_state.specs.Saving.Kept.{KeepsPicture}
 use Rattle.heap_state.specs.Saving.Said.{SaysCheckpoint}
 use Rattle.checkpoint_text.specs.declared.saved_record.SavedRecord.{SavedRecord}
 use Rattle.checkpoint_text.specs.Heap.{field_value, identity_there, identity_by, saved_word, value_by}
-use Rattle.checkpoint_text.specs.Records.{content_of, fields_by, first_value, kind_with, record_there, record_by, record_with, told_by, value_read, values_read, words_after, words_before}
-use Rattle.checkpoint_text.proofs.Pieces.{length_values}
-use Rattle.checkpoint_text.proofs.RecordKinds.{SaysCount, after_is, before_is, field_is, field_told, kind_is, raw_is, read_told, some_before, taken_told, told-le}
+use Rattle.checkpoint_text.specs.Records.{content_of, denoted_by, denoted_count, fields_by, first_value, kind_with, record_there, record_by, record_with, value_read, values_read, words_after, words_before}
+use Rattle.checkpoint_text.proofs.RecordKinds.{SaysCount, after_is, before_is, field_is, kind_is, no_target, raw_is, some_before, target_is}
 
 -- ---- a heap that is read so
 
@@ -114,8 +113,9 @@ pub record IsSaved (heap : ℕ → ℕ) (z : Frozen) (kept : Snapped) (a : ℕ) 
   pub kind : kind_with r.kind r.fields ≡ z.kind a
   pub before : words_before r.kind ≡ words_ahead (z.kind a)
   pub front : (x : ℕ) → x < r.len → x < r.fields → is_field (z.kind a) (word_of_value (z.kind a) x) ≡ true
-  pub behind : (x : ℕ) → x < told_by r.kind r.len → r.fields ≤ x → is_raw (z.kind a) (word_of_value (z.kind a) x) ≡ true
-  pub told : (i : ℕ) → is_field (z.kind a) i ≡ true → told_by r.kind r.len ≡ r.len
+  pub behind : (x : ℕ) → x < r.len → denoted_count r ≤ x → is_raw (z.kind a) (word_of_value (z.kind a) x) ≡ true
+  pub target : (x : ℕ) → x < denoted_count r → r.fields ≤ x → (x ≡ 0) × (z.kind a ≡ Weak)
+  pub denoted : (i : ℕ) → is_field (z.kind a) i ≡ true → denoted_count r ≡ r.fields
   pub shown : Record
   pub is : kept_record kept (z.identity a) ≡ Some shown
   pub shows : Shows (value_of z.identity) z.heap a (z.kind a) (z.size a) shown
@@ -171,10 +171,13 @@ module _ (kept : Snapped) (p : Pictured kept) where
       let count = h.len + 1 - (words_before h.kind + words_after h.kind) in
       let ahead : words_ahead s.shown.kind ≡ words_ahead k = ap words_ahead s.shows.kind in
       let behind : words_behind s.shown.kind ≡ words_behind k = ap words_behind s.shows.kind in
-      let told : told_by h.kind count ≡ told_by (header_kind k) count = ap (λ q. told_by q count) kind in
       let long : words_ahead k ≤ p.frozen.size a = omega (arith, s.shows.size, ahead) in
       let counts : SaysCount k next = count_is a k some long s.shows.count in
       let fields : fields_by h.kind count next ≡ fields_by (header_kind k) count next = ap (λ q. fields_by q count next) kind in
+      let denoted : denoted_by h.kind (fields_by h.kind count next) ≡ denoted_by (header_kind k) (fields_by (header_kind k) count next) = ap (λ q. denoted_by q (fields_by q count next)) kind in
+      let one : k ≡ Weak → count ≡ 1 = λ weak.
+      let three = p.picture.three a some weak in
+      omega (arith, len, before, after, three, ap words_ahead weak, ap words_behind weak) in
       record {
         some = some;
         found = ap (record_by a next) found;
@@ -183,8 +186,9 @@ module _ (kept : Snapped) (p : Pictured kept) where
         kind = ap (λ q. kind_with q (fields_by q count next)) kind ∙ kind_is k count next counts;
         before = before;
         front = λ x within low. field_is k count next x counts within (subst (λ (f : ℕ). x < f) fields low);
-        behind = λ x within high. raw_is k count next x counts (subst (λ (n : ℕ). x < n) told within) (subst (λ (f : ℕ). f ≤ x) fields high);
-        told = λ i field. told ∙ field_told k count i field;
+        behind = λ x within high. raw_is k count next x counts one within (subst (λ (f : ℕ). f ≤ x) denoted high);
+        target = λ x within high. target_is k (fields_by (header_kind k) count next) x (subst (λ (f : ℕ). x < f) denoted within) (subst (λ (f : ℕ). f ≤ x) fields high);
+        denoted = λ i field. denoted ∙ no_target k (fields_by (header_kind k) count next) i field ∙ sym fields;
         shown = s.shown;
         is = s.is;
         shows = s.shows;
@@ -250,33 +254,41 @@ module _ (kept : Snapped) (p : Pictured kept) where
         ∙ field_value_is (a + i) v (word_is a i s.some (place_within x within)) (s.shows.fields x (omega (arith, within, s.len)) field ∙ there)
         (λ b. p.picture.field_lands a i b (omega (arith, some_before (p.frozen.kind a))) (place_within x within) field)
 
-    value_here : (x : ℕ) → x < told_by r.kind r.len → Some (value_read p.heap (first_value r + x) x r.fields) ≡ slice_get s.shown.values x
-    value_here x printed =
-        let within : x < r.len = omega (arith, printed, told-le r.kind r.len) in
+    -- the target of a cell is read as it is kept
+    target_value : (v : Value) → p.frozen.kind a ≡ Weak → slice_get s.shown.values 0 ≡ Some v → field_value p.heap (first_value r + 0) ≡ v
+    target_value v weak there =
+        let three = p.picture.three a s.some weak in
+        let place : first_value r + 0 ≡ a + 1 = omega (arith, place_is 0, ap words_ahead weak) in
+        ap (field_value p.heap) place
+        ∙ field_value_is (a + 1) v (word_is a 1 s.some (omega (arith, three))) (p.picture.targets a s.shown s.some weak s.is ∙ there) (λ b. p.picture.target_lands a b s.some weak)
+
+    denoted_value : (x : ℕ) (v : Value) → x < r.len → x < denoted_count r → slice_get s.shown.values x ≡ Some v → field_value p.heap (first_value r + x) ≡ v
+    denoted_value x v within low there = ⊎_elim
+        (λ (front : x < r.fields). front_value x v within front there)
+        (λ (behind : r.fields ≤ x).
+        let is = s.target x low behind in
+        ap (λ (y : ℕ). field_value p.heap (first_value r + y)) is.0 ∙ target_value v is.1 (ap (slice_get s.shown.values) (sym is.0) ∙ there))
+        (cases_lt x r.fields)
+
+    value_here : (x : ℕ) → x < r.len → Some (value_read p.heap (first_value r + x) x (denoted_count r)) ≡ slice_get s.shown.values x
+    value_here x within =
         let v = slice_index_or s.shown.values x (Number 0) in
         let y = first_value r + x in
         let there : slice_get s.shown.values x ≡ Some v = slice_get-get_or s.shown.values x (Number 0) (omega (arith, within, s.len)) in
         ⊎_elim
-        (λ (low : x < r.fields).
-        ap (λ (t : Bool). Some (cond t (field_value p.heap y) (Number (p.heap y)))) (lt-ltb x r.fields low) ∙ ap Some (front_value x v within low there) ∙ sym there)
-        (λ (high : r.fields ≤ x).
-        ap (λ (t : Bool). Some (cond t (field_value p.heap y) (Number (p.heap y)))) (le-ltb x r.fields high) ∙ ap (λ (w : ℕ). Some (Number w)) (value_word_is x within)
-        ∙ s.shows.numbers x (omega (arith, within, s.len)) (s.behind x printed high))
-        (cases_lt x r.fields)
+        (λ (low : x < denoted_count r).
+        ap (λ (t : Bool). Some (cond t (field_value p.heap y) (Number (p.heap y)))) (lt-ltb x (denoted_count r) low) ∙ ap Some (denoted_value x v within low there) ∙ sym there)
+        (λ (high : denoted_count r ≤ x).
+        ap (λ (t : Bool). Some (cond t (field_value p.heap y) (Number (p.heap y)))) (le-ltb x (denoted_count r) high) ∙ ap (λ (w : ℕ). Some (Number w)) (value_word_is x within)
+        ∙ s.shows.numbers x (omega (arith, within, s.len)) (s.behind x within high))
+        (cases_lt x (denoted_count r))
 
-    -- the values that are printed
-    values_here : values_told (kind_with r.kind r.fields) (values_read p.heap (first_value r) r.fields r.len) ≡ values_told s.shown.kind s.shown.values
-    values_here =
-        let kind : kind_with r.kind r.fields ≡ s.shown.kind = s.kind ∙ sym s.shows.kind in
-        read_told r.kind p.heap (first_value r) r.fields r.len
-        ∙ values_are p.heap (first_value r) r.fields s.shown.values (told_by r.kind r.len) value_here (omega (arith, s.len, told-le r.kind r.len))
-        ∙ ap (λ (n : ℕ). take (told_by r.kind n) s.shown.values) s.len
-        ∙ sym (taken_told r.kind r.fields s.shown.values)
-        ∙ ap (λ k. values_told k s.shown.values) kind
+    -- its values are read as they are kept
+    values_here : values_read p.heap (first_value r) (denoted_count r) r.len ≡ s.shown.values
+    values_here = all_values p.heap (first_value r) (denoted_count r) s.shown.values (λ x within. value_here x (omega (arith, within, s.len))) r.len s.len
 
     -- its line is that of what is kept
     pub line_is : record_line (content_of p.heap r) ≡ record_line (record { identity = r.identity; content = s.shown })
     line_is =
         let kind : kind_with r.kind r.fields ≡ s.shown.kind = s.kind ∙ sym s.shows.kind in
-        let len : length (values_read p.heap (first_value r) r.fields r.len) ≡ length s.shown.values = length_values p.heap (first_value r) r.fields r.len ∙ s.len in
-        (λ k. identity_text r.identity ++ codes " " ++ kind_text (kind k) ++ codes " " ++ decimal (len k) ++ codes ":" ++ values_text (values_here k) ++ codes "\n")
+        (λ k. identity_text r.identity ++ codes " " ++ kind_text (kind k) ++ codes " " ++ decimal (length (values_here k)) ++ codes ":" ++ values_text (values_here k) ++ codes "\n")

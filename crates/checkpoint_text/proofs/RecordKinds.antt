@@ -1,18 +1,13 @@
 -- The kinds of records, by their headers and their word 1.
-use Rattle.std.proofs.Common.{◌≡◌, ℕ, ◌+◌, ◌<◌, ◌≤◌, true, List, length, take, unwrap_or, refl, sym, ap, subst, arith}
+use Rattle.std.proofs.Common.{◌≡◌, ℕ, ◌+◌, ◌<◌, ◌≤◌, true, unwrap_or, refl, ap, subst, arith}
 use Rattle.std.specs.Bool.{⊤}
 use Rattle.std.proofs.lemmas.Bool.{le-leb, lt-ltb}
-use Rattle.std.proofs.lemmas.List.{take_all}
-use Rattle.heap_words.specs.declared.kind.Kind.{Kind as HeaderKind}
-use Rattle.heap_words.specs.declared.kind.Kind.TheVariants as header
 use Rattle.heap_words.specs.Decoded.{NumberWord, decode, number_in}
 use Rattle.plain_state.specs.declared.kind.Kind.{Kind}
 use Rattle.plain_state.specs.declared.kind.Kind.TheVariants.{Fields, Raw, Mixed, Weak}
-use Rattle.plain_state.specs.declared.value.Value.{Value}
 use Rattle.plain_state.specs.Layout.{is_field, is_raw, word_of_value, values_at, words_behind}
-use Rattle.plain_heap.specs.Checkpoint.{values_told}
 use Rattle.heap_state.specs.Invariant.Ghost.{header_kind}
-use Rattle.checkpoint_text.specs.Records.{fields_by, kind_with, told_by, values_read, words_after, words_before}
+use Rattle.checkpoint_text.specs.Records.{denoted_by, fields_by, kind_with, words_after, words_before}
 
 -- word 1 of a mixed record says the count of its fields
 abbrev pub SaysCount : Kind → (next : ℕ) → Type 0
@@ -54,38 +49,27 @@ field_is (Mixed count) len next x says within front =
     rw (le-leb 2 (x + 2) (omega arith), lt-ltb (x + 2) (count + 2) (omega (arith, low))) refl
 field_is Weak len next x says within front = absurd (omega (arith, front))
 
--- a printed value that is no field is a plain number
-pub raw_is : (k : Kind) (len next x : ℕ) → SaysCount k next → x < told_by (header_kind k) len → fields_by (header_kind k) len next ≤ x → is_raw k (word_of_value k x) ≡ true
-raw_is Fields len next x says within behind = absurd (omega (arith, within, behind))
-raw_is Raw len next x says within behind = refl
-raw_is (Mixed count) len next x says within behind =
+-- a value that no word denotes as in a field is a plain number, if a cell has one value
+pub raw_is : (k : Kind) (len next x : ℕ) → SaysCount k next → (k ≡ Weak → len ≡ 1) → x < len → denoted_by (header_kind k) (fields_by (header_kind k) len next) ≤ x → is_raw k (word_of_value k x) ≡ true
+raw_is Fields len next x says one within behind = absurd (omega (arith, within, behind))
+raw_is Raw len next x says one within behind = refl
+raw_is (Mixed count) len next x says one within behind =
     let high : count ≤ x = subst (λ (n : ℕ). n ≤ x) (count_read count next says) behind in
     le-leb (count + 2) (x + 2) (omega (arith, high))
-raw_is Weak len next x says within behind = absurd (omega (arith, within))
+raw_is Weak len next x says one within behind = absurd (omega (arith, within, behind, one refl))
 
--- ---- how many values are printed
+-- ---- the target of a cell
 
-pub told-le : (k : HeaderKind) (len : ℕ) → told_by k len ≤ len
-told-le header.Fields len = omega arith
-told-le header.Raw len = omega arith
-told-le header.Mixed len = omega arith
-told-le header.Weak len = omega arith
+-- a value that a word denotes, but that is in no field, is the target of a cell
+pub target_is : (k : Kind) (fields x : ℕ) → x < denoted_by (header_kind k) fields → fields ≤ x → (x ≡ 0) × (k ≡ Weak)
+target_is Fields fields x within behind = absurd (omega (arith, within, behind))
+target_is Raw fields x within behind = absurd (omega (arith, within, behind))
+target_is (Mixed count) fields x within behind = absurd (omega (arith, within, behind))
+target_is Weak fields x within behind = (omega (arith, within), refl)
 
--- all are, if one of the record's words is a field
-pub field_told : (k : Kind) (len i : ℕ) → is_field k i ≡ true → told_by (header_kind k) len ≡ len
-field_told Fields len i field = refl
-field_told Raw len i field = refl
-field_told (Mixed count) len i field = refl
-field_told Weak len i field = cc
-
-pub read_told : (k : HeaderKind) (heap : ℕ → ℕ) (first fields len : ℕ) → values_told (kind_with k fields) (values_read heap first fields len) ≡ values_read heap first fields (told_by k len)
-read_told header.Fields heap first fields len = refl
-read_told header.Raw heap first fields len = refl
-read_told header.Mixed heap first fields len = refl
-read_told header.Weak heap first fields len = refl
-
-pub taken_told : (k : HeaderKind) (fields : ℕ) (vs : List Value) → values_told (kind_with k fields) vs ≡ take (told_by k (length vs)) vs
-taken_told header.Fields fields vs = sym (take_all (length vs) vs (omega arith))
-taken_told header.Raw fields vs = sym (take_all (length vs) vs (omega arith))
-taken_told header.Mixed fields vs = sym (take_all (length vs) vs (omega arith))
-taken_told header.Weak fields vs = refl
+-- a record has none if one of its words is a field
+pub no_target : (k : Kind) (fields i : ℕ) → is_field k i ≡ true → denoted_by (header_kind k) fields ≡ fields
+no_target Fields fields i field = refl
+no_target Raw fields i field = refl
+no_target (Mixed count) fields i field = refl
+no_target Weak fields i field = cc

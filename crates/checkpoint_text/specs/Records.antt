@@ -64,11 +64,21 @@ field_count r = min r.fields r.len
 
 -- ---- its values
 
--- the value at an address, of a field or of a plain number
+-- how many of a record's values, from the first, a word denotes as in a field: those in its fields, or a cell's target
+abbrev pub denoted_by : Kind → (fields : ℕ) → ℕ
+denoted_by Fields fields = fields
+denoted_by Raw fields = fields
+denoted_by Mixed fields = fields
+denoted_by Weak fields = 1
+
+abbrev pub denoted_count : SavedRecord → ℕ
+denoted_count r = denoted_by r.kind r.fields
+
+-- the value at an address, which a word denotes as in a field, or of a plain number
 abbrev pub value_read : (heap : ℕ → ℕ) → (address x fields : ℕ) → Value
 value_read heap address x fields = if nat_lt x fields then field_value heap address else Number (heap address)
 
--- so many values from an address on, the first of which are fields
+-- so many values from an address on, the first of which words denote
 abbrev pub values_read : (heap : ℕ → ℕ) → (first fields count : ℕ) → List Value
 values_read heap first fields zero = []
 values_read heap first fields (suc x) = values_read heap first fields x ++ value_read heap (first + x) x fields ∷ []
@@ -80,16 +90,9 @@ kind_with Raw fields = plain.Raw
 kind_with Mixed fields = plain.Mixed fields
 kind_with Weak fields = plain.Weak
 
--- how many of a record's values are printed, by how many it has
-abbrev pub told_by : Kind → (len : ℕ) → ℕ
-told_by Fields len = len
-told_by Raw len = len
-told_by Mixed len = len
-told_by Weak len = 0
-
 -- the record as it is printed
 abbrev pub content_of : (heap : ℕ → ℕ) → SavedRecord → KeptRecord
 content_of heap r = record {
   identity = r.identity;
-  content = record { kind = kind_with r.kind r.fields; values = values_read heap (first_value r) r.fields r.len };
+  content = record { kind = kind_with r.kind r.fields; values = values_read heap (first_value r) (denoted_count r) r.len };
 }

@@ -32,7 +32,7 @@ fn push_value(out: &mut String, value: Value) -> Result<(), NoMemory>
     }
 }
 
-/// So many values from an address on, the first of which are fields, each after a space.
+/// So many values from an address on, the first of which words denote as in fields, each after a space.
 fn push_values(
     out: &mut String,
     words: &SavedWords,
@@ -90,7 +90,13 @@ pub fn push_record(out: &mut String, words: &SavedWords, saved: SavedRecord) -> 
     out.push(' ')?;
     push_kind(out, saved.kind, saved.fields)?;
     write!(out, " {}:", saved.len)?;
-    push_values(out, words, saved.first_value(), saved.fields, saved.told())?;
+    push_values(
+        out,
+        words,
+        saved.first_value(),
+        saved.denoted_count(),
+        u64::from(saved.len),
+    )?;
     out.push('\n')?;
     Ok(())
 }

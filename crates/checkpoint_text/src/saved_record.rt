@@ -1,7 +1,7 @@
 //! A record of the checkpoint.
 
 ghost use Rattle.std.specs.Prelude.{◌≡◌};
-ghost use Rattle.checkpoint_text.specs.Records.{field_count, first_value, told_by, words_after, words_before};
+ghost use Rattle.checkpoint_text.specs.Records.{denoted_count, field_count, first_value, words_after, words_before};
 
 use heap_words::Kind;
 use plain_state::Identity;
@@ -34,13 +34,13 @@ impl SavedRecord {
         self.fields.min(u64::from(self.len))
     }
 
-    /// How many of its values are printed: of a cell none.
-    pub fn told(self) -> u64
-        ensures { result ≡ told_by self.kind self.len }
+    /// How many of its values, from the first, a word denotes as in a field. A cell's target is one, though it isn't followed.
+    pub fn denoted_count(self) -> u64
+        ensures { result ≡ denoted_count self }
     {
         match self.kind {
-            Kind::Fields | Kind::Raw | Kind::Mixed => u64::from(self.len),
-            Kind::Weak => 0,
+            Kind::Fields | Kind::Raw | Kind::Mixed => self.fields,
+            Kind::Weak => 1,
         }
     }
 }

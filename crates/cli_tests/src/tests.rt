@@ -210,6 +210,7 @@ fn long_calls_give_what_they_should(rt: HostRuntime) -> Result<(), Fail> {
     for table in [
         LENGTHS,
         concordances::LONG,
+        schedules::LONG,
         instructions::FULL,
         texts::LIMITS,
     ] {

@@ -71,7 +71,7 @@ module _ (m : ℕ) (heap : Heap) (k : Mutator) where
   pub call-ld : (d a x : ℕ) (r : Record) → LeadsTo here (register k a) r → x < length r.values → is_cell r.kind ≡ false
       → call m heap k (instrs.Ld d a (operands.Number x)) ≡ Ok (loads heap k d (slice_index_or r.values x (Number 0)))
   unfolding call action
-  call-ld d a x r leads within no_cell = rw (leads.is, leads.found, lt-ltb x (length r.values) within, no_cell) refl
+  call-ld d a x r leads within no_cell = rw (leads.is, leads.found, lt-ltb x (length r.values) within) refl
 
   pub call-len : (d a : ℕ) (r : Record) → LeadsTo here (register k a) r → call m heap k (instrs.Len d a) ≡ Ok (loads heap k d (Number (length r.values)))
   unfolding call action
@@ -80,7 +80,7 @@ module _ (m : ℕ) (heap : Heap) (k : Mutator) where
   pub call-st : (a x b : ℕ) (r : Record) (leads : LeadsTo here (register k a) r) → x < length r.values → IsOk (may_hold r.kind x (register k b))
       → call m heap k (instrs.St a (operands.Number x) b) ≡ Ok (record { heap = stored heap (record { mutator = m; serial = leads.serial }) r x (register k b); mutator = went_on k })
   unfolding call action
-  call-st a x b r leads within holds = rw (leads.is, leads.found, lt-ltb x (length r.values) within, holds_no_cell r.kind x (register k b) holds, held_is r.kind x (register k b) holds) refl
+  call-st a x b r leads within holds = rw (leads.is, leads.found, lt-ltb x (length r.values) within, held_is r.kind x (register k b) holds) refl
 
   pub call-new : (d n : ℕ) → n ≤ LONGEST_RECORD → call m heap k (instrs.New d (operands.Number n)) ≡ Ok (allocated m heap k Fields d n (Number 0))
   unfolding call action

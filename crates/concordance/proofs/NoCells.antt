@@ -25,8 +25,7 @@ use Rattle.gc_worker.specs.declared.calls.entry.Entry.TheVariants.{Made, Exchang
 use Rattle.gc_worker.specs.declared.task.Task.{Task}
 use Rattle.gc_worker.specs.declared.task.Task.TheVariants.{Calls, Stops}
 use Rattle.gc_worker.specs.History.Legal.{after_all, after_call}
-use Rattle.gc_worker.specs.Plain.Answer.{after_answer, after_outcome}
-use Rattle.gc_worker.specs.Plain.Stories.{with_emptied}
+use Rattle.gc_worker.specs.Plain.Answer.{after_answer, after_outcome, with_emptied}
 use Rattle.ael_threads.specs.Alone.{LeavesBoard, task_leaves_board}
 use Rattle.ael_threads.specs.Unread.{EachCall}
 use Rattle.concordance.specs.NoCells.{HasNoCells, MakesNoCell, task_makes_cell}

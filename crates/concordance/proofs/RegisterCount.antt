@@ -21,8 +21,7 @@ use Rattle.gc_worker.specs.declared.calls.entry.Entry.{Entry}
 use Rattle.gc_worker.specs.declared.calls.entry.Entry.TheVariants.{Exchanged, Made, Emptied}
 use Rattle.gc_worker.specs.declared.task.Task.{Task}
 use Rattle.gc_worker.specs.declared.task.Task.TheVariants.{Calls, Stops}
-use Rattle.gc_worker.specs.Plain.Stories.{with_emptied}
-use Rattle.gc_worker.specs.Plain.Answer.{after_answer, after_outcome}
+use Rattle.gc_worker.specs.Plain.Answer.{after_answer, after_outcome, with_emptied}
 use Rattle.gc_worker.specs.History.Legal.{after_all, after_call}
 
 -- ---- an instruction

@@ -51,6 +51,11 @@ pub record Round : Type 0 where
 abbrev pub begun : Layout → Caller → (epoch worker : ℕ) → Round
 begun layout caller epoch worker = record { layout = layout; caller = caller; epoch = epoch; worker = worker; stage = LoadsGate }
 
+-- a round that is about to make its first step
+abbrev pub is_first : DutyStage → Bool
+is_first LoadsGate = true
+is_first stage = false
+
 -- for whom a mutator's round is made
 abbrev pub caller_for : Option ℕ → Caller
 caller_for (Some page) = Faulted page

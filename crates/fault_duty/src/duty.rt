@@ -90,6 +90,13 @@ impl Duty {
         self.stage = DutyStage::LoadsGate;
     }
 
+    /// Whether it is about to make its first step, with which a round begins.
+    pub fn is_first(&self) -> bool
+        ensures { result ≡ round.is_first self.now.stage }
+    {
+        matches!(self.stage, DutyStage::LoadsGate)
+    }
+
     /// The epoch that the round is for.
     pub fn epoch(&self) -> u32
         ensures { result ≡ self.now.epoch }

@@ -13,11 +13,14 @@ use Rattle.heap_state.specs.Meaning.Represents.{Represents}
 use Rattle.gc_worker.specs.declared.config.TheConstants.{MOST_TURNS}
 use Rattle.gc_worker.specs.declared.stage.Stage.TheVariants.{Gone}
 use Rattle.gc_worker.specs.declared.task.Task.{Task}
+use Rattle.gc_worker.specs.Plain.Answer.{with_emptied}
+use Rattle.gc_worker.specs.Plain.Empty.{empty_cells}
 use Rattle.gc_worker.specs.Plain.Full.{FindsNoRoom}
 use Rattle.gc_worker.specs.Workers.Held as held
 use Rattle.gc_worker.specs.Laws.Claims.{epoch_of_heap}
 use Rattle.gc_worker.specs.Laws.Gone.{ScannersAreLast}
 use Rattle.gc_worker.specs.Laws.Represented.{HasKept}
+use Rattle.gc_worker.specs.Laws.Stories.{StoryStands}
 use Rattle.gc_worker.specs.Laws.Step.{Heap, WorkersStand, held_at, layout_of, read}
 use Rattle.gc_worker.specs.declared.steps.stepped.Stepped.{Stepped}
 use Rattle.gc_worker.specs.declared.steps.stepped.Stepped.TheVariants.{Idle, Moved, Effect, Flipped, Traced, Ended}
@@ -66,6 +69,19 @@ story_by s story told = story_after s.code s.turns story (option_to_list (mark_o
 abbrev pub plain_after : CoreState → Story → Stepped → Plain
 plain_after s story told = (story_by s story told).now
 
+-- What a core represents after what is told of an event, whatever it stood for before: where the epoch is traced, the state in which the
+-- cells are empty whose targets the words then say are the number 0; else the state after the mark. In a story these are the same.
+abbrev pub plain_met_by : CoreState → Story → (after : Heap) → Stepped → Plain
+plain_met_by s story after Traced = with_emptied story.now (empty_cells (read after))
+plain_met_by s story after told = plain_after s story told
+
+abbrev pub plain_met : CoreState → Story → Event → Plain
+plain_met s story e = plain_met_by s story e.after e.told
+
+-- and the state at the last flip with it
+abbrev pub story_met : CoreState → Story → Event → Story
+story_met s story e = record { flip = (story_by s story e.told).flip; now = plain_met s story e }
+
 -- An end for want of room comes only where the next step of mutator m asks for so many pages, and the worker finds no room for them.
 abbrev pub IsForWant : CoreState → Plain → ℕ → End → Type 0
 IsForWant s p m (ends.HeapFull asked room live) = (asked_by s.code s.turns p m ≡ Some asked) × FindsNoRoom s.heap.pages s.heap.words (ready s m) asked room live
@@ -102,21 +118,31 @@ IsTold s w story after (Ended m why) =
     (m ≡ w) × (end_of story.now m ≡ Some None) × (end_of (plain_after s story (Ended m why)) m ≡ Some (Some why)) × IsForWant s story.now m why
     × (epoch_of_heap after ≡ epoch_of_heap s.heap)
 
+-- The event of worker w, from a core whose heap stands for a plain state: it stands for the one that the core then represents. What is
+-- told of it is so.
+pub record KeepsPlain (s : CoreState) (w : ℕ) (story : Story) : Type 0 where
+  pub steady : IsSteady (core_after s w)
+  pub stands : WorkersStand (event_of s w).after (story_met s story (event_of s w)).now (story_met s story (event_of s w)).flip
+  pub told : IsTold s w story (event_of s w).after (event_of s w).told
+
+abbrev pub EventsStand : Type 0
+EventsStand = (s : CoreState) (w : ℕ) (story : Story) → IsSteady s → WorkersStand s.heap story.now story.flip → KeepsPlain s w story
+
 -- The event of worker w, from a core that stands for a story: it stands for the story after what is told, which is so.
 pub record KeepsStory (s : CoreState) (w : ℕ) (story : Story) : Type 0 where
   pub steady : IsSteady (core_after s w)
-  pub stands : WorkersStand (event_of s w).after (story_by s story (event_of s w).told).now (story_by s story (event_of s w).told).flip
+  pub stands : StoryStands (event_of s w).after (story_by s story (event_of s w).told).now (story_by s story (event_of s w).told).flip
   pub told : IsTold s w story (event_of s w).after (event_of s w).told
 
 abbrev pub EventsKeep : Type 0
-EventsKeep = (s : CoreState) (w : ℕ) (story : Story) → IsSteady s → WorkersStand s.heap story.now story.flip → KeepsStory s w story
+EventsKeep = (s : CoreState) (w : ℕ) (story : Story) → IsSteady s → StoryStands s.heap story.now story.flip → KeepsStory s w story
 
--- The event e of worker w, from a core that stands for a story, meets the law: the core after it is lawful, stands for the story after what
--- is told, and represents the plain state then.
+-- The event e of worker w, from a core that represents the plain state of a story, meets the law: the core after it is lawful, with the
+-- state at the last flip then, and represents the plain state then; what is told is so.
 pub record Meets (s : CoreState) (w : ℕ) (story : Story) (e : Event) : Type 0 where
   pub lawful : IsLawful (record s { heap = e.after })
   pub flip : lawful.flip ≡ (story_by s story e.told).flip
-  pub after : StandsFor (record s { heap = e.after }) lawful (plain_after s story e.told)
+  pub after : StandsFor (record s { heap = e.after }) lawful (plain_met s story e)
   pub told : IsTold s w story e.after e.told
 
 -- the story of a lawful core that represents p

@@ -2,6 +2,7 @@
 -- order acts.
 use Rattle.std.specs.Prelude.{◌≡◌, true, false, ℕ, ◌≤◌, ◌<◌}
 use Rattle.plain_state.specs.declared.end.End.TheVariants as ends
+use Rattle.plain_state.specs.Cells.{CellsFollow}
 use Rattle.plain_state.specs.State.{Plain}
 use Rattle.plain_heap.specs.Order.{Story, first_story, story_after}
 use Rattle.plain_heap.specs.Print.{plain_seen}
@@ -46,9 +47,17 @@ pub record IsPlainRun (schedule : ℕ → ℕ) (at n : ℕ) (s : CoreState) (sto
   pub acts : EachActs s.code s.turns story (run_from schedule at n s).order
   pub full : EachEvent IsFull schedule at n s
 
--- from any lawful core and each plain state that it represents, by any schedule, from any place in it on and for any number of steps
+-- the cells of a plain state have what they have in the core's epoch, by the state at its flip
+abbrev pub HasCells : CoreState → (flip now : Plain) → Type 0
+HasCells s flip now = CellsFollow (IsTraced s.heap) flip now
+
+-- From any lawful core and each plain state that it represents, by any schedule, from any place in it on and for any number of steps. The
+-- cells of the state have to be as in the core's epoch, as they are again at the end: once a walk has emptied a cell, the core represents
+-- states with any lost record in it, but a story's mark of tracing empties the cells that had lost records at the flip, and no others.
 abbrev pub RunsArePlainRuns : Type 0
-RunsArePlainRuns = (schedule : ℕ → ℕ) (at n : ℕ) (s : CoreState) (p : Plain) (lawful : IsLawful s) → StandsFor s lawful p → IsPlainRun schedule at n s (story_in s lawful p)
+RunsArePlainRuns = (schedule : ℕ → ℕ) (at n : ℕ) (s : CoreState) (p : Plain) (lawful : IsLawful s) → StandsFor s lawful p → HasCells s lawful.flip p
+    → IsPlainRun schedule at n s (story_in s lawful p)
+    × HasCells (run_from schedule at n s).last (story_after s.code s.turns (story_in s lawful p) (run_from schedule at n s).order).flip (story_after s.code s.turns (story_in s lawful p) (run_from schedule at n s).order).now
 
 -- and so of each program, from its opening
 abbrev pub RunsFollow : Type 0

@@ -1,7 +1,7 @@
 //! What holds of all events and runs. Each function here does nothing: its contract is what is proved.
 
 ghost use Rattle.gc_core.specs.Checkpoints.{CheckpointsAreTold};
-ghost use Rattle.gc_core.specs.Cycles.{CyclesKeepWhatIsLive, FullHeapsAreFilled, InstructionsFlipOnce, SizesAreBetween, SizesGrowAtFlips, SizesNeverFall};
+ghost use Rattle.gc_core.specs.Cycles.{CyclesEmptyLostCells, CyclesKeepWhatIsLive, FullHeapsAreFilled, InstructionsFlipOnce, SizesAreBetween, SizesGrowAtFlips, SizesNeverFall};
 ghost use Rattle.gc_core.specs.Law.{EventsMeet, IsLawful};
 ghost use Rattle.gc_core.specs.Needs.{ClaimsAreForRecords, ClaimsAreMadeOrSetAside, LargeHeapsAreNeverFull, LoneFullsFollowTheirFlips, LoneHeapsAreNeverFull, OrdersAreFilledByClaims, OrdersFillTheSpace};
 ghost use Rattle.gc_core.specs.Stores.{ExchangesOfRunsFindTheLastStore, LoadsOfRunsGetTheLastStore};
@@ -10,8 +10,9 @@ ghost use Rattle.gc_core.specs.Whole.{CopiedPagesAreWonOnce, FlipsAreOfTracedCor
 
 use crate::machine::Core;
 
-/// The event of any worker does to each story that the core stands for what the mark of it does, and what is told of it is so. The core is
-/// lawful after it and stands for the story then, so the same holds of the next event.
+/// The event of any worker does to each plain state that the core represents what the mark of it does; but if it tells that the epoch is
+/// traced, those cells are emptied whose targets are the number 0, by the words then. What is told of it is so. The core is lawful after it
+/// and represents that state, so the same holds of the next event.
 pub fn events_meet()
     ensures { EventsMeet }
 {}
@@ -26,10 +27,11 @@ impl<'p> Core<'p> {
 }
 
 /// Whoever steps a core by hand, whichever worker comes next, makes a run of the plain machine. Up to the last mutator's end, from any
-/// lawful core and for each plain state that it represents, the core then represents what the plain machine comes to from there, which
-/// executes the same instructions in the order in which their marks came. It is lawful again, with the state at the last flip then, so the
-/// same holds of what follows; what is seen of each mutator is what is seen of its plain one, each mark acts, and a heap that is said to be
-/// full is. If checkpoints can be begun, a core represents those plain states alone that have kept the same one.
+/// lawful core and for each plain state that it represents, and whose cells are as in the core's epoch, the core then represents what the plain
+/// machine comes to from there, which executes the same instructions in the order in which their marks came. It is lawful again, with the state
+/// at the last flip then, by which the cells are so again, and the same holds of what follows; what is seen of each mutator is what is seen of
+/// its plain one, each mark acts, and a heap that is said to be full is. If checkpoints can be begun, a core represents those plain states
+/// alone that have kept the same one.
 pub fn runs_are_plain_runs()
     ensures { RunsArePlainRuns }
 {}
@@ -42,7 +44,7 @@ pub fn runs_follow()
 
 /// In the order of a run, by which the core represents the plain machine, a load of a word of a record gets what the last store in that
 /// word before it wrote. An exchange finds that there, tells whether it is what it expects, and is such a store itself if so. What no step
-/// has stored in is the number 0.
+/// has stored in is the number 0. A load of a cell gets its value.
 pub fn runs_find_the_last_store()
     ensures loads { LoadsOfRunsGetTheLastStore }
     ensures exchanges { ExchangesOfRunsFindTheLastStore }
@@ -73,6 +75,12 @@ pub fn no_page_is_won_twice()
 /// and so many words are told as live.
 pub fn cycles_keep_what_is_live()
     ensures { CyclesKeepWhatIsLive }
+{}
+
+/// And exactly those cells of its space are empty whose targets weren't reachable at that flip, besides those that were empty then. Any other
+/// one denotes what it had at the flip, or refers to a record if it was made since.
+pub fn cycles_empty_lost_cells()
+    ensures { CyclesEmptyLostCells }
 {}
 
 /// In a run a space has as many pages in use as at first, or more, and no more than the limit. A flip leaves as many in use, or twice as

@@ -5,6 +5,10 @@ pub mod AnswerSteps
 pub mod LeadingBack
 pub mod Represented
 pub mod Emptied
+pub mod EmptyCells
+pub mod Followed
+pub mod KeptCells
+pub mod LostCells
 pub mod Actions
 pub mod Effects
 pub mod Registers

@@ -1,7 +1,8 @@
 -- The law of a step, from the laws of the kinds.
-use Rattle.std.proofs.Common.{◌≡◌, ◌≢◌, ℕ, ◌+◌, ◌<◌, ◌≤◌, length, set, get_or, Option, Some, None, refl, sym, ap, subst, ◌∙◌, arith, ⊎_elim, get_or-set_same, get_or-set_other, length-set}
+use Rattle.std.proofs.Common.{◌≡◌, ◌≢◌, ℕ, ◌+◌, ◌<◌, ◌≤◌, List, [], length, set, get_or, Option, Some, None, refl, sym, ap, subst, ◌∙◌, arith, ⊎_elim, get_or-set_same, get_or-set_other, length-set}
 use Rattle.std.proofs.lemmas.Bool.{cases_eq}
 use Rattle.std.proofs.lemmas.List.{map-set}
+use Rattle.plain_state.specs.declared.value.Identity.{Identity}
 use Rattle.plain_state.specs.State.{Plain}
 use Rattle.atom_store.specs.declared.reply.Reply.{Reply}
 use Rattle.atom_store.specs.declared.step.Step.{Step}
@@ -21,12 +22,16 @@ use Rattle.space_map.specs.Spaces.{Layout}
 use Rattle.space_map.specs.Table.{whole_length}
 use Rattle.heap_state.specs.Invariant.Ghost.{Ghost}
 use Rattle.heap_laws.specs.Lifting.{StandsWith, configuration_after, LeavesConfiguration, Flipped}
+use Rattle.heap_laws.specs.Tracing.{FollowsTargets}
 use Rattle.gc_worker.specs.declared.stage.after.After.{After}
 use Rattle.gc_worker.specs.declared.stage.Stage.{Stage}
 use Rattle.gc_worker.specs.declared.stage.Stage.TheVariants.{Looks, Passes, Flips, Forwards, Accesses, Places, Serves, Scans, Evacuates, Opens, Recalls, Guards, Checkpoints, BeginsCheckpoint, Gone}
-use Rattle.gc_worker.specs.Plain.Answer.{after_told}
+use Rattle.gc_worker.specs.Laws.Copied.{IsTraced}
+use Rattle.gc_worker.specs.Laws.Represented.{HasKept}
+use Rattle.gc_worker.specs.Plain.Answer.{after_told, with_emptied}
+use Rattle.gc_worker.specs.Plain.Empty.{empty_cells}
 use Rattle.gc_worker.specs.Workers.Fits.{Fits}
-use Rattle.gc_worker.specs.Steps.Goes.{Is, LeavesToPlain, StepsInTable, StepsSo, Wins, FlipIsOwn}
+use Rattle.gc_worker.specs.Steps.Goes.{Is, LeavesToPlain, Settles, StepsInTable, StepsSo, TracesEpoch, Wins, FlipIsOwn}
 use Rattle.gc_worker.specs.Workers.Held.{Held, at_stage, has_seen_flip}
 use Rattle.gc_worker.specs.Workers.Knows.{knows}
 use Rattle.gc_worker.specs.Laws.Step.{Heap, read, nobody, held_at, layout_of, StandIf, WorkersStand, moved, at_flip, epoch_of, age, WinsOne, FlipsOnce, FlipsWhereTold, StepKeeps, StepsKeep}
@@ -39,11 +44,14 @@ use Rattle.gc_worker.proofs.Stages.Gate.Words.{gate_says}
 use Rattle.gc_worker.proofs.Stages.Gate.Passing.{loads_gate}
 use Rattle.gc_worker.proofs.Stages.Flip.Resetting as resetting
 use Rattle.gc_worker.proofs.Stages.Flip.Flipping.{flips_gate}
+use Rattle.gc_worker.proofs.Plain.Emptied.{kept_if}
+use Rattle.gc_worker.proofs.Plain.Followed.{follows_empty}
+use Rattle.gc_worker.proofs.Plain.Represented.{kept_by}
 use Rattle.gc_worker.proofs.Saving.Keeping.{saving_kept}
 use Rattle.gc_worker.proofs.Workers.Members.{member}
 use Rattle.gc_worker.proofs.Stages.OpenedPage.{opens}
 use Rattle.gc_worker.proofs.Stages.Rounds.Whole.{serves}
-use Rattle.gc_worker.proofs.Stages.Rounds.Words.{page_age}
+use Rattle.gc_worker.proofs.Stages.Rounds.Words.{page_age, traced_word}
 use Rattle.gc_worker.proofs.Stages.Copies.Whole.{evacuates, forwards}
 use Rattle.gc_worker.proofs.Stages.Place.Stages.{places}
 use Rattle.gc_worker.proofs.Stages.Scan.Stages.{scans}
@@ -118,6 +126,14 @@ module _ (c : Configuration) (p : Plain) (s : Stands c p) (k : ℕ) (x : Held) w
 
 -- ---- the heap
 
+-- The step is the one after which the epoch is traced. The heap then stands for each plain state that follows the targets of cells, in the
+-- same cycle, if what that one has kept of checkpoints is the same.
+pub record TracesHeap (h : Heap) (p o : Plain) (k : ℕ) (x : Held) (q : Step) (st : WorkersStand h p o) : Type 0 where
+  pub settles : Settles (read h) p st.stands.ghost
+  pub before : ¬ (IsTraced h)
+  pub traced : IsTraced (moved h k x q)
+  pub stands : (p' : Plain) → FollowsTargets (era (read h)) (memory (read h)) st.stands.ghost p p' → HasKept h.checkpoints p p' → WorkersStand (moved h k x q) p' o
+
 module _ (h : Heap) (p o : Plain) (k : ℕ) (x : Held) (q : Step) (st : WorkersStand h p o) (l : k < length h.workers) (holds : held_at h k ≡ x) where
   abbrev r : Reply
   r = reply_of q h.words
@@ -146,6 +162,10 @@ module _ (h : Heap) (p o : Plain) (k : ℕ) (x : Held) (q : Step) (st : WorkersS
   still_whole : whole_length (layout_of h) ≤ length (words_after q h.words)
   still_whole = rw (length-words_after q h.words) st.whole
 
+  -- the plain state after it, by what it is to the plain machine
+  abbrev then : Told → Plain
+  then t = after_told (empty_cells (read (moved h k x q))) p k t
+
   -- what is kept of checkpoints stands, where they can be begun
   abbrev Saved : Plain → Type 0
   Saved p' = StandIf h.checkpoints (moved h k x q) p'
@@ -173,12 +193,26 @@ module _ (h : Heap) (p o : Plain) (k : ℕ) (x : Held) (q : Step) (st : WorkersS
         let ours : LeavesConfiguration (read h) steps.entry k (knows y) p' st.stands.ghost g = subst (λ (f : Option Entry). LeavesConfiguration (read h) f k (knows y) p' st.stands.ghost g) (sym same) leads in
         comes g p' o ours.standing (ours.cycle o st.cycle) saved
 
+    -- where the epoch is traced it stands for each plain state that follows the targets of cells
+    abbrev Follows : Plain → Type 0
+    Follows p' = FollowsTargets (era (read h)) (memory (read h)) st.stands.ghost p p'
+
+    traced : (e : Option Entry) → steps.entry ≡ e → (g : Ghost) → TracesEpoch (read h) p st.stands.ghost k e y g → (p' : Plain) → Follows p' → Saved p' → WorkersStand (moved h k x q) p' o
+    traced e same g traces p' follows saved = stays p' e same g (traces.leaves p' follows) saved
+
+    -- so does the one in which the cells are empty that the words then say are
+    empties : (e : Option Entry) → steps.entry ≡ e → (g : Ghost) → TracesEpoch (read h) p st.stands.ghost k e y g → Follows (then Empties)
+    empties e same g traces =
+        let as_before : empty_cells (read h) ≡ empty_cells (read (moved h k x q)) =
+        sym (sym (ap empty_cells after) ∙ (ap (λ (f : Option Entry). empty_cells (configuration_after (read h) f k (knows y))) same ∙ traces.empty)) in
+        subst (λ (cells : List Identity). Follows (with_emptied p cells)) as_before (follows_empty (read h) p st.stands)
+
     -- by what it is to the plain machine
     stands_by : (t : Told) (e : Option Entry) → steps.entry ≡ e → (g : Ghost) → LeavesToPlain (read h) p st.stands.ghost k e y g t
-        → Saved (after_told p k t) → WorkersStand (moved h k x q) (after_told p k t) (at_flip p o t)
+        → Saved (then t) → WorkersStand (moved h k x q) (then t) (at_flip p o t)
     stands_by Silent e same g leads saved = stays p e same g leads saved
-    stands_by Empties e same g leads saved = stays p e same g leads saved
-    stands_by (Answers task outcome) e same g leads saved = stays (after_told p k (Answers task outcome)) e same g leads saved
+    stands_by Empties e same g leads saved = traced e same g leads (then Empties) (empties e same g leads) saved
+    stands_by (Answers task outcome) e same g leads saved = stays (then (Answers task outcome)) e same g leads saved
     stands_by (Marks asked) (Some (GateIs gate)) same g leads saved =
         let ours : Flipped (read h) gate k (knows y) p g = leads in
         let cfg = ap (λ (f : Option Entry). configuration_after (read h) f k (knows y)) (sym same) in
@@ -191,14 +225,14 @@ module _ (h : Heap) (p o : Plain) (k : ℕ) (x : Held) (q : Step) (st : WorkersS
     ages_by Silent e same g leads page =
         (subst (λ (f : Option Entry). LeavesConfiguration (read h) f k (knows y) p st.stands.ghost g) (sym same) leads).ages page
     ages_by Empties e same g leads page =
-        (subst (λ (f : Option Entry). LeavesConfiguration (read h) f k (knows y) p st.stands.ghost g) (sym same) leads).ages page
+        (subst (λ (f : Option Entry). LeavesConfiguration (read h) f k (knows y) (then Empties) st.stands.ghost g) (sym same) (leads.leaves (then Empties) (empties e same g leads))).ages page
     ages_by (Marks asked) (Some (GateIs gate)) same g leads page =
         let ours : Flipped (read h) gate k (knows y) p g = leads in
         let kept : (table later).page ≡ (table (read h)).page = ap (λ (f : Option Entry). (table (configuration_after (read h) f k (knows y))).page) same ∙ ours.pages in
         rw kept (omega arith)
     ages_by (Marks asked) _ same g leads page = absurd leads
     ages_by (Answers task outcome) e same g leads page =
-        (subst (λ (f : Option Entry). LeavesConfiguration (read h) f k (knows y) (after_told p k (Answers task outcome)) st.stands.ghost g) (sym same) leads).ages page
+        (subst (λ (f : Option Entry). LeavesConfiguration (read h) f k (knows y) (then (Answers task outcome)) st.stands.ghost g) (sym same) leads).ages page
 
     aged : (page : ℕ) → age_of ((table later).page page) ≡ age h.pages (words_after q h.words) page
     aged page = ap (λ (d : Configuration). age_of ((table d).page page)) after ∙ page_age (read (moved h k x q)) page
@@ -237,11 +271,11 @@ module _ (h : Heap) (p o : Plain) (k : ℕ) (x : Held) (q : Step) (st : WorkersS
         }
     next_epoch asked p' o' own w _ same g leads = absurd leads
 
-    flips_by : (t : Told) → FlipIsOwn (read h) x t → WorkersStand (moved h k x q) (after_told p k t) (at_flip p o t) → LeavesToPlain (read h) p st.stands.ghost k steps.entry y steps.goes.ghost_after t
+    flips_by : (t : Told) → FlipIsOwn (read h) x t → WorkersStand (moved h k x q) (then t) (at_flip p o t) → LeavesToPlain (read h) p st.stands.ghost k steps.entry y steps.goes.ghost_after t
         → FlipsWhereTold h.pages h.words (words_after q h.words) x t
     flips_by Silent own w leads = same_epoch p o w steps.entry refl steps.goes.ghost_after leads
-    flips_by Empties own w leads = same_epoch p o w steps.entry refl steps.goes.ghost_after leads
-    flips_by (Answers task outcome) own w leads = same_epoch (after_told p k (Answers task outcome)) o w steps.entry refl steps.goes.ghost_after leads
+    flips_by Empties own w leads = same_epoch (then Empties) o w steps.entry refl steps.goes.ghost_after (leads.leaves (then Empties) (empties steps.entry refl steps.goes.ghost_after leads))
+    flips_by (Answers task outcome) own w leads = same_epoch (then (Answers task outcome)) o w steps.entry refl steps.goes.ghost_after leads
     flips_by (Marks asked) own w leads = next_epoch asked p p own w steps.entry refl steps.goes.ghost_after leads
 
     wins_by : (w : Option PageWon) → Wins (read h) steps.entry k y w → WinsOne h.pages h.words (words_after q h.words) w
@@ -251,10 +285,10 @@ module _ (h : Heap) (p o : Plain) (k : ℕ) (x : Held) (q : Step) (st : WorkersS
         let d = aged w.page in
         ((λ out. omega (arith, out.epoch, wins.before, b)), record { page = wins.page; epoch = omega (arith, wins.after, d) })
 
-    standing : Saved (after_told p k (told x r)) → WorkersStand (moved h k x q) (after_told p k (told x r)) (at_flip p o (told x r))
+    standing : Saved (then (told x r)) → WorkersStand (moved h k x q) (then (told x r)) (at_flip p o (told x r))
     standing = stands_by (told x r) steps.entry refl steps.goes.ghost_after steps.goes.leads
 
-    keeps : Saved (after_told p k (told x r)) → StepKeeps h p o k x q
+    keeps : Saved (then (told x r)) → StepKeeps h p o k x q
     keeps saved = record {
       place = steps.place;
       takes = steps.goes.takes;
@@ -267,6 +301,35 @@ module _ (h : Heap) (p o : Plain) (k : ℕ) (x : Held) (q : Step) (st : WorkersS
       flips = flips_by (told x r) steps.goes.flip (standing saved) steps.goes.leads;
     }
 
+    -- ---- where the epoch is traced
+
+    pub traces : TracesEpoch (read h) p st.stands.ghost k steps.entry y steps.goes.ghost_after → Saved p → TracesHeap h p o k x q st
+    traces leads saved = record {
+      settles = leads.settles;
+      before = λ is. let epoch = epoch_is in let word = traced_word (read h) in let untraced = leads.before in omega (arith, is, epoch, word, untraced);
+      traced =
+          let stands = traced steps.entry refl steps.goes.ghost_after leads (then Empties) (empties steps.entry refl steps.goes.ghost_after leads)
+          (kept_by (moved h k x q) p (then Empties) h.checkpoints saved (kept_if p (empty_cells (read (moved h k x q))) h.checkpoints)) in
+          let leaves = leads.leaves (then Empties) (empties steps.entry refl steps.goes.ghost_after leads) in
+          let epoch = same_epoch (then Empties) o stands steps.entry refl steps.goes.ghost_after leaves in
+          let word = traced_word (read (moved h k x q)) in
+          let same = ap (λ (d : Configuration). (table d).traced) after in
+          let is = leads.traced in
+          let now = epoch_is in
+          omega (arith, epoch, word, same, is, now);
+      stands = λ p' follows kept. traced steps.entry refl steps.goes.ghost_after leads p' follows (kept_by (moved h k x q) p p' h.checkpoints saved kept);
+    }
+
+module _ (h : Heap) (p o : Plain) (k : ℕ) (x : Held) (q : Step) (st : WorkersStand h p o) (l : k < length h.workers) (holds : held_at h k ≡ x) (asked : wanted x ≡ Some q) where
+  goes : StepsInTable (read h) p st.stands k x q
+  goes = kinds (read h) p st.stands k x (member h p o k x st l holds) q asked
+
+  -- a step that tells so
+  pub traces_heap : told x (reply_of q h.words) ≡ Empties → TracesHeap h p o k x q st
+  traces_heap tells = traces h p o k x q st l holds goes
+      (subst (LeavesToPlain (read h) p st.stands.ghost k goes.entry (turned x (reply_of q h.words)) goes.goes.ghost_after) tells goes.goes.leads)
+      (subst (λ (t : Told). StandIf h.checkpoints (moved h k x q) (after_told [] p k t)) tells (saving_kept [] h p o k x q st l holds asked))
+
 pub steps_keep : StepsKeep
 steps_keep h p o k x q st l holds asked =
-    keeps h p o k x q st l holds (kinds (read h) p st.stands k x (member h p o k x st l holds) q asked) (saving_kept h p o k x q st l holds asked)
+    keeps h p o k x q st l holds (goes h p o k x q st l holds asked) (saving_kept (empty_cells (read (moved h k x q))) h p o k x q st l holds asked)

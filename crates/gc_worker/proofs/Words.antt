@@ -8,3 +8,4 @@ pub mod TableRows
 pub mod Rows
 pub mod Read
 pub mod Said
+pub mod TracedWord

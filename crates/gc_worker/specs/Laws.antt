@@ -7,5 +7,6 @@ pub mod PastEpochs
 pub mod Cycles
 pub mod Represented
 pub mod Stories
+pub mod Lost
 pub mod FullTold
 pub mod Checkpoints

@@ -3,3 +3,4 @@ pub mod Answer
 pub mod Full
 pub mod Stories
 pub mod Marks
+pub mod Empty

@@ -39,7 +39,7 @@ use Rattle.gc_worker.specs.Laws.Step.{Heap, WorkersStand, held_at}
 use Rattle.gc_worker.specs.Steps.Turned.{Answers, told, turned}
 use Rattle.gc_worker.specs.Steps.Wanted.{wanted}
 use Rattle.gc_worker.specs.declared.calls.did.Did.TheVariants.{Done}
-use Rattle.gc_worker.specs.declared.stage.back.Back.TheVariants.{ToSnap, ToScanner}
+use Rattle.gc_worker.specs.declared.stage.back.Back.TheVariants.{ToTarget, ToSnap, ToScanner}
 use Rattle.gc_worker.specs.declared.stage.Stage.{Stage}
 use Rattle.gc_worker.specs.declared.stage.Stage.TheVariants.{Looks, Passes, Flips, Forwards, Accesses, Places, Serves, Scans, Evacuates, Opens, Recalls, Guards, Checkpoints, BeginsCheckpoint, Gone}
 use Rattle.gc_worker.specs.declared.task.Task.{Task}
@@ -104,9 +104,10 @@ pub record ReadsAnothers (h : Heap) (k : ℕ) (q : Step) : Type 0 where
   pub busy : decode (word_in h.pages h.words (HeapWord at)) ≡ BusyWord len worker
   pub other : worker ≢ k
 
--- A round of a mutator has come to its end, and the next one begins: one of the duty, until the epoch is traced, before a checkpoint is
--- begun; or one for a checkpoint that is in progress.
+-- A round of a mutator has come to its end, and the next one begins: one of the duty, until the epoch is traced, before the target of a cell
+-- is loaded or a checkpoint is begun; or one for a checkpoint that is in progress.
 abbrev pub IsRoundOver : Stage → Reply → Type 0
+IsRoundOver (Serves d (ToTarget a)) reply = (result : RoundEnd) × (duty.told (duty.taken d reply) ≡ Finished result)
 IsRoundOver (Serves d ToSnap) reply = (result : RoundEnd) × (duty.told (duty.taken d reply) ≡ Finished result)
 IsRoundOver (Checkpoints r goal) reply = (result : SaveRoundEnd) × (save_round.told (save_round.taken r reply) ≡ Finished result)
 IsRoundOver stage reply = ⊥

@@ -7,3 +7,4 @@ pub mod Wanted
 pub mod Goes
 pub mod Stepped
 pub mod Made
+pub mod AtRest

@@ -12,7 +12,7 @@ ghost use Rattle.atom_store.specs.Step.{place_in};
 ghost use Rattle.heap_words.specs.Decoded.{decode};
 ghost use Rattle.space_map.specs.Spaces.{page_of};
 ghost use Rattle.space_map.specs.Table.{table_length};
-ghost use Rattle.gc_worker.specs.Steps.Access.{FitsRecordUse, IsHeapAddress, IsSoundAccess, AccessTakes, advances_at, at_stage, compared, field_at, goes_by, left, looked, read_header, role_of, taken, told, turn_by, uses_field, wanted, writes_on};
+ghost use Rattle.gc_worker.specs.Steps.Access.{FitsRecordUse, IsHeapAddress, IsSoundAccess, AccessTakes, advances_at, at_stage, compared, field_at, goes_by, is_at_target, left, looked, read_header, role_of, taken, told, turn_by, uses_field, wanted, writes_on};
 ghost use Rattle.heap_laws.specs.Fields.Effects.{FitsRole};
 
 use crate::access::access_stage::AccessStage;
@@ -74,6 +74,16 @@ impl Access {
             AccessStage::SwapsBoard(s, old) => {
                 Step::Exchange(spaces.word_place(on_board(spaces, s.word)), old, s.new)
             }
+        }
+    }
+
+    /// Whether it loads the target of a cell.
+    pub fn is_at_target(&self) -> bool
+        ensures { result ≡ is_at_target self.now.stage }
+    {
+        match self.stage {
+            AccessStage::LooksAtField(f, _) | AccessStage::LoadsField(f, _) => f.role.is_target(),
+            _ => false,
         }
     }
 

@@ -6,7 +6,8 @@ ghost use Rattle.gc_worker.specs.History.Loads.{ExchangesFindTheLastStore, Loads
 /// The calls of a record form one history: in a legal history, a load of a word of a record that had its effect got what the last
 /// store in that word before it wrote, of whatever mutator, or what stood there before the history. An exchange that had its effect
 /// found that there, told whether it was what it expected, and is such a store itself if so. In a new heap what stood there before
-/// the history is the number 0. And so it is of each word at any time, whether loaded or not.
+/// the history is the number 0. And so it is of each word at any time, whether loaded or not, but of a cell's: a load of one gets its
+/// value, and nothing is stored in it.
 pub fn loads_get_the_last_store()
     ensures loads { LoadsGetTheLastStore }
     ensures exchanges { ExchangesFindTheLastStore }

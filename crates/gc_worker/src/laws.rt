@@ -3,7 +3,7 @@
 ghost use Rattle.gc_worker.specs.Laws.Step.{SnapsAreWon, StepsKeep, CheckpointsAreKept, ClearsAreWon, FlipsAreWon, PlacesFit, RegistersLeadBack};
 ghost use Rattle.gc_worker.specs.Laws.Checkpoints.{CheckpointsAreSafe};
 ghost use Rattle.gc_worker.specs.Steps.HeldUp.{AccessesGoOn, LostSwapsLoadAgain, LostExchangesCompareAgain};
-ghost use Rattle.gc_worker.specs.Steps.AccessRows.{LostSwapIsTriedAgain, CountIsNoValue, CountsPageIsLookedAt, NextPageIsLookedAt, NoPointerIsStoredBehindFields, SamePageIsNotLookedAt, ClosedPageIsAFault, NoSuchValueFails, LostExchangeIsComparedAgain};
+ghost use Rattle.gc_worker.specs.Steps.AccessRows.{LostSwapIsTriedAgain, CountIsNoValue, CountsPageIsLookedAt, NextPageIsLookedAt, NoPointerIsStoredBehindFields, SamePageIsNotLookedAt, ClosedPageIsAFault, NoSuchValueFails, LostExchangeIsComparedAgain, TargetIsAwaited, CellIsNotStoredIn, LinkIsNoValue};
 ghost use Rattle.gc_worker.specs.Laws.Between.{HeapsOpen, ReadyingStands, TasksMayBegin, WorkersGoOn, WorkersWant, WhatStandsIsSo, AnswersLeaveTheOthers};
 ghost use Rattle.gc_worker.specs.Laws.Gone.{ScannersBeginLast, ScannersStayLast, WhoIsGoneSawWhy};
 ghost use Rattle.gc_worker.specs.Progress.{MachinesGoOn};
@@ -15,20 +15,28 @@ ghost use Rattle.gc_worker.specs.Laws.FullTold.{FullIsTold, SizesReadAreSo, Full
 ghost use Rattle.gc_worker.specs.Laws.PastEpochs.{PastClaimsAreLost, PastTurnsAreLost, PastMarksAreLost, PagesAreWonNow};
 ghost use Rattle.gc_worker.specs.Workers.Counted.{CountedFit, CountsAreApart};
 ghost use Rattle.gc_worker.specs.Laws.Represented.{RepresentedWorkersStand};
-ghost use Rattle.gc_worker.specs.Laws.Stories.{EmptiedWorkersStand, StoriesKeep};
+ghost use Rattle.gc_worker.specs.Laws.Stories.{StoriesKeep, StoriesOpen};
+ghost use Rattle.gc_worker.specs.Laws.Lost.{LostCellsAreEmpty};
 
-/// A step of a worker is of a word of the table, and the worker may take the reply. What stood for a plain state before stands for it
-/// after, with what a cycle keeps; no page that was won in an epoch is won again in it.
+/// A step of a worker is of a word of the table, and the worker may take the reply. What stood for a plain state before stands after
+/// it for the state that the answer leaves; if it tells that the epoch is traced, for that in which those cells are empty whose targets are
+/// the number 0; else for the same. What a cycle keeps it keeps; no page that was won in an epoch is won again in it.
 pub fn steps_keep()
     ensures { StepsKeep }
 {}
 
-/// What stood for a plain state before a step, and for that at the last flip, stands after it for what the story then has: if the step
-/// told that the epoch is traced, for the state in which the cells lost their targets that weren't reachable at the flip. For a heap
-/// stands for a state whichever of its cells are emptied.
+/// What stood for a story stands after a step for what the story then has: if the step told that the epoch is traced, for the state in
+/// which the cells lost their targets that weren't reachable at the flip. A new heap stands for a story.
 pub fn stories_keep()
-    ensures stories { StoriesKeep }
-    ensures emptied { EmptiedWorkersStand }
+    ensures keep { StoriesKeep }
+    ensures begin { StoriesOpen }
+{}
+
+/// Once an epoch is traced, exactly those cells of its space are empty whose targets weren't reachable at its flip, besides those that
+/// were empty then. Any other one denotes what it had at the flip; one that was made since refers to a record. Each denotes what the plain
+/// cell has.
+pub fn lost_cells_are_empty()
+    ensures { LostCellsAreEmpty }
 {}
 
 /// A flipper's exchange of the gate is never lost.
@@ -114,6 +122,9 @@ pub fn accesses_are_worked_out()
     ensures no_pointer_is_stored_behind_fields { NoPointerIsStoredBehindFields }
     ensures same_page_is_not_looked_at { SamePageIsNotLookedAt }
     ensures closed_page_is_a_fault { ClosedPageIsAFault }
+    ensures target_is_awaited { TargetIsAwaited }
+    ensures cell_is_not_stored_in { CellIsNotStoredIn }
+    ensures link_is_no_value { LinkIsNoValue }
     ensures no_such_value_fails { NoSuchValueFails }
 {}
 
@@ -176,8 +187,8 @@ pub fn pages_are_opened_by_claims()
     ensures copied { CopiedPagesAreBelowLow }
 {}
 
-/// The exchange of a round that slept past a flip is lost, as the round's epoch is past: that of the word of the page that it claims, and
-/// that of TRACED. No word changes, and the round ends with nothing done. So a page is won in the gate's epoch alone.
+/// The exchange of a round that slept past a flip is lost, as the round's epoch is past: that of the word of the page that it claims, that
+/// of WEAKTURN, and that of TRACED. No word changes, and the round ends with nothing done. So a page is won in the gate's epoch alone.
 pub fn exchanges_of_past_epochs_are_lost()
     ensures pages { PastClaimsAreLost }
     ensures turn { PastTurnsAreLost }

@@ -2,7 +2,7 @@
 
 pub mod seen_value;
 
-ghost use Rattle.std.specs.Prelude.{◌≡◌, ◌^◌, ◌<◌, IfOk, if◌then◌else◌};
+ghost use Rattle.std.specs.Prelude.{◌≡◌, ◌^◌, ◌<◌, IfOk, if◌then◌else◌, slice_index};
 ghost use Rattle.plain_state.specs.declared.value.Value.TheVariants.{Number};
 ghost use Rattle.plain_state.specs.Operation.{one_if};
 ghost use Rattle.plain_heap.specs.Action.{are_same, board_place, is_reference, is_zero, next_of, as_number, operand, reference_in, register};
@@ -15,6 +15,17 @@ use mutator_asm::Operand;
 use plain_state::{BOARD_WORDS, End, Identity, LONGEST_RECORD, NUMBERS, Value};
 
 impl State {
+    /// The word in a register.
+    #[tactic(auto, using(crate::proofs::Words::Read::register_word, crate::proofs::Words::Read::no_register_word))]
+    pub fn word(&self, r: u8) -> u64
+        ensures { result ≡ slice_index self.now.registers r }
+    {
+        match self.registers.get(r as usize) {
+            Some(word) => *word,
+            None => 0,
+        }
+    }
+
     /// What a register holds.
     #[tactic(auto, using(crate::proofs::Words::Read::register_seen, crate::proofs::Words::Read::no_register_seen))]
     pub fn value(&self, r: u8) -> Value

@@ -1,16 +1,18 @@
-ghost use Rattle.std.specs.Prelude.{◌≡◌, ◌≤◌, ◌<◌, Some, IfOk, IfSome, IsSome};
+ghost use Rattle.std.specs.Prelude.{◌≡◌, ◌≤◌, ◌<◌, Some, IfOk, IfSome, IsSome, is_some};
 ghost use Rattle.atom_store.specs.Step.{place_in};
 ghost use Rattle.space_map.specs.declared.spaces.TheConstants.{LAST_WORKER, MOST_MUTATORS};
 ghost use Rattle.space_map.specs.Table.{whole_length};
 ghost use Rattle.gc_worker.specs.declared.task.Task.TheVariants.{Calls, Stops};
 ghost use Rattle.gc_worker.specs.Laws.Between.{IsIdle, fresh_mutator, fresh_scanner, with_task};
 ghost use Rattle.gc_worker.specs.Workers.Fits.{MayBegin, MayStop, Takes};
+ghost use Rattle.gc_worker.specs.Steps.AtRest.{is_at_rest};
 ghost use Rattle.gc_worker.specs.Steps.Made.{MayMake, step_made};
 ghost use Rattle.gc_worker.specs.Steps.Stepped.{IsSound, awaits, header_kept, place_kept, stepped_by, uncounted};
 ghost use Rattle.gc_worker.specs.Steps.Turned.{told, turned};
 ghost use Rattle.gc_worker.specs.Steps.Wanted.{wanted};
 
 use crate::stage::Stage;
+use crate::stage::back::Back;
 use crate::state::State;
 use crate::steps::stepped::Stepped;
 use crate::task::due::Due;
@@ -119,6 +121,32 @@ impl Worker {
             Stage::Looks => self.state.due == Due::Nothing,
             _ => false,
         }
+    }
+
+    /// Whether nobody waits for it but at the gate: a mutator looks there and has no task, a scanner begins a round, or it is gone.
+    pub fn is_at_rest(&self) -> bool
+        ensures { result ≡ is_at_rest self.now }
+    {
+        match &self.state.stage {
+            Stage::Looks => self.state.due == Due::Nothing,
+            Stage::Serves(duty, Back::ToScanner) => duty.is_first(),
+            Stage::Gone => true,
+            _ => false,
+        }
+    }
+
+    /// Whether it has a task that it has not answered.
+    pub fn is_calling(&self) -> bool
+        ensures { result ≡ is_some self.now.task }
+    {
+        self.state.due != Due::Nothing
+    }
+
+    /// Its number among the workers: the mutators come first.
+    pub fn number(&self) -> u8
+        ensures { result ≡ self.now.number }
+    {
+        self.state.number
     }
 
     /// An instruction, which the next look at the gate begins.

@@ -3,7 +3,7 @@ use Rattle.std.proofs.Common.{◌≡◌, ◌≢◌, ℕ, ◌+◌, ◌<◌, ◌�
 use Rattle.std.specs.Prelude.{IsTrue, ◌↔◌}
 use Rattle.std.specs.List.{Contains}
 use Rattle.std.proofs.lemmas.Bool.{cases_eq}
-use Rattle.std.proofs.lemmas.List.{get_or-set_other, get_or-set_same, get_or_past, map-append, take_all, take_more}
+use Rattle.std.proofs.lemmas.List.{get_or-set_other, get_or-set_same, get_or_past, take_all}
 use Rattle.std.proofs.lemmas.List.Elements.{Contains-append_left, Contains-push, Contains-push_cases}
 use Rattle.heap_words.specs.Decoded.{Decoded, NumberWord, PointerWord, HeaderWord, BusyWord, ForwardWord, Malformed, decode, pointer_in}
 use Rattle.heap_state.specs.Meaning.Dump.{Dump}
@@ -11,6 +11,7 @@ use Rattle.heap_state.specs.Meaning.Represents.{IsInHeap, LeadsToRecord}
 use Rattle.heap_state.specs.Memory.Walk.{Walked}
 use Rattle.heap_audit.specs.Walks.{walked}
 use Rattle.heap_audit.specs.declared.walks.RecordAt.{RecordAt}
+use Rattle.heap_audit.proofs.RecordsSoFar.{walked_more}
 
 abbrev item : ℕ → ℕ → Walked
 item a size = record { at = a; size = size }
@@ -25,7 +26,7 @@ Notes begins rs = (a : ℕ) → (get_or begins a false ≡ true) ↔ BeginsAmong
 
 module _ (begins : List Bool) (rs : List RecordAt) (i : ℕ) (z r : RecordAt) (inside : i < length rs) (is : get_or rs i z ≡ r) (fits : r.at < length begins) (notes : Notes begins (take i rs)) where
   one_more : map walked (take (i + 1) rs) ≡ map walked (take i rs) ++ walked r ∷ []
-  one_more = ap (map walked) (take_more rs i z inside ∙ ap (λ (x : RecordAt). take i rs ++ x ∷ []) is) ∙ map-append walked (take i rs) (r ∷ [])
+  one_more = walked_more rs i z r inside is
 
   noted : (a : ℕ) → get_or (set begins r.at true) a false ≡ true → BeginsAmong (take (i + 1) rs) a
   noted a e = ⊎_elim

@@ -3,7 +3,7 @@ use Rattle.std.proofs.Common.{◌≡◌, ℕ, zero, suc, ◌+◌, ◌-◌, ◌*�
 use Rattle.std.specs.Prelude.{IfSome, IsSomeAnd, MatchOption, option_map, nat_lt, IsTrue, ◌↔◌}
 use Rattle.std.specs.List.{Contains}
 use Rattle.std.proofs.lemmas.Bool.{cases_eq, cases_lt, le-leb, lt-leb, lt-ltb, le-ltb}
-use Rattle.std.proofs.lemmas.List.{append-nil, get_or-append_right, get_or-map, get_or_append_left, length-append, length-map, map-append, take_all, take_more}
+use Rattle.std.proofs.lemmas.List.{append-nil, get_or-append_right, get_or-map, get_or_append_left, length-append, length-map, take_all}
 use Rattle.std.proofs.lemmas.List.Elements.{Contains-append_left, Contains-get_or, Contains-push, Contains-push_cases}
 use Rattle.plain_state.specs.declared.value.Identity.{Identity}
 use Rattle.plain_state.specs.State as plain
@@ -28,6 +28,7 @@ use Rattle.heap_audit.specs.declared.walks.Walks.{Walks}
 use Rattle.heap_audit.proofs.Breaks.{unbroken_end}
 use Rattle.heap_audit.proofs.FirstPlaces.{all_places, found_first, shift_first, word_unseen}
 use Rattle.heap_audit.proofs.Leasts.{first_least, first_same}
+use Rattle.heap_audit.proofs.RecordsSoFar.{walked_more}
 use Rattle.heap_audit.proofs.SpaceWalks.{both_found, in_one_walk, lies_in_heap, now_found, starts}
 
 -- ---- one record more
@@ -52,7 +53,7 @@ module _ (d : Dump) (p : plain.Plain) where
     Here a = (k : ℕ) → r.at + k ≡ a → WordOfRecordShows d p (walked r) k
 
     one_more : after ≡ before ++ walked r ∷ []
-    one_more = ap (map walked) (take_more rs i z inside ∙ ap (λ (x : RecordAt). take i rs ++ x ∷ []) is) ∙ map-append walked (take i rs) (r ∷ [])
+    one_more = walked_more rs i z r inside is
 
     to_all : (a : ℕ) → SeenBy before a × Here a → SeenBy after a
     to_all a both = (

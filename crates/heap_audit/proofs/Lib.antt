@@ -18,8 +18,11 @@ pub mod ToldWords
 pub mod OwnHeaders
 pub mod SpaceWalks
 pub mod RecordWords
+pub mod RecordsSoFar
 pub mod Begins
 pub mod OwnedFirst
+pub mod CopiedNames
+pub mod EmptiedCells
 pub mod PlainShows
 pub mod FirstPlaces
 pub mod Verdicts

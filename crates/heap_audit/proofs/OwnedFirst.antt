@@ -1,7 +1,7 @@
 -- By identity the first address of a record with a header of its own, with one record more.
 use Rattle.std.proofs.Common.{◌≡◌, ℕ, ◌+◌, ◌^◌, ◌<◌, ◌≤◌, List, [], ◌∷◌, ◌++◌, Option, Some, get_or, length, map, take, refl, sym, ap, ◌∙◌, subst, arith, ⊎_elim}
 use Rattle.std.specs.List.{Contains}
-use Rattle.std.proofs.lemmas.List.{map-append, take_all, take_more}
+use Rattle.std.proofs.lemmas.List.{take_all}
 use Rattle.std.proofs.lemmas.List.Elements.{Contains-append_left, Contains-push, Contains-push_cases}
 use Rattle.plain_state.specs.declared.value.Identity.{Identity}
 use Rattle.heap_state.specs.Meaning.Denotes.{named_by}
@@ -13,6 +13,7 @@ use Rattle.heap_audit.specs.Records.{NoneOwned, key_of}
 use Rattle.heap_audit.specs.Walks.{walked}
 use Rattle.heap_audit.specs.declared.walks.RecordAt.{RecordAt}
 use Rattle.heap_audit.proofs.Leasts.{first_least, first_same}
+use Rattle.heap_audit.proofs.RecordsSoFar.{walked_more}
 
 -- identities with the same number are the same
 pub same_identity : (i j : Identity) → i.serial < 2 ^ 40 → j.serial < 2 ^ 40 → key_of i ≡ key_of j → i ≡ j
@@ -33,7 +34,7 @@ module _ (d : Dump) (rs : List RecordAt) (i : ℕ) (z r : RecordAt) (inside : i 
   NotIt a = r.at ≡ a → named_by (own_header d r.at) ≡ Some j → ⊥
 
   one_more : after ≡ before ++ walked r ∷ []
-  one_more = ap (map walked) (take_more rs i z inside ∙ ap (λ (x : RecordAt). take i rs ++ x ∷ []) is) ∙ map-append walked (take i rs) (r ∷ [])
+  one_more = walked_more rs i z r inside is
 
   to_all : (a : ℕ) → NoneOwned d before j a × NotIt a → NoneOwned d after j a
   to_all a both w has at named = ⊎_elim

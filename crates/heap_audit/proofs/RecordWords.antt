@@ -1,5 +1,5 @@
 -- What a record shows by its first word and by the others, by what the code tests.
-use Rattle.std.proofs.Common.{◌≡◌, ℕ, zero, suc, ◌+◌, ◌-◌, ◌<◌, ◌≤◌, true, List, [], ◌∷◌, Option, Some, None, length, refl, sym, ap, ◌∙◌, subst, arith, ⊎_elim}
+use Rattle.std.proofs.Common.{◌≡◌, ℕ, zero, suc, ◌+◌, ◌-◌, ◌<◌, ◌≤◌, true, List, [], ◌∷◌, Option, Some, None, length, refl, sym, ap, ◌∙◌, subst, arith, ⊎_elim, ◌⊎◌, ◌≢◌, inl, inr}
 use Rattle.std.specs.Prelude.{nat_eq, option_map, slice_get}
 use Rattle.std.specs.HashMap.{get}
 use Rattle.std.specs.List.{Contains}
@@ -12,6 +12,7 @@ use Rattle.plain_state.specs.declared.kind.Kind.{Kind}
 use Rattle.plain_state.specs.declared.kind.Kind.TheVariants.{Fields, Raw, Mixed, Weak}
 use Rattle.plain_state.specs.declared.value.Identity.{Identity}
 use Rattle.plain_state.specs.declared.value.Value.{Value}
+use Rattle.plain_state.specs.Cells.{value_of_cell}
 use Rattle.plain_state.specs.Layout.{is_field, is_raw, size_of, values_at, words_behind, word_of_value}
 use Rattle.plain_state.specs.State as plain
 use Rattle.record_layout.specs.declared.header.Header.{Header}
@@ -19,13 +20,13 @@ use Rattle.record_layout.specs.Layout.{header_in}
 use Rattle.heap_state.specs.Invariant.Ghost.{header_kind, said_kind, count_said}
 use Rattle.heap_state.specs.Meaning.Denotes.{named_by}
 use Rattle.heap_state.specs.Meaning.Dump.{Dump}
-use Rattle.heap_state.specs.Meaning.Represents.{HeadShows, IsInHeap, IsOwn, Names, WordShows, own_header}
+use Rattle.heap_state.specs.Meaning.Represents.{HeadShows, IsEmptied, IsInHeap, IsOwn, IsTarget, LeadsToRecord, Names, WordShows, denoted_in_dump, own_header}
 use Rattle.heap_state.specs.Meaning.Values.{CountShows}
 use Rattle.heap_state.specs.Memory.Walk.{Walked, walk_in}
 use Rattle.heap_state.proofs.Puts.{some_same}
 use Rattle.heap_state.proofs.Records.Layouts.{field_is_value, values_behind_header}
 use Rattle.heap_audit.specs.Firsts.{TellsFirst}
-use Rattle.heap_audit.specs.Records.{IsCount, OwnersOfHeap, ValueShows, WordOfRecordShows, key_of}
+use Rattle.heap_audit.specs.Records.{IsCount, OwnersOfHeap, TargetShows, ValueShows, WordOfRecordShows, key_of}
 use Rattle.heap_audit.specs.declared.owners.Owners.{Owners}
 use Rattle.heap_audit.proofs.OwnHeaders.{identity_by, named_own}
 
@@ -72,6 +73,8 @@ module _ (d : Dump) (p : plain.Plain) (w : Walked) (none : None ≡ header_in (o
       field = λ k r x names. absurd (not_own names.own);
       number = λ k r x names. absurd (not_own names.own);
       leads = λ k l s m o. absurd (not_own o);
+      target = λ k r v names. absurd (not_own names.own);
+      target_leads = λ k l s m o. absurd (not_own o);
     };
   }
 
@@ -170,6 +173,21 @@ module _ (d : Dump) (p : plain.Plain) (w : Walked) (h : Header) (there : IsInHea
         (λ (l : w.at ≤ f). l)
         (cases_lt f w.at)
 
+-- ---- cells
+
+absurd_value : {v : Value} → None ≡ Some v → ⊥
+absurd_value e = cc
+
+-- a record is a cell, or it has no cell's value
+cell_or_not : (r : plain.Record) → (r.kind ≡ Weak) ⊎ ((value_of_cell r ≡ None) × (r.kind ≢ Weak))
+cell_or_not r = by_kind r.kind refl
+  where
+    by_kind : (k : Kind) → r.kind ≡ k → (r.kind ≡ Weak) ⊎ ((value_of_cell r ≡ None) × (r.kind ≢ Weak))
+    by_kind Fields e = inr (rw e refl, λ weak. let z : Fields ≡ Weak = sym e ∙ weak in cc)
+    by_kind Raw e = inr (rw e refl, λ weak. let z : Raw ≡ Weak = sym e ∙ weak in cc)
+    by_kind (Mixed c) e = inr (rw e refl, λ weak. let z : Mixed c ≡ Weak = sym e ∙ weak in cc)
+    by_kind Weak e = inl e
+
 -- ---- the words behind it
 
 -- behind the values of a record that has a field there is no word
@@ -258,57 +276,84 @@ module _ (d : Dump) (p : plain.Plain) (w : Walked) (h : Header) (there : IsInHea
     abbrev Shown : ℕ → Type 0
     Shown x = ValueShows d r x (heap (w.at + word_of_value r.kind x))
 
-    -- the words up to a value show what they should where the values do
-    words_show : (limit : ℕ) → ((x : ℕ) → x < limit → Shown x) → (i : ℕ) → i < limit + values_at r.kind → WordOfRecordShows d p w i
-    words_show limit shown zero below = first_shows
-    words_show limit shown (suc j) below = record { head = λ e. head; word = λ first last. word first last }
+    -- ---- the target
+
+    -- it is a cell, and its word 1 is the target
+    cell_here : r.kind ≡ Weak → IsTarget (kind d p w h there owned) 1
+    cell_here weak = (sym said ∙ weak, refl)
+
+    pub target_wrong : (TargetShows d r w → ⊥) → TellsFirst (WordOfRecordShows d p w) (Some 1)
+    target_wrong none = (λ shows. by_kind shows (cell_or_not r), λ a l. let z : a ≡ 0 = omega arith in subst (WordOfRecordShows d p w) (sym z) first_shows)
       where
-        value : (x : ℕ) → suc j ≡ word_of_value r.kind x → ValueShows d r x (heap (w.at + suc j))
-        value x e = subst (λ (z : ℕ). ValueShows d r x (heap (w.at + z))) (sym e) (shown x (omega arith))
-
-        word : 0 < suc j → suc j < w.size → WordShows d p w (suc j)
-        word first last = record {
-          count = λ k q n e.
-              let same : k ≡ r.kind = said_here n.own in
-              (ap (λ (z : plain.Record). z.kind) (same_record d p w h there owned r q is n) ∙ sym same, subst (λ (z : Kind). CountShows z heap w.at) (sym same) (count_there r.kind heap w.at counted));
-          field = λ k q x n e within f.
-              let same : k ≡ r.kind = said_here n.own in
-              let one : q ≡ r = same_record d p w h there owned r q is n in
-              let at : suc j ≡ word_of_value r.kind x = e ∙ ap (λ (z : Kind). word_of_value z x) same in
-              let v = there_is r.values x (subst (λ (z : plain.Record). x < length z.values) one within) in
-              let s = (value x at).field v.0 v.1 (sym (ap (is_field r.kind) at) ∙ (ap (λ (z : Kind). is_field z (suc j)) (sym same) ∙ f)) in
-              s.0 ∙ (sym v.1 ∙ ap (λ (z : plain.Record). slice_get z.values x) (sym one));
-          number = λ k q x n e within f.
-              let same : k ≡ r.kind = said_here n.own in
-              let one : q ≡ r = same_record d p w h there owned r q is n in
-              let at : suc j ≡ word_of_value r.kind x = e ∙ ap (λ (z : Kind). word_of_value z x) same in
-              let v = there_is r.values x (subst (λ (z : plain.Record). x < length z.values) one within) in
-              let s = (value x at).number v.0 v.1 (sym (ap (is_raw r.kind) at) ∙ (ap (λ (z : Kind). is_raw z (suc j)) (sym same) ∙ f)) in
-              ap (λ (z : Value). Some z) s ∙ (sym v.1 ∙ ap (λ (z : plain.Record). slice_get z.values x) (sym one));
-          leads = λ k l s m o f.
-              let same : k ≡ r.kind = said_here o in
-              let field : is_field r.kind (suc j) ≡ true = ap (λ (z : Kind). is_field z (suc j)) (sym same) ∙ f.field in
-              let at = value_at_field r (suc j) first (omega (arith, size)) field in
-              let v = there_is r.values (suc j - values_at r.kind) at.1 in
-              ((value (suc j - values_at r.kind) at.0).field v.0 v.1 (sym (ap (is_field r.kind) at.0) ∙ field)).1;
-        }
-
-    pub all_show : ((x : ℕ) → Shown x) → TellsFirst (WordOfRecordShows d p w) None
-    all_show shown = λ i. words_show (i + 1) (λ x l. shown x) i (let first = values_behind_header r.kind in omega (arith, first))
-
-    pub value_wrong : (x : ℕ) → x < length r.values → (Shown x → ⊥) → ((y : ℕ) → y < x → Shown y) → TellsFirst (WordOfRecordShows d p w) (Some (x + values_at r.kind))
-    value_wrong x within none before = (wrong, λ i l. words_show x before i l)
-      where
-        wrong : WordOfRecordShows d p w (word_of_value r.kind x) → ⊥
-        wrong shows =
-            let first = values_behind_header r.kind in
-            let s = shows.word (omega (arith, first)) (omega (arith, size, within)) in
-            let same = ap (λ (k : Kind). word_of_value k x) said in
+        by_kind : WordOfRecordShows d p w 1 → (r.kind ≡ Weak) ⊎ ((value_of_cell r ≡ None) × (r.kind ≢ Weak)) → ⊥
+        by_kind shows (inl weak) =
+            let at = ap values_at weak in
+            let behind = ap words_behind weak in
+            let s = shows.word (omega arith) (omega (arith, size, at, behind)) in
             none (record {
-              field = λ v e f. (
-                s.field (kind d p w h there owned) r x names same within (ap (λ (k : Kind). is_field k (word_of_value r.kind x)) (sym said) ∙ f) ∙ e,
-                s.leads (kind d p w h there owned) h.len h.serial h.mutator (is_own d p w h there owned)
-                    (record { inside = (omega (arith, first), omega (arith, size, within)); field = ap (λ (k : Kind). is_field k (word_of_value r.kind x)) (sym said) ∙ f }),
-              );
-              number = λ v e f. some_same (s.number (kind d p w h there owned) r x names same within (ap (λ (k : Kind). is_raw k (word_of_value r.kind x)) (sym said) ∙ f) ∙ e);
+              leads = λ e. s.target_leads (kind d p w h there owned) h.len h.serial h.mutator (is_own d p w h there owned) (cell_here weak);
+              shows = λ v e. s.target (kind d p w h there owned) r v names (cell_here weak) e;
             })
+        by_kind shows (inr other) = none (record { leads = λ e. absurd (other.1 e); shows = λ v e. absurd (absurd_value (sym other.0 ∙ e)) })
+
+    -- ---- all words
+
+    module _ (target : TargetShows d r w) where
+      -- the words up to a value show what they should where the values do
+      words_show : (limit : ℕ) → ((x : ℕ) → x < limit → Shown x) → (i : ℕ) → i < limit + values_at r.kind → WordOfRecordShows d p w i
+      words_show limit shown zero below = first_shows
+      words_show limit shown (suc j) below = record { head = λ e. head; word = λ first last. word first last }
+        where
+          value : (x : ℕ) → suc j ≡ word_of_value r.kind x → ValueShows d r x (heap (w.at + suc j))
+          value x e = subst (λ (z : ℕ). ValueShows d r x (heap (w.at + z))) (sym e) (shown x (omega arith))
+
+          word : 0 < suc j → suc j < w.size → WordShows d p w (suc j)
+          word first last = record {
+            count = λ k q n e.
+                let same : k ≡ r.kind = said_here n.own in
+                (ap (λ (z : plain.Record). z.kind) (same_record d p w h there owned r q is n) ∙ sym same, subst (λ (z : Kind). CountShows z heap w.at) (sym same) (count_there r.kind heap w.at counted));
+            field = λ k q x n e within f.
+                let same : k ≡ r.kind = said_here n.own in
+                let one : q ≡ r = same_record d p w h there owned r q is n in
+                let at : suc j ≡ word_of_value r.kind x = e ∙ ap (λ (z : Kind). word_of_value z x) same in
+                let v = there_is r.values x (subst (λ (z : plain.Record). x < length z.values) one within) in
+                let s = (value x at).field v.0 v.1 (sym (ap (is_field r.kind) at) ∙ (ap (λ (z : Kind). is_field z (suc j)) (sym same) ∙ f)) in
+                s.0 ∙ (sym v.1 ∙ ap (λ (z : plain.Record). slice_get z.values x) (sym one));
+            number = λ k q x n e within f.
+                let same : k ≡ r.kind = said_here n.own in
+                let one : q ≡ r = same_record d p w h there owned r q is n in
+                let at : suc j ≡ word_of_value r.kind x = e ∙ ap (λ (z : Kind). word_of_value z x) same in
+                let v = there_is r.values x (subst (λ (z : plain.Record). x < length z.values) one within) in
+                let s = (value x at).number v.0 v.1 (sym (ap (is_raw r.kind) at) ∙ (ap (λ (z : Kind). is_raw z (suc j)) (sym same) ∙ f)) in
+                ap (λ (z : Value). Some z) s ∙ (sym v.1 ∙ ap (λ (z : plain.Record). slice_get z.values x) (sym one));
+            leads = λ k l s m o f.
+                let same : k ≡ r.kind = said_here o in
+                let field : is_field r.kind (suc j) ≡ true = ap (λ (z : Kind). is_field z (suc j)) (sym same) ∙ f.field in
+                let at = value_at_field r (suc j) first (omega (arith, size)) field in
+                let v = there_is r.values (suc j - values_at r.kind) at.1 in
+                ((value (suc j - values_at r.kind) at.0).field v.0 v.1 (sym (ap (is_field r.kind) at.0) ∙ field)).1;
+            target = λ k q v n cell e.
+                let one : q ≡ r = same_record d p w h there owned r q is n in
+                subst (λ (z : ℕ). (denoted_in_dump d (heap (w.at + z)) ≡ Some v) ⊎ IsEmptied d w v) (sym cell.1) (target.shows v (sym (ap value_of_cell one) ∙ e));
+            target_leads = λ k l s m o cell. subst (λ (z : ℕ). LeadsToRecord d (heap (w.at + z))) (sym cell.1) (target.leads (sym (said_here o) ∙ cell.0));
+          }
+
+      pub all_show : ((x : ℕ) → Shown x) → TellsFirst (WordOfRecordShows d p w) None
+      all_show shown = λ i. words_show (i + 1) (λ x l. shown x) i (let first = values_behind_header r.kind in omega (arith, first))
+
+      pub value_wrong : (x : ℕ) → x < length r.values → (Shown x → ⊥) → ((y : ℕ) → y < x → Shown y) → TellsFirst (WordOfRecordShows d p w) (Some (x + values_at r.kind))
+      value_wrong x within none before = (wrong, λ i l. words_show x before i l)
+        where
+          wrong : WordOfRecordShows d p w (word_of_value r.kind x) → ⊥
+          wrong shows =
+              let first = values_behind_header r.kind in
+              let s = shows.word (omega (arith, first)) (omega (arith, size, within)) in
+              let same = ap (λ (k : Kind). word_of_value k x) said in
+              none (record {
+                field = λ v e f. (
+                  s.field (kind d p w h there owned) r x names same within (ap (λ (k : Kind). is_field k (word_of_value r.kind x)) (sym said) ∙ f) ∙ e,
+                  s.leads (kind d p w h there owned) h.len h.serial h.mutator (is_own d p w h there owned)
+                      (record { inside = (omega (arith, first), omega (arith, size, within)); field = ap (λ (k : Kind). is_field k (word_of_value r.kind x)) (sym said) ∙ f }),
+                );
+                number = λ v e f. some_same (s.number (kind d p w h there owned) r x names same within (ap (λ (k : Kind). is_raw k (word_of_value r.kind x)) (sym said) ∙ f) ∙ e);
+              })

@@ -143,10 +143,10 @@ module _ (d : Dump) where
     abbrev n : ℕ
     n = d.table.pages
 
-    now_lies : (w : Walked) → Contains (walk_in d.table d.kept) w → (space_start n (to_space epoch) ≤ w.at) × (w.at < space_start n (to_space epoch) + 64 * n)
+    pub now_lies : (w : Walked) → Contains (walk_in d.table d.kept) w → (space_start n (to_space epoch) ≤ w.at) × (w.at < space_start n (to_space epoch) + 64 * n)
     now_lies w has = lies_in_space (Some epoch) (to_space epoch) w (ordered (to_space epoch) (inl refl)) has
 
-    old_lies : IsCopying d.table → (w : Walked) → Contains (old_walk_in d.table d.kept) w → (space_start n (from_space epoch) ≤ w.at) × (w.at < space_start n (from_space epoch) + 64 * n)
+    pub old_lies : IsCopying d.table → (w : Walked) → Contains (old_walk_in d.table d.kept) w → (space_start n (from_space epoch) ≤ w.at) × (w.at < space_start n (from_space epoch) + 64 * n)
     old_lies copying w has = lies_in_space (epoch_before epoch) (from_space epoch) w (ordered (from_space epoch) (inr (copying, refl))) (rw walked_old has)
 
     pub lies_in_heap : (w : Walked) → IsInHeap d w → w.at < 128 * n

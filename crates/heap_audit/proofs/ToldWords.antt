@@ -4,7 +4,7 @@ use Rattle.std.specs.Prelude.{IsTrue, not}
 use Rattle.std.proofs.lemmas.Bool.{eq-eqb, lt-leb, ne_eqb}
 use Rattle.space_map.specs.AreaWord.{area_in}
 use Rattle.space_map.specs.GateWord.{gate_in}
-use Rattle.space_map.specs.Table.{Area, Gate, HeapWord, Size, Traced, place_of}
+use Rattle.space_map.specs.Table.{Area, Gate, HeapWord, Size, Traced, WeakTurn, place_of}
 use Rattle.heap_state.specs.Memory.Table.{table_of, word_in}
 use Rattle.heap_state.proofs.Table.Places.{word_in-row}
 
@@ -19,6 +19,10 @@ module _ (n : ℕ) (words : List ℕ) (place : ℕ) where
   pub traced_is : place ≡ place_of n Traced → word ≡ (table_of n words).traced
   unfolding table_of
   traced_is is = ap (λ x. get_or words x 0) is ∙ sym (word_in-row n words Traced tt)
+
+  pub turn_is : place ≡ place_of n WeakTurn → word ≡ (table_of n words).weak_turn
+  unfolding table_of
+  turn_is is = ap (λ x. get_or words x 0) is ∙ sym (word_in-row n words WeakTurn tt)
 
   pub size_is : (space : ℕ) → space < 2 → place ≡ place_of n (Size space) → word ≡ (table_of n words).in_use space
   unfolding table_of

@@ -11,6 +11,7 @@ pub mod Told
 pub mod Firsts
 pub mod Walks
 pub mod Records
+pub mod Copied
 pub mod Showing
 pub mod Audit
 pub mod Verdict

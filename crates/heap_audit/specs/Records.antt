@@ -1,9 +1,10 @@
 -- What is looked at of a record, and the owners of identities.
-use Rattle.std.specs.Prelude.{◌≡◌, ℕ, ◌+◌, ◌*◌, ◌^◌, ◌<◌, ◌≤◌, true, List, Contains, Some, nat_eq, slice_get}
+use Rattle.std.specs.Prelude.{◌≡◌, ℕ, ◌+◌, ◌*◌, ◌^◌, ◌<◌, ◌≤◌, ◌⊎◌, true, List, Contains, Some, nat_eq, slice_get}
 use Rattle.std.specs.HashMap.{get}
 use Rattle.heap_words.specs.Decoded.{HeaderWord}
 use Rattle.plain_state.specs.declared.kind.Kind.{Kind}
-use Rattle.plain_state.specs.declared.kind.Kind.TheVariants.{Mixed}
+use Rattle.plain_state.specs.declared.kind.Kind.TheVariants.{Mixed, Weak}
+use Rattle.plain_state.specs.Cells.{value_of_cell}
 use Rattle.plain_state.specs.Layout.{is_field, is_raw, size_of, word_of_value}
 use Rattle.plain_state.specs.State as plain
 use Rattle.plain_state.specs.declared.value.Identity.{Identity}
@@ -12,7 +13,7 @@ use Rattle.plain_state.specs.declared.value.Value.TheVariants.{Number}
 use Rattle.heap_state.specs.Invariant.Ghost.{header_kind}
 use Rattle.heap_state.specs.Meaning.Denotes.{named_by}
 use Rattle.heap_state.specs.Meaning.Dump.{Dump}
-use Rattle.heap_state.specs.Meaning.Represents.{HeadShows, IsInHeap, LeadsToRecord, WordShows, denoted_in_dump, own_header}
+use Rattle.heap_state.specs.Meaning.Represents.{HeadShows, IsEmptied, IsInHeap, LeadsToRecord, WordShows, denoted_in_dump, own_header}
 use Rattle.heap_state.specs.Memory.Walk.{Walked}
 use Rattle.heap_audit.specs.Firsts.{TellsFirst}
 use Rattle.heap_audit.specs.declared.owners.Owners.{Owners}
@@ -32,6 +33,12 @@ IsCount other = Unit {0}
 pub record ValueShows (d : Dump) (r : plain.Record) (x word : ℕ) : Type 0 where
   pub field : (v : Value) → slice_get r.values x ≡ Some v → is_field r.kind (word_of_value r.kind x) ≡ true → (denoted_in_dump d word ≡ Some v) × LeadsToRecord d word
   pub number : (v : Value) → slice_get r.values x ≡ Some v → is_raw r.kind (word_of_value r.kind x) ≡ true → Number word ≡ v
+
+-- If the plain record is a cell, word 1 of the record leads to a record if it is a pointer, and it denotes the cell's value, unless the walk
+-- over the chain of copied cells may have emptied the record.
+pub record TargetShows (d : Dump) (r : plain.Record) (w : Walked) : Type 0 where
+  pub leads : r.kind ≡ Weak → LeadsToRecord d (d.table.heap (w.at + 1))
+  pub shows : (v : Value) → value_of_cell r ≡ Some v → (denoted_in_dump d (d.table.heap (w.at + 1)) ≡ Some v) ⊎ IsEmptied d w v
 
 -- the record's own header names this plain record, and has its kind and its length
 pub record IsShownByHead (d : Dump) (p : plain.Plain) (w : Walked) (r : plain.Record) : Type 0 where

@@ -1,12 +1,14 @@
 //! The first place of a dump that doesn't show a plain state.
 
 ghost use Rattle.std.specs.Prelude.{◌<◌, ◌^◌, IfOk, IfSome, None};
+ghost use Rattle.heap_audit.specs.Copied.{AreCopied};
 ghost use Rattle.heap_audit.specs.Firsts.{TellsFirst};
 ghost use Rattle.heap_audit.specs.Places.{HasForm, IsShort, TellsFirstUnseen, TellsFirstWrongSpace, TellsSpace, WordSeen};
 ghost use Rattle.heap_audit.specs.Records.{OwnersOfHeap};
 ghost use Rattle.heap_audit.specs.Told.{dump_told};
 ghost use Rattle.heap_audit.specs.Walks.{AreWalks};
 
+use crate::copied_records::CopiedRecords;
 use crate::owners::Owners;
 use crate::place::Place;
 use crate::record::wrong_word;
@@ -52,17 +54,19 @@ fn wrong_heap_word(
     heap: &ToldHeap,
     walks: &Walks,
     owners: &Owners,
+    copied: &CopiedRecords,
     plain: &PlainState,
 ) -> Option<u32>
     requires walks { AreWalks (dump_told heap.now) walks.now }
     requires owners { OwnersOfHeap (dump_told heap.now) owners.now }
+    requires copied { AreCopied (dump_told heap.now) copied.now }
     requires ordered { TellsFirstWrongSpace (dump_told heap.now) None }
     ensures first { TellsFirst (WordSeen (dump_told heap.now) plain.now) result }
     ensures short { IfSome result (λ a. a < 2 ^ 20) }
 {
     let mut first = walks.first_break;
     for (i, found) in walks.records.iter().enumerate() {
-        if let Some(x) = wrong_word(heap, walks, owners, plain, *found, i < walks.now) {
+        if let Some(x) = wrong_word(heap, walks, owners, copied, plain, *found, i < walks.now) {
             first = least(first, Some(found.at + x));
         }
     }
@@ -91,5 +95,6 @@ pub fn first_place(
         return Ok(Some(Place::Board(x)));
     }
     let owners = Owners::of(alloc, heap, walks.records.as_slice())?;
-    Ok(wrong_heap_word(heap, &walks, &owners, plain).map(Place::Word))
+    let copied = CopiedRecords::of(alloc, heap, &walks)?;
+    Ok(wrong_heap_word(heap, &walks, &owners, &copied, plain).map(Place::Word))
 }

@@ -3,6 +3,8 @@
 
 mod audit_error;
 mod auditing;
+mod cell;
+mod copied_records;
 mod ends;
 mod first_other;
 mod first_place;
@@ -24,6 +26,7 @@ mod walks;
 
 pub use audit_error::AuditError;
 pub use auditing::audit;
+pub use copied_records::CopiedRecords;
 pub use first_other::first_other_line;
 pub use laws::places_show_what_is_represented;
 pub use lines::{MutatorLines, read_lines};

@@ -8,18 +8,26 @@ ghost use Rattle.heap_audit.specs.Records.{NoneOwned, key_of};
 ghost use Rattle.heap_audit.specs.Told.{dump_told};
 ghost use Rattle.heap_audit.specs.Walks.{walked};
 
-use crate::told_heap::ToldHeap;
+use crate::told_heap::{ToldHeap, identity_of};
 use crate::walks::RecordAt;
-use plain_state::NoMemory;
+use plain_state::{Identity, NoMemory};
 use record_layout::Header;
 use std::alloc::Global;
 use std::collections::HashMap;
 
+/// The number of an identity.
+pub fn number_of(identity: Identity) -> u64
+    requires { identity.serial < 2 ^ 40 }
+    ensures { result ≡ key_of identity }
+{
+    u64::from(identity.mutator) * (1 << 40) + identity.serial
+}
+
 /// The number of a header's identity.
-fn key(header: &Header) -> u64
+pub fn key(header: &Header) -> u64
     ensures { result ≡ key_of (record { mutator = header.now.mutator; serial = header.now.serial }) }
 {
-    u64::from(header.mutator) * (1 << 40) + header.serial
+    number_of(identity_of(header))
 }
 
 /// The lesser of an address and the one before, if there is one.

@@ -7,11 +7,14 @@ ghost use Rattle.heap_state.specs.Invariant.Ghost.{header_kind};
 ghost use Rattle.heap_state.specs.Meaning.Represents.{HeadShows, IsInHeap, own_header};
 ghost use Rattle.heap_state.specs.Meaning.Values.{CountShows};
 ghost use Rattle.heap_state.specs.Memory.Walk.{walk_in};
+ghost use Rattle.heap_audit.specs.Copied.{AreCopied};
 ghost use Rattle.heap_audit.specs.Firsts.{TellsFirst};
 ghost use Rattle.heap_audit.specs.Records.{IsCount, IsShownByHead, OwnersOfHeap, ValueShows, WordOfRecordShows};
 ghost use Rattle.heap_audit.specs.Told.{dump_told};
 ghost use Rattle.heap_audit.specs.Walks.{AreWalks, walked};
 
+use crate::cell::target_shows;
+use crate::copied_records::CopiedRecords;
 use crate::owners::Owners;
 use crate::showing::shows;
 use crate::told_heap::{ToldHeap, identity_of};
@@ -137,12 +140,14 @@ pub fn wrong_word(
     heap: &ToldHeap,
     walks: &Walks,
     owners: &Owners,
+    copied: &CopiedRecords,
     plain: &PlainState,
     found: RecordAt,
     now: bool,
 ) -> Option<u32>
     requires walks { AreWalks (dump_told heap.now) walks.now }
     requires owners { OwnersOfHeap (dump_told heap.now) owners.now }
+    requires copied { AreCopied (dump_told heap.now) copied.now }
     requires walked { IsInHeap (dump_told heap.now) (walked found) }
     requires now { IsTrue now ↔ Contains (walk_in (dump_told heap.now).table (dump_told heap.now).kept) (walked found) }
     requires low { found.at < 2 ^ 20 }
@@ -156,6 +161,9 @@ pub fn wrong_word(
         return Some(0);
     };
     if !count_shows(wanted.kind(), heap.word(found.at + 1)) {
+        return Some(1);
+    }
+    if !target_shows(heap, walks, copied, wanted, found) {
         return Some(1);
     }
     let x = wrong_value(heap, walks, wanted, found.at)?;

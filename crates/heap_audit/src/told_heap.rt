@@ -45,7 +45,7 @@ impl<'t> ToldHeap<'t> {
     ghost use Rattle.record_layout.specs.Layout.{header_in};
     ghost use Rattle.heap_state.specs.Meaning.Denotes.{named_in, own_header_in};
     ghost use Rattle.heap_state.specs.Meaning.Represents.{IsCopying, IsInOrder, IsWalkedSpace, denoted_in_dump};
-    ghost use Rattle.heap_audit.specs.Told.{dump_told, extent_of};
+    ghost use Rattle.heap_audit.specs.Told.{MayHaveEmptied, dump_told, extent_of};
 
     /// The epoch.
     pub fn epoch(&self) -> u32
@@ -59,6 +59,14 @@ impl<'t> ToldHeap<'t> {
         ensures { IsTrue result ↔ IsCopying (dump_told self.now).table }
     {
         self.words[self.spaces.traced_place()] != u64::from(self.epoch()) + 1
+    }
+
+    /// Whether the walk over the chain of copied cells may have emptied cells: the epoch is not traced yet, and its turn is taken.
+    pub fn may_have_emptied(&self) -> bool
+        ensures { IsTrue result ↔ MayHaveEmptied (dump_told self.now).table }
+    {
+        self.is_copying()
+            && self.words[self.spaces.weak_turn_place()] == u64::from(self.epoch()) + 1
     }
 
     /// Whether the records of a space are the heap's.

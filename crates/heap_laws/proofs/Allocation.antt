@@ -10,6 +10,7 @@ pub mod Parts
 pub mod Workers
 pub mod Header
 pub mod Values
+pub mod Targets
 pub mod Shown
 pub mod Cycle
 pub mod Placed

@@ -2,6 +2,7 @@ pub mod GoingOn
 pub mod Slots
 pub mod Stored
 pub mod Cycle
+pub mod PlainCells
 pub mod Shown
 pub mod Laws
 pub mod Effects

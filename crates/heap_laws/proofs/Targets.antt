@@ -1,3 +1,8 @@
+pub mod Frames
+pub mod ShownCopies
+pub mod ShownPublished
+pub mod ShownWalks
+pub mod ShownEmptied
 pub mod Carried
 pub mod Rows
 pub mod Reserved

@@ -3,3 +3,4 @@ pub mod Traced
 pub mod Copied
 pub mod Live
 pub mod Turns
+pub mod Lost

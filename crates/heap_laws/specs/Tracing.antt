@@ -1,18 +1,24 @@
--- The end of the copied area: it is looked at, TRACED is exchanged, and then nothing leads into the old space.
-use Rattle.std.specs.Prelude.{◌≡◌, ◌≢◌, ℕ, ◌+◌, ◌<◌, ◌≤◌, ◌⊎◌, true, false, Some, None}
+-- The end of the copied area: it is looked at, the turn is taken, TRACED is exchanged after the walk, and then nothing leads into the old space.
+use Rattle.std.specs.Prelude.{◌≡◌, ◌≢◌, ℕ, ◌+◌, ◌<◌, ◌≤◌, ◌⊎◌, true, false, length, Some, None}
+use Rattle.std.specs.Option.{option_map}
+use Rattle.heap_words.specs.Decoded.{NumberWord, decode}
 use Rattle.plain_state.specs.declared.value.Identity.{Identity}
+use Rattle.plain_state.specs.declared.value.Value.{Value}
+use Rattle.plain_state.specs.Cells.{KeepsCells, LosesTarget, cell_of, without_target}
 use Rattle.plain_state.specs.Reachable.{Reachable}
-use Rattle.plain_state.specs.State.{Plain}
+use Rattle.plain_state.specs.State.{Plain, record_of, serial_of}
 use Rattle.space_map.specs.declared.page_word.PageWord.{PageWord}
 use Rattle.space_map.specs.declared.page_word.PageWord.TheVariants.{Open}
 use Rattle.space_map.specs.PageWord.{age_of}
-use Rattle.heap_state.specs.Cycles.Cycle.{Cycle, IsCopied}
+use Rattle.heap_state.specs.Cycles.Cycle.{Cycle}
 use Rattle.heap_state.specs.Memory.Era.{Era, Memory, IsLaidOut}
 use Rattle.heap_state.specs.Invariant.Ghost.{Ghost, Here, Leads}
 use Rattle.heap_state.specs.Invariant.Inductive.{Invariant}
 use Rattle.heap_state.specs.Worker.{Worker, Team, Copy, Scan, Round, Claim, Look, LastLook, Begins, Done, is_mutator}
 use Rattle.heap_state.specs.Memory.Entries.{TracedIs, WeakTurnIs}
-use Rattle.heap_laws.specs.Steps.{Ready, Steps}
+use Rattle.heap_state.specs.Meaning.Values.{Shown, value_of}
+use Rattle.heap_state.specs.Targets.{IsCell, IsCopied}
+use Rattle.heap_laws.specs.Steps.{Ready, Steps, StepsTo}
 use Rattle.space_map.specs.Spaces.{page_of, first_word}
 use Rattle.space_map.specs.declared.spaces.TheConstants.{PAGE_WORDS}
 
@@ -133,13 +139,33 @@ pub record WinsTraced (m : Memory) (team : Team) (k : ℕ) (l : LastLook) : Type
 abbrev pub has_traced : Worker → Worker
 has_traced w = record w { last_look = None; pass = None }
 
--- only a worker of the current epoch wins it, and what it does keeps all
+-- The plain state q is p, but that cells may be empty. Each target in the epoch's space denotes the value of its cell in q.
+pub record FollowsTargets (E : Era) (m : Memory) (g : Ghost) (p q : Plain) : Type 0 where
+  pub mutators : q.mutators ≡ p.mutators
+  pub board : q.heap.board ≡ p.heap.board
+  pub makers : length q.heap.records ≡ length p.heap.records
+  pub serials : (k : ℕ) → serial_of q.heap k ≡ serial_of p.heap k
+  pub records : (i : Identity) → (record_of q.heap i ≡ record_of p.heap i) ⊎ (record_of q.heap i ≡ option_map without_target (record_of p.heap i))
+  pub targets : (a : ℕ) (v : Value) → IsCell g a → E.start ≤ a → a < E.start + E.span → cell_of q.heap (g.identity a) ≡ Some v → value_of g.identity (m.heap (a + 1)) ≡ Some v
+
+-- Only a worker of the current epoch wins it. What it does keeps all, and the plain state then is one that follows the targets.
 pub record Traces (E : Era) (m : Memory) (team : Team) (g : Ghost) (k : ℕ) : Type 0 where
   pub now : (team.worker k).epoch ≡ E.epoch
-  pub steps : Steps E m team g k (Some (TracedIs ((team.worker k).epoch + 1))) (has_traced (team.worker k)) g
+  pub steps : (p q : Plain) → Shown E m team g p → FollowsTargets E m g p q → StepsTo E m team g k (Some (TracedIs ((team.worker k).epoch + 1))) (has_traced (team.worker k)) g q
 
 abbrev pub TracingKeeps : Type 0
 TracingKeeps = (E : Era) (m : Memory) (team : Team) (g : Ghost) (k : ℕ) (l : LastLook) → Ready E m team g k → WinsTraced m team k l → Traces E m team g k
+
+-- By the plain state o at the flip: the target of the cell at a denotes the cell's value, and its target was reachable then, if the cell
+-- was there; or the target is the number 0, and was not.
+abbrev pub IsLostOrShown : Memory → Ghost → (o : Plain) → (a : ℕ) → Value → Type 0
+IsLostOrShown m g o a v = ((value_of g.identity (m.heap (a + 1)) ≡ Some v) × ¬ (LosesTarget o (g.identity a))) ⊎ ((decode (m.heap (a + 1)) ≡ NumberWord 0) × LosesTarget o (g.identity a))
+
+-- so it is of each cell in the epoch's space when TRACED is exchanged, where the plain state has kept the values of the cells of then
+abbrev pub LostTargetsAreZero : Type 0
+LostTargetsAreZero = (E : Era) (m : Memory) (team : Team) (g : Ghost) (k : ℕ) (l : LastLook) (p o : Plain) → Ready E m team g k → WinsTraced m team k l
+    → Shown E m team g p → Cycle E m team g o → KeepsCells o p
+    → (a : ℕ) (v : Value) → IsCell g a → E.start ≤ a → a < E.start + E.span → cell_of p.heap (g.identity a) ≡ Some v → IsLostOrShown m g o a v
 
 -- who slept past a flip finds that TRACED is another word
 abbrev pub SleeperLosesTraced : Type 0

@@ -1,6 +1,6 @@
 //! Steps of a mutator that are steps of the plain machine, and what its loads may read.
 
-ghost use Rattle.heap_laws.specs.Fields.Effects.{MutatorsAreShown, RegistersHold, HeadersSay, AccessesAreValues, BoardWordsAreValues};
+ghost use Rattle.heap_laws.specs.Fields.Effects.{MutatorsAreShown, RegistersHold, HeadersSay, AccessesAreValues, TargetsAreValues, BoardWordsAreValues};
 ghost use Rattle.heap_laws.specs.Fields.Words.{AccessesAreAllowed, WordsAreLoaded, BoardIsLoaded, HeadersAreRead, RegistersAreHeld, NumbersAreHeld};
 ghost use Rattle.heap_laws.specs.Fields.Held.{GoesOnSo};
 ghost use Rattle.heap_laws.specs.Fields.Stores.{MutatorsLearn, MutatorsStep, MutatorsStore, MutatorsStoreOnBoard, MutatorsSnap, MutatorsEnd, MutatorsFindNoRoom};
@@ -22,6 +22,7 @@ pub fn mutators_are_shown()
     ensures registers { RegistersHold }
     ensures headers { HeadersSay }
     ensures accesses { AccessesAreValues }
+    ensures targets { TargetsAreValues }
     ensures board { BoardWordsAreValues }
 {}
 

@@ -3,7 +3,7 @@
 
 ghost use Rattle.heap_laws.specs.Targets.Frames.{TargetsAreCarried, UnreadRowsCarryTargets, UnreadWordsCarryTargets, NoTargetWords};
 ghost use Rattle.heap_laws.specs.Targets.Copies.{ReservationsCarryTargets, PublishingCarriesTargets, StoringLinkCarriesTargets};
-ghost use Rattle.heap_laws.specs.Targets.Records.{ClaimingCarriesTargets, PlacingCarriesTargets, NewTargetsAreZero};
+ghost use Rattle.heap_laws.specs.Targets.Records.{ClaimingCarriesTargets, PlacingCarriesTargets, NewTargetsAreStored};
 ghost use Rattle.heap_laws.specs.Targets.Walks.{TargetsAreFound, ReplacingCarriesTargets, TracingCarriesTargets, TracedTargetsAreHeld};
 ghost use Rattle.heap_laws.specs.Targets.Flips.{SizesCarryTargets, FlippingCarriesTargets};
 
@@ -43,10 +43,10 @@ pub fn claiming_carries_targets()
     ensures { ClaimingCarriesTargets }
 {}
 
-/// A new record is placed, which may be a cell, and what the target of one is if nothing is stored ahead of its header.
+/// A new record is placed, which may be a cell, and what the target of one is.
 pub fn placing_carries_targets()
     ensures places { PlacingCarriesTargets }
-    ensures zero { NewTargetsAreZero }
+    ensures stored { NewTargetsAreStored }
 {}
 
 /// The walker finds what the target leads to of the cell that it has come to.

@@ -1,6 +1,6 @@
-//! The end of the copied area: it is looked at, TRACED is exchanged, and then nothing leads into the old space.
+//! The end of the copied area: it is looked at, the turn is taken, TRACED is exchanged, and then nothing leads into the old space.
 
-ghost use Rattle.heap_laws.specs.Tracing.{ReadingTracedKeeps, ReadingRoundFrontKeeps, BeginningLookKeeps, LookingAtFrontKeeps, LookingAtBoardKeeps, LookingAtPageKeeps, LookingAtFillingPageKeeps, LookingAgainKeeps, ClaimingFillingPageKeeps, TurnsAreTaken, TracingKeeps, SleeperLosesTraced, TracedLeadsNowhere, TracedCopiesReachable};
+ghost use Rattle.heap_laws.specs.Tracing.{ReadingTracedKeeps, ReadingRoundFrontKeeps, BeginningLookKeeps, LookingAtFrontKeeps, LookingAtBoardKeeps, LookingAtPageKeeps, LookingAtFillingPageKeeps, LookingAgainKeeps, ClaimingFillingPageKeeps, TurnsAreTaken, TracingKeeps, LostTargetsAreZero, SleeperLosesTraced, TracedLeadsNowhere, TracedCopiesReachable};
 ghost use Rattle.heap_laws.specs.Flipping.Live.{TracedIsLive};
 
 /// The loads of a round of the duty.
@@ -25,9 +25,11 @@ pub fn turns_are_taken()
     ensures { TurnsAreTaken }
 {}
 
-/// The exchange of TRACED: who wins it is of the current epoch, and keeps all.
+/// The exchange of TRACED: who wins it is of the current epoch, and keeps all; the plain state then is one that follows the targets of cells.
+/// These are lost exactly where they weren't reachable at the flip.
 pub fn epochs_are_traced()
     ensures traced { TracingKeeps }
+    ensures lost { LostTargetsAreZero }
     ensures asleep { SleeperLosesTraced }
 {}
 

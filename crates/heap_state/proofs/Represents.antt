@@ -1,5 +1,6 @@
 pub mod Denoting
 pub mod Owning
+pub mod Emptying
 pub mod Ordered
 pub mod Places
 pub mod Representing

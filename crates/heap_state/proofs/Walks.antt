@@ -4,4 +4,5 @@ pub mod Spaces
 pub mod Reserving
 pub mod InHeap
 pub mod Copies
+pub mod CopiedIdentities
 pub mod WalkPlaces

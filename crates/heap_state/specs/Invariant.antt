@@ -1,4 +1,5 @@
 pub mod Ghost
 pub mod Parts
 pub mod Inductive
+pub mod HoldsOfCells
 pub mod Holds

@@ -1,6 +1,7 @@
 -- Where the targets of weak cells lead, by the words and by what the proofs know beside them.
 use Rattle.std.specs.Prelude.{◌≡◌, ℕ, ◌+◌, ◌<◌, ◌≤◌, ◌⊎◌}
 use Rattle.plain_state.specs.declared.kind.Kind.TheVariants.{Weak}
+use Rattle.plain_state.specs.declared.value.Identity.{Identity}
 use Rattle.heap_words.specs.Decoded.{PointerWord, decode}
 use Rattle.heap_state.specs.Cells.{IsCopiedCell}
 use Rattle.heap_state.specs.Memory.Era.{Era, Memory}
@@ -11,6 +12,13 @@ pub record IsCell (g : Ghost) (a : ℕ) : Type 0 where
   pub stands : 0 < g.size a
   pub written : g.writer a ≡ 0
   pub weak : g.kind a ≡ Weak
+
+-- a copy of this identity stands, and nobody writes it any more
+pub record IsCopied (E : Era) (front : ℕ) (size writer : ℕ → ℕ) (identity : ℕ → Identity) (i : Identity) : Type 0 where
+  pub at : ℕ
+  pub stands : (0 < size at) × (writer at ≡ 0)
+  pub below : (E.start ≤ at) × (at < front)
+  pub named : identity at ≡ i
 
 -- the address is one of the old space
 abbrev pub IsOld : Era → ℕ → Type 0

@@ -113,10 +113,12 @@ pub record SeenHeader : Type 0 where
   pub at : ℕ
   pub size : ℕ
 
--- what stands at a word of a record: a field, or a plain number; or one of these, as the record's count has still to say
+-- what stands at a word of a record: a field, a plain number, or the target of a cell; or a field or a number, as the record's count has
+-- still to say
 pub data Role : Type 0 where
   FieldRole : Role
   NumberRole : Role
+  TargetRole : Role
   UnknownRole : Role
 
 -- The access to a word of a record whose header was read: the record's place; the word at which its values begin and the one
@@ -194,7 +196,7 @@ pub record Look : Type 0 where
   pub upto : ℕ
   pub filled : Bool
 
--- the second look, after which TRACED is exchanged from this word
+-- the second look, after which the turn is taken, and TRACED is exchanged from this word
 pub record LastLook : Type 0 where
   pub traced : ℕ
 

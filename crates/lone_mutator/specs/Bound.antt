@@ -77,9 +77,9 @@ flips_cost n flips = flip_cost n * flips
 abbrev pub most_pages : ℕ
 most_pages = 64
 
--- an allocation of so many, with a look before each of two words of the record
+-- an allocation of so many, with a look before each of three words of the record
 abbrev pub longest_placing : ℕ
-longest_placing = 66 * most_pages + 6 + 2 * guard_cost
+longest_placing = 66 * most_pages + 7 + 3 * guard_cost
 
 -- to begin a checkpoint, beside a round that finds the epoch traced
 abbrev pub snap_cost : ℕ

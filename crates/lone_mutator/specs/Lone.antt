@@ -27,7 +27,7 @@ use Rattle.gc_worker.specs.declared.access.access_stage.AccessStage.TheVariants.
 use Rattle.gc_worker.specs.declared.stage.after.After.{After}
 use Rattle.gc_worker.specs.declared.stage.after.After.TheVariants as afters
 use Rattle.gc_worker.specs.declared.stage.back.Back.{Back}
-use Rattle.gc_worker.specs.declared.stage.back.Back.TheVariants.{ToAccess, ToPlace, ToSnap, ToScanner}
+use Rattle.gc_worker.specs.declared.stage.back.Back.TheVariants.{ToAccess, ToTarget, ToPlace, ToSnap, ToScanner}
 use Rattle.gc_worker.specs.declared.stage.goal.Goal.{Goal}
 use Rattle.gc_worker.specs.declared.stage.goal.Goal.TheVariants.{ForFlip, ForSnap, ForScanner}
 use Rattle.gc_worker.specs.declared.stage.write.Write.{Write}
@@ -91,6 +91,7 @@ IsLook stage = ⊥
 
 abbrev pub BackStands : Back → Type 0
 BackStands (ToAccess a) = IsLook a.stage
+BackStands (ToTarget a) = ⊤
 BackStands ToPlace = ⊤
 BackStands ToSnap = ⊤
 BackStands ToScanner = ⊥

@@ -27,10 +27,12 @@ use Rattle.page_scan.specs.Left as scan
 use Rattle.page_slots.specs.Open as open_page
 use Rattle.heap_state.specs.Memory.Table.{Table}
 use Rattle.gc_worker.specs.declared.access.Access.{Access}
+use Rattle.gc_worker.specs.declared.access.access_stage.AccessStage.{AccessStage}
+use Rattle.gc_worker.specs.declared.access.access_stage.AccessStage.TheVariants.{LooksAtRecord, LoadsHeader}
 use Rattle.gc_worker.specs.declared.stage.after.After.{After}
 use Rattle.gc_worker.specs.declared.stage.after.After.TheVariants as afters
 use Rattle.gc_worker.specs.declared.stage.back.Back.{Back}
-use Rattle.gc_worker.specs.declared.stage.back.Back.TheVariants.{ToAccess, ToPlace, ToSnap, ToScanner}
+use Rattle.gc_worker.specs.declared.stage.back.Back.TheVariants.{ToAccess, ToTarget, ToPlace, ToSnap, ToScanner}
 use Rattle.gc_worker.specs.declared.stage.write.Write.{Write}
 use Rattle.gc_worker.specs.declared.stage.write.Write.TheVariants.{OfAccess, OfPlace}
 use Rattle.gc_worker.specs.declared.stage.Stage.{Stage}
@@ -67,25 +69,33 @@ abbrev pub look_left : (written : Option ℕ) → ℕ
 look_left None = guard_cost
 look_left (Some page) = 0
 
-abbrev pub access_left : Access → ℕ
-access_left a = access.left a + look_left (access.writes_on a.spaces a.stage)
+-- the round that may still have to find the epoch traced, for the target of a cell: until the header is read, any record may be one
+abbrev pub wait_left : (n : ℕ) → AccessStage → ℕ
+wait_left n (LooksAtRecord r) = round_cost n
+wait_left n (LoadsHeader r) = round_cost n
+wait_left n stage = 0
+
+abbrev pub access_left : (n : ℕ) → Access → ℕ
+access_left n a = access.left a + wait_left n a.stage + look_left (access.writes_on a.spaces a.stage)
 
 -- those that are still to come before an allocation writes words of its record
 abbrev pub looks_left : PlaceStage → ℕ
 looks_left place_stage.StoresCount = guard_cost
+looks_left place_stage.StoresTarget = 2 * guard_cost
+looks_left place_stage.StoresLink = guard_cost
 looks_left place_stage.StoresHeader = 0
-looks_left stage = 2 * guard_cost
+looks_left stage = 3 * guard_cost
 
 -- an allocation is dear as long as pages may have to be claimed
 abbrev pub place_left : (n size : ℕ) → Held → place.Placing → PlaceStage → ℕ
-place_left n size x p place_stage.LoadsTraced = place.left_at most_pages place_stage.LoadsTraced + 2 * guard_cost + flip_left n size x
-place_left n size x p (place_stage.LoadsSize traced) = place.left_at most_pages (place_stage.LoadsSize traced) + 2 * guard_cost + flip_left n size x
-place_left n size x p (place_stage.LoadsArea traced read) = place.left_at most_pages (place_stage.LoadsArea traced read) + 2 * guard_cost + flip_left n size x
+place_left n size x p place_stage.LoadsTraced = place.left_at most_pages place_stage.LoadsTraced + 3 * guard_cost + flip_left n size x
+place_left n size x p (place_stage.LoadsSize traced) = place.left_at most_pages (place_stage.LoadsSize traced) + 3 * guard_cost + flip_left n size x
+place_left n size x p (place_stage.LoadsArea traced read) = place.left_at most_pages (place_stage.LoadsArea traced read) + 3 * guard_cost + flip_left n size x
 place_left n size x p stage = place.left_at (place.pages_for (place.size_of p.header)) stage + looks_left stage
 
 -- what is written after a look
 abbrev pub write_left : (n size : ℕ) → Held → Write → ℕ
-write_left n size x (OfAccess a) = access_left a
+write_left n size x (OfAccess a) = access_left n a
 write_left n size x (OfPlace p) = place_left n size x p p.stage
 
 -- the steps of a round's walk over the chain of cells, as long as the round may come to the turn
@@ -107,7 +117,8 @@ round_steps d stage = duty.left_at d stage - walk_ahead d stage
 
 -- what it goes back to after a round
 abbrev pub back_left : (n size : ℕ) → Held → Back → ℕ
-back_left n size x (ToAccess a) = access_left a
+back_left n size x (ToAccess a) = access_left n a
+back_left n size x (ToTarget a) = access_left n a
 back_left n size x ToPlace = longest_placing + flip_left n size x
 back_left n size x ToSnap = snap_cost
 back_left n size x ToScanner = 0
@@ -127,9 +138,10 @@ registers_left j = 5 * (7 - j) + 4
 
 -- ---- with what the tracing still costs: this in the midst of it, or this before a round
 
--- the round that who begins a checkpoint makes after each that traces something
+-- the round that who begins a checkpoint, or loads the target of a cell, makes after each that traces something
 abbrev pub again_left : (n : ℕ) → Back → ℕ
 again_left n (ToAccess a) = 0
+again_left n (ToTarget a) = round_cost n
 again_left n ToPlace = 0
 again_left n ToSnap = round_cost n
 again_left n ToScanner = 0
@@ -137,6 +149,7 @@ again_left n ToScanner = 0
 -- in the midst of a round, with that one: there is none in a traced epoch
 abbrev pub round_left : (left due : ℕ) → Back → ℕ
 round_left left due (ToAccess a) = left
+round_left left due (ToTarget a) = due
 round_left left due ToPlace = left
 round_left left due ToSnap = due
 round_left left due ToScanner = left
@@ -171,7 +184,7 @@ stage_left n size left due late x Looks = whole_cost n + due
 stage_left n size left due late x (Passes g after) = passage_left n (later_left n size x) (growing_left n size) due late after g.passage g.stage
 stage_left n size left due late x (Flips f) = flip.left f + 45 + recall_cost + longest_placing + longest_tracing n + later_left n size x
 stage_left n size left due late x (Forwards w) = copy_left w.evac.stage + registers_left w.register + recall_cost + longest_placing + growing_left n size + due
-stage_left n size left due late x (Accesses a) = access_left a + due
+stage_left n size left due late x (Accesses a) = access_left n a + due
 stage_left n size left due late x (Places p) = place_left n size x p p.stage + due
 stage_left n size left due late x (Serves d back) = round_steps d d.stage + back_left n size x back + round_left left due back
 stage_left n size left due late x (Scans s back) = scan.left s + 1 + round_cost n + back_left n size x back + again_left n back + left

@@ -17,7 +17,7 @@ use Rattle.fault_duty.specs.declared.duty_stage.DutyStage.{DutyStage}
 use Rattle.fault_duty.specs.declared.duty_stage.DutyStage.TheVariants.{LoadsGate, LoadsTraced, LoadsWanted, LoadsFrontFor, LoadsFront, LoadsPage, Claims, EndGate, EndArea, EndPage, EndFilling, EndAreaAgain, Walks, Traces, Ended}
 use Rattle.fault_duty.specs.Duty.{Round}
 use Rattle.gc_worker.specs.declared.stage.back.Back.{Back}
-use Rattle.gc_worker.specs.declared.stage.back.Back.TheVariants.{ToSnap}
+use Rattle.gc_worker.specs.declared.stage.back.Back.TheVariants.{ToTarget, ToSnap}
 use Rattle.heap_state.specs.Memory.Era.{Era, Memory}
 use Rattle.heap_state.specs.Invariant.Parts.Pages.{Quiet}
 
@@ -77,8 +77,9 @@ FoundAt E m d (Walks traced v) = (traced ≡ m.traced) × TurnStands m.weak_turn
 FoundAt E m d (Traces traced) = traced ≡ m.traced
 FoundAt E m d (Ended result) = ⊤
 
--- who begins a checkpoint makes rounds until one finds the epoch traced
+-- who begins a checkpoint, or loads the target of a cell, makes rounds until one finds the epoch traced
 abbrev pub EndsTraced : Back → Type 0
+EndsTraced (ToTarget a) = ⊤
 EndsTraced ToSnap = ⊤
 EndsTraced back = ⊥
 

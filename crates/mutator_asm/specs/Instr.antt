@@ -2,7 +2,7 @@
 use Rattle.std.specs.Prelude.{ℕ, List, [], ◌∷◌, Result, Ok, Err, if◌then◌else◌, codes}
 use Rattle.std.specs.Str.{bytes_eq}
 use Rattle.mutator_asm.specs.declared.instr.Instr.{Instr}
-use Rattle.mutator_asm.specs.declared.instr.Instr.TheVariants.{Li, Mov, Add, Sub, Mul, Div, Rem, Lt, Eq, Jmp, Jz, Jal, Jr, New, Raw, Mix, Ld, St, Cas, Len, Isp, Get, Put, Swap, Out, Snap, Halt}
+use Rattle.mutator_asm.specs.declared.instr.Instr.TheVariants.{Li, Mov, Add, Sub, Mul, Div, Rem, Lt, Eq, Jmp, Jz, Jal, Jr, New, Raw, Mix, Weak, Ld, St, Cas, Len, Isp, Get, Put, Swap, Out, Snap, Halt}
 use Rattle.mutator_asm.specs.declared.listing.jump.Jump.{Jump}
 use Rattle.mutator_asm.specs.declared.listing.jump.Jump.TheVariants.{Always, IfZero, Link}
 use Rattle.mutator_asm.specs.declared.errors.mistake.Mistake.{Mistake}
@@ -142,6 +142,7 @@ instr_of name operands =
     else (if bytes_eq name (codes "new") then made (λ o. New o.0 o.1) (register_operand operands)
     else (if bytes_eq name (codes "raw") then made (λ o. Raw o.0 o.1) (register_operand operands)
     else (if bytes_eq name (codes "mix") then made (λ o. Mix o.0 o.1 o.2) (register_two_operands operands)
+    else (if bytes_eq name (codes "weak") then made (λ o. Weak o.0 o.1) (two_registers operands)
     else (if bytes_eq name (codes "ld") then made (λ o. Ld o.0 o.1 o.2) (two_registers_operand operands)
     else (if bytes_eq name (codes "st") then made (λ o. St o.0 o.1 o.2) (register_operand_register operands)
     else (if bytes_eq name (codes "cas") then made (λ o. Cas o.0 o.1 o.2 o.3 o.4) (registers_operand_registers operands)
@@ -153,4 +154,4 @@ instr_of name operands =
     else (if bytes_eq name (codes "out") then made Out (one_register operands)
     else (if bytes_eq name (codes "snap") then made (λ o. Snap) (nothing operands)
     else (if bytes_eq name (codes "halt") then made (λ o. Halt) (nothing operands)
-    else Err UnknownInstr)))))))))))))))))))))))
+    else Err UnknownInstr))))))))))))))))))))))))

@@ -61,11 +61,6 @@ is_valid (Out a) = is_register a
 is_valid Snap = true
 is_valid Halt = true
 
--- the instruction is one that a line can be read as
-abbrev pub is_read : Instr → Bool
-is_read (Weak d a) = false
-is_read _ = true
-
 -- a jump in a section of n instructions leads to one of them or behind the last; of no other
 -- instruction anything is asked
 abbrev pub leads_within : ℕ → Instr → Bool
@@ -88,7 +83,6 @@ pub record IsWellFormed (code : List (List Instr)) (schedule : List Item) : Type
   pub few_sections : length code ≤ 16
   pub few_instrs : sum_by length code ≤ 65536
   pub instrs : IsTrue (list_all (list_all is_valid) code)
-  pub read : IsTrue (list_all (list_all is_read) code)
   pub targets : IsTrue (list_all is_closed code)
   pub few_items : length schedule ≤ 65536
   pub items : IsTrue (list_all is_item schedule)

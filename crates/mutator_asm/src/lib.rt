@@ -12,6 +12,7 @@ mod program;
 mod schedule;
 mod section;
 mod text;
+mod validity;
 
 pub use code::Code;
 pub use errors::asm_error::{AsmError, error_text};

@@ -2,6 +2,7 @@ pub mod Outcomes
 pub mod Rest
 pub mod Records
 pub mod Cells
+pub mod KeptCells
 pub mod Named
 pub mod Counts
 pub mod Consistency

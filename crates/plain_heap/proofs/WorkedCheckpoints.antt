@@ -1,16 +1,17 @@
 -- The worked checkpoints: what their boards lead to, and their texts.
-use Rattle.std.proofs.Common.{◌≡◌, ℕ, zero, suc, inl, inr, List, [], ◌∷◌, replicate, Some, slice_get, refl, ap, sym, ◌∙◌, arith}
+use Rattle.std.proofs.Common.{◌≡◌, ℕ, zero, suc, true, inl, inr, List, [], ◌∷◌, replicate, Some, slice_get, refl, ap, sym, ◌∙◌, arith}
 use Rattle.std.specs.Fmt.{digits}
 use Rattle.std.specs.List.{All, AllPairs, Contains}
 use Rattle.std.proofs.lemmas.List.Elements.{All-nil, All-cons}
 use Rattle.std.proofs.lemmas.Option.{same_Some}
-use Rattle.plain_state.specs.declared.kind.Kind.TheVariants.{Fields, Raw, Mixed}
+use Rattle.plain_state.specs.declared.kind.Kind.TheVariants.{Fields, Raw, Mixed, Weak}
 use Rattle.plain_state.specs.declared.value.Identity.{Identity}
 use Rattle.plain_state.specs.declared.value.Value.TheVariants.{Number, Reference}
+use Rattle.plain_state.specs.Layout.{is_field, word_of_value}
 use Rattle.plain_state.specs.State.{Record, Snapped}
 use Rattle.plain_state.proofs.Lists.{slice_get-replicate}
 use Rattle.plain_heap.specs.Checkpoint.{ReachedFrom, BoardRefers, FieldRefers, IsListedBefore, KeptRecord, identities_of, IsCheckpoint, kept_record}
-use Rattle.plain_heap.specs.WorkedCheckpoint.{ArePrinted, one_record, three_of_four}
+use Rattle.plain_heap.specs.WorkedCheckpoint.{ArePrinted, one_cell, one_record, three_of_four}
 
 abbrev named : (mutator serial : ℕ) → Identity
 named mutator serial = record { mutator = mutator; serial = serial }
@@ -79,6 +80,41 @@ one-is = record {
   reached = All-cons (ReachedFrom one_record) (named 0 1) [] (BoardRefers 0 (named 0 1) refl) (All-nil (ReachedFrom one_record));
   complete = one-complete;
   as_kept = All-cons (AsKept one_record) (found (named 0 1) five) [] refl (All-nil (AsKept one_record));
+}
+
+-- ---- one cell, and not the record to which it refers
+
+abbrev cell : Record
+cell = record { kind = Weak; values = Reference (named 0 1) ∷ [] }
+
+abbrev cells : List KeptRecord
+cells = found (named 0 2) cell ∷ []
+
+cell-board : (x : ℕ) (i : Identity) → slice_get one_cell.board x ≡ Some (Reference i) → Contains (identities_of cells) i
+cell-board zero i is = (0, omega arith, same-reference (named 0 2) i is)
+cell-board (suc x) i is = absurd (none-in-zeros 15 x i is)
+
+-- none of its words is a field
+cell-field : (r : Record) (x : ℕ) → kept_record one_cell (named 0 2) ≡ Some r → is_field r.kind (word_of_value r.kind x) ≡ true → ⊥
+cell-field r x is field =
+    let none : is_field cell.kind (word_of_value cell.kind x) ≡ true = rw (← same_Some cell r is) at field in
+    cc
+
+cell-complete : (i : Identity) → ReachedFrom one_cell i → Contains (identities_of cells) i
+cell-complete _ (BoardRefers x i is) = cell-board x i is
+cell-complete _ (FieldRefers i r x j reached has field is) = from (cell-complete i reached)
+  where
+    from : Contains (identities_of cells) i → Contains (identities_of cells) j
+    from (zero, within, e) = absurd (cell-field r x (ap (kept_record one_cell) e ∙ has) field)
+    from (suc k, within, e) = absurd (omega (arith, within))
+
+cell-is : IsCheckpoint one_cell (record { board = one_cell.board; records = cells })
+cell-is = record {
+  board = refl;
+  rising = pairs-cons IsListedBefore (named 0 2) [] (All-nil (IsListedBefore (named 0 2))) (pairs-none IsListedBefore);
+  reached = All-cons (ReachedFrom one_cell) (named 0 2) [] (BoardRefers 0 (named 0 2) refl) (All-nil (ReachedFrom one_cell));
+  complete = cell-complete;
+  as_kept = All-cons (AsKept one_cell) (found (named 0 2) cell) [] refl (All-nil (AsKept one_cell));
 }
 
 -- ---- three of four records
@@ -161,4 +197,5 @@ are_printed = record {
   none = refl;
   one = (_, one-is, refl);
   three = (_, three-is, refl);
+  cell = (_, cell-is, refl);
 }

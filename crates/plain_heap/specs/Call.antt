@@ -28,20 +28,15 @@ pub record After : Type 0 where
 abbrev pub values_of : Heap → Identity → List Value
 values_of heap i = option_map_or (λ r. r.values) (record_of heap i) []
 
--- the words of a record that are loaded and stored: all, unless it is a cell
+-- the words of a record that are stored: all, unless it is a cell
 abbrev pub words_in : Record → List Value
 words_in r = if is_cell r.kind then [] else r.values
 
--- a value of a record, unless it is a cell's
-abbrev pub unless_cell : Option Record → Value → Result Value End
-unless_cell None v = Ok v
-unless_cell (Some r) v = if is_cell r.kind then Err WeakCell else Ok v
-
--- value x of a record, where it has so many and is no cell
+-- value x of a record, where it has so many
 abbrev pub value_in : Heap → Identity → ℕ → Result Value End
 value_in heap i x = do
   x ← in_record (length (values_of heap i)) x
-  unless_cell (record_of heap i) (slice_index_or (values_of heap i) x (Number 0))
+  Ok (slice_index_or (values_of heap i) x (Number 0))
 
 -- word x of the board
 abbrev pub board_word : Heap → ℕ → Value

@@ -64,18 +64,11 @@ kind_text Raw = codes "raw"
 kind_text (Mixed count) = codes "mixed " ++ decimal count
 kind_text Weak = codes "weak"
 
--- which values of a record of this kind are printed: of a cell none
-abbrev pub values_told : Kind → List Value → List Value
-values_told Fields values = values
-values_told Raw values = values
-values_told (Mixed count) values = values
-values_told Weak values = []
-
--- a record: its identity, its kind, how many values it has, and these
+-- A record: its identity, its kind, how many values it has, and these. The value of a cell may refer to a record that isn't reached.
 abbrev pub record_line : KeptRecord → List ℕ
 record_line r =
     identity_text r.identity ++ codes " " ++ kind_text r.content.kind ++ codes " " ++ decimal (length r.content.values)
-    ++ codes ":" ++ values_text (values_told r.content.kind r.content.values) ++ codes "\n"
+    ++ codes ":" ++ values_text r.content.values ++ codes "\n"
 
 abbrev pub board_line : List Value → List ℕ
 board_line board = codes "board" ++ values_text board ++ codes "\n"

@@ -5,10 +5,9 @@ use Rattle.std.specs.Option.{option_map, option_map_or}
 use Rattle.plain_state.specs.declared.value.Identity.{Identity}
 use Rattle.plain_state.specs.declared.value.Value.{Value}
 use Rattle.plain_state.specs.declared.value.Value.TheVariants.{Number, Reference}
-use Rattle.plain_state.specs.Cells.{is_cell, cell_of}
-use Rattle.plain_state.specs.Reachable.{Reachable}
+use Rattle.plain_state.specs.Cells.{LosesTarget, cell_of, is_cell, without_target}
 use Rattle.plain_state.specs.State.{Record, Heap, Plain, record_of}
-use Rattle.plain_state.specs.Writing.{stored, with_heap, with_value}
+use Rattle.plain_state.specs.Writing.{stored, with_heap}
 use Rattle.plain_heap.specs.Reaching.{identities, reaches}
 
 -- the value refers to a record that isn't reachable
@@ -37,16 +36,6 @@ unfoldable pub emptied : (o p : Plain) → Plain
 emptied o p = with_heap p (fold emptied_cell p.heap (cells_to_empty o))
 
 -- ---- what that changes
-
--- the state has the cell, whose target isn't reachable there
-pub record LosesTarget (o : Plain) (i : Identity) : Type 0 where
-  pub target : Identity
-  pub is : cell_of o.heap i ≡ Some (Reference target)
-  pub unreachable : ¬ (Reachable o target)
-
--- the record with the number 0, if it is a cell
-abbrev pub without_target : Record → Record
-without_target r = if is_cell r.kind then with_value r 0 (Number 0) else r
 
 -- The cells whose targets aren't reachable in the first state have the number 0. Any other record is what it was, also a cell that the first
 -- state doesn't have; and so are the board, the mutators, and what is kept of checkpoints.

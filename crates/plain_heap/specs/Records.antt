@@ -12,11 +12,11 @@ use Rattle.mutator_asm.specs.declared.instr.Instr.{Instr}
 use Rattle.plain_heap.specs.declared.action.Action.{Action}
 use Rattle.plain_heap.specs.declared.action.Action.TheVariants.{Loads, Stores, Exchanges}
 use Rattle.plain_heap.specs.Action.{action, are_same}
-use Rattle.plain_heap.specs.Call.{After, is_cell, words_in, set_register, went_on, loads, call}
+use Rattle.plain_heap.specs.Call.{After, is_cell, values_of, words_in, set_register, went_on, loads, call}
 
 -- ---- words
 
--- The word of a record at this index, if there is one that is loaded and stored; else the number 0. Such a word begins with it.
+-- The word of a record at this index, if there is one that is stored; else the number 0. Such a word begins with it.
 abbrev pub record_word : Heap → Identity → (index : ℕ) → Value
 record_word heap identity index = slice_index_or (option_map_or words_in (record_of heap identity) []) index (Number 0)
 
@@ -35,11 +35,19 @@ abbrev pub OnlyStoresChangeWords : Type 0
 OnlyStoresChangeWords = (number : ℕ) (heap : Heap) (mutator : Mutator) (instr : Instr) (after : After) (identity : Identity) (index : ℕ) → call number heap mutator instr ≡ Ok after
     → record_word after.heap identity index ≡ word_after (action mutator instr) identity index (record_word heap identity index)
 
--- an instruction that loads takes the word into its register, and changes nothing else
+-- a cell with this identity is there
+abbrev pub is_cell_there : Heap → Identity → Bool
+is_cell_there heap identity = option_map_or (λ r. is_cell r.kind) (record_of heap identity) false
+
+-- what a load takes: of a cell its value, of any other record the word, which is this
+abbrev pub loaded_there : Heap → Identity → (index : ℕ) → (word : Value) → Value
+loaded_there heap identity index word = if is_cell_there heap identity then slice_index_or (values_of heap identity) index (Number 0) else word
+
+-- an instruction that loads takes that into its register, and changes nothing else
 abbrev pub LoadsTakeTheWord : Type 0
 LoadsTakeTheWord = (number : ℕ) (heap : Heap) (mutator : Mutator) (instr : Instr) (after : After) (register : ℕ) (identity : Identity) (index : ℕ)
     → action mutator instr ≡ Ok (Loads register identity index) → call number heap mutator instr ≡ Ok after
-    → after ≡ loads heap mutator register (record_word heap identity index)
+    → after ≡ loads heap mutator register (loaded_there heap identity index (record_word heap identity index))
 
 -- what an exchange tells that finds this: 1 if it is what it expects, else 0
 abbrev pub success : (found expected : Value) → Value

@@ -15,7 +15,7 @@ use Rattle.plain_heap.specs.declared.mark.Mark.TheVariants.{Step, Flip, Full, Tr
 use Rattle.plain_heap.specs.Action.{◌>>=◌, action}
 use Rattle.plain_heap.specs.Call.{set_register, went_on, call}
 use Rattle.plain_heap.specs.Order.{Story, first_story, plain, story_marked}
-use Rattle.plain_heap.specs.Records.{record_word, success, word_after}
+use Rattle.plain_heap.specs.Records.{loaded_there, record_word, success, word_after}
 use Rattle.plain_heap.specs.Step.{fetch, mutator_in}
 
 -- ---- actions
@@ -63,11 +63,11 @@ OrdersStoreWords = (code : List (List Instr)) (turns : ℕ) (order : List Mark) 
 
 -- ---- loads and exchanges
 
--- a load gets what was stored there last before it: its mutator goes on with that in the register
+-- A load gets what was stored there last before it, or the value of a cell: its mutator goes on with that in the register.
 abbrev pub StepsLoadTheLastStore : Type 0
 StepsLoadTheLastStore = (code : List (List Instr)) (turns : ℕ) (front : List Mark) (m : ℕ) (own : Mutator) (register : ℕ) (identity : Identity) (index : ℕ)
     → StepDoes code turns (plain code turns front) m own (Loads register identity index)
-    → slice_get (plain code turns (front ++ Step m ∷ [])).mutators m ≡ Some (went_on (set_register own register (last_store code turns front identity index)))
+    → slice_get (plain code turns (front ++ Step m ∷ [])).mutators m ≡ Some (went_on (set_register own register (loaded_there (plain code turns front).heap identity index (last_store code turns front identity index))))
 
 -- An exchange finds what was stored there last before it: if that is what it expects, its mutator goes on with 1 in the register, else with 0.
 abbrev pub StepsCompareTheLastStore : Type 0

@@ -1,7 +1,7 @@
 -- Checkpoints worked out by hand, with what is printed of them.
 use Rattle.std.specs.Prelude.{ℕ, List, [], ◌∷◌, codes, replicate}
 use Rattle.plain_state.specs.declared.kind.Kind.{Kind}
-use Rattle.plain_state.specs.declared.kind.Kind.TheVariants.{Fields, Raw, Mixed}
+use Rattle.plain_state.specs.declared.kind.Kind.TheVariants.{Fields, Raw, Mixed, Weak}
 use Rattle.plain_state.specs.declared.value.Value.{Value}
 use Rattle.plain_state.specs.declared.value.Value.TheVariants.{Number, Reference}
 use Rattle.plain_state.specs.State.{Record, Snapped, none_snapped}
@@ -28,9 +28,17 @@ three_of_four = record {
       ∷ [];
 }
 
+-- a cell, to which the board refers, and the record to which the cell alone refers
+abbrev pub one_cell : Snapped
+one_cell = record {
+  board = to 0 2 ∷ replicate 15 (Number 0);
+  records = (of_kind Fields (Number 5 ∷ []) ∷ of_kind Weak (to 0 1 ∷ []) ∷ []) ∷ [];
+}
+
 -- what is printed of these, and before the first checkpoint
 pub record ArePrinted : Type 0 where
   pub none : checkpoint_lines 0 none_snapped (codes "checkpoint 0\n")
   pub one : checkpoint_lines 1 one_record (codes "checkpoint 1\nboard 0.1 0 0 0 0 0 0 0 0 0 0 0 0 0 0 0\n0.1 fields 1: 5\n")
   pub three : checkpoint_lines 12 three_of_four
       (codes "checkpoint 12\nboard 1.2 0.2 12 1.1 0 0 0 0 0 0 0 0 0 0 0 0\n0.2 mixed 1 3: 1.2 7 8\n1.1 fields 0:\n1.2 raw 2: 9 10\n")
+  pub cell : checkpoint_lines 2 one_cell (codes "checkpoint 2\nboard 0.2 0 0 0 0 0 0 0 0 0 0 0 0 0 0 0\n0.2 weak 1: 0.1\n")

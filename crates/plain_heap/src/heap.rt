@@ -97,16 +97,12 @@ impl PlainHeap {
         records.get(i.serial)
     }
 
-    /// A word of a record, else the end for a word that isn't there, or is a cell's.
+    /// A word of a record, else the end for a word that isn't there.
     pub fn word(&self, i: Identity, x: u64) -> Result<Value, End>
         ensures { result ≡ value_in self.now i x }
     {
         let record = self.record(i).ok_or(End::OutOfRange)?;
-        let word = record.word(x).ok_or(End::OutOfRange)?;
-        if record.is_cell() {
-            return Err(End::WeakCell);
-        }
-        Ok(word)
+        record.word(x).ok_or(End::OutOfRange)
     }
 
     /// The length of a record.

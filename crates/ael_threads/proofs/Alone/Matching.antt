@@ -25,7 +25,7 @@ use Rattle.plain_heap.proofs.Alone.Apart.{IsMoved}
 use Rattle.plain_heap.proofs.Alone.Owned.{AllOf, LeadsToOwn, OwnsRecords, read_all}
 use Rattle.plain_heap.proofs.Calls.Cells.{no_cells_come}
 use Rattle.plain_heap.proofs.Reaching.Emptying.{NoCells, all-keep}
-use Rattle.gc_worker.specs.Plain.Stories.{with_emptied}
+use Rattle.gc_worker.specs.Plain.Answer.{with_emptied}
 use Rattle.gc_worker.proofs.Plain.Emptied.{same_makers}
 use Rattle.ael_threads.proofs.Alone.Sparing.{AllElse, IsElse, IsSpared, Spares, call-spares, emptied-spares}
 

@@ -24,7 +24,7 @@ use Rattle.plain_heap.specs.declared.action.Action.TheVariants.{Sets, Jumps, Lin
 use Rattle.plain_heap.specs.Action.{◌>>=◌, action, in_record, next_of, register}
 use Rattle.plain_heap.specs.Call.{After, board_word, call, jumped, may_hold, performed, set_register, store_in, value_in, values_of, went_on, filled}
 use Rattle.plain_heap.proofs.Calls.Named.{FillsKind, Names, Spells, named}
-use Rattle.plain_heap.proofs.Calls.Outcomes.{if_ok-bind, if_ok-then, performed_exchange, unless_cell-then}
+use Rattle.plain_heap.proofs.Calls.Outcomes.{if_ok-bind, if_ok-then, performed_exchange}
 use Rattle.plain_heap.proofs.Alone.Owned.{found_serial, read_all}
 use Rattle.plain_heap.proofs.Calls.Records.{held_same}
 
@@ -88,7 +88,7 @@ module _ (m j : ℕ) (other : j ≢ m) (heap : Heap) (k : Mutator) (spared : IsS
 
   word_else : (i : Identity) (x : ℕ) → i.mutator ≢ m → IfOk (value_in heap i x) (IsElse m)
   word_else i x else =
-      if_ok-bind (IsElse m) (in_record (length (values_of heap i)) x) _ (λ y. unless_cell-then (IsElse m) (record_of heap i) _ (read_all (IsElse m) (values_of heap i) y (Number 0) (values_as i (record_of heap i) else refl) tt))
+      if_ok-bind (IsElse m) (in_record (length (values_of heap i)) x) _ (λ y. read_all (IsElse m) (values_of heap i) y (Number 0) (values_as i (record_of heap i) else refl) tt)
 
   -- ---- what is written
 

@@ -4,7 +4,7 @@ use mathlib.Core.List.{IsPrefix}
 use Rattle.plain_state.specs.State.{Plain}
 use Rattle.heap_state.specs.Configuration.{era, team}
 use Rattle.heap_state.specs.Worker.{Worker}
-use Rattle.gc_worker.specs.declared.stage.back.Back.TheVariants.{ToAccess, ToPlace, ToScanner, ToSnap}
+use Rattle.gc_worker.specs.declared.stage.back.Back.TheVariants.{ToAccess, ToTarget, ToPlace, ToScanner, ToSnap}
 use Rattle.gc_worker.specs.declared.calls.entry.Entry.{Entry}
 use Rattle.gc_worker.specs.declared.calls.entry.Entry.TheVariants.{Exchanged, Made, Emptied}
 use Rattle.gc_worker.specs.declared.stage.Stage.{Stage}
@@ -70,6 +70,7 @@ module _ (h : Heap) (p o : Plain) (st : WorkersStand h p o) (k : ℕ) (below : k
       by_stage : (stage : Stage) → x.stage ≡ stage → FitsTask x stage → x.epoch ≤ epoch_of h.pages h.words
       by_stage (Serves d (ToAccess a)) at f = present_at (Serves d (ToAccess a)) at refl
       by_stage (Serves d ToPlace) at f = present_at (Serves d ToPlace) at refl
+      by_stage (Serves d (ToTarget a)) at f = present_at (Serves d (ToTarget a)) at refl
       by_stage (Serves d ToSnap) at f = present_at (Serves d ToSnap) at refl
       by_stage (Serves d ToScanner) at f = absurd (let none : None ≡ Some task = sym f ∙ is in cc)
       by_stage Looks at f = rests_at Looks at refl

@@ -26,7 +26,7 @@ use Rattle.gate_core.specs.declared.snap.snapped.Snapped.TheVariants as snapped
 use Rattle.gate_core.specs.Snap as snap
 use Rattle.gc_worker.specs.declared.access.Access.{Access}
 use Rattle.gc_worker.specs.declared.access.accessed.Accessed.{Accessed}
-use Rattle.gc_worker.specs.declared.access.accessed.Accessed.TheVariants.{Faults, Brings, Stored, Fails}
+use Rattle.gc_worker.specs.declared.access.accessed.Accessed.TheVariants.{Faults, Awaits, Brings, Stored, Fails}
 use Rattle.gc_worker.specs.declared.stage.after.After.TheVariants as afters
 use Rattle.gc_worker.specs.declared.stage.Stage.{Stage}
 use Rattle.gc_worker.specs.declared.stage.Stage.TheVariants.{Looks, Passes, Flips, Forwards, Accesses, Places, Serves, Scans, Evacuates, Opens, Recalls, Guards, Checkpoints, BeginsCheckpoint, Gone}
@@ -136,6 +136,7 @@ module _ (x : Held) where
   access_stays : (a : Access) (turn : Turn Accessed) → Stays ⊤ x (turned_access x a turn) (told_access x.task turn)
   access_stays a More = tt
   access_stays a (Finished (Faults page)) = tt
+  access_stays a (Finished Awaits) = tt
   access_stays a (Finished (Brings into word)) = effect_stays (turned_access x a (Finished (Brings into word))) refl refl x.task
   access_stays a (Finished Stored) = effect_stays (turned_access x a (Finished Stored)) refl refl x.task
   access_stays a (Finished (Fails why)) = end_stays why x.task

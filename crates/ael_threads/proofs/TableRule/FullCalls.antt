@@ -11,8 +11,7 @@ use Rattle.gc_worker.specs.declared.calls.entry.Entry.{Entry}
 use Rattle.gc_worker.specs.declared.calls.entry.Entry.TheVariants.{Exchanged, Made, Emptied}
 use Rattle.gc_worker.specs.declared.task.Task.{Task}
 use Rattle.gc_worker.specs.History.Legal.{IsLegal, after_all, after_call, extra, worker_call}
-use Rattle.gc_worker.specs.Plain.Answer.{ComesTo}
-use Rattle.gc_worker.specs.Plain.Stories.{with_emptied}
+use Rattle.gc_worker.specs.Plain.Answer.{ComesTo, with_emptied}
 use Rattle.gc_worker.specs.Steps.Turned.{Answers, Marks, Silent, Empties, Told}
 use Rattle.gc_worker.proofs.Between.Others.{answers_leave_the_others}
 use Rattle.ael_threads.proofs.Lists.Elements.{not_empty}
@@ -53,7 +52,7 @@ end_stays u m q end [] is ended legal = is
 end_stays u m q end (Exchanged by asked ∷ es) is ended legal = end_stays u m q end es is ended legal
 end_stays u m q end (Emptied cells ∷ es) is ended legal = end_stays (with_emptied u cells) m q end es is ended legal
 end_stays u m q end (Made c ∷ es) is ended legal =
-    end_stays (after_call u c) m q end es ((answers_leave_the_others u c.by (Answers c.task c.did)).mutator m (of_others u m q end c is ended legal.0) ∙ is) ended legal.1
+    end_stays (after_call u c) m q end es ((answers_leave_the_others [] u c.by (Answers c.task c.did)).mutator m (of_others u m q end c is ended legal.0) ∙ is) ended legal.1
 
 -- who was given an end by a call has it after the history
 pub ended_after : (p : Plain) (front rest : List Entry) (m : ℕ) (task : Task) (end : End) → IsLegal p (front ++ Made (worker_call m task (Trap end)) ∷ rest)

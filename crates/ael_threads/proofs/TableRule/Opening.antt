@@ -13,7 +13,7 @@ use Rattle.gc_worker.specs.Laws.Cycles.{IsInCall}
 use Rattle.gc_worker.specs.Workers.Held.{Held}
 use Rattle.gc_worker.specs.Steps.Stepped.{uncounted}
 use Rattle.gc_worker.proofs.Between.Last.{scanners_begin_last}
-use Rattle.gc_worker.proofs.Between.Opening.{heaps_open}
+use Rattle.gc_worker.proofs.StoriesKeep.{stories_open}
 use Rattle.std.specs.Prelude.{if◌then◌else◌}
 use Rattle.ael_threads.specs.declared.view.Hand.{Hand}
 use Rattle.ael_threads.specs.declared.view.Plan.{Plan}
@@ -105,7 +105,7 @@ opens_kept plan size fewest most few all = record {
   owner = λ n. 0;
   winner = λ c. 0;
   legal = tt;
-  stands = heaps_open plan.spaces plan.least plan.mutators plan.scanners size fewest most few all;
+  story = stories_open plan.spaces plan.least plan.mutators plan.scanners size fewest most few all;
   last = scanners_begin_last plan.spaces plan.least plan.mutators plan.scanners;
   tallied = opening_tallied plan.spaces plan.least plan.mutators plan.scanners size fewest most few all (first_plain plan);
   begun = λ m x is call. absurd (fresh_looks plan.spaces plan.mutators 0 (crew plan) m x is call);

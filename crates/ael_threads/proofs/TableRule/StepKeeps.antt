@@ -23,6 +23,7 @@ use Rattle.gc_worker.specs.Plain.Full.{FullWhereTold}
 use Rattle.gc_worker.specs.Workers.Held.{Held}
 use Rattle.gc_worker.specs.Laws.Gone.{ScannersAreLast}
 use Rattle.gc_worker.specs.Laws.Step.{FlipsWhereTold, Heap, StepKeeps, WorkersStand, at_flip, held_at, nobody}
+use Rattle.gc_worker.specs.Laws.Stories.{StoryStands}
 use Rattle.gc_worker.specs.Steps.Stepped.{IsBeginningCheckpoint, uncounted}
 use Rattle.gc_worker.specs.declared.calls.did.Did.TheVariants.{Done, Trap}
 use Rattle.gc_worker.specs.Steps.Turned.{Told, Silent, Empties, Answers, Marks, told, turned, won}
@@ -174,7 +175,7 @@ module _ (plan : Plan) (id : ℕ) (was : Hand) (x : Held) (others : List Hand) (
   old_is = get_of b.workers m old nobody has.state.is ∙ ap (counted count) has.state.shown
 
   readied : WorkersStand (heap_of plan s.words workers1) p o
-  readied = readying_stands (heap_of plan s.words b.workers) p o m y b.stands inside (subst (λ (w : Held). Readies n plan.mutators m w y) (sym old_is) (follows.readies count))
+  readied = readying_stands (heap_of plan s.words b.workers) p o m y b.story.stands inside (subst (λ (w : Held). Readies n plan.mutators m w y) (sym old_is) (follows.readies count))
 
   apart : CountsApart count x
   apart = counts_are_apart n plan.mutators m count x follows.fits
@@ -217,10 +218,13 @@ module _ (plan : Plan) (id : ℕ) (was : Hand) (x : Held) (others : List Hand) (
   fits_z : Fits n plan.mutators m z
   fits_z = (counted_fit n plan.mutators m count' z).0 (subst (Fits n plan.mutators m) becomes law.fits)
 
-  stands' : WorkersStand heap' p' (last_flip (first_plain plan) log')
-  stands' = subst (λ (w : Plain × Plain). WorkersStand heap' w.0 w.1)
+  story' : StoryStands heap' p' (last_flip (first_plain plan) log')
+  story' = subst (λ (w : Plain × Plain). StoryStands heap' w.0 w.1)
       (λ i. ((ap (story_told p o m) tells ∙ sym (after_more (first_plain plan) o b.log m t)) i, (ap (at_flip p o) tells ∙ sym (flip_more (first_plain plan) (first_plain plan) o b.log m t)) i))
-      (stories_keep (heap_of plan s.words workers1) p o m y q readied inside1 (get_or-set_same b.workers m y nobody inside) (apart.wants ∙ want))
+      (stories_keep (heap_of plan s.words workers1) p o m y q (record { stands = readied; cells = b.story.cells }) inside1 (get_or-set_same b.workers m y nobody inside) (apart.wants ∙ want))
+
+  abbrev stands' : WorkersStand heap' p' (last_flip (first_plain plan) log')
+  stands' = story'.stands
 
   tallied' : IsTallied plan.least heap' (opening_tally plan) log'
   tallied' = subst (λ (u : Plain × Told). IsTallied plan.least heap' (opening_tally plan) (b.log ++ extra u.0 m u.1)) (λ i. (tally_flip (opening_tally plan) b.log i, tells i))
@@ -353,7 +357,7 @@ module _ (plan : Plan) (id : ℕ) (was : Hand) (x : Held) (others : List Hand) (
 
       given : (task : Task) × (was.worker.task ≡ None) × (x ≡ with_task was.worker task) → HasLooked plan m y b.log
       given g =
-          let fits_was = (counted_fit n plan.mutators m count was.worker).0 (subst (Fits n plan.mutators m) old_is (b.stands.fit m inside)) in
+          let fits_was = (counted_fit n plan.mutators m count was.worker).0 (subst (Fits n plan.mutators m) old_is (b.story.stands.fit m inside)) in
           absurd (given_none n plan.mutators m was.worker x g.0 fits_was g.1 g.2 call)
 
   abbrev at_y : get_elem? workers1 m ≡ some y
@@ -389,7 +393,7 @@ module _ (plan : Plan) (id : ℕ) (was : Hand) (x : Held) (others : List Hand) (
     owner = b.owner;
     winner = won_after b.winner id (won x r);
     legal = legal';
-    stands = stands';
+    story = story';
     last = last';
     tallied = tallied';
     begun = begun';

@@ -32,8 +32,7 @@ use Rattle.gc_worker.specs.declared.calls.did.Did.TheVariants.{Done, Trap}
 use Rattle.gc_worker.specs.declared.calls.entry.Entry.{Entry}
 use Rattle.gc_worker.specs.declared.calls.entry.Entry.TheVariants.{Made, Exchanged, Emptied}
 use Rattle.gc_worker.specs.History.Legal.{IsLegal, after_all, after_call}
-use Rattle.gc_worker.specs.Plain.Answer.{ComesTo, MayCome, after_answer, after_outcome}
-use Rattle.gc_worker.specs.Plain.Stories.{with_emptied}
+use Rattle.gc_worker.specs.Plain.Answer.{ComesTo, MayCome, after_answer, after_outcome, with_emptied}
 use Rattle.gc_worker.proofs.Plain.Emptied.{same_board}
 use Rattle.gc_worker.proofs.History.Extensions.{after_append}
 use Rattle.ael_threads.specs.Alone.{task_leaves_board}

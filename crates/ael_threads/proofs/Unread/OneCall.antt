@@ -25,8 +25,7 @@ use Rattle.gc_worker.specs.declared.calls.call.Call.{Call}
 use Rattle.gc_worker.specs.declared.calls.did.Did.{Did}
 use Rattle.gc_worker.specs.declared.calls.did.Did.TheVariants.{Done, Trap}
 use Rattle.gc_worker.specs.History.Legal.{after_call, worker_call}
-use Rattle.gc_worker.specs.Plain.Answer.{ComesTo, MayCome, after_outcome}
-use Rattle.gc_worker.specs.Plain.Stories.{with_emptied}
+use Rattle.gc_worker.specs.Plain.Answer.{ComesTo, MayCome, after_outcome, with_emptied}
 use Rattle.ael_threads.specs.Alone.{LeavesBoard, task_leaves_board}
 use Rattle.ael_threads.specs.Unread.{IsPut, LeavesUnread, as_move, instr_as_move, task_as_move}
 use Rattle.ael_threads.proofs.Alone.Going.{after_is, ended_too, executed_too, may_end_too}

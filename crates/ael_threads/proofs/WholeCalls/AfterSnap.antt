@@ -34,7 +34,7 @@ use Rattle.ael_threads.proofs.WorkerSeats.Shown.{awaits_look, present_with_count
 
 module _ (b c : Seated) (r : Reply) (s : Stepped) (h : ActsBy b r s c) where
   -- the registers of who is present after it stand
-  stand_by : IsPresent c.worker → RegistersStand c
+  pub stand_by : IsPresent c.worker → RegistersStand c
   stand_by present =
       let k = h.knows in
       let z : Held = turned b.worker r in

@@ -12,7 +12,7 @@ use Rattle.gate_core.specs.Recall as recall
 use Rattle.gc_worker.specs.declared.stage.after.After.{After}
 use Rattle.gc_worker.specs.declared.stage.after.After.TheVariants as afters
 use Rattle.gc_worker.specs.declared.stage.back.Back.{Back}
-use Rattle.gc_worker.specs.declared.stage.back.Back.TheVariants.{ToAccess, ToPlace, ToScanner, ToSnap}
+use Rattle.gc_worker.specs.declared.stage.back.Back.TheVariants.{ToAccess, ToTarget, ToPlace, ToScanner, ToSnap}
 use Rattle.gc_worker.specs.declared.stage.goal.Goal.{Goal}
 use Rattle.gc_worker.specs.declared.stage.goal.Goal.TheVariants.{ForFlip, ForScanner, ForSnap}
 use Rattle.gc_worker.specs.declared.stage.write.Write.{Write}
@@ -54,6 +54,7 @@ module _ (x : Held) (none : x.task ≡ None) where
   none_back : (back : Back) → FitsTaskBack x back → IsPastBack back → ⊥
   none_back (ToAccess a) f call = let some = f.executes.task_is in let never = sym none ∙ some in cc
   none_back ToPlace f call = let some = f.executes.task_is in let never = sym none ∙ some in cc
+  none_back (ToTarget a) f call = let some = f.executes.task_is in let never = sym none ∙ some in cc
   none_back ToSnap f call = let some = f.0.task_is in let never = sym none ∙ some in cc
   none_back ToScanner f call = call
 

@@ -302,7 +302,7 @@ quiet_more a b c (stepped.Effect m) q h = quiet_by a b c h.0 (stepped.Effect m) 
 quiet_more a b c (stepped.Flipped n) q h = quiet_by a b c h.0 (stepped.Flipped n) q h.1
 quiet_more a b c (stepped.Ended m end) q h = quiet_by a b c h.0 (stepped.Ended m end) q h.1
 
-quiet_all : (a b c : Seated) → StaysSilent a b → StaysSilent b c → StaysSilent a c
+pub quiet_all : (a b c : Seated) → StaysSilent a b → StaysSilent b c → StaysSilent a c
 quiet_all a b c q r = record {
   none = r.none;
   rests = rests_more a b c q.rests r.rests;

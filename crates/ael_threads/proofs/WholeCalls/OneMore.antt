@@ -23,7 +23,7 @@ use Rattle.plain_heap.proofs.Calls.Outcomes.{if_ok-bind, if_ok-then, performed_e
 use Rattle.heap_laws.specs.Opening.{opening_mutator, opening_plain}
 use Rattle.gc_worker.specs.declared.task.Task.{Task}
 use Rattle.gc_worker.specs.declared.task.Task.TheVariants.{Calls, Stops}
-use Rattle.gc_worker.specs.Plain.Answer.{ComesTo, MayCome, after_answer, after_outcome}
+use Rattle.gc_worker.specs.Plain.Answer.{ComesTo, MayCome, after_answer, after_outcome, with_emptied}
 use Rattle.gc_worker.specs.Workers.Held.{Held}
 use Rattle.gc_worker.specs.Plain.Marks.{task_of}
 use Rattle.gc_worker.proofs.Plain.Outcomes.{call-counted}
@@ -38,7 +38,6 @@ use Rattle.gc_worker.specs.History.Legal.{IsLegal, after_all, after_call, calls_
 use Rattle.gc_worker.specs.History.Order.{AreFetched, AreShort, IsShort}
 use Rattle.ael_threads.specs.Programs.{HasCount, Executes, count_after_call, fetched_at}
 use Rattle.ael_threads.specs.Seats.{Extends, IsShown}
-use Rattle.gc_worker.specs.Plain.Stories.{with_emptied}
 use Rattle.gc_worker.proofs.Plain.Emptied.{same_makers}
 use Rattle.gc_worker.proofs.History.Orders.{fetched_append, fetched_none, short_append, short_none}
 use Rattle.gc_worker.proofs.History.Extensions.{legal_last, no_more, Agrees, after_append, calls_append, seen_keeps}

@@ -59,7 +59,7 @@ closes plan id t all one words xs g fits many end =
     let s = end.0 in
     let b = end.1.0 in
     let stands : WorkersStand (heap_of plan words b.workers) (after_all (first_plain plan) b.log) (last_flip (first_plain plan) b.log) =
-    subst (λ (z : List ℕ). WorkersStand (heap_of plan z b.workers) (after_all (first_plain plan) b.log) (last_flip (first_plain plan) b.log)) end.2 b.stands in
+    subst (λ (z : List ℕ). WorkersStand (heap_of plan z b.workers) (after_all (first_plain plan) b.log) (last_flip (first_plain plan) b.log)) end.2 b.story.stands in
     let f = b.seats id one.knows end.1.1 in
     let whole : length words ≡ whole_length plan.spaces = many ∙ (fits.1 ∙ ap (λ (z : Plan). whole_length z.spaces) (f.same fits.0)) in
     let sized = tallied_sizes plan s.words b.workers b.log b.tallied in

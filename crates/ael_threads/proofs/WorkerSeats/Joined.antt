@@ -6,7 +6,7 @@ use Rattle.std.proofs.lemmas.List.{set-get_or}
 use lib.ListN.{get_elem?}
 use Rattle.atomic_table.specs.Table as table
 use Rattle.gc_worker.specs.Workers.Held.{Held}
-use Rattle.gc_worker.specs.Laws.Step.{WorkersStand}
+use Rattle.gc_worker.specs.Laws.Stories.{StoryStands}
 use Rattle.ael_threads.specs.declared.view.WonClaim.{WonClaim}
 use Rattle.gc_worker.specs.declared.calls.entry.Entry.{Entry}
 use Rattle.ael_threads.specs.declared.view.Hand.{Hand}
@@ -103,7 +103,7 @@ joins plan id v other u s b at apart at' =
       owner = owner';
       winner = winner';
       legal = b.legal;
-      stands = b.stands;
+      story = b.story;
       last = b.last;
       tallied = b.tallied;
       begun = b.begun;
@@ -144,7 +144,7 @@ learns plan slots id me st live s b homes at small =
         owner = b.owner;
         winner = b.winner;
         legal = b.legal;
-        stands = subst (λ (z : List ℕ). WorkersStand (heap_of plan z b.workers) (after_all (first_plain plan) b.log) (last_flip (first_plain plan) b.log)) (sym (set-get_or s.words 0 0)) b.stands;
+        story = subst (λ (z : List ℕ). StoryStands (heap_of plan z b.workers) (after_all (first_plain plan) b.log) (last_flip (first_plain plan) b.log)) (sym (set-get_or s.words 0 0)) b.story;
         last = b.last;
         tallied = subst (λ (z : List ℕ). IsTallied plan.least (heap_of plan z b.workers) (opening_tally plan) b.log) (sym (set-get_or s.words 0 0)) b.tallied;
         begun = b.begun;

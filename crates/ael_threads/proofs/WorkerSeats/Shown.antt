@@ -9,13 +9,13 @@ use Rattle.std.proofs.lemmas.Option.{same_Some, slice_get_within}
 use Rattle.heap_state.specs.Worker.{is_running}
 use Rattle.gc_worker.specs.declared.stage.Stage.{Stage}
 use Rattle.gc_worker.specs.declared.stage.back.Back.{Back}
-use Rattle.gc_worker.specs.declared.stage.back.Back.TheVariants.{ToAccess, ToPlace, ToScanner, ToSnap}
+use Rattle.gc_worker.specs.declared.stage.back.Back.TheVariants.{ToAccess, ToTarget, ToPlace, ToScanner, ToSnap}
 use Rattle.gc_worker.specs.declared.stage.goal.Goal.{Goal}
 use Rattle.gc_worker.specs.declared.stage.goal.Goal.TheVariants.{ForFlip, ForScanner, ForSnap}
 use Rattle.gc_worker.specs.declared.stage.Stage.TheVariants.{Accesses, BeginsCheckpoint, Checkpoints, Evacuates, Flips, Forwards, Gone, Guards, Looks, Opens, Passes, Places, Recalls, Scans, Serves}
 use Rattle.gc_worker.specs.declared.task.Task.{Task}
 use Rattle.gc_worker.specs.declared.task.Task.TheVariants.{Calls, Stops}
-use Rattle.gc_worker.specs.Plain.Answer.{after_answer, after_told}
+use Rattle.gc_worker.specs.Plain.Answer.{after_answer}
 use Rattle.gc_worker.specs.Laws.Between.{AreAlike, IsAsPlain, RegistersLand, RestsAt, ShowsRegisters, is_present}
 use Rattle.gc_worker.specs.Workers.Counted.{counted}
 use Rattle.gc_worker.specs.Workers.Fits.{Fits, FitsEnd, FitsTask, IsEndBefore, IsOnSide, IsOnSideBack, IsOnSideFor}
@@ -108,6 +108,7 @@ gone_is_none false e = cc
 back_present : (back : Back) (b : Bool) → IsOnSideBack back b → is_present (post_back back) ≡ true → b ≡ true
 back_present (ToAccess a) b side e = side
 back_present ToPlace b side e = side
+back_present (ToTarget a) b side e = side
 back_present ToSnap b side e = side
 back_present ToScanner b side e = absurd (cc)
 
@@ -229,12 +230,12 @@ module _ (p : Plain) (m : ℕ) (q : Mutator) (why : End) (its : slice_get p.muta
   with_end = record q { end = Some why }
 
   -- who answers by an end has it
-  pub ended_is : (task : Task) → slice_get (after_told p m (Answers task (Trap why))).mutators m ≡ Some with_end
+  pub ended_is : (task : Task) → slice_get (after_answer p m task (Trap why) (slice_get p.mutators m)).mutators m ≡ Some with_end
   ended_is (Calls instr) = ap (λ (o : Option Mutator). slice_get (after_answer p m (Calls instr) (Trap why) o).mutators m) its ∙ slice_get-set_same p.mutators m with_end (slice_get_within p.mutators m q its)
   ended_is (Stops end) = ap (λ (o : Option Mutator). slice_get (after_answer p m (Stops end) (Trap why) o).mutators m) its ∙ slice_get-set_same p.mutators m with_end (slice_get_within p.mutators m q its)
 
 -- and keeps its registers
-pub ends_with : (p : Plain) (m : ℕ) (q : Mutator) (task : Task) (why : End) (w : Mutator) (registers : List ℕ) → slice_get p.mutators m ≡ Some q → slice_get (after_told p m (Answers task (Trap why))).mutators m ≡ Some w
+pub ends_with : (p : Plain) (m : ℕ) (q : Mutator) (task : Task) (why : End) (w : Mutator) (registers : List ℕ) → slice_get p.mutators m ≡ Some q → slice_get (after_answer p m task (Trap why) (slice_get p.mutators m)).mutators m ≡ Some w
     → ShowsRegisters registers q → ShowsRegisters registers w
 ends_with p m q task why w registers its was s =
     let new : Mutator = record q { end = Some why } in

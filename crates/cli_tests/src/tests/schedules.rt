@@ -25,3 +25,8 @@ two scanners|sim --seed 1 --scanners 2 --steps 9|.mutator/out r0/out r0/halt/|0:
 the greatest seed, one step too few|sim --seed 18446744073709551615 --scanners 2 --steps 17|.mutator/out r0/out r0/halt/|0: 0/0: 0/0: stopped/|ael: steps out/|4
 the greatest seed|sim --seed 18446744073709551615 --scanners 2 --steps 18|.mutator/out r0/out r0/halt/|0: 0/0: 0/0: halt/||0
 an exchange that is lost finds the new word when it is tried again|sim --scanners 0 --steps 100 --order|.schedule 0*6 1*8 0*20/.mutator/li r1 1/swap r1 0/out r1/halt/.mutator/li r1 2/swap r1 0/out r1/halt/|0: 2/0: halt/1: 0/1: halt/order 0 1 1 1 0 0 0 1/||0";
+
+/// The first number says how often the piece behind it stands in the place of @.
+pub const LONG: &str = "\
+800|.schedule 0 1/|a weak cell is looked at behind the flip by which its record is lost|sim --pages 4 --scanners 0 --order|.schedule 0*78 1*300/@.mutator/new r0 1/weak r1 r0/li r0 0/ld r2 r1 0/isp r3 r2/out r3/halt/.mutator/raw r4 127/li r4 0/raw r4 127/halt/|0: 0/0: halt/1: halt/order 0 0 0 1 1 F2 T 0 0 0 0 1 1/||0
+800|.schedule 0 1/|and before it, one step earlier|sim --pages 4 --scanners 0 --order|.schedule 0*77 1*300/@.mutator/new r0 1/weak r1 r0/li r0 0/ld r2 r1 0/isp r3 r2/out r3/halt/.mutator/raw r4 127/li r4 0/raw r4 127/halt/|0: 1/0: halt/1: halt/order 0 0 1 1 F2 0 T 0 0 0 0 1 1/||0";

@@ -23,7 +23,7 @@ two mutators meet on the board|sim --scanners 0|.mutator/li r0 5/put 0 r0/w: get
 
 pub const REFUSED: &str = "\
 a directive that isn't known|sim|.mutat/||ael: line 1: error 1: unknown instruction/|1
-an instruction that no line can be read as|sim|.mutator/weak r1 r0/||ael: line 2: error 1: unknown instruction/|1
+an instruction that is not known|sim|.mutator/wek r1 r0/||ael: line 2: error 1: unknown instruction/|1
 an operand missing|sim|.mutator/li r1/||ael: line 2: error 2: bad operand/|1
 an operand too many|sim|.mutator/snap r1/||ael: line 2: error 2: bad operand/|1
 a section with an operand|sim|.mutator x/||ael: line 1: error 2: bad operand/|1

@@ -60,7 +60,7 @@ module _ (m : ℕ) (heap : Heap) (k : Mutator) where
   unfolding call action
   call-ld d a x has =
       let there = reference_there heap (register k a) has.found has.is in
-      rw (there.1, there.2, lt-ltb x (length has.found.values) has.within, has.no_cell) refl
+      rw (there.1, there.2, lt-ltb x (length has.found.values) has.within) refl
 
   call-len : (d a : ℕ) (r : Record) → record_at heap (register k a) ≡ Some r → call m heap k (instrs.Len d a) ≡ Ok (loads heap k d (Number (length r.values)))
   unfolding call action

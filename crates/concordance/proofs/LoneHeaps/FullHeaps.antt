@@ -16,7 +16,7 @@ use Rattle.gc_worker.specs.declared.task.Task.TheVariants.{Calls}
 use Rattle.gc_worker.specs.History.Legal.{IsLegal, after_all, after_call, calls_of, extra, last_flip, worker_call}
 use Rattle.gc_worker.specs.History.Tally.{EachEntry, EntryIs, Sizes, Tally, Tasks, made_next, next_task, pages_by_task, size_now, tally, tasks_held}
 use Rattle.gc_worker.specs.Steps.Turned.{Told}
-use Rattle.gc_worker.specs.Plain.Stories.{with_emptied}
+use Rattle.gc_worker.specs.Plain.Answer.{with_emptied}
 use Rattle.gc_worker.proofs.History.Extensions.{as_many, calls_append}
 use Rattle.gc_worker.proofs.History.Tallies.{tally_now}
 use Rattle.ael_threads.specs.declared.view.Plan.{Plan}

@@ -9,8 +9,7 @@ use Rattle.gc_worker.specs.declared.calls.entry.Entry.{Entry}
 use Rattle.gc_worker.specs.declared.calls.entry.Entry.TheVariants.{Made, Exchanged, Emptied}
 use Rattle.gc_worker.specs.History.Legal.{IsLegal, after_all, after_call, calls_of}
 use Rattle.gc_worker.specs.History.Tally.{Tally, after_entry, tally}
-use Rattle.gc_worker.specs.Plain.Answer.{ComesTo}
-use Rattle.gc_worker.specs.Plain.Stories.{with_emptied}
+use Rattle.gc_worker.specs.Plain.Answer.{ComesTo, with_emptied}
 use Rattle.gc_worker.proofs.History.Extensions.{as_many}
 use Rattle.ael_threads.specs.Alone.{alone_history}
 use Rattle.ael_threads.specs.Histories.{Each, opening_tally}

@@ -74,7 +74,7 @@ module _ (least limit : ℕ) (s : CoreState) (w : ℕ) (log : List Entry) (h : H
         subst (λ (z : Plain × Option Task). IsNext s.code s.turns z.0 j z.1) (λ i. (sym (tally_now (first s) log) i, sym same i)) (are_next least s log h j)
 
     sections : length t.now.mutators ≡ length s.code
-    sections = let many = (what_stands_is_so s.heap t.now t.flip h.stands).as_many in many ∙ sym h.steady.sections
+    sections = let many = (what_stands_is_so s.heap t.now t.flip h.stands.stands).as_many in many ∙ sym h.steady.sections
 
     by_step : AreForRecords
     by_step =

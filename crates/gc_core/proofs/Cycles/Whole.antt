@@ -16,21 +16,22 @@ use Rattle.gc_worker.specs.declared.steps.stepped.Stepped.TheVariants.{Idle, Mov
 use Rattle.gc_worker.specs.History.Needs.{EachFullIs, EachMayCome, being_made, made_since}
 use Rattle.gc_worker.specs.History.Order.{order_of}
 use Rattle.gc_worker.specs.History.Tally.{aside_in, tally}
-use Rattle.gc_worker.specs.Laws.Step.{WorkersStand}
+use Rattle.gc_worker.specs.Laws.Stories.{StoryStands}
 use Rattle.gc_worker.specs.Plain.Marks.{EachActs, mark_of}
 use Rattle.gc_worker.proofs.Between.Pages.Copied.{copied_was_live}
 use Rattle.gc_worker.proofs.Between.Opening.{heaps_open}
 use Rattle.gc_worker.proofs.History.Lone.{flip_before, lone_is_never_full}
 use Rattle.gc_worker.proofs.History.Needs.{large_is_never_full}
 use Rattle.gc_worker.proofs.History.Opening.{in_use, low, opening_tallied}
+use Rattle.gc_worker.proofs.Plain.LostCells.{lost_cells_are_empty}
 use Rattle.gc_core.specs.Core.{CoreState, has_sizes, layout_by, opening_core, size_in}
-use Rattle.gc_core.specs.Cycles.{CyclesKeepWhatIsLive, FullHeapsAreFilled, InstructionsFlipOnce, SizesAreBetween, FillsTheSpace, HasGrown, claims_next, claims_of, flips_next, story_of}
+use Rattle.gc_core.specs.Cycles.{CyclesEmptyLostCells, CyclesKeepWhatIsLive, FullHeapsAreFilled, InstructionsFlipOnce, SizesAreBetween, FillsTheSpace, HasGrown, claims_next, claims_of, flips_next, story_of}
 use Rattle.gc_core.specs.Event.{core_after, event_of}
 use Rattle.gc_core.specs.Law.{IsSteady, IsTold}
 use Rattle.gc_core.specs.Needs.{ClaimsAreForRecords, ClaimsAreMadeOrSetAside, LargeHeapsAreNeverFull, LoneFullsFollowTheirFlips, LoneHeapsAreNeverFull, OrdersAreFilledByClaims, OrdersFillTheSpace}
 use Rattle.gc_core.specs.Run.{run_of, Ran}
 use Rattle.gc_core.specs.Whole.{FullsFollowFlips}
-use Rattle.gc_core.proofs.Events.Opening.{limit_fits, opening_stands, opening_steady, sizes_fit}
+use Rattle.gc_core.proofs.Events.Opening.{limit_fits, opening_steady, opening_story, sizes_fit}
 use Rattle.gc_core.proofs.Cycles.Filling.{HasClaimed, event_fills, full_has_grown, full_is_filled}
 use Rattle.gc_core.proofs.Cycles.Flips.{FlippedOnce, event_once}
 use Rattle.gc_core.proofs.Cycles.Aside.{claims_for_records}
@@ -57,8 +58,8 @@ module _ (code : List (List Instr)) (items : List Item) (config : Config) (sched
   steady : IsSteady s
   steady = opening_steady heaps_open code items config program size turns few
 
-  stands : WorkersStand s.heap (first_story code).now (first_story code).flip
-  stands = opening_stands heaps_open code items config program size turns few
+  stands : StoryStands s.heap (first_story code).now (first_story code).flip
+  stands = opening_story heaps_open code items config program size turns few
 
   law : IsRunOf events_keep s (first_story code) r
   law = run_law events_keep schedule 0 n s (first_story code) steady stands
@@ -140,10 +141,10 @@ module _ (code : List (List Instr)) (items : List Item) (config : Config) (sched
     told_so = subst (IsTold r.last w now (event_of r.last w).after) told (events_keep r.last w now law.steady law.stands).told
 
     grown : HasGrown config.limit r.last
-    grown = full_has_grown config.limit r.last m now.now now.flip (claims_of code config schedule n) asked room live law.stands has_last.3 told_so.3.1
+    grown = full_has_grown config.limit r.last m now.now now.flip (claims_of code config schedule n) asked room live law.stands.stands has_last.3 told_so.3.1
 
     filled : FillsTheSpace (size_in r.last) now.flip (claims_of code config schedule n) asked room live
-    filled = full_is_filled config.limit r.last m now.now now.flip (claims_of code config schedule n) asked room live law.stands has_last.3 told_so.3.1
+    filled = full_is_filled config.limit r.last m now.now now.flip (claims_of code config schedule n) asked room live law.stands.stands has_last.3 told_so.3.1
 
     for_records : claims_of code config schedule n ≤ PAGE_WORDS * (made_since code config.turns r.order + being_made code config.turns now.now m)
     for_records =
@@ -175,7 +176,13 @@ pub cycles_keep_what_is_live : CyclesKeepWhatIsLive
 cycles_keep_what_is_live code items config schedule n program size turns few =
     let law = law code items config schedule n program size turns few in
     let now : Story = story_of code config schedule n in
-    keeps_what_is_live copied_was_live (run_of code config schedule n).last now.now now.flip law.stands
+    keeps_what_is_live copied_was_live (run_of code config schedule n).last now.now now.flip law.stands.stands
+
+pub cycles_empty_lost_cells : CyclesEmptyLostCells
+cycles_empty_lost_cells code items config schedule n program size turns few traced w i cell =
+    let law = law code items config schedule n program size turns few in
+    let now : Story = story_of code config schedule n in
+    lost_cells_are_empty (run_of code config schedule n).last.heap now.now now.flip w i law.stands traced cell
 
 pub sizes_are_between : SizesAreBetween
 sizes_are_between code items config schedule n program size turns few = between code items config schedule n program size turns few

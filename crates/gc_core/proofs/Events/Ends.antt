@@ -11,13 +11,12 @@ use Rattle.plain_heap.specs.Print.{Seen, plain_seen}
 use Rattle.gc_worker.specs.declared.steps.stepped.Stepped.{Stepped}
 use Rattle.gc_worker.specs.declared.steps.stepped.Stepped.TheVariants.{Idle, Moved, Effect, Flipped, Traced, Ended}
 use Rattle.gc_worker.proofs.Between.Standing.{what_stands_is_so}
-use Rattle.gc_worker.proofs.Plain.Emptied.{emptied_is}
 use Rattle.gc_core.specs.Core.{CoreState}
 use Rattle.gc_core.specs.Event.{core_after, event_of}
-use Rattle.gc_core.specs.Law.{IsLawful, IsTold, story_by}
+use Rattle.gc_core.specs.Law.{IsLawful, IsTold, plain_after, plain_met_by}
 use Rattle.gc_core.specs.Run.{all_ended}
 use Rattle.gc_core.proofs.Runs.Stories.{stands_seen}
-use Rattle.gc_core.proofs.Whole.{events_keep}
+use Rattle.gc_core.proofs.Whole.{events_stand}
 
 abbrev has_end : Seen → Bool
 has_end k = is_some k.end
@@ -40,7 +39,7 @@ not_all p m none = by_mutator (slice_get p.mutators m) refl none
 
 pub ends_are_told : (s : CoreState) (w : ℕ) → IsLawful s → ((m : ℕ) (why : End) → (event_of s w).told ≢ Ended m why) → all_ended (core_after s w) ≡ all_ended s
 ends_are_told s w l untold =
-    let keeps = events_keep s w story l.steady l.stands in
+    let keeps = events_stand s w story l.steady l.stands in
     ap (list_all has_end) (stands_seen what_stands_is_so (core_after s w) _ _ keeps.stands)
     ∙ (by_told (event_of s w).told refl keeps.told
     ∙ sym (ap (list_all has_end) (stands_seen what_stands_is_so s l.plain l.flip l.stands)))
@@ -49,10 +48,10 @@ ends_are_told s w l untold =
     story = record { flip = l.flip; now = l.plain }
 
     by_told : (t : Stepped) → (event_of s w).told ≡ t → IsTold s w story (event_of s w).after t
-        → list_all has_end (plain_seen (story_by s story t).now) ≡ list_all has_end (plain_seen l.plain)
+        → list_all has_end (plain_seen (plain_met_by s story (event_of s w).after t)) ≡ list_all has_end (plain_seen l.plain)
     by_told Idle e told = refl
     by_told Moved e told = refl
-    by_told Traced e told = ap (λ (p : Plain). list_all has_end (plain_seen p)) (emptied_is l.flip l.plain)
+    by_told Traced e told = refl
     by_told (Flipped asked) e told = refl
-    by_told (Effect m) e told = not_all (story_by s story (Effect m)).now m told.2 ∙ sym (not_all l.plain m told.1)
+    by_told (Effect m) e told = not_all (plain_after s story (Effect m)) m told.2 ∙ sym (not_all l.plain m told.1)
     by_told (Ended m why) e told = absurd (untold m why e)

@@ -6,6 +6,7 @@ use Rattle.std.proofs.lemmas.List.{get_or_past}
 use Rattle.std.proofs.lemmas.Option.{slice_get_within, slice_get-get_or, slice_get_past}
 use Rattle.plain_state.specs.declared.end.End.{End}
 use Rattle.plain_state.specs.declared.end.End.TheVariants as ends
+use Rattle.plain_state.specs.Cells.{CellsFollow}
 use Rattle.plain_state.specs.State.{Plain, Mutator}
 use Rattle.plain_heap.specs.Order.{Story, fresh, end_of}
 use Rattle.plain_heap.specs.Step.{fetch, asked_by}
@@ -25,7 +26,10 @@ use Rattle.gc_worker.specs.Plain.Full.{FullByEnd, FullWhereTold}
 use Rattle.gc_worker.specs.Laws.Gone.{ScannersAreLast}
 use Rattle.gc_worker.specs.Laws.Represented.{HasKept}
 use Rattle.gc_worker.specs.Workers.Held.{Held}
-use Rattle.gc_worker.specs.Laws.Step.{Heap, nobody, held_at, layout_of, moved, WorkersStand, StepKeeps, StepsKeep, FlipsWhereTold, epoch_of, at_flip}
+use Rattle.gc_worker.specs.Laws.Step.{Heap, nobody, held_at, layout_of, moved, read, WorkersStand, StepKeeps, StepsKeep, FlipsWhereTold, epoch_of, at_flip}
+use Rattle.gc_worker.specs.Laws.Copied.{IsTraced}
+use Rattle.gc_worker.specs.Laws.Stories.{StoriesKeep, StoryStands}
+use Rattle.gc_worker.specs.Plain.Empty.{empty_cells}
 use Rattle.gc_worker.specs.declared.calls.did.Did.{Did}
 use Rattle.gc_worker.specs.declared.calls.did.Did.TheVariants.{Done, Trap}
 use Rattle.gc_worker.specs.Steps.Turned.{Told, Silent, Empties, Answers, Marks, turned, told}
@@ -37,24 +41,23 @@ use Rattle.gc_core.specs.Core.{CoreState}
 use Rattle.gc_core.specs.Event.{event_of, ready}
 use Rattle.gc_worker.specs.Steps.Stepped.{stepped_by}
 use Rattle.gc_worker.specs.Laws.Claims.{epoch_of_heap}
-use Rattle.gc_core.specs.Law.{AllHaveLeft, IsLawful, IsOnTask, IsScanner, IsSteady, IsForWant, IsTold, KeepsStory, EventsKeep, EventsMeet, StandsFor, story_by, story_in}
+use Rattle.gc_core.specs.Law.{AllHaveLeft, IsLawful, IsOnTask, IsScanner, IsSteady, IsForWant, IsTold, KeepsPlain, EventsKeep, EventsMeet, EventsStand, StandsFor, story_by, story_in, story_met}
 use Rattle.gc_core.specs.Whole.{MissingWorkersAreIdle}
 use Rattle.gc_worker.proofs.Between.Last.{scanners_last_with, scanners_stay_last}
-use Rattle.gc_worker.proofs.Plain.Emptied.{emptied_is}
-use Rattle.gc_worker.proofs.StoriesKeep.{stories_keep}
+use Rattle.gc_worker.proofs.Plain.Emptied.{emptied_is, same_serial}
 use Rattle.gc_worker.proofs.Plain.Represented.{represented_workers}
 use Rattle.gc_worker.proofs.Plain.Outcomes.{comes, end_then, asks_then, counted_then, no_flip, now_marked, was_running}
 use Rattle.gc_core.proofs.Events.Readied.{ReadyToStep, readied_stands, same_task, ready_task, ready_account, ready_stage}
 
 -- ---- idle
 
-module _ (s : CoreState) (w : ℕ) (story : Story) (steady : IsSteady s) (stands : WorkersStand s.heap story.now story.flip) where
-  idle_event : wanted (ready s w) ≡ None → event_of s w ≡ record { told = tells.Idle; after = s.heap }
-  unfolding event_of
-  idle_event none = rw none refl
+pub idle_event : (s : CoreState) (w : ℕ) → wanted (ready s w) ≡ None → event_of s w ≡ record { told = tells.Idle; after = s.heap }
+unfolding event_of
+idle_event s w none = rw none refl
 
-  pub idle_keeps : wanted (ready s w) ≡ None → end_of story.now w ≢ Some None → (IsScanner s.heap w → AllHaveLeft s.heap) → KeepsStory s w story
-  idle_keeps none ended left = let e = idle_event none in record { steady = rw e steady; stands = rw e stands; told = rw e (refl, ended, left) }
+module _ (s : CoreState) (w : ℕ) (story : Story) (steady : IsSteady s) (stands : WorkersStand s.heap story.now story.flip) where
+  pub idle_keeps : wanted (ready s w) ≡ None → end_of story.now w ≢ Some None → (IsScanner s.heap w → AllHaveLeft s.heap) → KeepsPlain s w story
+  idle_keeps none ended left = let e = idle_event s w none in record { steady = rw e steady; stands = rw e stands; told = rw e (refl, ended, left) }
 
 -- ---- the story
 
@@ -78,6 +81,10 @@ for_want s p w ends.JumpOut asks full = tt
 for_want s p w ends.TurnsOut asks full = tt
 for_want s p w ends.OutputFull asks full = tt
 for_want s p w (ends.HeapFull asked room live) asks full = (asks asked room live refl, full)
+
+-- the heap in which a worker was given its task stands for the same story
+pub ready_story : (s : CoreState) (w : ℕ) (p o : Plain) (r : ReadyToStep s w p o) → StoryStands s.heap p o → StoryStands r.heap p o
+ready_story s w p o r stands = record { stands = r.stands; cells = subst (λ (h : Heap). CellsFollow (IsTraced h) o p) (sym r.is) stands.cells }
 
 -- ---- the step of a worker that is there
 
@@ -173,12 +180,26 @@ module _ (law : StepsKeep) (goes : WorkersGoOn) (wants : WorkersWant) (so : What
         let c = comes s.code s.turns p w k (has_code k is) is none outcome may' in
         rw (own, answer_story s story w (task_of (fetch s.code s.turns w k)) outcome) (c ∙ rw is refl, refl)
 
-    story_stands : (u : Told) → t ≡ u → IsAnswered p w u → Stands u
+    pub story_stands : (u : Told) → t ≡ u → IsAnswered p w u → Stands u
     story_stands Silent e answered = (refl, refl)
     story_stands Empties e answered = (emptied_is story.flip p, refl)
     story_stands (Marks asked) e answered = (refl, refl)
     story_stands (Answers task outcome) e answered =
         answers_stand task outcome answered.mutator answered.is answered.no_end (own_task task outcome answered.mutator e answered.is) answered.may
+
+    -- the plain state that the core represents after it
+    abbrev then : Told → Plain
+    then u = after_told (empty_cells (read after)) p w u
+
+    abbrev Met : Told → Type 0
+    Met u = ((story_met s story (record { told = stepped_by w u; after = after })).now ≡ then u) × ((story_met s story (record { told = stepped_by w u; after = after })).flip ≡ at_flip p story.flip u)
+
+    met : (u : Told) → t ≡ u → IsAnswered p w u → Met u
+    met Silent e answered = (refl, refl)
+    met Empties e answered = (refl, refl)
+    met (Marks asked) e answered = (refl, refl)
+    met (Answers task Done) e answered = story_stands (Answers task Done) e answered
+    met (Answers task (Trap why)) e answered = story_stands (Answers task (Trap why)) e answered
 
     -- ---- what is told
 
@@ -239,24 +260,32 @@ module _ (law : StepsKeep) (goes : WorkersGoOn) (wants : WorkersWant) (so : What
     here : held_at after w ≡ turned y (reply_of q r.heap.words)
     here = get_or-set_same r.heap.workers w (turned y (reply_of q r.heap.words)) nobody r.below
 
-    account_after : (k : Mutator) → slice_get (after_told p w t).mutators w ≡ Some k → Accounts (after_told p w t).heap w (held_at after w).account k
-    account_after k is = ((so after (after_told p w t) (at_flip p story.flip t) keeps.stands).mutators w k is).account
+    account_after : (u : Told) → t ≡ u → (k : Mutator) → slice_get (then u).mutators w ≡ Some k → Accounts (then u).heap w (held_at after w).account k
+    account_after u e k is = ((so after (then u) (at_flip p story.flip u) (subst (λ (v : Told). WorkersStand after (then v) (at_flip p story.flip v)) e keeps.stands)).mutators w k is).account
 
-    -- where nothing is answered
-    still_task : w < s.heap.mutators → after_told p w t ≡ p → IsNoAnswer t → IsOnTask later w
-    still_task l same none =
+    -- where nothing is answered it is that of the same mutator, also where cells are emptied
+    account_still : (u : Told) → t ≡ u → IsNoAnswer u → (k : Mutator) → slice_get p.mutators w ≡ Some k → Accounts p.heap w (held_at after w).account k
+    account_still Silent e none k is = account_after Silent e k is
+    account_still (Marks asked) e none k is = account_after (Marks asked) e k is
+    account_still Empties e none k is =
+        let a = account_after Empties e k is in
+        record { counter = a.counter; printed = a.printed; executed = a.executed; end = a.end; serial = a.serial ∙ same_serial p (empty_cells (read after)) w }
+    account_still (Answers task outcome) e none k is = absurd none
+
+    still_task : w < s.heap.mutators → (u : Told) → t ≡ u → IsNoAnswer u → IsOnTask later w
+    still_task l u e none =
         let length_is = is_so.as_many in
         let c = r.mutators in
         let k : Mutator = get_or p.mutators w fresh in
         let is : slice_get p.mutators w ≡ Some k = slice_get-get_or p.mutators w fresh (omega (arith, l, length_is, c)) in
         let b = account_before k is in
-        let a : Accounts p.heap w (held_at after w).account k = subst (λ (u : Plain). slice_get u.mutators w ≡ Some k → Accounts u.heap w (held_at after w).account k) same (account_after k) is in
+        let a = account_still u e none k is in
         let was = steady.on_task w l in
         record {
           counted = omega (arith, a.serial, a.executed, b.serial, b.executed, was.counted);
           within = omega (arith, a.executed, b.executed, was.within);
-          task = λ task e.
-              ready_task s w steady l task (sym (goes_on.kept none) ∙ sym (ap (λ (h : Held). h.task) here) ∙ e)
+          task = λ task its.
+              ready_task s w steady l task (sym (goes_on.kept (subst IsNoAnswer (sym e) none)) ∙ sym (ap (λ (h : Held). h.task) here) ∙ its)
               ∙ same_task s.code s.turns w (held_at s.heap w) (held_at after w) (b.counter ∙ sym a.counter) (b.executed ∙ sym a.executed);
         }
 
@@ -270,9 +299,9 @@ module _ (law : StepsKeep) (goes : WorkersGoOn) (wants : WorkersWant) (so : What
         let made = is_so.sound.represents.dump.as_many.1 in
         let length_is = r.mutators in
         let c = counted_then s.code s.turns p w k (has_code k answered.is) answered.is answered.no_end outcome (may task outcome e answered) (omega (arith, l, made, length_is)) (omega (arith, was.counted, b.serial, b.executed)) (omega (arith, was.within, b.executed)) in
-        let same : after_told p w t ≡ after_outcome p w k (task_of (fetch s.code s.turns w k)) outcome = rw e (rw (answered.is, own_is) refl) in
+        let same : then (Answers task outcome) ≡ after_outcome p w k (task_of (fetch s.code s.turns w k)) outcome = rw (answered.is, own_is) refl in
         let a : Accounts (after_outcome p w k (task_of (fetch s.code s.turns w k)) outcome).heap w (held_at after w).account c.mutator =
-        subst (λ (u : Plain). slice_get u.mutators w ≡ Some c.mutator → Accounts u.heap w (held_at after w).account c.mutator) same (account_after c.mutator) c.found in
+        subst (λ (u : Plain). slice_get u.mutators w ≡ Some c.mutator → Accounts u.heap w (held_at after w).account c.mutator) same (account_after (Answers task outcome) e c.mutator) c.found in
         record {
           counted = omega (arith, a.serial, a.executed, c.counted);
           within = omega (arith, a.executed, c.bounded);
@@ -280,9 +309,9 @@ module _ (law : StepsKeep) (goes : WorkersGoOn) (wants : WorkersWant) (so : What
         }
 
     own_on : w < s.heap.mutators → (u : Told) → t ≡ u → IsAnswered p w u → IsOnTask later w
-    own_on l Silent e answered = still_task l (rw e refl) (rw e tt)
-    own_on l Empties e answered = still_task l (rw e refl) (rw e tt)
-    own_on l (Marks asked) e answered = still_task l (rw e refl) (rw e tt)
+    own_on l Silent e answered = still_task l Silent e tt
+    own_on l Empties e answered = still_task l Empties e tt
+    own_on l (Marks asked) e answered = still_task l (Marks asked) e tt
     own_on l (Answers task outcome) e answered = answered_task l task outcome e answered
 
     ready_last : ScannersAreLast r.heap
@@ -303,14 +332,20 @@ module _ (law : StepsKeep) (goes : WorkersGoOn) (wants : WorkersWant) (so : What
       whole = length-words_after q r.heap.words ∙ subst (λ (h : Heap). length h.words ≡ whole_length (layout_of h)) (sym r.is) steady.whole;
     }
 
-    pub step_keeps : KeepsStory s w story
+    pub step_keeps : KeepsPlain s w story
     step_keeps =
-        let stood = story_stands t refl keeps.answered in
+        let stood = met t refl keeps.answered in
         record {
           steady = rw event_is later_steady;
-          stands = rw (event_is, stood.0, stood.1) (stories_keep r.heap story.now story.flip w y q r.stands r.below r.holds asked);
+          stands = rw (event_is, stood.0, stood.1) keeps.stands;
           told = rw event_is (told_by t refl keeps.answered keeps.full keeps.flips);
         }
+
+    -- in a story it stands for the story then
+    pub step_story : StoriesKeep → StoryStands s.heap story.now story.flip → StoryStands (event_of s w).after (story_by s story (event_of s w).told).now (story_by s story (event_of s w).told).flip
+    step_story stories stands =
+        let stood = story_stands t refl keeps.answered in
+        rw (event_is, stood.0, stood.1) (stories r.heap story.now story.flip w y q (ready_story s w story.now story.flip r stands) r.below r.holds asked)
 
 -- ---- any plain state that is represented
 
@@ -327,7 +362,7 @@ represented_lawful s p l for_it = represented_workers s.heap l.plain p l.flip l.
 
 module _ (law : StepsKeep) (readies : ReadyingStands) (tasks : TasksMayBegin) (goes : WorkersGoOn) (wants : WorkersWant) (so : WhatStandsIsSo) where
   by_want : (s : CoreState) (w : ℕ) (story : Story) (steady : IsSteady s) (stands : WorkersStand s.heap story.now story.flip) (r : ReadyToStep s w story.now story.flip)
-      → (o : Option Step) → wanted (ready s w) ≡ o → KeepsStory s w story
+      → (o : Option Step) → wanted (ready s w) ≡ o → KeepsPlain s w story
   by_want s w story steady stands r None e =
       let gone = (wants r.heap.pages r.heap.mutators w (ready s w) (fits law goes wants so s w story steady r)).0 e in
       idle_keeps s w story steady stands e (gone_ended law goes wants so s w story steady r gone) (gone_last law goes wants so s w story steady r gone)
@@ -344,8 +379,8 @@ module _ (law : StepsKeep) (readies : ReadyingStands) (tasks : TasksMayBegin) (g
       let e : end_of p w ≡ None = rw none refl in
       absurd (cc)
 
-  pub events_keep : EventsKeep
-  events_keep s w story steady stands = ⊎_elim
+  pub events_stand : EventsStand
+  events_stand s w story steady stands = ⊎_elim
       (λ (below : w < length s.heap.workers). by_want s w story steady stands (readied_stands readies tasks s w story.now story.flip steady stands below) (wanted (ready s w)) refl)
       (λ (past : length s.heap.workers ≤ w). idle_keeps s w story steady stands (missing s w past) (not_there s w story.now story.flip stands past)
       (λ scanner m l. absurd (let there = scanner.1 in omega (arith, there, past))))
@@ -356,9 +391,8 @@ module _ (law : StepsKeep) (readies : ReadyingStands) (tasks : TasksMayBegin) (g
   pub events_meet : EventsMeet
   events_meet s w p lawful for_it =
       let story : Story = story_in s lawful p in
-      let stands = represented_lawful s p lawful for_it in
-      let k = events_keep s w story lawful.steady stands in
-      let later : Story = story_by s story (event_of s w).told in
+      let k = events_stand s w story lawful.steady (represented_lawful s p lawful for_it) in
+      let later : Story = story_met s story (event_of s w) in
       let is_so = so (event_of s w).after later.now later.flip k.stands in
       record {
         lawful = record { steady = k.steady; plain = later.now; flip = later.flip; stands = k.stands };
@@ -366,6 +400,23 @@ module _ (law : StepsKeep) (readies : ReadyingStands) (tasks : TasksMayBegin) (g
         after = record { represents = is_so.sound.represents; kept = kept_itself (event_of s w).after.checkpoints later.now };
         told = k.told;
       }
+
+  -- ---- of a story
+
+  module _ (stories : StoriesKeep) where
+    story_by_want : (s : CoreState) (w : ℕ) (story : Story) (steady : IsSteady s) → StoryStands s.heap story.now story.flip → (o : Option Step) → wanted (ready s w) ≡ o
+        → StoryStands (event_of s w).after (story_by s story (event_of s w).told).now (story_by s story (event_of s w).told).flip
+    story_by_want s w story steady stands None none = let e = idle_event s w none in rw e stands
+    story_by_want s w story steady stands (Some q) asked = ⊎_elim
+        (λ (below : w < length s.heap.workers).
+        step_story law goes wants so s w story steady (readied_stands readies tasks s w story.now story.flip steady stands.stands below) q asked stories stands)
+        (λ (past : length s.heap.workers ≤ w). none≢some (sym (missing s w past) ∙ asked))
+        (cases_lt w (length s.heap.workers))
+
+    pub events_keep : EventsKeep
+    events_keep s w story steady stands =
+        let k = events_stand s w story steady stands.stands in
+        record { steady = k.steady; stands = story_by_want s w story steady stands (wanted (ready s w)) refl; told = k.told }
 
 pub missing_workers_are_idle : MissingWorkersAreIdle
 unfolding event_of

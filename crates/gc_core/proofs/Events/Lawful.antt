@@ -21,18 +21,18 @@ use Rattle.gc_worker.specs.declared.config.Config.{Config}
 use Rattle.gc_core.specs.Core.{CoreState, opening_core, workers_of, has_sizes}
 use Rattle.gc_core.specs.Event.{Event, event_of, event_by, core_after, ready, fetched_task}
 use Rattle.gc_worker.specs.Steps.Stepped.{stepped_by}
-use Rattle.gc_core.specs.Law.{IsLawful, story_by}
+use Rattle.gc_core.specs.Law.{IsLawful, story_met}
 use Rattle.gc_core.proofs.Events.Opening.{opening_lawful}
 use Rattle.gc_core.proofs.Events.Readied.{readied_stands, looks_idle, may_begin}
-use Rattle.gc_core.proofs.Whole.{events_keep}
+use Rattle.gc_core.proofs.Whole.{events_stand}
 
 -- ---- it stays lawful
 
 pub lawful_after : (s : CoreState) (w : ℕ) → IsLawful s → IsLawful (core_after s w)
 lawful_after s w l =
     let story : Story = record { flip = l.flip; now = l.plain } in
-    let k = events_keep s w story l.steady l.stands in
-    record { steady = k.steady; plain = (story_by s story (event_of s w).told).now; flip = (story_by s story (event_of s w).told).flip; stands = k.stands }
+    let k = events_stand s w story l.steady l.stands in
+    record { steady = k.steady; plain = (story_met s story (event_of s w)).now; flip = (story_met s story (event_of s w)).flip; stands = k.stands }
 
 pub lawful_opening : (code : List (List Instr)) (items : List Item) (config : Config) → IsWellFormed code items → IsTrue (has_sizes config) → config.turns ≤ 10000000 → config.scanners ≤ 8
     → IsLawful (opening_core code config)

@@ -4,6 +4,7 @@ use Rattle.std.specs.Prelude.{IsTrue, if◌then◌else◌, slice_set}
 use Rattle.std.proofs.lemmas.List.{length-replicate}
 use Rattle.std.proofs.Math.ListN.{length-set}
 use Rattle.std.proofs.lemmas.Bool.{leb-true}
+use Rattle.plain_state.specs.Cells.{CellsFollow}
 use Rattle.plain_state.specs.State.{Plain}
 use Rattle.mutator_asm.specs.declared.instr.Instr.{Instr}
 use Rattle.mutator_asm.specs.declared.item.Item.{Item}
@@ -19,11 +20,14 @@ use Rattle.space_map.specs.Table.{whole_length}
 use Rattle.gc_worker.specs.Laws.Between.{HeapsOpen, fresh_worker, fresh_workers, fresh_mutator, fresh_scanner, opening_words}
 use Rattle.gc_worker.specs.Workers.Held.{Held}
 use Rattle.gc_worker.specs.Laws.Step.{WorkersStand, held_at, read}
+use Rattle.gc_worker.specs.Laws.Copied.{IsTraced}
+use Rattle.gc_worker.specs.Laws.Stories.{StoryStands}
 use Rattle.gc_worker.specs.Steps.Turned.{epoch_in_gate}
 use Rattle.gc_worker.proofs.Stages.Gate.Words.{gate_says}
 use Rattle.gc_worker.proofs.Between.Last.{scanners_begin_last}
 use Rattle.gc_worker.proofs.Between.Opening.{are_opening, is_there}
 use Rattle.gc_worker.specs.declared.config.Config.{Config}
+use Rattle.gc_worker.proofs.Plain.KeptCells.{opening_cells}
 use Rattle.gc_worker.proofs.Plain.Outcomes.{opens_so}
 use Rattle.gc_core.specs.Core.{has_sizes, layout_by, opening_core}
 use Rattle.gc_worker.specs.Laws.Claims.{epoch_of_heap}
@@ -79,6 +83,13 @@ module _ (opens : HeapsOpen) (code : List (List Instr)) (items : List Item) (con
   opening_stands =
       subst (λ (p : Plain). WorkersStand (opening_core code config).heap p p) (opens_so code)
       (let fit = sizes_fit config size in opens (layout_by config) config.pages (length code) config.scanners (limit_fits config size) fit.0 fit.1 program.few_sections (let l = program.few_sections in omega (arith, l, few)))
+
+  -- and so for a story that begins there
+  pub opening_story : StoryStands (opening_core code config).heap (order.opening code) (order.opening code)
+  opening_story = record {
+    stands = opening_stands;
+    cells = let traced = IsTraced (opening_core code config).heap in subst (λ (p : Plain). CellsFollow traced p p) (opens_so code) (opening_cells traced (length code));
+  }
 
   mutator_there : (m : ℕ) → m < length code → held_at (opening_core code config).heap m ≡ fresh_mutator (layout_by config) (length code) m
   mutator_there m l =

@@ -26,7 +26,7 @@ use Rattle.gc_worker.specs.Plain.Marks.{mark_of}
 use Rattle.gc_core.specs.Claims.{AreApart, IsWonOnce, PagesAreWon, won_of, wins_from}
 use Rattle.gc_core.specs.Core.{CoreState}
 use Rattle.gc_core.specs.Event.{core_after, event_of, event_by, readied, ready}
-use Rattle.gc_core.specs.Law.{EventsKeep, IsSteady, story_by}
+use Rattle.gc_core.specs.Law.{EventsStand, IsSteady, story_met}
 use Rattle.gc_core.specs.Run.{Ran, after_event, all_ended, run_from}
 use Rattle.gc_core.proofs.Events.Readied.{ReadyToStep, readied_stands}
 
@@ -81,7 +81,7 @@ module _ (opens : PagesAreOpenedByClaims) (readies : ReadyingStands) (tasks : Ta
   abbrev Came : CoreState → CoreState → List PageWon → (page : ℕ) → Type 0
   Came s last wins page = ((epoch_of_heap last.heap ≡ epoch_of_heap s.heap) × IsOf s page) ⊎ StandsIn wins (record { page = page; epoch = epoch_of_heap last.heap })
 
-  module _ (events : EventsKeep) where
+  module _ (events : EventsStand) where
     came_by : (s : CoreState) (w : ℕ) (story : Story) → IsSteady s → WorkersStand s.heap story.now story.flip → (last : CoreState) (rest : List PageWon) (page : ℕ)
         → Came (core_after s w) last rest page → Came s last (option_to_list (won_of s w) ++ rest) page
     came_by s w story steady stands last rest page (inr there) = inr (later_stands (won_of s w) rest _ there)
@@ -107,7 +107,7 @@ module _ (opens : PagesAreOpenedByClaims) (readies : ReadyingStands) (tasks : Ta
         let k = events s w story steady stands in
         let next = core_after s w in
         run_by s w story steady stands (mark_of (event_of s w).told) (run_from schedule (at + 1) n next) (wins_from schedule (at + 1) n next) page
-        (came schedule (at + 1) n next (story_by s story (event_of s w).told) k.steady k.stands page) (all_ended s) is
+        (came schedule (at + 1) n next (story_met s story (event_of s w)) k.steady k.stands page) (all_ended s) is
 
     -- ---- from an opening
 

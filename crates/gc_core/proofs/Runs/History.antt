@@ -21,6 +21,7 @@ use Rattle.gc_worker.specs.History.Needs.{EachFullIs, EachMayCome, made_since, f
 use Rattle.gc_worker.specs.History.Order.{AreFetched, entry_mark, order_of}
 use Rattle.gc_worker.specs.History.Tally.{IsTallied, Tally, first_tally, tally, tasks_held}
 use Rattle.gc_worker.specs.Laws.Step.{Heap, StepKeeps, WorkersStand, held_at, moved, nobody}
+use Rattle.gc_worker.specs.Laws.Stories.{StoryStands}
 use Rattle.gc_worker.specs.Plain.Marks.{mark_of, task_of}
 use Rattle.gc_worker.specs.Plain.Seen.{seen}
 use Rattle.gc_worker.specs.Steps.Stepped.{stepped_by}
@@ -45,7 +46,7 @@ use Rattle.gc_core.specs.Cycles.{count_from}
 use Rattle.gc_core.specs.Event.{Event, core_after, event_of, readied, ready}
 use Rattle.gc_core.specs.Law.{IsSteady, KeepsStory}
 use Rattle.gc_core.specs.Run.{all_ended, run_from}
-use Rattle.gc_core.proofs.Events.Law.{event_is, own_task}
+use Rattle.gc_core.proofs.Events.Law.{event_is, own_task, ready_story}
 use Rattle.gc_core.proofs.Events.Readied.{ReadyToStep, ready_begins, readied_stands}
 use Rattle.gc_core.proofs.Whole.{events_keep}
 
@@ -111,7 +112,7 @@ log_order schedule at (suc n) s log =
 -- core, and its calls are what mutators fetch.
 pub record HasHistory (least : ℕ) (s : CoreState) (log : List Entry) : Type 0 where
   pub steady : IsSteady s
-  pub stands : WorkersStand s.heap (tally (first s) log).now (tally (first s) log).flip
+  pub stands : StoryStands s.heap (tally (first s) log).now (tally (first s) log).flip
   pub tallied : IsTallied least s.heap (first s) log
   pub legal : IsLegal (opening s.code) log
   pub fetched : (m : ℕ) → AreFetched s.code s.turns m (opening s.code) log
@@ -132,7 +133,7 @@ module _ (least : ℕ) (s : CoreState) (w : ℕ) (log : List Entry) (h : HasHist
 
   module _ (below : w < length s.heap.workers) (q : Step) (asked : wanted (ready s w) ≡ Some q) where
     pub its_ready : ReadyToStep s w t.now t.flip
-    its_ready = readied_stands readying_stands tasks_may_begin s w t.now t.flip h.steady h.stands below
+    its_ready = readied_stands readying_stands tasks_may_begin s w t.now t.flip h.steady h.stands.stands below
 
     abbrev r : ReadyToStep s w t.now t.flip
     r = its_ready
@@ -158,10 +159,13 @@ module _ (least : ℕ) (s : CoreState) (w : ℕ) (log : List Entry) (h : HasHist
     same : tally (first s) grown ≡ tally t (extra t.flip w u)
     same = tally_append (first s) log (extra t.flip w u)
 
-    stands : WorkersStand after (tally (first s) grown).now (tally (first s) grown).flip
-    stands = subst (λ (z : Tally). WorkersStand after z.now z.flip) (sym same)
-        (subst (λ (z : Plain × Plain). WorkersStand after z.0 z.1) (λ i. (sym (tally_more-now t t.flip w u) i, sym (tally_more-flip t t.flip w u) i))
-        (stories_keep r.heap t.now t.flip w y q r.stands r.below r.holds asked))
+    event : event_of s w ≡ record { told = stepped_by w u; after = after }
+    event = event_is steps_keep workers_go_on workers_want what_stands_is_so s w now h.steady r q asked
+
+    stands : StoryStands after (tally (first s) grown).now (tally (first s) grown).flip
+    stands = subst (λ (z : Tally). StoryStands after z.now z.flip) (sym same)
+        (subst (λ (z : Plain × Plain). StoryStands after z.0 z.1) (λ i. (sym (tally_more-now t t.flip w u) i, sym (tally_more-flip t t.flip w u) i))
+        (stories_keep r.heap t.now t.flip w y q (ready_story s w t.now t.flip r h.stands) r.below r.holds asked))
 
     all_is : after_all (opening s.code) log ≡ t.now
     all_is = sym (tally_now (first s) log)
@@ -180,7 +184,6 @@ module _ (least : ℕ) (s : CoreState) (w : ℕ) (log : List Entry) (h : HasHist
 
     step_history : HasHistory least (core_after s w) (log ++ adds s log w)
     step_history =
-        let event : event_of s w ≡ record { told = stepped_by w u; after = after } = event_is steps_keep workers_go_on workers_want what_stands_is_so s w now h.steady r q asked in
         let more : adds s log w ≡ extra t.flip w u = ap (adds_by s t.flip w) asked ∙ ap (λ (words : List ℕ). extra t.flip w (told y (reply_of q words))) (sym r.words) in
         subst (λ (z : CoreState × List Entry). HasHistory least z.0 (log ++ z.1)) (λ i. (record s { heap = (sym event i).after }, sym more i))
         (record {
@@ -209,7 +212,7 @@ module _ (least : ℕ) (s : CoreState) (log : List Entry) (h : HasHistory least 
   last = after_all (opening s.code) log
 
   so : IsSo s.heap last
-  so = what_stands_is_so s.heap last (tally (first s) log).flip (subst (λ (p : Plain). WorkersStand s.heap p (tally (first s) log).flip) (tally_now (first s) log) h.stands)
+  so = what_stands_is_so s.heap last (tally (first s) log).flip (subst (λ (p : Plain). WorkersStand s.heap p (tally (first s) log).flip) (tally_now (first s) log) h.stands.stands)
 
   -- the tasks that workers have begun are what their mutators fetch
   pub are_next : (j : ℕ) → IsNext s.code s.turns last j (tasks_held s.heap.workers j)
@@ -242,7 +245,7 @@ module _ (least : ℕ) (s : CoreState) (log : List Entry) (h : HasHistory least 
   size_at_least = let began = h.tallied.began.0 in let size = h.tallied.counts.size in let fewest = h.tallied.counts.least in omega (arith, began, size, fewest)
 
   pub size_at_most : size_in s ≤ s.heap.pages
-  size_at_most = (sizes_are_within s.heap (tally (first s) log).now (tally (first s) log).flip h.stands).1
+  size_at_most = (sizes_are_within s.heap (tally (first s) log).now (tally (first s) log).flip h.stands.stands).1
 
 -- ---- a run
 

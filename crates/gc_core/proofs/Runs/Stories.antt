@@ -14,6 +14,7 @@ use Rattle.plain_heap.proofs.Orders.Stories.{story_after-append}
 use Rattle.gc_worker.specs.Laws.Between.{WhatStandsIsSo}
 use Rattle.gc_worker.specs.Workers.Held.{Held}
 use Rattle.gc_worker.specs.Laws.Step.{Heap, WorkersStand, nobody, held_at}
+use Rattle.gc_worker.specs.Laws.Stories.{StoryStands}
 use Rattle.gc_worker.specs.declared.steps.stepped.Stepped.{Stepped}
 use Rattle.gc_worker.specs.declared.steps.stepped.Stepped.TheVariants.{Idle, Moved, Effect, Flipped, Traced, Ended}
 use Rattle.gc_worker.specs.Plain.Marks.{MarkActs, EachActs, mark_of}
@@ -59,9 +60,9 @@ module _ (keep : EventsKeep) where
   -- what a run comes to that begins with a story
   pub record IsRunOf (s : CoreState) (story : Story) (r : Ran) : Type 0 where
     pub steady : IsSteady r.last
-    pub stands : WorkersStand r.last.heap (story_after s.code s.turns story r.order).now (story_after s.code s.turns story r.order).flip
+    pub stands : StoryStands r.last.heap (story_after s.code s.turns story r.order).now (story_after s.code s.turns story r.order).flip
 
-  run_as : (schedule : ℕ → ℕ) (at n : ℕ) (s : CoreState) (story : Story) (b : Bool) → all_ended s ≡ b → IsSteady s → WorkersStand s.heap story.now story.flip
+  run_as : (schedule : ℕ → ℕ) (at n : ℕ) (s : CoreState) (story : Story) (b : Bool) → all_ended s ≡ b → IsSteady s → StoryStands s.heap story.now story.flip
       → IsRunOf (core_after s (schedule at)) (story_by s story (event_of s (schedule at)).told) (run_from schedule (at + 1) n (core_after s (schedule at)))
       → IsRunOf s story (run_from schedule at (suc n) s)
   unfolding run_from
@@ -71,7 +72,7 @@ module _ (keep : EventsKeep) where
     stands = rw (story_after-append s.code s.turns story (option_to_list (mark_of (event_of s (schedule at)).told)) (run_from schedule (at + 1) n (core_after s (schedule at))).order) rest.stands;
   })
 
-  pub run_law : (schedule : ℕ → ℕ) (at n : ℕ) (s : CoreState) (story : Story) → IsSteady s → WorkersStand s.heap story.now story.flip → IsRunOf s story (run_from schedule at n s)
+  pub run_law : (schedule : ℕ → ℕ) (at n : ℕ) (s : CoreState) (story : Story) → IsSteady s → StoryStands s.heap story.now story.flip → IsRunOf s story (run_from schedule at n s)
   unfolding run_from
   run_law schedule at zero s story steady stands = record { steady = steady; stands = stands }
   run_law schedule at (suc n) s story steady stands =
@@ -90,7 +91,7 @@ module _ (keep : EventsKeep) where
   acts_as schedule at n s story false is now rest = rw is
       (EachMark-append (MarkActs s.code s.turns) s.code s.turns story (option_to_list (mark_of (event_of s (schedule at)).told)) (run_from schedule (at + 1) n (core_after s (schedule at))).order now rest)
 
-  pub run_acts : (schedule : ℕ → ℕ) (at n : ℕ) (s : CoreState) (story : Story) → IsSteady s → WorkersStand s.heap story.now story.flip → EachActs s.code s.turns story (run_from schedule at n s).order
+  pub run_acts : (schedule : ℕ → ℕ) (at n : ℕ) (s : CoreState) (story : Story) → IsSteady s → StoryStands s.heap story.now story.flip → EachActs s.code s.turns story (run_from schedule at n s).order
   unfolding run_from
   run_acts schedule at zero s story steady stands = tt
   run_acts schedule at (suc n) s story steady stands =
@@ -105,7 +106,7 @@ module _ (keep : EventsKeep) where
   unless true P y = tt
   unless false P y = y
 
-  pub run_full : (schedule : ℕ → ℕ) (at n : ℕ) (s : CoreState) (story : Story) → IsSteady s → WorkersStand s.heap story.now story.flip → EachEvent IsFull schedule at n s
+  pub run_full : (schedule : ℕ → ℕ) (at n : ℕ) (s : CoreState) (story : Story) → IsSteady s → StoryStands s.heap story.now story.flip → EachEvent IsFull schedule at n s
   unfolding EachEvent
   run_full schedule at zero s story steady stands = tt
   run_full schedule at (suc n) s story steady stands =

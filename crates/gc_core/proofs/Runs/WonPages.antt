@@ -13,7 +13,7 @@ use Rattle.gc_worker.specs.Steps.Wanted.{wanted}
 use Rattle.gc_core.specs.Claims.{AreApart, won_of, wins_from, PagesAreWonOnce}
 use Rattle.gc_core.specs.Core.{CoreState}
 use Rattle.gc_core.specs.Event.{core_after, event_of, readied, ready}
-use Rattle.gc_core.specs.Law.{EventsKeep, IsSteady, KeepsStory, story_by}
+use Rattle.gc_core.specs.Law.{EventsStand, IsSteady, KeepsPlain, story_met}
 use Rattle.gc_core.specs.Run.{all_ended}
 use Rattle.gc_core.proofs.Events.Readied.{ReadyToStep, readied_stands}
 
@@ -65,15 +65,15 @@ module _ (law : StepsKeep) (readies : ReadyingStands) (tasks : TasksMayBegin) wh
 
   -- ---- a run
 
-  module _ (events : EventsKeep) (s : CoreState) (w : ℕ) (story : Story) (steady : IsSteady s) (stands : WorkersStand s.heap story.now story.flip) (rest : List PageWon) where
+  module _ (events : EventsStand) (s : CoreState) (w : ℕ) (story : Story) (steady : IsSteady s) (stands : WorkersStand s.heap story.now story.flip) (rest : List PageWon) where
     abbrev later : Heap
     later = (core_after s w).heap
 
-    keeps : KeepsStory s w story
+    keeps : KeepsPlain s w story
     keeps = events s w story steady stands
 
     abbrev after : Story
-    after = story_by s story (event_of s w).told
+    after = story_met s story (event_of s w)
 
     claims : Wins s w
     claims = event_wins s w story steady stands
@@ -116,7 +116,7 @@ module _ (law : StepsKeep) (readies : ReadyingStands) (tasks : TasksMayBegin) wh
     apart_by none apart true i j v is at = absurd (let e = is in cc)
     apart_by none apart false i j v is at = by_both none apart i j v (split (won_of s w) rest i v is) (split (won_of s w) rest j v at)
 
-  module _ (events : EventsKeep) where
+  module _ (events : EventsStand) where
     never : (schedule : ℕ → ℕ) (at n : ℕ) (s : CoreState) (story : Story) → IsSteady s → WorkersStand s.heap story.now story.flip → (v : PageWon) → IsOut s.heap.pages s.heap.words v
         → (i : ℕ) → slice_get (wins_from schedule at n s) i ≡ Some v → ⊥
     unfolding wins_from
@@ -125,7 +125,7 @@ module _ (law : StepsKeep) (readies : ReadyingStands) (tasks : TasksMayBegin) wh
         let w = schedule at in
         let k = keeps events s w story steady stands (wins_from schedule (at + 1) n (core_after s w)) in
         never_by events s w story steady stands (wins_from schedule (at + 1) n (core_after s w))
-        (never schedule (at + 1) n (core_after s w) (story_by s story (event_of s w).told) k.steady k.stands) (all_ended s) v out i e
+        (never schedule (at + 1) n (core_after s w) (story_met s story (event_of s w)) k.steady k.stands) (all_ended s) v out i e
 
     pub pages_are_won_once : PagesAreWonOnce
     unfolding wins_from
@@ -134,5 +134,5 @@ module _ (law : StepsKeep) (readies : ReadyingStands) (tasks : TasksMayBegin) wh
         let w = schedule at in
         let k = keeps events s w story steady stands (wins_from schedule (at + 1) n (core_after s w)) in
         apart_by events s w story steady stands (wins_from schedule (at + 1) n (core_after s w))
-        (never schedule (at + 1) n (core_after s w) (story_by s story (event_of s w).told) k.steady k.stands)
-        (pages_are_won_once schedule (at + 1) n (core_after s w) (story_by s story (event_of s w).told) k.steady k.stands) (all_ended s) i j v is at'
+        (never schedule (at + 1) n (core_after s w) (story_met s story (event_of s w)) k.steady k.stands)
+        (pages_are_won_once schedule (at + 1) n (core_after s w) (story_met s story (event_of s w)) k.steady k.stands) (all_ended s) i j v is at'

@@ -1,15 +1,16 @@
 -- What is told of a core by its readers represents the plain state that the core represents.
-use Rattle.std.proofs.Common.{◌≡◌, ℕ, ◌<◌, ◌≤◌, Bool, true, false, List, [], length, get_or, slice_index, take, refl, sym, ap, subst, ◌∙◌, arith}
+use Rattle.std.proofs.Common.{◌≡◌, inl, inr, ℕ, ◌+◌, ◌<◌, ◌≤◌, Bool, true, false, List, [], length, get_or, slice_index, take, Some, refl, sym, ap, subst, ◌∙◌, ⊎_elim, arith}
 use Rattle.std.proofs.Math.Path.{fun_ext}
 use Rattle.std.specs.Prelude.{if◌then◌else◌}
 use Rattle.std.proofs.lemmas.List.{get_or-map, get_or-take, length-map, length-take-le}
 use Rattle.std.proofs.lemmas.Option.{slice_get_within}
 use Rattle.plain_state.specs.State as plain
 use Rattle.plain_state.specs.declared.kind.Kind.{Kind}
+use Rattle.plain_state.specs.declared.value.Value.{Value}
 use Rattle.space_map.specs.Table.{Row, is_row, place_of, table_length}
 use Rattle.space_map.proofs.Rows.{is_row-decides, place_of-lt}
 use Rattle.heap_state.specs.Meaning.Dump.{Dump, dump_of}
-use Rattle.heap_state.specs.Meaning.Represents.{DumpRepresents, RegisterShows, HeadShows, WordShows, RecordShows, IsOwn, HasOwn, Names, LeadsToRecord, denoted_in_dump}
+use Rattle.heap_state.specs.Meaning.Represents.{DumpRepresents, RegisterShows, HeadShows, WordShows, RecordShows, IsEmptied, IsOwn, HasOwn, Names, LeadsToRecord, denoted_in_dump}
 use Rattle.heap_state.specs.Memory.Table.{Table, table_by, table_of, word_in}
 use Rattle.heap_state.specs.Memory.Walk.{Walked}
 use Rattle.heap_state.specs.Worker.{Scanner, Worker, fresh}
@@ -52,12 +53,20 @@ module _ (d : Dump) (p : plain.Plain) (mutators : ℕ) (registers : ℕ → ℕ 
         h.once v kind more len longer serial mutator (own_back w kind len serial mutator o) (own_back v more longer serial mutator other_own);
   }
 
+  empties : (w : Walked) (v : Value) → IsEmptied d w v → IsEmptied other w v
+  empties w v e = record { copied = e.copied; walked = e.walked; empty = e.empty; lost = e.lost }
+
   word_shows : (w : Walked) (i : ℕ) → WordShows d p w i → WordShows other p w i
   word_shows w i s = record {
     count = λ kind r n. s.count kind r (names_back w kind r n);
     field = λ kind r x n. s.field kind r x (names_back w kind r n);
     number = λ kind r x n. s.number kind r x (names_back w kind r n);
     leads = λ kind len serial mutator o. s.leads kind len serial mutator (own_back w kind len serial mutator o);
+    target = λ kind r v n is held. ⊎_elim
+        (λ (shown : denoted_in_dump d (d.table.heap (w.at + i)) ≡ Some v). inl shown)
+        (λ (emptied : IsEmptied d w v). inr (empties w v emptied))
+        (s.target kind r v (names_back w kind r n) is held);
+    target_leads = λ kind len serial mutator o. s.target_leads kind len serial mutator (own_back w kind len serial mutator o);
   }
 
   record_shows : (w : Walked) → RecordShows d p w → RecordShows other p w

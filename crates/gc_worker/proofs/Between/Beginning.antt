@@ -9,7 +9,7 @@ use Rattle.gate_core.specs.declared.passage.Passage.TheVariants.{Look, Attach, P
 use Rattle.gc_worker.specs.declared.stage.after.After.{After}
 use Rattle.gc_worker.specs.declared.stage.after.After.TheVariants as afters
 use Rattle.gc_worker.specs.declared.stage.back.Back.{Back}
-use Rattle.gc_worker.specs.declared.stage.back.Back.TheVariants.{ToAccess, ToPlace, ToSnap, ToScanner}
+use Rattle.gc_worker.specs.declared.stage.back.Back.TheVariants.{ToAccess, ToTarget, ToPlace, ToSnap, ToScanner}
 use Rattle.gc_worker.specs.declared.stage.forwarding_register.ForwardingRegister.{ForwardingRegister}
 use Rattle.gc_worker.specs.declared.stage.goal.Goal.{Goal}
 use Rattle.gc_worker.specs.declared.stage.goal.Goal.TheVariants.{ForFlip, ForSnap, ForScanner}
@@ -76,6 +76,7 @@ module _ (x : Held) (idle : IsIdle x) where
 
   by_back : (back : Back) → FitsTaskBack x back → IsOnSideBack back (nat_lt x.number x.mutators) → ⊥
   by_back (ToAccess a) task side = executes_none task.executes
+  by_back (ToTarget a) task side = executes_none task.executes
   by_back ToPlace task side = executes_none task.executes
   by_back ToSnap task side = executes_none task.0
   by_back ToScanner task side = mutator side

@@ -48,11 +48,11 @@ use Rattle.plain_heap.specs.declared.action.Action.TheVariants.{Sets, Jumps, Lin
 use Rattle.plain_heap.specs.Action.{action}
 use Rattle.gc_worker.specs.declared.access.Access.{Access}
 use Rattle.gc_worker.specs.declared.access.accessed.Accessed.{Accessed}
-use Rattle.gc_worker.specs.declared.access.accessed.Accessed.TheVariants.{Faults, Brings, Stored, Fails}
+use Rattle.gc_worker.specs.declared.access.accessed.Accessed.TheVariants.{Faults, Awaits, Brings, Stored, Fails}
 use Rattle.gc_worker.specs.declared.stage.after.After.{After}
 use Rattle.gc_worker.specs.declared.stage.after.After.TheVariants as afters
 use Rattle.gc_worker.specs.declared.stage.back.Back.{Back}
-use Rattle.gc_worker.specs.declared.stage.back.Back.TheVariants.{ToAccess, ToPlace, ToSnap, ToScanner}
+use Rattle.gc_worker.specs.declared.stage.back.Back.TheVariants.{ToAccess, ToTarget, ToPlace, ToSnap, ToScanner}
 use Rattle.gc_worker.specs.declared.stage.forwarding_register.ForwardingRegister.{ForwardingRegister}
 use Rattle.gc_worker.specs.declared.stage.goal.Goal.{Goal}
 use Rattle.gc_worker.specs.declared.stage.goal.Goal.TheVariants.{ForFlip, ForSnap, ForScanner}
@@ -88,6 +88,7 @@ runs_on_so x after past = pasts (IsPastAfter after) x.layout.checkpoints (Recall
 
 goes_back_so : (x : Held) (back : Back) → IsPastLook (goes_back x back) → IsPastBack back
 goes_back_so x (ToAccess a) past = tt
+goes_back_so x (ToTarget a) past = tt
 goes_back_so x ToPlace past = tt
 goes_back_so x ToSnap past = tt
 goes_back_so x ToScanner past = past
@@ -145,6 +146,7 @@ module _ (x : Held) where
   access_by : (a : Access) (turn : Turn Accessed) → Kept ⊤ (turned_access x a turn)
   access_by a More past = (tt, refl)
   access_by a (Finished (Faults page)) past = (tt, refl)
+  access_by a (Finished Awaits) past = (tt, refl)
   access_by a (Finished (Brings into word)) past = (tt, refl)
   access_by a (Finished Stored) past = (tt, refl)
   access_by a (Finished (Fails why)) past = (tt, refl)
@@ -166,6 +168,7 @@ module _ (x : Held) where
 
   traced_so : (d : duty.Round) (back : Back) → Kept (IsPastBack back) (traced_by (of_round x d) back)
   traced_so d (ToAccess a) past = (tt, refl)
+  traced_so d (ToTarget a) past = (tt, refl)
   traced_so d ToPlace past = (tt, refl)
   traced_so d ToSnap past = (tt, refl)
   traced_so d ToScanner past =

@@ -46,11 +46,11 @@ use Rattle.plain_heap.specs.declared.action.Action.TheVariants.{Sets, Jumps, Lin
 use Rattle.plain_heap.specs.Action.{action}
 use Rattle.gc_worker.specs.declared.access.Access.{Access}
 use Rattle.gc_worker.specs.declared.access.accessed.Accessed.{Accessed}
-use Rattle.gc_worker.specs.declared.access.accessed.Accessed.TheVariants.{Faults, Brings, Stored, Fails}
+use Rattle.gc_worker.specs.declared.access.accessed.Accessed.TheVariants.{Faults, Awaits, Brings, Stored, Fails}
 use Rattle.gc_worker.specs.declared.stage.after.After.{After}
 use Rattle.gc_worker.specs.declared.stage.after.After.TheVariants as afters
 use Rattle.gc_worker.specs.declared.stage.back.Back.{Back}
-use Rattle.gc_worker.specs.declared.stage.back.Back.TheVariants.{ToAccess, ToPlace, ToSnap, ToScanner}
+use Rattle.gc_worker.specs.declared.stage.back.Back.TheVariants.{ToAccess, ToTarget, ToPlace, ToSnap, ToScanner}
 use Rattle.gc_worker.specs.declared.stage.forwarding_register.ForwardingRegister.{ForwardingRegister}
 use Rattle.gc_worker.specs.declared.stage.goal.Goal.{Goal}
 use Rattle.gc_worker.specs.declared.stage.write.Write.{Write}
@@ -188,6 +188,7 @@ module _ (x : Held) where
   access_by : (a : Access) (turn : Turn Accessed) → Turns x (turned_access x a turn) (told_access x.task turn)
   access_by a More = turns (turned_access x a More) Silent (refl, refl, refl) refl
   access_by a (Finished (Faults page)) = turns (turned_access x a (Finished (Faults page))) Silent (refl, refl, refl) refl
+  access_by a (Finished Awaits) = turns (turned_access x a (Finished Awaits)) Silent (refl, refl, refl) refl
   access_by a (Finished (Brings into word)) = effect_by (turned_access x a (Finished (Brings into word))) (refl, refl, refl) refl tt x.task refl
   access_by a (Finished Stored) = effect_by (turned_access x a (Finished Stored)) (refl, refl, refl) refl tt x.task refl
   access_by a (Finished (Fails why)) = end_by why x.task refl
@@ -214,6 +215,7 @@ module _ (x : Held) where
 
   traced_so : (d : duty.Round) (back : Back) → Turns x (traced_by (of_round x d) back) Silent
   traced_so d (ToAccess a) = turns (traced_by (of_round x d) (ToAccess a)) Silent (refl, refl, refl) refl
+  traced_so d (ToTarget a) = turns (traced_by (of_round x d) (ToTarget a)) Silent (refl, refl, refl) refl
   traced_so d ToPlace = turns (traced_by (of_round x d) ToPlace) Silent (refl, refl, refl) refl
   traced_so d ToSnap = turns (traced_by (of_round x d) ToSnap) Silent (refl, refl, refl) refl
   traced_so d ToScanner = turns (traced_by (of_round x d) ToScanner) Silent (refl, refl, refl) refl

@@ -66,11 +66,11 @@ use Rattle.plain_heap.specs.declared.action.Action.TheVariants.{Sets, Jumps, Lin
 use Rattle.plain_heap.specs.Action.{action}
 use Rattle.gc_worker.specs.declared.access.Access.{Access}
 use Rattle.gc_worker.specs.declared.access.accessed.Accessed.{Accessed}
-use Rattle.gc_worker.specs.declared.access.accessed.Accessed.TheVariants.{Faults, Brings, Stored, Fails}
+use Rattle.gc_worker.specs.declared.access.accessed.Accessed.TheVariants.{Faults, Awaits, Brings, Stored, Fails}
 use Rattle.gc_worker.specs.declared.stage.after.After.{After}
 use Rattle.gc_worker.specs.declared.stage.after.After.TheVariants as afters
 use Rattle.gc_worker.specs.declared.stage.back.Back.{Back}
-use Rattle.gc_worker.specs.declared.stage.back.Back.TheVariants.{ToAccess, ToPlace, ToSnap, ToScanner}
+use Rattle.gc_worker.specs.declared.stage.back.Back.TheVariants.{ToAccess, ToTarget, ToPlace, ToSnap, ToScanner}
 use Rattle.gc_worker.specs.declared.stage.forwarding_register.ForwardingRegister.{ForwardingRegister}
 use Rattle.gc_worker.specs.declared.stage.goal.Goal.{Goal}
 use Rattle.gc_worker.specs.declared.stage.goal.Goal.TheVariants.{ForFlip, ForSnap, ForScanner}
@@ -83,7 +83,7 @@ use Rattle.gc_worker.specs.declared.task.Task.TheVariants.{Calls, Stops}
 use Rattle.gc_worker.specs.Steps.Access as access
 use Rattle.gc_worker.specs.Workers.Fits.{FitsStage, IsCallerOf, IsOnSide, IsOnSideBack}
 use Rattle.gc_worker.specs.Laws.Gone.{HasLeft, SawAllLeave, WhoIsGoneSawWhy}
-use Rattle.gc_worker.specs.Workers.Held.{Held, at_stage, fields_for, header_for, making_for, may_snap, run_held}
+use Rattle.gc_worker.specs.Workers.Held.{Held, at_stage, fields_for, header_for, making_for, may_snap, run_held, target_for}
 use Rattle.gc_worker.specs.Plain.Seen.{Making, seen}
 use Rattle.gc_worker.specs.Steps.Turned.{Pointed, acted, acts, after_request, asks_flip, begins, checkpoints, end_by_shortage, ended, epoch_said, first_pointer, forwards_from, forwards_it, full_by, goes_back, goes_on, guards, guards_access, guards_place, in_epoch, is_full, looked_by, of_round, passed_by, passes, places, recalled, rounded, rounded_by, runs_on, served_by, serves_snap, started, traced_by, turned_access, turned_at, turned_copy, turned_flip, turned_gate, turned_guard, turned_look, turned_opening, turned_place, turned_recall, turned_register, turned_round, turned_save_round, turned_scan, turned_snap, went_on, with_copy, with_evac, with_record, writes}
 use Rattle.gc_worker.specs.Steps.Wanted.{wanted_at}
@@ -113,7 +113,7 @@ guarding_place : (y : Held) (p : place.Placing) → IsHere (guards_place y p)
 guarding_place y p = guarding y (OfPlace p) (place.writes_on p p.stage) (Places p) tt
 
 placing : (y : Held) (o : Option Header) → IsHere (places y o)
-placing y (Some header) = guarding_place y (place.begun y.layout (run_held y) header y.epoch (fields_for y) y.snap)
+placing y (Some header) = guarding_place y (place.begun y.layout (run_held y) header y.epoch (fields_for y) y.snap (target_for y))
 placing y None = tt
 
 going_on : (y : Held) (after : After) → IsHere (goes_on y after)
@@ -136,12 +136,14 @@ checkpointing y ForScanner = tt
 
 going_back : (y : Held) (back : Back) → IsHere (goes_back y back)
 going_back y (ToAccess a) = tt
+going_back y (ToTarget a) = tt
 going_back y ToPlace = placing y (header_for y)
 going_back y ToSnap = tt
 going_back y ToScanner = tt
 
 tracing : (y : Held) (back : Back) → IsHere (traced_by y back).stage
 tracing y (ToAccess a) = tt
+tracing y (ToTarget a) = tt
 tracing y ToPlace = placing y (header_for y)
 tracing y ToSnap = tt
 tracing y ToScanner = either y.layout.checkpoints (checkpoints y ForScanner) (goes_back y ToScanner) tt tt
@@ -246,6 +248,7 @@ module _ (x : Held) (here : IsHere x.stage) where
   access_here : (a : Access) (turn : Turn Accessed) → IsHere (turned_access x a turn).stage
   access_here a More = guarding_access x a
   access_here a (Finished (Faults page)) = tt
+  access_here a (Finished Awaits) = tt
   access_here a (Finished (Brings into word)) = tt
   access_here a (Finished Stored) = tt
   access_here a (Finished (Fails why)) = tt
@@ -361,6 +364,7 @@ module _ (x : Held) (q : Step) (words : List ℕ) (here : IsHere x.stage) where
   -- a round that a scanner makes
   scans_for : (back : Back) (caller : Caller) (mutators : ℕ) (b : Bool) → caller ≡ ScansFor mutators → IsCallerOf x back caller → IsOnSideBack back b → (b ≡ false) × (mutators ≡ x.mutators)
   scans_for (ToAccess a) caller mutators b is own side = absurd (subst (IsCallerOf x (ToAccess a)) is own)
+  scans_for (ToTarget a) caller mutators b is own side = absurd (subst (IsCallerOf x (ToTarget a)) is own)
   scans_for ToPlace caller mutators b is own side = absurd (subst (IsCallerOf x ToPlace) is own)
   scans_for ToSnap caller mutators b is own side = absurd (subst (IsCallerOf x ToSnap) is own)
   scans_for ToScanner caller mutators b is own side = (side, subst (IsCallerOf x ToScanner) is own)

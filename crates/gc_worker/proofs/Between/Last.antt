@@ -20,7 +20,7 @@ use Rattle.heap_state.specs.Worker as workers
 use Rattle.heap_state.proofs.Table.Places.{word_in-row}
 use Rattle.heap_laws.proofs.Gate.Counts.{ones}
 use Rattle.gc_worker.specs.declared.stage.back.Back.{Back}
-use Rattle.gc_worker.specs.declared.stage.back.Back.TheVariants.{ToAccess, ToPlace, ToSnap, ToScanner}
+use Rattle.gc_worker.specs.declared.stage.back.Back.TheVariants.{ToAccess, ToTarget, ToPlace, ToSnap, ToScanner}
 use Rattle.gc_worker.specs.declared.stage.goal.Goal.{Goal}
 use Rattle.gc_worker.specs.declared.stage.goal.Goal.TheVariants.{ForFlip, ForSnap, ForScanner}
 use Rattle.gc_worker.specs.declared.stage.Stage.{Stage}
@@ -73,6 +73,7 @@ before_gone Clear e = cc
 
 back_gone : (back : Back) → is_gone (post_back back) ≡ true → ⊥
 back_gone (ToAccess a) e = cc
+back_gone (ToTarget a) e = cc
 back_gone ToPlace e = cc
 back_gone ToSnap e = cc
 back_gone ToScanner e = cc

@@ -16,6 +16,7 @@ use Rattle.gc_worker.specs.Laws.Between.{AnswersLeaveTheOthers, LeavesTheOthers}
 use Rattle.gc_worker.specs.declared.calls.did.Did.{Did}
 use Rattle.gc_worker.specs.declared.calls.did.Did.TheVariants.{Done, Trap}
 use Rattle.gc_worker.specs.Steps.Turned.{Silent, Empties, Answers, Marks}
+use Rattle.gc_worker.proofs.Plain.Emptied.{same_others}
 
 module _ (p : Plain) (k : ℕ) where
   as_it_was : LeavesTheOthers p p k
@@ -57,7 +58,7 @@ module _ (p : Plain) (k : ℕ) where
   by_answer task outcome None = as_it_was
 
 pub answers_leave_the_others : AnswersLeaveTheOthers
-answers_leave_the_others p k Silent = as_it_was p k
-answers_leave_the_others p k Empties = as_it_was p k
-answers_leave_the_others p k (Answers task outcome) = by_answer p k task outcome (slice_get p.mutators k)
-answers_leave_the_others p k (Marks asked) = as_it_was p k
+answers_leave_the_others empty p k Silent = as_it_was p k
+answers_leave_the_others empty p k Empties = same_others p empty k
+answers_leave_the_others empty p k (Answers task outcome) = by_answer p k task outcome (slice_get p.mutators k)
+answers_leave_the_others empty p k (Marks asked) = as_it_was p k

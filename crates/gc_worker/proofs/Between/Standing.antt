@@ -26,7 +26,7 @@ use Rattle.heap_laws.proofs.Fields.Shown.{headers_are_read, registers_are_held}
 use Rattle.heap_laws.proofs.Frames.Values.{value_from_pointer}
 use Rattle.heap_laws.proofs.Lifting.Configurations.{ready}
 use Rattle.heap_laws.proofs.Scanning.Scanners.{now_not_late}
-use Rattle.gc_worker.specs.declared.stage.back.Back.TheVariants.{ToAccess, ToPlace, ToSnap, ToScanner}
+use Rattle.gc_worker.specs.declared.stage.back.Back.TheVariants.{ToAccess, ToTarget, ToPlace, ToSnap, ToScanner}
 use Rattle.gc_worker.specs.declared.stage.Stage.{Stage}
 use Rattle.gc_worker.specs.declared.stage.Stage.TheVariants.{Looks, Passes, Flips, Forwards, Accesses, Places, Serves, Scans, Evacuates, Opens, Recalls, Guards, Checkpoints, BeginsCheckpoint, Gone}
 use Rattle.gc_worker.specs.Laws.Between.{ShowsRegisters, RegistersLand, AreAlike, IsAsPlain, WhatStandsIsSo, is_present}
@@ -61,6 +61,7 @@ round_epoch own d (duty_stage.Ended result) e = e
 
 own_epoch : (x : Held) (stage : Stage) → FitsStage x stage → is_present (post_in x stage) ≡ true → epoch_in x.epoch stage ≡ x.epoch
 own_epoch x (Serves d (ToAccess a)) fits present = round_epoch x.epoch d d.stage fits.0.epoch
+own_epoch x (Serves d (ToTarget a)) fits present = round_epoch x.epoch d d.stage fits.0.epoch
 own_epoch x (Serves d ToPlace) fits present = round_epoch x.epoch d d.stage fits.0.epoch
 own_epoch x (Serves d ToSnap) fits present = round_epoch x.epoch d d.stage fits.0.epoch
 own_epoch x (Serves d ToScanner) fits present = absurd (cc)

@@ -11,6 +11,7 @@ use Rattle.alloc_end.specs.declared.shortage.Shortage.{Shortage}
 use Rattle.alloc_end.specs.Place as place
 use Rattle.fault_duty.specs.declared.round_end.RoundEnd.{RoundEnd}
 use Rattle.fault_duty.specs.declared.round_end.RoundEnd.TheVariants.{ScanPage, ScanInPlace, Marked, Traced, AllLeft, NothingNow}
+use Rattle.fault_duty.specs.declared.caller.Caller.TheVariants as callers
 use Rattle.fault_duty.specs.Duty as duty
 use Rattle.forwarding.specs.declared.to.To.{To}
 use Rattle.forwarding.specs.Evacuation as evac
@@ -44,11 +45,11 @@ use Rattle.gc_worker.specs.Laws.Between.{IsNoAnswer}
 use Rattle.gc_worker.specs.Laws.Cycles.{CallsGoOn, IsInCall, IsInPassage, snaps_after, snaps_at, snaps_back, snaps_for}
 use Rattle.gc_worker.specs.declared.access.Access.{Access}
 use Rattle.gc_worker.specs.declared.access.accessed.Accessed.{Accessed}
-use Rattle.gc_worker.specs.declared.access.accessed.Accessed.TheVariants.{Faults, Brings, Stored, Fails}
+use Rattle.gc_worker.specs.declared.access.accessed.Accessed.TheVariants.{Faults, Awaits, Brings, Stored, Fails}
 use Rattle.gc_worker.specs.declared.stage.after.After.{After}
 use Rattle.gc_worker.specs.declared.stage.after.After.TheVariants as afters
 use Rattle.gc_worker.specs.declared.stage.back.Back.{Back}
-use Rattle.gc_worker.specs.declared.stage.back.Back.TheVariants.{ToAccess, ToPlace, ToSnap, ToScanner}
+use Rattle.gc_worker.specs.declared.stage.back.Back.TheVariants.{ToAccess, ToTarget, ToPlace, ToSnap, ToScanner}
 use Rattle.gc_worker.specs.declared.stage.goal.Goal.{Goal}
 use Rattle.gc_worker.specs.declared.stage.goal.Goal.TheVariants.{ForFlip, ForSnap, ForScanner}
 use Rattle.gc_worker.specs.declared.stage.write.Write.{Write}
@@ -60,7 +61,7 @@ use Rattle.gc_worker.specs.declared.task.Task.{Task}
 use Rattle.gc_worker.specs.declared.task.Task.TheVariants.{Calls}
 use Rattle.gc_worker.specs.Steps.Access as access
 use Rattle.gc_worker.specs.Workers.Fits.{Fits, FitsEnd, FitsTask, FitsTaskAfter, FitsTaskBack, FitsTaskBefore, IsGoneBy, IsMaking, IsOnSide, IsOnSideBack}
-use Rattle.gc_worker.specs.Workers.Held.{Held, at_stage, fields_for, header_for, may_snap, run_held}
+use Rattle.gc_worker.specs.Workers.Held.{Held, at_stage, fields_for, header_for, may_snap, run_held, target_for}
 use Rattle.gc_worker.specs.Steps.Turned.{Pointed, Silent, after_request, asks_flip, checkpoints, end_by_shortage, ended, epoch_said, first_pointer, forwards_from, forwards_it, full_by, goes_back, goes_on, guards, is_full, passed_by, passes, places, recalled, rounded, served_by, serves_snap, told_access, told_at, told_effect, told_end, told_full, told_place, told_snap, traced_by, turned_access, turned_at, turned_copy, turned_flip, turned_gate, turned_guard, turned_opening, turned_place, turned_recall, turned_register, turned_round, turned_save_round, turned_scan, turned_snap, with_copy, with_evac, writes}
 use Rattle.gc_worker.proofs.Plain.NewRecords.{header_is, header_made}
 
@@ -90,7 +91,7 @@ placing x y snaps making same =
     (guarding y snaps (OfPlace (begins y)) (place.writes_on (begins y) (begins y).stage) (Places (begins y)) (tt, λ e. refl))
   where
     begins : Held → place.Placing
-    begins y = place.begun y.layout (run_held y) (header_made x making) y.epoch (fields_for y) y.snap
+    begins y = place.begun y.layout (run_held y) (header_made x making) y.epoch (fields_for y) y.snap (target_for y)
 
 -- of who begins a checkpoint, if there is a number for it
 snapping : (x : Held) (b : Bool) → may_snap x ≡ b → Goes true (at_stage x (cond b (serves_snap x) Looks))
@@ -109,6 +110,7 @@ running_on x after false past task = going_on x after past task
 
 going_back : (x : Held) (epoch : ℕ) (back : Back) → IsPastBack back → FitsTaskBack x back → Stays (snaps_back back) (goes_back (record x { epoch = epoch }) back)
 going_back x epoch (ToAccess a) past task = (tt, λ e. refl)
+going_back x epoch (ToTarget a) past task = (tt, λ e. refl)
 going_back x epoch ToPlace past task = placing x (record x { epoch = epoch }) false task refl
 going_back x epoch ToSnap past task = (tt, λ e. e)
 going_back x epoch ToScanner past task = absurd past
@@ -204,9 +206,14 @@ module _ (x : Held) where
   -- ---- an access, an allocation
 
   module _ (task : Task) (is : x.task ≡ Some task) where
+    faulting : (a : Access) (page : ℕ) (target : Bool) → Stays false (Serves (duty.begun x.layout (callers.Faulted page) x.epoch x.number) (cond target (ToTarget a) (ToAccess a)))
+    faulting a page true = (tt, λ e. refl)
+    faulting a page false = (tt, λ e. refl)
+
     accessing : (a : Access) (turn : Turn Accessed) → IsNoAnswer (told_access x.task turn) → Stays false (turned_access x a turn).stage
     accessing a More none = guarding x false (OfAccess a) (access.writes_on a.spaces a.stage) (Accesses a) (tt, λ e. refl)
-    accessing a (Finished (Faults page)) none = (tt, λ e. refl)
+    accessing a (Finished (Faults page)) none = faulting a page (access.is_at_target a.stage)
+    accessing a (Finished Awaits) none = (tt, λ e. refl)
     accessing a (Finished (Brings into word)) none = absurd (answers_done x.task task is none)
     accessing a (Finished Stored) none = absurd (answers_done x.task task is none)
     accessing a (Finished (Fails why)) none = absurd (answers_end x.task task why is none)
@@ -235,6 +242,7 @@ module _ (x : Held) where
   -- a mutator that has no end is not gone
   not_gone : (back : Back) → IsPastBack back → (mutator ended : Bool) → IsOnSideBack back mutator → ended ≡ false → IsGoneBy mutator ended → ⊥
   not_gone (ToAccess a) past mutator ended side end gone = let e : ended ≡ true = subst (λ (b : Bool). IsGoneBy b ended) side gone in let f = sym end ∙ e in cc
+  not_gone (ToTarget a) past mutator ended side end gone = let e : ended ≡ true = subst (λ (b : Bool). IsGoneBy b ended) side gone in let f = sym end ∙ e in cc
   not_gone ToPlace past mutator ended side end gone = let e : ended ≡ true = subst (λ (b : Bool). IsGoneBy b ended) side gone in let f = sym end ∙ e in cc
   not_gone ToSnap past mutator ended side end gone = let e : ended ≡ true = subst (λ (b : Bool). IsGoneBy b ended) side gone in let f = sym end ∙ e in cc
   not_gone ToScanner past mutator ended side end gone = past
@@ -242,6 +250,7 @@ module _ (x : Held) where
   -- its epoch was found traced: who begins a checkpoint makes rounds for the one in progress
   traced_on : (epoch : ℕ) (back : Back) → IsPastBack back → FitsTaskBack x back → Stays (snaps_back back) (traced_by (record x { epoch = epoch }) back).stage
   traced_on epoch (ToAccess a) past task = going_back x epoch (ToAccess a) past task
+  traced_on epoch (ToTarget a) past task = (tt, λ e. refl)
   traced_on epoch ToPlace past task = going_back x epoch ToPlace past task
   traced_on epoch ToSnap past task = (tt, λ e. e)
   traced_on epoch ToScanner past task = absurd past

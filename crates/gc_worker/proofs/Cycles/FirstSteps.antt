@@ -55,11 +55,11 @@ use Rattle.gc_worker.specs.Workers.Fits.{FitsStage, IsOwnPassage, MayRequest}
 use Rattle.gc_worker.specs.declared.access.Access.{Access}
 use Rattle.gc_worker.specs.declared.access.access_stage.AccessStage.{AccessStage}
 use Rattle.gc_worker.specs.declared.access.accessed.Accessed.{Accessed}
-use Rattle.gc_worker.specs.declared.access.accessed.Accessed.TheVariants.{Faults, Brings, Stored, Fails}
+use Rattle.gc_worker.specs.declared.access.accessed.Accessed.TheVariants.{Faults, Awaits, Brings, Stored, Fails}
 use Rattle.gc_worker.specs.declared.stage.after.After.{After}
 use Rattle.gc_worker.specs.declared.stage.after.After.TheVariants as afters
 use Rattle.gc_worker.specs.declared.stage.back.Back.{Back}
-use Rattle.gc_worker.specs.declared.stage.back.Back.TheVariants.{ToAccess, ToPlace, ToSnap, ToScanner}
+use Rattle.gc_worker.specs.declared.stage.back.Back.TheVariants.{ToAccess, ToTarget, ToPlace, ToSnap, ToScanner}
 use Rattle.gc_worker.specs.declared.stage.goal.Goal.{Goal}
 use Rattle.gc_worker.specs.declared.stage.goal.Goal.TheVariants.{ForFlip, ForSnap, ForScanner}
 use Rattle.gc_worker.specs.declared.stage.write.Write.{Write}
@@ -70,7 +70,7 @@ use Rattle.gc_worker.specs.declared.stage.Stage.TheVariants.{Looks, Passes, Flip
 use Rattle.gc_worker.specs.declared.task.Task.{Task}
 use Rattle.gc_worker.specs.declared.task.Task.TheVariants.{Calls, Stops}
 use Rattle.gc_worker.specs.Steps.Access as access
-use Rattle.gc_worker.specs.Workers.Held.{Held, at_stage, fields_for, has_seen_flip, header_for, making_for, may_snap, run_held}
+use Rattle.gc_worker.specs.Workers.Held.{Held, at_stage, fields_for, has_seen_flip, header_for, making_for, may_snap, run_held, target_for}
 use Rattle.gc_worker.specs.Plain.Seen.{Making, seen}
 use Rattle.gc_worker.specs.Steps.Turned.{Pointed, acted, accesses, acts, after_request, asks_flip, attached, begins, checkpoints, end_by_shortage, ended, epoch_said, first_pointer, forwards_from, forwards_it, full_by, goes_back, goes_on, guards, guards_place, in_epoch, is_full, looked_by, passed_by, passes, places, recalled, rounded, runs_on, served_by, serves_snap, started, traced_by, turned_access, turned_at, turned_copy, turned_flip, turned_gate, turned_guard, turned_look, turned_opening, turned_place, turned_recall, turned_register, turned_round, turned_save_round, turned_scan, turned_snap, went_on, with_copy, with_evac, with_record, writes}
 use Rattle.gc_worker.proofs.Cycles.SizesRead.{IsSized}
@@ -98,7 +98,7 @@ module _ (n size : ℕ) where
   guarding_place x y p = guarding x y (OfPlace p) (place.writes_on p p.stage) (Places p) tt
 
   placing : (x y : Held) (o : Option Header) → FirstAt x (places y o)
-  placing x y (Some header) = guarding_place x y (place.begun y.layout (run_held y) header y.epoch (fields_for y) y.snap)
+  placing x y (Some header) = guarding_place x y (place.begun y.layout (run_held y) header y.epoch (fields_for y) y.snap (target_for y))
   placing x y None = tt
 
   going_on : (x y : Held) (after : After) → FirstAt x (goes_on y after)
@@ -111,6 +111,7 @@ module _ (n size : ℕ) where
 
   going_back : (x y : Held) (back : Back) → FirstAt x (goes_back y back)
   going_back x y (ToAccess a) = tt
+  going_back x y (ToTarget a) = tt
   going_back x y ToPlace = placing x y (header_for y)
   going_back x y ToSnap = tt
   going_back x y ToScanner = tt
@@ -171,6 +172,7 @@ module _ (n size : ℕ) where
     accessing : (a : Access) (turn : Turn Accessed) → First (turned_access x a turn)
     accessing a More = guarding (turned_access x a More) x (OfAccess a) (access.writes_on a.spaces a.stage) (Accesses a) tt
     accessing a (Finished (Faults page)) = tt
+    accessing a (Finished Awaits) = tt
     accessing a (Finished (Brings into word)) = tt
     accessing a (Finished Stored) = tt
     accessing a (Finished (Fails why)) = tt
@@ -209,6 +211,7 @@ module _ (n size : ℕ) where
 
     traced_first : (y : Held) (back : Back) → First (traced_by y back)
     traced_first y (ToAccess a) = tt
+    traced_first y (ToTarget a) = tt
     traced_first y ToPlace = going_back (traced_by y ToPlace) y ToPlace
     traced_first y ToSnap = tt
     traced_first y ToScanner = either (traced_by y ToScanner) y.layout.checkpoints (checkpoints y ForScanner) (goes_back y ToScanner) tt tt

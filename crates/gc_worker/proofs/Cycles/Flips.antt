@@ -21,6 +21,7 @@ use Rattle.page_saves.specs.SaveRound as save_round
 use Rattle.gc_worker.specs.Laws.Cycles.{IsFirst, IsFirstAt, IsFirstBy, FlipsStayFirst, FlipsAreFirst, SizeGoes, size_of}
 use Rattle.gc_worker.specs.Laws.Step.{FlipsWhereTold, Heap, StepKeeps, WorkersStand, at_flip, held_at, moved, nobody, read}
 use Rattle.gc_worker.specs.Plain.Answer.{after_told}
+use Rattle.gc_worker.specs.Plain.Empty.{empty_cells}
 use Rattle.gc_worker.specs.Steps.Goes.{Is}
 use Rattle.gc_worker.specs.Steps.Wanted.{wanted}
 use Rattle.gc_worker.specs.Workers.Fits.{FitsPlace}
@@ -220,12 +221,13 @@ module _ (h : Heap) (p o : Plain) (k : ℕ) (x : Held) (q : Step) (st : WorkersS
     -- at a flip nobody asks for another one
     none_asks : (pages : ℕ) → u ≡ Marks pages → ¬ (AsksAt y.stage)
     none_asks pages e asks =
+        let then : Plain = after_told (empty_cells (read next)) p k u in
         let once = subst (FlipsWhereTold n h.words later x) e law.flips in
         let was = asks_now (read h) p st.stands j y y.stage (member h p o j y st inside refl) asks in
         let after = law.stands in
-        let now = asks_now (read next) (after_told p k u) after.stands j y y.stage (member next (after_told p k u) (at_flip p o u) j y after (subst (λ (m : ℕ). j < m) (sym many) inside) keeps) asks in
+        let now = asks_now (read next) then after.stands j y y.stage (member next then (at_flip p o u) j y after (subst (λ (m : ℕ). j < m) (sym many) inside) keeps) asks in
         let before = of_now h p o k x st in
-        let behind = of_now next (after_told p k u) (at_flip p o u) k x after in
+        let behind = of_now next then (at_flip p o u) k x after in
         omega (arith, once.epoch, once.next, was, now, before, behind)
 
     other_first : (t : Told) → u ≡ t → SizeGoes n h.words later t → IsFirst n later y

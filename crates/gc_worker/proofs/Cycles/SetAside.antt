@@ -14,7 +14,7 @@ use Rattle.alloc_end.specs.declared.allocated.Allocated.{Allocated}
 use Rattle.alloc_end.specs.declared.run.Run.{Run}
 use Rattle.alloc_end.specs.declared.new_pages.NewPages.{NewPages}
 use Rattle.alloc_end.specs.declared.place_stage.PlaceStage.{PlaceStage}
-use Rattle.alloc_end.specs.declared.place_stage.PlaceStage.TheVariants.{LoadsTraced, LoadsSize, LoadsArea, ExchangesArea, StoresZero, StoresNew, OpensPage, StoresCount, StoresHeader, Ended}
+use Rattle.alloc_end.specs.declared.place_stage.PlaceStage.TheVariants.{LoadsTraced, LoadsSize, LoadsArea, ExchangesArea, StoresZero, StoresNew, OpensPage, StoresCount, StoresTarget, StoresLink, StoresHeader, Ended}
 use Rattle.alloc_end.specs.Place.{Placing, pages_for, size_of, stores_first, words_for}
 use Rattle.alloc_end.specs.Place as place
 use Rattle.alloc_end.specs.Soundness.{IsPlacingGoing}
@@ -97,7 +97,7 @@ module _ (x : Held) (z : Placing) (task : IsMaking x.account x.registers x.task)
   opens new other run Fields false = within (OpensPage new) 0 (record z { run = run; stage = StoresHeader }) refl (omega arith)
   opens new other run Raw false = within (OpensPage new) 0 (record z { run = run; stage = StoresHeader }) refl (omega arith)
   opens new other run Mixed false = within (OpensPage new) 0 (record z { run = run; stage = StoresCount }) refl (omega arith)
-  opens new other run Weak false = within (OpensPage new) 0 (record z { run = run; stage = StoresHeader }) refl (omega arith)
+  opens new other run Weak false = within (OpensPage new) 0 (record z { run = run; stage = StoresTarget }) refl (omega arith)
 
   places : After StoresHeader 0 (place.placed z)
   places =
@@ -129,6 +129,14 @@ module _ (x : Held) (z : Placing) (task : IsMaking x.account x.registers x.task)
   by_place StoresCount replies.Done going = within StoresCount 0 (record z { stage = StoresHeader }) refl (omega arith)
   by_place StoresCount replies.Won going = within StoresCount 0 (record z { stage = StoresCount }) refl (omega arith)
   by_place StoresCount (replies.Lost word) going = within StoresCount 0 (record z { stage = StoresCount }) refl (omega arith)
+  by_place StoresTarget (replies.Value word) going = within StoresTarget 0 (record z { stage = StoresTarget }) refl (omega arith)
+  by_place StoresTarget replies.Done going = within StoresTarget 0 (record z { stage = StoresLink }) refl (omega arith)
+  by_place StoresTarget replies.Won going = within StoresTarget 0 (record z { stage = StoresTarget }) refl (omega arith)
+  by_place StoresTarget (replies.Lost word) going = within StoresTarget 0 (record z { stage = StoresTarget }) refl (omega arith)
+  by_place StoresLink (replies.Value word) going = within StoresLink 0 (record z { stage = StoresLink }) refl (omega arith)
+  by_place StoresLink replies.Done going = within StoresLink 0 (record z { stage = StoresHeader }) refl (omega arith)
+  by_place StoresLink replies.Won going = within StoresLink 0 (record z { stage = StoresLink }) refl (omega arith)
+  by_place StoresLink (replies.Lost word) going = within StoresLink 0 (record z { stage = StoresLink }) refl (omega arith)
   by_place StoresHeader (replies.Value word) going = within StoresHeader 0 (record z { stage = StoresHeader }) refl (omega arith)
   by_place StoresHeader replies.Done going = places
   by_place StoresHeader replies.Won going = within StoresHeader 0 (record z { stage = StoresHeader }) refl (omega arith)
@@ -192,6 +200,8 @@ module _ (h : Heap) (p o : Plain) (k : ℕ) (y : Held) (st : WorkersStand h p o)
       most a (StoresNew new) = omega (arith, a)
       most a (OpensPage new) = omega (arith, a)
       most a StoresCount = omega (arith, a)
+      most a StoresTarget = omega (arith, a)
+      most a StoresLink = omega (arith, a)
       most a StoresHeader = omega (arith, a)
       most a stage = omega arith
 

@@ -8,7 +8,7 @@ use Rattle.space_map.specs.AreaWord.{decode_area}
 use Rattle.space_map.specs.Spaces.{page_of}
 use Rattle.alloc_end.specs.declared.new_pages.NewPages.{NewPages}
 use Rattle.alloc_end.specs.declared.place_stage.PlaceStage.{PlaceStage}
-use Rattle.alloc_end.specs.declared.place_stage.PlaceStage.TheVariants.{LoadsTraced, LoadsSize, LoadsArea, ExchangesArea, StoresZero, StoresNew, OpensPage, StoresCount, StoresHeader, Ended}
+use Rattle.alloc_end.specs.declared.place_stage.PlaceStage.TheVariants.{LoadsTraced, LoadsSize, LoadsArea, ExchangesArea, StoresZero, StoresNew, OpensPage, StoresCount, StoresTarget, StoresLink, StoresHeader, Ended}
 use Rattle.alloc_end.specs.Soundness.{IsPlacingGoing}
 use Rattle.atom_store.specs.declared.reply.Reply.{Reply}
 use Rattle.atom_store.specs.declared.reply.Reply.TheVariants as replies
@@ -97,6 +97,14 @@ module _ (size : ℕ) (p : place.Placing) where
   sized StoresCount replies.Done going read = tt
   sized StoresCount replies.Won going read = tt
   sized StoresCount (replies.Lost word) going read = tt
+  sized StoresTarget (replies.Value word) going read = tt
+  sized StoresTarget replies.Done going read = tt
+  sized StoresTarget replies.Won going read = tt
+  sized StoresTarget (replies.Lost word) going read = tt
+  sized StoresLink (replies.Value word) going read = tt
+  sized StoresLink replies.Done going read = tt
+  sized StoresLink replies.Won going read = tt
+  sized StoresLink (replies.Lost word) going read = tt
   sized StoresHeader (replies.Value word) going read = tt
   sized StoresHeader replies.Done going read = tt
   sized StoresHeader replies.Won going read = tt

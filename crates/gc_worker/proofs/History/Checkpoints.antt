@@ -18,9 +18,8 @@ use Rattle.gc_worker.specs.declared.calls.entry.Entry.{Entry}
 use Rattle.gc_worker.specs.declared.calls.entry.Entry.TheVariants.{Made, Exchanged, Emptied}
 use Rattle.gc_worker.specs.declared.task.Task.{Task}
 use Rattle.gc_worker.specs.declared.task.Task.TheVariants.{Calls, Stops}
-use Rattle.gc_worker.specs.Plain.Answer.{after_answer, after_outcome}
+use Rattle.gc_worker.specs.Plain.Answer.{after_answer, after_outcome, with_emptied}
 use Rattle.gc_worker.specs.History.Checkpoints.{HistoriesCountCheckpoints, HistoriesKeepTheLastCheckpoint, IsLastOfHistory, WasBegunByCall, calls_snap, is_snap_done, snap_call, snaps_called}
-use Rattle.gc_worker.specs.Plain.Stories.{with_emptied}
 use Rattle.gc_worker.specs.History.Legal.{after_all, after_call, worker_call}
 use Rattle.gc_worker.proofs.Plain.Emptied.{same_checkpoint}
 use Rattle.gc_worker.proofs.History.Extensions.{after_append}

@@ -5,8 +5,8 @@ use Rattle.std.proofs.lemmas.Option.{slice_get_within}
 use mathlib.Core.List.{IsPrefix}
 use Rattle.plain_state.specs.State.{Plain, serial_of}
 use Rattle.plain_heap.specs.Emptied.{cells_to_empty}
-use Rattle.gc_worker.specs.Plain.Answer.{ComesTo, IsAnswered}
-use Rattle.gc_worker.specs.Plain.Stories.{story_told, with_emptied}
+use Rattle.gc_worker.specs.Plain.Answer.{ComesTo, IsAnswered, with_emptied}
+use Rattle.gc_worker.specs.Plain.Stories.{story_told}
 use Rattle.gc_worker.specs.Laws.Step.{at_flip}
 use Rattle.gc_worker.specs.declared.calls.did.Did.TheVariants.{Done, Trap}
 use Rattle.gc_worker.specs.Steps.Turned.{Told, Silent, Empties, Answers, Marks}
@@ -102,7 +102,7 @@ pub others_keep : (p : Plain) (log : List Entry) (m : ℕ) → calls_of m log �
 others_keep p [] m none = record { mutator = refl; serial = refl }
 others_keep p (Made c ∷ es) m none =
     let h = none_first m c es none in
-    let step : LeavesTheOthers p (after_call p c) c.by = answers_leave_the_others p c.by (Answers c.task c.did) in
+    let step : LeavesTheOthers p (after_call p c) c.by = answers_leave_the_others [] p c.by (Answers c.task c.did) in
     let rest = others_keep (after_call p c) es m h.1 in
     record { mutator = rest.mutator ∙ step.mutator m h.0; serial = rest.serial ∙ step.serial m h.0 }
 others_keep p (Exchanged by asked ∷ es) m none = others_keep p es m none
@@ -119,7 +119,7 @@ after_append p (Emptied cells ∷ es) ys = after_append (with_emptied p cells) e
 -- no call makes or ends a plain mutator
 pub as_many : (p : Plain) (log : List Entry) → length (after_all p log).mutators ≡ length p.mutators
 as_many p [] = refl
-as_many p (Made c ∷ es) = as_many (after_call p c) es ∙ (answers_leave_the_others p c.by (Answers c.task c.did)).as_many
+as_many p (Made c ∷ es) = as_many (after_call p c) es ∙ (answers_leave_the_others [] p c.by (Answers c.task c.did)).as_many
 as_many p (Exchanged by asked ∷ es) = as_many p es
 as_many p (Emptied cells ∷ es) = as_many (with_emptied p cells) es
 

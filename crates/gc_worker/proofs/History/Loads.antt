@@ -12,12 +12,12 @@ use Rattle.plain_heap.specs.declared.action.Action.{Action}
 use Rattle.plain_heap.specs.declared.action.Action.TheVariants.{Loads, Exchanges}
 use Rattle.plain_heap.specs.Action.{action}
 use Rattle.plain_heap.specs.Call.{After, call, set_register, went_on}
-use Rattle.plain_heap.specs.Records.{RecordShape, record_word, shape_of, success, word_after}
+use Rattle.plain_heap.specs.Records.{RecordShape, loaded_there, record_word, shape_of, success, word_after}
 use Rattle.plain_heap.specs.Step.{settled}
 use Rattle.plain_heap.proofs.Orders.Words.{no_words}
 use Rattle.plain_heap.proofs.Calls.Records.{exchanges_find_the_word, loads_take_the_word, only_stores_change_words, shapes_stay}
 use Rattle.heap_laws.specs.Opening.{opening_plain}
-use Rattle.gc_worker.specs.Plain.Answer.{ComesTo, MayCome, after_answer, after_outcome}
+use Rattle.gc_worker.specs.Plain.Answer.{ComesTo, MayCome, after_answer, after_outcome, with_emptied}
 use Rattle.gc_worker.specs.declared.calls.call.Call.{Call}
 use Rattle.gc_worker.specs.declared.calls.did.Did.{Did}
 use Rattle.gc_worker.specs.declared.calls.did.Did.TheVariants.{Done, Trap}
@@ -25,7 +25,6 @@ use Rattle.gc_worker.specs.declared.calls.entry.Entry.{Entry}
 use Rattle.gc_worker.specs.declared.calls.entry.Entry.TheVariants.{Made, Exchanged, Emptied}
 use Rattle.gc_worker.specs.declared.task.Task.{Task}
 use Rattle.gc_worker.specs.declared.task.Task.TheVariants.{Calls, Stops}
-use Rattle.gc_worker.specs.Plain.Stories.{with_emptied}
 use Rattle.gc_worker.specs.History.Legal.{IsLegal, after_all, after_call}
 use Rattle.gc_worker.specs.History.Loads.{CallDoes, ExchangesFindTheLastStore, LoadsGetTheLastStore, RecordsKeepTheirShape, WordsAreStored, WordsBeginAsZero, last_stored, word_after_call, word_after_task}
 use Rattle.gc_worker.proofs.Plain.Emptied.{same_shape, same_word}
@@ -95,9 +94,9 @@ loads_get_the_last_store p front rest c q d i x legal load =
     let at = legal_at p front rest c legal in
     let here = after_all p front in
     ap (λ (z : Plain). slice_get z.mutators c.by) (after_append p front (Made c ∷ []))
-    ∙ (goes_on here c q (Loads d i x) load at.1 (went_on (set_register q d (record_word here.heap i x)))
+    ∙ (goes_on here c q (Loads d i x) load at.1 (went_on (set_register q d (loaded_there here.heap i x (record_word here.heap i x))))
     (λ after is. ap (λ (a : After). a.mutator) (loads_take_the_word c.by here.heap q load.instr after d i x load.does is))
-    ∙ ap (λ (v : Value). Some (went_on (set_register q d v))) (words_are_stored p front i x at.0))
+    ∙ ap (λ (v : Value). Some (went_on (set_register q d (loaded_there here.heap i x v)))) (words_are_stored p front i x at.0))
 
 pub exchanges_find_the_last_store : ExchangesFindTheLastStore
 exchanges_find_the_last_store p front rest c q d i x expected new legal exchange =

@@ -19,7 +19,7 @@ use Rattle.gc_worker.specs.declared.calls.entry.Entry.{Entry}
 use Rattle.gc_worker.specs.declared.calls.entry.Entry.TheVariants.{Made, Exchanged, Emptied}
 use Rattle.gc_worker.specs.declared.task.Task.{Task}
 use Rattle.gc_worker.specs.declared.task.Task.TheVariants.{Calls, Stops}
-use Rattle.gc_worker.specs.Plain.Stories.{with_emptied}
+use Rattle.gc_worker.specs.Plain.Answer.{with_emptied}
 use Rattle.gc_worker.specs.History.Legal.{EmptiesLost, IsLegal, after_all, after_call}
 use Rattle.gc_worker.proofs.History.Large.{least_full}
 use Rattle.gc_worker.specs.History.Needs.{EachFullIs, EachMayCome, HasNoFull, IsFullAt, IsLargeEnough, FullMayCome, being_made, flips_by, flips_in, made_after, made_after_mark, first_story, pages_next, since_by, since_in}
@@ -54,7 +54,7 @@ module _ (code : List (List Instr)) (turns : ℕ) (tasks : Tasks) where
           → cond b (Some c.task) (next_task j es (tasks j)) ≡ Some task → slice_get p.mutators j ≡ Some q → q.end ≡ None → task ≡ task_of (fetch code turns j q)
       by_call later true same e its none = sym (same_Some c.task task e) ∙ (own j).0 (eqb-true c.by j same) q its
       by_call later false other e its none =
-          let leaves = answers_leave_the_others p c.by (Answers c.task c.did) in
+          let leaves = answers_leave_the_others [] p c.by (Answers c.task c.did) in
           later e (leaves.mutator j (λ same. eqb-false c.by j other (sym same)) ∙ its) none
   next_at p (Exchanged by asked ∷ es) own last j task q = next_at p es own last j task q
   next_at p (Emptied cells ∷ es) own last j task q = next_at (with_emptied p cells) es own last j task q
@@ -179,7 +179,7 @@ module _ (code : List (List Instr)) (turns : ℕ) (tasks : Tasks) where
   orders_fill z t made since [] legal sections own last each covers has = (tt, tt)
   orders_fill z t made since (Made c ∷ es) legal sections own last each covers has =
       let later = next_at (after_call t.now c) es (λ m. (own m).1) last in
-      let leaves = answers_leave_the_others t.now c.by (Answers c.task c.did) in
+      let leaves = answers_leave_the_others [] t.now c.by (Answers c.task c.did) in
       call_fills z t made since c es sections
       (λ task q is its none. sym (same_Some c.task task is) ∙ (own c.by).0 refl q its)
       (λ j other task q is its none. later j task q is (leaves.mutator j other ∙ its) none)

@@ -8,11 +8,11 @@ use Rattle.plain_state.specs.declared.kind.Kind.TheVariants.{Fields, Raw, Mixed,
 use Rattle.plain_state.specs.declared.value.Identity.{Identity}
 use Rattle.plain_state.specs.declared.value.Value.{Value}
 use Rattle.plain_state.specs.declared.value.Value.TheVariants.{Number}
-use Rattle.plain_state.specs.Cells.{is_cell}
+use Rattle.plain_state.specs.Cells.{is_cell, without_target}
 use Rattle.plain_state.specs.Layout.{is_field, size_of, word_of_value}
 use Rattle.plain_state.specs.Reachable.{Reachable, FromRegister, FromBoard, FromRecord, IsLive, sum_of_records, words_of}
 use Rattle.plain_state.specs.State.{Mutator, Plain, Record, record_of}
-use Rattle.plain_heap.specs.Emptied.{cells_to_empty, emptied, without_target}
+use Rattle.plain_heap.specs.Emptied.{cells_to_empty, emptied}
 use Rattle.plain_heap.proofs.Reaching.Emptying.{all-is, emptied_of_lost_cells}
 
 -- it is no cell

@@ -1,5 +1,5 @@
 -- A step that answers a mutator's task, by the laws of the heap; and what a running mutator is to the plain one.
-use Rattle.std.proofs.Common.{◌≡◌, ℕ, ◌+◌, ◌<◌, true, List, length, slice_index, slice_get, Option, None, Some, ap, sym, subst, ◌∙◌}
+use Rattle.std.proofs.Common.{◌≡◌, ℕ, ◌+◌, ◌<◌, true, false, List, length, slice_index, slice_get, Option, None, Some, ap, sym, subst, ◌∙◌}
 use Rattle.plain_state.specs.declared.value.Value.{Value}
 use Rattle.plain_state.specs.State.{Mutator, Plain}
 use Rattle.atom_store.specs.declared.reply.Reply.{Reply}
@@ -16,7 +16,7 @@ use Rattle.heap_laws.proofs.Fields.GoingOn.{runs, timely}
 use Rattle.heap_laws.proofs.Fields.Laws.{goes_on_so}
 use Rattle.heap_laws.proofs.Lifting.Laws.{plain_steps_are_lifted}
 use Rattle.gc_worker.specs.declared.task.Task.{Task}
-use Rattle.gc_worker.specs.Plain.Answer.{MayCome, after_outcome, after_answer, after_told}
+use Rattle.gc_worker.specs.Plain.Answer.{MayCome, after_outcome, after_answer}
 use Rattle.gc_worker.specs.Workers.Fits.{Fits, Takes}
 use Rattle.gc_worker.specs.Plain.Full.{FullByOutcome}
 use Rattle.gc_worker.specs.Steps.Goes.{Is, Goes, Wins}
@@ -41,14 +41,14 @@ module _ (c : Configuration) (p : Plain) (s : Stands c p) (k : ℕ) (x : Held) w
       → won x reply ≡ None → k < length c.workers → slice_get p.mutators k ≡ Some q → q.end ≡ None → MayCome k p.heap q task outcome
       → LawTo e (knows y) h (after_outcome p k q task outcome) → FullByOutcome c.pages c.words x outcome → Takes x reply → Fits c.pages c.mutators k y → Goes c p s k e x reply
   answers e reply y h q task outcome same answer none below at no_end may l full takes fits =
-      let as_told : LawTo e (knows (turned x reply)) h (after_told p k (Answers task outcome)) =
-      subst (λ (z : Held). LawTo e (knows z) h (after_told p k (Answers task outcome))) (sym same)
+      let as_told : LawTo e (knows (turned x reply)) h (after_answer p k task outcome (slice_get p.mutators k)) =
+      subst (λ (z : Held). LawTo e (knows z) h (after_answer p k task outcome (slice_get p.mutators k))) (sym same)
       (subst (λ (o : Option Mutator). LawTo e (knows y) h (after_answer p k task outcome o)) (sym at) l) in
       record {
         takes = takes;
         fits = subst (Fits c.pages c.mutators k) (sym same) fits;
         ghost_after = h;
-        leads = rw answer (plain_steps_are_lifted c p (after_told p k (Answers task outcome)) s e k (knows (turned x reply)) h below as_told);
+        leads = rw answer (plain_steps_are_lifted c p (after_answer p k task outcome (slice_get p.mutators k)) s e k (knows (turned x reply)) h below as_told);
         wins = subst (λ (w : Option PageWon). Wins c e k (turned x reply) w) (sym none) tt;
         answered = rw answer (record { mutator = q; is = at; no_end = no_end; may = may });
         full = rw answer full;
@@ -102,15 +102,15 @@ module _ (c : Configuration) (p : Plain) (s : Stands c p) (k : ℕ) (x : Held) w
     -- it goes on with another account and other registers, and accesses nothing
     pub going : (account : Account) (registers : ℕ → ℕ) → account.serial ≡ x.account.serial
         → ((j : ℕ) → j < 8 → MayHold (era c) s.ghost.size s.ghost.writer (registers j))
-        → MutatorGoesOn (era c) (memory c) s.ghost w (going_on (knows x) account registers None None)
+        → MutatorGoesOn (era c) (memory c) s.ghost w (going_on (knows x) account registers None None false)
     going account registers serial held =
-        subst (λ (v : Worker). MutatorGoesOn (era c) (memory c) s.ghost w (going_on v account registers None None)) is.as_known
-        (goes_on_so (era c) (memory c) (team c) s.ghost k account registers None None (prepared c p s k x is)
-        (serial ∙ sym (ap (λ (v : Worker). v.account.serial) is.as_known)) (λ f e. absurd (let e = e in cc)) (λ page e. absurd (let e = e in cc)) (λ none j small. held j small))
+        subst (λ (v : Worker). MutatorGoesOn (era c) (memory c) s.ghost w (going_on v account registers None None false)) is.as_known
+        (goes_on_so (era c) (memory c) (team c) s.ghost k account registers None None false (prepared c p s k x is)
+        (serial ∙ sym (ap (λ (v : Worker). v.account.serial) is.as_known)) (λ f e. absurd (let e = e in cc)) (λ page e. absurd (let e = e in cc)) (λ none j small. held j small) (λ e. absurd (let e = e in cc)))
 
   -- it has what the plain mutator has that goes on so
   pub next_as : (q : Mutator) → IsIts q → (n m : ℕ) (l o : List ℕ) → n ≡ m → l ≡ o
-      → IsAs s.ghost p.heap k (going_on (knows x) (record x.account { counter = n; printed = l; executed = x.account.executed + 1 }) (λ (j : ℕ). slice_index x.registers j) None None)
+      → IsAs s.ghost p.heap k (going_on (knows x) (record x.account { counter = n; printed = l; executed = x.account.executed + 1 }) (λ (j : ℕ). slice_index x.registers j) None None false)
       (record q { counter = m; printed = o; executed = q.executed + 1 })
   next_as q its n m l o counter printed =
       let a = its.same.account in let r = its.same.registers in

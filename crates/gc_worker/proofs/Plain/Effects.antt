@@ -1,6 +1,6 @@
 -- What an instruction's effect, or its end, makes of a running mutator: to the plain machine, to the proofs of the heap, and to its own
 -- soundness.
-use Rattle.std.proofs.Common.{◌≡◌, ◌≢◌, ℕ, ◌+◌, ◌%◌, ◌<◌, true, List, length, nat_lt, slice_index, slice_set, slice_get, is_some, Option, None, Some, Ok, refl, ap, sym, subst, ◌∙◌, ⊎_elim, get_or-set_same, get_or-set_other, length-set, arith}
+use Rattle.std.proofs.Common.{◌≡◌, ◌≢◌, ℕ, ◌+◌, ◌%◌, ◌<◌, true, false, List, length, nat_lt, slice_index, slice_set, slice_get, is_some, Option, None, Some, Ok, refl, ap, sym, subst, ◌∙◌, ⊎_elim, get_or-set_same, get_or-set_other, length-set, arith}
 use Rattle.std.specs.Prelude.{IsOk, Result}
 use Rattle.std.proofs.lemmas.Bool.{cases_eq}
 use Rattle.plain_state.specs.declared.end.End.{End}
@@ -54,7 +54,7 @@ module _ (c : Configuration) (p : Plain) (s : Stands c p) (k : ℕ) (x : Held) (
 
   -- with these registers
   abbrev pub moved : List ℕ → Worker
-  moved registers = going_on (knows x) counted (λ (j : ℕ). slice_index registers j) None None
+  moved registers = going_on (knows x) counted (λ (j : ℕ). slice_index registers j) None None false
 
   module _ (q : Mutator) (its : IsIts c p s k x q) where
     next_same : next_of x ≡ (q.counter + 1) % NUMBERS

@@ -23,7 +23,7 @@ use Rattle.plain_heap.proofs.Calls.Named.{FitsKind, FillsKind, Spells, Names, na
 use Rattle.record_layout.specs.declared.header.Header.{Header}
 use Rattle.record_layout.proofs.Rereading.{header_in-header_says}
 use Rattle.alloc_end.specs.Place.{size_of, pages_for}
-use Rattle.alloc_end.specs.Soundness.{HoldsFields}
+use Rattle.alloc_end.specs.Soundness.{HoldsFields, HoldsTargetAndLink}
 use Rattle.heap_state.specs.Memory.FieldSpan.{fields_end}
 use Rattle.heap_state.specs.Invariant.Ghost.{header_kind, header_len}
 use Rattle.heap_state.proofs.Records.Layouts.{values_behind_header}
@@ -102,6 +102,12 @@ cell_size Raw n fits e = absurd (cc)
 cell_size (Mixed fields) n fits e = absurd (cc)
 cell_size Weak n fits e = omega (arith, fits)
 
+header_kind_cell : (kind : Kind) → header_kind kind ≡ headers.Weak → kind ≡ Weak
+header_kind_cell Fields e = absurd (cc)
+header_kind_cell Raw e = absurd (cc)
+header_kind_cell (Mixed fields) e = absurd (cc)
+header_kind_cell Weak e = refl
+
 -- its kind is the one that its header says, with its fields
 pub kind_said : (kind : Kind) → kind_with (header_kind kind) (fields_of kind) ≡ kind
 kind_said Fields = refl
@@ -148,6 +154,10 @@ module _ (x : Held) (making : IsMaking x.account x.registers x.task) where
 
   pub holds_fields : HoldsFields header_made (fields_for x)
   holds_fields mixed = let e = fields_is in let h = holds_by made.kind made.len fits_kind mixed in omega (arith, e, h)
+
+  -- a cell holds its target and its link
+  pub holds_target : HoldsTargetAndLink header_made
+  holds_target weak = let e = header_kind_cell made.kind weak in let z = cell_size made.kind made.len fits_kind e in omega (arith, z)
 
   -- the pages that it needs
   pub asked_is : pages_needed x ≡ pages_for (size_of header_made)

@@ -11,7 +11,9 @@ use Rattle.plain_state.specs.declared.kind.Kind.TheVariants as kinds
 use Rattle.plain_state.specs.declared.operation.Operation.{Operation}
 use Rattle.plain_state.specs.declared.operation.Operation.TheVariants as operations
 use Rattle.plain_state.specs.declared.sizes.TheConstants.{MOST_PRINTED}
-use Rattle.plain_state.specs.declared.value.Value.TheVariants.{Number}
+use Rattle.plain_state.specs.declared.value.Identity.{Identity}
+use Rattle.plain_state.specs.declared.value.Value.{Value}
+use Rattle.plain_state.specs.declared.value.Value.TheVariants.{Number, Reference}
 use Rattle.plain_state.specs.Operation.{applied}
 use Rattle.plain_state.specs.State.{Mutator}
 use Rattle.plain_heap.specs.declared.action.Action.{Action}
@@ -100,23 +102,27 @@ made_of q instrs.Halt = refl
 
 -- ---- the register that leads to it
 
--- a record, if there is one, is for this register
-abbrev IsFor : ℕ → Option Making → Type 0
-IsFor d (Some m) = m.into ≡ d
-IsFor d None = ⊤
+-- what holds of the record, if there is one
+abbrev IfMade : (Making → Type 0) → Option Making → Type 0
+IfMade P (Some m) = P m
+IfMade P None = ⊤
 
-is_for_then : {A : Type 0} (d : ℕ) (o : Result A End) (f : A → Result Action End) → ((a : A) → IsFor d (making_in (f a))) → IsFor d (making_in (o >>= f))
-is_for_then d (Ok a) f h = h a
-is_for_then d (Err why) f h = tt
+made_then : {A : Type 0} (P : Making → Type 0) (o : Result A End) (f : A → Result Action End) → ((a : A) → IfMade P (making_in (f a))) → IfMade P (making_in (o >>= f))
+made_then P (Ok a) f h = h a
+made_then P (Err why) f h = tt
 
-allocates_for : (q : Mutator) (kind : Kind) (d : ℕ) (x : Operand) → IsFor d (making_in (allocates q kind d x))
-allocates_for q kind d x = is_for_then d (operand q x) _ (λ n. is_for_then d (length_of n) _ (λ len. refl))
+allocates_made : (P : Making → Type 0) (q : Mutator) (kind : Kind) (d : ℕ) (x : Operand) → ((len : ℕ) → P (record { kind = kind; into = d; len = len })) → IfMade P (making_in (allocates q kind d x))
+allocates_made P q kind d x h = made_then P (operand q x) _ (λ n. made_then P (length_of n) _ (λ len. h len))
 
-makes_for : (q : Mutator) (instr : Instr) → IsFor (register_for instr) (makes_of q instr)
-makes_for q (instrs.New d x) = allocates_for q kinds.Fields d x
-makes_for q (instrs.Raw d x) = allocates_for q kinds.Raw d x
-makes_for q (instrs.Mix d fields raw) = is_for_then d (mixed_named q fields raw) _ (λ m. refl)
-makes_for q (instrs.Weak d a) = is_for_then d (reference_in (register q a)) _ (λ i. refl)
+-- it is for this register
+abbrev IsFor : ℕ → Making → Type 0
+IsFor d m = m.into ≡ d
+
+makes_for : (q : Mutator) (instr : Instr) → IfMade (IsFor (register_for instr)) (makes_of q instr)
+makes_for q (instrs.New d x) = allocates_made (IsFor d) q kinds.Fields d x (λ len. refl)
+makes_for q (instrs.Raw d x) = allocates_made (IsFor d) q kinds.Raw d x (λ len. refl)
+makes_for q (instrs.Mix d fields raw) = made_then (IsFor d) (mixed_named q fields raw) _ (λ m. refl)
+makes_for q (instrs.Weak d a) = made_then (IsFor d) (reference_in (register q a)) _ (λ i. refl)
 makes_for q instr = tt
 
 -- who makes a record executes an instruction
@@ -131,7 +137,42 @@ record_leads x run at m =
     let q = seen_by x in
     let placed : Held = record x { account = record x.account { serial = x.account.serial + 1 }; run = Some run } in
     let made : making_in (action q e.instr) ≡ Some m.making = ap making_in e.acts in
-    let leads : IsFor (register_for e.instr) (Some m.making) = subst (IsFor (register_for e.instr)) (sym (made_of q e.instr) ∙ made) (makes_for q e.instr) in
+    let leads : IsFor (register_for e.instr) m.making = subst (IfMade (IsFor (register_for e.instr))) (sym (made_of q e.instr) ∙ made) (makes_for q e.instr) in
     ap (λ (t : Option Task). with_record x run at (making_for x t)) e.task_is
     ∙ ap (with_record x run at) made
     ∙ ap (λ (d : ℕ). loads placed d (pointer_word at)) (leads ∙ ap (λ (t : Option Task). register_for (instr_due t)) (sym e.task_is))
+
+-- ---- cells
+
+-- if it is a cell, the instruction is a `weak`
+abbrev IsByWeak : Instr → Making → Type 0
+IsByWeak instr m = m.kind ≡ kinds.Weak → (d : ℕ) × (a : ℕ) × (instr ≡ instrs.Weak d a)
+
+weak_makes : (q : Mutator) (instr : Instr) → IfMade (IsByWeak instr) (makes_of q instr)
+weak_makes q (instrs.New d x) = allocates_made (IsByWeak (instrs.New d x)) q kinds.Fields d x (λ len e. absurd (cc))
+weak_makes q (instrs.Raw d x) = allocates_made (IsByWeak (instrs.Raw d x)) q kinds.Raw d x (λ len e. absurd (cc))
+weak_makes q (instrs.Mix d fields raw) = made_then (IsByWeak (instrs.Mix d fields raw)) (mixed_named q fields raw) _ (λ m e. absurd (cc))
+weak_makes q (instrs.Weak d a) = made_then (IsByWeak (instrs.Weak d a)) (reference_in (register q a)) _ (λ i e. (d, a, refl))
+weak_makes q instr = tt
+
+-- the instruction names the register that refers to the record to which the cell is to refer
+pub record NamesTarget (q : Mutator) (instr : Instr) (v : Value) : Type 0 where
+  pub into : ℕ
+  pub named : ℕ
+  pub is : instr ≡ instrs.Weak into named
+  pub target : Identity
+  pub held : register q named ≡ Reference target
+  pub value : v ≡ Reference target
+
+pub names_target : (q : Mutator) (instr : Instr) (m : Making) (v : Value) → action q instr ≡ Ok (Makes m.kind m.into m.len v) → m.kind ≡ kinds.Weak → NamesTarget q instr v
+unfolding action
+names_target q instr m v acts weak =
+    let t = subst (IfMade (IsByWeak instr)) (sym (made_of q instr) ∙ ap making_in acts) (weak_makes q instr) weak in
+    by_register t.0 t.1 t.2 (register q t.1) refl (ap (action q) (sym t.2) ∙ acts)
+  where
+    same_value : (d : ℕ) (i : Identity) → ◌≡◌ {A = Result Action End} (Ok (Makes kinds.Weak d 1 (Reference i))) (Ok (Makes m.kind m.into m.len v)) → v ≡ Reference i
+    same_value d i e = cc
+
+    by_register : (d a : ℕ) → instr ≡ instrs.Weak d a → (u : Value) → register q a ≡ u → (reference_in u >>= (λ i. Ok (Makes kinds.Weak d 1 (Reference i)))) ≡ Ok (Makes m.kind m.into m.len v) → NamesTarget q instr v
+    by_register d a is (Number n) holds e = absurd (cc)
+    by_register d a is (Reference i) holds e = record { into = d; named = a; is = is; target = i; held = holds; value = same_value d i e }

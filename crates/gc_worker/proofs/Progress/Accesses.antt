@@ -34,7 +34,7 @@ use Rattle.gc_worker.specs.declared.access.record_access.RecordAccess.{RecordAcc
 use Rattle.gc_worker.specs.declared.access.record_access.RecordUse.{RecordUse}
 use Rattle.gc_worker.specs.declared.access.record_access.RecordUse.TheVariants as record_uses
 use Rattle.gc_worker.specs.Plain.Seen.{value_seen}
-use Rattle.gc_worker.specs.Steps.Access.{Answered, advances_at, at_stage, by_kind, count_at, counted_by, counting, field_at, field_of, goes_by, goes_to_field, is_header, kind_of, left, left_at, let_through, loading, looked, may_store, read_before, read_count, read_header, refused_by, role_by_count, storing, taken, told, turn_by, used_by, uses_board, uses_field, valued, Comes, GoesTo, compared, role_of, with_new, word_as}
+use Rattle.gc_worker.specs.Steps.Access.{Answered, advances_at, at_stage, by_kind, count_at, counted_by, counting, field_at, field_of, goes_at, goes_by, goes_to_field, is_header, kind_of, left, left_at, let_through, loading, looked, may_store, read_before, read_count, read_header, role_by_count, storing, taken, told, turn_by, used_by, uses_board, uses_field, valued, Comes, GoesTo, compared, role_of, with_new, word_as}
 
 by_use : (f : FieldAccess) (usage : FieldUse) → left_at (uses_field f usage) < 3
 by_use f (field_uses.Loads into) = omega arith
@@ -65,12 +65,18 @@ module _ (a : Access) where
   by_page : (page word : ℕ) (next : AccessStage) (most : ℕ) → left_at next < most → Lowers (looked page a.epoch word next) most
   by_page page word next most fewer = by_protection (access_of page (decode_page word) a.epoch) next most fewer
 
+  -- whatever role the word has
+  by_role : (role : Role) (stage : AccessStage) (most : ℕ) → left_at stage < most → Lowers (goes_at role stage) most
+  by_role roles.Field stage most fewer more = fewer
+  by_role roles.Number stage most fewer more = fewer
+  by_role roles.Target stage most fewer more = absurd (cc)
+
   by_loading : (f : FieldAccess) (into : ℕ) (o : Result ℕ End) → Lowers (loading f into o) 4
-  by_loading f into (Ok x) more = by_field f (field_uses.Loads into)
+  by_loading f into (Ok x) more = by_role f.role (goes_to_field f (field_uses.Loads into)) 4 (by_field f (field_uses.Loads into)) more
   by_loading f into (Err why) more = absurd (cc)
 
   by_storing : (f : FieldAccess) (usage : FieldUse) (o : Result PlainValue End) → Lowers (storing f usage o) 4
-  by_storing f usage (Ok v) more = by_field f (with_new usage (word_as f.role v))
+  by_storing f usage (Ok v) more = by_role f.role (goes_to_field f (with_new usage (word_as f.role v))) 4 (by_field f (with_new usage (word_as f.role v))) more
   by_storing f usage (Err why) more = absurd (cc)
 
   by_usage : (r : RecordAccess) (role : Role) (len : ℕ) (usage : RecordUse) → Lowers (used_by r role len usage) 6
@@ -93,17 +99,11 @@ module _ (a : Access) where
   by_mixed r len (record_uses.Stores new) more = by_counting r.at (field_uses.Stores new) (in_record len r.value) more
   by_mixed r len (record_uses.Exchanges e) more = by_counting r.at (field_uses.Exchanges e) (in_record len r.value) more
 
-  by_refusal : (r : RecordAccess) (len : ℕ) (usage : RecordUse) → Lowers (refused_by r len usage) 6
-  by_refusal r len (record_uses.TellsLength into) more = absurd (cc)
-  by_refusal r len (record_uses.Loads into) more = absurd (cc)
-  by_refusal r len (record_uses.Stores new) more = absurd (cc)
-  by_refusal r len (record_uses.Exchanges e) more = absurd (cc)
-
   by_head : (r : RecordAccess) (head : Kind) (len : ℕ) → Lowers (by_kind r head len) 6
   by_head r headers.Fields len = by_usage r roles.Field len r.usage
   by_head r headers.Raw len = by_usage r roles.Number len r.usage
   by_head r headers.Mixed len = by_mixed r (len - 1) r.usage
-  by_head r headers.Weak len = by_refusal r (len - 1) r.usage
+  by_head r headers.Weak len = by_usage r roles.Target (len - 1) r.usage
 
   by_header : (r : RecordAccess) (d : Decoded) → is_header d ≡ true → Lowers (read_header r d) 6
   by_header r (HeaderWord head len serial mutator) t = by_head r head len
@@ -114,7 +114,8 @@ module _ (a : Access) where
   by_header r Malformed t = absurd (cc)
 
   by_value : (m : MixedAccess) (role : Role) (usage : FieldUse) → Lowers (valued m role usage) 4
-  by_value m role (field_uses.Loads into) more = by_field (field_of m.at 2 role m.value) (field_uses.Loads into)
+  by_value m role (field_uses.Loads into) more =
+      let f = field_of m.at 2 role m.value in by_role role (goes_to_field f (field_uses.Loads into)) 4 (by_field f (field_uses.Loads into)) more
   by_value m role (field_uses.Stores new) more = by_storing (field_of m.at 2 role m.value) (field_uses.Stores new) (may_hold (kind_of role) m.value (value_seen new)) more
   by_value m role (field_uses.Exchanges e) more = by_storing (field_of m.at 2 role m.value) (field_uses.Exchanges e) (may_hold (kind_of role) m.value (value_seen e.new)) more
 

@@ -38,11 +38,11 @@ use Rattle.page_scan.specs.Scanning as scan
 use Rattle.page_slots.specs.Open as open_page
 use Rattle.gc_worker.specs.declared.access.Access.{Access}
 use Rattle.gc_worker.specs.declared.access.accessed.Accessed.{Accessed}
-use Rattle.gc_worker.specs.declared.access.accessed.Accessed.TheVariants.{Faults, Brings, Stored, Fails}
+use Rattle.gc_worker.specs.declared.access.accessed.Accessed.TheVariants.{Faults, Awaits, Brings, Stored, Fails}
 use Rattle.gc_worker.specs.declared.stage.after.After.{After}
 use Rattle.gc_worker.specs.declared.stage.after.After.TheVariants as afters
 use Rattle.gc_worker.specs.declared.stage.back.Back.{Back}
-use Rattle.gc_worker.specs.declared.stage.back.Back.TheVariants.{ToAccess, ToPlace, ToSnap, ToScanner}
+use Rattle.gc_worker.specs.declared.stage.back.Back.TheVariants.{ToAccess, ToTarget, ToPlace, ToSnap, ToScanner}
 use Rattle.gc_worker.specs.declared.stage.goal.Goal.TheVariants.{ForFlip}
 use Rattle.gc_worker.specs.declared.stage.write.Write.{Write}
 use Rattle.gc_worker.specs.declared.stage.write.Write.TheVariants.{OfAccess, OfPlace}
@@ -50,7 +50,7 @@ use Rattle.gc_worker.specs.declared.stage.forwarding_register.ForwardingRegister
 use Rattle.gc_worker.specs.declared.stage.Stage.{Stage}
 use Rattle.gc_worker.specs.declared.stage.Stage.TheVariants.{Looks, Passes, Flips, Forwards, Accesses, Places, Serves, Scans, Opens, Recalls, Guards, BeginsCheckpoint}
 use Rattle.gc_worker.specs.Workers.Fits.{IsMaking}
-use Rattle.gc_worker.specs.Workers.Held.{Held, at_stage, fields_for, header_for, making_for, may_snap, run_held}
+use Rattle.gc_worker.specs.Workers.Held.{Held, at_stage, fields_for, header_for, making_for, may_snap, run_held, target_for}
 use Rattle.gc_worker.specs.Progress.{IsSameMachine, MayWait}
 use Rattle.gc_worker.specs.Plain.Seen.{Making}
 use Rattle.gc_worker.specs.Steps.Turned.{Pointed, accessed_by, allocated_by, after_request, asks_flip, checkpoints, end_by_shortage, ended, epoch_said, first_pointer, flipped_by, forwarded_to, forwards_it, full_by, goes_back, goes_on, guards, in_epoch, is_full, passed_by, passes, places, runs_on, scanned_by, served_by, serves_snap, snapped_by, traced_by, with_copy, with_record, writes}
@@ -72,7 +72,7 @@ module _ (P : Stage → Type 0) where
   module _ (y : Held) (places_is : (p : place.Placing) → P (Places p)) (guards_is : (g : guard.Guarding) (write : Write) → P (Guards g write)) where
     pub places_so : (o : Option Header) → P Looks → P (places y o)
     places_so (Some header) looks =
-        let p = place.begun y.layout (run_held y) header y.epoch (fields_for y) y.snap in
+        let p = place.begun y.layout (run_held y) header y.epoch (fields_for y) y.snap (target_for y) in
         guards_so y (OfPlace p) (place.writes_on p p.stage) (Places p) (places_is p) (λ g. guards_is g (OfPlace p))
     places_so None looks = looks
 
@@ -169,6 +169,7 @@ registers_end x was w to is same =
 
 pub accesses_end : (x : Held) (was a : Access) (result : Accessed) → IsSameMachine (Accesses was) (accessed_by x a result).stage → ⊥
 accesses_end x was a (Faults page) same = same
+accesses_end x was a Awaits same = same
 accesses_end x was a (Brings into word) same = same
 accesses_end x was a Stored same = same
 accesses_end x was a (Fails why) same = same
@@ -192,10 +193,11 @@ allocations_end x was p (Full s) making same = short_end x was s s.traced same
 
 -- ---- rounds, scans
 
--- a scanner, and who begins a checkpoint, make another round at once
+-- a scanner, and who is to load a target or begins a checkpoint, make another round at once
 abbrev pub RoundsAgain : Back → Type 0
 RoundsAgain ToScanner = ⊤
 RoundsAgain ToSnap = ⊤
+RoundsAgain (ToTarget a) = ⊤
 RoundsAgain (ToAccess a) = ⊥
 RoundsAgain ToPlace = ⊥
 
@@ -204,12 +206,14 @@ no_round y was o = places_so (λ (t : Stage). IsSameMachine (Serves was ToPlace)
 
 round_back : (y : Held) (was : duty.Round) (back : Back) → IsSameMachine (Serves was back) (goes_back y back) → RoundsAgain back
 round_back y was (ToAccess a) same = same
+round_back y was (ToTarget a) same = tt
 round_back y was ToPlace same = absurd (no_round y was (header_for y) same)
 round_back y was ToSnap same = tt
 round_back y was ToScanner same = tt
 
 traced_back : (y : Held) (was : duty.Round) (back : Back) → IsSameMachine (Serves was back) (traced_by y back).stage → RoundsAgain back
 traced_back y was (ToAccess a) same = same
+traced_back y was (ToTarget a) same = tt
 traced_back y was ToPlace same = absurd (no_round y was (header_for y) same)
 traced_back y was ToSnap same = tt
 traced_back y was ToScanner same = tt
@@ -228,6 +232,7 @@ scans_end x was s back (scanned.Ended at_front) same = same
 
 opening_back : (y : Held) (was : open_page.Opening) (s : scan.Scanning) (back : Back) → IsSameMachine (Opens was s back) (goes_back y back) → ⊥
 opening_back y was s (ToAccess a) same = same
+opening_back y was s (ToTarget a) same = same
 opening_back y was s ToPlace same =
     places_so (λ (t : Stage). IsSameMachine (Opens was s ToPlace) t → ⊥) y (λ p same. same) (λ v write same. same) (header_for y) (λ same. same) same
 opening_back y was s ToSnap same = same

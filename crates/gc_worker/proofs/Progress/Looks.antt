@@ -25,7 +25,7 @@ use Rattle.gc_worker.specs.Plain.Seen.{seen}
 use Rattle.gc_worker.specs.Progress.{IsSameMachine}
 use Rattle.gc_worker.specs.Steps.Turned.{Told, Silent, Answers, acted, acts, begins, looked_by, passes, places, serves_snap, started, told_acted, told_action, told_gate, told_look, told_start, turned_look, went_on}
 use Rattle.gc_worker.specs.Workers.Fits.{FitsCall, IsMaking, MayBegin}
-use Rattle.gc_worker.specs.Workers.Held.{Held, at_stage, fields_for, header_for, may_snap, run_held}
+use Rattle.gc_worker.specs.Workers.Held.{Held, at_stage, fields_for, header_for, may_snap, run_held, target_for}
 use Rattle.gc_worker.proofs.Plain.NewRecords.{header_is}
 use Rattle.gc_worker.proofs.Progress.Ends.{guards_so}
 
@@ -39,7 +39,7 @@ LooksAgain y = IsSameMachine Looks y.stage
 
 no_placing : (y : Held) (o : Option Header) → is_some o ≡ true → IsSameMachine Looks (places y o) → ⊥
 no_placing y (Some header) stands again =
-    let p = place.begun y.layout (run_held y) header y.epoch (fields_for y) y.snap in
+    let p = place.begun y.layout (run_held y) header y.epoch (fields_for y) y.snap (target_for y) in
     guards_so (λ (t : Stage). IsSameMachine Looks t → ⊥) y (OfPlace p) (place.writes_on p p.stage) (Places p) (λ same. same) (λ g same. same) again
 no_placing y None stands again = cc
 

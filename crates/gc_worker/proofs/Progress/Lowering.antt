@@ -96,25 +96,25 @@ module _ (p : place.Placing) where
   abbrev asked : ℕ
   asked = place.pages_for (place.size_of p.header)
 
-  by_fits : (traced : Bool) (size : ℕ) (area : AreaWord) (b : Bool) → place.left_at asked (cond b (place_stage.ExchangesArea (record { traced = traced; area = area })) (place_stage.Ended (Full (place.shortage traced size p.header area)))) < 66 * asked + 4
+  by_fits : (traced : Bool) (size : ℕ) (area : AreaWord) (b : Bool) → place.left_at asked (cond b (place_stage.ExchangesArea (record { traced = traced; area = area })) (place_stage.Ended (Full (place.shortage traced size p.header area)))) < 66 * asked + 5
   by_fits traced size area true = omega arith
   by_fits traced size area false = omega arith
 
-  by_place_area : (traced : Bool) (size : ℕ) (o : Option AreaWord) → is_some o ≡ true → place.left_at asked (place.looked_at_area p traced size o) < 66 * asked + 4
+  by_place_area : (traced : Bool) (size : ℕ) (o : Option AreaWord) → is_some o ≡ true → place.left_at asked (place.looked_at_area p traced size o) < 66 * asked + 5
   by_place_area traced size (Some area) t = by_fits traced size area (place.fits traced (place.words_for p.header) area)
   by_place_area traced size None t = absurd (cc)
 
   by_cleared : (new : NewPages) → FitsPlaceStage p.layout.pages asked p.snap p.run p.header (place_stage.StoresZero new)
-      → place.left_at asked (place.cleared (place.words_for p.header) p.snap new) < 66 * asked + 2 - (new.next - new.first)
+      → place.left_at asked (place.cleared (place.words_for p.header) p.snap new) < 66 * asked + 3 - (new.next - new.first)
   by_cleared new fits = grind (arith, nat_tests)
 
-  by_first : (kind : Kind) → place.left_at asked (place.stores_first kind) ≤ 2
+  by_first : (kind : Kind) → place.left_at asked (place.stores_first kind) ≤ 3
   by_first Fields = omega arith
   by_first Raw = omega arith
   by_first Mixed = omega arith
   by_first Weak = omega arith
 
-  by_opened : (new : NewPages) → FitsPlaceStage p.layout.pages asked p.snap p.run p.header (place_stage.OpensPage new) → place.left (place.after_opening p new) < 2 * asked + 1 - 2 * (new.next - page_of new.first)
+  by_opened : (new : NewPages) → FitsPlaceStage p.layout.pages asked p.snap p.run p.header (place_stage.OpensPage new) → place.left (place.after_opening p new) < 2 * asked + 2 - 2 * (new.next - page_of new.first)
   by_opened new fits = let first = by_first p.header.kind in grind (arith, nat_tests, first)
 
   pub allocations_lower : (stage : PlaceStage) (r : Reply) → FitsPlaceStage p.layout.pages asked p.snap p.run p.header stage → place.advances_at stage r ≡ true
@@ -127,5 +127,7 @@ module _ (p : place.Placing) where
   allocations_lower (place_stage.StoresNew new) Done fits t = let page = fits.0 in omega (arith, page)
   allocations_lower (place_stage.OpensPage new) Done fits t = by_opened new fits
   allocations_lower place_stage.StoresCount Done fits t = omega arith
+  allocations_lower place_stage.StoresTarget Done fits t = omega arith
+  allocations_lower place_stage.StoresLink Done fits t = omega arith
   allocations_lower place_stage.StoresHeader Done fits t = omega arith
   allocations_lower stage r fits t = cc

@@ -145,6 +145,8 @@ module _ (c : Configuration) (p : Plain) (s : Stands c p) (k : ℕ) where
   placing a (place_stage.StoresNew new) q same asked = subst (On (place.advances_at (place_stage.StoresNew new))) (same_Some _ q asked) (Advances refl)
   placing a (place_stage.OpensPage new) q same asked = subst (On (place.advances_at (place_stage.OpensPage new))) (same_Some _ q asked) (Advances refl)
   placing a place_stage.StoresCount q same asked = subst (On (place.advances_at place_stage.StoresCount)) (same_Some _ q asked) (Advances refl)
+  placing a place_stage.StoresTarget q same asked = subst (On (place.advances_at place_stage.StoresTarget)) (same_Some _ q asked) (Advances refl)
+  placing a place_stage.StoresLink q same asked = subst (On (place.advances_at place_stage.StoresLink)) (same_Some _ q asked) (Advances refl)
   placing a place_stage.StoresHeader q same asked = subst (On (place.advances_at place_stage.StoresHeader)) (same_Some _ q asked) (Advances refl)
   placing a (place_stage.Ended result) q same asked = absurd (cc)
 

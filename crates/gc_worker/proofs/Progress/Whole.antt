@@ -57,7 +57,7 @@ use Rattle.gc_worker.specs.declared.access.access_stage.AccessStage.TheVariants.
 use Rattle.gc_worker.specs.declared.access.accessed.Accessed.{Accessed}
 use Rattle.gc_worker.specs.declared.stage.after.After.{After}
 use Rattle.gc_worker.specs.declared.stage.back.Back.{Back}
-use Rattle.gc_worker.specs.declared.stage.back.Back.TheVariants.{ToAccess, ToPlace, ToSnap, ToScanner}
+use Rattle.gc_worker.specs.declared.stage.back.Back.TheVariants.{ToAccess, ToTarget, ToPlace, ToSnap, ToScanner}
 use Rattle.gc_worker.specs.declared.stage.goal.Goal.{Goal}
 use Rattle.gc_worker.specs.declared.stage.write.Write.{Write}
 use Rattle.gc_worker.specs.declared.stage.write.Write.TheVariants.{OfAccess, OfPlace}
@@ -296,6 +296,7 @@ module _ (c : Configuration) (p : Plain) (s : Stands c p) (k : ℕ) (x : Held) (
 
   round_again : (d : duty.Round) (back : Back) (result : RoundEnd) → duty.told (duty.taken d r) ≡ Finished result → RoundsAgain back → Result (Serves d back)
   round_again d ToScanner result ends again = Awaits (result, ends)
+  round_again d (ToTarget a) result ends again = Rounds_on (result, ends)
   round_again d ToSnap result ends again = Rounds_on (result, ends)
   round_again d (ToAccess a) result ends again = absurd again
   round_again d ToPlace result ends again = absurd again

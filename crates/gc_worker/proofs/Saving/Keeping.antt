@@ -1,7 +1,8 @@
 -- What is kept of checkpoints stands after each step, where they can be begun.
-use Rattle.std.proofs.Common.{◌≡◌, ℕ, ◌<◌, Bool, true, false, refl, length, Some, subst, sym, ap, ◌∙◌}
+use Rattle.std.proofs.Common.{◌≡◌, [], ℕ, ◌<◌, List, Bool, true, false, refl, length, Some, subst, sym, ap, ◌∙◌}
 use Rattle.std.proofs.lemmas.List.{get_or-map, length-map}
 use Rattle.std.proofs.Common.{get_or-set_same, get_or-set_other, length-set}
+use Rattle.plain_state.specs.declared.value.Identity.{Identity}
 use Rattle.plain_state.specs.State.{Plain}
 use Rattle.atom_store.specs.declared.step.Step.{Step}
 use Rattle.atom_store.specs.Step.{reply_of}
@@ -18,12 +19,14 @@ use Rattle.heap_laws.specs.Saving.Stores.{saves_after}
 use Rattle.heap_laws.proofs.Lifting.Configurations.{seen}
 use Rattle.heap_laws.proofs.Saving.Stores.{saves_follow}
 use Rattle.gc_worker.specs.Laws.Step.{Heap, read, nobody, held_at, saves_in, CheckpointsStand, StandIf, WorkersStand, moved}
-use Rattle.gc_worker.specs.Plain.Answer.{after_told}
-use Rattle.gc_worker.specs.Steps.Turned.{turned, told}
+use Rattle.gc_worker.specs.Plain.Answer.{after_told, with_emptied}
+use Rattle.gc_worker.specs.Steps.Turned.{Told, Silent, Empties, Answers, Marks, turned, told}
 use Rattle.gc_worker.specs.Steps.Wanted.{wanted}
 use Rattle.gc_worker.specs.Workers.Held.{Held}
 use Rattle.gc_worker.specs.Workers.Knows.{knows}
 use Rattle.gc_worker.specs.Workers.Saves.{saver_of}
+use Rattle.gc_worker.proofs.Plain.Emptied.{kept_if}
+use Rattle.gc_worker.proofs.Plain.Represented.{kept_by}
 use Rattle.gc_worker.proofs.Saving.Kinds.{kinds}
 use Rattle.gc_worker.proofs.Saving.Frame.Step.{Before, SavesStep}
 use Rattle.gc_worker.proofs.Workers.Members.{member}
@@ -79,7 +82,7 @@ module _ (h : Heap) (p o : Plain) (k : ℕ) (x : Held) (q : Step) (st : WorkersS
     said : saves_in later ≡ saves_after (saves_in h) step.entry
     said = ap (saves_of h.pages) step.writes ∙ (saves_follow h.pages h.words step.entry before_it.formed step.fits).says
 
-    lifted : CheckpointsStand later (after_told p k (told x (reply_of q h.words)))
+    lifted : CheckpointsStand later (after_told [] p k (told x (reply_of q h.words)))
     lifted = record {
       formed = subst (AreFormedSaves h.pages) (sym step.writes) (saves_follow h.pages h.words step.entry before_it.formed step.fits).formed;
       frozen = step.frozen;
@@ -88,12 +91,18 @@ module _ (h : Heap) (p o : Plain) (k : ℕ) (x : Held) (q : Step) (st : WorkersS
     }
 
 by_room : (h : Heap) (p o : Plain) (k : ℕ) (x : Held) (q : Step) → WorkersStand h p o → k < length h.workers → held_at h k ≡ x → wanted x ≡ Some q
-    → (b : Bool) → h.checkpoints ≡ b → StandIf b (moved h k x q) (after_told p k (told x (reply_of q h.words)))
+    → (b : Bool) → h.checkpoints ≡ b → StandIf b (moved h k x q) (after_told [] p k (told x (reply_of q h.words)))
 by_room h p o k x q st l holds asked false room = tt
 by_room h p o k x q st l holds asked true room =
     lifted h p o k x q st l holds room (kinds (read h) p (before_it h p o k x q st l holds room).frozen (λ j. saver_of (held_at h j)) k x (before h p o k x q st l holds room) q asked)
 
--- each step of a heap with checkpoints keeps what is kept of them
-pub saving_kept : (h : Heap) (p o : Plain) (k : ℕ) (x : Held) (q : Step) → WorkersStand h p o → k < length h.workers → held_at h k ≡ x → wanted x ≡ Some q
-    → StandIf h.checkpoints (moved h k x q) (after_told p k (told x (reply_of q h.words)))
-saving_kept h p o k x q st l holds asked = by_room h p o k x q st l holds asked h.checkpoints refl
+-- Each step of a heap with checkpoints keeps what is kept of them, whichever cells are emptied.
+pub saving_kept : (empty : List Identity) (h : Heap) (p o : Plain) (k : ℕ) (x : Held) (q : Step) → WorkersStand h p o → k < length h.workers → held_at h k ≡ x → wanted x ≡ Some q
+    → StandIf h.checkpoints (moved h k x q) (after_told empty p k (told x (reply_of q h.words)))
+saving_kept empty h p o k x q st l holds asked = by_told (told x (reply_of q h.words)) (by_room h p o k x q st l holds asked h.checkpoints refl)
+  where
+    by_told : (t : Told) → StandIf h.checkpoints (moved h k x q) (after_told [] p k t) → StandIf h.checkpoints (moved h k x q) (after_told empty p k t)
+    by_told Silent saved = saved
+    by_told Empties saved = kept_by (moved h k x q) p (with_emptied p empty) h.checkpoints saved (kept_if p empty h.checkpoints)
+    by_told (Answers task outcome) saved = saved
+    by_told (Marks asked) saved = saved

@@ -1,6 +1,6 @@
 -- The beginning of a checkpoint: the gate is found with nobody running, and stands still; then SNAP is exchanged, by which the heap of
 -- now becomes the frozen one, and the plain heap keeps what that shows.
-use Rattle.std.proofs.Common.{◌≡◌, ℕ, ◌+◌, ◌^◌, ◌==◌, Bool, true, false, cond, nat_lt, Option, Some, None, Result, Ok, refl, sym, ap, subst, ◌∙◌}
+use Rattle.std.proofs.Common.{◌≡◌, [], ℕ, ◌+◌, ◌^◌, ◌==◌, Bool, true, false, cond, nat_lt, Option, Some, None, Result, Ok, refl, sym, ap, subst, ◌∙◌}
 use Rattle.std.specs.Prelude.{◌&&◌}
 use Rattle.std.proofs.lemmas.Bool.{eqb-true, ltb-true}
 use Rattle.mutator_asm.specs.declared.instr.Instr.{Instr}
@@ -112,10 +112,10 @@ module _ (c : Configuration) (p : Plain) (z : Frozen) (saver : ℕ → Saver) (k
         subst (λ (i : Instr). call k p.heap own.0 i ≡ Ok (record { heap = took p.heap; mutator = plain.went_on own.0 })) (sym is_snap) (snap_takes k p.heap own.0)
 
     -- the plain heap then
-    takes : (after_told p k (told_effect y.task)).heap ≡ took p.heap
+    takes : (after_told [] p k (told_effect y.task)).heap ≡ took p.heap
     takes =
         let task : ExecutesAction x.account x.registers x.task Snaps = b.is.fits.task in
-        ap (λ (t : Option Task). (after_told p k (told_effect t)).heap) task.task_is
+        ap (λ (t : Option Task). (after_told [] p k (told_effect t)).heap) task.task_is
         ∙ (ap (λ (o : Option Mutator). (after_answer p k (Calls task.instr) Done o).heap) own.1.is
         ∙ ap (λ (r : Result plain.After End). (settled p k own.0 r).heap) (calls task.instr (snaps_alone (seen x.account x.registers) task.instr task.acts)))
 
@@ -145,7 +145,7 @@ module _ (c : Configuration) (p : Plain) (z : Frozen) (saver : ℕ → Saver) (k
           subst (λ (w : Saver). SavingStands (table c) (record (saves c) { snap = y.snap + 1 }) frozen (team c).count (put saver k (saver_after_snap w))) b.own
           (subst (λ (n : ℕ). SavingStands (table c) (record (saves c) { snap = n }) frozen (team c).count (put saver k (saver_after_snap (saver k)))) one_more kept.stands)
 
-      shows : ShowsSnapped c.pages (record (saves c) { snap = y.snap + 1 }) frozen (after_told p k (told_effect y.task)).heap
+      shows : ShowsSnapped c.pages (record (saves c) { snap = y.snap + 1 }) frozen (after_told [] p k (told_effect y.task)).heap
       unfolding table_of
       shows =
           subst (λ (heap : Heap). ShowsSnapped c.pages (record (saves c) { snap = y.snap + 1 }) frozen heap) (sym takes)

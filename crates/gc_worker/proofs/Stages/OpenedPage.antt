@@ -17,9 +17,9 @@ use Rattle.heap_state.specs.Worker.{Worker}
 use Rattle.heap_laws.specs.Scanning.Claims.{ends_scan}
 use Rattle.heap_laws.proofs.Scanning.Opened as opened
 use Rattle.gc_worker.specs.declared.stage.back.Back.{Back}
-use Rattle.gc_worker.specs.declared.stage.back.Back.TheVariants.{ToAccess, ToPlace, ToSnap, ToScanner}
+use Rattle.gc_worker.specs.declared.stage.back.Back.TheVariants.{ToAccess, ToTarget, ToPlace, ToSnap, ToScanner}
 use Rattle.gc_worker.specs.declared.stage.Stage.TheVariants.{Opens}
-use Rattle.gc_worker.specs.Workers.Fits.{HasEnded}
+use Rattle.gc_worker.specs.Workers.Fits.{FitsBack, HasEnded}
 use Rattle.gc_worker.specs.Steps.Goes.{Is, Goes, StepsSo}
 use Rattle.gc_worker.specs.Workers.Held.{Held, header_for}
 use Rattle.gc_worker.specs.Workers.Knows.{knows, scan_of}
@@ -58,11 +58,12 @@ module _ (c : Configuration) (p : Plain) (s : Stands c p) (k : ℕ) (y : Held) (
   x = record y { stage = Opens (record o { stage = StoresOpen }) scan back }
 
   -- what the worker then knows is what it knew but for the scan
-  knows_back : (b : Back) → knows (back_from x b) ≡ ends_scan (knows (record x { stage = Opens (record o { stage = StoresOpen }) scan b }))
-  knows_back (ToAccess a) = refl
-  knows_back ToPlace = places_known x (header_for x)
-  knows_back ToSnap = refl
-  knows_back ToScanner = refl
+  knows_back : (b : Back) → FitsBack x b → knows (back_from x b) ≡ ends_scan (knows (record x { stage = Opens (record o { stage = StoresOpen }) scan b }))
+  knows_back (ToAccess a) fits = λ i. record (ends_scan (knows (record x { stage = Opens (record o { stage = StoresOpen }) scan (ToAccess a) }))) { traced_seen = fits.2 i }
+  knows_back (ToTarget a) fits = refl
+  knows_back ToPlace fits = places_known x (header_for x)
+  knows_back ToSnap fits = refl
+  knows_back ToScanner fits = refl
 
   module _ (is : Is c k x) where
     abbrev entry : Entry
@@ -78,7 +79,7 @@ module _ (c : Configuration) (p : Plain) (s : Stands c p) (k : ℕ) (y : Held) (
     goes : Goes c p s k (Some entry) x Done
     goes =
         let sound = is.fits.stage.0.sound in
-        quiet c p s k x (Some entry) Done s.ghost is.below (rw (knows_back back) law) refl
+        quiet c p s k x (Some entry) Done s.ghost is.below (rw (knows_back back is.fits.stage.3) law) refl
         (record { pages = sound.pages; page = sound.page; epoch = sound.epoch })
         (back_fits c.pages c.mutators k x is.fits is.fits.end back is.fits.stage.3 is.fits.side is.fits.task) tt
 

@@ -2,7 +2,7 @@ pub mod Claiming
 pub mod Marking
 pub mod Readying
 pub mod Acts
-pub mod Counting
+pub mod Ahead
 pub mod Header
 pub mod Full
 pub mod Opened

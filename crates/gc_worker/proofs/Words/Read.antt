@@ -1,5 +1,6 @@
 -- What the code reads in a word is what the definitions make of it.
 use Rattle.std.proofs.Common.{◌≡◌, ℕ, true, false, ◌+◌, ◌-◌, ◌^◌, ◌<◌, ◌≤◌, arith, Option, zero, suc, List, [], ◌∷◌, map, Some, None, refl, sym, ap, ◌∙◌, subst, slice_get, slice_index, slice_index_or}
+use Rattle.std.proofs.lemmas.Option.{get_or_from_slice_get}
 use Rattle.heap_words.specs.Decoded.{Decoded, NumberWord, PointerWord, HeaderWord, ForwardWord, BusyWord, Malformed, decode, encode, number_in, pointer_in}
 use Rattle.heap_words.proofs.Decoding.{decode-header_word}
 use Rattle.heap_words.proofs.Spelling.{number_word-decode, pointer_word-decode}
@@ -25,7 +26,7 @@ use Rattle.gc_worker.specs.declared.stage.after.After.{After}
 use Rattle.gc_worker.specs.declared.stage.after.After.TheVariants as afters
 use Rattle.gc_worker.specs.declared.stage.forwarding_register.ForwardingRegister.{ForwardingRegister}
 use Rattle.gc_worker.specs.declared.stage.back.Back.{Back}
-use Rattle.gc_worker.specs.declared.stage.back.Back.TheVariants.{ToAccess, ToPlace, ToSnap, ToScanner}
+use Rattle.gc_worker.specs.declared.stage.back.Back.TheVariants.{ToAccess, ToTarget, ToPlace, ToSnap, ToScanner}
 use Rattle.gate_core.specs.declared.recall.recalled.Recalled.{Recalled}
 use Rattle.gate_core.specs.Recall.{Recalling}
 use Rattle.gate_core.specs.Recall as recall
@@ -125,6 +126,18 @@ register_seen account registers r w is = map_found registers r w (sym is)
 
 pub no_register_seen : (account : Account) (registers : List ℕ) (r : ℕ) → None ≡ slice_get registers r → register (seen account registers) r ≡ Number 0
 no_register_seen account registers r is = map_lost registers r (sym is)
+
+-- and the word there
+word_lost : (words : List ℕ) (r : ℕ) → slice_get words r ≡ None → slice_index words r ≡ 0
+word_lost [] r is = refl
+word_lost (x ∷ xs) zero is = absurd (let z = is in cc)
+word_lost (x ∷ xs) (suc r) is = word_lost xs r is
+
+pub register_word : (registers : List ℕ) (r w : ℕ) → Some w ≡ slice_get registers r → slice_index registers r ≡ w
+register_word registers r w is = get_or_from_slice_get registers r w 0 (sym is)
+
+pub no_register_word : (registers : List ℕ) (r : ℕ) → None ≡ slice_get registers r → slice_index registers r ≡ 0
+no_register_word registers r is = word_lost registers r (sym is)
 
 -- ---- headers of new records
 
@@ -233,14 +246,17 @@ served_anywhere : (x : Held) (was : Stage) (epoch : ℕ) (back : Back) (end : Ro
 served_anywhere x was epoch back (ScanPage page) = refl
 served_anywhere x was epoch back (ScanInPlace page) = refl
 served_anywhere x was epoch (ToAccess access) Marked = refl
+served_anywhere x was epoch (ToTarget access) Marked = refl
 served_anywhere x was epoch ToPlace Marked = refl
 served_anywhere x was epoch ToSnap Marked = refl
 served_anywhere x was epoch ToScanner Marked = refl
 served_anywhere x was epoch (ToAccess access) Traced = refl
+served_anywhere x was epoch (ToTarget access) Traced = refl
 served_anywhere x was epoch ToPlace Traced = refl
 served_anywhere x was epoch ToSnap Traced = refl
 served_anywhere x was epoch ToScanner Traced = refl
 served_anywhere x was epoch (ToAccess access) (NothingNow word) = refl
+served_anywhere x was epoch (ToTarget access) (NothingNow word) = refl
 served_anywhere x was epoch ToPlace (NothingNow word) = refl
 served_anywhere x was epoch ToSnap (NothingNow word) = refl
 served_anywhere x was epoch ToScanner (NothingNow word) = refl
@@ -261,14 +277,17 @@ pub served_uncounted : (x : Held) (d : Round) (back : Back) (end : RoundEnd)
 served_uncounted x d back (ScanPage page) = refl
 served_uncounted x d back (ScanInPlace page) = refl
 served_uncounted x d (ToAccess access) Marked = refl
+served_uncounted x d (ToTarget access) Marked = refl
 served_uncounted x d ToPlace Marked = refl
 served_uncounted x d ToSnap Marked = refl
 served_uncounted x d ToScanner Marked = refl
 served_uncounted x d (ToAccess access) Traced = refl
+served_uncounted x d (ToTarget access) Traced = refl
 served_uncounted x d ToPlace Traced = refl
 served_uncounted x d ToSnap Traced = refl
 served_uncounted x d ToScanner Traced = refl
 served_uncounted x d (ToAccess access) (NothingNow word) = refl
+served_uncounted x d (ToTarget access) (NothingNow word) = refl
 served_uncounted x d ToPlace (NothingNow word) = refl
 served_uncounted x d ToSnap (NothingNow word) = refl
 served_uncounted x d ToScanner (NothingNow word) = refl

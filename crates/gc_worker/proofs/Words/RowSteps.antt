@@ -19,20 +19,16 @@ use Rattle.heap_laws.specs.Composing.{IsAtMost}
 use Rattle.heap_laws.specs.Steps.{Ready, IsBeside}
 use Rattle.heap_laws.specs.Steps as law
 use Rattle.heap_laws.proofs.Copying.Laws.{nothing_else_changes}
-use Rattle.heap_laws.specs.Lifting.{LeavesConfiguration}
 use Rattle.heap_laws.proofs.Lifting.Configurations.{ready}
 use Rattle.heap_laws.proofs.Lifting.Laws.{steps_are_lifted}
 use Rattle.heap_laws.proofs.Steps.Composing.{steps_forget, steps_write_beside}
 use Rattle.heap_state.proofs.Table.Places.{word_in-row}
 use Rattle.heap_state.proofs.Table.Stores.{entry_has_row}
 use Rattle.gc_worker.specs.Workers.Fits.{Fits, Takes}
-use Rattle.gc_worker.specs.Plain.Answer.{IsAnswered}
-use Rattle.gc_worker.specs.Plain.Full.{FullWhereTold}
-use Rattle.gc_worker.specs.Steps.Goes.{Is, FlipIsOwn, Goes, LeavesToPlain, StepsInTable, Wins}
+use Rattle.gc_worker.specs.Steps.Goes.{Is, Goes, StepsInTable, TracesEpoch, Wins}
 use Rattle.gc_worker.specs.Workers.Held.{Held}
 use Rattle.gc_worker.specs.Workers.Knows.{knows}
-use Rattle.gc_worker.specs.Steps.Turned.{Told, Silent, Empties, Answers, Marks, PageWon, turned, told, won}
-use Rattle.gc_worker.proofs.Plain.Quiet.{IsQuiet}
+use Rattle.gc_worker.specs.Steps.Turned.{Silent, Empties, PageWon, turned, told, won}
 use Rattle.gc_worker.proofs.Words.Eras.{board_is}
 
 -- the row is one of the table, not one of those behind it
@@ -49,59 +45,40 @@ module _ (c : Configuration) (p : Plain) (s : Stands c p) (k : ℕ) (x : Held) w
   abbrev pub Law : (e : Option Entry) (w : Worker) (h : Ghost) → Type 0
   Law e w h = law.Steps (era c) (memory c) (team c) s.ghost k e w h
 
-  leaves : (t : Told) (e : Option Entry) (y : Held) (h : Ghost) → IsQuiet t → LeavesConfiguration c e k (knows y) p s.ghost h → LeavesToPlain c p s.ghost k e y h t
-  leaves Silent e y h quiet l = l
-  leaves Empties e y h quiet l = l
-  leaves (Answers task outcome) e y h quiet l = absurd quiet
-  leaves (Marks asked) e y h quiet l = absurd quiet
-
-  answers_none : (t : Told) → IsQuiet t → IsAnswered p k t
-  answers_none Silent quiet = tt
-  answers_none Empties quiet = tt
-  answers_none (Answers task outcome) quiet = absurd quiet
-  answers_none (Marks asked) quiet = tt
-
-  fills_none : (t : Told) → IsQuiet t → FullWhereTold c.pages c.words x t
-  fills_none Silent quiet = tt
-  fills_none Empties quiet = tt
-  fills_none (Answers task outcome) quiet = absurd quiet
-  fills_none (Marks asked) quiet = tt
-
-  flips_none : (t : Told) → IsQuiet t → FlipIsOwn c x t
-  flips_none Silent quiet = tt
-  flips_none Empties quiet = tt
-  flips_none (Answers task outcome) quiet = tt
-  flips_none (Marks asked) quiet = absurd quiet
-
-  -- a step that is no task's and no flip, by the law that says of it what the worker then knows
-  pub quietly : (t : Told) → IsQuiet t → (e : Option Entry) (reply : Reply) (h : Ghost) → k < length c.workers → Law e (knows (turned x reply)) h → told x reply ≡ t
+  -- a step that is none of the plain machine, by the law that says of it what the worker then knows
+  pub quiet : (e : Option Entry) (reply : Reply) (h : Ghost) → k < length c.workers → Law e (knows (turned x reply)) h → told x reply ≡ Silent
       → Takes x reply → Fits c.pages c.mutators k (turned x reply) → Wins c e k (turned x reply) (won x reply) → Goes c p s k e x reply
-  quietly t quiet e reply h below l tells takes fits wins = record {
+  quiet e reply h below l silent takes fits wins = record {
     takes = takes;
     fits = fits;
     ghost_after = h;
-    leads = rw tells (leaves t e (turned x reply) h quiet (steps_are_lifted c p s e k (knows (turned x reply)) h below l));
+    leads = rw silent (steps_are_lifted c p s e k (knows (turned x reply)) h below l);
     wins = wins;
-    answered = rw tells (answers_none t quiet);
-    full = rw tells (fills_none t quiet);
-    flip = rw tells (flips_none t quiet);
+    answered = rw silent tt;
+    full = rw silent tt;
+    flip = rw silent tt;
   }
 
-  -- one that is none of the plain machine
-  pub quiet : (e : Option Entry) (reply : Reply) (h : Ghost) → k < length c.workers → Law e (knows (turned x reply)) h → told x reply ≡ Silent
-      → Takes x reply → Fits c.pages c.mutators k (turned x reply) → Wins c e k (turned x reply) (won x reply) → Goes c p s k e x reply
-  quiet e reply h below l silent takes fits wins = quietly Silent tt e reply h below l silent takes fits wins
-
   -- the same where the worker becomes this, and wins no page
-  pub becomes_so : (t : Told) → IsQuiet t → (e : Option Entry) (reply : Reply) (y : Held) (h : Ghost) → turned x reply ≡ y → k < length c.workers → Law e (knows y) h → told x reply ≡ t
-      → won x reply ≡ None → Takes x reply → Fits c.pages c.mutators k y → Goes c p s k e x reply
-  becomes_so t quiet e reply y h same below l tells none takes fits =
-      quietly t quiet e reply h below (subst (λ (z : Held). Law e (knows z) h) (sym same) l) tells takes (subst (Fits c.pages c.mutators k) (sym same) fits)
-      (subst (λ (w : Option PageWon). Wins c e k (turned x reply) w) (sym none) tt)
-
   pub becomes : (e : Option Entry) (reply : Reply) (y : Held) (h : Ghost) → turned x reply ≡ y → k < length c.workers → Law e (knows y) h → told x reply ≡ Silent
       → won x reply ≡ None → Takes x reply → Fits c.pages c.mutators k y → Goes c p s k e x reply
-  becomes e reply y h same below l silent none takes fits = becomes_so Silent tt e reply y h same below l silent none takes fits
+  becomes e reply y h same below l silent none takes fits =
+      quiet e reply h below (subst (λ (z : Held). Law e (knows z) h) (sym same) l) silent takes (subst (Fits c.pages c.mutators k) (sym same) fits)
+      (subst (λ (w : Option PageWon). Wins c e k (turned x reply) w) (sym none) tt)
+
+  -- a step after which the epoch is traced
+  pub traces_so : (e : Option Entry) (reply : Reply) (y : Held) (h : Ghost) → turned x reply ≡ y → TracesEpoch c p s.ghost k e y h → told x reply ≡ Empties
+      → won x reply ≡ None → Takes x reply → Fits c.pages c.mutators k y → Goes c p s k e x reply
+  traces_so e reply y h same traces tells none takes fits = record {
+    takes = takes;
+    fits = subst (Fits c.pages c.mutators k) (sym same) fits;
+    ghost_after = h;
+    leads = rw tells (subst (λ (z : Held). TracesEpoch c p s.ghost k e z h) (sym same) traces);
+    wins = subst (λ (w : Option PageWon). Wins c e k (turned x reply) w) (sym none) tt;
+    answered = rw tells tt;
+    full = rw tells tt;
+    flip = rw tells tt;
+  }
 
   -- the row that a law says is written is one of the table, or one of those behind it
   pub row_fits : (e : Entry) (w : Worker) (h : Ghost) → k < length c.workers → Law (Some e) w h → IsWholeRow c.pages (row_of e)

@@ -35,7 +35,7 @@ use Rattle.gc_worker.specs.declared.access.access_stage.AccessStage.{AccessStage
 use Rattle.gc_worker.specs.declared.stage.after.After.{After}
 use Rattle.gc_worker.specs.declared.stage.after.After.TheVariants as afters
 use Rattle.gc_worker.specs.declared.stage.back.Back.{Back}
-use Rattle.gc_worker.specs.declared.stage.back.Back.TheVariants.{ToAccess, ToPlace, ToSnap, ToScanner}
+use Rattle.gc_worker.specs.declared.stage.back.Back.TheVariants.{ToAccess, ToTarget, ToPlace, ToSnap, ToScanner}
 use Rattle.gc_worker.specs.declared.stage.goal.Goal.{Goal}
 use Rattle.gc_worker.specs.declared.stage.goal.Goal.TheVariants.{ForFlip, ForSnap, ForScanner}
 use Rattle.gc_worker.specs.declared.stage.write.Write.{Write}
@@ -232,6 +232,7 @@ module _ (count : ℕ) (x : Held) where
 
   task_back : (back : Back) → FitsTaskBack x back → FitsTaskBack z back
   task_back (ToAccess a) task = accesses a.stage task
+  task_back (ToTarget a) task = accesses a.stage task
   task_back ToPlace task = making task
   task_back ToSnap task = (executing _ task.0, task.1)
   task_back ToScanner task = task
@@ -282,7 +283,7 @@ module _ (count : ℕ) (x : Held) where
   fits_scan s f = record { layout = f.layout; epoch = f.epoch; sound = f.sound }
 
   fits_place : (p : place.Placing) → FitsPlace x p → FitsPlace z p
-  fits_place p f = record { layout = f.layout; epoch = f.epoch; fields = f.fields ∙ sym (same_fields count x); snap = f.snap; going = f.going; rest = f.rest; sound = f.sound }
+  fits_place p f = record { layout = f.layout; epoch = f.epoch; fields = f.fields ∙ sym (same_fields count x); snap = f.snap; target = f.target; going = f.going; rest = f.rest; sound = f.sound }
 
   fits_write : (write : Write) (page : ℕ) → FitsWrite x write page → FitsWrite z write page
   fits_write (OfAccess a) page f = f

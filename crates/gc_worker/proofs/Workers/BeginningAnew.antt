@@ -10,7 +10,7 @@ use Rattle.fault_duty.specs.declared.duty_stage.DutyStage.{DutyStage}
 use Rattle.fault_duty.specs.declared.duty_stage.DutyStage.TheVariants.{LoadsGate, LoadsTraced, LoadsWanted, LoadsFrontFor, LoadsFront, LoadsPage, Claims, EndGate, EndArea, EndPage, EndFilling, EndAreaAgain, Walks, Traces, Ended}
 use Rattle.fault_duty.specs.Duty.{Round, at_stage, begun, looked_at_gate, looked_by_gate, taken, taken_at}
 use Rattle.gc_worker.specs.declared.stage.back.Back.{Back}
-use Rattle.gc_worker.specs.declared.stage.back.Back.TheVariants.{ToAccess, ToPlace, ToSnap, ToScanner}
+use Rattle.gc_worker.specs.declared.stage.back.Back.TheVariants.{ToAccess, ToTarget, ToPlace, ToSnap, ToScanner}
 use Rattle.gc_worker.specs.declared.stage.Stage.TheVariants.{Serves}
 use Rattle.gc_worker.specs.Steps.Stepped.{MayBeginAnew}
 use Rattle.gc_worker.specs.Workers.Fits.{FitsRound, FitsStage, IsCallerOf}
@@ -103,6 +103,7 @@ own_round x d own =
 by_back : (x : Held) (d : Round) (reply : Reply) (back : Back) → FitsStage x (Serves d back) → MayBeginAnew x.layout x.mutators x.number (Serves (taken d reply) back)
 by_back x d reply ToScanner fits = kept d d.stage reply ∙ own_round x d fits.0
 by_back x d reply (ToAccess a) fits = tt
+by_back x d reply (ToTarget a) fits = tt
 by_back x d reply ToPlace fits = tt
 by_back x d reply ToSnap fits = tt
 

@@ -44,11 +44,11 @@ use Rattle.page_slots.specs.declared.opened.Opened.{Opened}
 use Rattle.page_slots.specs.Open as open_page
 use Rattle.gc_worker.specs.declared.access.Access.{Access}
 use Rattle.gc_worker.specs.declared.access.accessed.Accessed.{Accessed}
-use Rattle.gc_worker.specs.declared.access.accessed.Accessed.TheVariants.{Faults, Brings, Stored, Fails}
+use Rattle.gc_worker.specs.declared.access.accessed.Accessed.TheVariants.{Faults, Awaits, Brings, Stored, Fails}
 use Rattle.gc_worker.specs.declared.stage.after.After.{After}
 use Rattle.gc_worker.specs.declared.stage.after.After.TheVariants as afters
 use Rattle.gc_worker.specs.declared.stage.back.Back.{Back}
-use Rattle.gc_worker.specs.declared.stage.back.Back.TheVariants.{ToAccess, ToPlace, ToSnap, ToScanner}
+use Rattle.gc_worker.specs.declared.stage.back.Back.TheVariants.{ToAccess, ToTarget, ToPlace, ToSnap, ToScanner}
 use Rattle.gc_worker.specs.declared.stage.goal.Goal.{Goal}
 use Rattle.gc_worker.specs.declared.stage.goal.Goal.TheVariants.{ForFlip, ForSnap, ForScanner}
 use Rattle.gc_worker.specs.declared.stage.write.Write.{Write}
@@ -58,7 +58,7 @@ use Rattle.gc_worker.specs.declared.task.Task.{Task}
 use Rattle.gc_worker.specs.declared.task.Task.TheVariants.{Calls, Stops}
 use Rattle.gc_worker.specs.Workers.Counted.{counted, count_after}
 use Rattle.gc_worker.specs.Workers.Fits.{IsMaking}
-use Rattle.gc_worker.specs.Workers.Held.{Held, at_stage, fields_for, fields_made, has_seen_flip, header_for, header_of, making_for, pages_asked, pages_needed, run_held}
+use Rattle.gc_worker.specs.Workers.Held.{Held, at_stage, fields_for, fields_made, has_seen_flip, header_for, header_of, making_for, pages_asked, pages_needed, run_held, target_for}
 use Rattle.gc_worker.specs.Plain.Seen.{Making, making_in, seen}
 use Rattle.gc_worker.specs.Steps.Turned.{Silent, after_request, asks_flip, begins_checkpoint, checkpoints, end_by_shortage, ended, full_by, goes_back, goes_on, guards_place, is_full, loads, of_round, passed_by, places, recalled, rounded, rounded_by, runs_on, told_access, told_effect, told_end, told_flip, told_full, told_place, told_snap, traced_by, turned_access, turned_copy, turned_flip, turned_gate, turned_guard, turned_opening, turned_place, turned_recall, turned_round, turned_save_round, turned_scan, turned_snap, went_on, with_record}
 use Rattle.gc_worker.proofs.Plain.NewRecords.{made, made_is}
@@ -131,7 +131,7 @@ module _ (count : ℕ) (x : Held) where
 
   same_places : (header : Option Header) → places y header ≡ places x header
   same_places None = refl
-  same_places (Some header) = ap (λ (n : ℕ). guards_place x (place.begun x.layout (run_held x) header x.epoch n x.snap)) same_fields
+  same_places (Some header) = ap (λ (n : ℕ). guards_place x (place.begun x.layout (run_held x) header x.epoch n x.snap (target_for x))) same_fields
 
   pub placing : places y (header_for y) ≡ places x (header_for x)
   placing = same_places (header_for y) ∙ ap (places x) same_header
@@ -151,6 +151,7 @@ module _ (count : ℕ) (x : Held) where
 
   going_back : (back : Back) → goes_back y back ≡ goes_back x back
   going_back (ToAccess a) = refl
+  going_back (ToTarget a) = refl
   going_back ToPlace = placing
   going_back ToSnap = refl
   going_back ToScanner = refl
@@ -216,6 +217,7 @@ module _ (count : ℕ) (x : Held) where
   pub accessing : (a : Access) (instr : Instr) → x.task ≡ Some (Calls instr) → (t : Turn Accessed) → turned_access y a t ≡ counted (count_after count (told_access x.task t)) (turned_access x a t)
   accessing a instr is More = refl
   accessing a instr is (Finished (Faults page)) = refl
+  accessing a instr is (Finished Awaits) = refl
   accessing a instr is (Finished (Brings into word)) = ap (λ (n : ℕ). counted n (loads x into word)) (sym (effect_count x.task instr is))
   accessing a instr is (Finished Stored) = ap (λ (n : ℕ). counted n (went_on x)) (sym (effect_count x.task instr is))
   accessing a instr is (Finished (Fails why)) = ap (λ (n : ℕ). counted n (ended x why)) (sym (end_count x.task why))
@@ -276,6 +278,7 @@ recalling count x r after (Finished result) = ap (λ (stage : Stage). counted co
 
 tracing : (count : ℕ) (x : Held) (back : Back) → traced_by (counted count x) back ≡ counted count (traced_by x back)
 tracing count x (ToAccess a) = refl
+tracing count x (ToTarget a) = refl
 tracing count x ToPlace = ap (λ (stage : Stage). counted count (at_stage x stage)) (placing count x)
 tracing count x ToSnap = refl
 tracing count x ToScanner = refl

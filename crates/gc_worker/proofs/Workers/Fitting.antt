@@ -7,7 +7,7 @@ use Rattle.heap_state.specs.Worker.{Account}
 use Rattle.page_saves.specs.SaveRound.{SavingRound}
 use Rattle.page_scan.specs.Scanning.{Scanning}
 use Rattle.gc_worker.specs.declared.stage.back.Back.{Back}
-use Rattle.gc_worker.specs.declared.stage.back.Back.TheVariants.{ToAccess, ToPlace, ToSnap, ToScanner}
+use Rattle.gc_worker.specs.declared.stage.back.Back.TheVariants.{ToAccess, ToTarget, ToPlace, ToSnap, ToScanner}
 use Rattle.gc_worker.specs.declared.stage.goal.Goal.{Goal}
 use Rattle.gc_worker.specs.declared.stage.goal.Goal.TheVariants.{ForFlip, ForSnap, ForScanner}
 use Rattle.gc_worker.specs.declared.stage.write.Write.{Write}
@@ -16,7 +16,8 @@ use Rattle.gc_worker.specs.declared.stage.Stage.{Stage}
 use Rattle.gc_worker.specs.declared.stage.Stage.TheVariants.{Looks, Passes, Flips, Forwards, Accesses, Places, Serves, Scans, Evacuates, Opens, Recalls, Guards, Checkpoints, BeginsCheckpoint, Gone}
 use Rattle.gc_worker.specs.declared.task.Task.{Task}
 use Rattle.gc_worker.specs.Workers.Fits.{FitsCopy, FitsPlace, FitsRound, FitsScan, FitsStage, FitsWrite, IsRoundFor, IsRoundOfMutator}
-use Rattle.gc_worker.specs.Workers.Held.{Held, at_stage, fields_for}
+use Rattle.gc_worker.specs.Workers.Held.{Held, at_stage, fields_for, target_for}
+use Rattle.gc_worker.specs.Steps.Stepped.{IsForCheckpoint}
 use Rattle.gc_worker.specs.Steps.Turned.{back_from, checkpoints, goes_back, traced_by}
 
 -- the parts of which no machine knows
@@ -29,8 +30,8 @@ pub record Aside : Type 0 where
 abbrev pub with_aside : Held → Aside → Held
 with_aside x o = record x { account = o.account; registers = o.registers; task = o.task; stage = o.stage }
 
--- the task makes a record with as many fields
-module _ (x : Held) (o : Aside) (fields : fields_for (with_aside x o) ≡ fields_for x) where
+-- the task makes a record with as many fields and the same target
+module _ (x : Held) (o : Aside) (fields : fields_for (with_aside x o) ≡ fields_for x) (target : target_for (with_aside x o) ≡ target_for x) where
   abbrev z : Held
   z = with_aside x o
 
@@ -39,7 +40,7 @@ module _ (x : Held) (o : Aside) (fields : fields_for (with_aside x o) ≡ fields
 
   fits_place : (p : Placing) → FitsPlace x p → FitsPlace z p
   fits_place p f =
-      record { layout = f.layout; epoch = f.epoch; fields = f.fields ∙ sym fields; snap = f.snap; going = f.going; rest = f.rest; sound = f.sound }
+      record { layout = f.layout; epoch = f.epoch; fields = f.fields ∙ sym fields; snap = f.snap; target = f.target ∙ sym target; going = f.going; rest = f.rest; sound = f.sound }
 
   fits_round : (d : Round) (back : Back) → FitsRound x d back → FitsRound z d back
   fits_round d back f = record { layout = f.layout; worker = f.worker; caller = f.caller; epoch = f.epoch; going = f.going; sound = f.sound }
@@ -82,25 +83,26 @@ module _ (x : Held) (o : Aside) (fields : fields_for (with_aside x o) ≡ fields
 -- before its stage was another
 pub fits_before : (x : Held) (was stage : Stage) → FitsStage (at_stage x was) stage → FitsStage x stage
 fits_before x was stage f =
-    fits_stage (at_stage x was) (record { account = x.account; registers = x.registers; task = x.task; stage = x.stage }) refl stage f
+    fits_stage (at_stage x was) (record { account = x.account; registers = x.registers; task = x.task; stage = x.stage }) refl refl stage f
 
 -- once its stage is another
 pub fits_after : (x : Held) (now stage : Stage) → FitsStage x stage → FitsStage (at_stage x now) stage
 fits_after x now stage f =
-    fits_stage x (record { account = x.account; registers = x.registers; task = x.task; stage = now }) refl stage f
+    fits_stage x (record { account = x.account; registers = x.registers; task = x.task; stage = now }) refl refl stage f
 
 pub fits_moved : (x : Held) (was now stage : Stage) → FitsStage (at_stage x was) stage → FitsStage (at_stage x now) stage
 fits_moved x was now stage f = fits_after x now stage (fits_before x was stage f)
 
--- without room for checkpoints, who finds the epoch traced goes back
-pub traced_without : (x : Held) (back : Back) → x.layout.checkpoints ≡ false → FitsStage (traced_by x back) (traced_by x back).stage → traced_by x back ≡ back_from x back
-traced_without x (ToAccess a) none fits = refl
-traced_without x ToPlace none fits = refl
-traced_without x ToSnap none fits =
+-- without room for checkpoints, who is to begin one or to help with one goes back, if it finds the epoch traced
+pub traced_without : (x : Held) (back : Back) → IsForCheckpoint back → x.layout.checkpoints ≡ false → FitsStage (traced_by x back) (traced_by x back).stage → traced_by x back ≡ back_from x back
+traced_without x (ToAccess a) helps none fits = absurd helps
+traced_without x (ToTarget a) helps none fits = absurd helps
+traced_without x ToPlace helps none fits = absurd helps
+traced_without x ToSnap helps none fits =
     let room = fits.room in
     absurd (cc (room, none))
-traced_without x ToScanner none fits = ap (λ (b : Bool). at_stage x (if b then checkpoints x ForScanner else goes_back x ToScanner)) none
+traced_without x ToScanner helps none fits = ap (λ (b : Bool). at_stage x (if b then checkpoints x ForScanner else goes_back x ToScanner)) none
 
 -- and fits there
-pub fits_without : (x : Held) (back : Back) → x.layout.checkpoints ≡ false → FitsStage (traced_by x back) (traced_by x back).stage → FitsStage (back_from x back) (goes_back x back)
-fits_without x back none fits = subst (λ (y : Held). FitsStage y y.stage) (traced_without x back none fits) fits
+pub fits_without : (x : Held) (back : Back) → IsForCheckpoint back → x.layout.checkpoints ≡ false → FitsStage (traced_by x back) (traced_by x back).stage → FitsStage (back_from x back) (goes_back x back)
+fits_without x back helps none fits = subst (λ (y : Held). FitsStage y y.stage) (traced_without x back helps none fits) fits

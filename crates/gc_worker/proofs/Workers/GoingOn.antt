@@ -8,30 +8,32 @@ use Rattle.alloc_end.specs.declared.place_stage.PlaceStage.{PlaceStage}
 use Rattle.alloc_end.specs.declared.place_stage.PlaceStage.TheVariants.{LoadsTraced, StoresHeader}
 use Rattle.alloc_end.specs.declared.run.Run.{Run}
 use Rattle.alloc_end.specs.Place as place
-use Rattle.alloc_end.specs.Soundness.{RunLiesInSpaces, HoldsFields, IsPlacingGoing, FitsPlaceStage}
+use Rattle.alloc_end.specs.Soundness.{RunLiesInSpaces, HoldsFields, HoldsTargetAndLink, IsPlacingGoing, FitsPlaceStage}
 use Rattle.gate_core.specs.Recall as recall
 use Rattle.record_layout.specs.declared.header.Header.{Header}
+use Rattle.gc_worker.specs.declared.access.Access.{Access}
 use Rattle.gc_worker.specs.declared.stage.after.After.{After}
 use Rattle.gc_worker.specs.declared.stage.after.After.TheVariants as afters
+use Rattle.gc_worker.specs.declared.stage.back.Back.TheVariants.{ToTarget}
 use Rattle.gc_worker.specs.declared.stage.Stage.TheVariants.{Looks, Places, Recalls}
-use Rattle.gc_worker.specs.Workers.Fits.{Fits, FitsRun, FitsTaskAfter, IsMaking, IsSnapping, LeavesShortRun, MayBegin}
-use Rattle.gc_worker.specs.Workers.Held.{Held, at_stage, header_for, run_held, run_in, fields_for, may_snap}
+use Rattle.gc_worker.specs.Workers.Fits.{Fits, FitsBack, FitsRun, FitsTaskAfter, IsAccessing, IsMaking, IsSnapping, LeavesShortRun, MayBegin}
+use Rattle.gc_worker.specs.Workers.Held.{Held, at_stage, header_for, run_held, run_in, fields_for, may_snap, target_for}
 use Rattle.gc_worker.specs.Workers.Knows.{knows, known_at, counted_in, kind_with, own_stock, stock_of}
-use Rattle.gc_worker.specs.Steps.Turned.{places, goes_on, runs_on, serves_snap}
+use Rattle.gc_worker.specs.Steps.Turned.{places, goes_on, runs_on, serves_snap, serves_target}
 use Rattle.gc_worker.proofs.Workers.Parts.{refit, page_count}
 use Rattle.gc_worker.proofs.Workers.Guarded.{guards_place_fits, guards_place_known}
-use Rattle.gc_worker.proofs.Plain.NewRecords.{header_is, header_made, holds_fields, makes_header}
+use Rattle.gc_worker.proofs.Plain.NewRecords.{header_is, header_made, holds_fields, holds_target, makes_header}
 use Rattle.heap_laws.specs.Allocation.Records.{stored_ahead}
 
 -- ---- an allocation begins
 
 -- the first store of a record fits a run that has room for it
-pub first_fits : (n asked snap fields : ℕ) (run : Run) (header : Header) (kind : Kind) → header.kind ≡ kind → HoldsFields header fields → run.at + place.size_of header ≤ run.end
+pub first_fits : (n asked snap fields : ℕ) (run : Run) (header : Header) (kind : Kind) → header.kind ≡ kind → HoldsFields header fields → HoldsTargetAndLink header → run.at + place.size_of header ≤ run.end
     → FitsPlaceStage n asked snap run header (place.stores_first kind)
-first_fits n asked snap fields run header Fields is holds room = room
-first_fits n asked snap fields run header Raw is holds room = room
-first_fits n asked snap fields run header Mixed is holds room = let some = holds is in (is, omega (arith, some), room)
-first_fits n asked snap fields run header Weak is holds room = room
+first_fits n asked snap fields run header Fields is holds cell room = room
+first_fits n asked snap fields run header Raw is holds cell room = room
+first_fits n asked snap fields run header Mixed is holds cell room = let some = holds is in (is, omega (arith, some), room)
+first_fits n asked snap fields run header Weak is holds cell room = (is, cell is, room)
 
 -- and leaves less than a page of a short one
 pub first_rest : (run : Run) (header : Header) (kind : Kind) → run.end < run.at + place.size_of header + 64 → LeavesShortRun run header (place.stores_first kind)
@@ -51,7 +53,7 @@ first_at kind b = cond b (place.stores_first kind) LoadsTraced
 
 module _ (x : Held) (header : Header) where
   abbrev begun_at : PlaceStage → place.Placing
-  begun_at stage = record { layout = x.layout; run = run_held x; header = header; fields = fields_for x; epoch = x.epoch; snap = x.snap; stage = stage }
+  begun_at stage = record { layout = x.layout; run = run_held x; header = header; fields = fields_for x; epoch = x.epoch; snap = x.snap; target = target_for x; stage = stage }
 
   -- a run that isn't there has no room
   held : (run : Option Run) → nat_le ((run_in run).at + place.size_of header) (run_in run).end ≡ true → Some (stock_of x.epoch (run_in run)) ≡ own_stock x.epoch run
@@ -59,25 +61,25 @@ module _ (x : Held) (header : Header) where
   held None is = let l = leb-true (0 + place.size_of header) 0 is in absurd (omega (arith, l))
 
   -- nothing stands ahead of a header that is stored first
-  held_first : (kind : Kind) → header.kind ≡ kind → stored_ahead (kind_with kind (fields_for x)) ≡ [] → nat_le ((run_held x).at + place.size_of header) (run_held x).end ≡ true
+  held_first : (kind : Kind) → header.kind ≡ kind → stored_ahead (kind_with kind (fields_for x)) (target_for x) ≡ [] → nat_le ((run_held x).at + place.size_of header) (run_held x).end ≡ true
       → Some (counted_in (begun_at StoresHeader)) ≡ own_stock x.epoch x.run
   held_first kind is none room =
-      ap (λ (ahead : List ℕ). Some (record (stock_of x.epoch (run_held x)) { ahead = ahead })) (ap (λ (k : Kind). stored_ahead (kind_with k (fields_for x))) is ∙ none) ∙ held x.run room
+      ap (λ (ahead : List ℕ). Some (record (stock_of x.epoch (run_held x)) { ahead = ahead })) (ap (λ (k : Kind). stored_ahead (kind_with k (fields_for x)) (target_for x)) is ∙ none) ∙ held x.run room
 
   known_by : (kind : Kind) → header.kind ≡ kind → (b : Bool) → nat_le ((run_held x).at + place.size_of header) (run_held x).end ≡ b
       → known_at x (Places (begun_at (first_at kind b))) ≡ known_at x Looks
   known_by Fields is true room = λ i. record (known_at x Looks) { stock = held_first Fields is refl room i }
   known_by Raw is true room = λ i. record (known_at x Looks) { stock = held_first Raw is refl room i }
   known_by Mixed is true room = λ i. record (known_at x Looks) { stock = held x.run room i }
-  known_by Weak is true room = λ i. record (known_at x Looks) { stock = held_first Weak is refl room i }
+  known_by Weak is true room = λ i. record (known_at x Looks) { stock = held x.run room i }
   known_by kind is false room = refl
 
-  stage_by : HoldsFields header (fields_for x) → (b : Bool) → nat_le ((run_held x).at + place.size_of header) (run_held x).end ≡ b
+  stage_by : HoldsFields header (fields_for x) → HoldsTargetAndLink header → (b : Bool) → nat_le ((run_held x).at + place.size_of header) (run_held x).end ≡ b
       → FitsPlaceStage x.layout.pages (place.pages_for (place.size_of header)) x.snap (run_held x) header (first_at header.kind b)
-  stage_by holds true is =
-      first_fits x.layout.pages (place.pages_for (place.size_of header)) x.snap (fields_for x) (run_held x) header header.kind refl holds
+  stage_by holds cell true is =
+      first_fits x.layout.pages (place.pages_for (place.size_of header)) x.snap (fields_for x) (run_held x) header header.kind refl holds cell
       (leb-true ((run_held x).at + place.size_of header) (run_held x).end is)
-  stage_by holds false is = tt
+  stage_by holds cell false is = tt
 
 is_run : (n : ℕ) (run : Option Run) → FitsRun n run → RunLiesInSpaces n (run_in run)
 is_run n (Some run) fits = fits.0
@@ -92,7 +94,7 @@ is_short n None fits = omega arith
 pub places_known : (x : Held) (header : Option Header) → knows (at_stage x (places x header)) ≡ known_at x Looks
 places_known x None = refl
 places_known x (Some header) =
-    guards_place_known x (place.begun x.layout (run_held x) header x.epoch (fields_for x) x.snap)
+    guards_place_known x (place.begun x.layout (run_held x) header x.epoch (fields_for x) x.snap (target_for x))
     ∙ known_by x header header.kind refl (nat_le ((run_held x).at + place.size_of header) (run_held x).end) refl
 
 -- who begins a checkpoint makes rounds first, if it can begin one
@@ -127,30 +129,36 @@ module _ (n mutators k : ℕ) (x : Held) (f : Fits n mutators k x) (unended : is
   holds making header is =
       subst (λ (h : Header). HoldsFields h (fields_for x)) (same_Some (header_made x making) header (sym (header_is x making) ∙ is)) (holds_fields x making)
 
+  -- and a cell its target and its link
+  cell : (making : IsMaking x.account x.registers x.task) (header : Header) → header_for x ≡ Some header → HoldsTargetAndLink header
+  cell making header is = subst HoldsTargetAndLink (same_Some (header_made x making) header (sym (header_is x making) ∙ is)) (holds_target x making)
+
   -- a record is allocated in the run, or in pages that are claimed
   allocates_fit : (making : IsMaking x.account x.registers x.task) (header : Header) → header_for x ≡ Some header
-      → Fits n mutators k (at_stage x (Places (place.begun x.layout (run_held x) header x.epoch (fields_for x) x.snap)))
-  allocates_fit making header is = refit n mutators k x f (Places (place.begun x.layout (run_held x) header x.epoch (fields_for x) x.snap)) unended mutator (making, is) (record {
+      → Fits n mutators k (at_stage x (Places (place.begun x.layout (run_held x) header x.epoch (fields_for x) x.snap (target_for x))))
+  allocates_fit making header is = refit n mutators k x f (Places (place.begun x.layout (run_held x) header x.epoch (fields_for x) x.snap (target_for x))) unended mutator (making, is) (record {
     layout = refl;
     epoch = refl;
     fields = refl;
     snap = refl;
+    target = refl;
     going = going_by header (nat_le ((run_held x).at + place.size_of header) (run_held x).end);
     rest = leaves_by header (nat_le ((run_held x).at + place.size_of header) (run_held x).end);
     sound = record {
       pages = page_count n mutators k x f;
       run = subst (λ (m : ℕ). RunLiesInSpaces m (run_held x)) (sym f.pages) (is_run n x.run f.run);
       fields = holds making header is;
+      cell = cell making header is;
       epoch = f.epoch;
       snap = f.numbers.snap_fits;
       room = λ none. (f.numbers.none none).0;
-      stage = stage_by x header (holds making header is) (nat_le ((run_held x).at + place.size_of header) (run_held x).end) refl;
+      stage = stage_by x header (holds making header is) (cell making header is) (nat_le ((run_held x).at + place.size_of header) (run_held x).end) refl;
     };
   })
 
   places_by : (making : IsMaking x.account x.registers x.task) (header : Option Header) → header_for x ≡ header → Fits n mutators k (at_stage x (places x header))
   places_by making (Some header) is =
-      guards_place_fits n mutators k x (place.begun x.layout (run_held x) header x.epoch (fields_for x) x.snap) (allocates_fit making header is)
+      guards_place_fits n mutators k x (place.begun x.layout (run_held x) header x.epoch (fields_for x) x.snap (target_for x)) (allocates_fit making header is)
   places_by making None is = absurd (makes_header n mutators k x f making is)
 
   pub places_fit : IsMaking x.account x.registers x.task → Fits n mutators k (at_stage x (places x (header_for x)))
@@ -168,6 +176,20 @@ module _ (n mutators k : ℕ) (x : Held) (f : Fits n mutators k x) (unended : is
       sound = record { pages = page_count n mutators k x f; caller = tt; epoch = f.epoch; worker = let a = f.few in let b = f.number in omega (arith, a, b); stage = tt };
     },
     tt,
+  )
+
+  -- the rounds of who loads the target of a cell
+  pub targets_fit : (a : Access) → FitsBack x (ToTarget a) → IsAccessing x.account x.registers x.task a.stage → Fits n mutators k (at_stage x (serves_target x a))
+  targets_fit a own task = refit n mutators k x f (serves_target x a) unended mutator task (
+    record {
+      layout = refl;
+      worker = refl;
+      caller = tt;
+      epoch = refl;
+      going = tt;
+      sound = record { pages = page_count n mutators k x f; caller = tt; epoch = f.epoch; worker = let a = f.few in let b = f.number in omega (arith, a, b); stage = tt };
+    },
+    own,
   )
 
   -- if there is no number for one more, it looks at the gate with its task

@@ -11,7 +11,7 @@ use Rattle.alloc_end.specs.Soundness.{IsSoundPlacing}
 use Rattle.page_saves.specs.Guard as guard
 use Rattle.gc_worker.specs.declared.access.Access.{Access}
 use Rattle.gc_worker.specs.declared.access.access_stage.AccessStage.{AccessStage}
-use Rattle.gc_worker.specs.declared.access.access_stage.AccessStage.TheVariants.{StoresField, ExchangesField, StoresBoard, SwapsBoard}
+use Rattle.gc_worker.specs.declared.access.access_stage.AccessStage.TheVariants.{LooksAtField, LoadsField, StoresField, ExchangesField, StoresBoard, SwapsBoard}
 use Rattle.gc_worker.specs.declared.stage.write.Write.{Write}
 use Rattle.gc_worker.specs.declared.stage.write.Write.TheVariants.{OfAccess, OfPlace}
 use Rattle.gc_worker.specs.declared.stage.Stage.{Stage}
@@ -41,6 +41,8 @@ access_within l _ page fits on = absurd (cc)
 place_within : (p : place.Placing) (stage : PlaceStage) (page : ℕ) → IsSoundPlacing (record p { stage = stage }) → place.writes_on p stage ≡ Some page
     → page ≤ board_page p.layout.pages
 place_within p place_stage.StoresCount page sound on = let e = same_Some _ page on in let run = sound.run in let room = sound.stage in omega (arith, e, run, room)
+place_within p place_stage.StoresTarget page sound on = let e = same_Some _ page on in let run = sound.run in let room = sound.stage in omega (arith, e, run, room)
+place_within p place_stage.StoresLink page sound on = let e = same_Some _ page on in let run = sound.run in let room = sound.stage in omega (arith, e, run, room)
 place_within p place_stage.StoresHeader page sound on = let e = same_Some _ page on in let run = sound.run in let room = sound.stage in omega (arith, e, run, room)
 place_within p _ page sound on = absurd (cc)
 
@@ -50,10 +52,16 @@ written_within x (OfAccess a) page fits =
 written_within x (OfPlace p) page fits =
     subst (λ (l : Layout). page ≤ board_page l.pages) fits.0.layout (place_within p p.stage page fits.0.sound fits.1)
 
+-- who is to load the target of a cell writes on none
+pub writes_nothing : (l : Layout) (stage : AccessStage) → access.is_at_target stage ≡ true → access.writes_on l stage ≡ None
+writes_nothing l (LooksAtField f usage) target = refl
+writes_nothing l (LoadsField f into) target = refl
+writes_nothing l _ target = absurd (cc)
+
 -- what is to be written fits a worker at each stage
 pub place_at : (x : Held) (was now : Stage) (p : place.Placing) → FitsPlace (at_stage x was) p → FitsPlace (at_stage x now) p
 place_at x was now p fits =
-    record { layout = fits.layout; epoch = fits.epoch; fields = fits.fields; snap = fits.snap; going = fits.going; rest = fits.rest; sound = fits.sound }
+    record { layout = fits.layout; epoch = fits.epoch; fields = fits.fields; snap = fits.snap; target = fits.target; going = fits.going; rest = fits.rest; sound = fits.sound }
 
 pub write_at : (x : Held) (was now : Stage) (write : Write) (page : ℕ) → FitsWrite (at_stage x was) write page → FitsWrite (at_stage x now) write page
 write_at x was now (OfAccess a) page fits = fits
@@ -65,12 +73,22 @@ module _ (x : Held) where
   place_known : (p : place.Placing) (stage : PlaceStage) (page : ℕ) → place.writes_on p stage ≡ Some page → (g : guard.Guarding)
       → known_at x (Guards g (OfPlace (record p { stage = stage }))) ≡ known_at x (Places (record p { stage = stage }))
   place_known p place_stage.StoresCount page on g = refl
+  place_known p place_stage.StoresTarget page on g = refl
+  place_known p place_stage.StoresLink page on g = refl
   place_known p place_stage.StoresHeader page on g = refl
   place_known p _ page on g = absurd (cc)
 
+  access_known : (a : Access) (stage : AccessStage) (page : ℕ) → access.writes_on a.spaces stage ≡ Some page → (g : guard.Guarding)
+      → known_at x (Guards g (OfAccess (record a { stage = stage }))) ≡ known_at x (Accesses (record a { stage = stage }))
+  access_known a (StoresField f new) page on g = refl
+  access_known a (ExchangesField f e old) page on g = refl
+  access_known a (StoresBoard word new) page on g = refl
+  access_known a (SwapsBoard s old) page on g = refl
+  access_known a _ page on g = absurd (cc)
+
   -- as long as it looks
   pub guard_known : (write : Write) (page : ℕ) → page_written write ≡ Some page → (g : guard.Guarding) → known_at x (Guards g write) ≡ known_at x (writes write)
-  guard_known (OfAccess a) page on g = refl
+  guard_known (OfAccess a) page on g = access_known a a.stage page on g
   guard_known (OfPlace p) page on g = place_known p p.stage page on g
 
   by_page : (write : Write) (page : Option ℕ) → page_written write ≡ page → known_at x (guards x write page (writes write)) ≡ known_at x (writes write)

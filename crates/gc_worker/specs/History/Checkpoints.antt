@@ -13,7 +13,7 @@ use Rattle.gc_worker.specs.declared.calls.entry.Entry.TheVariants.{Made, Exchang
 use Rattle.gc_worker.specs.declared.task.Task.{Task}
 use Rattle.gc_worker.specs.declared.task.Task.TheVariants.{Calls}
 use Rattle.gc_worker.specs.History.Legal.{after_all, after_call, worker_call}
-use Rattle.gc_worker.specs.Plain.Stories.{with_emptied}
+use Rattle.gc_worker.specs.Plain.Answer.{with_emptied}
 
 -- ---- which calls are of `snap`
 

@@ -1,5 +1,5 @@
 -- Histories: which are legal, and whose calls they have.
-use Rattle.std.specs.Prelude.{◌≡◌, ℕ, ◌==◌, ⊤, cond, List, [], ◌∷◌, ◌++◌}
+use Rattle.std.specs.Prelude.{◌≡◌, ℕ, ◌==◌, ⊤, cond, List, [], ◌∷◌, ◌++◌, slice_get}
 use Rattle.plain_state.specs.State.{Plain}
 use Rattle.plain_heap.specs.Emptied.{cells_to_empty}
 use Rattle.gc_worker.specs.declared.calls.did.Did.{Did}
@@ -7,8 +7,7 @@ use Rattle.gc_worker.specs.declared.calls.call.Call.{Call}
 use Rattle.gc_worker.specs.declared.calls.entry.Entry.{Entry}
 use Rattle.gc_worker.specs.declared.calls.entry.Entry.TheVariants.{Made, Exchanged, Emptied}
 use Rattle.gc_worker.specs.declared.task.Task.{Task}
-use Rattle.gc_worker.specs.Plain.Answer.{ComesTo, after_told}
-use Rattle.gc_worker.specs.Plain.Stories.{with_emptied}
+use Rattle.gc_worker.specs.Plain.Answer.{ComesTo, after_answer, with_emptied}
 use Rattle.gc_worker.specs.Steps.Turned.{Told, Silent, Empties, Answers, Marks}
 
 -- ---- calls
@@ -18,7 +17,7 @@ worker_call m task did = record { by = m; task = task; did = did }
 
 -- the plain state after a call
 abbrev pub after_call : Plain → Call → Plain
-after_call p c = after_told p c.by (Answers c.task c.did)
+after_call p c = after_answer p c.by c.task c.did (slice_get p.mutators c.by)
 
 -- ---- histories
 

@@ -10,7 +10,7 @@ use Rattle.plain_heap.specs.declared.action.Action.{Action}
 use Rattle.plain_heap.specs.declared.action.Action.TheVariants.{Loads, Exchanges}
 use Rattle.plain_heap.specs.Action.{action}
 use Rattle.plain_heap.specs.Call.{set_register, went_on}
-use Rattle.plain_heap.specs.Records.{RecordShape, record_word, shape_of, success, word_after}
+use Rattle.plain_heap.specs.Records.{RecordShape, loaded_there, record_word, shape_of, success, word_after}
 use Rattle.heap_laws.specs.Opening.{opening_plain}
 use Rattle.gc_worker.specs.declared.calls.call.Call.{Call}
 use Rattle.gc_worker.specs.declared.calls.did.Did.{Did}
@@ -20,7 +20,7 @@ use Rattle.gc_worker.specs.declared.calls.entry.Entry.TheVariants.{Made, Exchang
 use Rattle.gc_worker.specs.declared.task.Task.{Task}
 use Rattle.gc_worker.specs.declared.task.Task.TheVariants.{Calls}
 use Rattle.gc_worker.specs.History.Legal.{IsLegal, after_all, after_call}
-use Rattle.gc_worker.specs.Plain.Stories.{with_emptied}
+use Rattle.gc_worker.specs.Plain.Answer.{with_emptied}
 
 -- ---- stores
 
@@ -60,12 +60,12 @@ pub record CallDoes (plain : Plain) (call : Call) (own : Mutator) (act : Action)
   pub does : action own instr ≡ Ok act
   pub done : call.did ≡ Done
 
--- In a legal history a load gets what was stored there last before it: its mutator goes on with that in the register.
+-- In a legal history a load gets what was stored there last before it, or the value of a cell: its mutator goes on with that in the register.
 abbrev pub LoadsGetTheLastStore : Type 0
 LoadsGetTheLastStore = (plain : Plain) (front rest : List Entry) (call : Call) (own : Mutator) (register : ℕ) (identity : Identity) (index : ℕ)
     → IsLegal plain (front ++ Made call ∷ rest) → CallDoes (after_all plain front) call own (Loads register identity index)
     → slice_get (after_all plain (front ++ Made call ∷ [])).mutators call.by
-    ≡ Some (went_on (set_register own register (last_stored plain front identity index (record_word plain.heap identity index))))
+    ≡ Some (went_on (set_register own register (loaded_there (after_all plain front).heap identity index (last_stored plain front identity index (record_word plain.heap identity index)))))
 
 -- An exchange finds what was stored there last before it: if that is what it expects, its mutator goes on with 1 in the register, else with 0.
 abbrev pub ExchangesFindTheLastStore : Type 0

@@ -14,7 +14,7 @@ use Rattle.gc_worker.specs.declared.calls.entry.Entry.{Entry}
 use Rattle.gc_worker.specs.declared.calls.entry.Entry.TheVariants.{Made, Exchanged, Emptied}
 use Rattle.gc_worker.specs.History.Legal.{after_call}
 use Rattle.gc_worker.specs.Plain.Marks.{end_mark, task_of}
-use Rattle.gc_worker.specs.Plain.Stories.{with_emptied}
+use Rattle.gc_worker.specs.Plain.Answer.{with_emptied}
 
 -- ---- the order of a history
 

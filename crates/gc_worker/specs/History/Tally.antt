@@ -18,7 +18,7 @@ use Rattle.gc_worker.specs.declared.task.Task.TheVariants.{Calls, Stops}
 use Rattle.gc_worker.specs.Workers.Begun.{IsPastLook}
 use Rattle.gc_worker.specs.Laws.Cycles.{Grows, IsFirst, IsInCall, low_of, set_aside, size_of, snaps_at}
 use Rattle.gc_worker.specs.Workers.Held.{Held}
-use Rattle.gc_worker.specs.Plain.Stories.{with_emptied}
+use Rattle.gc_worker.specs.Plain.Answer.{with_emptied}
 use Rattle.gc_worker.specs.History.Legal.{after_call}
 use Rattle.gc_worker.specs.Laws.Step.{Heap, epoch_of, held_at, nobody}
 

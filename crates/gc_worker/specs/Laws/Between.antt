@@ -218,4 +218,4 @@ pub record LeavesTheOthers (p after : Plain) (k : ℕ) : Type 0 where
   pub serial : (j : ℕ) → j ≢ k → serial_of after.heap j ≡ serial_of p.heap j
 
 abbrev pub AnswersLeaveTheOthers : Type 0
-AnswersLeaveTheOthers = (p : Plain) (k : ℕ) (t : Told) → LeavesTheOthers p (after_told p k t) k
+AnswersLeaveTheOthers = (empty : List Identity) (p : Plain) (k : ℕ) (t : Told) → LeavesTheOthers p (after_told empty p k t) k

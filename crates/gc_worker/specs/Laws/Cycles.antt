@@ -14,7 +14,7 @@ use Rattle.space_map.specs.AreaWord.{decode_area}
 use Rattle.space_map.specs.Spaces.{to_space}
 use Rattle.space_map.specs.Table.{Area, Size}
 use Rattle.alloc_end.specs.declared.place_stage.PlaceStage.{PlaceStage}
-use Rattle.alloc_end.specs.declared.place_stage.PlaceStage.TheVariants.{ExchangesArea, StoresZero, StoresNew, OpensPage, StoresCount, StoresHeader}
+use Rattle.alloc_end.specs.declared.place_stage.PlaceStage.TheVariants.{ExchangesArea, StoresZero, StoresNew, OpensPage, StoresCount, StoresTarget, StoresLink, StoresHeader}
 use Rattle.alloc_end.specs.Place.{Placing, words_for}
 use Rattle.gate_core.specs.declared.passage.Passage.{Passage}
 use Rattle.gate_core.specs.declared.passage.Passage.TheVariants.{Look, Attach, Park, Request, Resume, Forwarded, Leave, Clear}
@@ -22,7 +22,7 @@ use Rattle.heap_state.specs.Memory.Table.{word_in}
 use Rattle.gc_worker.specs.declared.stage.after.After.{After}
 use Rattle.gc_worker.specs.declared.stage.after.After.TheVariants as afters
 use Rattle.gc_worker.specs.declared.stage.back.Back.{Back}
-use Rattle.gc_worker.specs.declared.stage.back.Back.TheVariants.{ToAccess, ToPlace, ToSnap, ToScanner}
+use Rattle.gc_worker.specs.declared.stage.back.Back.TheVariants.{ToAccess, ToTarget, ToPlace, ToSnap, ToScanner}
 use Rattle.gc_worker.specs.declared.stage.goal.Goal.{Goal}
 use Rattle.gc_worker.specs.declared.stage.goal.Goal.TheVariants.{ForFlip, ForSnap, ForScanner}
 use Rattle.gc_worker.specs.declared.stage.write.Write.TheVariants.{OfPlace}
@@ -86,6 +86,8 @@ set_aside_by p (StoresZero new) = words_for p.header
 set_aside_by p (StoresNew new) = words_for p.header
 set_aside_by p (OpensPage new) = words_for p.header
 set_aside_by p StoresCount = words_for p.header
+set_aside_by p StoresTarget = words_for p.header
+set_aside_by p StoresLink = words_for p.header
 set_aside_by p StoresHeader = words_for p.header
 set_aside_by p stage = 0
 
@@ -234,6 +236,7 @@ snaps_after afters.Snaps = true
 
 abbrev pub snaps_back : Back → Bool
 snaps_back (ToAccess a) = false
+snaps_back (ToTarget a) = false
 snaps_back ToPlace = false
 snaps_back ToSnap = true
 snaps_back ToScanner = false

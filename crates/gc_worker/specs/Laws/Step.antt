@@ -29,6 +29,7 @@ use Rattle.gc_worker.specs.declared.stage.forwarding_register.ForwardingRegister
 use Rattle.gc_worker.specs.declared.stage.Stage.TheVariants.{Passes, Flips, Forwards, BeginsCheckpoint, Gone}
 use Rattle.gc_worker.specs.Workers.Fits.{Fits, Takes}
 use Rattle.gc_worker.specs.Plain.Answer.{IsAnswered, after_told}
+use Rattle.gc_worker.specs.Plain.Empty.{empty_cells}
 use Rattle.gc_worker.specs.Plain.Full.{FullWhereTold}
 use Rattle.gc_worker.specs.Workers.Held.{Held, pages_needed}
 use Rattle.gc_worker.specs.Workers.Knows.{knows}
@@ -142,15 +143,16 @@ FlipsWhereTold n words later x (Answers task outcome) = epoch_of n later ≡ epo
 FlipsWhereTold n words later x (Marks asked) = FlipsOnce n words later x asked
 
 -- The step is of a word of the table, and the worker may take the reply, after which it is sound. Where it answers the task, the plain
--- machine's mutator may come to that, and the heap stands for the plain state after it; else for the same plain state. What a cycle keeps
--- it keeps, and a cycle begins at a flip. What is out stays out, and a page that is won was not out before and is out after. Where the
+-- machine's mutator may come to that, and the heap stands for the plain state after it; where it tells that the epoch is traced, for that in
+-- which the cells are empty whose targets are the number 0; else for the same plain state. What a cycle keeps it keeps, and a cycle begins
+-- at a flip. What is out stays out, and a page that is won was not out before and is out after. Where the
 -- heap is said to be full, it is; a flip, and nothing else, raises the epoch by one.
 pub record StepKeeps (h : Heap) (p o : Plain) (k : ℕ) (x : Held) (q : Step) : Type 0 where
   pub place : place_in q < length h.words
   pub takes : Takes x (reply_of q h.words)
   pub fits : Fits h.pages h.mutators k (turned x (reply_of q h.words))
   pub answered : IsAnswered p k (told x (reply_of q h.words))
-  pub stands : WorkersStand (moved h k x q) (after_told p k (told x (reply_of q h.words))) (at_flip p o (told x (reply_of q h.words)))
+  pub stands : WorkersStand (moved h k x q) (after_told (empty_cells (read (moved h k x q))) p k (told x (reply_of q h.words))) (at_flip p o (told x (reply_of q h.words)))
   pub kept : (w : PageWon) → IsOut h.pages h.words w → IsOut h.pages (words_after q h.words) w
   pub wins : WinsOne h.pages h.words (words_after q h.words) (won x (reply_of q h.words))
   pub full : FullWhereTold h.pages h.words x (told x (reply_of q h.words))

@@ -1,9 +1,12 @@
 -- What a step that answers a task is to the plain machine.
-use Rattle.std.specs.Prelude.{◌≡◌, ℕ, ⊤, Option, Some, None, Err, IsOk, slice_get}
+use Rattle.std.specs.Prelude.{◌≡◌, ℕ, ⊤, List, Option, Some, None, Err, IsOk, fold, slice_get}
 use Rattle.std.specs.Option.{option_map}
 use Rattle.plain_state.specs.declared.end.End.{End}
 use Rattle.plain_state.specs.declared.end.End.TheVariants.{HeapFull}
+use Rattle.plain_state.specs.declared.value.Identity.{Identity}
 use Rattle.plain_state.specs.State.{Heap, Mutator, Plain}
+use Rattle.plain_state.specs.Writing.{with_heap}
+use Rattle.plain_heap.specs.Emptied.{emptied_cell}
 use Rattle.plain_heap.specs.Call.{call}
 use Rattle.plain_heap.specs.Step.{settled, ended, new_record, pages_of}
 use Rattle.mutator_asm.specs.declared.instr.Instr.{Instr}
@@ -42,6 +45,10 @@ IsAnswered p k (Marks asked) = ⊤
 
 -- ---- the plain state after it
 
+-- the plain state in which these cells have the number 0
+abbrev pub with_emptied : Plain → List Identity → Plain
+with_emptied p cells = with_heap p (fold emptied_cell p.heap cells)
+
 abbrev pub after_outcome : Plain → (k : ℕ) → Mutator → Task → Did → Plain
 after_outcome p k q (Calls instr) Done = settled p k q (call k p.heap q instr)
 after_outcome p k q (Stops end) Done = p
@@ -51,8 +58,9 @@ abbrev pub after_answer : Plain → (k : ℕ) → Task → Did → Option Mutato
 after_answer p k task outcome (Some q) = after_outcome p k q task outcome
 after_answer p k task outcome None = p
 
-abbrev pub after_told : Plain → (k : ℕ) → Told → Plain
-after_told p k Silent = p
-after_told p k Empties = p
-after_told p k (Answers task outcome) = after_answer p k task outcome (slice_get p.mutators k)
-after_told p k (Marks asked) = p
+-- where it tells that the epoch is traced, these cells are empty
+abbrev pub after_told : (empty : List Identity) → Plain → (k : ℕ) → Told → Plain
+after_told empty p k Silent = p
+after_told empty p k Empties = with_emptied p empty
+after_told empty p k (Answers task outcome) = after_answer p k task outcome (slice_get p.mutators k)
+after_told empty p k (Marks asked) = p

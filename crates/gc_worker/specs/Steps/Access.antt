@@ -11,7 +11,6 @@ use Rattle.heap_words.specs.declared.kind.Kind.TheVariants as headers
 use Rattle.heap_words.specs.Decoded.{Decoded, NumberWord, PointerWord, HeaderWord, ForwardWord, BusyWord, Malformed, decode, number_in}
 use Rattle.heap_words.specs.Word.{number_word}
 use Rattle.plain_state.specs.declared.end.End.{End}
-use Rattle.plain_state.specs.declared.end.End.TheVariants.{WeakCell}
 use Rattle.plain_state.specs.declared.kind.Kind as kinds
 use Rattle.plain_state.specs.declared.kind.Kind.TheVariants as kind
 use Rattle.plain_state.specs.declared.value.Value.{Value}
@@ -34,7 +33,7 @@ use Rattle.gc_worker.specs.declared.access.Access.{Access}
 use Rattle.gc_worker.specs.declared.access.access_stage.AccessStage.{AccessStage}
 use Rattle.gc_worker.specs.declared.access.access_stage.AccessStage.TheVariants.{LooksAtRecord, LoadsHeader, LooksAtCount, LoadsCount, LooksAtField, LoadsField, StoresField, LoadsForCas, ExchangesField, LooksAtBoard, LoadsBoard, StoresBoard, LoadsForSwap, SwapsBoard}
 use Rattle.gc_worker.specs.declared.access.accessed.Accessed.{Accessed}
-use Rattle.gc_worker.specs.declared.access.accessed.Accessed.TheVariants.{Faults, Brings, Stored, Fails}
+use Rattle.gc_worker.specs.declared.access.accessed.Accessed.TheVariants.{Faults, Awaits, Brings, Stored, Fails}
 use Rattle.gc_worker.specs.declared.access.board_access.BoardUse.{BoardUse}
 use Rattle.gc_worker.specs.declared.access.board_access.BoardUse.TheVariants as board_uses
 use Rattle.gc_worker.specs.declared.access.field_access.FieldAccess.{FieldAccess}
@@ -54,11 +53,19 @@ use Rattle.gc_worker.specs.Plain.Seen.{IsValueWord, value_seen, word_for}
 abbrev pub role_of : Role → workers.Role
 role_of roles.Field = workers.FieldRole
 role_of roles.Number = workers.NumberRole
+role_of roles.Target = workers.TargetRole
 
 -- the kind of a record all of whose values have this role
 abbrev pub kind_of : Role → kinds.Kind
 kind_of roles.Field = kind.Fields
 kind_of roles.Number = kind.Raw
+kind_of roles.Target = kind.Weak
+
+-- it is the target of a cell
+abbrev pub is_target : Role → Bool
+is_target roles.Field = false
+is_target roles.Number = false
+is_target roles.Target = true
 
 -- the role of value x of a mixed record with so many fields
 abbrev pub role_by_count : (count x : ℕ) → Role
@@ -116,11 +123,18 @@ writes_on l (StoresBoard word new) = Some (board_page l.pages)
 writes_on l (SwapsBoard s old) = Some (board_page l.pages)
 writes_on l stage = None
 
+-- the access is to load the target of a cell
+abbrev pub is_at_target : AccessStage → Bool
+is_at_target (LooksAtField f usage) = is_target f.role
+is_at_target (LoadsField f into) = is_target f.role
+is_at_target stage = false
+
 -- ---- what a reply makes of it
 
--- it goes on at a stage, or comes to this
+-- it goes on at a stage, or does so once the epoch is traced, or comes to this
 pub data Answered : Type 0 where
   GoesTo : AccessStage → Answered
+  WaitsAt : AccessStage → Answered
   Comes : Accessed → Answered
 
 -- by what the protection says of the page
@@ -163,11 +177,18 @@ number_in_value (Reference i) = 0
 abbrev pub word_as : Role → Value → ℕ
 word_as roles.Field v = word_for v
 word_as roles.Number v = number_in_value v
+word_as roles.Target v = word_for v
 
 -- ---- by the header's kind and length: the ends are the plain machine's
 
+-- the target of a cell waits until the epoch is traced
+abbrev pub goes_at : Role → AccessStage → Answered
+goes_at roles.Field stage = GoesTo stage
+goes_at roles.Number stage = GoesTo stage
+goes_at roles.Target stage = WaitsAt stage
+
 abbrev pub to_field : FieldUse → FieldAccess → Answered
-to_field usage f = GoesTo (goes_to_field f usage)
+to_field usage f = goes_at f.role (goes_to_field f usage)
 
 -- the use where this is to be stored
 abbrev pub with_new : FieldUse → (new : ℕ) → FieldUse
@@ -207,23 +228,12 @@ counted_by r len (record_uses.Loads into) = counting r.at (field_uses.Loads into
 counted_by r len (record_uses.Stores new) = counting r.at (field_uses.Stores new) (in_record len r.value)
 counted_by r len (record_uses.Exchanges e) = counting r.at (field_uses.Exchanges e) (in_record len r.value)
 
--- a cell: its value is neither loaded nor replaced
-abbrev pub refusal : Result ℕ End → End
-refusal (Ok x) = WeakCell
-refusal (Err why) = why
-
-abbrev pub refused_by : RecordAccess → (len : ℕ) → RecordUse → Answered
-refused_by r len (record_uses.TellsLength into) = Comes (Brings into (number_word len))
-refused_by r len (record_uses.Loads into) = Comes (Fails (refusal (in_record len r.value)))
-refused_by r len (record_uses.Stores new) = Comes (Fails (refusal (in_record len r.value)))
-refused_by r len (record_uses.Exchanges e) = Comes (Fails (refusal (in_record len r.value)))
-
 -- by the header: a mixed record's count and a cell's link are no values
 abbrev pub by_kind : RecordAccess → Kind → (len : ℕ) → Answered
 by_kind r headers.Fields len = used_by r roles.Field len r.usage
 by_kind r headers.Raw len = used_by r roles.Number len r.usage
 by_kind r headers.Mixed len = counted_by r (len - 1) r.usage
-by_kind r headers.Weak len = refused_by r (len - 1) r.usage
+by_kind r headers.Weak len = used_by r roles.Target (len - 1) r.usage
 
 -- what is no header can't be there, and leaves it where it is
 abbrev pub read_header : RecordAccess → Decoded → Answered
@@ -286,10 +296,12 @@ at_stage a stage = record a { stage = stage }
 -- where it comes to something it stays as it is
 abbrev pub goes_by : Access → Answered → Access
 goes_by a (GoesTo stage) = at_stage a stage
+goes_by a (WaitsAt stage) = at_stage a stage
 goes_by a (Comes result) = a
 
 abbrev pub turn_by : Answered → Turn Accessed
 turn_by (GoesTo stage) = More
+turn_by (WaitsAt stage) = Finished Awaits
 turn_by (Comes result) = Finished result
 
 abbrev pub taken : Access → Reply → Access

@@ -6,13 +6,13 @@ use Rattle.atom_store.specs.declared.step.Step.TheVariants.{Load, Store, Exchang
 use Rattle.atom_store.specs.declared.turn.Turn.{Turn}
 use Rattle.atom_store.specs.declared.turn.Turn.TheVariants.{More, Finished}
 use Rattle.atom_store.specs.Machine.{Machine, RunsTo}
-use Rattle.plain_state.specs.declared.end.End.TheVariants.{OutOfRange, IntoRaw}
+use Rattle.plain_state.specs.declared.end.End.TheVariants.{OutOfRange, WeakCell, IntoRaw}
 use Rattle.space_map.specs.Worked.{four_pages}
 use Rattle.gc_worker.specs.declared.access.Access.{Access}
 use Rattle.gc_worker.specs.declared.access.access_stage.AccessStage.{AccessStage}
 use Rattle.gc_worker.specs.declared.access.access_stage.AccessStage.TheVariants.{LooksAtRecord, LooksAtBoard}
 use Rattle.gc_worker.specs.declared.access.accessed.Accessed.{Accessed}
-use Rattle.gc_worker.specs.declared.access.accessed.Accessed.TheVariants.{Faults, Brings, Stored, Fails}
+use Rattle.gc_worker.specs.declared.access.accessed.Accessed.TheVariants.{Faults, Awaits, Brings, Stored, Fails}
 use Rattle.gc_worker.specs.declared.access.board_access.BoardUse.TheVariants.{Swaps}
 use Rattle.gc_worker.specs.declared.access.record_access.RecordUse.TheVariants.{Loads, Stores, Exchanges}
 use Rattle.gc_worker.specs.Steps.Access.{taken, told, wanted}
@@ -86,6 +86,24 @@ SamePageIsNotLookedAt =
 abbrev pub ClosedPageIsAFault : Type 0
 ClosedPageIsAFault =
     RunsTo access_machine (begins_at (LooksAtRecord (record { at = 192; value = 0; usage = Loads 2 }))) ((Load 19, Value 0) ∷ []) (Faults 3)
+
+-- The target of a cell, whose header is the last word of page 3, is on the next page: before that is looked at, the epoch is to be traced.
+abbrev pub TargetIsAwaited : Type 0
+TargetIsAwaited =
+    RunsTo access_machine (begins_at (LooksAtRecord (record { at = 255; value = 0; usage = Loads 2 })))
+    ((Load 19, Value 1) ∷ (Load 288, Value 65582) ∷ []) Awaits
+
+-- nothing is stored in a cell
+abbrev pub CellIsNotStoredIn : Type 0
+CellIsNotStoredIn =
+    RunsTo access_machine (begins_at (LooksAtRecord (record { at = 192; value = 0; usage = Stores 28 })))
+    ((Load 19, Value 1) ∷ (Load 225, Value 65582) ∷ []) (Fails WeakCell)
+
+-- a cell has one value
+abbrev pub LinkIsNoValue : Type 0
+LinkIsNoValue =
+    RunsTo access_machine (begins_at (LooksAtRecord (record { at = 192; value = 1; usage = Stores 28 })))
+    ((Load 19, Value 1) ∷ (Load 225, Value 65582) ∷ []) (Fails OutOfRange)
 
 -- the record of two fields has no value 2
 abbrev pub NoSuchValueFails : Type 0

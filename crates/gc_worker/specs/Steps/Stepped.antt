@@ -27,7 +27,7 @@ use Rattle.space_map.specs.Spaces.{Layout}
 use Rattle.fault_duty.specs.declared.round_end.RoundEnd.{RoundEnd}
 use Rattle.fault_duty.specs.declared.round_end.RoundEnd.TheVariants.{ScanPage, ScanInPlace, Marked, Traced, AllLeft, NothingNow}
 use Rattle.gc_worker.specs.declared.stage.back.Back.{Back}
-use Rattle.gc_worker.specs.declared.stage.back.Back.TheVariants.{ToScanner}
+use Rattle.gc_worker.specs.declared.stage.back.Back.TheVariants.{ToSnap, ToScanner}
 use Rattle.gc_worker.specs.Workers.Held.{Held, at_stage}
 use Rattle.gc_worker.specs.Plain.Seen.{seen}
 use Rattle.gc_worker.specs.Steps.Turned as turned
@@ -160,6 +160,12 @@ pointed p = record { register = p.0; addr = p.1 }
 abbrev pub back_at : Stage → Back
 back_at (Serves d back) = back
 back_at _ = ToScanner
+
+-- it goes back to the beginning of a checkpoint, or is a scanner
+abbrev pub IsForCheckpoint : Back → Type 0
+IsForCheckpoint ToSnap = ⊤
+IsForCheckpoint ToScanner = ⊤
+IsForCheckpoint _ = ⊥
 
 -- a scanner's round is this worker's, beside so many mutators: so its next one is the same begun anew
 abbrev pub MayBeginAnew : Layout → (mutators number : ℕ) → Stage → Type 0

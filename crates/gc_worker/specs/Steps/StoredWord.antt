@@ -6,14 +6,21 @@ use Rattle.plain_state.specs.declared.end.End.{End}
 use Rattle.plain_state.specs.declared.end.End.TheVariants.{IntoRaw}
 use Rattle.plain_state.specs.declared.value.Value.{Value}
 use Rattle.gc_worker.specs.declared.access.accessed.Accessed.{Accessed}
-use Rattle.gc_worker.specs.declared.access.accessed.Accessed.TheVariants.{Fails}
+use Rattle.gc_worker.specs.declared.access.accessed.Accessed.TheVariants.{Awaits, Fails}
 use Rattle.gc_worker.specs.declared.access.field_access.Role.{Role}
+use Rattle.gc_worker.specs.declared.access.field_access.Role.TheVariants as roles
 use Rattle.gc_worker.specs.Steps.Access.{word_as}
 
 -- what stands at a word with this role for a value, if it may be stored there
 abbrev pub word_if_held : Role → Result Value End → Option ℕ
 word_if_held role (Ok v) = Some (word_as role v)
 word_if_held role (Err why) = None
+
+-- an access goes on at a value's word, or does so once the epoch is traced
+abbrev pub goes_on_at : Role → Turn Accessed
+goes_on_at roles.Field = More
+goes_on_at roles.Number = More
+goes_on_at roles.Target = Finished Awaits
 
 -- an access goes on, or fails since a number may not be replaced by a pointer
 abbrev pub goes_on_if : Bool → Turn Accessed

@@ -54,7 +54,7 @@ use Rattle.fault_duty.specs.declared.duty_stage.DutyStage.TheVariants as duty_st
 use Rattle.gc_worker.specs.declared.stage.after.After.{After}
 use Rattle.gc_worker.specs.declared.stage.after.After.TheVariants as afters
 use Rattle.gc_worker.specs.declared.stage.back.Back.{Back}
-use Rattle.gc_worker.specs.declared.stage.back.Back.TheVariants.{ToAccess, ToPlace, ToSnap, ToScanner}
+use Rattle.gc_worker.specs.declared.stage.back.Back.TheVariants.{ToAccess, ToTarget, ToPlace, ToSnap, ToScanner}
 use Rattle.gc_worker.specs.declared.stage.forwarding_register.ForwardingRegister.{ForwardingRegister}
 use Rattle.gc_worker.specs.declared.stage.goal.Goal.{Goal}
 use Rattle.gc_worker.specs.declared.stage.goal.Goal.TheVariants.{ForFlip, ForSnap, ForScanner}
@@ -66,12 +66,12 @@ use Rattle.gc_worker.specs.declared.task.Task.{Task}
 use Rattle.gc_worker.specs.declared.access.Access.{Access}
 use Rattle.gc_worker.specs.declared.access.access_stage.AccessStage.{AccessStage}
 use Rattle.gc_worker.specs.declared.access.accessed.Accessed.{Accessed}
-use Rattle.gc_worker.specs.declared.access.accessed.Accessed.TheVariants.{Faults, Brings, Stored, Fails}
+use Rattle.gc_worker.specs.declared.access.accessed.Accessed.TheVariants.{Faults, Awaits, Brings, Stored, Fails}
 use Rattle.gc_worker.specs.declared.calls.did.Did.{Did}
 use Rattle.gc_worker.specs.declared.calls.did.Did.TheVariants.{Done, Trap}
 use Rattle.gc_worker.specs.declared.task.Task.TheVariants.{Calls, Stops}
 use Rattle.gc_worker.specs.Steps.Access as access
-use Rattle.gc_worker.specs.Workers.Held.{Held, at_stage, has_seen_flip, making_for, header_for, fields_for, pages_needed, run_held, may_snap}
+use Rattle.gc_worker.specs.Workers.Held.{Held, at_stage, has_seen_flip, making_for, header_for, fields_for, pages_needed, run_held, may_snap, target_for}
 use Rattle.gc_worker.specs.Plain.Seen.{Making, seen, word_for}
 use Rattle.plain_heap.specs.declared.action.Action.{Action}
 use Rattle.plain_heap.specs.declared.action.Action.TheVariants.{Sets, Jumps, Links, Prints, Makes, Snaps}
@@ -112,12 +112,16 @@ writes (OfPlace p) = Places p
 
 -- the allocation of the record that the task asks for
 abbrev pub places : Held → Option Header → Stage
-places x (Some header) = guards_place x (place.begun x.layout (run_held x) header x.epoch (fields_for x) x.snap)
+places x (Some header) = guards_place x (place.begun x.layout (run_held x) header x.epoch (fields_for x) x.snap (target_for x))
 places x None = Looks
 
 -- the rounds of who begins a checkpoint: first those of the duty, until the epoch is traced
 abbrev pub serves_snap : Held → Stage
 serves_snap x = Serves (duty.begun x.layout callers.Allocates x.epoch x.number) ToSnap
+
+-- the rounds of who loads the target of a cell, until the epoch is traced
+abbrev pub serves_target : Held → Access → Stage
+serves_target x a = Serves (duty.begun x.layout callers.Allocates x.epoch x.number) (ToTarget a)
 
 -- a mutator that stopped goes on there; if there is no number for one more checkpoint, the instruction begins anew
 abbrev pub goes_on : Held → After → Stage
@@ -132,6 +136,7 @@ runs_on x after = if x.layout.checkpoints then Recalls (recall.begun x.layout) a
 -- after a round a worker goes on there
 abbrev pub goes_back : Held → Back → Stage
 goes_back x (ToAccess access) = Accesses access
+goes_back x (ToTarget access) = serves_target x access
 goes_back x ToPlace = places x (header_for x)
 goes_back x ToSnap = serves_snap x
 goes_back x ToScanner = Serves (duty.begun x.layout (callers.Scans x.mutators) 0 x.number) ToScanner
@@ -378,9 +383,14 @@ turned_place x p (Finished result) = allocated_by x p result
 
 -- ---- accesses
 
--- a round is made for a page that isn't open, and then the access looks at it again
+-- then it looks at the page again; if it is to load the target of a cell, once the epoch is found traced again
+abbrev pub back_to : Access → Back
+back_to a = if access.is_at_target a.stage then ToTarget a else ToAccess a
+
+-- a round is made for a page that isn't open
 abbrev pub accessed_by : Held → Access → Accessed → Held
-accessed_by x a (Faults page) = at_stage x (Serves (duty.begun x.layout (callers.Faulted page) x.epoch x.number) (ToAccess a))
+accessed_by x a (Faults page) = at_stage x (Serves (duty.begun x.layout (callers.Faulted page) x.epoch x.number) (back_to a))
+accessed_by x a Awaits = at_stage x (serves_target x a)
 accessed_by x a (Brings into word) = loads x into word
 accessed_by x a Stored = went_on x
 accessed_by x a (Fails why) = ended x why
@@ -433,8 +443,9 @@ scans x page in_place back = at_stage x (Scans (scan.begun x.layout page x.epoch
 abbrev pub back_from : Held → Back → Held
 back_from x back = at_stage x (goes_back x back)
 
--- its epoch was found traced: who begins a checkpoint goes on, and a scanner helps with one
+-- its epoch was found traced: who loads a target or begins a checkpoint goes on, and a scanner helps with one
 abbrev pub traced_by : Held → Back → Held
+traced_by x (ToTarget access) = at_stage x (Accesses access)
 traced_by x ToSnap = at_stage x (checkpoints x ForSnap)
 traced_by x ToScanner = at_stage x (if x.layout.checkpoints then checkpoints x ForScanner else goes_back x ToScanner)
 traced_by x back = back_from x back
@@ -530,6 +541,7 @@ told_place x More = Silent
 
 abbrev pub told_access : Option Task → Turn Accessed → Told
 told_access task (Finished (Faults page)) = Silent
+told_access task (Finished Awaits) = Silent
 told_access task (Finished (Brings into word)) = told_effect task
 told_access task (Finished Stored) = told_effect task
 told_access task (Finished (Fails why)) = told_end task why

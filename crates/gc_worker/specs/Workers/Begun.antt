@@ -5,7 +5,7 @@ use Rattle.atom_store.specs.declared.reply.Reply.{Reply}
 use Rattle.gc_worker.specs.declared.stage.after.After.{After}
 use Rattle.gc_worker.specs.declared.stage.after.After.TheVariants as afters
 use Rattle.gc_worker.specs.declared.stage.back.Back.{Back}
-use Rattle.gc_worker.specs.declared.stage.back.Back.TheVariants.{ToAccess, ToPlace, ToSnap, ToScanner}
+use Rattle.gc_worker.specs.declared.stage.back.Back.TheVariants.{ToAccess, ToTarget, ToPlace, ToSnap, ToScanner}
 use Rattle.gc_worker.specs.declared.stage.goal.Goal.{Goal}
 use Rattle.gc_worker.specs.declared.stage.goal.Goal.TheVariants.{ForFlip, ForSnap, ForScanner}
 use Rattle.gc_worker.specs.declared.stage.Stage.{Stage}
@@ -23,6 +23,7 @@ IsPastAfter afters.Snaps = ⊤
 
 abbrev pub IsPastBack : Back → Type 0
 IsPastBack (ToAccess a) = ⊤
+IsPastBack (ToTarget a) = ⊤
 IsPastBack ToPlace = ⊤
 IsPastBack ToSnap = ⊤
 IsPastBack ToScanner = ⊥

@@ -7,7 +7,7 @@ use Rattle.space_map.specs.Spaces.{Layout, IsPageCount, board_page, first_word, 
 use Rattle.alloc_end.specs.declared.run.Run.{Run}
 use Rattle.alloc_end.specs.Place as place
 use Rattle.alloc_end.specs.declared.place_stage.PlaceStage.{PlaceStage}
-use Rattle.alloc_end.specs.declared.place_stage.PlaceStage.TheVariants.{StoresCount, StoresHeader}
+use Rattle.alloc_end.specs.declared.place_stage.PlaceStage.TheVariants.{StoresCount, StoresTarget, StoresLink, StoresHeader}
 use Rattle.record_layout.specs.declared.header.Header.{Header}
 use Rattle.alloc_end.specs.Soundness.{RunLiesInSpaces, IsPlacingGoing, IsSoundPlacing}
 use Rattle.fault_duty.specs.declared.caller.Caller.{Caller}
@@ -42,7 +42,7 @@ use Rattle.gc_worker.specs.declared.access.Access.{Access}
 use Rattle.gc_worker.specs.declared.access.access_stage.AccessStage.{AccessStage}
 use Rattle.heap_state.specs.Worker.{Account}
 use Rattle.gc_worker.specs.declared.stage.back.Back.{Back}
-use Rattle.gc_worker.specs.declared.stage.back.Back.TheVariants.{ToAccess, ToPlace, ToSnap, ToScanner}
+use Rattle.gc_worker.specs.declared.stage.back.Back.TheVariants.{ToAccess, ToTarget, ToPlace, ToSnap, ToScanner}
 use Rattle.gc_worker.specs.declared.stage.forwarding_register.ForwardingRegister.{ForwardingRegister}
 use Rattle.gc_worker.specs.declared.stage.goal.Goal.{Goal}
 use Rattle.gc_worker.specs.declared.stage.goal.Goal.TheVariants.{ForFlip, ForSnap, ForScanner}
@@ -57,7 +57,7 @@ use Rattle.gc_worker.specs.declared.task.Task.TheVariants.{Calls, Stops}
 use Rattle.gc_worker.specs.Steps.Access.{IsSoundAccess, IsAccessOf}
 use Rattle.gc_worker.specs.Steps.Access as access
 use Rattle.gc_worker.specs.Plain.Seen.{IsValueWord, Making, making_in, seen}
-use Rattle.gc_worker.specs.Workers.Held.{Held, may_snap, has_seen_flip, pages_needed, header_for, fields_for}
+use Rattle.gc_worker.specs.Workers.Held.{Held, may_snap, has_seen_flip, pages_needed, header_for, fields_for, target_for}
 use Rattle.plain_state.specs.declared.end.End.{End}
 use Rattle.plain_state.specs.declared.end.End.TheVariants.{HeapFull}
 use Rattle.plain_state.specs.declared.sizes.TheConstants.{REGISTERS, MOST_PRINTED}
@@ -116,6 +116,8 @@ pub record FitsRegister (x : Held) (w : ForwardingRegister) : Type 0 where
 -- once a record is to stand in the run, less than a page is left behind it
 abbrev pub LeavesShortRun : Run → Header → PlaceStage → Type 0
 LeavesShortRun run header StoresCount = run.end < run.at + place.size_of header + PAGE_WORDS
+LeavesShortRun run header StoresTarget = run.end < run.at + place.size_of header + PAGE_WORDS
+LeavesShortRun run header StoresLink = run.end < run.at + place.size_of header + PAGE_WORDS
 LeavesShortRun run header StoresHeader = run.end < run.at + place.size_of header + PAGE_WORDS
 LeavesShortRun run header stage = ⊤
 
@@ -125,6 +127,7 @@ pub record FitsPlace (x : Held) (p : place.Placing) : Type 0 where
   pub epoch : p.epoch ≡ x.epoch
   pub fields : p.fields ≡ fields_for x
   pub snap : p.snap ≡ x.snap
+  pub target : p.target ≡ target_for x
   pub going : IsPlacingGoing p.stage
   pub rest : LeavesShortRun p.run p.header p.stage
   pub sound : IsSoundPlacing p
@@ -133,11 +136,15 @@ pub record FitsPlace (x : Held) (p : place.Placing) : Type 0 where
 abbrev pub IsFaulting : Held → (page : ℕ) → Type 0
 IsFaulting x page = (page ≡ board_page x.layout.pages) ⊎ (space_start x.layout.pages (to_space x.epoch) ≤ first_word page)
 
--- who made the round: a mutator that goes back to its access made it for a page, one that allocates for none, and a scanner for all
+-- Who made the round: a mutator that goes back to its access made it for a page, one that allocates for none, one that waits to load a target
+-- for either, and a scanner for all.
 abbrev pub IsCallerOf : Held → Back → Caller → Type 0
 IsCallerOf x (ToAccess a) (callers.Faulted page) = IsFaulting x page
 IsCallerOf x (ToAccess a) callers.Allocates = ⊥
 IsCallerOf x (ToAccess a) (callers.Scans mutators) = ⊥
+IsCallerOf x (ToTarget a) callers.Allocates = ⊤
+IsCallerOf x (ToTarget a) (callers.Faulted page) = IsFaulting x page
+IsCallerOf x (ToTarget a) (callers.Scans mutators) = ⊥
 IsCallerOf x ToPlace callers.Allocates = ⊤
 IsCallerOf x ToPlace (callers.Faulted page) = ⊥
 IsCallerOf x ToPlace (callers.Scans mutators) = ⊥
@@ -151,6 +158,7 @@ IsCallerOf x ToScanner callers.Allocates = ⊥
 -- a mutator's round is of its own epoch
 abbrev pub IsEpochOf : Held → Back → (epoch : ℕ) → Type 0
 IsEpochOf x (ToAccess a) epoch = epoch ≡ x.epoch
+IsEpochOf x (ToTarget a) epoch = epoch ≡ x.epoch
 IsEpochOf x ToPlace epoch = epoch ≡ x.epoch
 IsEpochOf x ToSnap epoch = epoch ≡ x.epoch
 IsEpochOf x ToScanner epoch = ⊤
@@ -169,9 +177,11 @@ pub record FitsAccess (l : Layout) (e : ℕ) (a : Access) : Type 0 where
   pub epoch : a.epoch ≡ e
   pub sound : IsSoundAccess a
 
--- what it goes back to is its own, and an access looks again before it writes; a scanner has no run
+-- What it goes back to is its own. An access looks again before it writes, and one that loads the target of a cell is known as such; a scanner
+-- has no run.
 abbrev pub FitsBack : Held → Back → Type 0
-FitsBack x (ToAccess a) = FitsAccess x.layout x.epoch a × (access.writes_on a.spaces a.stage ≡ None)
+FitsBack x (ToAccess a) = FitsAccess x.layout x.epoch a × (access.writes_on a.spaces a.stage ≡ None) × (access.is_at_target a.stage ≡ false)
+FitsBack x (ToTarget a) = FitsAccess x.layout x.epoch a × (access.is_at_target a.stage ≡ true)
 FitsBack x ToPlace = ⊤
 FitsBack x ToSnap = ⊤
 FitsBack x ToScanner = x.run ≡ None
@@ -345,6 +355,7 @@ FitsTaskAfter x afters.Snaps = IsSnapping x.account x.registers x.task
 
 abbrev pub FitsTaskBack : Held → Back → Type 0
 FitsTaskBack x (ToAccess a) = IsAccessing x.account x.registers x.task a.stage
+FitsTaskBack x (ToTarget a) = IsAccessing x.account x.registers x.task a.stage
 FitsTaskBack x ToPlace = IsMaking x.account x.registers x.task
 FitsTaskBack x ToSnap = IsSnapping x.account x.registers x.task × (may_snap x ≡ true)
 FitsTaskBack x ToScanner = x.task ≡ None
@@ -395,6 +406,7 @@ FitsTask x Gone = x.task ≡ None
 
 abbrev pub IsOnSideBack : Back → (is_mutator : Bool) → Type 0
 IsOnSideBack (ToAccess a) is_mutator = is_mutator ≡ true
+IsOnSideBack (ToTarget a) is_mutator = is_mutator ≡ true
 IsOnSideBack ToPlace is_mutator = is_mutator ≡ true
 IsOnSideBack ToSnap is_mutator = is_mutator ≡ true
 IsOnSideBack ToScanner is_mutator = is_mutator ≡ false

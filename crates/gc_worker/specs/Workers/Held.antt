@@ -1,5 +1,5 @@
 -- What a worker holds between two steps, and what its task asks for.
-use Rattle.std.specs.Prelude.{ℕ, ◌+◌, ◌^◌, ◌&&◌, Bool, List, Option, Some, None, nat_lt}
+use Rattle.std.specs.Prelude.{ℕ, ◌+◌, ◌^◌, ◌&&◌, Bool, List, Option, Some, None, nat_lt, slice_index}
 use Rattle.std.specs.Option.{option_and_then}
 use Rattle.heap_words.specs.Decoded.{HeaderWord}
 use Rattle.plain_state.specs.declared.kind.Kind.{Kind}
@@ -7,6 +7,8 @@ use Rattle.plain_state.specs.declared.kind.Kind.TheVariants.{Fields, Raw, Mixed,
 use Rattle.record_layout.specs.declared.header.Header.{Header}
 use Rattle.record_layout.specs.Layout.{header_in}
 use Rattle.space_map.specs.Spaces.{Layout}
+use Rattle.mutator_asm.specs.declared.instr.Instr.{Instr}
+use Rattle.mutator_asm.specs.declared.instr.Instr.TheVariants as instrs
 use Rattle.plain_heap.specs.Action.{action}
 use Rattle.alloc_end.specs.declared.run.Run.{Run}
 use Rattle.alloc_end.specs.Place.{size_of, pages_for}
@@ -75,6 +77,20 @@ fields_made None = 0
 -- those of the record that the task makes, if it is mixed
 abbrev pub fields_for : Held → ℕ
 fields_for x = fields_made (making_for x x.task)
+
+-- the word of the register that an instruction names as the target of the cell that it makes, or 0 if it makes none
+abbrev pub target_named : List ℕ → Instr → ℕ
+target_named registers (instrs.Weak d a) = slice_index registers a
+target_named registers instr = 0
+
+-- that word, by the task
+abbrev pub target_in : List ℕ → Option Task → ℕ
+target_in registers (Some (Calls instr)) = target_named registers instr
+target_in registers (Some (Stops end)) = 0
+target_in registers None = 0
+
+abbrev pub target_for : Held → ℕ
+target_for x = target_in x.registers x.task
 
 -- the pages that it needs
 abbrev pub pages_needed : Held → ℕ

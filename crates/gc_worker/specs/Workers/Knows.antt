@@ -1,5 +1,5 @@
 -- What the proofs of the heap know of a worker, component by component, each by cases on its stage.
-use Rattle.std.specs.Prelude.{ℕ, ◌+◌, ◌-◌, ◌/◌, ◌==◌, ◌||◌, Bool, true, false, [], Option, Some, None, nat_lt, slice_index, if◌then◌else◌, max}
+use Rattle.std.specs.Prelude.{ℕ, ◌+◌, ◌-◌, ◌/◌, ◌==◌, ◌||◌, Bool, true, false, [], ◌∷◌, Option, Some, None, nat_lt, slice_index, if◌then◌else◌, max}
 use Rattle.heap_words.specs.declared.kind.Kind.{Kind as HeaderKind}
 use Rattle.heap_words.specs.declared.kind.Kind.TheVariants as headers
 use Rattle.plain_state.specs.declared.kind.Kind.{Kind}
@@ -51,10 +51,10 @@ use Rattle.heap_state.specs.Worker.{Access}
 use Rattle.gc_worker.specs.declared.access.access_stage.AccessStage.{AccessStage}
 use Rattle.gc_worker.specs.declared.access.access_stage.AccessStage.TheVariants.{LooksAtRecord, LoadsHeader, LooksAtCount, LoadsCount, LooksAtField, LoadsField, StoresField, LoadsForCas, ExchangesField, LooksAtBoard, LoadsBoard, StoresBoard, LoadsForSwap, SwapsBoard}
 use Rattle.gc_worker.specs.declared.stage.back.Back.{Back}
-use Rattle.gc_worker.specs.declared.stage.back.Back.TheVariants.{ToAccess, ToPlace, ToSnap, ToScanner}
+use Rattle.gc_worker.specs.declared.stage.back.Back.TheVariants.{ToAccess, ToTarget, ToPlace, ToSnap, ToScanner}
 use Rattle.gc_worker.specs.declared.access.field_access.FieldAccess.{FieldAccess}
 use Rattle.gc_worker.specs.declared.access.mixed_access.MixedAccess.{MixedAccess}
-use Rattle.gc_worker.specs.Steps.Access.{role_of, count_at, field_at, read_before}
+use Rattle.gc_worker.specs.Steps.Access.{role_of, is_at_target, count_at, field_at, read_before}
 use Rattle.gc_worker.specs.declared.stage.after.After.{After}
 use Rattle.gc_worker.specs.declared.stage.after.After.TheVariants as afters
 use Rattle.gc_worker.specs.declared.stage.goal.Goal.{Goal}
@@ -79,6 +79,7 @@ post_before passages.Clear = Snapping
 
 abbrev pub post_back : Back → Post
 post_back (ToAccess a) = Running
+post_back (ToTarget a) = Running
 post_back ToPlace = Running
 post_back ToSnap = Running
 post_back ToScanner = workers.Scanner
@@ -206,7 +207,11 @@ kind_with headers.Weak fields = Weak
 
 -- a run in which all stands ahead of a record's header
 abbrev pub counted_in : Placing → Stock
-counted_in p = record (stock_of p.epoch p.run) { ahead = stored_ahead (kind_with p.header.kind p.fields) }
+counted_in p = record (stock_of p.epoch p.run) { ahead = stored_ahead (kind_with p.header.kind p.fields) p.target }
+
+-- one in which a cell's target stands there, and its link not yet
+abbrev pub targeted_in : Placing → Stock
+targeted_in p = record (stock_of p.epoch p.run) { ahead = p.target ∷ [] }
 
 abbrev pub stock_at : Held → Placing → PlaceStage → Option Stock
 stock_at x p place_stage.LoadsTraced = own_stock x.epoch x.run
@@ -217,6 +222,8 @@ stock_at x p (place_stage.StoresZero new) = Some (zeroed_to p new)
 stock_at x p (place_stage.StoresNew new) = Some (opened_to p new)
 stock_at x p (place_stage.OpensPage new) = Some (opened_to p new)
 stock_at x p place_stage.StoresCount = Some (stock_of p.epoch p.run)
+stock_at x p place_stage.StoresTarget = Some (stock_of p.epoch p.run)
+stock_at x p place_stage.StoresLink = Some (targeted_in p)
 stock_at x p place_stage.StoresHeader = Some (counted_in p)
 stock_at x p (place_stage.Ended result) = own_stock x.epoch x.run
 
@@ -246,6 +253,7 @@ traced_for ForScanner = false
 abbrev pub traced_seen_in : Stage → Bool
 traced_seen_in (Passes g after) = traced_before g.passage
 traced_seen_in (Flips f) = true
+traced_seen_in (Accesses a) = is_at_target a.stage
 traced_seen_in (Places p) = traced_at p.stage
 traced_seen_in (Checkpoints r goal) = traced_for goal
 traced_seen_in (BeginsCheckpoint s) = true
@@ -298,6 +306,7 @@ opened_at l (LooksAtBoard b) = None
 
 abbrev pub access_back : Back → Option Access
 access_back (ToAccess a) = access_at a.stage
+access_back (ToTarget a) = access_at a.stage
 access_back ToPlace = None
 access_back ToSnap = None
 access_back ToScanner = None
@@ -313,6 +322,7 @@ access_in stage = None
 
 abbrev pub opened_back : Layout → Back → Option ℕ
 opened_back l (ToAccess a) = opened_at l a.stage
+opened_back l (ToTarget a) = opened_at l a.stage
 opened_back l ToPlace = None
 opened_back l ToSnap = None
 opened_back l ToScanner = None

@@ -27,7 +27,7 @@ use Rattle.page_saves.specs.declared.save_stage.SaveStage.TheVariants as save_st
 use Rattle.page_saves.specs.Save.{PageSaving}
 use Rattle.page_saves.specs.SaveRound.{SavingRound}
 use Rattle.gc_worker.specs.declared.stage.back.Back.{Back}
-use Rattle.gc_worker.specs.declared.stage.back.Back.TheVariants.{ToAccess, ToPlace, ToSnap, ToScanner}
+use Rattle.gc_worker.specs.declared.stage.back.Back.TheVariants.{ToAccess, ToTarget, ToPlace, ToSnap, ToScanner}
 use Rattle.gc_worker.specs.declared.stage.goal.Goal.{Goal}
 use Rattle.gc_worker.specs.declared.stage.goal.Goal.TheVariants.{ForFlip, ForSnap, ForScanner}
 use Rattle.gc_worker.specs.declared.stage.Stage.{Stage}
@@ -119,6 +119,7 @@ guarded_by running page = if running == 0 then None else page
 
 abbrev pub guarded_back : (running : ℕ) → Back → Option ℕ
 guarded_back running (ToAccess a) = guarded_by running (writes_on a.spaces a.stage)
+guarded_back running (ToTarget a) = None
 guarded_back running ToPlace = None
 guarded_back running ToSnap = None
 guarded_back running ToScanner = None

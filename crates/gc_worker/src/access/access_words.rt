@@ -57,7 +57,7 @@ pub fn held(role: Role, word: u64) -> u64
     ensures { result ≡ word_held (access.role_of role) word }
 {
     match role {
-        Role::Field => word,
+        Role::Field | Role::Target => word,
         Role::Number => Word::number(word).0,
     }
 }
@@ -71,6 +71,18 @@ pub fn stored(role: Role, new: u64) -> Option<u64>
     match role {
         Role::Field => Some(new),
         Role::Number => Word(new).as_number(),
+        Role::Target => None,
+    }
+}
+
+/// An access goes on at a value's word; if that is the target of a cell, once the epoch is traced.
+#[inline(always)]
+pub fn goes_on_at(role: Role) -> Turn<Accessed>
+    ensures { result ≡ stored.goes_on_at role }
+{
+    match role {
+        Role::Field | Role::Number => Turn::More,
+        Role::Target => Turn::Finished(Accessed::Awaits),
     }
 }
 

@@ -5,6 +5,8 @@ use plain_state::End;
 pub enum Accessed {
     /// This page isn't open.
     Faults(u32),
+    /// It goes on once the epoch is traced.
+    Awaits,
     /// This register gets this word.
     Brings(u8, u64),
     Stored,

@@ -5,6 +5,19 @@ pub enum Role {
     Field,
     /// A plain number.
     Number,
+    /// The target of a cell, which is loaded once the epoch is traced.
+    Target,
+}
+
+impl Role {
+    ghost use Rattle.std.specs.Prelude.{◌≡◌};
+    ghost use Rattle.gc_worker.specs.Steps.Access.{is_target};
+
+    pub fn is_target(self) -> bool
+        ensures { result ≡ is_target self }
+    {
+        matches!(self, Role::Target)
+    }
 }
 
 /// A word of a record whose header was read.

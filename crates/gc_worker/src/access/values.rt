@@ -1,9 +1,9 @@
 //! The access to a value of a record whose header was read.
 
-ghost use Rattle.std.specs.Prelude.{◌≡◌, ◌+◌, ◌^◌, ◌<◌, ◌≤◌, ℕ};
+ghost use Rattle.std.specs.Prelude.{◌≡◌, ◌+◌, ◌^◌, ◌<◌, ◌≤◌, Err, false, ℕ};
 ghost use Rattle.heap_words.specs.Decoded.{decode, number_in};
 ghost use Rattle.plain_heap.specs.Action.{in_record};
-ghost use Rattle.gc_worker.specs.Steps.Access.{FitsMixedUse, FitsRecordUse, IsHeapAddress, at_stage, by_kind, counted_by, counting, field_at, field_of, goes_by, goes_to_field, kind_of, loading, may_store, read_count, refusal, refused_by, storing, turn_by, used_by, valued};
+ghost use Rattle.gc_worker.specs.Steps.Access.{FitsMixedUse, FitsRecordUse, IsHeapAddress, at_stage, by_kind, counted_by, counting, field_at, field_of, goes_by, goes_to_field, is_target, kind_of, loading, may_store, read_count, storing, to_field, turn_by, used_by, valued};
 ghost use Rattle.gc_worker.specs.Steps.StoredWord.{goes_on_if};
 ghost use Rattle.plain_heap.specs.Call.{may_hold};
 ghost use Rattle.gc_worker.specs.Plain.Seen.{IsValueWord, value_seen};
@@ -11,7 +11,7 @@ ghost use Rattle.gc_worker.specs.Plain.Seen.{IsValueWord, value_seen};
 use crate::access::Access;
 use crate::access::access_stage::AccessStage;
 use crate::access::access_words::{
-    field, goes_on_if, role_by_count, stored, tells_length, using_field,
+    field, goes_on_at, goes_on_if, role_by_count, stored, tells_length, using_field,
 };
 use crate::access::accessed::Accessed;
 use crate::access::field_access::{FieldAccess, FieldExchange, FieldUse, Role};
@@ -42,6 +42,7 @@ impl Access {
     /// The values of the record begin behind its header, and all have this role.
     #[inline(always)]
     fn use_words(&mut self, r: RecordAccess, role: Role, len: u16) -> Turn<Accessed>
+        requires stored { is_target role ≡ false }
         requires in_heap { IsHeapAddress self.old.spaces.pages r.at }
         requires fits { FitsRecordUse r.usage }
         requires short { len ≤ 4095 }
@@ -79,6 +80,7 @@ impl Access {
         usage: FieldUse,
         new: u64,
     ) -> Turn<Accessed>
+        requires stored { is_target role ≡ false }
         requires in_heap { IsHeapAddress self.old.spaces.pages r.at }
         requires short { len ≤ 4095 }
         requires is_value { IsValueWord new }
@@ -100,6 +102,7 @@ impl Access {
         len: u16,
         e: FieldExchange,
     ) -> Turn<Accessed>
+        requires stored { is_target role ≡ false }
         requires in_heap { IsHeapAddress self.old.spaces.pages r.at }
         requires short { len ≤ 4095 }
         requires is_value { IsValueWord e.new }
@@ -117,6 +120,7 @@ impl Access {
     /// inlined. Both only say whether they go on: what is handed back in memory would be kept there at each step of an access.
     #[inline(never)]
     fn exchange_apart(&mut self, f: FieldAccess, e: FieldExchange) -> bool
+        requires stored { is_target f.role ≡ false }
         requires in_heap { field_at f < 2 ^ 32 }
         requires behind { (0 < f.first) × (f.first ≤ f.word) }
         requires is_value { IsValueWord e.new }
@@ -142,15 +146,18 @@ impl Access {
         }
     }
 
-    /// A cell has the value or not by its header, and it is neither loaded nor replaced.
+    /// A cell has the value or not by its header, and it is loaded, but not replaced.
     #[inline(always)]
-    fn use_cell(&self, r: RecordAccess, len: u16) -> Turn<Accessed>
-        ensures state { goes_by self.now (refused_by r len r.usage) ≡ self.now }
-        ensures tells { result ≡ turn_by (refused_by r len r.usage) }
+    fn use_cell(&mut self, r: RecordAccess, len: u16) -> Turn<Accessed>
+        requires in_heap { IsHeapAddress self.old.spaces.pages r.at }
+        requires short { len ≤ 4095 }
+        ensures state { self.new ≡ goes_by self.old (used_by r Role.Target len r.usage) }
+        ensures tells { result ≡ turn_by (used_by r Role.Target len r.usage) }
     {
         match r.usage {
             RecordUse::TellsLength(into) => tells_length(into, len),
-            RecordUse::Loads(_) | RecordUse::Stores(_) | RecordUse::Exchanges(_) => {
+            RecordUse::Loads(into) => self.load(r, Role::Target, len, into),
+            RecordUse::Stores(_) | RecordUse::Exchanges(_) => {
                 Turn::Finished(Accessed::Fails(refusal(r.value, len)))
             }
         }
@@ -211,6 +218,7 @@ impl Access {
     /// The values of a mixed record begin behind its count.
     #[inline(always)]
     fn use_value(&mut self, m: MixedAccess, role: Role) -> bool
+        requires stored { is_target role ≡ false }
         requires in_heap { IsHeapAddress self.old.spaces.pages (m.at + (m.value + 2)) }
         requires fits { FitsMixedUse m.usage }
         ensures state { self.new ≡ goes_by self.old (valued m role m.usage) }
@@ -232,6 +240,7 @@ impl Access {
     #[tactic(auto, using(crate::proofs::Words::StoredWords::stores_held, crate::proofs::Words::StoredWords::fails_unheld))]
     #[inline(always)]
     fn store_in(&mut self, f: FieldAccess, usage: FieldUse, new: u64) -> bool
+        requires stored { is_target f.role ≡ false }
         requires in_heap { field_at f < 2 ^ 32 }
         requires behind { (0 < f.first) × (f.first ≤ f.word) }
         requires is_value { IsValueWord new }
@@ -253,20 +262,21 @@ impl Access {
         requires in_heap { field_at f < 2 ^ 32 }
         requires behind { (0 < f.first) × (f.first ≤ f.word) }
         ensures state { self.new ≡ at_stage self.old (goes_to_field f usage) }
-        ensures tells { result ≡ Turn.More }
+        ensures tells { result ≡ turn_by (to_field usage f) }
     {
         let spaces = self.spaces;
         if spaces.page_of(f.at + (f.first - 1)) == spaces.page_of(f.at + f.word) {
-            self.go_to(using_field(f, usage))
+            self.stage = using_field(f, usage);
         } else {
-            self.go_to(AccessStage::LooksAtField(f, usage))
+            self.stage = AccessStage::LooksAtField(f, usage);
         }
+        goes_on_at(f.role)
     }
 }
 
-/// The end of a mutator that loads or replaces a value of a cell which has so many.
+/// The end of a mutator that replaces a value of a cell which has so many.
 fn refusal(value: u64, len: u16) -> End
-    ensures { result ≡ refusal (in_record len value) }
+    ensures { (new : ℕ) → Err result ≡ may_store Role.Target new (in_record len value) }
 {
     if value < u64::from(len) {
         End::WeakCell

@@ -5,7 +5,7 @@ ghost use Rattle.heap_words.specs.Decoded.{HeaderWord};
 ghost use Rattle.record_layout.specs.Layout.{header_in};
 ghost use Rattle.heap_state.specs.Invariant.Ghost.{header_kind, header_len};
 ghost use Rattle.gc_worker.specs.Workers.Fits.{FitsStage, IsMaking, Takes};
-ghost use Rattle.gc_worker.specs.Workers.Held.{pages_needed, at_stage, header_for, fields_for, fields_of, making_for};
+ghost use Rattle.gc_worker.specs.Workers.Held.{pages_needed, at_stage, header_for, fields_for, fields_of, making_for, target_for};
 ghost use Rattle.gc_worker.specs.Plain.Seen.{cell_made, mixed_made, register_for};
 ghost use Rattle.gc_worker.specs.Steps.Stepped.{IsCall, IsPlacing, IsSound, instr_due, seen_by, stepped_by, uncounted};
 ghost use Rattle.gc_worker.specs.Steps.Turned.{full_by, is_full, places, told, told_effect, told_full, turned, with_record};
@@ -110,6 +110,16 @@ impl State {
         }
     }
 
+    /// The word that is to be the target of the cell that the task makes, or 0.
+    fn target(&self) -> u64
+        ensures { result ≡ target_for self.now }
+    {
+        match (self.due, self.instr) {
+            (Due::Call, Instr::Weak(_, a)) => self.word(a),
+            _ => 0,
+        }
+    }
+
     /// The pages that it needs.
     pub fn asked(&self) -> u32
         ensures { result ≡ pages_needed self.now }
@@ -128,7 +138,15 @@ impl State {
         match self.header_and_fields() {
             Some((header, fields)) => {
                 let run = self.run.unwrap_or(Run { at: 0, end: 0 });
-                let place = Place::new(self.spaces, run, header, self.epoch, fields, self.snap);
+                let place = Place::new(
+                    self.spaces,
+                    run,
+                    header,
+                    self.epoch,
+                    fields,
+                    self.snap,
+                    self.target(),
+                );
                 self.stage = Stage::Places(place);
                 if self.running != 0 {
                     self.guard_at_place();

@@ -2,11 +2,14 @@
 
 ghost use Rattle.std.specs.Prelude.{◌≡◌, ◌≤◌, true};
 ghost use Rattle.space_map.specs.Spaces.{board_page};
+ghost use Rattle.space_map.specs.declared.spaces.TheConstants.{LAST_WORKER};
 ghost use Rattle.gc_worker.specs.declared.access.access_stage.AccessStage.{AccessStage};
 ghost use Rattle.gc_worker.specs.Workers.Fits.{FitsStage, IsAccessing, Takes};
-ghost use Rattle.gc_worker.specs.Steps.Stepped.{IsAtAccess, IsEvacuating, IsOpening, IsAtScan, IsServing, IsSound, MayBeginAnew, back_at, served_in, stepped_by, uncounted};
-ghost use Rattle.gc_worker.specs.Steps.Turned.{accessed_at, back_from, goes_back, scans, told, told_access, told_round, traced_by, turned};
+ghost use Rattle.gc_worker.specs.Workers.Held.{at_stage};
+ghost use Rattle.gc_worker.specs.Steps.Stepped.{IsAtAccess, IsEvacuating, IsOpening, IsAtScan, IsForCheckpoint, IsServing, IsSound, MayBeginAnew, back_at, served_in, stepped_by, uncounted};
+ghost use Rattle.gc_worker.specs.Steps.Turned.{accessed_at, back_from, goes_back, scans, serves_target, told, told_access, told_round, traced_by, turned};
 
+use crate::access::Access;
 use crate::access::accessed::Accessed;
 use crate::stage::Stage;
 use crate::stage::back::Back;
@@ -59,6 +62,10 @@ impl State {
                 self.serve_for(page);
                 Stepped::Moved
             }
+            Accessed::Awaits => {
+                self.await_traced();
+                Stepped::Moved
+            }
             Accessed::Brings(into, word) => {
                 self.stage = Stage::Looks;
                 self.load(into, word)
@@ -82,7 +89,34 @@ impl State {
             unreachable!()
         };
         let duty = Duty::new(self.spaces, Some(page), self.epoch, self.number);
-        self.stage = Stage::Serves(duty, Back::ToAccess(access));
+        let back = if access.is_at_target() {
+            Back::ToTarget(access)
+        } else {
+            Back::ToAccess(access)
+        };
+        self.stage = Stage::Serves(duty, back);
+    }
+
+    /// The target of a cell is loaded once the epoch is traced.
+    #[inline(never)]
+    fn await_traced(&mut self)
+        requires at { IsAtAccess self.old.stage }
+        requires fits { FitsStage (accessed_at self.old self.old.stage Accessed.Awaits) (accessed_at self.old self.old.stage Accessed.Awaits).stage }
+        ensures { self.new ≡ uncounted (accessed_at self.old self.old.stage Accessed.Awaits) }
+    {
+        let Stage::Accesses(access) = self.stage else {
+            unreachable!()
+        };
+        self.serve_target(access);
+    }
+
+    /// A round of the duty begins, before the target of a cell is loaded.
+    fn serve_target(&mut self, access: Access)
+        requires { self.old.number ≤ LAST_WORKER }
+        ensures { self.new ≡ at_stage self.old (serves_target self.old access) }
+    {
+        let duty = Duty::new(self.spaces, None, self.epoch, self.number);
+        self.stage = Stage::Serves(duty, Back::ToTarget(access));
     }
 
     /// A step of a round.
@@ -146,7 +180,7 @@ impl State {
         self.stage = Stage::Scans(scan, back);
     }
 
-    /// The epoch is traced.
+    /// The epoch is traced: who loads the target of a cell does so.
     #[tactic(auto, using(crate::proofs::Workers::Fitting::traced_without, crate::proofs::Workers::Fitting::fits_without))]
     fn has_found_traced(&mut self, epoch: u32)
         requires at { IsServing self.old.stage }
@@ -154,10 +188,22 @@ impl State {
         requires fits { let x = record self.old { epoch = epoch } in FitsStage (traced_by x (back_at self.old.stage)) (traced_by x (back_at self.old.stage)).stage }
         ensures { self.new ≡ traced_by (record self.old { epoch = epoch }) (back_at self.old.stage) }
     {
-        if self.spaces.has_checkpoints() {
-            self.go_on_traced(epoch);
-        } else {
-            self.go_back(epoch);
+        let Stage::Serves(_, back) = self.stage else {
+            unreachable!()
+        };
+        match back {
+            Back::ToTarget(access) => {
+                self.epoch = epoch;
+                self.stage = Stage::Accesses(access);
+            }
+            Back::ToAccess(_) | Back::ToPlace => self.go_back(epoch),
+            Back::ToSnap | Back::ToScanner => {
+                if self.spaces.has_checkpoints() {
+                    self.go_on_traced(epoch);
+                } else {
+                    self.go_back(epoch);
+                }
+            }
         }
     }
 
@@ -165,6 +211,7 @@ impl State {
     #[inline(never)]
     fn go_on_traced(&mut self, epoch: u32)
         requires room { self.old.layout.checkpoints ≡ true }
+        requires helps { IsForCheckpoint (back_at self.old.stage) }
         requires at { IsServing self.old.stage }
         requires round { MayBeginAnew self.old.layout self.old.mutators self.old.number self.old.stage }
         requires fits { let x = record self.old { epoch = epoch } in FitsStage (traced_by x (back_at self.old.stage)) (traced_by x (back_at self.old.stage)).stage }
@@ -182,7 +229,7 @@ impl State {
                 self.epoch = epoch;
                 self.checkpoint(Goal::ForScanner);
             }
-            Back::ToAccess(_) | Back::ToPlace => self.go_back(epoch),
+            Back::ToAccess(_) | Back::ToTarget(_) | Back::ToPlace => unreachable!(),
         }
     }
 
@@ -202,6 +249,7 @@ impl State {
         };
         match back {
             Back::ToAccess(access) => self.stage = Stage::Accesses(access),
+            Back::ToTarget(access) => self.serve_target(access),
             Back::ToPlace => self.begin_placing(),
             Back::ToSnap => self.serve_snap(),
             Back::ToScanner => self.begin_next_round(),
@@ -230,6 +278,7 @@ impl State {
     {
         match back {
             Back::ToAccess(access) => self.stage = Stage::Accesses(access),
+            Back::ToTarget(access) => self.serve_target(access),
             Back::ToPlace => self.begin_placing(),
             Back::ToSnap => self.serve_snap(),
             Back::ToScanner => {

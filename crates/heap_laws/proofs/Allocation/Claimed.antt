@@ -21,6 +21,7 @@ use Rattle.heap_laws.proofs.Allocation.Stocks.{stocked_knows, stocked_in_chain, 
 use Rattle.heap_laws.proofs.Cells.Kept.{same_cells, same_words_keep}
 use Rattle.heap_laws.proofs.Flipping.Sums.{sum_below-term}
 use Rattle.heap_laws.proofs.Steps.Learning.{shown_put}
+use Rattle.heap_laws.proofs.Targets.Frames.{made_put}
 use Rattle.heap_laws.proofs.Scanning.Scanners.{open_age}
 
 -- ---- nobody flips while one runs
@@ -159,7 +160,7 @@ pub stocks_are_claimed : (E : Era) (m : Memory) (team : Team) (g : Ghost) (k n o
     → Targets E (with_low m (m.low - 64 * n) owed) g → Preserves E m (with_low m (m.low - 64 * n) owed) team (with_stock team k (below_low E m n)) g g
 stocks_are_claimed E m team g k n owed ready run has targets = record {
   invariant = keeps E m team g k n owed ready.laid_out ready.invariant ready.member run has targets;
-  shown = λ p s. shown_put E m (with_low m (m.low - 64 * n) owed) team g k (record (team.worker k) { stock = Some (below_low E m n) }) p refl refl refl s;
-  cycle = λ p cy. record { copying = cy.copying; rooted = rooted_put team.worker k (record (team.worker k) { stock = Some (below_low E m n) }) refl refl refl (λ _ _ a b. (a, b)) cy.rooted };
+  shown = λ p s. shown_put E m (with_low m (m.low - 64 * n) owed) team g k (record (team.worker k) { stock = Some (below_low E m n) }) p refl refl refl refl refl (λ e. e) s;
+  cycle = λ p cy. record { copying = cy.copying; rooted = rooted_put team.worker k (record (team.worker k) { stock = Some (below_low E m n) }) refl refl refl (λ _ _ a b. (a, b)) cy.rooted; made = made_put team.worker k (record (team.worker k) { stock = Some (below_low E m n) }) refl (record { new = λ a st l u. cy.made.new a st (above E m team g k n owed ready.laid_out ready.invariant ready.member run has targets a st l) u; grown = cy.made.grown }) };
   ages = λ p. omega arith;
 }

@@ -1,28 +1,36 @@
 -- What a cycle keeps is kept where a new record begins to stand.
-use Rattle.std.proofs.Common.{◌≡◌, ℕ, ◌+◌, ◌<◌, refl, sym, ◌∙◌, ⊎_elim, inl, inr}
+use Rattle.std.proofs.Common.{◌≡◌, ◌≢◌, ℕ, zero, suc, ◌+◌, ◌<◌, ◌≤◌, List, length, None, refl, sym, ap, ◌∙◌, arith, ⊎_elim, inl, inr}
+use Rattle.std.proofs.lemmas.Bool.{cases_eq}
+use Rattle.std.proofs.lemmas.Option.{slice_get_past}
 use Rattle.plain_state.specs.declared.kind.Kind.{Kind}
 use Rattle.plain_state.specs.State as plain
 use Rattle.plain_state.specs.declared.value.Identity.{Identity}
 use Rattle.plain_state.specs.Layout.{word_of_value}
-use Rattle.heap_state.specs.Cycles.Cycle.{Cycle, Copying, Rooted, RootLeads, ByBoard, ByRegister, StillLeads, IsCopied}
+use Rattle.heap_state.specs.Cycles.Cycle.{Cycle, Copying, MadeSince, Rooted, RootLeads, ByBoard, ByRegister, StillLeads}
 use Rattle.heap_state.specs.Memory.Era.{Era, IsLaidOut, Memory}
 use Rattle.heap_state.specs.Functions.{put}
 use Rattle.heap_state.specs.Invariant.Ghost.{Ghost}
 use Rattle.heap_state.specs.Invariant.Inductive.{Invariant}
 use Rattle.heap_state.specs.Meaning.Values.{value_of, Shows}
 use Rattle.heap_state.specs.Worker.{Worker, Team, Stock, is_mutator, is_late}
-use Rattle.heap_state.proofs.Puts.{put_other, proj_put}
+use Rattle.heap_state.proofs.Puts.{each_put, put_at, put_other, proj_put}
 use Rattle.heap_state.proofs.Records.Layouts.{value_within}
+use Rattle.heap_state.specs.Targets.{IsCopied}
 use Rattle.heap_laws.specs.Allocation.Records.{next_identity, allocated}
 use Rattle.heap_laws.proofs.Allocation.Stocks.{Places}
 use Rattle.heap_laws.specs.Steps.{with_word, with_worker}
 use Rattle.heap_laws.proofs.Allocation.FreeWords.{IsFree, word_same, copying_free, rooted_free}
-use Rattle.heap_laws.proofs.Allocation.Header.{placed, new_place, free, zeros}
+use Rattle.heap_laws.proofs.Allocation.Header.{placed, new_place, free, mutator, zeros}
 use Rattle.heap_laws.proofs.Allocation.Parts.{NewPlace, unused, was, same_size, same_writer, old_other, below_other, here_was}
 use Rattle.heap_laws.proofs.Allocation.Values.{field_lands, value_allocated}
 use Rattle.heap_laws.proofs.Frames.Values.{still_leads, zero_clean}
 
-module _ (E : Era) (m : Memory) (team : Team) (g : Ghost) (p : plain.Plain) (k : ℕ) (q : Stock) (c : Kind) (z v : ℕ) (lay : IsLaidOut E) (inv : Invariant E m team g) (places : Places E team k q c z v) (cy : Cycle E m team g p) where
+-- a mutator has made no record with a serial above the number of its records
+none_past : (xs : List plain.Record) (n : ℕ) → length xs < n → plain.at_serial xs n ≡ None
+none_past xs zero past = refl
+none_past xs (suc n) past = slice_get_past xs n (omega arith)
+
+module _ (E : Era) (m : Memory) (team : Team) (g : Ghost) (p : plain.Plain) (k : ℕ) (q : Stock) (c : Kind) (z v : ℕ) {target : ℕ} (lay : IsLaidOut E) (inv : Invariant E m team g) (places : Places E team k q c z v target) (cy : Cycle E m team g p) where
   abbrev j : Identity
   j = next_identity team k
 
@@ -109,8 +117,22 @@ module _ (E : Era) (m : Memory) (team : Team) (g : Ghost) (p : plain.Plain) (k :
           (rw (proj_put (λ y. y.done) team.worker k w a refl) d)
           (rw (proj_put (λ y. y.registers) team.worker k w a refl) (still_on ((team.worker a).registers x) i s))
 
+  -- the new record was not there at the flip: it is one more than its mutator had made
+  made : MadeSince E m.low team.mutators g.size g.identity team.worker p → MadeSince E m.low team.mutators g'.size g'.identity (put team.worker k w) p
+  made y = record {
+    new = λ a st l u. ⊎_elim
+        (λ (e : a ≡ q.at). rw (put_at g.identity q.at j a e) (none_past (plain.made_by p.heap k) j.serial (let n = y.grown k (mutator E m team g k q c z v lay inv places) in omega (arith, n))))
+        (λ (d : a ≢ q.at). rw (put_other g.identity q.at j a d) (y.new a (was is_new_place a d st) l u))
+        (cases_eq a q.at);
+    grown = λ a l. let n = y.grown a l in each_put (λ b (u : Worker). b ≡ a → plain.serial_of p.heap a ≤ u.account.serial) team.worker k w a
+        (λ _ _. n)
+        (λ e _. let t : (team.worker a).account.serial ≡ (team.worker k).account.serial = ap (λ b. (team.worker b).account.serial) e in omega (arith, n, t))
+        refl;
+  }
+
   pub placing_keeps_cycle : Cycle E (with_word m q.at v) (with_worker team k w) g' p
   placing_keeps_cycle = record {
     copying = copying (copying_free is_free g.writer g.kind m.heap v m.front g.copy g.keeper g.identity p cy.copying);
     rooted = rooted (rooted_free is_free g.writer g.kind m.heap v m.front team.count g.identity team.worker p cy.rooted);
+    made = made cy.made;
   }

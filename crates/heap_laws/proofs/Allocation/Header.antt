@@ -1,11 +1,9 @@
 -- The header of a new record is stored at the run's place.
-use Rattle.std.proofs.Common.{◌≡◌, ◌≢◌, ℕ, ◌+◌, ◌/◌, ◌<◌, ◌≤◌, refl, sym, ap, ◌∙◌, arith, ⊎_elim, ◌⊎◌, inl, inr, Some, [], ◌%◌, ◌-◌, slice_get, subst}
+use Rattle.std.proofs.Common.{◌≡◌, ◌≢◌, ℕ, ◌+◌, ◌/◌, ◌<◌, ◌≤◌, true, length, refl, sym, ap, ◌∙◌, arith, ⊎_elim, ◌⊎◌, inl, inr, Some, [], ◌%◌, ◌-◌, subst}
 use Rattle.std.proofs.lemmas.Bool.{cases_eq, cases_lt, ltb-true}
 use Rattle.plain_state.specs.declared.kind.Kind.{Kind}
-use Rattle.plain_state.specs.declared.kind.Kind.TheVariants.{Fields, Raw, Mixed, Weak}
 use Rattle.plain_state.specs.declared.sizes.TheConstants.{NUMBERS}
-use Rattle.plain_state.specs.Layout.{values_at}
-use Rattle.heap_words.specs.Word.{number_word}
+use Rattle.plain_state.specs.Layout.{is_field}
 use Rattle.heap_words.proofs.Ranges.{header_bounds}
 use Rattle.heap_words.specs.Decoded.{PointerWord, decode}
 use Rattle.plain_state.specs.declared.value.Identity.{Identity}
@@ -20,10 +18,11 @@ use Rattle.heap_state.specs.Meaning.Values.{CountShows, value_of}
 use Rattle.heap_state.specs.Memory.FieldSpan.{fields_end}
 use Rattle.heap_state.specs.Worker.{Worker, Team, Stock}
 use Rattle.heap_state.proofs.Workers.Frames.{counted_put, staffed_put, scanned_put, stocks_anew}
+use Rattle.heap_state.proofs.Records.Layouts.{field_is_value}
 use Rattle.heap_state.proofs.Puts.{put_at, put_other, put_same, each_put, team_put, none≢some, some_same}
-use Rattle.heap_laws.specs.Allocation.Records.{next_identity, allocated, stored_ahead}
+use Rattle.heap_laws.specs.Allocation.Records.{next_identity, allocated}
 use Rattle.heap_laws.specs.Fields.Held.{HoldsValue}
-use Rattle.heap_laws.proofs.Allocation.Stocks.{Places}
+use Rattle.heap_laws.proofs.Allocation.Stocks.{Places, ahead_of_values, count_ahead, small_ahead, zero_behind}
 use Rattle.plain_state.specs.declared.value.Value.TheVariants.{Reference}
 use Rattle.heap_laws.specs.Steps.{with_word, with_worker}
 use Rattle.heap_laws.proofs.Allocation.FreeWords.{IsFree, headed_free, raw_free, counts_free, opened_free, landing_free, older_free, old_space_free, worker_free}
@@ -32,14 +31,6 @@ use Rattle.heap_laws.proofs.Allocation.Workers.{worker_allocated}
 use Rattle.heap_laws.proofs.Fields.GoingOn.{runs}
 use Rattle.heap_laws.proofs.Frames.OtherWords.{ahead_zeroed}
 
--- a count of fields that a record has room for is a small word
-count_small : (c : Kind) (heap : ℕ → ℕ) (a z j : ℕ) → z - 1 ≤ 4095 → fields_end c z ≤ z → CountShows c heap a → 0 < j → j < values_at c → heap (a + j) < NUMBERS
-unfolding number_word
-count_small Fields heap a z j len room shows f l = absurd (omega arith)
-count_small Raw heap a z j len room shows f l = absurd (omega arith)
-count_small (Mixed count) heap a z j len room shows f l = let e : j ≡ 1 = omega arith in let w : heap (a + j) ≡ heap (a + 1) = ap (λ i. heap (a + i)) e in omega (arith, w, shows, len, room)
-count_small Weak heap a z j len room shows f l = absurd (omega arith)
-
 -- worker k has one record more, and its run begins behind it
 abbrev pub placed : Team → ℕ → Stock → ℕ → Worker
 placed team k q z = record (team.worker k) {
@@ -47,7 +38,7 @@ placed team k q z = record (team.worker k) {
   account = record (team.worker k).account { serial = (team.worker k).account.serial + 1 };
 }
 
-module _ (E : Era) (m : Memory) (team : Team) (g : Ghost) (k : ℕ) (q : Stock) (c : Kind) (z v : ℕ) (lay : IsLaidOut E) (inv : Invariant E m team g) (places : Places E team k q c z v) where
+module _ (E : Era) (m : Memory) (team : Team) (g : Ghost) (k : ℕ) (q : Stock) (c : Kind) (z v : ℕ) {target : ℕ} (lay : IsLaidOut E) (inv : Invariant E m team g) (places : Places E team k q c z v target) where
   abbrev i : Identity
   i = next_identity team k
 
@@ -107,27 +98,24 @@ module _ (E : Era) (m : Memory) (team : Team) (g : Ghost) (k : ℕ) (q : Stock) 
       let s : (g.identity b).serial ≡ i.serial = ap (λ (x : Identity). x.serial) e in
       omega arith
 
-  -- its values are 0, and its count is stored ahead
-  pub zeros_before : (j : ℕ) → values_at c ≤ j → j < z → m.heap (q.at + j) ≡ 0
-  zeros_before j l u = ok.zeros (q.at + j) (omega arith) (let r = places.run.0 in let f = places.fits in omega arith) (inr (let b = places.behind in omega (arith, l, b)))
+  -- its fields are 0, and its count is stored ahead
+  behind_header : (j : ℕ) → 0 < j → heap (q.at + j) ≡ m.heap (q.at + j)
+  behind_header j f = put_other m.heap q.at v (q.at + j) (λ e. omega (arith, f, e))
 
-  pub zeros : (j : ℕ) → values_at c ≤ j → j < z → heap (q.at + j) ≡ 0
-  zeros j l u = rw (put_other m.heap q.at v (q.at + j) (let b = places.behind in λ e. omega (arith, l, b, e))) (zeros_before j l u)
+  blank : (j : ℕ) → length q.ahead < j → j < z → m.heap (q.at + j) ≡ 0
+  blank j past l = zero_behind q ok places.run.0 j past (let f = places.fits in omega (arith, l, f))
+
+  pub zeros : (j : ℕ) → 0 < j → is_field c j ≡ true → j < z → heap (q.at + j) ≡ 0
+  zeros j f field l = rw (behind_header j f) (blank j (rw places.ahead (ahead_of_values c target j (field_is_value c j f field) (inl field))) l)
 
   pub counted : CountShows c m.heap q.at
-  counted = by_kind c places.ahead
-    where
-      by_kind : (c : Kind) → q.ahead ≡ stored_ahead c → CountShows c m.heap q.at
-      by_kind Fields e = tt
-      by_kind Raw e = tt
-      by_kind (Mixed count) e = ap m.heap (omega arith) ∙ ok.ahead 0 (number_word count) (ap (λ xs. slice_get xs 0) e)
-      by_kind Weak e = tt
+  counted = count_ahead q ok c target places.ahead
 
   small : (j : ℕ) → 0 < j → j < z → heap (q.at + j) < NUMBERS
-  small j f l = ⊎_elim
-      (λ (y : j < values_at c). rw (put_other m.heap q.at v (q.at + j) (omega arith)) (count_small c m.heap q.at z j (header_bounds v (header_kind c) (z - 1) i.serial k places.header).0 places.fields counted f y))
-      (λ (n : values_at c ≤ j). let e = zeros j n l in omega (arith, e))
-      (cases_lt j (values_at c))
+  small j f l = rw (behind_header j f) (⊎_elim
+      (λ (past : length q.ahead < j). let e = blank j past l in omega (arith, e))
+      (λ (last : j ≤ length q.ahead). small_ahead q ok c target z j places.ahead places.cell (header_bounds v (header_kind c) (z - 1) i.serial k places.header).0 places.fields f last)
+      (cases_lt (length q.ahead) j))
 
   opens : (x : ℕ) → q.at ≤ x → x < q.at + z → m.page (x / 64) ≡ Open E.epoch
   opens x l u = ok.opens x l (let r = places.run.1 in let f = places.fits in omega arith)
@@ -135,7 +123,7 @@ module _ (E : Era) (m : Memory) (team : Team) (g : Ghost) (k : ℕ) (q : Stock) 
   -- the word behind the record is 0, or the first of a page
   behind : ((q.at + z) % 64 ≡ 0) ⊎ (heap (q.at + z) ≡ 0)
   behind = let f = places.fits in let r = places.run.0 in let n = places.some in ⊎_elim
-      (λ (l : q.at + z < q.end). inr (rw (put_other m.heap q.at v (q.at + z) (omega (arith, n))) (ok.zeros (q.at + z) (omega arith) (omega arith) (inr (let b = places.behind in let o = places.room in omega (arith, b, o))))))
+      (λ (l : q.at + z < q.end). inr (rw (put_other m.heap q.at v (q.at + z) (omega (arith, n))) (ok.zeros (q.at + z) (omega arith) (omega arith) (inr (let b = places.behind in omega (arith, b))))))
       (λ (l : q.end ≤ q.at + z). let a = ok.aligned.0 in inl (omega arith))
       (cases_lt (q.at + z) q.end)
 
@@ -150,7 +138,7 @@ module _ (E : Era) (m : Memory) (team : Team) (g : Ghost) (k : ℕ) (q : Stock) 
         (λ (e : b ≡ q.at). inl (let y = put_at g.size q.at z b e in omega (arith, y, e)))
         (λ (d : b ≢ q.at). rw (same_size new_place b d) (⊎_elim (λ y. inl (omega (arith, y))) (λ y. inr y) (ok.empty b (was new_place b d st))))
         (cases_eq b q.at);
-    zeros = λ x l u n. let s = places.some in rw (put_other m.heap q.at v x (omega (arith, l, s))) (ok.zeros x (omega (arith, l)) u (inr (let b = places.behind in let o = places.room in omega (arith, l, b, o))));
+    zeros = λ x l u n. let s = places.some in rw (put_other m.heap q.at v x (omega (arith, l, s))) (ok.zeros x (omega (arith, l)) u (inr (let b = places.behind in omega (arith, l, b))));
     ahead = λ i w e. none≢some e;
     fits = λ l. absurd (omega arith);
     on_page = let a = ok.aligned.0 in let s = places.rest in ⊎_elim

@@ -20,6 +20,7 @@ use Rattle.heap_laws.specs.Steps.{Ready, Preserves, with_page}
 use Rattle.heap_laws.proofs.Allocation.Stocks.{stocked_knows, stocked_in_chain, is_not_ahead, nothing_ahead, Opens, with_stock}
 use Rattle.heap_laws.proofs.Cells.Kept.{same_cells, same_keeps}
 use Rattle.heap_laws.proofs.Steps.Learning.{shown_put}
+use Rattle.heap_laws.proofs.Targets.Frames.{made_put}
 use Rattle.heap_laws.proofs.Frames.PageWords.{Turns, stays, grows, quiet_turns, tracing_turns, aged_turns, old_pages_turn, old_space_turns, scans_beside, knows_turns}
 use Rattle.heap_laws.proofs.Scanning.Scanners.{scan_age}
 
@@ -146,7 +147,7 @@ pub stocks_are_opened : (E : Era) (m : Memory) (team : Team) (g : Ghost) (k page
     → Preserves E m (with_page m page (Open E.epoch)) team (with_stock team k (opened_further q)) g g
 stocks_are_opened E m team g k p q ready opens = record {
   invariant = keeps E m team g k p q ready.laid_out ready.invariant opens;
-  shown = λ r s. shown_put E m (with_page m p (Open E.epoch)) team g k (record (team.worker k) { stock = Some (opened_further q) }) r refl refl refl s;
-  cycle = λ r cy. record { copying = cy.copying; rooted = rooted_put team.worker k (record (team.worker k) { stock = Some (opened_further q) }) refl refl refl (λ _ _ a b. (a, b)) cy.rooted };
+  shown = λ r s. shown_put E m (with_page m p (Open E.epoch)) team g k (record (team.worker k) { stock = Some (opened_further q) }) r refl refl refl refl refl (λ e. e) s;
+  cycle = λ r cy. record { copying = cy.copying; rooted = rooted_put team.worker k (record (team.worker k) { stock = Some (opened_further q) }) refl refl refl (λ _ _ a b. (a, b)) cy.rooted; made = made_put team.worker k (record (team.worker k) { stock = Some (opened_further q) }) refl cy.made };
   ages = grows (turn E m team g k p q ready.laid_out ready.invariant opens);
 }

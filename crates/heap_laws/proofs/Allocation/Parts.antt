@@ -1,5 +1,5 @@
 -- The parts of the invariant where a record begins to stand in the new area.
-use Rattle.std.proofs.Common.{◌≡◌, ◌≢◌, ℕ, ◌+◌, ◌-◌, ◌/◌, ◌%◌, ◌<◌, ◌≤◌, refl, sym, ap, ◌∙◌, arith, ⊎_elim, ◌⊎◌, inl, inr}
+use Rattle.std.proofs.Common.{◌≡◌, ◌≢◌, ℕ, ◌+◌, ◌-◌, ◌/◌, ◌%◌, ◌<◌, ◌≤◌, true, refl, sym, ap, ◌∙◌, arith, ⊎_elim, ◌⊎◌, inl, inr}
 use Rattle.std.proofs.lemmas.Bool.{cases_eq, cases_lt}
 use Rattle.plain_state.specs.declared.kind.Kind.{Kind}
 use Rattle.plain_state.specs.declared.kind.Kind.TheVariants.{Mixed}
@@ -19,8 +19,7 @@ use Rattle.heap_state.specs.Invariant.Parts.Pages.{Shut}
 use Rattle.heap_state.specs.Invariant.Parts.Records.{Laid, Headed, NewArea, NewWritten, SpaceOf, RawWords, WalkComesTo, Counts}
 use Rattle.heap_state.proofs.Puts.{put_at, put_other, put_cases, sum_below-same}
 use Rattle.heap_state.proofs.Walks.WalkPlaces.{comes_to_more}
-use Rattle.heap_state.proofs.Records.Layouts.{field_is_value}
-use Rattle.plain_state.specs.Layout.{values_at}
+use Rattle.plain_state.specs.Layout.{is_field}
 use Rattle.plain_state.specs.declared.sizes.TheConstants.{NUMBERS}
 use Rattle.heap_laws.proofs.Frames.Values.{zero_clean, zero_lands}
 
@@ -185,13 +184,13 @@ module _ {E : Era} {front low : ℕ} {size copy keeper : ℕ → ℕ} {a z : ℕ
       here_on x (inr b) = inr b
       here_on x (inl u) = inl (record { a = u.a; i = u.i; field = field_on u.a u.i u.field; inside = u.inside; at = u.at })
 
-      module _ (heap : ℕ → ℕ) (zeros : (j : ℕ) → values_at c ≤ j → j < z → heap (a + j) ≡ 0) where
+      module _ (heap : ℕ → ℕ) (zeros : (j : ℕ) → 0 < j → is_field c j ≡ true → j < z → heap (a + j) ≡ 0) where
         -- a field or a board word after is one before, or holds 0
         pub here_was : (x : ℕ) → Here E (put size a z) writer' kind' x → Here E size writer kind x ⊎ (heap x ≡ 0)
         unfolding Here
         here_was x (inr b) = inl (inr b)
         here_was x (inl u) = let f : IsField (put size a z) writer' kind' u.a u.i = u.field in ⊎_elim
-            (λ (e : u.a ≡ a). inr (let q : x ≡ a + u.i = omega (arith, e, u.at) in rw q (zeros u.i (field_is_value c u.i f.first (rw (put_at kind a c u.a e) at f.field)) (let s = put_at size a z u.a e in omega (arith, s, f.last)))))
+            (λ (e : u.a ≡ a). inr (let q : x ≡ a + u.i = omega (arith, e, u.at) in rw q (zeros u.i f.first (rw (put_at kind a c u.a e) at f.field) (let s = put_at size a z u.a e in omega (arith, s, f.last)))))
             (λ (d : u.a ≢ a). inl (inl (record { a = u.a; i = u.i; field = field_was u.a u.i d f; inside = u.inside; at = u.at })))
             (cases_eq u.a a)
 

@@ -1,8 +1,12 @@
 -- A mutator stores a new record's header, and points to it, in one step.
-use Rattle.std.proofs.Common.{◌≡◌, ◌≢◌, ℕ, ◌+◌, ◌<◌, Some, None, refl, sym, ap, ◌∙◌, arith, ⊎_elim, inl}
+use Rattle.std.proofs.Common.{◌≡◌, ◌≢◌, ℕ, ◌+◌, ◌<◌, Some, None, refl, sym, ap, ◌∙◌, arith, ⊎_elim, inr}
 use Rattle.std.proofs.Math.ListN.{length-set}
 use Rattle.std.proofs.lemmas.Bool.{cases_eq}
 use Rattle.heap_words.specs.Decoded.{PointerWord, decode}
+use Rattle.heap_words.specs.Word.{pointer_word}
+use Rattle.heap_words.proofs.Ranges.{pointer_bounds}
+use Rattle.heap_words.proofs.Spelling.{pointer_word-decode}
+use Rattle.plain_state.specs.declared.sizes.TheConstants.{NUMBERS}
 use Rattle.plain_state.specs.State as plain
 use Rattle.plain_state.specs.Writing.{gained}
 use Rattle.plain_state.specs.declared.kind.Kind.{Kind}
@@ -18,7 +22,7 @@ use Rattle.heap_state.specs.Invariant.Parts.Knowledge.{Accesses}
 use Rattle.heap_state.specs.Worker.{Worker, Team, Stock, Access}
 use Rattle.heap_state.proofs.Puts.{put_at, put_other, put_same, put_twice}
 use Rattle.heap_laws.specs.Fields.Held.{MayHold, HoldsValue, MutatorGoesOn}
-use Rattle.heap_laws.specs.Fields.Stores.{IsAs, MutatorsPlace, with_record, with_reference, plain_next}
+use Rattle.heap_laws.specs.Fields.Stores.{HoldsTarget, IsAs, MutatorsPlace, with_record, with_reference, plain_next}
 use Rattle.heap_laws.specs.Allocation.Records.{PlacesNext, allocated, next_identity}
 use Rattle.heap_laws.specs.Steps.{Ready, WritesRow, InWord, with_word, with_worker}
 use Rattle.heap_laws.specs.Targets.Records.{MayBeTarget}
@@ -32,12 +36,13 @@ use Rattle.heap_laws.proofs.Allocation.Workers.{accesses_allocated}
 use Rattle.heap_laws.proofs.Cells.Kept.{of_chain}
 use Rattle.heap_laws.proofs.Cells.Placed.{placing_carries_chain}
 use Rattle.heap_laws.proofs.Fields.Laws.{both, goes_as}
-use Rattle.heap_laws.proofs.Targets.Placed.{placing_carries_targets, new_targets_are_zero}
+use Rattle.heap_laws.proofs.Frames.Values.{pointer_from_value}
+use Rattle.heap_laws.proofs.Targets.Placed.{placing_carries_targets, new_targets_are_stored}
 use Rattle.plain_state.proofs.Gained.{gained_serial}
 use Rattle.plain_state.proofs.Lists.{slice_get-set_same, slice_get-set_other}
 
-module _ (E : Era) (m : Memory) (team : Team) (g : Ghost) (p : plain.Plain) (k : ℕ) (next : Worker) (q : plain.Mutator) (s : Stock) (c : Kind) (z v d pointer : ℕ) (r : plain.Record)
-    (ready : Ready E m team g k) (shown : Shown E m team g p) (places : Places E team k s c z v) (behind : Shows (value_of g.identity) m.heap s.at c z r) (small : d < 8) (points : decode pointer ≡ PointerWord s.at)
+module _ (E : Era) (m : Memory) (team : Team) (g : Ghost) (p : plain.Plain) (k : ℕ) (next : Worker) (q : plain.Mutator) (s : Stock) (c : Kind) (z v d pointer : ℕ) {target : ℕ} (r : plain.Record)
+    (ready : Ready E m team g k) (shown : Shown E m team g p) (places : Places E team k s c z v target) (behind : Shows (value_of g.identity) m.heap s.at c z r) (holds : c ≡ Weak → HoldsTarget E g target r) (small : d < 8) (points : decode pointer ≡ PointerWord s.at)
     (goes : MutatorGoesOn E m g (team.worker k) next) (same : IsAs g p.heap k next q) where
   abbrev i : Identity
   i = next_identity team k
@@ -85,7 +90,7 @@ module _ (E : Era) (m : Memory) (team : Team) (g : Ghost) (p : plain.Plain) (k :
       printed = same.account.printed;
       executed = same.account.executed;
       end = same.account.end;
-      serial = let e = same.account.serial in let t = gained_serial p.heap k r (maker_there E m team g p k s c z v r ready.laid_out ready.invariant places behind shown) in omega arith;
+      serial = let e = same.account.serial in let t = gained_serial p.heap k r (maker_there E m team g p k s c z v r ready.laid_out ready.invariant places behind holds shown) in omega arith;
     };
     registers = record {
       eight = length-set q.registers d (Reference next') ∙ same.registers.eight;
@@ -105,36 +110,46 @@ module _ (E : Era) (m : Memory) (team : Team) (g : Ghost) (p : plain.Plain) (k :
       named : i ≡ next'
       named = λ x. record { mutator = k; serial = same_serial x }
 
+-- a word that refers to a record is small
+reference_small : (identity : ℕ → Identity) (w : ℕ) (i : Identity) → value_of identity w ≡ Some (Reference i) → w < NUMBERS
+unfolding pointer_word
+reference_small identity w i e =
+    let p = pointer_from_value identity w i e in
+    let s = pointer_word-decode w p.0 p.1 in
+    let b = pointer_bounds w p.0 p.1 in
+    omega (arith, s, b)
+
 -- the row of the header
-writes_header : (E : Era) (m : Memory) (team : Team) (g : Ghost) (k : ℕ) (s : Stock) (c : Kind) (z v : ℕ) → Ready E m team g k → Places E team k s c z v → WritesRow E m (Some (WordIs s.at v)) (with_word m s.at v)
+writes_header : (E : Era) (m : Memory) (team : Team) (g : Ghost) (k : ℕ) (s : Stock) (c : Kind) (z v : ℕ) {target : ℕ} → Ready E m team g k → Places E team k s c z v target → WritesRow E m (Some (WordIs s.at v)) (with_word m s.at v)
 writes_header E m team g k s c z v ready places =
     let ok = (ready.invariant.stocks.stocked k ready.member s places.own.has places.own.epoch).lies in
     InWord s.at v (let lay = ready.laid_out in let f = places.fits in let n = places.some in omega (arith, ok, lay.below, f, n))
 
 -- what is known of the cells then
-cells_after : (E : Era) (m : Memory) (team : Team) (g : Ghost) (k : ℕ) (s : Stock) (c : Kind) (z v : ℕ) → Ready E m team g k → PlacesNext team k s c z v → (c ≡ Weak → z ≡ 3)
+cells_after : (E : Era) (m : Memory) (team : Team) (g : Ghost) (k : ℕ) (s : Stock) (c : Kind) (z v target : ℕ) (r : plain.Record) → Ready E m team g k → PlacesNext team k s c z v target → Places E team k s c z v target
+    → (c ≡ Weak → z ≡ 3) → (c ≡ Weak → HoldsTarget E g target r)
     → Cells E (with_word m s.at v) (with_worker team k (placed team k s z)) (allocated g s.at z c (next_identity team k))
-cells_after E m team g k s c z v ready next_one three =
+cells_after E m team g k s c z v target r ready next_one places three holds =
     let before = ready.invariant.cells in
     let w : Worker = placed team k s z in
-    let writes = writes_header E m team g k s c z v ready (places_of s c z v ready next_one) in
-    let zero : c ≡ Weak → MayBeTarget E g (m.heap (s.at + 1)) = λ e. inl (new_targets_are_zero E m team g k s z v ready (rw e at next_one)) in
+    let writes = writes_header E m team g k s c z v ready places in
+    let held : c ≡ Weak → MayBeTarget E g (m.heap (s.at + 1)) = λ e. rw (new_targets_are_stored E m team g k s z v target ready (rw e at next_one)) (inr (holds e).2.held) in
     of_chain {m = m} (record { weak = refl; weak_turn = refl })
-    (placing_carries_chain E m (with_word m s.at v) m.weak m.weak_turn team g before.ranks k s c z v w ready next_one three writes (stocked_in_chain E (team.worker k) w.stock w.account) before.chain)
-    (placing_carries_targets E m (with_word m s.at v) m.weak m.weak_turn team g before.ranks k s c z v ready next_one zero writes before.chain before.targets)
+    (placing_carries_chain E m (with_word m s.at v) m.weak m.weak_turn team g before.ranks k s c z v target w ready next_one three writes (stocked_in_chain E (team.worker k) w.stock w.account) before.chain)
+    (placing_carries_targets E m (with_word m s.at v) m.weak m.weak_turn team g before.ranks k s c z v target ready next_one held writes before.chain before.targets)
 
 pub mutators_place : MutatorsPlace
-mutators_place E m team g p k next q s c z v d pointer r ready shown next_one three behind small points goes same =
-    let places : Places E team k s c z v = places_of s c z v ready next_one in
+mutators_place E m team g p k next q s c z v target d pointer r ready shown next_one three behind holds small points goes same =
+    let places : Places E team k s c z v target = places_of s c z v target ready next_one three (λ e. let t = (holds e).2 in reference_small g.identity target (holds e).0 t.denotes) in
     let t = put_twice team.worker k (placed team k s z) (with_record next s z d pointer) in
     let w = put_same team.worker k (placed team k s z) in
-    let inv = records_are_placed E m team g k s c z v ready.laid_out ready.invariant places (cells_after E m team g k s c z v ready next_one three) in
+    let inv = records_are_placed E m team g k s c z v ready.laid_out ready.invariant places (cells_after E m team g k s c z v target r ready next_one places three holds) in
     record {
       later = with_word m s.at v;
       writes = writes_header E m team g k s c z v ready places;
       makes = rw (← t) (both (λ o cy. placing_keeps_cycle E m team g o k s c z v ready.laid_out ready.invariant places cy) (λ page. omega arith)
           (goes_as E _ (with_worker team k (placed team k s z)) _ _ k (with_record next s z d pointer) (with_reference p.heap k q d) inv ready.member (rw w places.runs)
-          (placing_shows E m team g p k s c z v r ready.laid_out ready.invariant places behind shown)
-          (rw w (goes' E m team g p k next q s c z v d pointer r ready shown places behind small points goes same))
-          (same' E m team g p k next q s c z v d pointer r ready shown places behind small points goes same)));
+          (placing_shows E m team g p k s c z v r ready.laid_out ready.invariant places behind holds shown)
+          (rw w (goes' E m team g p k next q s c z v d pointer r ready shown places behind holds small points goes same))
+          (same' E m team g p k next q s c z v d pointer r ready shown places behind holds small points goes same)));
     }

@@ -1,5 +1,5 @@
 -- The plain heap gains the record that begins to stand.
-use Rattle.std.proofs.Common.{◌≡◌, ◌≢◌, ℕ, ◌+◌, ◌-◌, ◌<◌, length, get_or, slice_get, Some, None, refl, sym, ap, ◌∙◌, arith, lt-ltb, ⊎_elim, ◌⊎◌}
+use Rattle.std.proofs.Common.{◌≡◌, ◌≢◌, ℕ, ◌+◌, ◌-◌, ◌<◌, true, inl, inr, length, get_or, slice_get, Some, None, refl, sym, ap, ◌∙◌, arith, lt-ltb, ⊎_elim, ◌⊎◌}
 use Rattle.std.proofs.lemmas.Bool.{cases_eq}
 use Rattle.std.proofs.lemmas.List.{length-replicate}
 use Rattle.std.proofs.lemmas.Option.{slice_get-get_or, slice_get_within}
@@ -7,7 +7,7 @@ use Rattle.plain_state.specs.declared.kind.Kind.{Kind}
 use Rattle.plain_state.specs.State as plain
 use Rattle.plain_state.specs.declared.value.Identity.{Identity}
 use Rattle.plain_state.specs.declared.value.Value.TheVariants.{Number}
-use Rattle.plain_state.specs.Layout.{values_at, words_behind, word_of_value}
+use Rattle.plain_state.specs.Layout.{is_field, is_raw, values_at, words_behind, word_of_value}
 use Rattle.plain_state.specs.Writing.{with_heap, gained, zeros as zeros_made}
 use Rattle.heap_state.specs.Memory.Era.{Era, IsLaidOut, Memory}
 use Rattle.heap_state.specs.Functions.{put}
@@ -19,17 +19,22 @@ use Rattle.heap_state.proofs.Puts.{put_at, put_other, put_same, proj_put}
 use Rattle.heap_state.proofs.Records.Layouts.{count_stays, value_within, values_behind_header}
 use Rattle.heap_laws.specs.Opening.{opening_mutator}
 use Rattle.heap_laws.specs.Allocation.Records.{next_identity, allocated, ZerosShow}
-use Rattle.heap_laws.proofs.Allocation.Stocks.{Places, places_of}
+use Rattle.heap_laws.proofs.Allocation.Stocks.{Places, ahead_of_values, count_ahead, owns, zero_behind as zero_behind_ahead}
+use Rattle.heap_laws.proofs.Allocation.Targets.{placing_shows_targets}
+use Rattle.heap_laws.specs.Fields.Stores.{HoldsTarget}
+use Rattle.heap_state.specs.Invariant.Parts.Stocks.{Stocked}
+use Rattle.plain_state.specs.declared.kind.Kind.TheVariants.{Weak}
 use Rattle.heap_laws.specs.Steps.{with_word, with_worker}
 use Rattle.heap_laws.proofs.Allocation.FreeWords.{IsFree, word_same, board_same}
-use Rattle.heap_laws.proofs.Allocation.Header.{placed, new_place, free, mutator, zeros, counted}
+use Rattle.heap_laws.proofs.Allocation.Header.{placed, new_place, free, mutator, zeros}
 use Rattle.heap_laws.proofs.Allocation.Parts.{NewPlace, unused as unused_place, was, same_size, same_writer}
 use Rattle.heap_laws.proofs.Allocation.Values.{field_lands, value_allocated}
 use Rattle.plain_state.proofs.Gained.{gained_there, gained_elsewhere, gained_serial, gained_serial_other, gained_makers}
 use Rattle.plain_state.proofs.Lists.{slice_get-of_replicate}
 use Rattle.heap_laws.proofs.Frames.Values.{board_here, zero_value}
 
-module _ (E : Era) (m : Memory) (team : Team) (g : Ghost) (p : plain.Plain) (k : ℕ) (q : Stock) (c : Kind) (z v : ℕ) (new : plain.Record) (lay : IsLaidOut E) (inv : Invariant E m team g) (places : Places E team k q c z v) (behind : Shows (value_of g.identity) m.heap q.at c z new) (s : Shown E m team g p) where
+module _ (E : Era) (m : Memory) (team : Team) (g : Ghost) (p : plain.Plain) (k : ℕ) (q : Stock) (c : Kind) (z v : ℕ) {target : ℕ} (new : plain.Record) (lay : IsLaidOut E) (inv : Invariant E m team g) (places : Places E team k q c z v target) (behind : Shows (value_of g.identity) m.heap q.at c z new)
+    (holds : c ≡ Weak → HoldsTarget E g target new) (s : Shown E m team g p) where
   abbrev i : Identity
   i = next_identity team k
 
@@ -67,9 +72,9 @@ module _ (E : Era) (m : Memory) (team : Team) (g : Ghost) (p : plain.Plain) (k :
 
   -- ---- values
 
-  -- the words behind the header are 0, and denote the same as before
-  zero_behind : (x : ℕ) → x < length new.values → heap (q.at + word_of_value c x) ≡ 0
-  zero_behind x l = let n = value_within new behind x l in zeros E m team g k q c z v lay inv places (word_of_value c x) (omega arith) n.1
+  -- the fields behind the header are 0, and denote the same as before
+  zero_behind : (x : ℕ) → x < length new.values → is_field c (word_of_value c x) ≡ true → heap (q.at + word_of_value c x) ≡ 0
+  zero_behind x l t = let n = value_within new behind x l in zeros E m team g k q c z v lay inv places (word_of_value c x) n.0 t n.1
 
   same_behind : (x : ℕ) → heap (q.at + word_of_value c x) ≡ m.heap (q.at + word_of_value c x)
   same_behind x = put_other m.heap q.at v (q.at + word_of_value c x) (λ e. omega (arith, e, values_behind_header c))
@@ -79,8 +84,8 @@ module _ (E : Era) (m : Memory) (team : Team) (g : Ghost) (p : plain.Plain) (k :
     kind = behind.kind;
     size = behind.size;
     fields = λ x l t.
-        let zero : m.heap (q.at + word_of_value c x) ≡ 0 = sym (same_behind x) ∙ zero_behind x l in
-        zero_value g'.identity (heap (q.at + word_of_value c x)) (zero_behind x l) ∙ (sym (zero_value g.identity (m.heap (q.at + word_of_value c x)) zero) ∙ behind.fields x l t);
+        let zero : m.heap (q.at + word_of_value c x) ≡ 0 = sym (same_behind x) ∙ zero_behind x l t in
+        zero_value g'.identity (heap (q.at + word_of_value c x)) (zero_behind x l t) ∙ (sym (zero_value g.identity (m.heap (q.at + word_of_value c x)) zero) ∙ behind.fields x l t);
     numbers = λ x l t. ap (λ y. Some (Number y)) (same_behind x) ∙ behind.numbers x l t;
     count = count_stays new behind heap q.at (λ _ _ _. put_other m.heap q.at v (q.at + 1) (omega arith));
   }
@@ -160,6 +165,7 @@ module _ (E : Era) (m : Memory) (team : Team) (g : Ghost) (p : plain.Plain) (k :
   pub placing_shows : Shown E (with_word m q.at v) (with_worker team k w) g' (with_heap p after)
   placing_shows = record {
     objects = objects;
+    targets = placing_shows_targets E m team g p k q c z v new lay inv places holds s within serial;
     board = board;
     as_many = s.as_many;
     makers = gained_makers p.heap k new within ∙ s.makers;
@@ -168,23 +174,25 @@ module _ (E : Era) (m : Memory) (team : Team) (g : Ghost) (p : plain.Plain) (k :
   }
 
 pub zeros_show : ZerosShow
-zeros_show E m team g k q c z v ready places' = record {
+zeros_show E m team g k q c z v target ready places = record {
   kind = refl;
-  size = let n = length-replicate count (Number 0) in let l = places'.some in omega arith;
-  fields = λ x l t. zero_value g.identity (m.heap (q.at + word_of_value c x)) (zero x l) ∙ sym (slice_get-of_replicate count x (Number 0) (within x l));
-  numbers = λ x l t. ap (λ y. Some (Number y)) (zero x l) ∙ sym (slice_get-of_replicate count x (Number 0) (within x l));
-  count = counted E m team g k q c z v ready.laid_out ready.invariant places;
+  size = let n = length-replicate count (Number 0) in let l = places.some in omega arith;
+  fields = λ x l t. zero_value g.identity (m.heap (q.at + word_of_value c x)) (zero x l (inl t)) ∙ sym (slice_get-of_replicate count x (Number 0) (within x l));
+  numbers = λ x l t. ap (λ y. Some (Number y)) (zero x l (inr t)) ∙ sym (slice_get-of_replicate count x (Number 0) (within x l));
+  count = count_ahead q ok c target places.ahead;
 }
   where
     count : ℕ
     count = z - (values_at c + words_behind c)
 
-    places : Places E team k q c z v
-    places = places_of q c z v ready places'
+    ok : Stocked E m.low g.size m.heap m.page q
+    ok = let own = owns q ready places.own in ready.invariant.stocks.stocked k ready.member q own.has own.epoch
 
     within : (x : ℕ) → x < length (zeros_made c count).values → x < count
     within x l = rw (length-replicate count (Number 0)) at l
 
-    zero : (x : ℕ) → x < length (zeros_made c count).values → m.heap (q.at + word_of_value c x) ≡ 0
-    zero x l = let u = within x l in let b = values_behind_header c in
-        sym (put_other m.heap q.at v (q.at + word_of_value c x) (λ e. omega (arith, e, b))) ∙ zeros E m team g k q c z v ready.laid_out ready.invariant places (word_of_value c x) (omega (arith)) (omega (arith, u))
+    zero : (x : ℕ) → x < length (zeros_made c count).values → (is_field c (word_of_value c x) ≡ true) ⊎ (is_raw c (word_of_value c x) ≡ true) → m.heap (q.at + word_of_value c x) ≡ 0
+    zero x l value =
+        let u = within x l in
+        let f = places.fits in
+        zero_behind_ahead q ok places.run.0 (word_of_value c x) (rw places.ahead (ahead_of_values c target (word_of_value c x) (omega arith) value)) (omega (arith, u, f))

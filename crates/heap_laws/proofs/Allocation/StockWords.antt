@@ -1,5 +1,5 @@
 -- A worker stores a word of its own stock.
-use Rattle.std.proofs.Common.{◌≡◌, ℕ, ◌+◌, ◌<◌, ◌≤◌, Some, refl, ◌∙◌, arith, ⊎_elim, ◌⊎◌, inl, inr}
+use Rattle.std.proofs.Common.{◌≡◌, ℕ, ◌+◌, ◌<◌, ◌≤◌, Some, refl, sym, ◌∙◌, arith, ⊎_elim, ◌⊎◌, inl, inr}
 use Rattle.heap_state.specs.Memory.Era.{Era, Memory}
 use Rattle.heap_state.specs.Functions.{put}
 use Rattle.heap_state.specs.Invariant.Ghost.{Ghost}
@@ -18,6 +18,7 @@ use Rattle.heap_laws.proofs.Allocation.Stocks.{stocked_knows, stocked_in_chain, 
 use Rattle.heap_laws.proofs.Cells.Kept.{same_cells, word_keeps, words_unread}
 use Rattle.heap_laws.proofs.Frames.OtherWords.{stocked_same}
 use Rattle.heap_laws.proofs.Steps.Learning.{shown_put}
+use Rattle.heap_laws.proofs.Targets.Frames.{made_put, shown_by_words}
 
 -- The word at x of the stock q of worker k becomes v, and the stock is then `next`, of the same place and end. What the stock
 -- and the new area are after it is known.
@@ -92,8 +93,9 @@ module _ {E : Era} {m : Memory} {team : Team} {g : Ghost} {k x v : ℕ} {q next 
   pub words_are_stored : Preserves E m (with_word m x v) team (with_stock team k next) g g
   words_are_stored = record {
     invariant = keeps;
-    shown = λ p s. shown_put E (with_word m x v) (with_word m x v) team g k (record (team.worker k) { stock = Some next }) p refl refl refl (record {
+    shown = λ p s. shown_put E (with_word m x v) (with_word m x v) team g k (record (team.worker k) { stock = Some next }) p refl refl refl refl refl (λ e. e) (record {
       objects = objects_free free g.writer g.kind m.heap v g.copy g.keeper g.identity p.heap s.objects;
+      targets = shown_by_words E m (with_word m x v) g refl refl (λ e. e) p.heap (λ a c. put_other m.heap x v (a + 1) (λ e. no_target a c.cell (sym e))) s.targets;
       board = board_free free g.writer g.kind m.heap v (value_of g.identity) p.heap s.board;
       as_many = s.as_many;
       makers = s.makers;
@@ -103,6 +105,7 @@ module _ {E : Era} {m : Memory} {team : Team} {g : Ghost} {k x v : ℕ} {q next 
     cycle = λ p cy. record {
       copying = copying_free free g.writer g.kind m.heap v m.front g.copy g.keeper g.identity p cy.copying;
       rooted = rooted_put team.worker k (record (team.worker k) { stock = Some next }) refl refl refl (λ _ _ a b. (a, b)) (rooted_free free g.writer g.kind m.heap v m.front team.count g.identity team.worker p cy.rooted);
+      made = made_put team.worker k (record (team.worker k) { stock = Some next }) refl cy.made;
     };
     ages = λ p. omega arith;
   }

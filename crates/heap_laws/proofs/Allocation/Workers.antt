@@ -1,7 +1,7 @@
 -- What a worker knows where a record begins to stand in the new area.
-use Rattle.std.proofs.Common.{◌≡◌, ℕ, ◌+◌, ◌<◌, ◌≤◌, Bool, Option, refl, arith, ⊎_elim, true, None, Some}
+use Rattle.std.proofs.Common.{◌≡◌, ℕ, ◌+◌, ◌<◌, Bool, Option, refl, arith, ⊎_elim, true, None, Some}
 use Rattle.plain_state.specs.declared.kind.Kind.{Kind}
-use Rattle.plain_state.specs.Layout.{values_at}
+use Rattle.plain_state.specs.Layout.{is_field}
 use Rattle.plain_state.specs.declared.value.Identity.{Identity}
 use Rattle.space_map.specs.declared.page_word.PageWord.{PageWord}
 use Rattle.heap_state.specs.Memory.Era.{Era, Memory}
@@ -100,7 +100,7 @@ module _ {E : Era} {front low : ℕ} {size copy keeper : ℕ → ℕ} {a z : ℕ
       ended = p.ended;
     }
 
-    pub scans_allocated : (heap : ℕ → ℕ) → ((j : ℕ) → values_at c ≤ j → j < z → heap (a + j) ≡ 0) → (page : ℕ → PageWord) (k : ℕ) (s : Scan) → Scans E front size writer kind heap page k s → Scans E front size' writer' kind' heap page k s
+    pub scans_allocated : (heap : ℕ → ℕ) → ((j : ℕ) → 0 < j → is_field c j ≡ true → j < z → heap (a + j) ≡ 0) → (page : ℕ → PageWord) (k : ℕ) (s : Scan) → Scans E front size writer kind heap page k s → Scans E front size' writer' kind' heap page k s
     scans_allocated heap zeros page k s p = record {
       claimed = p.claimed;
       place = p.place;
@@ -116,7 +116,7 @@ module _ {E : Era} {front low : ℕ} {size copy keeper : ℕ → ℕ} {a z : ℕ
     }
 
 -- all of it
-pub worker_allocated : (E : Era) (m : Memory) (g : Ghost) (a z : ℕ) (c : Kind) (i : Identity) (heap : ℕ → ℕ) (k : ℕ) (w : Worker) → NewPlace E m.front m.low g.size g.copy g.keeper a z → ((j : ℕ) → values_at c ≤ j → j < z → heap (a + j) ≡ 0)
+pub worker_allocated : (E : Era) (m : Memory) (g : Ghost) (a z : ℕ) (c : Kind) (i : Identity) (heap : ℕ → ℕ) (k : ℕ) (w : Worker) → NewPlace E m.front m.low g.size g.copy g.keeper a z → ((j : ℕ) → 0 < j → is_field c j ≡ true → j < z → heap (a + j) ≡ 0)
     → Knows E m.gate m.traced m.front m.low m.old_front m.old_low m.old_owed g m.page m.cross m.announced heap k w
     → Knows E m.gate m.traced m.front m.low m.old_front m.old_low m.old_owed (allocated g a z c i) m.page m.cross m.announced heap k w
 worker_allocated E m g a z c i heap k w cr zeros p =

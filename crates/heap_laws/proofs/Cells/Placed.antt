@@ -23,7 +23,7 @@ some_values Raw = omega arith
 some_values (Mixed count) = omega arith
 some_values Weak = omega arith
 
-module _ (E : Era) (m later : Memory) (weak turn : ℕ) (team : Team) (g : Ghost) (r : Ranks) (k : ℕ) (s : Stock) (c : Kind) (z v : ℕ) (w : Worker) (ready : Ready E m team g k) (places : PlacesNext team k s c z v) (small : c ≡ Weak → z ≡ 3)
+module _ (E : Era) (m later : Memory) (weak turn : ℕ) (team : Team) (g : Ghost) (r : Ranks) (k : ℕ) (s : Stock) (c : Kind) (z v target : ℕ) (w : Worker) (ready : Ready E m team g k) (places : PlacesNext team k s c z v target) (small : c ≡ Weak → z ≡ 3)
     (stores : StoresWord m later s.at v) (on : GoesOnInChain E w (team.worker k)) (chain : Chain E m weak turn team g r) where
   abbrev h : Ghost
   h = allocated g s.at z c (next_identity team k)
@@ -87,4 +87,4 @@ module _ (E : Era) (m later : Memory) (weak turn : ℕ) (team : Team) (g : Ghost
   }) on chain
 
 pub placing_carries_chain : PlacingCarriesChain
-placing_carries_chain E m later weak turn team g r k s c z v w ready places small writes on chain = places_record E m later weak turn team g r k s c z v w ready places small (stores_word writes refl) on chain
+placing_carries_chain E m later weak turn team g r k s c z v target w ready places small writes on chain = places_record E m later weak turn team g r k s c z v target w ready places small (stores_word writes refl) on chain

@@ -11,7 +11,7 @@ use Rattle.heap_state.specs.Memory.Era.{Era, Memory}
 use Rattle.heap_state.specs.Functions.{put}
 use Rattle.heap_state.specs.Invariant.Ghost.{Ghost, Here}
 use Rattle.heap_state.specs.Invariant.Inductive.{Invariant}
-use Rattle.heap_state.specs.Meaning.Values.{Shown, Shows, value_of}
+use Rattle.heap_state.specs.Meaning.Values.{Shown, Shows, TargetsShow, value_of}
 use Rattle.heap_state.specs.Worker.{Worker, Team, Linking, Pass}
 use Rattle.heap_state.proofs.Workers.Frames.{rooted_put}
 use Rattle.heap_state.proofs.Puts.{put_other}
@@ -19,7 +19,7 @@ use Rattle.heap_state.proofs.Records.Layouts.{count_stays, value_within}
 use Rattle.heap_laws.specs.Copying.{WeakIsLoaded, WeakIsForgotten, LinksAreStored, CellsAreLinked, with_linking}
 use Rattle.heap_laws.specs.Cells.Links.{SameBesideLinking, one_more}
 use Rattle.heap_laws.specs.Steps.{Ready, NoRow, InWord, InWeak, Steps, Preserves, with_weak, with_word, with_worker}
-use Rattle.heap_laws.proofs.Cells.Kept.{targets_stay}
+use Rattle.heap_laws.proofs.Cells.Kept.{targets_stay, words_no_targets}
 use Rattle.heap_laws.proofs.Cells.Linked.{reading_weak_carries_chain, storing_link_carries_chain, linking_carries_chain}
 use Rattle.heap_laws.proofs.Fields.Cycle.{store_keeps_cycle}
 use Rattle.heap_laws.proofs.Fields.Slots.{IsRecordWord, here_field}
@@ -27,18 +27,23 @@ use Rattle.heap_laws.proofs.Fields.Stored.{Stores, with_chain_part, slot_keeps}
 use Rattle.heap_laws.proofs.Frames.Values.{one_place}
 use Rattle.heap_laws.proofs.Steps.Learning.{links, shown_put}
 use Rattle.heap_laws.proofs.Steps.Rows.{below_board}
+use Rattle.heap_laws.proofs.Targets.Carried.{cell_of}
+use Rattle.heap_laws.proofs.Targets.Frames.{made_put, shown_beside}
 use Rattle.heap_laws.proofs.Targets.Rows.{storing_link_carries_targets}
 
 -- ---- a word of a cell
 
--- A word of a copied cell is stored, by a worker that knows something else of the chain then, if the chain stands after it.
+-- A word of a copied cell is stored, by a worker that knows something else of the chain then, if the chain stands after it, and targets
+-- show what they showed.
 abbrev pub CellWordsAreStored : Type 0
 CellWordsAreStored = (E : Era) (m : Memory) (team : Team) (g : Ghost) (k b i v : ℕ) (l : Option Linking) (p : Option Pass) → Ready E m team g k
     → IsCopiedCell E m.front g b → 0 < i → i < g.size b → v < 2 ^ 62 → Cells E (with_word m (b + i) v) (with_worker team k (with_chain_part (team.worker k) l p)) g
+    → ((records : plain.Heap) → TargetsShow E m g records → TargetsShow E (with_word m (b + i) v) g records)
     → Steps E m team g k (Some (WordIs (b + i) v)) (with_chain_part (team.worker k) l p) g
 
 module _ (E : Era) (m : Memory) (team : Team) (g : Ghost) (k b i v : ℕ) (l : Option Linking) (p : Option Pass) (ready : Ready E m team g k) (cell : IsCopiedCell E m.front g b) (inner : 0 < i) (room : i < g.size b) (small : v < 2 ^ 62)
-    (cells : Cells E (with_word m (b + i) v) (with_worker team k (with_chain_part (team.worker k) l p)) g) where
+    (cells : Cells E (with_word m (b + i) v) (with_worker team k (with_chain_part (team.worker k) l p)) g)
+    (targets : (records : plain.Heap) → TargetsShow E m g records → TargetsShow E (with_word m (b + i) v) g records) where
   abbrev inv : Invariant E m team g
   inv = ready.invariant
 
@@ -102,6 +107,7 @@ module _ (E : Era) (m : Memory) (team : Team) (g : Ghost) (k b i v : ℕ) (l : O
   shown : (p : plain.Plain) → Shown E m team g p → Shown E (with_word m (b + i) v) team g p
   shown p s = record {
     objects = record { shows = λ a st w y. let o = s.objects.shows a st w y in (o.0, o.1, shows a o.0 o.2) };
+    targets = targets p.heap s.targets;
     board = record { sixteen = s.board.sixteen; board = λ x l. rw (board_same x) (s.board.board x l) };
     as_many = s.as_many;
     makers = s.makers;
@@ -120,13 +126,13 @@ module _ (E : Era) (m : Memory) (team : Team) (g : Ghost) (k b i v : ℕ) (l : O
   cycle : (y : plain.Plain) → Cycle E m team g y → Cycle E later (with_worker team k w) g y
   cycle y before =
       let c = store_keeps_cycle E m team g y (b + i) v store inv before in
-      record { copying = c.copying; rooted = rooted_put team.worker k w refl refl refl (λ _ _ late done. (late, done)) c.rooted }
+      record { copying = c.copying; rooted = rooted_put team.worker k w refl refl refl (λ _ _ late done. (late, done)) c.rooted; made = made_put team.worker k w refl c.made }
 
   pub stores_cell : Steps E m team g k (Some (WordIs (b + i) v)) w g
   stores_cell = record {
     later = later;
     writes = InWord (b + i) v (let below = below_board ready b cell.stands in omega (arith, below, room));
-    keeps = record { invariant = slot_keeps E m team g k (b + i) v l p store ready cells; shown = λ y s. shown_put E later later team g k w y refl refl refl (shown y s); cycle = cycle; ages = λ page. omega arith };
+    keeps = record { invariant = slot_keeps E m team g k (b + i) v l p store ready cells; shown = λ y s. shown_put E later later team g k w y refl refl refl refl refl (λ e. e) (shown y s); cycle = cycle; ages = λ page. omega arith };
   }
 
 pub cell_words_are_stored : CellWordsAreStored
@@ -153,7 +159,7 @@ module _ (E : Era) (m : Memory) (team : Team) (g : Ghost) (k : ℕ) (l : Linking
 
   -- WEAK has this word, and the cells are known
   relinked : (n : Option Linking) (word : ℕ) → Cells E (with_weak m word) (after n) g → Preserves E m (with_weak m word) team (after n) g g
-  relinked n word cells = links E m team g k (with_linking me n) ready.invariant (assumption) (λ s e. (s, e, refl)) word m.weak_turn cells (let u = ready.invariant.workers k ready.member in assumption)
+  relinked n word cells = links E m team g k (with_linking me n) ready.invariant (assumption) (λ s e. (s, e, refl)) word m.weak_turn (λ e. e) cells (let u = ready.invariant.workers k ready.member in assumption)
 
   reads : (n : Linking) → n.cell ≡ l.cell → n.stored ≡ false → Steps E m team g k None (with_linking me (Some n)) g
   reads n cell loose = record {
@@ -181,7 +187,7 @@ module _ (E : Era) (m : Memory) (team : Team) (g : Ghost) (k : ℕ) (l : Linking
         ranks = before.ranks;
         chain = storing_link_carries_chain E m (with_word m (l.cell + 2) v) m.weak m.weak_turn team g before.ranks k l v (with_linking me (Some n)) ready has refl (InWord (l.cell + 2) v (omega (arith, below, room))) (like (Some n)) before.chain;
         targets = storing_link_carries_targets E m (with_word m (l.cell + 2) v) m.weak m.weak_turn team g before.ranks k l v ready has (InWord (l.cell + 2) v (omega (arith, below, room))) before.chain before.targets;
-      })
+      }) (shown_beside E m g (l.cell + 2) v ((words_no_targets ready).link l.cell (cell_of E m.front g l.cell mine.cell)))
 
   pub links_cell : l.read ≡ Some m.weak → l.stored ≡ true → l.cell + 1 < 2 ^ 62 → Steps E m team g k (Some (WeakIs (l.cell + 1))) (with_linking me None) g
   links_cell read stored small = record {

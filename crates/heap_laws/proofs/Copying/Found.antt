@@ -3,7 +3,7 @@ use Rattle.std.proofs.Common.{◌≡◌, ℕ, ◌+◌, ◌<◌, ◌≤◌, Some,
 use Rattle.heap_words.specs.Decoded.{PointerWord, decode}
 use Rattle.plain_state.specs.declared.value.Identity.{Identity}
 use Rattle.plain_state.specs.declared.value.Value.TheVariants.{Reference}
-use Rattle.heap_state.specs.Cycles.Cycle.{IsCopied, StillLeads}
+use Rattle.heap_state.specs.Cycles.Cycle.{StillLeads}
 use Rattle.heap_state.specs.Memory.Era.{Era, Memory, IsLaidOut}
 use Rattle.heap_state.specs.Invariant.Ghost.{Ghost, Leads, Lands}
 use Rattle.heap_state.specs.Invariant.Inductive.{Invariant}
@@ -11,6 +11,7 @@ use Rattle.heap_state.specs.Invariant.Parts.Copying.{Seeks}
 use Rattle.heap_state.specs.Meaning.Values.{value_of}
 use Rattle.heap_state.specs.Worker.{Team, Quest, Copy}
 use Rattle.heap_state.proofs.Puts.{some_same, none≢some}
+use Rattle.heap_state.specs.Targets.{IsCopied}
 use Rattle.heap_laws.proofs.Frames.Values.{pointer_same, value_from_pointer}
 
 -- v in the place of w

@@ -27,6 +27,8 @@ use Rattle.heap_laws.proofs.Copying.Roots.{asked_reachable}
 use Rattle.heap_laws.proofs.Copying.UnreadWords.{UnreadWord, opened_unread, landing_unread, older_unread, new_unread, space_unread, raw_unread, counts_unread, stocks_unread, origin_unread, scans_unread, objects_unread, board_unread}
 use Rattle.heap_laws.proofs.Copying.Words.{knows_unread, copying_unread, rooted_unread}
 use Rattle.heap_laws.proofs.Steps.Rows.{below_board}
+use Rattle.heap_laws.proofs.Targets.Frames.{made_put, shown_beside}
+use Rattle.heap_laws.proofs.Targets.ShownCopies.{shown_taken}
 
 -- a record whose own header stands in its place was not copied, and nobody keeps its header
 record Untaken (g : Ghost) (a len : ℕ) : Type 0 where
@@ -227,6 +229,8 @@ module _ (E : Era) (m : Memory) (team : Team) (g : Ghost) (k : ℕ) (q : Quest) 
             (λ (d : b ≢ a). o.shows b st w (rw (put_other g.keeper a (k + 1) b d) at y))
             (cases_eq b a);
       };
+      targets = shown_taken E (with_word m (a + 0) v) g k a found.copy p.heap
+          (shown_beside E m g (a + 0) v (rw (add-zero a) ((words_no_targets ready).first a old.0)) p.heap s.targets);
       board = board_unread unread_word m.heap v g.identity p.heap s.board;
       as_many = s.as_many;
       makers = s.makers;
@@ -238,6 +242,7 @@ module _ (E : Era) (m : Memory) (team : Team) (g : Ghost) (k : ℕ) (q : Quest) 
           (copying_unread E m.gate m.traced m.front m.low m.old_front m.old_low m.old_owed g m.page m.cross m.announced m.heap k a 0 v unread_word p inv.older cy.copying);
       rooted = rooted_put team.worker k w' refl refl refl (λ _ _ a b. (a, b))
           (rooted_unread E m.gate m.traced m.front m.low m.old_front m.old_low m.old_owed g m.page m.cross m.announced m.heap k a 0 v unread_word team.count team.worker p cy.rooted);
+      made = made_put team.worker k w' refl cy.made;
     };
   }
 

@@ -8,7 +8,7 @@ use Rattle.plain_state.specs.State as plain
 use Rattle.plain_state.specs.declared.value.Identity.{Identity}
 use Rattle.plain_state.specs.declared.value.Value.TheVariants.{Reference}
 use Rattle.plain_state.specs.Layout.{is_field, values_at, word_of_value}
-use Rattle.heap_state.specs.Cycles.Cycle.{Copying, Rooted, IsCopied, StillLeads}
+use Rattle.heap_state.specs.Cycles.Cycle.{Copying, Rooted, StillLeads}
 use Rattle.heap_state.specs.Memory.Era.{Era, Memory}
 use Rattle.heap_state.specs.Functions.{put}
 use Rattle.heap_state.specs.Invariant.Ghost.{Ghost, Here}
@@ -18,12 +18,15 @@ use Rattle.heap_state.specs.Worker.{Worker, Team, Quest, Copy, Linking}
 use Rattle.heap_state.proofs.Workers.Frames.{accounts_put, registers_put, rooted_put}
 use Rattle.heap_state.proofs.Puts.{put_at, put_other, some_same}
 use Rattle.heap_state.proofs.Records.Layouts.{count_stays, field_is_value, field_within, value_within, values_behind_header}
+use Rattle.heap_state.specs.Targets.{IsCopied}
 use Rattle.heap_laws.specs.Copying.{LinksCopy, has_published, published}
 use Rattle.heap_laws.specs.Steps.{with_worker, with_word, Preserves, Ready}
 use Rattle.heap_laws.proofs.Copying.Forward.{Publishing, mine, placed, from_written, unread_word, twin, copied_word, was_written, written_on, here_cases, old_target, invariant}
 use Rattle.heap_laws.proofs.Copying.UnreadWords.{here_same, inner_same, shows_unread, objects_unread, board_unread}
 use Rattle.heap_laws.proofs.Copying.Words.{rooted_unread}
 use Rattle.heap_laws.proofs.Frames.Values.{pointer_from_value, value_from_pointer, copied_within}
+use Rattle.heap_laws.proofs.Targets.Frames.{made_put}
+use Rattle.heap_laws.proofs.Targets.ShownPublished.{shown_published}
 
 module _ {E : Era} {m : Memory} {team : Team} {g : Ghost} {k : ℕ} {c : Copy} {q : Quest} {v : ℕ} {l : Option Linking} (publishing : Publishing E m team g k c q v l) where
   abbrev inv : Invariant E m team g
@@ -162,13 +165,14 @@ module _ {E : Era} {m : Memory} {team : Team} {g : Ghost} {k : ℕ} {c : Copy} {
     ages = λ page. omega arith;
     shown = λ p s. record {
       objects = objects p.heap s.objects;
+      targets = shown_published publishing p.heap s.targets;
       board = board_unread (unread_word publishing) m.heap v g.identity p.heap s.board;
       as_many = s.as_many;
       makers = s.makers;
       accounts = λ j x e. accounts_put team.worker k w' refl j x (s.accounts j x e);
       registers = λ j x e. registers_put team.worker k w' refl j x (s.registers j x e);
     };
-    cycle = λ p cy. record { copying = copying p cy.copying; rooted = rooted p cy.copying cy.rooted };
+    cycle = λ p cy. record { copying = copying p cy.copying; rooted = rooted p cy.copying cy.rooted; made = made_put team.worker k w' refl cy.made };
   }
 
   pub copy_published : Preserves E m (with_word m c.from v) team (with_worker team k w') g g'

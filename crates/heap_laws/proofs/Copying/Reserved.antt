@@ -8,7 +8,7 @@ use Rattle.plain_state.specs.declared.value.Identity.{Identity}
 use Rattle.plain_state.specs.declared.value.Value.TheVariants.{Reference}
 use Rattle.plain_state.specs.Layout.{is_field, word_of_value, size_of}
 use Rattle.space_map.specs.declared.area_word.AreaWord.{AreaWord}
-use Rattle.heap_state.specs.Cycles.Cycle.{Copying, Rooted, IsCopied, StillLeads, RootLeads, ByBoard, ByRegister}
+use Rattle.heap_state.specs.Cycles.Cycle.{Copying, MadeSince, Rooted, StillLeads, RootLeads, ByBoard, ByRegister}
 use Rattle.heap_state.specs.Memory.Era.{Era, Memory}
 use Rattle.heap_state.specs.Functions.{put}
 use Rattle.heap_state.specs.Invariant.Ghost.{Ghost, Here, IsField, Lands}
@@ -18,10 +18,13 @@ use Rattle.heap_state.specs.Worker.{Team, Copy, is_mutator}
 use Rattle.heap_state.proofs.Workers.Frames.{accounts_put, registers_put, rooted_put}
 use Rattle.heap_state.proofs.Puts.{put_at, put_other}
 use Rattle.heap_state.proofs.Records.Layouts.{value_within}
+use Rattle.heap_state.specs.Targets.{IsCopied}
 use Rattle.heap_laws.specs.Copying.{reserved, copying as in_progress}
 use Rattle.heap_laws.specs.Steps.{with_worker, with_area, Preserves, Ready, IsAreaNow}
 use Rattle.heap_laws.proofs.Copying.Reservation.{not_new, was, is, was_written, written_on, here_back, old_side, value_reserved}
 use Rattle.heap_laws.proofs.Copying.Reserving.{Reserving, w', g', mine, reservation, invariant}
+use Rattle.heap_laws.proofs.Targets.Frames.{made_put}
+use Rattle.heap_laws.proofs.Targets.ShownCopies.{copying_empties_nothing, shown_reserved}
 
 module _ {E : Era} {m : Memory} {team : Team} {g : Ghost} {k : ℕ} {c : Copy} (reserving : Reserving E m team g k c) where
   abbrev inv : Invariant E m team g
@@ -90,6 +93,7 @@ module _ {E : Era} {m : Memory} {team : Team} {g : Ghost} {k : ℕ} {c : Copy} (
   shown : (p : plain.Plain) → Shown E m team g p → Shown E (with_area m (c.to + c.size) m.low (m.owed - c.size)) (with_worker team k (w' reserving)) after p
   shown p s = record {
     objects = objects p.heap s.objects;
+    targets = shown_reserved (reservation reserving) m.low (m.owed - c.size) (copying_empties_nothing reserving.ready c reserving.has) inv.older inv.cells.targets p.heap s.targets;
     board = record { sixteen = s.board.sixteen; board = λ x l. value_reserved (reservation reserving) (m.heap (E.board + x)) (board_lands x l) ∙ s.board.board x l };
     as_many = s.as_many;
     makers = s.makers;
@@ -183,8 +187,18 @@ module _ {E : Era} {m : Memory} {team : Team} {g : Ghost} {k : ℕ} {c : Copy} (
       leads i (ByBoard x l s) = ByBoard x l (leads_on (m.heap (E.board + x)) i s)
       leads i (ByRegister j x l n d e s) = ByRegister j x l n d e (leads_on ((team.worker j).registers x) i s)
 
+  made : (p : plain.Plain) → MadeSince E m.low team.mutators g.size g.identity team.worker p → MadeSince E m.low team.mutators after.size after.identity (put team.worker k (w' reserving)) p
+  made p s = made_put team.worker k (w' reserving) refl (record {
+    new = λ a st low up.
+        let r = (reservation reserving).room in
+        let y = (reservation reserving).some in
+        let d : a ≢ c.to = λ e. omega (arith, e, r, y, low) in
+        rw (put_other g.identity c.to (g.identity c.from) a d) (s.new a (was (reservation reserving) a d st) low up);
+    grown = s.grown;
+  })
+
   pub preserves : Preserves E m (with_area m (c.to + c.size) m.low (m.owed - c.size)) team (with_worker team k (w' reserving)) g after
-  preserves = record { invariant = invariant reserving; ages = λ page. omega arith; shown = shown; cycle = λ p cy. record { copying = copying p cy.copying; rooted = rooted p cy.rooted } }
+  preserves = record { invariant = invariant reserving; ages = λ page. omega arith; shown = shown; cycle = λ p cy. record { copying = copying p cy.copying; rooted = rooted p cy.rooted; made = made p cy.made } }
 
 pub place_reserved : (E : Era) (m : Memory) (team : Team) (g : Ghost) (k : ℕ) (c : Copy) (area : AreaWord) → Ready E m team g k
     → (team.worker k).copy ≡ Some c → c.announced ≡ true → c.reserved ≡ false → c.to ≡ m.front → IsAreaNow E m area

@@ -25,11 +25,13 @@ use Rattle.heap_state.proofs.Records.Layouts.{values_behind_header}
 use Rattle.plain_state.specs.Layout.{word_of_value}
 use Rattle.heap_laws.specs.Copying.{copying, IsNextWord}
 use Rattle.heap_laws.specs.Steps.{Ready, InWord, with_worker, with_word, Preserves}
+use Rattle.heap_laws.specs.Targets.Frames.{IsNoTarget}
 use Rattle.heap_laws.proofs.Cells.Kept.{word_keeps, words_no_targets, words_unread}
 use Rattle.heap_laws.proofs.Copying.InProgress.{knows_copying, copies_in_chain}
 use Rattle.heap_laws.proofs.Copying.UnreadWords.{UnreadWord, opened_unread, landing_unread, older_unread, new_unread, space_unread, raw_unread, counts_unread, stocks_unread, origin_unread, scans_unread, copies_unread, keeps_unread, shows_unread, objects_unread, board_unread, here_same, inner_same, board_same}
 use Rattle.heap_laws.proofs.Frames.Values.{one_place, copied_within}
 use Rattle.heap_laws.proofs.Steps.Rows.{below_board}
+use Rattle.heap_laws.proofs.Targets.Frames.{made_put, shown_beside}
 
 -- ---- any write at a unread_word
 
@@ -135,13 +137,16 @@ module _ (E : Era) (m : Memory) (team : Team) (g : Ghost) (k : ℕ) (c : Copy) (
       by_word (inr q) = let p = (mine.loaded v q).0 in let y : c.to ≢ c.to + c.done = omega (arith, p) in rw (put_other m.heap (c.to + c.done) v c.to y) ((me.keeps c has).head p)
 
   -- the place is written, so it isn't a cell
+  no_target : IsNoTarget g (c.to + c.done)
+  no_target = (words_no_targets ready).of_others c.to c.done (omega (arith, placed.3, more)) (λ z. let w = z.written in omega (arith, w, placed.2))
+
   cells : Cells E (with_word m (c.to + c.done) v) (with_worker team k w') g
   cells =
       let inside : c.done < g.size c.to = omega (arith, placed.3, more) in
       let below = below_board ready c.to (omega (arith, inside)) in
       word_keeps E m (with_word m (c.to + c.done) v) team g g k (c.to + c.done) v w' (InWord (c.to + c.done) v (omega (arith, below, inside)))
       ((words_unread ready).of_others c.to c.done inside (λ z. let w = z.written in omega (arith, w, placed.2)))
-      ((words_no_targets ready).of_others c.to c.done inside (λ z. let w = z.written in omega (arith, w, placed.2))) (record { size = refl; writer = refl; kind = refl; copy = refl })
+      no_target (record { size = refl; writer = refl; kind = refl; copy = refl })
       (copies_in_chain E (team.worker k) further) inv.cells
 
   invariant : Invariant E (with_word m (c.to + c.done) v) (with_worker team k w') g
@@ -173,6 +178,7 @@ module _ (E : Era) (m : Memory) (team : Team) (g : Ghost) (k : ℕ) (c : Copy) (
     ages = λ page. omega arith;
     shown = λ p s. record {
       objects = objects_unread unread_word m.heap v g.copy g.keeper g.kind g.identity p.heap s.objects;
+      targets = shown_beside E m g (c.to + c.done) v no_target p.heap s.targets;
       board = board_unread unread_word m.heap v g.identity p.heap s.board;
       as_many = s.as_many;
       makers = s.makers;
@@ -183,5 +189,6 @@ module _ (E : Era) (m : Memory) (team : Team) (g : Ghost) (k : ℕ) (c : Copy) (
       copying = copying_unread E m.gate m.traced m.front m.low m.old_front m.old_low m.old_owed g m.page m.cross m.announced m.heap k c.to c.done v unread_word p inv.older cy.copying;
       rooted = rooted_put team.worker k w' refl refl refl (λ _ _ a b. (a, b))
           (rooted_unread E m.gate m.traced m.front m.low m.old_front m.old_low m.old_owed g m.page m.cross m.announced m.heap k c.to c.done v unread_word team.count team.worker p cy.rooted);
+      made = made_put team.worker k w' refl cy.made;
     };
   }

@@ -8,7 +8,7 @@ use Rattle.plain_state.specs.State as plain
 use Rattle.plain_state.specs.declared.value.Value.TheVariants.{Reference}
 use Rattle.plain_state.specs.declared.value.Identity.{Identity}
 use Rattle.plain_state.specs.Layout.{word_of_value}
-use Rattle.heap_state.specs.Cycles.Cycle.{Cycle, Copying, Rooted, RootLeads, ByBoard, ByRegister, StillLeads, IsCopied}
+use Rattle.heap_state.specs.Cycles.Cycle.{Cycle, Copying, Rooted, RootLeads, ByBoard, ByRegister, StillLeads}
 use Rattle.heap_state.specs.Memory.Era.{Era, Memory}
 use Rattle.heap_state.specs.Functions.{put}
 use Rattle.heap_state.specs.Invariant.Ghost.{Ghost, Here}
@@ -17,6 +17,7 @@ use Rattle.heap_state.specs.Meaning.Values.{value_of, Shows}
 use Rattle.heap_state.specs.Worker.{Team}
 use Rattle.heap_state.proofs.Puts.{put_other, each_put}
 use Rattle.heap_state.proofs.Records.Layouts.{values_behind_header}
+use Rattle.heap_state.specs.Targets.{IsCopied}
 use Rattle.heap_laws.specs.Fields.Words.{IsWordOf, MayStore}
 use Rattle.heap_laws.specs.Fields.Held.{MayHold}
 use Rattle.heap_laws.specs.Steps.{with_word}
@@ -61,7 +62,7 @@ module _ (E : Era) (m : Memory) (team : Team) (g : Ghost) (p : plain.Plain) (x v
       by_root i (ByRegister k r a b t d s) = inr (ByRegister k r a b t d s)
 
   pub slot_keeps_cycle : Cycle E (with_word m x v) team g p
-  slot_keeps_cycle = record { copying = copying; rooted = rooted }
+  slot_keeps_cycle = record { copying = copying; rooted = rooted; made = cy.made }
 
 -- on an open page nothing leads into the old space
 pub store_keeps_cycle : (E : Era) (m : Memory) (team : Team) (g : Ghost) (p : plain.Plain) (x v : ℕ) → Stores E m g x v → Invariant E m team g → Cycle E m team g p → Cycle E (with_word m x v) team g p

@@ -1,27 +1,31 @@
 -- What a running mutator's registers, and the words that it accesses, are to the plain machine.
-use Rattle.std.proofs.Common.{◌≡◌, ◌≢◌, ℕ, ◌+◌, ◌-◌, ◌/◌, ◌<◌, length, get_or, slice_get, Some, refl, sym, ap, ◌∙◌, subst, arith, inl}
+use Rattle.std.proofs.Common.{◌≡◌, ℕ, ◌+◌, ◌-◌, ◌/◌, ◌<◌, length, get_or, slice_get, Option, Some, refl, sym, ap, ◌∙◌, subst, arith, inl, ⊎_elim}
+use Rattle.std.specs.Option.{option_and_then}
 use Rattle.std.proofs.lemmas.Bool.{ltb-true}
 use Rattle.std.proofs.lemmas.Option.{slice_get-get_or}
 use Rattle.heap_words.proofs.Decoding.{decode-number_word}
 use Rattle.heap_words.specs.Decoded.{Decoded, NumberWord, PointerWord, HeaderWord, ForwardWord, BusyWord, Malformed, decode, number_in}
 use Rattle.plain_state.specs.declared.sizes.TheConstants.{NUMBERS}
 use Rattle.heap_words.specs.Word.{number_word}
+use Rattle.plain_state.specs.Cells.{cell_of, value_of_cell}
 use Rattle.plain_state.specs.Layout.{is_field, values_at, words_behind, word_of_value}
 use Rattle.plain_state.specs.State as plain
 use Rattle.plain_state.specs.declared.kind.Kind.{Kind}
+use Rattle.plain_state.specs.declared.kind.Kind.TheVariants.{Weak}
 use Rattle.plain_state.specs.declared.value.Identity.{Identity}
 use Rattle.plain_state.specs.declared.value.Value.{Value}
 use Rattle.plain_state.specs.declared.value.Value.TheVariants.{Number}
 use Rattle.heap_state.specs.Memory.Era.{Era, Memory}
 use Rattle.heap_state.specs.Invariant.Ghost.{Ghost, header_kind}
-use Rattle.heap_state.specs.Invariant.Parts.Knowledge.{HasRole}
-use Rattle.heap_state.specs.Meaning.Values.{value_of, Shown, Shows}
-use Rattle.heap_state.specs.Worker.{Team, Role, FieldRole, NumberRole, UnknownRole, Access}
+use Rattle.heap_state.specs.Invariant.Parts.Knowledge.{HasRole, Accesses}
+use Rattle.heap_state.specs.Meaning.Values.{value_of, MayBeEmptied, Shown, Shows}
+use Rattle.heap_state.specs.Targets.{IsCell}
+use Rattle.heap_state.specs.Worker.{Team, Role, FieldRole, NumberRole, TargetRole, UnknownRole, Access}
 use Rattle.heap_state.proofs.Records.Headers.{said_there}
 use Rattle.heap_state.proofs.Records.Holding.{uncopied_here}
 use Rattle.heap_state.proofs.Records.Layouts.{raw_is_no_field, field_within, number_within}
 use Rattle.heap_state.proofs.Puts.{some_same, true_false, none≢some}
-use Rattle.heap_laws.specs.Fields.Effects.{MutatorsAreShown, RegistersHold, HeadersSay, CountsAreRead, word_held, word_stored, FitsRole, IsValueOf, AccessesAreValues, BoardWordsAreValues}
+use Rattle.heap_laws.specs.Fields.Effects.{MutatorsAreShown, RegistersHold, HeadersSay, CountsAreRead, word_held, word_stored, FitsRole, IsValueOf, IsFieldOrNumber, AccessesAreValues, IsTargetOf, TargetsAreValues, BoardWordsAreValues}
 use Rattle.heap_laws.specs.Fields.Words.{IsWordOf, IsAccessed, MayStore, StandsFor}
 use Rattle.heap_laws.specs.Fields.Held.{HoldsValue}
 use Rattle.heap_laws.specs.Opening.{opening_mutator}
@@ -29,6 +33,7 @@ use Rattle.heap_laws.specs.Steps.{Ready}
 use Rattle.heap_laws.proofs.Fields.Shown.{headers_are_read, registers_are_held, numbers_are_held}
 use Rattle.heap_laws.proofs.Fields.Stored.{accesses_are_allowed, words_are_loaded, board_is_loaded}
 use Rattle.heap_laws.proofs.Frames.Values.{value_from_pointer}
+use Rattle.heap_laws.proofs.Targets.Traced.{traced_targets_are_held}
 
 -- ---- words
 
@@ -126,7 +131,7 @@ counts_are_read E m team g p k f ready s has unknown =
 -- ---- words of records
 
 module _ (E : Era) (m : Memory) (team : Team) (g : Ghost) (p : plain.Plain) (k : ℕ) (f : Access) (x : ℕ) (ready : Ready E m team g k) (s : Shown E m team g p) (has : (team.worker k).access ≡ Some f)
-    (known : f.role ≢ UnknownRole) (opened : (team.worker k).opened ≡ Some ((f.at + f.word) / 64)) (at : f.word ≡ word_of_value (g.kind f.at) x) where
+    (known : IsFieldOrNumber f.role) (opened : (team.worker k).opened ≡ Some ((f.at + f.word) / 64)) (at : f.word ≡ word_of_value (g.kind f.at) x) where
   abbrev kind : Kind
   kind = g.kind f.at
 
@@ -157,10 +162,11 @@ module _ (E : Era) (m : Memory) (team : Team) (g : Ghost) (p : plain.Plain) (k :
   within : x < length r.values
   within = by_role f.role known role_there
     where
-      by_role : (role : Role) → role ≢ UnknownRole → HasRole kind (word_of_value kind x) role → x < length r.values
+      by_role : (role : Role) → IsFieldOrNumber role → HasRole kind (word_of_value kind x) role → x < length r.values
       by_role FieldRole is t = field_within r shows x t word.last
       by_role NumberRole is t = number_within r shows x t word.last
-      by_role UnknownRole is t = absurd (is refl)
+      by_role TargetRole is t = absurd is
+      by_role UnknownRole is t = absurd is
 
   value_is : slice_get r.values x ≡ Some y
   value_is = slice_get-get_or r.values x (Number 0) within
@@ -169,10 +175,11 @@ module _ (E : Era) (m : Memory) (team : Team) (g : Ghost) (p : plain.Plain) (k :
   may = words_are_loaded E m team g k f.at x ready word (rw place at there.opens)
 
   -- by what stands there
-  loaded : (role : Role) → role ≢ UnknownRole → HasRole kind (word_of_value kind x) role → HoldsValue E g (word_held role (m.heap (f.at + word_of_value kind x))) y
+  loaded : (role : Role) → IsFieldOrNumber role → HasRole kind (word_of_value kind x) role → HoldsValue E g (word_held role (m.heap (f.at + word_of_value kind x))) y
   loaded FieldRole is t = record { held = may.held t; denotes = shows.fields x within t ∙ value_is }
   loaded NumberRole is t = let e : Number (m.heap (f.at + word_of_value kind x)) ≡ y = some_same (shows.numbers x within t ∙ value_is) in rw (← e) (holds_number E g (m.heap (f.at + word_of_value kind x)) (may.number (raw_is_no_field kind (word_of_value kind x) t)))
-  loaded UnknownRole is t = absurd (is refl)
+  loaded TargetRole is t = absurd is
+  loaded UnknownRole is t = absurd is
 
   stored : (role : Role) → HasRole kind (word_of_value kind x) role → (w v : ℕ) (u : Value) → HoldsValue E g w u → word_stored role w ≡ Some v → FitsRole role v
       → MayStore E g.size g.writer kind x v × StandsFor g kind x v u
@@ -187,6 +194,7 @@ module _ (E : Era) (m : Memory) (team : Team) (g : Ghost) (p : plain.Plain) (k :
         record { held = λ o. true_false n o; number = λ _. fits },
         record { denotes = λ o. true_false n o; number = λ _. some_same (sym (value_of_number g.identity w v d) ∙ holds.denotes) },
       )
+  stored TargetRole t w v u holds e fits = none≢some e
   stored UnknownRole t w v u holds e fits = none≢some e
 
   is_value : IsValueOf E m g p f x
@@ -205,6 +213,61 @@ module _ (E : Era) (m : Memory) (team : Team) (g : Ghost) (p : plain.Plain) (k :
 
 pub accesses_are_values : AccessesAreValues
 accesses_are_values = is_value
+
+-- ---- targets of cells
+
+module _ (E : Era) (m : Memory) (team : Team) (g : Ghost) (p : plain.Plain) (k : ℕ) (f : Access) (ready : Ready E m team g k) (s : Shown E m team g p)
+    (a : Accesses E g.size g.writer g.kind f) (has : HasRole (g.kind f.at) f.word TargetRole) (traced : m.traced ≡ E.epoch + 1) where
+  here : IsCell g f.at
+  here = record { stands = a.stands; written = a.written; weak = has.0 }
+
+  cell_shown : (r : plain.Record) × (plain.record_of p.heap (g.identity f.at) ≡ Some r) × Shows (value_of g.identity) m.heap f.at (g.kind f.at) (g.size f.at) r
+  cell_shown = s.objects.shows f.at a.stands a.written (inl (uncopied_here E m team g ready.invariant ready.laid_out f.at a.stands a.inside.0 a.inside.1).0)
+
+  abbrev cell : plain.Record
+  cell = cell_shown.0
+
+  kind_there : cell.kind ≡ Weak
+  kind_there = cell_shown.2.kind ∙ has.0
+
+  has_value : 0 < length cell.values
+  has_value =
+      let z = cell_shown.2.size in
+      let b = ap values_at kind_there in
+      let n = ap words_behind kind_there in
+      let three = ready.invariant.cells.chain.three f.at a.stands has.0 in
+      omega (arith, z, b, n, three)
+
+  abbrev target : Value
+  target = get_or cell.values 0 (Number 0)
+
+  target_there : slice_get cell.values 0 ≡ Some target
+  target_there = slice_get-get_or cell.values 0 (Number 0) has_value
+
+  cell_is : cell_of p.heap (g.identity f.at) ≡ Some target
+  cell_is = ap (λ (o : Option plain.Record). option_and_then value_of_cell o) cell_shown.1 ∙ rw kind_there target_there
+
+  -- nothing is emptied in a traced epoch
+  denotes_it : value_of g.identity (m.heap (f.at + 1)) ≡ Some target
+  denotes_it = ⊎_elim
+      (λ (e : value_of g.identity (m.heap (f.at + 1)) ≡ Some target). e)
+      (λ (e : MayBeEmptied E m g f.at target). absurd (let l = e.walked.0 in omega (arith, l, traced)))
+      (s.targets.shows f.at target (record { cell = here; place = inl a.inside }) cell_is)
+
+  is_target : IsTargetOf E m g p f
+  is_target = record {
+    record_there = cell;
+    is = cell_shown.1;
+    value = target;
+    there = target_there;
+    loaded = subst (λ (n : ℕ). HoldsValue E g (m.heap (f.at + n)) target) (sym has.1) (record { held = traced_targets_are_held E m team g k f.at ready traced here a.inside.0 a.inside.1 ready.invariant.cells.targets; denotes = denotes_it });
+  }
+
+pub targets_are_values : TargetsAreValues
+targets_are_values E m team g p k f ready s has role seen =
+    let knows = ready.invariant.workers k ready.member in
+    let a = knows.access f has in
+    is_target E m team g p k f ready s a (subst (HasRole (g.kind f.at) f.word) role a.role) (knows.seen_traced seen).1
 
 -- ---- words of the board
 

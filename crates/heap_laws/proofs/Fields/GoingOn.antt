@@ -26,6 +26,7 @@ use Rattle.plain_state.proofs.Lists.{slice_get-set_other, set-found}
 use Rattle.heap_laws.proofs.Scanning.Scanners.{now_not_late}
 use Rattle.heap_laws.proofs.Frames.Values.{still_leads}
 use Rattle.heap_laws.proofs.Cells.Kept.{same_keeps, in_chain, less_in_chain}
+use Rattle.heap_laws.proofs.Targets.Frames.{made_put}
 use Rattle.heap_laws.proofs.Steps.Composing.{knows_less}
 use Rattle.heap_laws.proofs.Steps.Forgotten.{same_round}
 use Rattle.space_map.specs.declared.spaces.TheConstants.{PAGE_WORDS}
@@ -163,7 +164,11 @@ GoingOnKeepsCycle = (E : Era) (m : Memory) (team : Team) (g : Ghost) (p : Plain)
     → is_running (team.worker k).post ≡ true → MutatorGoesOn E m g (team.worker k) next → Cycle E m team g p → Cycle E m (with_worker team k next) g p
 
 pub going_on_keeps_cycle : GoingOnKeepsCycle
-going_on_keeps_cycle E m team g p k next inv l run goes cy = record { copying = cy.copying; rooted = rooted E m team g k next inv l run goes p cy.rooted }
+going_on_keeps_cycle E m team g p k next inv l run goes cy = record {
+  copying = cy.copying;
+  rooted = rooted E m team g k next inv l run goes p cy.rooted;
+  made = made_put team.worker k next goes.serial cy.made;
+}
 
 -- ---- the plain state
 
@@ -176,6 +181,7 @@ GoingOnShows = (E : Era) (m : Memory) (team : Team) (g : Ghost) (p : Plain) (k :
 pub going_on_shows : GoingOnShows
 going_on_shows E m team g p k next q s same shows = record {
   objects = s.objects;
+  targets = s.targets;
   board = s.board;
   as_many = length-set p.mutators k q ∙ s.as_many;
   makers = s.makers;

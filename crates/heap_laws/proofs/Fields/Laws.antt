@@ -16,6 +16,7 @@ use Rattle.heap_state.proofs.Represents.Snapped.{snaps_show}
 use Rattle.heap_laws.specs.Fields.Held.{MutatorGoesOn, with_mutator, GoesOnSo}
 use Rattle.heap_laws.specs.Steps.{with_word, with_worker, Makes, NoRow, InWord}
 use Rattle.heap_laws.specs.Fields.Stores.{IsAs, MutatorsStep, MutatorsStore, MutatorsStoreOnBoard, MutatorsSnap, MutatorsEnd, MutatorsFindNoRoom, with_end, MutatorsLearn}
+use Rattle.heap_laws.proofs.Cells.Kept.{words_no_targets}
 use Rattle.heap_laws.proofs.Fields.Cycle.{stores_keep_cycle, board_stores_keep_cycle}
 use Rattle.heap_laws.proofs.Fields.Shown.{stores_show, board_stores_show}
 use Rattle.heap_laws.proofs.Fields.Stored.{words_are_stored, board_is_stored}
@@ -39,8 +40,8 @@ pub mutators_step : MutatorsStep
 mutators_step E m team g p k next q ready runs s goes same = record { later = m; writes = NoRow; makes = goes_as E m team g p k next q ready.invariant ready.member runs s goes same }
 
 pub goes_on_so : GoesOnSo
-goes_on_so E m team g k account registers access opened ready serial accesses opens holds =
-    let seen : (team.worker k).traced_seen ≡ true → m.traced ≡ E.epoch + 1 = λ e. ((ready.invariant.workers k ready.member).seen_traced e).1 in
+goes_on_so E m team g k account registers access opened seen ready serial accesses opens holds saw =
+    let traced : seen ≡ true → m.traced ≡ E.epoch + 1 = λ e. ((ready.invariant.workers k ready.member).seen_traced (saw e)).1 in
     let size : (p : ℕ) → (team.worker k).size_seen ≡ Some p → E.span ≡ PAGE_WORDS * p = λ p e. ((ready.invariant.workers k ready.member).size_seen p e).1 in
     assumption
 
@@ -50,7 +51,7 @@ mutators_learn E m team g k next ready runs goes account registers = record {
   writes = NoRow;
   keeps = record {
     invariant = mutators_go_on E m team g k next ready.invariant ready.member runs goes;
-    shown = λ p s. shown_put E m m team g k next p account registers refl s;
+    shown = λ p s. shown_put E m m team g k next p account registers refl refl refl (λ e. e) s;
     cycle = λ p cy. going_on_keeps_cycle E m team g p k next ready.invariant ready.member runs goes cy;
     ages = λ page. omega arith;
   };
@@ -73,22 +74,24 @@ pub mutators_store : MutatorsStore
 mutators_store E m team g p k next q a x v r y ready runs s other word opens may is stands goes same =
     let inv = words_are_stored E m team g k ready a x v other word opens may in
     let account = accounts_in (stored_serial p.heap (g.identity a) r x y is k) same.account in
+    let none = (words_no_targets ready).of_others a (word_of_value (g.kind a) x) word.last (λ c. other c.weak) in
     record {
       later = with_word m (a + word_of_value (g.kind a) x) v;
       writes = InWord (a + word_of_value (g.kind a) x) v (let l = ready.invariant.laid.lies a word.stands in let o = ready.invariant.laid.order in let lay = ready.laid_out in let z = word.last in omega (arith, l, o, lay.below, lay.old_below, z));
       makes = both (λ o cy. stores_keep_cycle E m team g o a x v ready.laid_out ready.invariant word opens may cy) (λ page. omega arith)
-          (goes_as E _ team g _ k next q inv ready.member runs (stores_show E m team g p a x v r y ready.laid_out ready.invariant word is stands s)
+          (goes_as E _ team g _ k next q inv ready.member runs (stores_show E m team g p a x v r y ready.laid_out ready.invariant word other none is stands s)
           (goes_on (a + word_of_value (g.kind a) x) v goes) (record { account = account; registers = same.registers }));
     }
 
 pub mutators_store_on_board : MutatorsStoreOnBoard
 mutators_store_on_board E m team g p k next q x v y ready runs s l opens holds goes same =
     let inv = board_is_stored E m team g k ready x v l opens holds.held in
+    let none = (words_no_targets ready).board (E.board + x) (omega arith) in
     record {
       later = with_word m (E.board + x) v;
       writes = InWord (E.board + x) v (omega (arith, l));
       makes = both (λ o cy. board_stores_keep_cycle E m team g o x v ready.laid_out ready.invariant l opens holds.held cy) (λ page. omega arith)
-          (goes_as E _ team g _ k next q inv ready.member runs (board_stores_show E m team g p x v y ready.laid_out ready.invariant l holds.denotes s)
+          (goes_as E _ team g _ k next q inv ready.member runs (board_stores_show E m team g p x v y ready.laid_out ready.invariant l none holds.denotes s)
           (goes_on (E.board + x) v goes) (record { account = accounts_in refl same.account; registers = same.registers }));
     }
 
@@ -107,7 +110,7 @@ mutators_end E m team g p k q why ready runs s is =
     let r = s.registers k q is in
     let w = team.worker k in
     let goes : MutatorGoesOn E m g w (with_end w why) =
-    goes_on_so E m team g k (record w.account { end = Some why }) w.registers None None ready refl (λ f e. none≢some e) (λ x e. none≢some e) (λ n. none≢some (sym n)) in
+    goes_on_so E m team g k (record w.account { end = Some why }) w.registers None None w.traced_seen ready refl (λ f e. none≢some e) (λ x e. none≢some e) (λ n. none≢some (sym n)) (λ e. e) in
     mutators_step E m team g p k (with_end (team.worker k) why) (record q { end = Some why }) ready runs s goes
     (record {
       account = record { counter = a.counter; printed = a.printed; executed = a.executed; end = refl; serial = a.serial };

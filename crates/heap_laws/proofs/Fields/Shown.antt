@@ -4,6 +4,7 @@ use Rattle.plain_state.specs.Writing.{with_board}
 use Rattle.std.proofs.Common.{◌≡◌, ◌≢◌, ℕ, zero, suc, ◌+◌, ◌<◌, ◌≤◌, Some, refl, sym, ap, ◌∙◌, arith, ⊎_elim, ◌⊎◌, inl, length, slice_get}
 use Rattle.std.proofs.Math.ListN.{length-set}
 use Rattle.std.proofs.lemmas.Bool.{cases_eq}
+use Rattle.plain_state.specs.declared.kind.Kind.TheVariants.{Weak}
 use Rattle.plain_state.specs.State as plain
 use Rattle.plain_state.specs.declared.value.Identity.{Identity}
 use Rattle.plain_state.specs.declared.value.Value.{Value}
@@ -13,7 +14,7 @@ use Rattle.heap_state.specs.Memory.Era.{Era, IsLaidOut, Memory}
 use Rattle.heap_state.specs.Functions.{put}
 use Rattle.heap_state.specs.Invariant.Ghost.{Ghost, Leads, Lands}
 use Rattle.heap_state.specs.Invariant.Inductive.{Invariant}
-use Rattle.heap_state.specs.Meaning.Values.{value_of, Shows, Shown}
+use Rattle.heap_state.specs.Meaning.Values.{value_of, Shows, Shown, TargetsShow}
 use Rattle.heap_state.specs.Worker.{Team}
 use Rattle.heap_state.proofs.Puts.{put_at, put_other, some_same}
 use Rattle.heap_state.proofs.Records.Layouts.{count_stays}
@@ -21,10 +22,13 @@ use Rattle.heap_laws.specs.Fields.Words.{IsWordOf, StandsFor, IsLedTo, HeadersAr
 use Rattle.heap_laws.specs.Fields.Held.{MayHold}
 use Rattle.heap_state.proofs.Puts.{true_false}
 use Rattle.heap_laws.specs.Steps.{with_word}
+use Rattle.heap_laws.specs.Targets.Frames.{IsNoTarget}
+use Rattle.heap_laws.proofs.Fields.PlainCells.{stored_keeps_cells}
 use Rattle.heap_laws.proofs.Frames.OtherWords.{shows_same}
 use Rattle.plain_state.proofs.Stored.{stored_there, stored_elsewhere, stored_serial, stored_makers}
 use Rattle.plain_state.proofs.Lists.{slice_get-set_same, slice_get-set_other}
 use Rattle.heap_laws.proofs.Frames.Values.{one_place}
+use Rattle.heap_laws.proofs.Targets.Frames.{shown_beside, shown_of_others}
 
 -- ---- records of the epoch's space
 
@@ -61,9 +65,10 @@ module _ (E : Era) (m : Memory) (team : Team) (g : Ghost) (lay : IsLaidOut E) (i
 
 -- ---- stores
 
--- the store in a word of a record
+-- the store in a word of a record that is no cell
 module _ (E : Era) (m : Memory) (team : Team) (g : Ghost) (p : plain.Plain) (a x v : ℕ) (r : plain.Record) (y : Value) (lay : IsLaidOut E) (inv : Invariant E m team g)
-    (f : IsWordOf E g.size g.writer g.kind a x) (is : plain.record_of p.heap (g.identity a) ≡ Some r) (may : StandsFor g (g.kind a) x v y) (s : Shown E m team g p) where
+    (f : IsWordOf E g.size g.writer g.kind a x) (other : g.kind a ≢ Weak) (none : IsNoTarget g (a + word_of_value (g.kind a) x))
+    (is : plain.record_of p.heap (g.identity a) ≡ Some r) (may : StandsFor g (g.kind a) x v y) (s : Shown E m team g p) where
   abbrev i : ℕ
   i = word_of_value (g.kind a) x
 
@@ -123,6 +128,10 @@ module _ (E : Era) (m : Memory) (team : Team) (g : Ghost) (p : plain.Plain) (a x
   board_stays : (x : ℕ) → x < 16 → h (E.board + x) ≡ m.heap (E.board + x)
   board_stays x l = put_other m.heap (a + i) v (E.board + x) (λ e. let q = inv.laid.lies a f.stands in omega (arith, e, q, inv.laid.order, lay.below, lay.old_below, f.last))
 
+  targets : TargetsShow E (with_word m (a + i) v) g after
+  targets = shown_of_others E (with_word m (a + i) v) g p.heap after (stored_keeps_cells p.heap (g.identity a) r x y is (λ e. other (sym was.kind ∙ e)))
+      (shown_beside E m g (a + i) v none p.heap s.targets)
+
   pub shows_store : Shown E (with_word m (a + i) v) team g (with_heap p after)
   shows_store = record {
     objects = record {
@@ -131,6 +140,7 @@ module _ (E : Era) (m : Memory) (team : Team) (g : Ghost) (p : plain.Plain) (a x
           (λ (d : b ≢ a). elsewhere b st w o d)
           (cases_eq b a);
     };
+    targets = targets;
     board = record { sixteen = s.board.sixteen; board = λ x l. rw (board_stays x l) (s.board.board x l) };
     as_many = s.as_many;
     makers = stored_makers p.heap (g.identity a) r x y is ∙ s.makers;
@@ -141,19 +151,21 @@ module _ (E : Era) (m : Memory) (team : Team) (g : Ghost) (p : plain.Plain) (a x
 -- the plain heap changes at that word alone
 abbrev pub StoresShow : Type 0
 StoresShow = (E : Era) (m : Memory) (team : Team) (g : Ghost) (p : plain.Plain) (a x v : ℕ) (r : plain.Record) (y : Value) → IsLaidOut E → Invariant E m team g
-    → IsWordOf E g.size g.writer g.kind a x → plain.record_of p.heap (g.identity a) ≡ Some r → StandsFor g (g.kind a) x v y
-    → Shown E m team g p → Shown E (with_word m (a + word_of_value (g.kind a) x) v) team g (with_heap p (stored p.heap (g.identity a) r x y))
+    → IsWordOf E g.size g.writer g.kind a x → g.kind a ≢ Weak → IsNoTarget g (a + word_of_value (g.kind a) x)
+    → plain.record_of p.heap (g.identity a) ≡ Some r → StandsFor g (g.kind a) x v y → Shown E m team g p
+    → Shown E (with_word m (a + word_of_value (g.kind a) x) v) team g (with_heap p (stored p.heap (g.identity a) r x y))
 
 pub stores_show : StoresShow
 stores_show = shows_store
 
 abbrev pub BoardStoresShow : Type 0
 BoardStoresShow = (E : Era) (m : Memory) (team : Team) (g : Ghost) (p : plain.Plain) (x v : ℕ) (y : Value) → IsLaidOut E → Invariant E m team g → x < 16
-    → value_of g.identity v ≡ Some y → Shown E m team g p → Shown E (with_word m (E.board + x) v) team g (with_heap p (with_board p.heap x y))
+    → IsNoTarget g (E.board + x) → value_of g.identity v ≡ Some y → Shown E m team g p
+    → Shown E (with_word m (E.board + x) v) team g (with_heap p (with_board p.heap x y))
 
 -- the store on the board
 pub board_stores_show : BoardStoresShow
-board_stores_show E m team g p x v y lay inv l denotes s = record {
+board_stores_show E m team g p x v y lay inv l none denotes s = record {
   objects = record {
     shows = λ b st w o.
         let q = s.objects.shows b st w o in
@@ -163,6 +175,8 @@ board_stores_show E m team g p x v y lay inv l denotes s = record {
           shows_same q.0 (λ j f u. off b st j u) t,
         );
   };
+  targets = shown_of_others E (with_word m (E.board + x) v) g p.heap (with_board p.heap x y) (λ _ _ is. is)
+      (shown_beside E m g (E.board + x) v none p.heap s.targets);
   board = record {
     sixteen = length-set p.heap.board x y ∙ s.board.sixteen;
     board = λ z u. ⊎_elim

@@ -10,7 +10,7 @@ use Rattle.plain_state.specs.Reachable.{Reachable, FromRegister, FromBoard}
 use Rattle.plain_state.specs.State as plain
 use Rattle.space_map.specs.declared.gate_word.GateWord.{GateWord}
 use Rattle.heap_state.specs.Cells.{no_ranks}
-use Rattle.heap_state.specs.Cycles.Cycle.{Cycle, Copying, Rooted, RootLeads, ByBoard, ByRegister, IsRoot, InRegister, OnTheBoard, StillLeads}
+use Rattle.heap_state.specs.Cycles.Cycle.{Cycle, Copying, MadeSince, Rooted, RootLeads, ByBoard, ByRegister, IsRoot, InRegister, OnTheBoard, StillLeads}
 use Rattle.heap_state.specs.Memory.Era.{Era, Memory, IsLaidOut, era_of, memory_of}
 use Rattle.heap_state.specs.Functions.{put, sum_below, count_one}
 use Rattle.heap_state.specs.Invariant.Ghost.{Ghost, Here, OnBoard, Lands, Leads}
@@ -18,7 +18,7 @@ use Rattle.heap_state.specs.Invariant.Inductive.{Invariant, Knows}
 use Rattle.heap_state.specs.Invariant.Parts.Gate.{Counted, Staffed}
 use Rattle.heap_state.specs.Invariant.Parts.Stocks.{Stocks, Numbered}
 use Rattle.heap_state.specs.Memory.Table.{Table}
-use Rattle.heap_state.specs.Meaning.Values.{Shown, value_of}
+use Rattle.heap_state.specs.Meaning.Values.{MayBeEmptied, Shown, TargetsShow, value_of}
 use Rattle.heap_state.specs.Worker.{Worker, Team, Post, Stopped, Reset, is_mutator, is_live, is_running, is_gone, is_behind, is_late, is_asking}
 use Rattle.heap_state.proofs.Table.Seen.{follows}
 use Rattle.heap_state.proofs.Records.Holding.{uncopied_here}
@@ -164,6 +164,17 @@ module _ (E : Era) (m : Memory) (team : Team) (g : Ghost) (k : ℕ) (r : Reset) 
   registers_same : (j : ℕ) → (put team.worker k w' j).registers ≡ (team.worker j).registers
   registers_same j = proj_put (λ u. u.registers) team.worker k w' j refl
 
+  -- A cell that is shown is one of the space that becomes the old one, and was shown: the epoch is traced, so that its target denoted the value.
+  targets : (p : plain.Plain) → TargetsShow E m g p.heap → TargetsShow (next_era E) (next_memory m) (next_ghost E g) p.heap
+  targets p t = record {
+    shows = λ a v c is.
+        let u = was ready a c.cell.stands in
+        ⊎_elim
+        (λ (e : value_of g.identity (m.heap (a + 1)) ≡ Some v). inl e)
+        (λ (l : MayBeEmptied E m g a v). absurd (let z = l.walked.0 in let y = ready.traced in omega (arith, z, y)))
+        (t.shows a v (record { cell = record { stands = u.0; written = (nothing ready).none_writes a u.0; weak = c.cell.weak }; place = inl (u.1, u.2) }) is);
+  }
+
   shown : (p : plain.Plain) → Shown E m team g p → Shown (next_era E) (next_memory m) (with_worker team k w') (next_ghost E g) p
   shown p s = record {
     objects = record {
@@ -171,6 +182,7 @@ module _ (E : Era) (m : Memory) (team : Team) (g : Ghost) (k : ℕ) (r : Reset) 
           let c = uncopied_here E m team g inv out a u.0 u.1 u.2 in
           rw u.3 (s.objects.shows a u.0 ((nothing ready).none_writes a u.0) (inl c.0));
     };
+    targets = targets p s.targets;
     board = record { sixteen = s.board.sixteen; board = s.board.board };
     as_many = s.as_many;
     makers = s.makers;
@@ -267,8 +279,18 @@ module _ (E : Era) (m : Memory) (team : Team) (g : Ghost) (k : ℕ) (r : Reset) 
             let none : q.0.end ≡ None = sym (s.accounts j q.0 q.1).end ∙ end in
             FromRegister j q.0 n i q.1 none (reference_of ((team.worker j).registers n) i (slice_get q.0.registers n) ((s.registers j q.0 q.1).registers_show none n small) t)
 
+    -- nothing was made since: the new area is empty, and each mutator has made what its plain one has
+    made : MadeSince (next_era E) m.old_low team.mutators (next_ghost E g).size g.identity (put team.worker k w') p
+    made = record {
+      new = λ a st low high. absurd (let l = ready.low in omega (arith, low, high, l));
+      grown = λ j l.
+          let q = some_of p.mutators j (let n = s.as_many in omega (arith, l, n)) in
+          let same : (team.worker j).account.serial ≡ plain.serial_of p.heap j = (s.accounts j q.0 q.1).serial in
+          rw (account_same j) (omega (arith, same));
+    }
+
     pub begins : Cycle (next_era E) (next_memory m) (with_worker team k w') (next_ghost E g) p
-    begins = record { copying = copying; rooted = rooted }
+    begins = record { copying = copying; rooted = rooted; made = made }
 
   pub flip_keeps : FlipKeeps E m team g k r
   flip_keeps = record { won = won; invariant = invariant; shown = shown; pages = refl; begins = begins }

@@ -8,7 +8,7 @@ use Rattle.plain_state.specs.Reachable.{Reachable}
 use Rattle.plain_state.specs.State as plain
 use Rattle.space_map.specs.declared.gate_word.GateWord.{GateWord}
 use Rattle.heap_state.specs.Cells.{KnowsCopy}
-use Rattle.heap_state.specs.Cycles.Cycle.{Rooted, RootLeads, ByBoard, ByRegister, IsCopied, StillLeads}
+use Rattle.heap_state.specs.Cycles.Cycle.{Rooted, RootLeads, ByBoard, ByRegister, StillLeads}
 use Rattle.heap_state.specs.Memory.Era.{Era, Memory}
 use Rattle.heap_state.specs.Functions.{put}
 use Rattle.heap_state.specs.Invariant.Ghost.{Ghost, Leads, Lands}
@@ -19,6 +19,7 @@ use Rattle.heap_state.specs.Meaning.Values.{Shown, RegistersShow, value_of}
 use Rattle.heap_state.specs.Worker.{Worker, Team, Post, Passage, Outside, Enter, Park, Request, Forwarded, Resume, Leave, Origin, Register, Quest, Copy, is_mutator, is_live, is_late, GateStep, RequestSnap, Clear}
 use Rattle.heap_state.proofs.Workers.Frames.{counted_put, staffed_put, scanned_put, stocks_put, numbered_put, accounts_put}
 use Rattle.heap_state.proofs.Puts.{put_at, put_other, put_same, each_put, team_put, none≢some, some_same, put_is}
+use Rattle.heap_state.specs.Targets.{IsCopied}
 use Rattle.heap_laws.specs.Flipping.Registers.{forwarded, HasRegister, PassingRegisterKeeps, asking_for, AskingForRegisterKeeps, HasFoundCopy, past_register}
 use Rattle.heap_laws.specs.Cells.Frames.{GoesOnInChain}
 use Rattle.heap_laws.specs.Steps.{with_worker, NoRow, Ready, Steps, Preserves}
@@ -28,6 +29,7 @@ use Rattle.heap_laws.proofs.Copying.Found.{found_copy}
 use Rattle.heap_laws.proofs.Steps.Learning.{learns, learnt}
 use Rattle.heap_laws.proofs.Scanning.GoingOn.{no_copy}
 use Rattle.heap_laws.proofs.Frames.Values.{still_leads, pointer_lands}
+use Rattle.heap_laws.proofs.Targets.Frames.{made_put}
 
 -- ---- who is late
 
@@ -111,6 +113,7 @@ module _ (E : Era) (m : Memory) (team : Team) (g : Ghost) (k : ℕ) (inv : Invar
     shown : (p : plain.Plain) → Shown E m team g p → Shown E m (with_worker team k w') g p
     shown p s = record {
       objects = s.objects;
+      targets = s.targets;
       board = s.board;
       as_many = s.as_many;
       makers = s.makers;
@@ -151,7 +154,12 @@ module _ (E : Era) (m : Memory) (team : Team) (g : Ghost) (k : ℕ) (inv : Invar
         by_root i (ByRegister j n l s late d t) = by_register j n i l s late d t (cases_eq j k)
 
     pub register_keeps : Preserves E m m team (with_worker team k w') g g
-    register_keeps = record { invariant = invariant; shown = shown; cycle = λ p c. record { copying = c.copying; rooted = rooted p c.rooted }; ages = λ p. omega arith }
+    register_keeps = record {
+      invariant = invariant;
+      shown = shown;
+      cycle = λ p c. record { copying = c.copying; rooted = rooted p c.rooted; made = made_put team.worker k w' refl c.made };
+      ages = λ p. omega arith;
+    }
 
 -- ---- the laws
 

@@ -19,6 +19,7 @@ use Rattle.heap_laws.proofs.Cells.Ended.{clearing_weak_carries_chain}
 use Rattle.heap_laws.proofs.Cells.Kept.{same_keeps, targets_stay}
 use Rattle.heap_laws.proofs.Flipping.Sums.{sum_below-two, one_of, at_most_one}
 use Rattle.heap_laws.proofs.Steps.Learning.{shown_put, learns, learnt}
+use Rattle.heap_laws.proofs.Targets.Frames.{made_put}
 use Rattle.heap_state.proofs.Workers.Posts.{flips_ask}
 
 -- the request is at most one worker's
@@ -73,8 +74,12 @@ module _ (E : Era) (m : Memory) (team : Team) (g : Ghost) (k : ℕ) (r : Reset) 
     pub stores_weak : Preserves E m (with_weak m 0) team (with_worker team k (resetting (team.worker k) r)) g g
     stores_weak = record {
       invariant = cleared_then;
-      shown = λ p s. shown_put E m (with_weak m 0) team g k (resetting (team.worker k) r) p refl refl refl s;
-      cycle = λ p c. record { copying = c.copying; rooted = rooted_put team.worker k (resetting (team.worker k) r) refl refl refl (λ _ _ a b. (a, b)) c.rooted };
+      shown = λ p s. shown_put E m (with_weak m 0) team g k (resetting (team.worker k) r) p refl refl refl refl refl (λ e. e) s;
+      cycle = λ p c. record {
+        copying = c.copying;
+        rooted = rooted_put team.worker k (resetting (team.worker k) r) refl refl refl (λ _ _ a b. (a, b)) c.rooted;
+        made = made_put team.worker k (resetting (team.worker k) r) refl c.made;
+      };
       ages = λ p. omega arith;
     }
 
@@ -176,8 +181,12 @@ module _ (E : Era) (m : Memory) (team : Team) (g : Ghost) (k : ℕ) (r : Reset) 
   pub stores_area : Preserves E m (with_old_area m front low u) team (with_worker team k w') g g
   stores_area = record {
     invariant = invariant;
-    shown = λ p s. shown_put E m (with_old_area m front low u) team g k w' p refl refl refl s;
-    cycle = λ p c. record { copying = c.copying; rooted = rooted_put team.worker k w' refl refl refl (λ _ _ a b. (a, b)) c.rooted };
+    shown = λ p s. shown_put E m (with_old_area m front low u) team g k w' p refl refl refl refl refl (λ e. e) s;
+    cycle = λ p c. record {
+      copying = c.copying;
+      rooted = rooted_put team.worker k w' refl refl refl (λ _ _ a b. (a, b)) c.rooted;
+      made = made_put team.worker k w' refl c.made;
+    };
     ages = λ p. omega arith;
   }
 

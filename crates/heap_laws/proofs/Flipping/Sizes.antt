@@ -4,7 +4,7 @@ use Rattle.std.proofs.Common.{◌≡◌, ◌≢◌, ℕ, ◌+◌, ◌<◌, ◌�
 use Rattle.plain_state.specs.State as plain
 use Rattle.plain_state.specs.declared.value.Identity.{Identity}
 use Rattle.space_map.specs.declared.gate_word.GateWord.{GateWord}
-use Rattle.heap_state.specs.Cycles.Cycle.{Cycle, Copying, Rooted, RootLeads, ByBoard, ByRegister, StillLeads, IsCopied}
+use Rattle.heap_state.specs.Cycles.Cycle.{Cycle, Copying, Rooted, RootLeads, ByBoard, ByRegister, StillLeads}
 use Rattle.heap_state.specs.Memory.Era.{Era, Memory, IsLaidOut}
 use Rattle.heap_state.specs.Functions.{count_one}
 use Rattle.heap_state.specs.Invariant.Ghost.{Ghost, Here, Leads, Lands}
@@ -19,7 +19,7 @@ use Rattle.heap_state.specs.Invariant.Parts.Pages.{Shut, Quiet, Filling, Tracing
 use Rattle.heap_state.specs.Invariant.Parts.Records.{Laid, NewWritten}
 use Rattle.heap_state.specs.Invariant.Parts.Scanning.{Rounds, Claims, Looks, LastLooks}
 use Rattle.heap_state.specs.Invariant.Parts.Stocks.{Stocks, Stocked}
-use Rattle.heap_state.specs.Meaning.Values.{Shown}
+use Rattle.heap_state.specs.Meaning.Values.{MayBeEmptied, Shown, TargetsShow, value_of}
 use Rattle.heap_state.specs.Worker.{Worker, Team, Origin, Register, Scanned, Quest, Stock, Round, Claim, Look, LastLook, Access, Reset, is_mutator, is_running, is_flipper, is_late, is_sized, is_asking}
 use Rattle.heap_state.proofs.Workers.Frames.{counted_put, staffed_put, scanned_put, stocks_put, numbered_put, rooted_put}
 use Rattle.heap_state.proofs.Puts.{team_put, some_same, true_false}
@@ -31,8 +31,10 @@ use Rattle.heap_laws.proofs.Flipping.Reset.{one_asks}
 use Rattle.heap_laws.proofs.Flipping.Sums.{sum_below-term, one_of}
 use Rattle.heap_laws.proofs.Steps.Learning.{shown_put}
 use Rattle.heap_laws.proofs.Targets.Ended.{sizes_carry_targets}
+use Rattle.heap_laws.proofs.Targets.Frames.{made_put}
 use Rattle.heap_laws.proofs.Tracing.Traced.{leads_nowhere}
 use Rattle.heap_state.proofs.Workers.Posts.{flips_ask}
+use Rattle.heap_state.specs.Targets.{IsCopied}
 
 module _ (E : Era) (m : Memory) (team : Team) (g : Ghost) (k : ℕ) (r : Reset) (q : ℕ) (start : Ready E m team g k) (has : (team.worker k).reset ≡ Some r) (loose : r.sized ≡ false)
     (grown : r.grown ≡ Some q) (out' : IsLaidOut (sized_era E q)) where
@@ -330,9 +332,19 @@ module _ (E : Era) (m : Memory) (team : Team) (g : Ghost) (k : ℕ) (r : Reset) 
 
   -- ---- what is shown, and the cycle
 
+  -- the epoch is traced, so that no old cell is shown, and the walk has emptied none
+  targets : (p : plain.Plain) → TargetsShow E m g p.heap → TargetsShow E1 m g p.heap
+  targets p t = record {
+    shows = λ a v c is. ⊎_elim
+        (λ (e : value_of g.identity (m.heap (a + 1)) ≡ Some v). inl e)
+        (λ (l : MayBeEmptied E m g a v). absurd (let z = l.walked.0 in omega (arith, z, traced)))
+        (t.shows a v (record { cell = c.cell; place = ⊎_elim (λ i. inl i) (λ o. absurd (let z = o.0 in omega (arith, z, traced))) c.place }) is);
+  }
+
   shown : (p : plain.Plain) → Shown E m team g p → Shown E1 m (with_worker team k w') g p
-  shown p s = let t = shown_put E m m team g k w' p refl refl refl s in record {
+  shown p s = let t = shown_put E m m team g k w' p refl refl refl refl refl (λ e. e) s in record {
     objects = t.objects;
+    targets = targets p s.targets;
     board = record { sixteen = t.board.sixteen; board = t.board.board };
     as_many = t.as_many;
     makers = t.makers;
@@ -381,7 +393,7 @@ module _ (E : Era) (m : Memory) (team : Team) (g : Ghost) (k : ℕ) (r : Reset) 
         lands j n l mu end s = ((invariant.workers j l).registers mu end).lands n s
 
     cycle : Cycle E1 m (with_worker team k w') g p
-    cycle = record { copying = copying; rooted = rooted }
+    cycle = record { copying = copying; rooted = rooted; made = let y = made_put team.worker k w' refl c.made in record { new = y.new; grown = y.grown } }
 
   pub size_keeps : SizeKeeps E m team g k r q
   size_keeps = record { invariant = invariant; shown = shown; cycle = cycle }

@@ -17,6 +17,7 @@ use Rattle.heap_laws.proofs.Cells.Kept.{same_keeps}
 use Rattle.heap_laws.proofs.Frames.NewPages.{PageTurns, not_old_word, new_turns, stocks_turn}
 use Rattle.heap_laws.proofs.Frames.PageWords.{grows, tracing_turns, aged_turns, old_pages_turn, old_space_turns}
 use Rattle.heap_laws.proofs.Steps.Learning.{shown_put}
+use Rattle.heap_laws.proofs.Targets.Frames.{made_put}
 
 module _ (E : Era) (m : Memory) (team : Team) (g : Ghost) (k p : ℕ) (v : PageWord) (scan : Option Scan) (claim : Option Claim) (inv : Invariant E m team g) (turns : PageTurns E m.front m.low m.page p v) where
   abbrev page' : ℕ → PageWord
@@ -32,8 +33,12 @@ module _ (E : Era) (m : Memory) (team : Team) (g : Ghost) (k p : ℕ) (v : PageW
       → GoesOnInChain E w' (team.worker k) → ((j : ℕ) → j < team.count → j ≢ k → KnowsNow j (team.worker j)) → KnowsNow k w' → Preserves E m (with_page m p v) team (with_worker team k w') g g
   keeps_turned scanned shut opened filling goes others own = record {
     invariant = invariant;
-    shown = λ o s. shown_put E m (with_page m p v) team g k w' o refl refl refl s;
-    cycle = λ o c. record { copying = c.copying; rooted = rooted_put team.worker k w' refl refl refl (λ _ _ a b. (a, b)) c.rooted };
+    shown = λ o s. shown_put E m (with_page m p v) team g k w' o refl refl refl refl refl (λ e. e) s;
+    cycle = λ o c. record {
+      copying = c.copying;
+      rooted = rooted_put team.worker k w' refl refl refl (λ _ _ a b. (a, b)) c.rooted;
+      made = made_put team.worker k w' refl c.made;
+    };
     ages = grows turns.turn;
   }
     where

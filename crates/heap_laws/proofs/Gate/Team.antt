@@ -16,6 +16,7 @@ use Rattle.heap_laws.specs.Steps.{with_worker, with_gate, Preserves}
 use Rattle.heap_laws.proofs.Cells.Kept.{same_keeps}
 use Rattle.heap_laws.proofs.Gate.Worker.{NoneFlips}
 use Rattle.heap_laws.proofs.Steps.Learning.{shown_put}
+use Rattle.heap_laws.proofs.Targets.Frames.{made_put}
 
 -- worker k, which had this to do at the gate, passes it
 pub record GoesPastGate (E : Era) (m : Memory) (team : Team) (g : Ghost) (k : ℕ) (w' : Worker) : Type 0 where
@@ -47,8 +48,12 @@ module _ {E : Era} {m : Memory} {team : Team} {g : Ghost} {k : ℕ} {w' : Worker
         let p6 = same_keeps E m (with_gate m gate') team g g k w' (assumption) (assumption) (assumption) passing.goes inv.cells in
         let p5 = team_put team.count (Knows E gate' m.traced m.front m.low m.old_front m.old_low m.old_owed g m.page m.cross m.announced m.heap) team.worker k w' others own in
         assumption;
-    shown = λ p s. shown_put E m (with_gate m gate') team g k w' p passing.account passing.registers refl s;
-    cycle = λ p c. record { copying = c.copying; rooted = rooted_put team.worker k w' passing.mutator passing.account passing.registers (λ r l a b. absurd (passing.none_left r l a b)) c.rooted };
+    shown = λ p s. shown_put E m (with_gate m gate') team g k w' p passing.account passing.registers refl refl refl (λ e. e) s;
+    cycle = λ p c. record {
+      copying = c.copying;
+      rooted = rooted_put team.worker k w' passing.mutator passing.account passing.registers (λ r l a b. absurd (passing.none_left r l a b)) c.rooted;
+      made = made_put team.worker k w' (ap (λ a. a.serial) passing.account) c.made;
+    };
     ages = λ p. omega arith;
   }
 

@@ -181,6 +181,7 @@ module _ (n least : ℕ) where
     shows : Shown E m (opening_team mutators scanners) nothing (opening_plain mutators)
     shows = record {
       objects = record { shows = λ a st. absurd (omega (arith, st)) };
+      targets = record { shows = λ a v c. absurd (let st = c.cell.stands in omega (arith, st)) };
       board = record { sixteen = refl; board = λ x l. zero_value nothing.identity 0 refl ∙ sym (slice_get-of_replicate 16 x (Number 0) l) };
       as_many = length-replicate mutators opening_mutator;
       makers = length-replicate mutators [];
@@ -223,6 +224,7 @@ module _ (n least : ℕ) where
         roots = λ i r. absurd (no_root i r);
         sound = λ k j i l mu e b s. absurd (number_leads i (rw (zero_registers k j) at s));
       };
+      made = record { new = λ a st. absurd (omega (arith, st)); grown = λ k l. rw (no_records k) (omega arith) };
     }
       where
         zero_registers : (k j : ℕ) → ((opening_team mutators scanners).worker k).registers j ≡ 0

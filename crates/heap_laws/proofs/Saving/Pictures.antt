@@ -1,21 +1,28 @@
 -- The heap of now, frozen in a traced epoch, shows the board and the records of the plain heap, and lies on open pages.
-use Rattle.std.proofs.Common.{◌≡◌, ◌≢◌, ℕ, ◌+◌, ◌*◌, ◌/◌, ◌%◌, ◌<◌, ◌≤◌, true, inl, inr, ⊎_elim, refl, subst, arith}
+use Rattle.std.proofs.Common.{◌≡◌, ◌≢◌, ℕ, ◌+◌, ◌*◌, ◌/◌, ◌%◌, ◌<◌, ◌≤◌, true, length, Some, slice_get, slice_index_or, inl, inr, ⊎_elim, refl, sym, ap, ◌∙◌, subst, arith}
 use Rattle.std.proofs.lemmas.Bool.{cases_eq, cases_lt, and_parts, and_from, or_cases, or_left, or_right, eqb-true, eq-eqb, leb-true, le-leb, ltb-true, lt-ltb}
+use Rattle.std.proofs.lemmas.Option.{slice_get-get_or}
+use Rattle.std.specs.Option.{option_and_then}
 use Rattle.heap_words.specs.Decoded.{PointerWord, decode}
-use Rattle.plain_state.specs.Layout.{is_field}
+use Rattle.plain_state.specs.declared.kind.Kind.TheVariants.{Weak}
+use Rattle.plain_state.specs.declared.value.Value.TheVariants.{Number}
+use Rattle.plain_state.specs.Cells.{cell_of, value_of_cell}
+use Rattle.plain_state.specs.Layout.{is_field, size_of}
 use Rattle.plain_state.specs.State as plain
 use Rattle.space_map.specs.declared.page_word.PageWord.{PageWord}
 use Rattle.space_map.specs.declared.page_word.PageWord.TheVariants.{Unset, Open, Scanning}
 use Rattle.space_map.specs.Spaces.{board_page, to_space, page_of}
-use Rattle.heap_state.specs.Invariant.Ghost.{Ghost, Here, Leads, IsField}
+use Rattle.heap_state.specs.Invariant.Ghost.{Ghost, Here, Leads, Lands, IsField}
 use Rattle.heap_state.specs.Invariant.Inductive.{Invariant}
 use Rattle.heap_state.specs.Invariant.Parts.Pages.{Quiet}
-use Rattle.heap_state.specs.Meaning.Values.{Shown}
+use Rattle.heap_state.specs.Meaning.Values.{MayBeEmptied, Shown, value_of}
 use Rattle.heap_state.specs.Memory.Era.{Era, Memory, IsLaidOut, era_at, era_of, memory_of}
 use Rattle.heap_state.specs.Memory.Table.{Table}
 use Rattle.heap_state.specs.Saving.Frozen.{Frozen, IsPageOf}
 use Rattle.heap_state.specs.Saving.Kept.{ShowsKept}
+use Rattle.heap_state.specs.Targets.{IsCell}
 use Rattle.heap_state.specs.Worker.{Team}
+use Rattle.heap_state.proofs.Puts.{some_same}
 use Rattle.heap_state.proofs.Records.Holding.{uncopied_here}
 use Rattle.heap_laws.specs.Saving.Snapping.{is_page_of, is_open_in, frozen_of, FrozenHeapsShow}
 use Rattle.heap_laws.specs.Tracing.{NothingLeads}
@@ -143,21 +150,24 @@ module _ (t : Table) (team : Team) (g : Ghost) (out : IsLaidOut (era_of t)) (inv
 
   -- ---- where words lead
 
-  -- a word that mutators read leads to a record of the epoch's space
-  lands_here : (x b : ℕ) → Here E g.size g.writer g.kind x → decode (m.heap x) ≡ PointerWord b → 0 < z.size b
+  -- what stands, but not in the old space, stands in the epoch's space
+  lands_there : (w b : ℕ) → Lands g.size g.writer w → ¬ (Leads E w) → decode w ≡ PointerWord b → 0 < z.size b
   unfolding Leads
-  lands_here x b here points =
-      let stands = pointer_lands g.size g.writer (m.heap x) b (inv.landing.lands x here) points in
+  lands_there w b lands out_of_old points =
+      let stands = pointer_lands g.size g.writer w b lands points in
       let order = inv.laid.order in
       let kept : E.start ≤ b → b < E.start + E.span → 0 < z.size b = λ least below. let same = inside E.start E.span g.size b least below in omega (arith, same, stands) in
       ⊎_elim
       (λ (copied : (E.start ≤ b) × (b + g.size b ≤ m.front)). kept copied.0 (omega (arith, copied, order, stands)))
       (λ y. ⊎_elim
       (λ (new : (m.low ≤ b) × (b + g.size b ≤ E.start + E.span)). kept (omega (arith, new, order)) (omega (arith, new, stands)))
-      (λ (old : (E.old_start ≤ b) × (b + g.size b ≤ E.old_start + E.old_span)).
-      absurd (nothing.clean x here (b, points, old.0, omega (arith, old, stands))))
+      (λ (old : (E.old_start ≤ b) × (b + g.size b ≤ E.old_start + E.old_span)). absurd (out_of_old (b, points, old.0, omega (arith, old, stands))))
       y)
       (inv.laid.lies b stands)
+
+  -- so does what a word leads to that mutators read
+  lands_here : (x b : ℕ) → Here E g.size g.writer g.kind x → decode (m.heap x) ≡ PointerWord b → 0 < z.size b
+  lands_here x b here points = lands_there (m.heap x) b (inv.landing.lands x here) (nothing.clean x here) points
 
   -- ---- records
 
@@ -191,14 +201,53 @@ module _ (t : Table) (team : Team) (g : Ghost) (out : IsLaidOut (era_of t)) (inv
         let is : IsField g.size g.writer g.kind a i = record { stands = it_stood.0; written = written; field = field; first = first; last = rw it_stood.3 at last } in
         lands_here (a + i) b (field_here E g.size g.writer g.kind a i is (it_stood.1, it_stood.2)) points
 
+    -- a cell of the epoch's space, whose target doesn't lead into the old one
+    module _ (weak : g.kind a ≡ Weak) where
+      cell : IsCell g a
+      cell = record { stands = it_stood.0; written = written; weak = weak }
+
+      target_out_of_old : ¬ (Leads E (m.heap (a + 1)))
+      target_out_of_old = ⊎_elim
+          (λ (copied : (E.start ≤ a) × (a + g.size a ≤ m.front)).
+          inv.cells.targets.clean traced a (record { stands = cell.stands; written = cell.written; weak = weak; inside = (it_stood.1, omega (arith, copied, it_stood.0)) }))
+          (λ y. ⊎_elim
+          (λ (new : (m.low ≤ a) × (a + g.size a ≤ E.start + E.span)). inv.cells.targets.new a cell new.0 it_stood.2)
+          (λ (old : (E.old_start ≤ a) × (a + g.size a ≤ E.old_start + E.old_span)). absurd (let apart = out.apart in omega (arith, old, apart, it_stood)))
+          y)
+          (inv.laid.lies a it_stood.0)
+
+      target_leads : (b : ℕ) → decode (m.heap (a + 1)) ≡ PointerWord b → 0 < z.size b
+      target_leads b points = lands_there (m.heap (a + 1)) b (inv.cells.targets.lands a cell it_stood.1 it_stood.2) target_out_of_old points
+
+      three : z.size a ≡ 3
+      three = it_stood.3 ∙ inv.cells.chain.three a it_stood.0 weak
+
+      target_shows : (p : plain.Plain) → Shown E m team g p → (r : plain.Record) → plain.record_of p.heap (g.identity a) ≡ Some r → value_of g.identity (m.heap (a + 1)) ≡ slice_get r.values 0
+      target_shows p shown r is =
+          let there = shown.objects.shows a it_stood.0 written (inl uncopied.0) in
+          let same : there.0 ≡ r = some_same (sym there.1 ∙ is) in
+          let kind : r.kind ≡ Weak = sym (ap (λ (q : plain.Record). q.kind) same) ∙ there.2.kind ∙ weak in
+          let size : size_of r ≡ 3 = ap size_of (sym same) ∙ there.2.size ∙ sym it_stood.3 ∙ three in
+          let one : 0 < length r.values = omega (arith, size, rw kind at size) in
+          let v = slice_index_or r.values 0 (Number 0) in
+          let has : slice_get r.values 0 ≡ Some v = slice_get-get_or r.values 0 (Number 0) one in
+          let cell_is : cell_of p.heap (g.identity a) ≡ Some v = ap (option_and_then value_of_cell) is ∙ rw kind has in
+          ⊎_elim
+          (λ (denotes : value_of g.identity (m.heap (a + 1)) ≡ Some v). denotes ∙ sym has)
+          (λ (emptied : MayBeEmptied E m g a v). absurd (let early = emptied.walked.0 in omega (arith, early, traced)))
+          (shown.targets.shows a v (record { cell = cell; place = inl (it_stood.1, it_stood.2) }) cell_is)
+
 pub frozen_heaps_show : FrozenHeapsShow
 frozen_heaps_show t team g p out inv shown traced = record {
   board = shown.board.board;
   sixteen = shown.board.sixteen;
   held = board_held t team g out inv traced;
   records = λ a kept. record_shows t team g out inv traced a kept p shown;
+  three = λ a kept weak. three t team g out inv traced a kept weak;
+  targets = λ a r kept weak is. target_shows t team g out inv traced a kept weak p shown r is;
   board_lands = λ x b within points. lands_here t team g out inv traced ((era_of t).board + x) b (board_here (era_of t) g.size g.writer g.kind x within) points;
   field_lands = λ a i b first last field points. field_leads t team g out inv traced a (omega (arith, last)) i b first last field points;
+  target_lands = λ a b kept weak points. target_leads t team g out inv traced a kept weak b points;
   once = λ a b stands other same.
       let first = it_stood t team g out inv traced a stands in
       let second = it_stood t team g out inv traced b other in

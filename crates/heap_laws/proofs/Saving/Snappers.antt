@@ -20,6 +20,7 @@ use Rattle.heap_laws.specs.Steps.{Beside, with_worker}
 use Rattle.heap_laws.proofs.Cells.Kept.{same_keeps, in_chain}
 use Rattle.heap_laws.proofs.Fields.GoingOn.{going_on_shows}
 use Rattle.heap_laws.proofs.Fields.Laws.{accounts_in}
+use Rattle.heap_laws.proofs.Targets.Frames.{made_put}
 
 -- who begins a checkpoint neither runs nor is gone
 stands_there : (post : Post) → post ≡ Snapping → (is_running post ≡ true) ⊎ (is_gone post ≡ true) → ⊥
@@ -91,7 +92,11 @@ snappers_step E m team g p k number account gate q ready post shown serial goes 
   makes = record {
     invariant = keeps E m team g k account gate ready.invariant ready.member post serial goes;
     shown = going_on_shows E m team g _ k (about_to_clear (team.worker k) account gate) q (snaps_show E m team g p shown) (accounts_in refl same.account) same.registers;
-    cycle = λ o cycle. record { copying = cycle.copying; rooted = rooted E m team g k account gate ready.invariant ready.member post serial goes o cycle.rooted };
+    cycle = λ o cycle. record {
+      copying = cycle.copying;
+      rooted = rooted E m team g k account gate ready.invariant ready.member post serial goes o cycle.rooted;
+      made = made_put team.worker k (about_to_clear (team.worker k) account gate) serial cycle.made;
+    };
     ages = λ page. omega arith;
   };
 }

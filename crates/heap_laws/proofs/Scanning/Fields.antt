@@ -27,6 +27,7 @@ use Rattle.heap_laws.proofs.Scanning.GoingOn.{ScanGoesOn, stepping_on, knows_on,
 use Rattle.heap_laws.proofs.Scanning.Scanners.{scan_scan}
 use Rattle.heap_laws.proofs.Frames.Values.{pointer_lands}
 use Rattle.heap_laws.proofs.Steps.Rows.{here_below}
+use Rattle.heap_laws.proofs.Targets.Frames.{made_put, shown_beside}
 
 module _ (E : Era) (m : Memory) (team : Team) (g : Ghost) (k : ℕ) (s : Scan) (out : IsLaidOut E) (inv : Invariant E m team g) (below : k < team.count) (scans : (team.worker k).scan ≡ Some s) (at : AtField E s) where
   me : Knows E m.gate m.traced m.front m.low m.old_front m.old_low m.old_owed g m.page m.cross m.announced m.heap k (team.worker k)
@@ -205,15 +206,22 @@ module _ (E : Era) (m : Memory) (team : Team) (g : Ghost) (k : ℕ) (s : Scan) (
   keeps : Preserves E m (with_word m s.cursor v) team (with_worker team k w') g g
   keeps = record {
     invariant = invariant;
-    shown = λ p y. shown_put E (with_word m s.cursor v) (with_word m s.cursor v) team g k w' p refl refl refl (record {
+    shown = λ p y. shown_put E (with_word m s.cursor v) (with_word m s.cursor v) team g k w' p refl refl refl refl refl (λ e. e) (record {
       objects = objects_slot slot m.heap g.identity h copy.value y.objects;
+      targets = shown_beside E m g s.cursor v (field_is_unread E m team g k s.cursor ready h).1 p.heap y.targets;
       board = board_slot slot m.heap g.identity copy.value y.board;
       as_many = y.as_many;
       makers = y.makers;
       accounts = y.accounts;
       registers = y.registers;
     });
-    cycle = λ p y. let c = slot_keeps_cycle E m team g p s.cursor v slot (λ _. copy.seen) y in record { copying = c.copying; rooted = rooted_put team.worker k w' refl refl refl (λ _ _ a b. (a, b)) c.rooted };
+    cycle = λ p y.
+        let c = slot_keeps_cycle E m team g p s.cursor v slot (λ _. copy.seen) y in
+        record {
+          copying = c.copying;
+          rooted = rooted_put team.worker k w' refl refl refl (λ _ _ a b. (a, b)) c.rooted;
+          made = made_put team.worker k w' refl c.made;
+        };
     ages = λ p. omega arith;
   }
 

@@ -21,6 +21,7 @@ use Rattle.heap_laws.specs.Composing.{IsAtMost, IsLess, IsLessScan, IsLessRound,
 use Rattle.heap_laws.specs.Steps.{WritesRow, NoRow, InGate, with_worker, Preserves, Steps, Beside, Makes}
 use Rattle.heap_laws.proofs.Cells.Kept.{same_keeps, still_in_chain, less_in_chain}
 use Rattle.heap_laws.proofs.Steps.Learning.{shown_put, scanned_on}
+use Rattle.heap_laws.proofs.Targets.Frames.{made_put}
 
 -- ---- forgetting
 
@@ -177,7 +178,9 @@ module _ (E : Era) (n : Memory) (team : Team) (h : Ghost) (k : ℕ) (w v : Worke
           own l = knows_less E n h k w v most (rw there at (inv.workers k l))
 
   forgets_shown : (p : Plain) → Shown E n before h p → Shown E n (with_worker team k w) h p
-  forgets_shown p s = rw twice at (shown_put E n n before h k w p (most.others.account ∙ ap (λ (u : Worker). u.account) (sym there)) (most.others.registers ∙ ap (λ (u : Worker). u.registers) (sym there)) refl s)
+  forgets_shown p s = rw twice at (shown_put E n n before h k w p
+      (most.others.account ∙ ap (λ (u : Worker). u.account) (sym there)) (most.others.registers ∙ ap (λ (u : Worker). u.registers) (sym there))
+      refl refl refl (λ e. e) s)
 
   forgets_cycle : (p : Plain) → Cycle E n before h p → Cycle E n (with_worker team k w) h p
   forgets_cycle p c = record {
@@ -188,6 +191,7 @@ module _ (E : Era) (n : Memory) (team : Team) (h : Ghost) (k : ℕ) (w v : Worke
         (most.others.registers ∙ ap (λ (u : Worker). u.registers) (sym there))
         (λ _ _ a b. let a' : is_late E.epoch v ≡ true = rw there at a in (rw (most.others.post, most.others.epoch) a', let b' = rw there at b in rw most.others.done b'))
         c.rooted);
+    made = rw twice at (made_put before.worker k w (ap (λ (a : Account). a.serial) most.others.account ∙ ap (λ (u : Worker). u.account.serial) (sym there)) c.made);
   }
 
 pub steps_forget : StepsForget

@@ -1,5 +1,5 @@
 -- Pages are claimed for new records, and a record is placed.
-use Rattle.std.proofs.Common.{◌≡◌, ◌≢◌, ℕ, ◌+◌, ◌<◌, ◌≤◌, refl, sym, ◌∙◌, arith, ⊎_elim, inr}
+use Rattle.std.proofs.Common.{◌≡◌, ◌≢◌, ℕ, ◌+◌, ◌<◌, ◌≤◌, refl, sym, ◌∙◌, arith, ⊎_elim}
 use Rattle.std.proofs.lemmas.Bool.{cases_eq}
 use Rattle.plain_state.specs.declared.kind.Kind.{Kind}
 use Rattle.plain_state.specs.declared.kind.Kind.TheVariants.{Weak}
@@ -15,7 +15,8 @@ use Rattle.heap_laws.specs.Allocation.Records.{PlacesNext, allocated, next_ident
 use Rattle.heap_laws.specs.Allocation.Stocks.{HasRoomForPages, lowered}
 use Rattle.heap_laws.specs.Fields.Held.{MayHold}
 use Rattle.heap_laws.specs.Steps.{Ready, IsAreaNow}
-use Rattle.heap_laws.specs.Targets.Records.{ClaimingCarriesTargets, MayBeTarget, PlacingCarriesTargets, NewTargetsAreZero}
+use Rattle.heap_laws.specs.Targets.Records.{ClaimingCarriesTargets, MayBeTarget, PlacingCarriesTargets, NewTargetsAreStored}
+use Rattle.heap_laws.proofs.Allocation.Stocks.{target_ahead}
 use Rattle.heap_laws.proofs.Cells.Placed.{some_values}
 use Rattle.heap_laws.proofs.Cells.Rows.{StoresWord, stores_word, StoresArea, stores_area}
 use Rattle.heap_laws.proofs.Frames.Values.{zero_clean, zero_lands}
@@ -54,7 +55,7 @@ claiming_carries_targets E m later team g k n owed area ready now room writes t 
 
 -- ---- a place in a run
 
-module _ (E : Era) (m : Memory) (team : Team) (g : Ghost) (k : ℕ) (s : Stock) (c : Kind) (z v : ℕ) (ready : Ready E m team g k) (places : PlacesNext team k s c z v) where
+module _ (E : Era) (m : Memory) (team : Team) (g : Ghost) (k : ℕ) (s : Stock) (c : Kind) (z v target : ℕ) (ready : Ready E m team g k) (places : PlacesNext team k s c z v target) where
   pub stocked : Stocked E m.low g.size m.heap m.page s
   stocked =
       let me = ready.invariant.workers k ready.member in
@@ -63,26 +64,21 @@ module _ (E : Era) (m : Memory) (team : Team) (g : Ghost) (k : ℕ) (s : Stock) 
   pub room : 0 < z
   room = let y = places.some in let x = some_values c in omega (arith, x, y)
 
-pub new_targets_are_zero : NewTargetsAreZero
-new_targets_are_zero E m team g k s z v ready places =
-    let y = stocked E m team g k s Weak z v ready places in
-    let a = places.some in
-    let b = places.fits in
-    let e = places.run in
-    y.zeros (s.at + 1) (omega arith) (omega (arith, a, b, e)) (rw places.ahead (inr (omega arith)))
+pub new_targets_are_stored : NewTargetsAreStored
+new_targets_are_stored E m team g k s z v target ready places = target_ahead s (stocked E m team g k s Weak z v target ready places) target places.ahead
 
 -- ---- a record is placed
 
-module _ (E : Era) (m later : Memory) (weak turn : ℕ) (team : Team) (g : Ghost) (r : Ranks) (k : ℕ) (s : Stock) (c : Kind) (z v : ℕ) (ready : Ready E m team g k) (places : PlacesNext team k s c z v)
-    (target : c ≡ Weak → MayBeTarget E g (m.heap (s.at + 1))) (stores : StoresWord m later s.at v) (chain : Chain E m weak turn team g r) (t : Targets E m g) where
+module _ (E : Era) (m later : Memory) (weak turn : ℕ) (team : Team) (g : Ghost) (r : Ranks) (k : ℕ) (s : Stock) (c : Kind) (z v target : ℕ) (ready : Ready E m team g k) (places : PlacesNext team k s c z v target)
+    (holds : c ≡ Weak → MayBeTarget E g (m.heap (s.at + 1))) (stores : StoresWord m later s.at v) (chain : Chain E m weak turn team g r) (t : Targets E m g) where
   abbrev h : Ghost
   h = allocated g s.at z c (next_identity team k)
 
   lies : (m.low ≤ s.at) × (s.at ≤ s.end) × (s.end ≤ E.start + E.span)
-  lies = (stocked E m team g k s c z v ready places).lies
+  lies = (stocked E m team g k s c z v target ready places).lies
 
   some : 0 < z
-  some = room E m team g k s c z v ready places
+  some = room E m team g k s c z v target ready places
 
   inside : s.at < s.end
   inside = let f = places.fits in omega (arith, f, some)
@@ -119,7 +115,7 @@ module _ (E : Era) (m later : Memory) (weak turn : ℕ) (team : Team) (g : Ghost
 
   module _ (cell : IsCell h s.at) where
     may : MayBeTarget E g (m.heap (s.at + 1))
-    may = target (sym (put_at g.kind s.at c s.at refl) ∙ cell.weak)
+    may = holds (sym (put_at g.kind s.at c s.at refl) ∙ cell.weak)
 
     lands : Lands h.size h.writer (later.heap (s.at + 1))
     lands = rw word (⊎_elim (λ e. zero_lands h.size h.writer (m.heap (s.at + 1)) e) (λ (y : MayHold E g.size g.writer (m.heap (s.at + 1))). lands_on (m.heap (s.at + 1)) y.lands) may)
@@ -156,5 +152,5 @@ module _ (E : Era) (m later : Memory) (weak turn : ℕ) (team : Team) (g : Ghost
   }
 
 pub placing_carries_targets : PlacingCarriesTargets
-placing_carries_targets E m later weak turn team g r k s c z v ready places target writes chain t =
-    places_record E m later weak turn team g r k s c z v ready places target (stores_word writes refl) chain t
+placing_carries_targets E m later weak turn team g r k s c z v target ready places holds writes chain t =
+    places_record E m later weak turn team g r k s c z v target ready places holds (stores_word writes refl) chain t

@@ -7,13 +7,14 @@ use Rattle.plain_state.specs.declared.value.Value.TheVariants.{Reference}
 use Rattle.plain_state.specs.Reachable.{Reachable, FromRegister, FromBoard, FromRecord}
 use Rattle.plain_state.specs.State as plain
 use Rattle.plain_state.specs.Layout.{is_field, values_at, word_of_value, size_of}
-use Rattle.heap_state.specs.Cycles.Cycle.{Cycle, RootLeads, ByBoard, ByRegister, IsRoot, InRegister, OnTheBoard, IsCopied}
+use Rattle.heap_state.specs.Cycles.Cycle.{Cycle, RootLeads, ByBoard, ByRegister, IsRoot, InRegister, OnTheBoard}
 use Rattle.heap_state.specs.Memory.Era.{Era, Memory, IsLaidOut}
 use Rattle.heap_state.specs.Invariant.Ghost.{Ghost}
 use Rattle.heap_state.specs.Invariant.Inductive.{Invariant}
 use Rattle.heap_state.specs.Worker.{Team}
 use Rattle.heap_state.proofs.Puts.{some_same}
 use Rattle.heap_state.proofs.Records.Layouts.{values_behind_header}
+use Rattle.heap_state.specs.Targets.{IsCopied}
 use Rattle.heap_laws.specs.Tracing.{NothingLeads, CopiesReachable}
 use Rattle.heap_laws.proofs.Tracing.Traced.{leads_nowhere}
 use Rattle.heap_laws.proofs.Frames.Values.{board_here, field_here, still_leads}

@@ -10,16 +10,14 @@ use Rattle.plain_state.specs.Reachable.{Reachable, IsLive, words_of, sum_of_reco
 use Rattle.plain_state.specs.State.{Plain, Heap, record_of}
 use Rattle.heap_state.specs.Configuration.{Configuration, era, memory, team}
 use Rattle.heap_state.specs.Cycles.Copies.{copied_of, words_copied, name_of, CopiedIsLive}
-use Rattle.heap_state.specs.Cycles.Cycle.{IsCopied}
-use Rattle.heap_state.specs.Meaning.Denotes.{named_by}
 use Rattle.heap_state.specs.Memory.Era.{IsLaidOut}
 use Rattle.heap_state.specs.Invariant.Ghost.{Ghost}
 use Rattle.heap_state.specs.Invariant.Inductive.{Invariant}
 use Rattle.heap_state.specs.Sums.{sum_of_sizes}
 use Rattle.heap_state.specs.Theorems.Standing.{StandsInCycle}
 use Rattle.heap_state.specs.Memory.Walk.{Walked}
-use Rattle.heap_state.proofs.Records.Holding.{uncopied_here}
 use Rattle.heap_state.proofs.Table.LaidOut.{laid_out}
+use Rattle.heap_state.proofs.Walks.CopiedIdentities.{copy_named}
 use Rattle.heap_state.proofs.Walks.Copies.{copied_total, copied_once, copied_sound, copied_complete}
 use Rattle.heap_state.proofs.Walks.Walking.{IsItem, item}
 use Rattle.heap_laws.specs.Flipping.Live.{TracedIsLive}
@@ -27,6 +25,7 @@ use Rattle.heap_laws.specs.Tracing.{NothingLeads, CopiesReachable}
 use Rattle.heap_laws.proofs.Tracing.Copied.{copies_reachable}
 use Rattle.heap_laws.proofs.Tracing.Traced.{leads_nowhere}
 use Rattle.heap_state.specs.Memory.Table.{IsFormed}
+use Rattle.heap_state.specs.Targets.{IsCopied}
 
 -- ---- lists
 
@@ -79,7 +78,7 @@ module _ (c : Configuration) (p o : Plain) (st : StandsInCycle c p o) (traced : 
   IsOne w = IsItem (era c).start (memory c).front g.size g.writer w
 
   sound : (w : Walked) → Contains (copied_of c) w → IsOne w
-  sound = copied_sound c g formed inv nothing.none_writes
+  sound = copied_sound c g formed inv
 
   abbrev of : Walked → Identity
   of w = g.identity w.at
@@ -88,12 +87,7 @@ module _ (c : Configuration) (p o : Plain) (st : StandsInCycle c p o) (traced : 
   stands w is = let z = is.sized in omega (arith, z)
 
   named : (w : Walked) → IsOne w → name_of c w ≡ Some (of w)
-  named w is =
-      let s = stands w is in
-      let order = inv.laid.order in
-      let b = is.inside in
-      let u = uncopied_here (era c) (memory c) (team c) g inv lay w.at s is.inside.0 (omega (arith, b, order)) in
-      ap named_by (inv.headed.own w.at s is.written u.0 u.1)
+  named = copy_named c g formed inv
 
   abbrev copy : (w : Walked) → IsOne w → IsCopied (era c) (memory c).front g.size g.writer g.identity (of w)
   copy w is = record { at = w.at; stands = (stands w is, is.written); below = is.inside; named = refl }
@@ -115,7 +109,7 @@ module _ (c : Configuration) (p o : Plain) (st : StandsInCycle c p o) (traced : 
   there : (i : Identity) → Reachable o i → (w : Walked) × Contains (copied_of c) w × (of w ≡ i)
   there i r =
       let k = reachable.all i r in
-      (item k.at (g.size k.at), copied_complete c g formed inv nothing.none_writes k.at k.below.0 k.below.1 k.stands.0, k.named)
+      (item k.at (g.size k.at), copied_complete c g formed inv k.at k.below.0 k.below.1 k.stands.0 k.stands.1, k.named)
 
   abbrev identities : List Identity
   identities = map of (copied_of c)

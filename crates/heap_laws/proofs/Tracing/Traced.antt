@@ -1,7 +1,9 @@
 -- TRACED is exchanged, and what holds then.
 use Rattle.std.proofs.Common.{◌≡◌, ◌≢◌, ℕ, ◌+◌, ◌*◌, ◌/◌, ◌<◌, ◌≤◌, true, Some, None, is_some, refl, ap, arith, ⊎_elim, ◌⊎◌, subst, sym}
 use Rattle.std.proofs.lemmas.Bool.{cases_lt}
+use Rattle.plain_state.specs.State.{Plain}
 use Rattle.space_map.specs.declared.page_word.PageWord.TheVariants.{Open}
+use Rattle.heap_state.specs.Cycles.Cycle.{Cycle}
 use Rattle.heap_state.specs.Invariant.Parts.Cells.{Cells}
 use Rattle.heap_state.specs.Memory.Era.{Era, Memory, IsLaidOut}
 use Rattle.heap_state.specs.Invariant.Ghost.{Ghost, Here, Leads}
@@ -14,12 +16,13 @@ use Rattle.heap_state.specs.Worker.{Worker, Team, Copy, Scan, Round, LastLook, i
 use Rattle.heap_state.proofs.Workers.Frames.{counted_put, staffed_put, scanned_put, stocks_put, numbered_put, rooted_put}
 use Rattle.heap_state.proofs.Puts.{team_put, none≢some}
 use Rattle.heap_state.specs.Memory.Entries.{TracedIs}
-use Rattle.heap_laws.specs.Steps.{with_worker, Ready, Steps, WritesRow, InTraced, with_traced}
+use Rattle.heap_laws.specs.Steps.{with_worker, Ready, StepsTo, WritesRow, InTraced, with_traced}
 use Rattle.heap_laws.specs.Tracing.{WinsTraced, has_traced, Traces, SleeperLosesTraced, NothingLeads}
 use Rattle.heap_laws.proofs.Cells.Kept.{of_chain}
 use Rattle.heap_laws.proofs.Cells.Turned.{tracing_carries_chain}
-use Rattle.heap_laws.proofs.Steps.Learning.{shown_put}
 use Rattle.heap_laws.proofs.Scanning.Scanners.{open_scan, scans_last, copies_last, none_writes, here_lies}
+use Rattle.heap_laws.proofs.Targets.Frames.{made_put}
+use Rattle.heap_laws.proofs.Targets.ShownEmptied.{shown_traced}
 use Rattle.heap_laws.proofs.Targets.Walked.{tracing_carries_targets}
 
 pub sleeper_loses_traced : SleeperLosesTraced
@@ -79,7 +82,7 @@ module _ (E : Era) (m : Memory) (team : Team) (g : Ghost) (k : ℕ) (l : LastLoo
       (tracing_carries_chain E m (with_traced m (E.epoch + 1)) m.weak m.weak_turn team g inv.cells.ranks k w' ready (ap is_some wins.walked) refl refl refl writes inv.cells.chain)
       (tracing_carries_targets E m (with_traced m (E.epoch + 1)) m.weak m.weak_turn team g inv.cells.ranks k ready wins.walked writes inv.cells.chain inv.cells.targets)
 
-  invariant : Invariant E (with_traced m (E.epoch + 1)) (with_worker team k w') g
+  pub invariant : Invariant E (with_traced m (E.epoch + 1)) (with_worker team k w') g
   invariant =
       let p1 = counted_put team.worker k w' refl refl inv.counted in
       let p2 = staffed_put team.worker k w' refl inv.staffed in
@@ -93,18 +96,16 @@ module _ (E : Era) (m : Memory) (team : Team) (g : Ghost) (k : ℕ) (l : LastLoo
       let p10 = team_put team.count KnowsNow team.worker k w' others own in
       assumption
 
+  pub cycle : (p : Plain) → Cycle E m team g p → Cycle E (with_traced m (E.epoch + 1)) (with_worker team k w') g p
+  cycle p y = record { copying = y.copying; rooted = rooted_put team.worker k w' refl refl refl (λ _ _ a b. (a, b)) y.rooted; made = made_put team.worker k w' refl y.made }
+
   pub traces : Traces E m team g k
   traces = record {
     now = of_now;
-    steps = subst (λ (e : ℕ). Steps E m team g k (Some (TracedIs (e + 1))) w' g) (sym of_now) (record {
+    steps = λ p q s follows. subst (λ (e : ℕ). StepsTo E m team g k (Some (TracedIs (e + 1))) w' g q) (sym of_now) (record {
       later = with_traced m (E.epoch + 1);
       writes = InTraced (E.epoch + 1);
-      keeps = record {
-        invariant = invariant;
-        shown = λ p y. shown_put E m (with_traced m (E.epoch + 1)) team g k w' p refl refl refl y;
-        cycle = λ p y. record { copying = y.copying; rooted = rooted_put team.worker k w' refl refl refl (λ _ _ a b. (a, b)) y.rooted };
-        ages = λ p. omega arith;
-      };
+      makes = record { invariant = invariant; shown = shown_traced E m team g p q follows s k w' refl refl; cycle = cycle; ages = λ page. omega arith };
     });
   }
 

@@ -1,5 +1,5 @@
 -- WEAKTURN is exchanged: its winner may walk over the chain of copied cells.
-use Rattle.std.proofs.Common.{◌≡◌, ℕ, ◌+◌, ◌<◌, ◌≤◌, Some, refl}
+use Rattle.std.proofs.Common.{◌≡◌, ℕ, ◌+◌, ◌<◌, ◌≤◌, Some, refl, ap, arith}
 use Rattle.heap_state.specs.Invariant.Parts.Cells.{Cells}
 use Rattle.heap_state.specs.Memory.Entries.{WeakTurnIs}
 use Rattle.heap_state.specs.Memory.Era.{Era, Memory}
@@ -27,11 +27,18 @@ module _ (E : Era) (m : Memory) (team : Team) (g : Ghost) (k : ℕ) (l : LastLoo
     targets = targets_stay (InWeakTurn turn) tt ready.invariant.cells.targets;
   }
 
+  -- it is of the epoch: WEAKTURN is never below that
+  of_now : (team.worker k).epoch ≡ E.epoch
+  of_now =
+      let top = ready.invariant.cells.chain.top in
+      let past = (ready.invariant.workers k ready.member).timely.past in
+      omega (arith, top, free, past)
+
   takes_turn : Steps E m team g k (Some (WeakTurnIs turn)) next g
   takes_turn = record {
     later = with_weak_turn m turn;
     writes = InWeakTurn turn;
-    keeps = links E m team g k next ready.invariant (assumption) (λ s e. (s, e, refl)) m.weak turn cells (let me = ready.invariant.workers k ready.member in assumption);
+    keeps = links E m team g k next ready.invariant (assumption) (λ s e. (s, e, refl)) m.weak turn (λ _. ap (λ e. e + 1) of_now) cells (let me = ready.invariant.workers k ready.member in assumption);
   }
 
 pub turns_are_taken : TurnsAreTaken

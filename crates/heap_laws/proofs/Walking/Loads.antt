@@ -26,7 +26,7 @@ module _ (E : Era) (m : Memory) (team : Team) (g : Ghost) (k : ℕ) (ready : Rea
   then q = walking (team.worker k) q
 
   learns_of_chain : (q : Pass) → Chain E m m.weak m.weak_turn (with_worker team k (then q)) g cells.ranks → Steps E m team g k None (then q) g
-  learns_of_chain q chain = learnt (links E m team g k (then q) ready.invariant (assumption) (λ s e. (s, e, refl)) m.weak m.weak_turn
+  learns_of_chain q chain = learnt (links E m team g k (then q) ready.invariant (assumption) (λ s e. (s, e, refl)) m.weak m.weak_turn (λ e. e)
       (record { ranks = cells.ranks; chain = chain; targets = cells.targets }) (let me = ready.invariant.workers k ready.member in assumption))
 
   -- ---- a cell's target

@@ -12,6 +12,7 @@ use Rattle.heap_laws.specs.Walking.{walking, IsAtTarget, TargetsAreReplaced}
 use Rattle.heap_laws.proofs.Cells.Walked.{replacing_target_carries_chain}
 use Rattle.heap_laws.proofs.Copying.Cells.{cell_words_are_stored}
 use Rattle.heap_laws.proofs.Steps.Rows.{below_board}
+use Rattle.heap_laws.proofs.Targets.ShownWalks.{shown_replaced}
 use Rattle.heap_laws.proofs.Targets.Walked.{cell, replacing_carries_targets}
 use Rattle.heap_laws.proofs.Walking.Loads.{same_beside}
 
@@ -42,7 +43,7 @@ module _ (E : Era) (m : Memory) (team : Team) (g : Ghost) (k : ℕ) (v : Visit) 
   }
 
   pub replaces_target : Steps E m team g k (Some (WordIs (v.cell + 1) word)) then g
-  replaces_target = cell_words_are_stored E m team g k v.cell 1 word (team.worker k).linking (Some (At (passed v))) ready here (omega arith) (omega (arith, room)) small after
+  replaces_target = cell_words_are_stored E m team g k v.cell 1 word (team.worker k).linking (Some (At (passed v))) ready here (omega arith) (omega (arith, room)) small after (shown_replaced E m team g k v word ready is.at is.before replaces)
 
 pub targets_are_replaced : TargetsAreReplaced
 targets_are_replaced E m team g k v word ready is replaces small = replaces_target E m team g k v word ready is replaces small

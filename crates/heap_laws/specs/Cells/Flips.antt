@@ -35,6 +35,6 @@ FlippingCarriesChain = (E : Era) (m : Memory) (weak turn : ℕ) (team : Team) (g
 
 -- the header of a new record is stored; a cell is one of three words
 abbrev pub PlacingCarriesChain : Type 0
-PlacingCarriesChain = (E : Era) (m later : Memory) (weak turn : ℕ) (team : Team) (g : Ghost) (r : Ranks) (k : ℕ) (s : Stock) (c : Kind) (z v : ℕ) (w : Worker) → Ready E m team g k
-    → PlacesNext team k s c z v → (c ≡ Weak → z ≡ 3) → WritesRow E m (Some (WordIs s.at v)) later → GoesOnInChain E w (team.worker k)
+PlacingCarriesChain = (E : Era) (m later : Memory) (weak turn : ℕ) (team : Team) (g : Ghost) (r : Ranks) (k : ℕ) (s : Stock) (c : Kind) (z v target : ℕ) (w : Worker) → Ready E m team g k
+    → PlacesNext team k s c z v target → (c ≡ Weak → z ≡ 3) → WritesRow E m (Some (WordIs s.at v)) later → GoesOnInChain E w (team.worker k)
     → Chain E m weak turn team g r → Chain E later weak turn (with_worker team k w) (allocated g s.at z c (next_identity team k)) r

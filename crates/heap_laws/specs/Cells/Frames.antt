@@ -12,8 +12,8 @@ use Rattle.heap_laws.specs.Steps.{Ready, WritesRow, with_worker}
 
 -- ---- what the chain reads
 
--- The worker w has the cell to link and the walk of u. If it has a cell to link, it may still copy and has found the copy that it asks for, and if it walks it is of the same
--- epoch and knows the same of its second look.
+-- The worker w has the cell to link and the walk of u. If it has a cell to link, it may still copy and has found the copy that it asks
+-- for; and if it walks it is of the same epoch and knows the same of its second look.
 pub record GoesOnInChain (E : Era) (w u : Worker) : Type 0 where
   pub linking : w.linking ≡ u.linking
   pub pass : w.pass ≡ u.pass

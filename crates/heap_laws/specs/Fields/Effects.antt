@@ -13,7 +13,7 @@ use Rattle.heap_state.specs.Memory.Era.{Era, Memory}
 use Rattle.heap_state.specs.Invariant.Ghost.{Ghost, said_kind}
 use Rattle.heap_state.specs.Invariant.Parts.Knowledge.{HasRole, Accesses}
 use Rattle.heap_state.specs.Meaning.Values.{Shown}
-use Rattle.heap_state.specs.Worker.{Team, Role, FieldRole, NumberRole, UnknownRole, Access, is_mutator, is_late}
+use Rattle.heap_state.specs.Worker.{Team, Role, FieldRole, NumberRole, TargetRole, UnknownRole, Access, is_mutator, is_late}
 use Rattle.heap_laws.specs.Fields.Words.{IsWordOf, MayStore, StandsFor}
 use Rattle.heap_laws.specs.Fields.Held.{MayHold, HoldsValue}
 use Rattle.heap_laws.specs.Fields.Stores.{IsAs}
@@ -83,22 +83,32 @@ CountsAreRead = (E : Era) (m : Memory) (team : Team) (g : Ghost) (p : plain.Plai
 -- ---- words of records
 
 -- The word that a mutator holds for one that it has loaded, and the one that it stores for one that it holds, if it may be stored:
--- nothing is as long as the role isn't known.
+-- nothing is in a cell, and as long as the role isn't known.
 abbrev pub word_held : Role → ℕ → ℕ
 word_held FieldRole v = v
 word_held NumberRole v = number_word v
+word_held TargetRole v = v
 word_held UnknownRole v = v
 
 abbrev pub word_stored : Role → ℕ → Option ℕ
 word_stored FieldRole w = Some w
 word_stored NumberRole w = number_in (decode w)
+word_stored TargetRole w = None
 word_stored UnknownRole w = None
 
 -- a number that is stored by itself is one of 62 bits
 abbrev pub FitsRole : Role → ℕ → Type 0
 FitsRole FieldRole v = ⊤
 FitsRole NumberRole v = v < NUMBERS
+FitsRole TargetRole v = ⊤
 FitsRole UnknownRole v = ⊤
+
+-- a word with this role is loaded as it stands, whether the epoch is traced or not, and may be stored
+abbrev pub IsFieldOrNumber : Role → Type 0
+IsFieldOrNumber FieldRole = ⊤
+IsFieldOrNumber NumberRole = ⊤
+IsFieldOrNumber TargetRole = ⊥
+IsFieldOrNumber UnknownRole = ⊥
 
 -- The word that is accessed is value x of the plain record there: on an open page, a word of a record that stands; what is loaded
 -- from it holds that value, and what is stored there for a value stands for it.
@@ -116,7 +126,22 @@ pub record IsValueOf (E : Era) (m : Memory) (g : Ghost) (p : plain.Plain) (f : A
 
 abbrev pub AccessesAreValues : Type 0
 AccessesAreValues = (E : Era) (m : Memory) (team : Team) (g : Ghost) (p : plain.Plain) (k : ℕ) (f : Access) (x : ℕ) → Ready E m team g k → Shown E m team g p
-    → (team.worker k).access ≡ Some f → f.role ≢ UnknownRole → (team.worker k).opened ≡ Some (page_of (f.at + f.word)) → f.word ≡ word_of_value (g.kind f.at) x → IsValueOf E m g p f x
+    → (team.worker k).access ≡ Some f → IsFieldOrNumber f.role → (team.worker k).opened ≡ Some (page_of (f.at + f.word)) → f.word ≡ word_of_value (g.kind f.at) x → IsValueOf E m g p f x
+
+-- ---- targets of cells
+
+-- the plain record is a cell, and what is loaded from its target holds its value
+pub record IsTargetOf (E : Era) (m : Memory) (g : Ghost) (p : plain.Plain) (f : Access) : Type 0 where
+  pub record_there : plain.Record
+  pub is : plain.record_of p.heap (g.identity f.at) ≡ Some record_there
+  pub value : Value
+  pub there : slice_get record_there.values 0 ≡ Some value
+  pub loaded : HoldsValue E g (m.heap (f.at + f.word)) value
+
+-- it does so for a mutator that has seen its epoch traced
+abbrev pub TargetsAreValues : Type 0
+TargetsAreValues = (E : Era) (m : Memory) (team : Team) (g : Ghost) (p : plain.Plain) (k : ℕ) (f : Access) → Ready E m team g k → Shown E m team g p
+    → (team.worker k).access ≡ Some f → f.role ≡ TargetRole → (team.worker k).traced_seen ≡ true → IsTargetOf E m g p f
 
 -- ---- words of the board
 

@@ -1,6 +1,6 @@
 -- What a running mutator may hold, and how it goes on: with other registers, another account, or another access.
 use Rattle.plain_state.specs.declared.value.Value.{Value}
-use Rattle.std.specs.Prelude.{◌≡◌, ℕ, ◌+◌, ◌<◌, true, Some, None, slice_set, Option, ◌↔◌, ◌*◌}
+use Rattle.std.specs.Prelude.{◌≡◌, ℕ, ◌+◌, ◌<◌, Bool, true, Some, None, slice_set, Option, ◌↔◌, ◌*◌}
 use Rattle.plain_state.specs.State as plain
 use Rattle.space_map.specs.declared.page_word.PageWord.TheVariants.{Open}
 use Rattle.heap_state.specs.Memory.Era.{Era, Memory}
@@ -49,17 +49,20 @@ pub record MutatorGoesOn (E : Era) (m : Memory) (g : Ghost) (w next : Worker) : 
   pub opened : (p : ℕ) → next.opened ≡ Some p → m.page p ≡ Open E.epoch
   pub registers : next.account.end ≡ None → (j : ℕ) → j < 8 → MayHold E g.size g.writer (next.registers j)
 
--- Worker w with another account, other registers, another access and another page found open. It knows the rest that it knew.
-abbrev pub going_on : Worker → Account → (ℕ → ℕ) → Option Access → Option ℕ → Worker
-going_on w account registers access opened = record w { account = account; registers = registers; access = access; opened = opened; gate_step = None }
+-- Worker w with another account, other registers, another access and another page found open, which has seen its epoch traced or not. It
+-- knows the rest that it knew.
+abbrev pub going_on : Worker → Account → (ℕ → ℕ) → Option Access → Option ℕ → (seen : Bool) → Worker
+going_on w account registers access opened seen =
+    record w { account = account; registers = registers; access = access; opened = opened; traced_seen = seen; gate_step = None }
 
 -- what it becomes so goes on, if what it then knows is so
 abbrev pub GoesOnSo : Type 0
-GoesOnSo = (E : Era) (m : Memory) (team : Team) (g : Ghost) (k : ℕ) (account : Account) (registers : ℕ → ℕ) (access : Option Access) (opened : Option ℕ) → Ready E m team g k
+GoesOnSo = (E : Era) (m : Memory) (team : Team) (g : Ghost) (k : ℕ) (account : Account) (registers : ℕ → ℕ) (access : Option Access) (opened : Option ℕ) (seen : Bool) → Ready E m team g k
     → account.serial ≡ (team.worker k).account.serial
     → ((f : Access) → access ≡ Some f → Accesses E g.size g.writer g.kind f) → ((p : ℕ) → opened ≡ Some p → m.page p ≡ Open E.epoch)
     → (account.end ≡ None → (j : ℕ) → j < 8 → MayHold E g.size g.writer (registers j))
-    → MutatorGoesOn E m g (team.worker k) (going_on (team.worker k) account registers access opened)
+    → (seen ≡ true → (team.worker k).traced_seen ≡ true)
+    → MutatorGoesOn E m g (team.worker k) (going_on (team.worker k) account registers access opened seen)
 
 -- the plain state in which mutator k is this one
 abbrev pub with_mutator : plain.Plain → ℕ → plain.Mutator → plain.Plain

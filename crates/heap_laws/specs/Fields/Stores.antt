@@ -9,6 +9,7 @@ use Rattle.plain_state.specs.declared.value.Value.TheVariants.{Reference}
 use Rattle.plain_state.specs.declared.kind.Kind.{Kind}
 use Rattle.plain_state.specs.declared.kind.Kind.TheVariants.{Weak}
 use Rattle.plain_state.specs.declared.value.Value.{Value}
+use Rattle.plain_state.specs.Cells.{value_of_cell}
 use Rattle.plain_state.specs.State as plain
 use Rattle.plain_state.specs.Writing.{with_heap, stored, with_board, gained, took}
 use Rattle.plain_state.specs.Layout.{word_of_value}
@@ -86,10 +87,15 @@ plain_next heap k = record { mutator = k; serial = plain.serial_of heap k + 1 }
 abbrev pub with_reference : plain.Heap → ℕ → plain.Mutator → ℕ → plain.Mutator
 with_reference heap k q d = record q { registers = slice_set q.registers d (Reference (plain_next heap k)) }
 
+-- the word refers to the record to which the new plain cell does, and a mutator may hold it
+abbrev pub HoldsTarget : Era → Ghost → (target : ℕ) → plain.Record → Type 0
+HoldsTarget E g target r = (i : Identity) × (value_of_cell r ≡ Some (Reference i)) × HoldsValue E g target (Reference i)
+
 -- the store of a new record's header, of three words if it is a cell: the plain heap gains the record that the words behind it show
 abbrev pub MutatorsPlace : Type 0
-MutatorsPlace = (E : Era) (m : Memory) (team : Team) (g : Ghost) (p : plain.Plain) (k : ℕ) (next : Worker) (q : plain.Mutator) (s : Stock) (c : Kind) (z v d pointer : ℕ) (r : plain.Record)
-    → Ready E m team g k → Shown E m team g p → PlacesNext team k s c z v → (c ≡ Weak → z ≡ 3) → Shows (value_of g.identity) m.heap s.at c z r
+MutatorsPlace = (E : Era) (m : Memory) (team : Team) (g : Ghost) (p : plain.Plain) (k : ℕ) (next : Worker) (q : plain.Mutator) (s : Stock) (c : Kind) (z v target d pointer : ℕ) (r : plain.Record)
+    → Ready E m team g k → Shown E m team g p → PlacesNext team k s c z v target → (c ≡ Weak → z ≡ 3) → Shows (value_of g.identity) m.heap s.at c z r
+    → (c ≡ Weak → HoldsTarget E g target r)
     → d < 8 → decode pointer ≡ PointerWord s.at
     → MutatorGoesOn E m g (team.worker k) next → IsAs g p.heap k next q
     → StepsTo E m team g k (Some (WordIs s.at v)) (with_record next s z d pointer) (allocated g s.at z c (next_identity team k))

@@ -31,10 +31,11 @@ MayBeTarget E g word = (word ≡ 0) ⊎ MayHold E g.size g.writer word
 
 -- the header of a new record is stored; behind that of a cell stands what may be its target
 abbrev pub PlacingCarriesTargets : Type 0
-PlacingCarriesTargets = (E : Era) (m later : Memory) (weak turn : ℕ) (team : Team) (g : Ghost) (r : Ranks) (k : ℕ) (s : Stock) (c : Kind) (z v : ℕ) → Ready E m team g k
-    → PlacesNext team k s c z v → (c ≡ Weak → MayBeTarget E g (m.heap (s.at + 1))) → WritesRow E m (Some (WordIs s.at v)) later
+PlacingCarriesTargets = (E : Era) (m later : Memory) (weak turn : ℕ) (team : Team) (g : Ghost) (r : Ranks) (k : ℕ) (s : Stock) (c : Kind) (z v target : ℕ) → Ready E m team g k
+    → PlacesNext team k s c z v target → (c ≡ Weak → MayBeTarget E g (m.heap (s.at + 1))) → WritesRow E m (Some (WordIs s.at v)) later
     → Chain E m weak turn team g r → Targets E m g → Targets E later (allocated g s.at z c (next_identity team k))
 
--- where nothing is stored ahead of a cell's header, its target is 0
-abbrev pub NewTargetsAreZero : Type 0
-NewTargetsAreZero = (E : Era) (m : Memory) (team : Team) (g : Ghost) (k : ℕ) (s : Stock) (z v : ℕ) → Ready E m team g k → PlacesNext team k s Weak z v → m.heap (s.at + 1) ≡ 0
+-- behind the place of a new cell stands the target that is stored ahead of its header
+abbrev pub NewTargetsAreStored : Type 0
+NewTargetsAreStored = (E : Era) (m : Memory) (team : Team) (g : Ghost) (k : ℕ) (s : Stock) (z v target : ℕ) → Ready E m team g k → PlacesNext team k s Weak z v target
+    → m.heap (s.at + 1) ≡ target

@@ -2,13 +2,19 @@
 use Rattle.std.proofs.Common.{◌≡◌, ◌≢◌, ℕ, ◌+◌, ◌<◌, ◌≤◌, None, is_some, refl, sym, ap, ◌∙◌, arith, ⊎_elim, inl, inr}
 use Rattle.std.proofs.lemmas.Bool.{cases_lt}
 use Rattle.plain_state.specs.declared.kind.Kind.TheVariants.{Weak}
+use Rattle.plain_state.specs.State.{Heap}
 use Rattle.heap_state.specs.Cells.{no_ranks, Chain}
 use Rattle.heap_state.specs.Memory.Era.{Era, Memory}
 use Rattle.heap_state.specs.Invariant.Ghost.{Ghost}
 use Rattle.heap_state.specs.Invariant.Parts.Cells.{Cells}
+use Rattle.heap_state.specs.Meaning.Values.{TargetsShow}
 use Rattle.heap_state.specs.Targets.{IsCell, Targets}
 use Rattle.heap_state.specs.Worker.{Team, cell_to_link}
 use Rattle.heap_state.proofs.Puts.{none≢some, true_false}
+
+-- no target has to show anything
+pub nothing_to_show : (E : Era) (m : Memory) (g : Ghost) (records : Heap) → ((a : ℕ) → 0 < g.size a → g.kind a ≢ Weak) → TargetsShow E m g records
+nothing_to_show E m g records no_cell = record { shows = λ a v s e. absurd (no_cell a s.cell.stands s.cell.weak) }
 
 -- WEAKTURN is TRACED: the turn is taken just if the epoch is traced
 module _ (E : Era) (m : Memory) (team : Team) (g : Ghost) (now : (E.epoch ≤ m.traced) × (m.traced ≤ E.epoch + 1)) (turn : m.weak_turn ≡ m.traced) (zero : m.weak ≡ 0)

@@ -25,7 +25,7 @@ use Rattle.heap_state.specs.Memory.Walk.{walk, old_walk_of}
 use Rattle.heap_state.specs.Examples.Worked.{made}
 use Rattle.heap_state.specs.Worker.{Worker}
 use Rattle.heap_state.proofs.Flipped.Parts.{flipped_table, flipped_era, flipped_ghost, workers, heap, page, size, none, identity, only, blank_word, zero_word, first_register, number_lands, pointer_lands, counted, staffed, laid, headed, copied, once, kept_by, room, raw_words, counts, shut, filling, tracing, aged, scanned, opened, landing, older, new_area, new_written, old_space, old_words, old_pages, crossing, stocks, numbered}
-use Rattle.heap_state.proofs.Cells.NoCells.{no_cells}
+use Rattle.heap_state.proofs.Cells.NoCells.{no_cells, nothing_to_show}
 use Rattle.heap_state.proofs.Workers.Idle.{idle_knows}
 use Rattle.heap_state.proofs.Holds.Keeping.{holds}
 use Rattle.heap_state.proofs.Puts.{none≢some, true_false}
@@ -137,6 +137,7 @@ shows : Shown (era_of flipped_table) (memory_of flipped_table) (team flipped) fl
 unfolding put
 shows = record {
   objects = objects;
+  targets = nothing_to_show (era_of flipped_table) (memory_of flipped_table) flipped_ghost flipped_plain.heap (λ a st e. absurd (cc));
   board = board;
   as_many = refl;
   makers = refl;

@@ -20,6 +20,7 @@ use Rattle.heap_state.specs.Sums.{is_uncopied}
 use Rattle.heap_state.specs.Memory.Walk.{Walked}
 use Rattle.heap_state.specs.Worker.{Post, Scanner, Outside, Running, Stopped, Flipping, Snapping, Gone, Claim, Stock, is_live, is_running, is_asking, is_late}
 use Rattle.heap_state.proofs.Puts.{sum_below-none}
+use Rattle.heap_state.proofs.Holds.Cells.{cells_hold}
 use Rattle.heap_state.proofs.Table.LaidOut.{table_in_use}
 use Rattle.heap_state.proofs.Represents.Denoting.{none_leads}
 use Rattle.heap_state.proofs.Records.Holding.{First, OwnHeader, KeptBy, GoneTo, first, keeper, writer, reserves}
@@ -250,4 +251,4 @@ module _ (c : Configuration) (g : Ghost) (formed : IsFormed c.pages c.words) (in
       apart w i (inr (inr p)) = absurd (omega (arith, p, i.sized, i.inside, (lay c g formed inv).apart))
 
   pub holds : Holds c
-  holds = record { gate = gate; headers = headers; access = access; room = room; sizes = sizes; crossing = crossing; claims = claims; free = free }
+  holds = record { gate = gate; headers = headers; access = access; room = room; sizes = sizes; crossing = crossing; claims = claims; free = free; cells = cells_hold c g formed inv }

@@ -15,6 +15,7 @@ use Rattle.heap_state.specs.Memory.Era.{Era, Memory}
 use Rattle.heap_state.specs.Invariant.Ghost.{Ghost, IsField, Here, Leads, Lands, header_kind}
 use Rattle.heap_state.specs.Invariant.Inductive.{Invariant}
 use Rattle.heap_state.specs.Meaning.Values.{value_of, value_said}
+use Rattle.heap_state.specs.Targets.{IsCell}
 use Rattle.heap_state.proofs.Records.Holding.{First, OwnHeader, KeptBy, GoneTo, first, keeper, uncopied_here}
 use Rattle.heap_state.proofs.Walks.InHeap.{IsInReach, lay}
 
@@ -119,6 +120,23 @@ module _ (c : Configuration) (g : Ghost) (formed : IsFormed c.pages c.words) (in
       let h : Here E g.size g.writer g.kind (a + i) = inl (record { a = a; i = i; field = f; inside = r; at = refl }) in
       (inv.landing.lands (a + i) h, λ t. none_leads t (a + i) h)
   field_lands a i f (inr r) = ((λ b e. let o = inv.older.older a i b f r.1 r.2 e in (o.0, inv.older.written b o.0 o.1 o.2)), λ t. absurd (omega (arith, t, r.0)))
+
+  -- once the epoch is traced no target of a cell of its space leads into the old one
+  pub target_clean : m.traced ≡ E.epoch + 1 → (a : ℕ) → IsCell g a → E.start ≤ a → a < E.start + E.span → ¬ (Leads E (m.heap (a + 1)))
+  target_clean t a z from to = ⊎_elim
+      (λ (l : (E.start ≤ a) × (a + g.size a ≤ m.front)). inv.cells.targets.clean t a (record { stands = z.stands; written = z.written; weak = z.weak; inside = (from, (let st = z.stands in omega (arith, l, st))) }))
+      (λ y. ⊎_elim
+      (λ l. inv.cells.targets.new a z l.0 to)
+      (λ l. absurd (let o = (lay c g formed inv).apart in let st = z.stands in omega (arith, l, from, to, o, st)))
+      y)
+      (inv.laid.lies a z.stands)
+
+  -- a target of a cell in reach lands, and leads into the old space only while records are copied from it
+  pub target_lands : (a : ℕ) → IsCell g a → IsInReach E m.traced a → Lands g.size g.writer (m.heap (a + 1)) × (m.traced ≡ E.epoch + 1 → ¬ (Leads E (m.heap (a + 1))))
+  unfolding Lands
+  target_lands a z (inl r) = (inv.cells.targets.lands a z r.0 r.1, λ t. target_clean t a z r.0 r.1)
+  target_lands a z (inr r) =
+      ((λ b e. let o = inv.cells.targets.older r.0 a b z (r.1, r.2) e in (o.0, inv.older.written b o.0 o.1.0 o.1.1)), λ t. absurd (omega (arith, t, r.0)))
 
   pub board_lands : (x : ℕ) → x < 16 → Lands g.size g.writer (m.heap (E.board + x)) × (m.traced ≡ E.epoch + 1 → ¬ (Leads E (m.heap (E.board + x))))
   unfolding Here

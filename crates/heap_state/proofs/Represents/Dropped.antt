@@ -1,9 +1,9 @@
 -- The invariant without the records of the old space, once the epoch is traced: what workers know of it, and the whole.
-use Rattle.std.proofs.Common.{◌≡◌, ℕ, ◌+◌, ◌<◌, ◌≤◌, true, arith, Some, None, ◌∙◌, ⊎_elim}
+use Rattle.std.proofs.Common.{◌≡◌, ℕ, ◌+◌, ◌<◌, true, arith, Some, None, ◌∙◌}
 use Rattle.heap_state.specs.Memory.Table.{IsFormed}
 use Rattle.heap_state.specs.Configuration.{Configuration, era, memory, team}
 use Rattle.heap_state.specs.Memory.Era.{Era, Memory}
-use Rattle.heap_state.specs.Invariant.Ghost.{Ghost, Leads}
+use Rattle.heap_state.specs.Invariant.Ghost.{Ghost}
 use Rattle.heap_state.specs.Invariant.Inductive.{Invariant, Knows}
 use Rattle.heap_state.specs.Invariant.Parts.Cells.{Cells}
 use Rattle.heap_state.specs.Invariant.Parts.Copying.{IsOrigin, Seeks, Copies, Keeps}
@@ -12,6 +12,7 @@ use Rattle.heap_state.specs.Invariant.Parts.Scanning.{Scans, Stepping, Claims}
 use Rattle.heap_state.specs.Targets.{IsCell, Targets}
 use Rattle.heap_state.specs.Worker.{Worker, Origin, Register, Scanned, Quest, Copy, Access, Scan, Claim, is_mutator, is_late}
 use Rattle.heap_state.proofs.Holds.Still.{nobody_scans, nobody_copies}
+use Rattle.heap_state.proofs.Represents.Denoting.{target_clean}
 use Rattle.heap_state.proofs.Represents.Dropping as drop
 use Rattle.heap_state.proofs.Represents.Dropping.{without_old}
 
@@ -84,19 +85,9 @@ module _ (c : Configuration) (g : Ghost) (formed : IsFormed c.pages c.words) (in
   was_cell : (a : ℕ) → IsCell h a → IsCell g a
   was_cell a z = record { stands = (drop.was c g formed inv traced a z.stands).0; written = z.written; weak = z.weak }
 
-  -- its target doesn't lead into the old space
-  clean_cell : (a : ℕ) → IsCell g a → E.start ≤ a → a < E.start + E.span → ¬ (Leads E (m.heap (a + 1)))
-  clean_cell a z from to = ⊎_elim
-      (λ (l : (E.start ≤ a) × (a + g.size a ≤ m.front)). inv.cells.targets.clean traced a (record { stands = z.stands; written = z.written; weak = z.weak; inside = (from, (let st = z.stands in omega (arith, l, st))) }))
-      (λ y. ⊎_elim
-      (λ l. inv.cells.targets.new a z l.0 to)
-      (λ l. absurd (let o = (drop.out c g formed inv traced).apart in let st = z.stands in omega (arith, l, from, to, o, st)))
-      y)
-      (inv.laid.lies a z.stands)
-
   targets : Targets E m h
   targets = let t = inv.cells.targets in record {
-    lands = λ a z from to. let y = was_cell a z in drop.lands_on c g formed inv traced (m.heap (a + 1)) (t.lands a y from to) (clean_cell a y from to);
+    lands = λ a z from to. let y = was_cell a z in drop.lands_on c g formed inv traced (m.heap (a + 1)) (t.lands a y from to) (target_clean c g formed inv traced a y from to);
     aims = λ a b z e. t.aims a b (record { stands = (drop.was c g formed inv traced a z.stands).0; written = z.written; weak = z.weak; inside = z.inside }) e;
     new = λ a z from to. t.new a (was_cell a z) from to;
     clean = λ e a z. t.clean e a (record { stands = (drop.was c g formed inv traced a z.stands).0; written = z.written; weak = z.weak; inside = z.inside });

@@ -4,11 +4,12 @@ use Rattle.plain_state.specs.declared.value.Identity.{Identity}
 use Rattle.plain_state.specs.State.{Plain}
 use Rattle.heap_state.specs.Memory.Table.{IsFormed}
 use Rattle.heap_state.specs.Configuration.{Configuration, era, memory, team}
-use Rattle.heap_state.specs.Cycles.Cycle.{Cycle, Copying, Rooted, IsCopied}
+use Rattle.heap_state.specs.Cycles.Cycle.{Cycle, Copying, Rooted, MadeSince}
 use Rattle.heap_state.specs.Memory.Era.{Era, Memory}
 use Rattle.heap_state.specs.Invariant.Ghost.{Ghost}
 use Rattle.heap_state.specs.Invariant.Inductive.{Invariant}
 use Rattle.heap_state.proofs.Represents.Dropping.{without_old, out, was, still, here_was}
+use Rattle.heap_state.specs.Targets.{IsCopied}
 
 module _ (c : Configuration) (g : Ghost) (formed : IsFormed c.pages c.words) (inv : Invariant (era c) (memory c) (team c) g) (traced : (memory c).traced ≡ (era c).epoch + 1) (o : Plain) where
   abbrev E : Era
@@ -44,5 +45,8 @@ module _ (c : Configuration) (g : Ghost) (formed : IsFormed c.pages c.words) (in
   rooted : Rooted E m.front (team c).count g.size g.writer g.identity m.heap (team c).worker o → Rooted E m.front (team c).count h.size h.writer h.identity m.heap (team c).worker o
   rooted y = record { roots = λ i r. ⊎_elim (λ z. inl (still_copied i z)) (λ z. inr z) (y.roots i r); sound = y.sound }
 
+  made : MadeSince E m.low c.mutators g.size g.identity (team c).worker o → MadeSince E m.low c.mutators h.size h.identity (team c).worker o
+  made y = record { new = λ a st l n. y.new a (was c g formed inv traced a st).0 l n; grown = y.grown }
+
   pub dropped_cycle : Cycle E m (team c) g o → Cycle E m (team c) h o
-  dropped_cycle y = record { copying = copying y.copying; rooted = rooted y.rooted }
+  dropped_cycle y = record { copying = copying y.copying; rooted = rooted y.rooted; made = made y.made }

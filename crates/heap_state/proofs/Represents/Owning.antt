@@ -1,6 +1,7 @@
 -- What a record that has its own header is known to be.
-use Rattle.std.proofs.Common.{◌≡◌, ℕ, ◌+◌, ◌-◌, ◌<◌, true, sym, ap, ◌∙◌, arith, ◌⊎◌, inl}
+use Rattle.std.proofs.Common.{◌≡◌, ℕ, ◌+◌, ◌-◌, ◌<◌, true, sym, ap, ◌∙◌, arith, ⊎_elim, ◌⊎◌, inl, inr}
 use Rattle.plain_state.specs.declared.kind.Kind.{Kind}
+use Rattle.plain_state.specs.declared.kind.Kind.TheVariants.{Weak}
 use Rattle.heap_words.specs.Decoded.{HeaderWord, Malformed}
 use Rattle.plain_state.specs.declared.value.Identity.{Identity}
 use Rattle.plain_state.specs.Layout.{is_field}
@@ -12,6 +13,7 @@ use Rattle.heap_state.specs.Invariant.Ghost.{Ghost, IsField, Here, header_kind, 
 use Rattle.heap_state.specs.Invariant.Holds.{IsWalkedField}
 use Rattle.heap_state.specs.Invariant.Inductive.{Invariant}
 use Rattle.heap_state.specs.Meaning.Represents.{IsOwn}
+use Rattle.heap_state.specs.Meaning.Values.{IsShownCell}
 use Rattle.heap_state.specs.Memory.Walk.{Walked}
 use Rattle.heap_state.proofs.Represents.Denoting.{header_of, Headers, Own, Forwarded, headers}
 use Rattle.heap_state.proofs.Walks.InHeap.{StandsWritten, in_heap_sound, now_sound}
@@ -61,6 +63,13 @@ module _ (c : Configuration) (g : Ghost) (formed : IsFormed c.pages c.words) (in
     field = ap (λ k. is_field k i) (sym o.of_kind) ∙ f;
     first = first;
     last = omega (arith, o.known.sized);
+  }
+
+  -- a cell that has its own header shows the plain one's value
+  pub cell_shown : (w : Walked) (len serial mutator : ℕ) → Owns w Weak len serial mutator → IsShownCell E m g w.at
+  cell_shown w len serial mutator o = record {
+    cell = record { stands = omega (arith, o.known.sized); written = o.known.written; weak = sym o.of_kind };
+    place = ⊎_elim (λ r. inl r) (λ r. inr (r.0, (r.1, r.2), o.own)) o.known.inside;
   }
 
   -- a field of a walked record is one that mutators read

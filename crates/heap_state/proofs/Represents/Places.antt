@@ -1,16 +1,18 @@
 -- What a record shows word by word is what it shows as a whole.
-use Rattle.std.proofs.Common.{◌≡◌, ℕ, ◌+◌, ◌<◌, ◌≤◌, Some, refl, sym, ap, ◌∙◌, subst, arith, ⊎_elim}
+use Rattle.std.proofs.Common.{◌≡◌, ℕ, ◌+◌, ◌<◌, ◌≤◌, Some, refl, sym, ap, ◌∙◌, subst, arith, ⊎_elim, ◌⊎◌}
 use Rattle.std.specs.List.{Contains}
 use Rattle.std.specs.Prelude.{slice_get}
 use Rattle.std.proofs.lemmas.Bool.{cases_lt}
 use Rattle.plain_state.specs.declared.kind.Kind.{Kind}
 use Rattle.plain_state.specs.declared.kind.Kind.TheVariants.{Fields, Raw, Mixed, Weak}
+use Rattle.plain_state.specs.Cells.{value_of_cell}
+use Rattle.plain_state.specs.declared.value.Value.{Value}
 use Rattle.plain_state.specs.declared.value.Value.TheVariants.{Number}
 use Rattle.plain_state.specs.Layout.{is_field, is_raw, size_of, values_at, word_of_value}
 use Rattle.plain_state.specs.State as plain
 use Rattle.heap_state.specs.Invariant.Ghost.{header_kind}
 use Rattle.heap_state.specs.Meaning.Dump.{Dump}
-use Rattle.heap_state.specs.Meaning.Represents.{HasOwn, IsFieldOf, IsOwn, LeadsToRecord, Names, RecordShows, denoted_in_dump}
+use Rattle.heap_state.specs.Meaning.Represents.{HasOwn, IsEmptied, IsFieldOf, IsOwn, LeadsToRecord, Names, RecordShows, denoted_in_dump}
 use Rattle.heap_state.specs.Meaning.Values.{CountShows, Shows}
 use Rattle.heap_state.specs.Memory.Walk.{Walked, walk_in}
 use Rattle.heap_state.proofs.Puts.{some_same}
@@ -46,6 +48,14 @@ module _ (d : Dump) (p : plain.Plain) (w : Walked) where
   -- the record of an identity, as it shows as a whole
   abbrev pub ShowsWhole : (kind : Kind) (serial mutator : ℕ) → Type 0
   ShowsWhole kind serial mutator = (r : plain.Record) × (plain.record_of p.heap (record { mutator = mutator; serial = serial }) ≡ Some r) × Shows (denoted_in_dump d) heap w.at kind w.size r
+
+  -- the target of a cell denotes the plain one, or the cell was emptied
+  abbrev pub ShowsTarget : Type 0
+  ShowsTarget = (r : plain.Record) (v : Value) → Names d p w Weak r → value_of_cell r ≡ Some v → (denoted_in_dump d (heap (w.at + 1)) ≡ Some v) ⊎ IsEmptied d w v
+
+  -- it leads to a record if it is a pointer
+  abbrev pub TargetLeads : Type 0
+  TargetLeads = (len serial mutator : ℕ) → IsOwn d w Weak len serial mutator → LeadsToRecord d (heap (w.at + 1))
 
   -- ---- from the words to the whole
 
@@ -85,8 +95,8 @@ module _ (d : Dump) (p : plain.Plain) (w : Walked) where
     pub record_shows : (Contains (walk_in d.table d.kept) w → HasOwn d w)
         → ((kind : Kind) (len serial mutator i : ℕ) → IsOwn d w kind len serial mutator → IsFieldOf w kind i → LeadsToRecord d (heap (w.at + i)))
         → ((v : Walked) (kind other : Kind) (len longer serial mutator : ℕ) → IsOwn d w kind len serial mutator → IsOwn d v other longer serial mutator → w.at ≤ v.at)
-        → RecordShows d p w
-    record_shows owns leads once = record {
+        → ShowsTarget → TargetLeads → RecordShows d p w
+    record_shows owns leads once target target_leads = record {
       head = record {
         owns = owns;
         shows = λ kind len serial mutator own. let s = shows kind len serial mutator own in (omega (arith, s.0), (s.1.0, s.1.1, ap header_kind s.1.2.kind, s.1.2.size));
@@ -99,5 +109,8 @@ module _ (d : Dump) (p : plain.Plain) (w : Walked) where
         number = λ kind r x names e within number.
             subst (λ (j : ℕ). Some (Number (heap (w.at + j))) ≡ slice_get r.values x) (sym e) ((shows_named kind r names).numbers x within (ap (is_raw kind) (sym e) ∙ number));
         leads = λ kind len serial mutator own f. leads kind len serial mutator i own f;
+        target = λ kind r v names cell e.
+            subst (λ (j : ℕ). (denoted_in_dump d (heap (w.at + j)) ≡ Some v) ⊎ IsEmptied d w v) (sym cell.1) (target r v (rw cell.0 at names) e);
+        target_leads = λ kind len serial mutator own cell. subst (λ (j : ℕ). LeadsToRecord d (heap (w.at + j))) (sym cell.1) (target_leads len serial mutator (rw cell.0 at own));
       };
     }

@@ -1,10 +1,13 @@
 -- A configuration that keeps the invariant and shows a plain state represents it.
-use Rattle.std.proofs.Common.{◌≡◌, ℕ, ◌+◌, ◌-◌, ◌<◌, true, Some, None, refl, sym, ap, ◌∙◌, subst, arith, ⊎_elim, ◌⊎◌, inl}
+use Rattle.std.proofs.Common.{◌≡◌, ℕ, ◌+◌, ◌-◌, ◌<◌, true, Some, None, refl, sym, ap, ◌∙◌, subst, arith, ⊎_elim, ◌⊎◌, inl, inr}
 use Rattle.std.specs.List.{Contains}
 use Rattle.std.specs.Prelude.{slice_get}
 use Rattle.std.proofs.lemmas.Bool.{lt-ltb}
 use Rattle.std.proofs.lemmas.Option.{slice_get_within}
+use Rattle.plain_state.specs.Cells.{value_of_cell}
 use Rattle.plain_state.specs.declared.kind.Kind.{Kind}
+use Rattle.plain_state.specs.declared.kind.Kind.TheVariants.{Weak}
+use Rattle.plain_state.specs.declared.value.Value.{Value}
 use Rattle.plain_state.specs.State as plain
 use Rattle.plain_state.specs.Layout.{word_of_value}
 use Rattle.heap_state.specs.Memory.Table.{IsFormed}
@@ -14,15 +17,16 @@ use Rattle.heap_state.specs.Memory.Era.{Era, Memory}
 use Rattle.heap_state.specs.Invariant.Ghost.{Ghost, Leads, Lands, header_kind}
 use Rattle.heap_state.specs.Invariant.Inductive.{Invariant}
 use Rattle.heap_state.specs.Meaning.Dump.{dump_of}
-use Rattle.heap_state.specs.Meaning.Represents.{IsOwn, HasOwn, IsFieldOf, LeadsToRecord, RegisterShows, BoardWordShows, Represents}
+use Rattle.heap_state.specs.Meaning.Represents.{IsOwn, Names, HasOwn, IsEmptied, IsFieldOf, LeadsToRecord, RegisterShows, BoardWordShows, Represents}
 use Rattle.heap_state.specs.Meaning.Values.{value_of, Shows, Shown}
 use Rattle.heap_state.specs.Memory.Walk.{Walked, walk_of}
 use Rattle.heap_state.specs.Worker.{is_mutator}
-use Rattle.heap_state.proofs.Represents.Denoting.{denotes, reaches, field_lands, board_lands}
+use Rattle.heap_state.proofs.Represents.Denoting.{denotes, reaches, field_lands, target_lands, board_lands}
 use Rattle.heap_state.proofs.Records.Holding.{uncopied_here}
 use Rattle.heap_state.proofs.Walks.InHeap.{in_heap_complete, lay, now_sound, now_read, old_readable}
 use Rattle.heap_state.proofs.Represents.Ordered.{in_order}
-use Rattle.heap_state.proofs.Represents.Owning.{Owns, owns, field_of}
+use Rattle.heap_state.proofs.Represents.Owning.{Owns, owns, field_of, cell_shown}
+use Rattle.heap_state.proofs.Represents.Emptying.{is_emptied}
 use Rattle.heap_state.proofs.Represents.Places.{record_shows}
 use Rattle.heap_state.proofs.Records.Headers.{said_there}
 use Rattle.heap_state.proofs.Records.Layouts.{value_within}
@@ -93,6 +97,25 @@ module _ (c : Configuration) (g : Ghost) (formed : IsFormed c.pages c.words) (in
       let o = owns c g formed inv w kind len serial mutator is in
       leads (m.heap (w.at + i)) (field_lands c g formed inv w.at i (field_of c g formed inv w kind len serial mutator i o f.inside.0 f.inside.1 f.field) o.known.inside)
 
+  -- ---- cells
+
+  target_shows : (w : Walked) (r : plain.Record) (v : Value) → Names (dump_of c) p w Weak r → value_of_cell r ≡ Some v → (denoted c (m.heap (w.at + 1)) ≡ Some v) ⊎ IsEmptied (dump_of c) w v
+  target_shows w r v names e =
+      let o = owns c g formed inv w Weak names.len names.serial names.mutator names.own in
+      let s = cell_shown c g formed inv w names.len names.serial names.mutator o in
+      let of : plain.record_of p.heap (g.identity w.at) ≡ Some r = sym (ap (plain.record_of p.heap) o.named) ∙ names.names in
+      ⊎_elim
+      (λ d. inl (denotes c g formed inv (m.heap (w.at + 1)) (target_lands c g formed inv w.at s.cell o.known.inside).0 ∙ d))
+      (λ y. inr (is_emptied c g formed inv w v o.known.sized.1 y))
+      (shown.targets.shows w.at v s (rw of e))
+
+  target_leads : (w : Walked) (len serial mutator : ℕ) → IsOwn (dump_of c) w Weak len serial mutator → LeadsToRecord (dump_of c) (m.heap (w.at + 1))
+  target_leads w len serial mutator is =
+      let o = owns c g formed inv w Weak len serial mutator is in
+      leads (m.heap (w.at + 1)) (target_lands c g formed inv w.at (cell_shown c g formed inv w len serial mutator o).cell o.known.inside)
+
+  -- ---- no two of one identity
+
   once : (w v : Walked) (kind other : Kind) (len longer serial mutator : ℕ) → IsOwn (dump_of c) w kind len serial mutator → IsOwn (dump_of c) v other longer serial mutator → w.at ≡ v.at
   once w v kind other len longer serial mutator a b =
       let x = owns c g formed inv w kind len serial mutator a in
@@ -135,6 +158,7 @@ module _ (c : Configuration) (g : Ghost) (formed : IsFormed c.pages c.words) (in
       readable = now_read c g formed inv;
       old_readable = old_readable c g formed inv;
       records = λ w h. record_shows (dump_of c) p w (λ kind len serial mutator is. let s = records_show w kind len serial mutator is in (omega (arith, s.0), s.1)) (each_owns w) (field_leads w)
-          (λ v kind other len longer serial mutator a b. let e = once w v kind other len longer serial mutator a b in omega arith);
+          (λ v kind other len longer serial mutator a b. let e = once w v kind other len longer serial mutator a b in omega arith)
+          (target_shows w) (target_leads w);
     };
   }

@@ -9,6 +9,7 @@ use Rattle.heap_state.specs.Worker.{Team}
 pub snaps_show : (E : Era) (m : Memory) (team : Team) (g : Ghost) (p : plain.Plain) → Shown E m team g p → Shown E m team g (with_heap p (took p.heap))
 snaps_show E m team g p s = record {
   objects = record { shows = s.objects.shows };
+  targets = record { shows = s.targets.shows };
   board = record { sixteen = s.board.sixteen; board = s.board.board };
   as_many = s.as_many;
   makers = s.makers;

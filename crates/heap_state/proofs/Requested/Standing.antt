@@ -16,7 +16,7 @@ use Rattle.heap_state.specs.Theorems.Saves.{WrittenWhole}
 use Rattle.heap_state.specs.Theorems.Standing.{IsSound}
 use Rattle.heap_state.proofs.Flipped.Parts.{flipped_ghost, heap, identity, blank_word, zero_word, headed, once, kept_by, raw_words, counts, old_area}
 use Rattle.heap_state.proofs.Flipped.Standing.{objects, board_zero, registers}
-use Rattle.heap_state.proofs.Cells.NoCells.{no_cells}
+use Rattle.heap_state.proofs.Cells.NoCells.{no_cells, nothing_to_show}
 use Rattle.heap_state.proofs.Holds.Keeping.{holds}
 use Rattle.heap_state.proofs.Represents.Representing.{represents}
 use Rattle.heap_state.proofs.Represents.Snapped.{snaps_show}
@@ -54,6 +54,7 @@ flipped_shows : Shown (era_of requested_table) (memory_of requested_table) (team
 unfolding put
 flipped_shows = record {
   objects = objects;
+  targets = nothing_to_show (era_of requested_table) (memory_of requested_table) flipped_ghost flipped_plain.heap (λ a st e. absurd (cc));
   board = board;
   as_many = refl;
   makers = refl;

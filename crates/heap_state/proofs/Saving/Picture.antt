@@ -80,6 +80,8 @@ picture = record {
   sixteen = refl;
   held = refl;
   records = λ a st. rw (only a st) shown;
+  three = λ a st weak. absurd (cc);
+  targets = λ a r st weak is. absurd (cc);
   board_lands = λ x b l e. ⊎_elim
       (λ (o : x ≡ 0). let q : PointerWord 192 ≡ PointerWord b = sym first_word ∙ (rw o at e) in let s : 192 ≡ b = cc in rw (← s) (omega arith))
       (λ (n : x ≢ 0). absurd (let q = sym (blank_word x n) ∙ e in cc))
@@ -90,5 +92,6 @@ picture = record {
       let s : a + i ≡ 193 = omega (arith, o, q) in
       let r : decode (frozen_heap.heap 193) ≡ PointerWord b = rw s at e in
       let d = sym field_word ∙ r in cc);
+  target_lands = λ a b st weak e. absurd (cc);
   once = λ a b sa sb e. only a sa ∙ sym (only b sb);
 }

@@ -22,16 +22,17 @@ use Rattle.plain_state.specs.declared.kind.Kind.TheVariants as plain_kind
 use Rattle.plain_state.specs.declared.kind.Kind.TheVariants.{Fields}
 use Rattle.plain_state.specs.Layout.{word_of_value, size_of}
 use Rattle.heap_state.specs.Configuration.{team}
-use Rattle.heap_state.specs.Cycles.Cycle.{IsCopied, StillLeads, IsRoot, InRegister, OnTheBoard, Copying, Rooted, Cycle}
+use Rattle.heap_state.specs.Cycles.Cycle.{StillLeads, IsRoot, InRegister, OnTheBoard, Copying, Rooted, MadeSince, Cycle}
 use Rattle.heap_state.specs.Memory.Era.{era_of, memory_of}
 use Rattle.std.proofs.lemmas.Bool.{cases_eq, ne_eqb}
-use Rattle.heap_state.proofs.Worked.Ghost.{worked_table, worked_era, worked_ghost, size, writer, copy, keeper, identity, each_place}
+use Rattle.heap_state.proofs.Worked.Ghost.{worked_table, worked_era, worked_ghost, size, writer, copy, keeper, identity, each_place, sizes}
 use Rattle.heap_state.proofs.Worked.Records.{heap, older, word_258}
 use Rattle.heap_state.proofs.Worked.Broken.{second}
 use Rattle.heap_state.proofs.Holds.Keeping.{holds}
 use Rattle.heap_state.proofs.Represents.Representing.{represents}
 use Rattle.heap_state.proofs.Worked.Standing.{entries_fit, has_sizes, stands, the_mutator, objects}
 use Rattle.heap_state.proofs.Table.Writing.{writes_tables}
+use Rattle.heap_state.specs.Targets.{IsCopied}
 
 table_is : Written 4 worked_entries
 table_is = writes_tables 4 worked_entries entries_fit has_sizes
@@ -219,9 +220,20 @@ rooted = record { roots = λ i r. inl (first_copied i (root i r)); sound = λ k 
     root i (InRegister m j q e n f) = mutator_one m q j i e f
     root i (OnTheBoard x e) = board_one x i e
 
+-- nothing stands from LOW up, and the mutator has made two records
+made_since : MadeSince worked_era 320 1 size identity (team worked).worker worked_plain
+made_since = record {
+  new = λ a st l n. absurd (let z = sizes a st in omega (arith, z, l));
+  grown = one;
+}
+  where
+    one : (k : ℕ) → k < 1 → plain.serial_of worked_plain.heap k ≤ ((team worked).worker k).account.serial
+    one zero l = omega arith
+    one (suc k) l = absurd (omega arith)
+
 cycle : Cycle (era_of worked_table) (memory_of worked_table) (team worked) worked_ghost worked_plain
 unfolding put
-cycle = record { copying = copying; rooted = rooted }
+cycle = record { copying = copying; rooted = rooted; made = made_since }
 
 sound : IsSound worked worked_plain
 sound = record { holds = holds worked stands.ghost stands.formed stands.invariant; represents = represents worked stands.ghost stands.formed stands.invariant worked_plain stands.shown }

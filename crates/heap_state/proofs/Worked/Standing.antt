@@ -18,7 +18,7 @@ use Rattle.heap_state.specs.Invariant.Parts.Records.{RawWords, Counts}
 use Rattle.heap_state.specs.Meaning.Values.{value_of, Shows, ShowsAll, Accounts, RegistersShow, BoardShows, Shown}
 use Rattle.heap_state.specs.Examples.Worked.{worked, worked_entries, worked_plain, worked_mutator, made, zeros_after}
 use Rattle.heap_words.specs.Word.{pointer_word}
-use Rattle.heap_state.proofs.Cells.NoCells.{no_cells}
+use Rattle.heap_state.proofs.Cells.NoCells.{no_cells, nothing_to_show}
 use Rattle.heap_state.proofs.Puts.{some_same, none≢some}
 use Rattle.heap_state.proofs.Worked.Ghost.{worked_table, worked_era, worked_ghost, size, writer, copy, keeper, identity, each_place}
 use Rattle.heap_state.proofs.Worked.Pages.{workers, shut, filling, tracing, aged, old_area, old_pages, scanned}
@@ -160,6 +160,7 @@ pub shows : Shown (era_of worked_table) (memory_of worked_table) (team worked) w
 unfolding put
 shows = record {
   objects = objects;
+  targets = nothing_to_show (era_of worked_table) (memory_of worked_table) worked_ghost worked_plain.heap (λ a st e. absurd (cc));
   board = board;
   as_many = refl;
   makers = refl;

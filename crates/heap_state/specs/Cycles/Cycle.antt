@@ -11,14 +11,8 @@ use Rattle.plain_state.specs.Layout.{is_field, word_of_value, size_of}
 use Rattle.heap_state.specs.Memory.Era.{Era, Memory}
 use Rattle.heap_state.specs.Invariant.Ghost.{Ghost, Here}
 use Rattle.heap_state.specs.Meaning.Values.{value_of, Shows}
+use Rattle.heap_state.specs.Targets.{IsCopied}
 use Rattle.heap_state.specs.Worker.{Worker, Team, is_late, is_mutator}
-
--- a copy of this identity stands, and nobody writes it any more
-pub record IsCopied (E : Era) (front : ℕ) (size writer : ℕ → ℕ) (identity : ℕ → Identity) (i : Identity) : Type 0 where
-  pub at : ℕ
-  pub stands : (0 < size at) × (writer at ≡ 0)
-  pub below : (E.start ≤ at) × (at < front)
-  pub named : identity at ≡ i
 
 -- the word still leads into the old space, to a record of this identity
 pub record StillLeads (E : Era) (identity : ℕ → Identity) (w : ℕ) (i : Identity) : Type 0 where
@@ -60,7 +54,13 @@ pub record Rooted (E : Era) (front count : ℕ) (size writer : ℕ → ℕ) (ide
   pub sound : (k r : ℕ) (i : Identity) → k < count → is_mutator (worker k).post ≡ true → (worker k).account.end ≡ None → r < 8
       → StillLeads E identity ((worker k).registers r) i → Reachable p i
 
+-- No record that was made since the flip was in the plain state then: none of the new area was, and no mutator had made more than now.
+pub record MadeSince (E : Era) (low mutators : ℕ) (size : ℕ → ℕ) (identity : ℕ → Identity) (worker : ℕ → Worker) (p : plain.Plain) : Type 0 where
+  pub new : (a : ℕ) → 0 < size a → low ≤ a → a < E.start + E.span → plain.record_of p.heap (identity a) ≡ None
+  pub grown : (k : ℕ) → k < mutators → plain.serial_of p.heap k ≤ (worker k).account.serial
+
 -- what a cycle keeps, of the plain state at its flip
 pub record Cycle (E : Era) (m : Memory) (team : Team) (g : Ghost) (p : plain.Plain) : Type 0 where
   pub copying : Copying E m.front g.size g.writer g.copy g.keeper g.kind g.identity m.heap p
   pub rooted : Rooted E m.front team.count g.size g.writer g.identity m.heap team.worker p
+  pub made : MadeSince E m.low team.mutators g.size g.identity team.worker p

@@ -7,6 +7,7 @@ use Rattle.space_map.specs.declared.page_word.PageWord.TheVariants.{Open, Scanni
 use Rattle.space_map.specs.PageWord.{age_of}
 use Rattle.heap_state.specs.Configuration.{Configuration, table, era, memory, team}
 use Rattle.heap_state.specs.Invariant.Ghost.{Leads, OnBoard}
+use Rattle.heap_state.specs.Invariant.HoldsOfCells.{CellsHold}
 use Rattle.heap_state.specs.Invariant.Parts.Gate.{Counted}
 use Rattle.heap_state.specs.Meaning.Dump.{dump_of}
 use Rattle.heap_state.specs.Kept.{kept_of}
@@ -148,3 +149,4 @@ pub record Holds (c : Configuration) : Type 0 where
   pub crossing : CrossingHolds c
   pub claims : ClaimsHold c
   pub free : FreeHolds c
+  pub cells : CellsHold c

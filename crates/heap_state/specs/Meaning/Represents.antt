@@ -1,16 +1,20 @@
 -- What it means that a dump or a configuration represents a state of the plain machine.
 use Rattle.std.specs.Prelude.{◌≡◌, ◌≢◌, ℕ, ◌+◌, ◌*◌, ◌<◌, ◌≤◌, ◌⊎◌, true, length, Contains, Option, Some, None, slice_get}
 use Rattle.heap_words.specs.declared.kind.Kind.{Kind as HeaderKind}
-use Rattle.heap_words.specs.Decoded.{Decoded, PointerWord, HeaderWord, decode}
+use Rattle.heap_words.specs.Decoded.{Decoded, NumberWord, PointerWord, HeaderWord, decode}
 use Rattle.plain_state.specs.declared.kind.Kind.{Kind}
+use Rattle.plain_state.specs.declared.kind.Kind.TheVariants.{Weak}
+use Rattle.plain_state.specs.declared.value.Identity.{Identity}
+use Rattle.plain_state.specs.Cells.{value_of_cell}
 use Rattle.plain_state.specs.State as plain
 use Rattle.plain_state.specs.Layout.{is_field, is_raw, size_of, word_of_value}
 use Rattle.plain_state.specs.declared.value.Value.{Value}
-use Rattle.plain_state.specs.declared.value.Value.TheVariants.{Number}
+use Rattle.plain_state.specs.declared.value.Value.TheVariants.{Number, Reference}
 use Rattle.space_map.specs.Spaces.{to_space}
 use Rattle.space_map.specs.declared.spaces.TheConstants.{PAGE_WORDS}
 use Rattle.heap_state.specs.Configuration.{Configuration, team}
-use Rattle.heap_state.specs.Meaning.Denotes.{denoted_in, own_header_in}
+use Rattle.heap_state.specs.Cycles.Copies.{copied_in}
+use Rattle.heap_state.specs.Meaning.Denotes.{denoted_in, named_by, own_header_in}
 use Rattle.heap_state.specs.Meaning.Dump.{Dump, dump_of}
 use Rattle.heap_state.specs.Memory.Era.{era_of, from_space}
 use Rattle.heap_state.specs.Invariant.Ghost.{said_kind, header_kind}
@@ -99,9 +103,26 @@ pub record HeadShows (d : Dump) (p : plain.Plain) (w : Walked) : Type 0 where
       × ((r : plain.Record) × (plain.record_of p.heap (record { mutator = mutator; serial = serial }) ≡ Some r) × (header_kind r.kind ≡ header_kind kind) × (size_of r ≡ w.size))
   pub once : (v : Walked) (kind other : Kind) (len longer serial mutator : ℕ) → IsOwn d w kind len serial mutator → IsOwn d v other longer serial mutator → w.at ≤ v.at
 
+-- no record that was copied in this epoch has the identity
+abbrev pub HasNoCopy : Dump → Identity → Type 0
+HasNoCopy d i = (w : Walked) → Contains (copied_in d.table d.kept) w → named_by (decode (d.table.heap w.at)) ≢ Some i
+
+-- The walk over the chain of copied cells may have emptied the cell, whose plain value this is: it was copied in this epoch, which isn't
+-- traced and whose turn is taken, its target is the number 0, and the plain one is a record that has no copy.
+pub record IsEmptied (d : Dump) (w : Walked) (v : Value) : Type 0 where
+  pub copied : Contains (copied_in d.table d.kept) w
+  pub walked : IsCopying d.table × (d.table.weak_turn ≡ d.table.gate.epoch + 1)
+  pub empty : decode (d.table.heap (w.at + 1)) ≡ NumberWord 0
+  pub lost : (i : Identity) × (v ≡ Reference i) × HasNoCopy d i
+
+-- word i of a record of this kind is a cell's target
+abbrev pub IsTarget : Kind → (i : ℕ) → Type 0
+IsTarget kind i = (kind ≡ Weak) × (i ≡ 1)
+
 -- Word i of a record whose own header says a kind, and names a plain record. Word 1 of a mixed record has the count of the plain
 -- record's fields. A field in which a value stands denotes it, and each field leads to a record if it is a pointer. Each other
--- value is the number there.
+-- value is the number there. A cell's target denotes the plain cell's value, unless the walk may have emptied it, and leads to a record
+-- if it is a pointer.
 pub record WordShows (d : Dump) (p : plain.Plain) (w : Walked) (i : ℕ) : Type 0 where
   pub count : (kind : Kind) (r : plain.Record) → Names d p w kind r → i ≡ 1 → (r.kind ≡ kind) × CountShows kind d.table.heap w.at
   pub field : (kind : Kind) (r : plain.Record) (x : ℕ) → Names d p w kind r → i ≡ word_of_value kind x → x < length r.values → is_field kind i ≡ true
@@ -109,6 +130,9 @@ pub record WordShows (d : Dump) (p : plain.Plain) (w : Walked) (i : ℕ) : Type 
   pub number : (kind : Kind) (r : plain.Record) (x : ℕ) → Names d p w kind r → i ≡ word_of_value kind x → x < length r.values → is_raw kind i ≡ true
       → Some (Number (d.table.heap (w.at + i))) ≡ slice_get r.values x
   pub leads : (kind : Kind) (len serial mutator : ℕ) → IsOwn d w kind len serial mutator → IsFieldOf w kind i → LeadsToRecord d (d.table.heap (w.at + i))
+  pub target : (kind : Kind) (r : plain.Record) (v : Value) → Names d p w kind r → IsTarget kind i → value_of_cell r ≡ Some v
+      → (denoted_in_dump d (d.table.heap (w.at + i)) ≡ Some v) ⊎ IsEmptied d w v
+  pub target_leads : (kind : Kind) (len serial mutator : ℕ) → IsOwn d w kind len serial mutator → IsTarget kind i → LeadsToRecord d (d.table.heap (w.at + i))
 
 -- a record shows what it should by its first word, and by each word behind it
 pub record RecordShows (d : Dump) (p : plain.Plain) (w : Walked) : Type 0 where

@@ -1,6 +1,7 @@
 -- The heap as it was when the last checkpoint was begun shows what the plain heap has kept of then.
 use Rattle.std.specs.Prelude.{◌≡◌, ℕ, ◌+◌, ◌-◌, ◌<◌, true, length, List, [], Some, slice_get, slice_index_or, Option}
 use Rattle.heap_words.specs.Decoded.{PointerWord, HeaderWord, decode}
+use Rattle.plain_state.specs.declared.kind.Kind.TheVariants.{Weak}
 use Rattle.plain_state.specs.declared.value.Identity.{Identity}
 use Rattle.plain_state.specs.declared.value.Value.{Value}
 use Rattle.plain_state.specs.Layout.{is_field}
@@ -24,14 +25,18 @@ pub record ShowsKept (z : Frozen) (records : List (List Record)) (a : ℕ) : Typ
   pub held : (i : ℕ) → i < z.size a → z.held (page_of (a + i)) ≡ true
 
 -- With n pages a space: the board's words denote the kept board, which has sixteen values, and its page is one of the checkpoint; each
--- record is shown; a reference on the board or in a field is to a record; and no record stands twice.
+-- record is shown; a cell takes three words, and its target, behind its header, denotes the kept value; a reference on the board, in a
+-- field or in a target is to a record; and no record stands twice.
 pub record KeepsPicture (n : ℕ) (z : Frozen) (board_kept : List Value) (kept : List (List Record)) : Type 0 where
   pub board : (x : ℕ) → x < 16 → value_of z.identity (z.heap (first_word (board_page n) + x)) ≡ slice_get board_kept x
   pub sixteen : length board_kept ≡ 16
   pub held : z.held (board_page n) ≡ true
   pub records : (a : ℕ) → 0 < z.size a → ShowsKept z kept a
+  pub three : (a : ℕ) → 0 < z.size a → z.kind a ≡ Weak → z.size a ≡ 3
+  pub targets : (a : ℕ) (r : Record) → 0 < z.size a → z.kind a ≡ Weak → kept_record kept (z.identity a) ≡ Some r → value_of z.identity (z.heap (a + 1)) ≡ slice_get r.values 0
   pub board_lands : (x b : ℕ) → x < 16 → decode (z.heap (first_word (board_page n) + x)) ≡ PointerWord b → 0 < z.size b
   pub field_lands : (a i b : ℕ) → 0 < i → i < z.size a → is_field (z.kind a) i ≡ true → decode (z.heap (a + i)) ≡ PointerWord b → 0 < z.size b
+  pub target_lands : (a b : ℕ) → 0 < z.size a → z.kind a ≡ Weak → decode (z.heap (a + 1)) ≡ PointerWord b → 0 < z.size b
   pub once : (a b : ℕ) → 0 < z.size a → 0 < z.size b → z.identity a ≡ z.identity b → a ≡ b
 
 -- As many checkpoints were begun as in the plain heap, and the frozen heap shows what that has kept of the last one.

@@ -12,11 +12,10 @@ use Rattle.plain_heap.proofs.Calls.Counts.{Went, call-went}
 use Rattle.heap_state.specs.Meaning.Values.{Accounts}
 use Rattle.gc_worker.specs.declared.task.Task.{Task}
 use Rattle.gc_worker.specs.declared.task.Task.TheVariants.{Calls, Stops}
-use Rattle.gc_worker.specs.Plain.Answer.{ComesTo, after_answer, after_told}
+use Rattle.gc_worker.specs.Plain.Answer.{ComesTo, after_answer}
 use Rattle.gc_worker.specs.Laws.Between.{IsSo}
 use Rattle.gc_worker.specs.Laws.Step.{Heap, held_at}
 use Rattle.gc_worker.specs.declared.calls.did.Did.TheVariants.{Done}
-use Rattle.gc_worker.specs.Steps.Turned.{Answers}
 
 -- its plain mutator, with the same account
 pub record HasPlain (h : Heap) (p : Plain) (q : Mutator) : Type 0 where
@@ -33,21 +32,23 @@ plain_one h p so alone =
     (first.0, record { is = first.1; account = (so.mutators 0 first.0 first.1).account })
 
 module _ (h later : Heap) (p : Plain) (so : IsSo h p) (alone : h.mutators ≡ 1) (alone_later : later.mutators ≡ 1) where
-  -- ---- where the plain state stays
+  -- ---- where the plain mutators stay
 
-  pub executes_nothing : IsSo later p → (held_at later 0).account.executed ≡ (held_at h 0).account.executed
-  executes_nothing so_later =
-      let was = plain_one h p so alone in
-      let now = plain_one later p so_later alone_later in
-      let same = same_Some now.0 was.0 (sym now.1.is ∙ was.1.is) in
-      now.1.account.executed ∙ (ap (λ (q : Mutator). q.executed) same ∙ sym was.1.account.executed)
+  module _ (p' : Plain) (stay : p'.mutators ≡ p.mutators) (so_later : IsSo later p') where
+    abbrev was : (q : Mutator) × HasPlain h p q
+    was = plain_one h p so alone
 
-  pub ends_not : IsSo later p → (held_at h 0).account.end ≡ None → (held_at later 0).account.end ≡ None
-  ends_not so_later no_end =
-      let was = plain_one h p so alone in
-      let now = plain_one later p so_later alone_later in
-      let same = same_Some now.0 was.0 (sym now.1.is ∙ was.1.is) in
-      now.1.account.end ∙ (ap (λ (q : Mutator). q.end) same ∙ (sym was.1.account.end ∙ no_end))
+    abbrev now : (q : Mutator) × HasPlain later p' q
+    now = plain_one later p' so_later alone_later
+
+    same : now.0 ≡ was.0
+    same = same_Some now.0 was.0 (sym now.1.is ∙ (ap (λ (ks : List Mutator). slice_get ks 0) stay ∙ was.1.is))
+
+    pub executes_nothing : (held_at later 0).account.executed ≡ (held_at h 0).account.executed
+    executes_nothing = now.1.account.executed ∙ (ap (λ (q : Mutator). q.executed) same ∙ sym was.1.account.executed)
+
+    pub ends_not : (held_at h 0).account.end ≡ None → (held_at later 0).account.end ≡ None
+    ends_not no_end = now.1.account.end ∙ (ap (λ (q : Mutator). q.end) same ∙ (sym was.1.account.end ∙ no_end))
 
   -- ---- after an effect
 
@@ -69,7 +70,7 @@ module _ (h later : Heap) (p : Plain) (so : IsSo h p) (alone : h.mutators ≡ 1)
       }
   by_call q is running (Err why) went ok so_later = absurd (cc)
 
-  pub executes_one : (task : Task) → ComesTo p 0 task Done → IsSo later (after_told p 0 (Answers task Done)) → ExecutesOne
+  pub executes_one : (task : Task) → ComesTo p 0 task Done → IsSo later (after_answer p 0 task Done (slice_get p.mutators 0)) → ExecutesOne
   executes_one (Calls instr) comes so_later =
       let after = ap (after_answer p 0 (Calls instr) Done) comes.is in
       by_call comes.mutator comes.is comes.no_end (call 0 p.heap comes.mutator instr) (call-went 0 p.heap comes.mutator instr) comes.may (subst (IsSo later) after so_later)

@@ -3,7 +3,7 @@ use Rattle.std.proofs.Common.{◌≡◌, ℕ, ◌+◌, ◌*◌, ◌<◌, ◌≤�
 use Rattle.plain_state.specs.State.{Plain}
 use Rattle.atom_store.specs.declared.step.Step.TheVariants.{Load}
 use Rattle.alloc_end.specs.declared.place_stage.PlaceStage.{PlaceStage}
-use Rattle.alloc_end.specs.declared.place_stage.PlaceStage.TheVariants.{LoadsTraced, LoadsSize, LoadsArea, ExchangesArea, StoresZero, StoresNew, OpensPage, StoresCount, StoresHeader}
+use Rattle.alloc_end.specs.declared.place_stage.PlaceStage.TheVariants.{LoadsTraced, LoadsSize, LoadsArea, ExchangesArea, StoresZero, StoresNew, OpensPage, StoresCount, StoresTarget, StoresLink, StoresHeader}
 use Rattle.alloc_end.specs.declared.place_stage.PlaceStage.TheVariants as place_stage
 use Rattle.alloc_end.specs.Place.{Placing}
 use Rattle.space_map.specs.declared.save_word.SaveWord.{SaveWord}
@@ -59,6 +59,8 @@ module _ (n size : ℕ) (y : Held) (a b : Stage) where
   same_place z (StoresNew new) = refl
   same_place z (OpensPage new) = refl
   same_place z StoresCount = refl
+  same_place z StoresTarget = refl
+  same_place z StoresLink = refl
   same_place z StoresHeader = refl
   same_place z (place_stage.Ended result) = refl
 

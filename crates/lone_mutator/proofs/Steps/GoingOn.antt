@@ -6,7 +6,7 @@ use Rattle.heap_words.specs.declared.kind.Kind.TheVariants.{Fields, Raw, Mixed, 
 use Rattle.record_layout.specs.declared.header.Header.{Header}
 use Rattle.space_map.specs.Spaces.{Layout}
 use Rattle.page_saves.specs.Guard as guard
-use Rattle.alloc_end.specs.declared.place_stage.PlaceStage.TheVariants.{LoadsTraced, StoresCount, StoresHeader}
+use Rattle.alloc_end.specs.declared.place_stage.PlaceStage.TheVariants.{LoadsTraced, StoresCount, StoresTarget, StoresHeader}
 use Rattle.alloc_end.specs.declared.place_stage.PlaceStage.{PlaceStage}
 use Rattle.alloc_end.specs.Place as place
 use Rattle.heap_state.specs.Memory.Table.{Table}
@@ -14,13 +14,13 @@ use Rattle.heap_state.specs.Saving.Words.{Saves}
 use Rattle.gc_worker.specs.declared.access.access_stage.AccessStage.{AccessStage}
 use Rattle.gc_worker.specs.declared.access.access_stage.AccessStage.TheVariants.{ExchangesField, SwapsBoard}
 use Rattle.gc_worker.specs.declared.stage.back.Back.{Back}
-use Rattle.gc_worker.specs.declared.stage.back.Back.TheVariants.{ToAccess, ToPlace, ToSnap, ToScanner}
+use Rattle.gc_worker.specs.declared.stage.back.Back.TheVariants.{ToAccess, ToTarget, ToPlace, ToSnap, ToScanner}
 use Rattle.gc_worker.specs.declared.stage.write.Write.{Write}
 use Rattle.gc_worker.specs.declared.stage.write.Write.TheVariants.{OfPlace}
 use Rattle.gc_worker.specs.declared.stage.Stage.{Stage}
 use Rattle.gc_worker.specs.declared.stage.Stage.TheVariants.{Guards, Places}
 use Rattle.gc_worker.specs.Workers.Fits.{FitsTaskBack, IsMaking}
-use Rattle.gc_worker.specs.Workers.Held.{Held, at_stage, fields_for, header_for, run_held}
+use Rattle.gc_worker.specs.Workers.Held.{Held, at_stage, fields_for, header_for, run_held, target_for}
 use Rattle.gc_worker.specs.Steps.Turned.{back_from, guards, guards_place, places}
 use Rattle.gc_worker.proofs.Plain.NewRecords.{header_made, header_is}
 use Rattle.lone_mutator.specs.Bound.{longest_placing}
@@ -54,10 +54,15 @@ module _ (n : ℕ) (s : Saves) (t : Table) (x : Held) (pages : x.layout.pages �
 
   module _ (header : Header) where
     abbrev begun_at : PlaceStage → place.Placing
-    begun_at stage = record { layout = x.layout; run = run_held x; header = header; fields = fields_for x; epoch = x.epoch; snap = x.snap; stage = stage }
+    begun_at stage = record { layout = x.layout; run = run_held x; header = header; fields = fields_for x; epoch = x.epoch; snap = x.snap; target = target_for x; stage = stage }
 
     count_first : Goes (guards_place x (begun_at StoresCount))
     count_first = goes_writing Goes x (OfPlace (begun_at StoresCount)) (place.writes_on (begun_at StoresCount) StoresCount) (Places (begun_at StoresCount))
+        (record { remembers = record { began = λ past. began; quiet = quiet; stands = tt }; within = omega arith })
+        (λ on is. record { remembers = record { began = λ past. began; quiet = quiet; stands = (tt, tt) }; within = omega arith })
+
+    target_first : Goes (guards_place x (begun_at StoresTarget))
+    target_first = goes_writing Goes x (OfPlace (begun_at StoresTarget)) (place.writes_on (begun_at StoresTarget) StoresTarget) (Places (begun_at StoresTarget))
         (record { remembers = record { began = λ past. began; quiet = quiet; stands = tt }; within = omega arith })
         (λ on is. record { remembers = record { began = λ past. began; quiet = quiet; stands = (tt, tt) }; within = omega arith })
 
@@ -70,7 +75,7 @@ module _ (n : ℕ) (s : Saves) (t : Table) (x : Held) (pages : x.layout.pages �
     begins_by Fields true = header_first
     begins_by Raw true = header_first
     begins_by Mixed true = count_first
-    begins_by Weak true = header_first
+    begins_by Weak true = target_first
     begins_by kind false = record { remembers = record { began = λ past. began; quiet = quiet; stands = tt }; within = omega arith }
 
     pub begins : Goes (places x (Some header))
@@ -88,6 +93,10 @@ module _ (n : ℕ) (s : Saves) (t : Table) (x : Held) (pages : x.layout.pages �
 
   pub goes_back : (back : Back) → BackStands back → FitsTaskBack x back → GoesAt n s t (back_from x back) (back_left n (size_in t) x back + again_left n back + due_in n t)
   goes_back (ToAccess a) look task = record { remembers = record { began = λ past. began; quiet = quiet; stands = looks_so a.spaces a.stage look }; within = omega arith }
+  goes_back (ToTarget a) look task = record {
+    remembers = record { began = λ past. began; quiet = quiet; stands = (record { untraced = inl tt; found = λ wanted is. absurd (cc) }, tt) };
+    within = omega (arith, pages);
+  }
   goes_back ToPlace look making = let goes = goes_placing making in record { remembers = goes.remembers; within = (let within = goes.within in omega (arith, within)) }
   goes_back ToSnap look task = record {
     remembers = record { began = λ past. began; quiet = quiet; stands = (record { untraced = inl tt; found = λ wanted is. absurd (cc) }, tt) };

@@ -1,5 +1,5 @@
 -- The heap of a lone mutator after a step, from what the mutator owes of it.
-use Rattle.std.proofs.Common.{◌≡◌, ℕ, ◌+◌, ◌<◌, ◌≤◌, length, false, true, Bool, Some, None, refl, sym, ap, subst, ◌∙◌, arith, get_or-set_same, length-set}
+use Rattle.std.proofs.Common.{◌≡◌, ℕ, ◌+◌, ◌<◌, ◌≤◌, length, false, true, Bool, Some, None, refl, sym, ap, subst, ◌∙◌, arith, get_or-set_same, length-set, slice_get}
 use Rattle.std.proofs.lemmas.List.{length-map}
 use Rattle.plain_state.specs.State.{Plain}
 use Rattle.atom_store.specs.declared.reply.Reply.{Reply}
@@ -20,7 +20,8 @@ use Rattle.gc_worker.specs.declared.stage.Stage.{Stage}
 use Rattle.gc_worker.specs.declared.stage.Stage.TheVariants.{Looks, Passes}
 use Rattle.gc_worker.specs.declared.task.Task.{Task}
 use Rattle.gc_worker.specs.declared.calls.did.Did.TheVariants.{Done, Trap}
-use Rattle.gc_worker.specs.Plain.Answer.{IsAnswered, after_told}
+use Rattle.gc_worker.specs.Plain.Answer.{IsAnswered, after_answer, after_told, with_emptied}
+use Rattle.gc_worker.specs.Plain.Empty.{empty_cells}
 use Rattle.gc_worker.specs.Laws.Between.{KeepsToTask, IsSo, RestsAt}
 use Rattle.gc_worker.specs.Laws.Step.{CheckpointsStand, Heap, StandIf, StepKeeps, WorkersStand, at_flip, held_at, layout_of, moved, nobody, read, saves_in}
 use Rattle.gc_worker.specs.Steps.Stepped.{awaits}
@@ -124,15 +125,15 @@ module _ (owed : Owed) (h : Heap) (p o : Plain) (x : Held) (q : Step) (st : Work
 
   -- ---- a step that answers nothing, or flips
 
-  module _ (o' : Plain) (stands : WorkersStand later p o') where
-    still : IsSo later p
-    still = what_stands_is_so later p o' stands
+  module _ (p' o' : Plain) (stay : p'.mutators ≡ p.mutators) (stands : WorkersStand later p' o') where
+    still : IsSo later p'
+    still = what_stands_is_so later p' o' stands
 
     lowers : Pays h.pages h.checkpoints (said h.pages h.words) (said h.pages later.words) x y → IsLone later × (potential later < potential h) × ((held_at later 0).account.executed ≡ (held_at h 0).account.executed)
     lowers l = (
-      is_lone (ends_not h later p so lone.alone lone.alone still lone.no_end) l.remembers,
+      is_lone (ends_not h later p so lone.alone lone.alone p' stay still lone.no_end) l.remembers,
       (let after = ap (potential_in h.pages (table (read later))) held in let before = ap (potential_in h.pages (table (read h))) holds in let falls = l.falls in omega (arith, after, before, falls)),
-      executes_nothing h later p so lone.alone lone.alone still,
+      executes_nothing h later p so lone.alone lone.alone p' stay still,
     )
 
   -- ---- an effect
@@ -211,9 +212,9 @@ module _ (owed : Owed) (h : Heap) (p o : Plain) (x : Held) (q : Step) (st : Work
   effect : (task : Task) → told x r ≡ Answers task Done → NobodyElseAnnounces (table (read later)).announced false
       → IsLone later × (potential later < most_steps_of (layout_of h)) × ((held_at later 0).account.executed ≡ (held_at h 0).account.executed + 1)
   effect task is quiet =
-      let then = after_told p 0 (Answers task Done) in
+      let then = after_answer p 0 task Done (slice_get p.mutators 0) in
       let answered = subst (IsAnswered p 0) is keeps.answered in
-      let stands = subst (λ (t : Told). WorkersStand later (after_told p 0 t) (at_flip p o t)) is keeps.stands in
+      let stands = subst (λ (t : Told). WorkersStand later (after_told (empty_cells (read later)) p 0 t) (at_flip p o t)) is keeps.stands in
       let one = executes_one h later p so lone.alone lone.alone task answered (what_stands_is_so later then o stands) in
       let rests = rests_by then o stands quiet y.stage refl (goes.answers task Done is).after in
       let cost = rest_costs then o stands rests in (
@@ -224,10 +225,11 @@ module _ (owed : Owed) (h : Heap) (p o : Plain) (x : Held) (q : Step) (st : Work
 
   -- ---- by what it tells
 
-  after_by : (t : Told) → told x r ≡ t → PaysWhereTold h.pages h.checkpoints (said h.pages h.words) (said h.pages later.words) x y t → WorkersStand later (after_told p 0 t) (at_flip p o t) → AfterStep h later t
-  after_by Silent is l stands = lowers o stands l
-  after_by Empties is l stands = lowers o stands l
-  after_by (Marks n) is l stands = lowers p stands l
+  after_by : (t : Told) → told x r ≡ t → PaysWhereTold h.pages h.checkpoints (said h.pages h.words) (said h.pages later.words) x y t
+      → WorkersStand later (after_told (empty_cells (read later)) p 0 t) (at_flip p o t) → AfterStep h later t
+  after_by Silent is l stands = lowers p o refl stands l
+  after_by Empties is l stands = lowers (with_emptied p (empty_cells (read later))) o refl stands l
+  after_by (Marks n) is l stands = lowers p p refl stands l
   after_by (Answers task Done) is quiet stands = effect task is quiet
   after_by (Answers task (Trap end)) is l stands =
       ap (λ (z : Held). z.account.end) held ∙ ap (λ (z : Account). z.end) (goes.answers task (Trap end) is).after.0

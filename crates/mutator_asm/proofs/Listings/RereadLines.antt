@@ -9,9 +9,9 @@ use Rattle.std.proofs.lemmas.List.Concat.{flat_map-append}
 use Rattle.std.proofs.lemmas.List.Folds.{list_all-append, list_all-map}
 use Rattle.std.proofs.lemmas.List.Sums.{sum_by-cons}
 use Rattle.mutator_asm.specs.declared.instr.Instr.{Instr}
-use Rattle.mutator_asm.specs.declared.instr.Instr.TheVariants.{Halt, Weak}
+use Rattle.mutator_asm.specs.declared.instr.Instr.TheVariants.{Halt}
 use Rattle.mutator_asm.specs.declared.item.Item.{Item}
-use Rattle.mutator_asm.specs.Program.{is_read, is_valid, is_item, IsWellFormed}
+use Rattle.mutator_asm.specs.Program.{is_valid, is_item, IsWellFormed}
 use Rattle.mutator_asm.specs.Token.{label_of}
 use Rattle.mutator_asm.specs.Item.{item_of}
 use Rattle.mutator_asm.specs.Instr.{instr_of}
@@ -19,7 +19,6 @@ use Rattle.mutator_asm.specs.Line.{Begins, Schedules, Line, unlabelled, named_of
 use Rattle.mutator_asm.specs.Listing.{end_if, is_target_in, label_name, item_token, instr_tokens, label_if, instr_lines, end_lines, section_lines, schedule_lines, line_text}
 use Rattle.mutator_asm.proofs.Listings.Lines.{instr_word, label_line, instrs_read, body_read, section_read, schedule_read}
 use Rattle.mutator_asm.proofs.Lists.Tests.{all_weaker}
-use Rattle.mutator_asm.proofs.Programs.Instructions.{is_written, all_written}
 use Rattle.mutator_asm.proofs.Listings.RereadTokens.{number_reread, register_reread, operand_reread, label_is_name, label_reread, item_reread}
 use Rattle.mutator_asm.proofs.Listings.Split.{is_token, line_length}
 use Rattle.mutator_asm.proofs.Listings.Tokens.{label_is_token, item_is_token, instr_is_tokens}
@@ -27,10 +26,9 @@ use Rattle.mutator_asm.proofs.Listings.Tokens.{label_is_token, item_is_token, in
 -- ---- instructions
 
 -- an instruction's tokens say the instruction
-instr_reread : (instr : Instr) → is_written instr ≡ true → labelled_of (instr_tokens instr) ≡ instr_word instr
+instr_reread : (instr : Instr) → is_valid instr ≡ true → labelled_of (instr_tokens instr) ≡ instr_word instr
 unfolding named_of instr_of
 instr_reread Halt h = refl
-instr_reread (Weak d a) h = absurd cc
 instr_reread instr h = grind (arith, nat_tests, and_parts, register_reread, operand_reread, number_reread, label_is_name)
 
 -- its name is no label and no directive
@@ -74,33 +72,33 @@ more_lines {xs} {ys} p q le = record {
 labelled_reread : (k : ℕ) (rest : List (List ℕ)) → k < 2 ^ 64 → line_from ((label_name k ++ codes ":") ∷ rest) ≡ record { label = Some (label_name k); word = labelled_of rest }
 labelled_reread k rest h = rw (label_reread (label_name k) (label_is_name k h)) refl
 
-instr_listed : (b : Bool) (k : ℕ) (instr : Instr) → k ≤ 65536 → is_written instr ≡ true → IsListing ((label_if b k ++ instr_tokens instr) ∷ []) (record { label = cond b (Some (label_name k)) None; word = instr_word instr } ∷ []) 176
-instr_listed true k instr le written =
-    one_line ((label_name k ++ codes ":") ∷ instr_tokens instr) _ 176 (omega (arith, instr_few instr)) (and_from _ _ (label_is_token k le) (instr_is_tokens instr (and_parts (is_read instr) (is_valid instr) written).1))
-    (labelled_reread k (instr_tokens instr) (omega arith) ∙ ap (λ word. record { label = Some (label_name k); word = word }) (instr_reread instr written))
-instr_listed false k instr le written = one_line (instr_tokens instr) _ 176 (omega (arith, instr_few instr)) (instr_is_tokens instr (and_parts (is_read instr) (is_valid instr) written).1) (plain_from instr ∙ ap unlabelled (instr_reread instr written))
+instr_listed : (b : Bool) (k : ℕ) (instr : Instr) → k ≤ 65536 → is_valid instr ≡ true → IsListing ((label_if b k ++ instr_tokens instr) ∷ []) (record { label = cond b (Some (label_name k)) None; word = instr_word instr } ∷ []) 176
+instr_listed true k instr le valid =
+    one_line ((label_name k ++ codes ":") ∷ instr_tokens instr) _ 176 (omega (arith, instr_few instr)) (and_from _ _ (label_is_token k le) (instr_is_tokens instr valid))
+    (labelled_reread k (instr_tokens instr) (omega arith) ∙ ap (λ word. record { label = Some (label_name k); word = word }) (instr_reread instr valid))
+instr_listed false k instr le valid = one_line (instr_tokens instr) _ 176 (omega (arith, instr_few instr)) (instr_is_tokens instr valid) (plain_from instr ∙ ap unlabelled (instr_reread instr valid))
 
 -- the lines of a section's instructions from number k on
-instrs_listed : (section : List Instr) (k : ℕ) (instrs : List Instr) → list_all is_written instrs ≡ true → k + length instrs ≤ 65536 → IsListing (instr_lines section k instrs) (instrs_read section k instrs) (176 * length instrs)
-instrs_listed section k [] written few = no_lines (176 * 0)
-instrs_listed section k (instr ∷ instrs) written few =
-    let parts = and_parts (is_written instr) (list_all is_written instrs) written in
+instrs_listed : (section : List Instr) (k : ℕ) (instrs : List Instr) → list_all is_valid instrs ≡ true → k + length instrs ≤ 65536 → IsListing (instr_lines section k instrs) (instrs_read section k instrs) (176 * length instrs)
+instrs_listed section k [] valid few = no_lines (176 * 0)
+instrs_listed section k (instr ∷ instrs) valid few =
+    let parts = and_parts (is_valid instr) (list_all is_valid instrs) valid in
     more_lines (instr_listed (is_target_in section k) k instr (omega arith) parts.0) (instrs_listed section (k + 1) instrs parts.1 (omega arith)) (omega arith)
 
 end_listed : (b : Bool) (k : ℕ) → k ≤ 65536 → IsListing (end_if b k) (cond b (label_line k ∷ []) []) 26
 end_listed true k le = one_line ((label_name k ++ codes ":") ∷ []) _ 26 (omega arith) (and_from _ true (label_is_token k le) refl) (labelled_reread k [] (omega arith))
 end_listed false k le = no_lines 26
 
-section_listed : (section : List Instr) → list_all is_written section ≡ true → length section ≤ 65536 → IsListing (section_lines section) (section_read section) (176 * length section + 52)
-section_listed section written few =
+section_listed : (section : List Instr) → list_all is_valid section ≡ true → length section ≤ 65536 → IsListing (section_lines section) (section_read section) (176 * length section + 52)
+section_listed section valid few =
     let begin : IsListing ((codes ".mutator" ∷ []) ∷ []) (unlabelled (Begins true) ∷ []) 26 = one_line (codes ".mutator" ∷ []) (unlabelled (Begins true)) 26 (omega arith) refl refl in
-    let body : IsListing (instr_lines section 0 section ++ end_lines section) (body_read section) (176 * length section + 26) = more_lines (instrs_listed section 0 section written (omega arith)) (end_listed (is_target_in section (length section)) (length section) few) (omega arith) in
+    let body : IsListing (instr_lines section 0 section ++ end_lines section) (body_read section) (176 * length section + 26) = more_lines (instrs_listed section 0 section valid (omega arith)) (end_listed (is_target_in section (length section)) (length section) few) (omega arith) in
     more_lines begin body (omega arith)
 
-code_listed : (code : List (List Instr)) → list_all (list_all is_written) code ≡ true → sum_by length code ≤ 65536 → IsListing (flat_map section_lines code) (flat_map section_read code) (176 * sum_by length code + 52 * length code)
-code_listed [] written few = no_lines _
-code_listed (section ∷ code) written few =
-    let parts = and_parts (list_all is_written section) (list_all (list_all is_written) code) written in
+code_listed : (code : List (List Instr)) → list_all (list_all is_valid) code ≡ true → sum_by length code ≤ 65536 → IsListing (flat_map section_lines code) (flat_map section_read code) (176 * sum_by length code + 52 * length code)
+code_listed [] valid few = no_lines _
+code_listed (section ∷ code) valid few =
+    let parts = and_parts (list_all is_valid section) (list_all (list_all is_valid) code) valid in
     let sum = sum_by-cons length section code in
     more_lines (section_listed section parts.0 (omega arith)) (code_listed code parts.1 (omega arith)) (omega arith)
 
@@ -137,4 +135,4 @@ program_listed code schedule well =
     let sections = well.few_sections in
     let instrs = well.few_instrs in
     let items = well.few_items in
-    more_lines (schedule_listed schedule well.items) (code_listed code (all_written code well.read well.instrs) instrs) (omega arith)
+    more_lines (schedule_listed schedule well.items) (code_listed code well.instrs instrs) (omega arith)

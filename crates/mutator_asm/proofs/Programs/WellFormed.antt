@@ -16,10 +16,9 @@ use Rattle.mutator_asm.specs.declared.text.line.Line.{Line as Read}
 use Rattle.mutator_asm.specs.Instr.{jump_to}
 use Rattle.mutator_asm.specs.Labels.{before_of}
 use Rattle.mutator_asm.specs.Line.{Word, Nothing, Begins, Schedules, Does, Jumps, Line, line_of, lines_of}
-use Rattle.mutator_asm.specs.Program.{IsWellFormed, is_item, leads_within, is_closed}
+use Rattle.mutator_asm.specs.Program.{IsWellFormed, is_item, is_valid, leads_within, is_closed}
 use Rattle.mutator_asm.specs.Read.{line_view, lines_view}
 use Rattle.mutator_asm.specs.Text.{begins_section, counts, is_begin, has_instr, items_on, items_in, defines, has_label, target_of, instr_by, section_of, code_of, schedule_of, IsCleanUpTo, IsText}
-use Rattle.mutator_asm.proofs.Programs.Instructions.{is_written, written_read, written_valid}
 use Rattle.mutator_asm.proofs.Texts.Limits.{within_up_to}
 use Rattle.mutator_asm.proofs.Lists.Tests.{if_passes, all_weaker, count_by-cons}
 use Rattle.mutator_asm.proofs.Texts.Sound.{is_plain, is_jump_valid, is_sound, is_sound_line, lines_sound}
@@ -45,7 +44,7 @@ target_le lines label =
 
 -- an instruction is one that a line can have, and stays in a section of n instructions
 is_fine : ℕ → Instr → Bool
-is_fine n instr = is_written instr && leads_within n instr
+is_fine n instr = is_valid instr && leads_within n instr
 
 plain_leads : (n : ℕ) (instr : Instr) → is_plain instr ≡ true → leads_within n instr ≡ true
 plain_leads n (Jmp t) h = absurd cc
@@ -71,7 +70,7 @@ fine_by n t (line ∷ lines) h le few = let parts = and_parts _ _ h in word_fine
 
 -- a section of sound lines has such instructions, and stays in itself
 record IsGood (section : List Instr) : Type 0 where
-  written : list_all is_written section ≡ true
+  valid : list_all is_valid section ≡ true
   closed : is_closed section ≡ true
 
 section_good : (lines : List Line) → list_all is_sound_line lines ≡ true → count_by counts lines ≤ 65536 → IsGood (section_of lines)
@@ -79,9 +78,9 @@ unfolding section_of is_fine
 section_good lines h few =
     let n = count_by counts lines in
     let fine = fine_by n (target_of lines) lines h (target_le lines) few in
-    let written = all_weaker (is_fine n) is_written (λ instr e. (and_parts (is_written instr) (leads_within n instr) e).0) (section_of lines) fine in
-    let closed = all_weaker (is_fine n) (leads_within n) (λ instr e. (and_parts (is_written instr) (leads_within n instr) e).1) (section_of lines) fine in
-    record { written = written; closed = rw (length_by (target_of lines) lines) closed }
+    let valid = all_weaker (is_fine n) is_valid (λ instr e. (and_parts (is_valid instr) (leads_within n instr) e).0) (section_of lines) fine in
+    let closed = all_weaker (is_fine n) (leads_within n) (λ instr e. (and_parts (is_valid instr) (leads_within n instr) e).1) (section_of lines) fine in
+    record { valid = valid; closed = rw (length_by (target_of lines) lines) closed }
 
 -- ---- sections
 
@@ -125,17 +124,17 @@ rest_all p (x ∷ xs) h = (and_parts _ _ h).1
 
 -- the sections of sound lines
 record AreGood (code : List (List Instr)) : Type 0 where
-  written : list_all (list_all is_written) code ≡ true
+  valid : list_all (list_all is_valid) code ≡ true
   closed : list_all is_closed code ≡ true
 
 sections_good : (parts : List (List Line)) → list_all (list_all is_sound_line) parts ≡ true → sum_by (count_by counts) parts ≤ 65536 → AreGood (map section_of parts)
-sections_good [] h few = record { written = refl; closed = refl }
+sections_good [] h few = record { valid = refl; closed = refl }
 sections_good (part ∷ parts) h few =
     let sound = and_parts _ _ h in
     let sum = sum_by-cons (count_by counts) part parts in
     let here = section_good part sound.0 (omega arith) in
     let rest = sections_good parts sound.1 (omega arith) in
-    record { written = and_from _ _ here.written rest.written; closed = and_from _ _ here.closed rest.closed }
+    record { valid = and_from _ _ here.valid rest.valid; closed = and_from _ _ here.closed rest.closed }
 
 sections_sum : (parts : List (List Line)) → sum_by length (map section_of parts) ≡ sum_by (count_by counts) parts
 sections_sum [] = refl
@@ -169,8 +168,7 @@ well_formed text lines e clean begun =
       a_section = omega arith;
       few_sections = omega (arith, limits.sections);
       few_instrs = omega (arith, sections_sum (drop 1 parts));
-      instrs = written_valid (map section_of (drop 1 parts)) good.written;
-      read = written_read (map section_of (drop 1 parts)) good.written;
+      instrs = good.valid;
       targets = good.closed;
       few_items = limits.items;
       items = schedule_good lines sound;

@@ -6,20 +6,19 @@ use Rattle.std.specs.Str.Parse.{digits_value}
 use Rattle.std.specs.Prelude.{codes}
 use Rattle.std.proofs.lemmas.Bool.{and_parts, and_from, cond_both, lt-ltb, leb-true}
 use Rattle.mutator_asm.specs.declared.instr.Instr.{Instr}
-use Rattle.mutator_asm.specs.declared.instr.Instr.TheVariants.{Li, Mov, Add, Sub, Mul, Div, Rem, Lt, Eq, Jmp, Jz, Jal, Jr, New, Raw, Mix, Ld, St, Cas, Len, Isp, Get, Put, Swap, Out, Snap, Halt}
+use Rattle.mutator_asm.specs.declared.instr.Instr.TheVariants.{Li, Mov, Add, Sub, Mul, Div, Rem, Lt, Eq, Jmp, Jz, Jal, Jr, New, Raw, Mix, Weak, Ld, St, Cas, Len, Isp, Get, Put, Swap, Out, Snap, Halt}
 use Rattle.mutator_asm.specs.declared.listing.jump.Jump.{Jump}
 use Rattle.mutator_asm.specs.declared.listing.jump.Jump.TheVariants.{Always, IfZero, Link}
 use Rattle.mutator_asm.specs.declared.item.Item.{Item}
 use Rattle.mutator_asm.specs.declared.errors.mistake.Mistake.{Mistake}
 use Rattle.mutator_asm.specs.declared.errors.mistake.Mistake.TheVariants.{BadOperand, BadSchedule, NumberTooBig}
 use Rattle.mutator_asm.specs.declared.operand.Operand.{Operand}
-use Rattle.mutator_asm.specs.Program.{is_register, is_number, is_operand, is_item}
+use Rattle.mutator_asm.specs.Program.{is_register, is_number, is_operand, is_item, is_valid}
 use Rattle.mutator_asm.specs.Token.{is_register_name, is_numeral, register_of, number_of, number_or, operand_of, is_name, label_of, tokens_of}
 use Rattle.mutator_asm.specs.Instr.{made, nothing, one_register, two_registers, three_registers, register_number, register_operand, operand_register, two_registers_operand, both, register_two_operands, register_operand_register, registers_operand_registers, instr_of}
 use Rattle.mutator_asm.specs.Line.{Word, Nothing, Begins, Schedules, Does, Jumps, Bad, Line, unlabelled, jump_of, register_jump_of, jz_of, jal_of, does_or, named_of, labelled_of, begins_of, schedules_of, line_with, line_from, line_of, lines_of}
 use Rattle.mutator_asm.specs.Item.{is_star, within, worker_item, times_of, item_from, item_of}
 use Rattle.mutator_asm.proofs.Lists.Tests.{if_passes}
-use Rattle.mutator_asm.proofs.Programs.Instructions.{is_written}
 
 -- what was read passes the test
 abbrev pub good : {A : Type 0} → (A → Bool) → Result A Mistake → Bool
@@ -34,8 +33,8 @@ is_plain (Jal d t) = false
 is_plain _ = true
 
 -- and one that a line can have
-abbrev pub is_plain_written : Instr → Bool
-is_plain_written instr = is_plain instr && is_written instr
+abbrev pub is_plain_valid : Instr → Bool
+is_plain_valid instr = is_plain instr && is_valid instr
 
 -- the register of a jump is one
 abbrev pub is_jump_valid : Jump → Bool
@@ -48,7 +47,7 @@ abbrev pub is_sound : Word → Bool
 is_sound Nothing = true
 is_sound (Begins alone) = true
 is_sound (Schedules items) = list_all is_item items
-is_sound (Does instr) = is_plain_written instr
+is_sound (Does instr) = is_plain_valid instr
 is_sound (Jumps jump label) = is_jump_valid jump
 is_sound (Bad mistake) = true
 
@@ -136,33 +135,34 @@ registers_operand_registers_good _ = refl
 
 -- ---- instructions
 
-instr_good : (name : List ℕ) (operands : List (List ℕ)) → good is_plain_written (instr_of name operands) ≡ true
+instr_good : (name : List ℕ) (operands : List (List ℕ)) → good is_plain_valid (instr_of name operands) ≡ true
 unfolding instr_of
 instr_good name operands =
-    if_passes (good is_plain_written) (bytes_eq name (codes "li")) _ _ (made_good is_plain_written (λ (o : ℕ × ℕ). Li o.0 o.1) (register_number operands) (register_number_good operands))
-    (if_passes (good is_plain_written) (bytes_eq name (codes "mov")) _ _ (made_good is_plain_written (λ (o : ℕ × ℕ). Mov o.0 o.1) (two_registers operands) (two_good operands))
-    (if_passes (good is_plain_written) (bytes_eq name (codes "add")) _ _ (made_good is_plain_written (λ (o : ℕ × ℕ × ℕ). Add o.0 o.1 o.2) (three_registers operands) (three_good operands))
-    (if_passes (good is_plain_written) (bytes_eq name (codes "sub")) _ _ (made_good is_plain_written (λ (o : ℕ × ℕ × ℕ). Sub o.0 o.1 o.2) (three_registers operands) (three_good operands))
-    (if_passes (good is_plain_written) (bytes_eq name (codes "mul")) _ _ (made_good is_plain_written (λ (o : ℕ × ℕ × ℕ). Mul o.0 o.1 o.2) (three_registers operands) (three_good operands))
-    (if_passes (good is_plain_written) (bytes_eq name (codes "div")) _ _ (made_good is_plain_written (λ (o : ℕ × ℕ × ℕ). Div o.0 o.1 o.2) (three_registers operands) (three_good operands))
-    (if_passes (good is_plain_written) (bytes_eq name (codes "rem")) _ _ (made_good is_plain_written (λ (o : ℕ × ℕ × ℕ). Rem o.0 o.1 o.2) (three_registers operands) (three_good operands))
-    (if_passes (good is_plain_written) (bytes_eq name (codes "lt")) _ _ (made_good is_plain_written (λ (o : ℕ × ℕ × ℕ). Lt o.0 o.1 o.2) (three_registers operands) (three_good operands))
-    (if_passes (good is_plain_written) (bytes_eq name (codes "eq")) _ _ (made_good is_plain_written (λ (o : ℕ × ℕ × ℕ). Eq o.0 o.1 o.2) (three_registers operands) (three_good operands))
-    (if_passes (good is_plain_written) (bytes_eq name (codes "jr")) _ _ (made_good is_plain_written (λ (o : ℕ). Jr o) (one_register operands) (one_good operands))
-    (if_passes (good is_plain_written) (bytes_eq name (codes "new")) _ _ (made_good is_plain_written (λ (o : ℕ × Operand). New o.0 o.1) (register_operand operands) (register_operand_good operands))
-    (if_passes (good is_plain_written) (bytes_eq name (codes "raw")) _ _ (made_good is_plain_written (λ (o : ℕ × Operand). Raw o.0 o.1) (register_operand operands) (register_operand_good operands))
-    (if_passes (good is_plain_written) (bytes_eq name (codes "mix")) _ _ (made_good is_plain_written (λ (o : ℕ × Operand × Operand). Mix o.0 o.1 o.2) (register_two_operands operands) (register_two_operands_good operands))
-    (if_passes (good is_plain_written) (bytes_eq name (codes "ld")) _ _ (made_good is_plain_written (λ (o : ℕ × ℕ × Operand). Ld o.0 o.1 o.2) (two_registers_operand operands) (two_registers_operand_good operands))
-    (if_passes (good is_plain_written) (bytes_eq name (codes "st")) _ _ (made_good is_plain_written (λ (o : ℕ × Operand × ℕ). St o.0 o.1 o.2) (register_operand_register operands) (register_operand_register_good operands))
-    (if_passes (good is_plain_written) (bytes_eq name (codes "cas")) _ _ (made_good is_plain_written (λ (o : ℕ × ℕ × Operand × ℕ × ℕ). Cas o.0 o.1 o.2 o.3 o.4) (registers_operand_registers operands) (registers_operand_registers_good operands))
-    (if_passes (good is_plain_written) (bytes_eq name (codes "len")) _ _ (made_good is_plain_written (λ (o : ℕ × ℕ). Len o.0 o.1) (two_registers operands) (two_good operands))
-    (if_passes (good is_plain_written) (bytes_eq name (codes "isp")) _ _ (made_good is_plain_written (λ (o : ℕ × ℕ). Isp o.0 o.1) (two_registers operands) (two_good operands))
-    (if_passes (good is_plain_written) (bytes_eq name (codes "get")) _ _ (made_good is_plain_written (λ (o : ℕ × Operand). Get o.0 o.1) (register_operand operands) (register_operand_good operands))
-    (if_passes (good is_plain_written) (bytes_eq name (codes "put")) _ _ (made_good is_plain_written (λ (o : Operand × ℕ). Put o.0 o.1) (operand_register operands) (operand_register_good operands))
-    (if_passes (good is_plain_written) (bytes_eq name (codes "swap")) _ _ (made_good is_plain_written (λ (o : ℕ × Operand). Swap o.0 o.1) (register_operand operands) (register_operand_good operands))
-    (if_passes (good is_plain_written) (bytes_eq name (codes "out")) _ _ (made_good is_plain_written (λ (o : ℕ). Out o) (one_register operands) (one_good operands))
-    (if_passes (good is_plain_written) (bytes_eq name (codes "snap")) _ _ (made_good is_plain_written (λ (o : Unit {0}). Snap) (nothing operands) (nothing_good operands))
-    (if_passes (good is_plain_written) (bytes_eq name (codes "halt")) _ _ (made_good is_plain_written (λ (o : Unit {0}). Halt) (nothing operands) (nothing_good operands)) refl)))))))))))))))))))))))
+    if_passes (good is_plain_valid) (bytes_eq name (codes "li")) _ _ (made_good is_plain_valid (λ (o : ℕ × ℕ). Li o.0 o.1) (register_number operands) (register_number_good operands))
+    (if_passes (good is_plain_valid) (bytes_eq name (codes "mov")) _ _ (made_good is_plain_valid (λ (o : ℕ × ℕ). Mov o.0 o.1) (two_registers operands) (two_good operands))
+    (if_passes (good is_plain_valid) (bytes_eq name (codes "add")) _ _ (made_good is_plain_valid (λ (o : ℕ × ℕ × ℕ). Add o.0 o.1 o.2) (three_registers operands) (three_good operands))
+    (if_passes (good is_plain_valid) (bytes_eq name (codes "sub")) _ _ (made_good is_plain_valid (λ (o : ℕ × ℕ × ℕ). Sub o.0 o.1 o.2) (three_registers operands) (three_good operands))
+    (if_passes (good is_plain_valid) (bytes_eq name (codes "mul")) _ _ (made_good is_plain_valid (λ (o : ℕ × ℕ × ℕ). Mul o.0 o.1 o.2) (three_registers operands) (three_good operands))
+    (if_passes (good is_plain_valid) (bytes_eq name (codes "div")) _ _ (made_good is_plain_valid (λ (o : ℕ × ℕ × ℕ). Div o.0 o.1 o.2) (three_registers operands) (three_good operands))
+    (if_passes (good is_plain_valid) (bytes_eq name (codes "rem")) _ _ (made_good is_plain_valid (λ (o : ℕ × ℕ × ℕ). Rem o.0 o.1 o.2) (three_registers operands) (three_good operands))
+    (if_passes (good is_plain_valid) (bytes_eq name (codes "lt")) _ _ (made_good is_plain_valid (λ (o : ℕ × ℕ × ℕ). Lt o.0 o.1 o.2) (three_registers operands) (three_good operands))
+    (if_passes (good is_plain_valid) (bytes_eq name (codes "eq")) _ _ (made_good is_plain_valid (λ (o : ℕ × ℕ × ℕ). Eq o.0 o.1 o.2) (three_registers operands) (three_good operands))
+    (if_passes (good is_plain_valid) (bytes_eq name (codes "jr")) _ _ (made_good is_plain_valid (λ (o : ℕ). Jr o) (one_register operands) (one_good operands))
+    (if_passes (good is_plain_valid) (bytes_eq name (codes "new")) _ _ (made_good is_plain_valid (λ (o : ℕ × Operand). New o.0 o.1) (register_operand operands) (register_operand_good operands))
+    (if_passes (good is_plain_valid) (bytes_eq name (codes "raw")) _ _ (made_good is_plain_valid (λ (o : ℕ × Operand). Raw o.0 o.1) (register_operand operands) (register_operand_good operands))
+    (if_passes (good is_plain_valid) (bytes_eq name (codes "mix")) _ _ (made_good is_plain_valid (λ (o : ℕ × Operand × Operand). Mix o.0 o.1 o.2) (register_two_operands operands) (register_two_operands_good operands))
+    (if_passes (good is_plain_valid) (bytes_eq name (codes "weak")) _ _ (made_good is_plain_valid (λ (o : ℕ × ℕ). Weak o.0 o.1) (two_registers operands) (two_good operands))
+    (if_passes (good is_plain_valid) (bytes_eq name (codes "ld")) _ _ (made_good is_plain_valid (λ (o : ℕ × ℕ × Operand). Ld o.0 o.1 o.2) (two_registers_operand operands) (two_registers_operand_good operands))
+    (if_passes (good is_plain_valid) (bytes_eq name (codes "st")) _ _ (made_good is_plain_valid (λ (o : ℕ × Operand × ℕ). St o.0 o.1 o.2) (register_operand_register operands) (register_operand_register_good operands))
+    (if_passes (good is_plain_valid) (bytes_eq name (codes "cas")) _ _ (made_good is_plain_valid (λ (o : ℕ × ℕ × Operand × ℕ × ℕ). Cas o.0 o.1 o.2 o.3 o.4) (registers_operand_registers operands) (registers_operand_registers_good operands))
+    (if_passes (good is_plain_valid) (bytes_eq name (codes "len")) _ _ (made_good is_plain_valid (λ (o : ℕ × ℕ). Len o.0 o.1) (two_registers operands) (two_good operands))
+    (if_passes (good is_plain_valid) (bytes_eq name (codes "isp")) _ _ (made_good is_plain_valid (λ (o : ℕ × ℕ). Isp o.0 o.1) (two_registers operands) (two_good operands))
+    (if_passes (good is_plain_valid) (bytes_eq name (codes "get")) _ _ (made_good is_plain_valid (λ (o : ℕ × Operand). Get o.0 o.1) (register_operand operands) (register_operand_good operands))
+    (if_passes (good is_plain_valid) (bytes_eq name (codes "put")) _ _ (made_good is_plain_valid (λ (o : Operand × ℕ). Put o.0 o.1) (operand_register operands) (operand_register_good operands))
+    (if_passes (good is_plain_valid) (bytes_eq name (codes "swap")) _ _ (made_good is_plain_valid (λ (o : ℕ × Operand). Swap o.0 o.1) (register_operand operands) (register_operand_good operands))
+    (if_passes (good is_plain_valid) (bytes_eq name (codes "out")) _ _ (made_good is_plain_valid (λ (o : ℕ). Out o) (one_register operands) (one_good operands))
+    (if_passes (good is_plain_valid) (bytes_eq name (codes "snap")) _ _ (made_good is_plain_valid (λ (o : Unit {0}). Snap) (nothing operands) (nothing_good operands))
+    (if_passes (good is_plain_valid) (bytes_eq name (codes "halt")) _ _ (made_good is_plain_valid (λ (o : Unit {0}). Halt) (nothing operands) (nothing_good operands)) refl))))))))))))))))))))))))
 
 -- ---- jumps
 
@@ -182,7 +182,7 @@ jal_sound : (operands : List (List ℕ)) → is_sound (jal_of operands) ≡ true
 jal_sound [] = refl
 jal_sound (d ∷ labels) = register_jump_sound (made Link (register_of d)) labels (made_good is_jump_valid Link (register_of d) (register_good d))
 
-does_sound : (r : Result Instr Mistake) → good is_plain_written r ≡ true → is_sound (does_or r) ≡ true
+does_sound : (r : Result Instr Mistake) → good is_plain_valid r ≡ true → is_sound (does_or r) ≡ true
 does_sound (Ok instr) h = h
 does_sound (Err mistake) h = refl
 

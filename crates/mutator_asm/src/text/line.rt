@@ -133,6 +133,7 @@ fn instr(name: &[u8], operands: &[&[u8]]) -> Result<Instr, Mistake>
         b"new" => register_operand(operands, Instr::New),
         b"raw" => register_operand(operands, Instr::Raw),
         b"mix" => register_two_operands(operands, Instr::Mix),
+        b"weak" => two_registers(operands, Instr::Weak),
         b"ld" => two_registers_operand(operands, Instr::Ld),
         b"st" => register_operand_register(operands, Instr::St),
         b"cas" => registers_operand_registers(operands, Instr::Cas),

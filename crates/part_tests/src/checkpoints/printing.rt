@@ -130,6 +130,31 @@ fn records_are_listed_by_mutator_and_serial(rt: HostRuntime) -> Result<(), NoMem
     )
 }
 
+/// Two cells: one refers to a record to which nothing else leads, by its saved word alone; the other one is empty.
+#[test]
+fn targets_of_cells_are_not_followed(rt: HostRuntime) -> Result<(), NoMemory> {
+    let words = table(
+        rt.alloc(),
+        &[
+            (SNAP, 1),
+            (HEAP + 512, 0x301),
+            (HEAP + 513, 0x201),
+            (HEAP + 128, 0x3_002e),
+            (HEAP + 192, 0x2_002e),
+            (HEAP + 256, 0x1_0012),
+            (SAVE + 3, 0x10002),
+            (IMAGE + 192, 0x2_002e),
+            (IMAGE + 193, 0x401),
+        ],
+    )?;
+    check_lines(
+        &rt,
+        rt.alloc(),
+        words.as_slice(),
+        "checkpoint 1\nboard 0.2 0.3 0 0 0 0 0 0 0 0 0 0 0 0 0 0\n0.2 weak 1: 0.1\n0.3 weak 1: 0\n",
+    )
+}
+
 #[test]
 fn raw_records_have_plain_numbers(rt: HostRuntime) -> Result<(), NoMemory> {
     let words = table(

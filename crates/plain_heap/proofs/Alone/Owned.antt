@@ -15,8 +15,7 @@ use Rattle.plain_state.specs.declared.value.Value.TheVariants.{Number, Reference
 use Rattle.plain_state.specs.State.{Record, Heap, Mutator, made_by, at_serial}
 use Rattle.plain_state.specs.Writing.{with_value}
 use Rattle.plain_heap.specs.Action.{◌>>=◌, register, in_record}
-use Rattle.plain_heap.specs.Call.{values_of, value_in, may_hold, unless_cell, filled, jumped, set_register}
-use Rattle.plain_heap.proofs.Calls.Outcomes.{unless_cell-same}
+use Rattle.plain_heap.specs.Call.{values_of, value_in, may_hold, filled, jumped, set_register}
 use Rattle.plain_heap.proofs.Calls.Named.{FillsKind}
 use Rattle.plain_heap.proofs.Calls.Records.{held_same}
 
@@ -58,15 +57,15 @@ values_as : (m : ℕ) (records : List Record) (n : ℕ) (o : Option Record) → 
 values_as m records n None all is = All-nil (LeadsToOwn m)
 values_as m records n (Some r) all is = found_serial (AllOf m) records n r all is
 
-word_as : (m : ℕ) (values : List Value) (r : Option Record) (o : Result ℕ End) (v : Value) → All (LeadsToOwn m) values → (o >>= (λ y. unless_cell r (slice_index_or values y (Number 0)))) ≡ Ok v → LeadsToOwn m v
-word_as m values r (Ok y) v all is = subst (LeadsToOwn m) (unless_cell-same r (slice_index_or values y (Number 0)) v is) (read_all (LeadsToOwn m) values y (Number 0) all tt)
-word_as m values r (Err why) v all is = cc
+word_as : (m : ℕ) (values : List Value) (o : Result ℕ End) (v : Value) → All (LeadsToOwn m) values → (o >>= (λ y. Ok (slice_index_or values y (Number 0)))) ≡ Ok v → LeadsToOwn m v
+word_as m values (Ok y) v all is = let e : slice_index_or values y (Number 0) ≡ v = cc in subst (LeadsToOwn m) e (read_all (LeadsToOwn m) values y (Number 0) all tt)
+word_as m values (Err why) v all is = cc
 
 -- a word that is read of the record of mutator m with a serial
 pub word-own : (m : ℕ) (heap : Heap) (n x : ℕ) (v : Value) → All (AllOf m) (made_by heap m) → value_in heap (record { mutator = m; serial = n }) x ≡ Ok v → LeadsToOwn m v
 word-own m heap n x v all is =
     let values = values_of heap (record { mutator = m; serial = n }) in
-    word_as m values (at_serial (made_by heap m) n) (in_record (length values) x) v (values_as m (made_by heap m) n (at_serial (made_by heap m) n) all refl) is
+    word_as m values (in_record (length values) x) v (values_as m (made_by heap m) n (at_serial (made_by heap m) n) all refl) is
 
 -- ---- what is written
 

@@ -124,6 +124,30 @@ module _ (m : ℕ) (heap : Heap) (k : Mutator) (i : Identity) where
     cell_by (Ok act) = performed_cell act
     cell_by (Err why) = tt
 
+  -- ---- a record that is gained
+
+  added : (records : List Record) (serial : ℕ) (new r : Record) → at_serial (records ++ new ∷ []) serial ≡ Some r → (at_serial records serial ≡ Some r) ⊎ (new ≡ r)
+  added records zero new r is = absurd (cc)
+  added [] (suc zero) new r is = inr (same_Some new r is)
+  added [] (suc (suc n)) new r is = absurd (cc)
+  added (q ∷ records) (suc zero) new r is = inl is
+  added (q ∷ records) (suc (suc n)) new r is = added records (suc n) new r is
+
+  -- a record that is there then was there, or is the new one
+  pub gained_is : (new r : Record) → record_of (gained heap m new) i ≡ Some r → (record_of heap i ≡ Some r) ⊎ (new ≡ r)
+  gained_is new r found = ⊎_elim
+      (λ (within : m < length heap.records). ⊎_elim
+      (λ (e : i.mutator ≡ m). by_place e (added (made_by heap m) i.serial new r
+      (sym (ap (λ (records : List Record). at_serial records i.serial) (ap (λ (j : ℕ). made_by (gained heap m new) j) e ∙ get_or-set_same heap.records m (made_by heap m ++ new ∷ []) [] within)) ∙ found)))
+      (λ (other : i.mutator ≢ m). inl (sym (ap (λ (records : List Record). at_serial records i.serial) (get_or-set_other heap.records m i.mutator (made_by heap m ++ new ∷ []) [] other)) ∙ found))
+      (cases_eq i.mutator m))
+      (λ (past : length heap.records ≤ m). inl (rw (set_past heap.records m (made_by heap m ++ new ∷ []) past) at found))
+      (cases_lt m (length heap.records))
+    where
+      by_place : i.mutator ≡ m → (at_serial (made_by heap m) i.serial ≡ Some r) ⊎ (new ≡ r) → (record_of heap i ≡ Some r) ⊎ (new ≡ r)
+      by_place e (inl before) = inl (ap (λ (j : ℕ). at_serial (made_by heap j) i.serial) e ∙ before)
+      by_place e (inr newest) = inr newest
+
   -- ---- no cell comes
 
   module _ (none : (r : Record) → record_of heap i ≡ Some r → is_cell r.kind ≡ false) where
@@ -138,26 +162,11 @@ module _ (m : ℕ) (heap : Heap) (k : Mutator) (i : Identity) where
     stored_none : (j : Identity) (own : Record) (y : ℕ) (v : Value) → record_of heap j ≡ Some own → (r : Record) → record_of (stored heap j own y v) i ≡ Some r → is_cell r.kind ≡ false
     stored_none j own y v its r found = none_of (record_of heap i) refl r (sym (ap (option_map shape) found) ∙ stored_shape heap j own y v its i)
 
-    added : (records : List Record) (serial : ℕ) (new r : Record) → at_serial (records ++ new ∷ []) serial ≡ Some r → (at_serial records serial ≡ Some r) ⊎ (new ≡ r)
-    added records zero new r is = absurd (cc)
-    added [] (suc zero) new r is = inr (same_Some new r is)
-    added [] (suc (suc n)) new r is = absurd (cc)
-    added (q ∷ records) (suc zero) new r is = inl is
-    added (q ∷ records) (suc (suc n)) new r is = added records (suc n) new r is
-
     gained_none : (new : Record) → is_cell new.kind ≡ false → (r : Record) → record_of (gained heap m new) i ≡ Some r → is_cell r.kind ≡ false
     gained_none new no_cell r found = ⊎_elim
-        (λ (within : m < length heap.records). ⊎_elim
-        (λ (e : i.mutator ≡ m). by_place e (added (made_by heap m) i.serial new r
-        (sym (ap (λ (records : List Record). at_serial records i.serial) (ap (λ (j : ℕ). made_by (gained heap m new) j) e ∙ get_or-set_same heap.records m (made_by heap m ++ new ∷ []) [] within)) ∙ found)))
-        (λ (other : i.mutator ≢ m). none r (sym (ap (λ (records : List Record). at_serial records i.serial) (get_or-set_other heap.records m i.mutator (made_by heap m ++ new ∷ []) [] other)) ∙ found))
-        (cases_eq i.mutator m))
-        (λ (past : length heap.records ≤ m). none r (rw (set_past heap.records m (made_by heap m ++ new ∷ []) past) at found))
-        (cases_lt m (length heap.records))
-      where
-        by_place : i.mutator ≡ m → (at_serial (made_by heap m) i.serial ≡ Some r) ⊎ (new ≡ r) → is_cell r.kind ≡ false
-        by_place e (inl before) = none r (ap (λ (j : ℕ). at_serial (made_by heap j) i.serial) e ∙ before)
-        by_place e (inr newest) = ap (λ (q : Record). is_cell q.kind) (sym newest) ∙ no_cell
+        (λ (before : record_of heap i ≡ Some r). none r before)
+        (λ (newest : new ≡ r). ap (λ (q : Record). is_cell q.kind) (sym newest) ∙ no_cell)
+        (gained_is new r found)
 
     exchanged_none : (j : Identity) (own : Record) (y d : ℕ) (v : Value) → record_of heap j ≡ Some own → (same : Bool)
         → HasNone (cond same (loads (stored heap j own y v) k d (Number 1)) (loads heap k d (Number 0)))
@@ -180,7 +189,11 @@ pub cells_stay : CellsStay
 unfolding call
 cells_stay m heap k instr after i r is cell found = if_ok-is (HasCell m heap k i r found cell) (call m heap k instr) after (cell_by m heap k i r found cell (action k instr)) is
 
-pub no_cells_come : (m : ℕ) (heap : Heap) (k : Mutator) (instr : Instr) (after : After) → is_weak instr ≡ false → NoCells heap → call m heap k instr ≡ Ok after → NoCells after.heap
+-- if there is no cell of an identity, none comes
+pub no_cell_comes : (m : ℕ) (heap : Heap) (k : Mutator) (instr : Instr) (after : After) (i : Identity) → is_weak instr ≡ false → ((r : Record) → record_of heap i ≡ Some r → is_cell r.kind ≡ false)
+    → call m heap k instr ≡ Ok after → (r : Record) → record_of after.heap i ≡ Some r → is_cell r.kind ≡ false
 unfolding call
-no_cells_come m heap k instr after other none is i =
-    if_ok-is (HasNone m heap k i (none i)) (call m heap k instr) after (none_by m heap k i (none i) (action k instr) (makes_no_cell k instr other)) is
+no_cell_comes m heap k instr after i other none is = if_ok-is (HasNone m heap k i none) (call m heap k instr) after (none_by m heap k i none (action k instr) (makes_no_cell k instr other)) is
+
+pub no_cells_come : (m : ℕ) (heap : Heap) (k : Mutator) (instr : Instr) (after : After) → is_weak instr ≡ false → NoCells heap → call m heap k instr ≡ Ok after → NoCells after.heap
+no_cells_come m heap k instr after other none is i = no_cell_comes m heap k instr after i other (none i) is

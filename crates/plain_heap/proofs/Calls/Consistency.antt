@@ -34,7 +34,7 @@ use Rattle.plain_heap.specs.declared.action.Action.TheVariants.{Sets, Jumps, Lin
 use Rattle.plain_heap.specs.Action.{◌>>=◌, register, next_of, in_record, action}
 use Rattle.plain_heap.specs.Call.{After, values_of, value_in, board_word, as_plain, may_hold, store_in, filled, jumped, went_on, set_register, loads, allocated, performed, call}
 use Rattle.plain_heap.proofs.Calls.Named.{Spells, Names, FillsKind, named, fits-short}
-use Rattle.plain_heap.proofs.Calls.Outcomes.{if_ok-bind, if_ok-then, performed_exchange, unless_cell-then}
+use Rattle.plain_heap.proofs.Calls.Outcomes.{if_ok-bind, if_ok-then, performed_exchange}
 use Rattle.plain_heap.proofs.Alone.Owned.{read_all, found_serial}
 
 -- ---- a heap with more records
@@ -127,7 +127,7 @@ module _ (heap : Heap) (is_heap : IsHeap heap) where
   value_in-value : (i : Identity) (x : ℕ) → IfOk (value_in heap i x) (IsValue heap)
   value_in-value i x =
       if_ok-bind (IsValue heap) (in_record (length (values_of heap i)) x) _
-      (λ y. unless_cell-then (IsValue heap) (record_of heap i) _ (read_all (IsValue heap) (values_of heap i) y (Number 0) (values-found i (record_of heap i) refl).0 zero-value))
+      (λ y. read_all (IsValue heap) (values_of heap i) y (Number 0) (values-found i (record_of heap i) refl).0 zero-value)
 
   board_word-value : (x : ℕ) → IsValue heap (board_word heap x)
   board_word-value x = read_all (IsValue heap) heap.board x (Number 0) is_heap.board zero-value

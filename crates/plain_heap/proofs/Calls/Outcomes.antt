@@ -9,7 +9,7 @@ use Rattle.plain_state.specs.declared.value.Value.TheVariants.{Number}
 use Rattle.plain_state.specs.State.{Record, Heap, Mutator, record_of}
 use Rattle.plain_heap.specs.declared.action.Action.TheVariants.{Exchanges}
 use Rattle.plain_heap.specs.Action.{◌>>=◌, are_same}
-use Rattle.plain_heap.specs.Call.{After, is_cell, unless_cell, value_in, store_in, loads, performed}
+use Rattle.plain_heap.specs.Call.{After, value_in, store_in, loads, performed}
 
 -- whatever the first answers
 pub if_ok-bind : {A B : Type 0} (P : B → Type 0) (o : Result A End) (f : A → Result B End) → ((a : A) → IfOk (f a) P) → IfOk (o >>= f) P
@@ -29,23 +29,6 @@ ok_same o a b is_a is_b = cc
 pub if_ok-is : {A : Type 0} (P : A → Type 0) (o : Result A End) (a : A) → IfOk o P → o ≡ Ok a → P a
 if_ok-is P (Ok b) a holds is = subst P (ok_same _ b a refl is) holds
 if_ok-is P (Err why) a holds is = cc
-
--- a value that isn't a cell's is the same
-pub unless_cell-same : (o : Option Record) (v w : Value) → unless_cell o v ≡ Ok w → v ≡ w
-unless_cell-same None v w is = cc
-unless_cell-same (Some r) v w is = by_kind (is_cell r.kind) is
-  where
-    by_kind : (cell : Bool) → cond cell (Err WeakCell) (Ok v) ≡ Ok w → v ≡ w
-    by_kind true h = cc
-    by_kind false h = cc
-
-pub unless_cell-then : (P : Value → Type 0) (o : Option Record) (v : Value) → P v → IfOk (unless_cell o v) P
-unless_cell-then P None v is = is
-unless_cell-then P (Some r) v is = by_kind (is_cell r.kind)
-  where
-    by_kind : (cell : Bool) → IfOk (cond cell (Err WeakCell) (Ok v)) P
-    by_kind true = tt
-    by_kind false = is
 
 -- of an exchange: what holds if it leaves the heap, and if it stores
 module _ (m : ℕ) (heap : Heap) (k : Mutator) (d : ℕ) (i : Identity) (x : ℕ) (expected new : Value) (P : After → Type 0) (kept : P (loads heap k d (Number 0)))

@@ -22,8 +22,8 @@ use Rattle.mutator_asm.specs.declared.instr.Instr.TheVariants as instrs
 use Rattle.plain_heap.specs.declared.action.Action.{Action}
 use Rattle.plain_heap.specs.declared.action.Action.TheVariants.{Makes, Loads, Stores, Exchanges}
 use Rattle.plain_heap.specs.Action.{◌>>=◌, are_same, action}
-use Rattle.plain_heap.specs.Call.{After, value_in, values_of, unless_cell, as_plain, may_hold, store_in, is_cell, words_in, filled, loads, performed, call, went_on}
-use Rattle.plain_heap.specs.Records.{ExchangesFindTheWord, IsExchanged, LoadsTakeTheWord, OnlyStoresChangeWords, RecordShape, ShapesStay, is_word, record_word, shape, shape_of, word_after}
+use Rattle.plain_heap.specs.Call.{After, value_in, values_of, as_plain, may_hold, store_in, is_cell, words_in, filled, loads, performed, call, went_on}
+use Rattle.plain_heap.specs.Records.{ExchangesFindTheWord, IsExchanged, LoadsTakeTheWord, OnlyStoresChangeWords, RecordShape, ShapesStay, is_word, loaded_there, record_word, shape, shape_of, word_after}
 use Rattle.plain_heap.proofs.Calls.Outcomes.{if_ok-bind, if_ok-is}
 use Rattle.plain_heap.proofs.Calls.Named.{Names, FillsKind, Spells, named}
 
@@ -196,20 +196,25 @@ module _ (m : ℕ) (heap : Heap) (k : Mutator) (i : Identity) where
     by_held r found no_cell inside (Ok w) is = rw (← held_same r.kind y v w is) (so r found no_cell inside)
     by_held r found no_cell inside (Err why) is = tt
 
+    -- a cell holds no other value
+    held_by_none : (kind : Kind) → is_cell kind ≡ true → may_hold kind y v ≡ Err WeakCell
+    held_by_none Weak cell = refl
+    held_by_none _ cell = absurd (cc)
+
     by_kind : (r : Record) → record_of heap j ≡ Some r → y < length r.values → (cell : Bool) → is_cell r.kind ≡ cell
-        → IfOk (cond cell (Err WeakCell) (Ok (get_or r.values y (Number 0))) >>= (λ old. store_in heap j (Some r) y v >>= (λ h. Ok (leave old h)))) P
-    by_kind r found inside true is = tt
+        → IfOk (store_in heap j (Some r) y v >>= (λ h. Ok (leave (get_or r.values y (Number 0)) h))) P
+    by_kind r found inside true is = rw (held_by_none r.kind is) tt
     by_kind r found inside false is =
         let its : record_word heap j y ≡ get_or r.values y (Number 0) = ap (λ (o : Option Record). word_in o y) found ∙ ap (λ (b : Bool). get_or (cond b [] r.values) y (Number 0)) is in
         subst (λ (old : Value). IfOk (store_in heap j (Some r) y v >>= (λ h. Ok (leave old h))) P) its (by_held r found is inside (may_hold r.kind y v) refl)
 
     by_record : (o : Option Record) → record_of heap j ≡ o → y < length (option_map_or (λ r. r.values) o [])
-        → IfOk (unless_cell o (get_or (option_map_or (λ r. r.values) o []) y (Number 0)) >>= (λ old. store_in heap j o y v >>= (λ h. Ok (leave old h)))) P
+        → IfOk (store_in heap j o y v >>= (λ h. Ok (leave (get_or (option_map_or (λ r. r.values) o []) y (Number 0)) h))) P
     by_record None found inside = tt
     by_record (Some r) found inside = by_kind r found inside (is_cell r.kind) refl
 
     by_place : (b : Bool) → nat_lt y (length (values_of heap j)) ≡ b
-        → IfOk ((cond b (Ok y) (Err OutOfRange) >>= (λ z. unless_cell (record_of heap j) (slice_index_or (values_of heap j) z (Number 0)))) >>= (λ old. store_in heap j (record_of heap j) y v >>= (λ h. Ok (leave old h)))) P
+        → IfOk ((cond b (Ok y) (Err OutOfRange) >>= (λ z. Ok (slice_index_or (values_of heap j) z (Number 0)))) >>= (λ old. store_in heap j (record_of heap j) y v >>= (λ h. Ok (leave old h)))) P
     by_place true is = by_record (record_of heap j) refl (ltb-true y (length (values_of heap j)) is)
     by_place false is = tt
 
@@ -294,19 +299,20 @@ shapes_stay m heap k instr after i s is has = if_ok-is (HasShape m heap k i s ha
 
 module _ (heap : Heap) (k : Mutator) (d : ℕ) (i : Identity) (x : ℕ) where
   abbrev IsLoaded : After → Type 0
-  IsLoaded after = after ≡ loads heap k d (record_word heap i x)
+  IsLoaded after = after ≡ loads heap k d (loaded_there heap i x (record_word heap i x))
 
-  loaded_of : (r : Record) → record_of heap i ≡ Some r → (cell : Bool) → is_cell r.kind ≡ cell → IfOk (cond cell (Err WeakCell) (Ok (get_or r.values x (Number 0))) >>= (λ v. Ok (loads heap k d v))) IsLoaded
-  loaded_of r found true is = tt
-  loaded_of r found false is =
-      ap (λ (v : Value). loads heap k d v) (sym (ap (λ (o : Option Record). word_in o x) found ∙ ap (λ (b : Bool). get_or (cond b [] r.values) x (Number 0)) is))
+  -- a word that is none of a cell is a word that is stored
+  value_is : (o : Option Record) → get_or (option_map_or (λ (r : Record). r.values) o []) x (Number 0)
+      ≡ cond (option_map_or (λ (r : Record). is_cell r.kind) o false) (get_or (option_map_or (λ (r : Record). r.values) o []) x (Number 0)) (word_in o x)
+  value_is None = refl
+  value_is (Some r) = by_kind (is_cell r.kind) refl
+    where
+      by_kind : (cell : Bool) → is_cell r.kind ≡ cell → get_or r.values x (Number 0) ≡ cond cell (get_or r.values x (Number 0)) (get_or (cond cell [] r.values) x (Number 0))
+      by_kind true is = refl
+      by_kind false is = refl
 
-  loaded_from : (o : Option Record) → record_of heap i ≡ o → IfOk (unless_cell o (get_or (option_map_or (λ r. r.values) o []) x (Number 0)) >>= (λ v. Ok (loads heap k d v))) IsLoaded
-  loaded_from None found = ap (λ (v : Value). loads heap k d v) (sym (ap (λ (o : Option Record). word_in o x) found))
-  loaded_from (Some r) found = loaded_of r found (is_cell r.kind) refl
-
-  loaded : (b : Bool) → IfOk ((cond b (Ok x) (Err OutOfRange) >>= (λ z. unless_cell (record_of heap i) (slice_index_or (values_of heap i) z (Number 0)))) >>= (λ v. Ok (loads heap k d v))) IsLoaded
-  loaded true = loaded_from (record_of heap i) refl
+  loaded : (b : Bool) → IfOk ((cond b (Ok x) (Err OutOfRange) >>= (λ z. Ok (slice_index_or (values_of heap i) z (Number 0)))) >>= (λ v. Ok (loads heap k d v))) IsLoaded
+  loaded true = ap (λ (v : Value). loads heap k d v) (value_is (record_of heap i))
   loaded false = tt
 
 pub loads_take_the_word : LoadsTakeTheWord

@@ -28,7 +28,7 @@ use Rattle.plain_heap.proofs.States.Opening.{opening-replicate}
 abbrev no_records : List Record
 no_records = []
 
-no_record : (mutators m serial : ℕ) → at_serial (get_or (replicate mutators no_records) m no_records) serial ≡ None
+pub no_record : (mutators m serial : ℕ) → at_serial (get_or (replicate mutators no_records) m no_records) serial ≡ None
 no_record mutators m serial = ap (λ (records : List Record). at_serial records serial) none ∙ by_serial serial
   where
     none : get_or (replicate mutators no_records) m no_records ≡ no_records

@@ -7,7 +7,7 @@ use Rattle.plain_state.specs.declared.end.End.{End}
 use Rattle.plain_state.specs.declared.end.End.TheVariants.{HeapFull}
 use Rattle.plain_state.specs.declared.value.Identity.{Identity}
 use Rattle.plain_state.specs.declared.value.Value.TheVariants.{Number, Reference}
-use Rattle.plain_state.specs.Cells.{is_cell}
+use Rattle.plain_state.specs.Cells.{is_cell, without_target}
 use Rattle.plain_state.specs.State.{Heap, Mutator, Plain, Record, record_of}
 use Rattle.plain_state.specs.Writing.{stored, with_value}
 use Rattle.mutator_asm.specs.declared.instr.Instr.{Instr}
@@ -15,7 +15,7 @@ use Rattle.plain_heap.specs.declared.mark.Mark.{Mark}
 use Rattle.plain_heap.specs.declared.mark.Mark.TheVariants.{Step, Flip, Full, Traced}
 use Rattle.plain_heap.specs.Action.{◌>>=◌}
 use Rattle.plain_heap.specs.Call.{After, call}
-use Rattle.plain_heap.specs.Emptied.{emptied, without_target}
+use Rattle.plain_heap.specs.Emptied.{emptied}
 use Rattle.plain_heap.specs.Order.{Story, ended_for_want, first_story, is_asked, is_flip, story, story_after, story_marked}
 use Rattle.plain_heap.specs.Step.{asked_by, ended, fetch, mutator_in, settled, stepped, stepped_as, stepped_if}
 use Rattle.plain_heap.specs.Tracing.{TracingIsDoneOnce, TracingNeedsFlip}

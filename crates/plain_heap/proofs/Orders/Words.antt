@@ -22,7 +22,7 @@ use Rattle.plain_heap.specs.Action.{◌>>=◌, action}
 use Rattle.plain_heap.specs.Call.{After, call, is_cell, set_register, went_on, words_in}
 use Rattle.plain_heap.specs.Emptied.{emptied}
 use Rattle.plain_heap.specs.Order.{Story, ended_for_want, first_story, is_asked, opening, plain, story_after, story_marked}
-use Rattle.plain_heap.specs.Records.{record_word, success, word_after}
+use Rattle.plain_heap.specs.Records.{loaded_there, record_word, success, word_after}
 use Rattle.plain_heap.specs.Step.{asked_by, ended, fetch, mutator_in, settled, stepped, stepped_as, stepped_if}
 use Rattle.plain_heap.specs.Stores.{OrdersStoreWords, StepDoes, StepsCompareTheLastStore, StepsLoadTheLastStore, last_in_order, turn_does, word_after_mark}
 use Rattle.plain_heap.proofs.Calls.Records.{cell_word, exchanges_find_the_word, loads_take_the_word, only_stores_change_words}
@@ -171,7 +171,7 @@ steps_load_the_last_store code turns front m k d i x step =
     let e = does code turns front m k act step in
     goes_on code turns front m k act step
     ∙ (ap (λ (a : After). Some a.mutator) (loads_take_the_word m (plain code turns front).heap k e.instr e.after d i x e.acts e.leaves)
-    ∙ ap (λ (v : Value). Some (went_on (set_register k d v))) (orders_store_words code turns front i x))
+    ∙ ap (λ (v : Value). Some (went_on (set_register k d (loaded_there (plain code turns front).heap i x v)))) (orders_store_words code turns front i x))
 
 pub steps_compare_the_last_store : StepsCompareTheLastStore
 steps_compare_the_last_store code turns front m k d i x expected new step =

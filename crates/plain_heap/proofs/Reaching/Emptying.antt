@@ -7,11 +7,11 @@ use Rattle.std.proofs.lemmas.Option.{get_or_from_slice_get}
 use Rattle.plain_state.specs.declared.value.Identity.{Identity}
 use Rattle.plain_state.specs.declared.value.Value.{Value}
 use Rattle.plain_state.specs.declared.value.Value.TheVariants.{Number, Reference}
-use Rattle.plain_state.specs.Cells.{is_cell, cell_of, value_of_cell}
+use Rattle.plain_state.specs.Cells.{is_cell, cell_of, value_of_cell, LosesTarget, without_target}
 use Rattle.plain_state.specs.State.{Record, Heap, Plain, at_serial, made_by, record_of}
 use Rattle.plain_state.specs.Writing.{stored, with_value}
 use Rattle.plain_state.proofs.Stored.{stored_elsewhere, stored_there}
-use Rattle.plain_heap.specs.Emptied.{EmptiedOfLostCells, LosesTarget, cells_to_empty, emptied, emptied_cell, emptied_record, is_unreached, loses_target, without_target}
+use Rattle.plain_heap.specs.Emptied.{EmptiedOfLostCells, cells_to_empty, emptied, emptied_cell, emptied_record, is_unreached, loses_target}
 use Rattle.plain_heap.specs.Reaching.{identities, reaches}
 use Rattle.plain_heap.proofs.Reaching.Closure.{In-identities, reachable-reaches, reaches-reachable}
 use Rattle.plain_heap.proofs.Reaching.Members.{In, In-filter, In-filter_from}
@@ -109,7 +109,7 @@ module _ (j : Identity) where
       by_one (inr first) (inr later) = inr (later ∙ ap (option_map without_target) first ∙ without-twice (record_of heap j))
 
   -- a cell of the list is emptied
-  emptied-in : (cells : List Identity) (heap : Heap) → In j cells → record_of (fold emptied_cell heap cells) j ≡ option_map without_target (record_of heap j)
+  pub emptied-in : (cells : List Identity) (heap : Heap) → In j cells → record_of (fold emptied_cell heap cells) j ≡ option_map without_target (record_of heap j)
   emptied-in [] heap is = absurd is
   emptied-in (i ∷ cells) heap (inl e) = by_rest (all-is cells (emptied_cell heap i))
     where
@@ -127,7 +127,7 @@ module _ (j : Identity) where
       by_one (inr first) later = later ∙ ap (option_map without_target) first ∙ without-twice (record_of heap j)
 
   -- and any other record is not
-  emptied-out : (cells : List Identity) (heap : Heap) → ¬ (In j cells) → record_of (fold emptied_cell heap cells) j ≡ record_of heap j
+  pub emptied-out : (cells : List Identity) (heap : Heap) → ¬ (In j cells) → record_of (fold emptied_cell heap cells) j ≡ record_of heap j
   emptied-out [] heap not_in = refl
   emptied-out (i ∷ cells) heap not_in = emptied-out cells (emptied_cell heap i) (λ is. not_in (inr is)) ∙ ⊎_elim
       (λ (e : i ≡ j). absurd (not_in (inl e)))
@@ -160,6 +160,13 @@ lost-tested o i lost = rw lost.is (by_test (reaches o lost.target) refl)
     by_test : (b : Bool) → reaches o lost.target ≡ b → not b ≡ true
     by_test true is = absurd (lost.unreachable (reaches-reachable o lost.target is))
     by_test false is = refl
+
+pub loses_or_not : (o : Plain) (i : Identity) → LosesTarget o i ⊎ ¬ (LosesTarget o i)
+loses_or_not o i = by_test (loses_target o i) refl
+  where
+    by_test : (b : Bool) → loses_target o i ≡ b → LosesTarget o i ⊎ ¬ (LosesTarget o i)
+    by_test true is = inl (loses o i is)
+    by_test false is = inr (λ lost. let both : true ≡ false = sym (lost-tested o i lost) ∙ is in cc)
 
 -- the heap has the cell whose value is told
 pub has-cell : (heap : Heap) (i : Identity) (v : Value) → cell_of heap i ≡ Some v → (r : Record) × (record_of heap i ≡ Some r) × (is_cell r.kind ≡ true)

@@ -22,6 +22,14 @@ pub returns-clause-mixed_record_is_placed : goal.returns-clause-mixed_record_is_
 unfolding header_word number_word decode_area area_in encode_area encode_page place_of
 returns-clause-mixed_record_is_placed c = record { steps = refl; ends = refl }
 
+pub returns-clause-target_is_stored_first : goal.returns-clause-target_is_stored_first
+unfolding header_word decode_area area_in encode_area encode_page place_of
+returns-clause-target_is_stored_first c = record { steps = refl; ends = refl }
+
+pub returns-clause-cell_is_placed : goal.returns-clause-cell_is_placed
+unfolding header_word decode_area area_in encode_area encode_page place_of
+returns-clause-cell_is_placed c = record { steps = refl; ends = refl }
+
 pub returns-clause-pages_are_marked_and_opened : goal.returns-clause-pages_are_marked_and_opened
 unfolding header_word decode_area area_in encode_area encode_page encode_save place_of save_place_of
 returns-clause-pages_are_marked_and_opened c = record { steps = refl; ends = refl }

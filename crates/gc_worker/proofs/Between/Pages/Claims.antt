@@ -34,7 +34,7 @@ use Rattle.heap_laws.specs.Answers.{AreaAnswers}
 use Rattle.heap_laws.proofs.Steps.Answers.{areas_are_read}
 use Rattle.fault_duty.specs.Duty as duty
 use Rattle.gc_worker.specs.declared.access.accessed.Accessed.{Accessed}
-use Rattle.gc_worker.specs.declared.access.accessed.Accessed.TheVariants.{Faults, Brings, Stored, Fails}
+use Rattle.gc_worker.specs.declared.access.accessed.Accessed.TheVariants.{Faults, Awaits, Brings, Stored, Fails}
 use Rattle.gc_worker.specs.declared.stage.Stage.{Stage}
 use Rattle.gc_worker.specs.declared.stage.Stage.TheVariants.{Looks, Passes, Flips, Forwards, Accesses, Places, Serves, Scans, Evacuates, Opens, Recalls, Guards, Checkpoints, BeginsCheckpoint, Gone}
 use Rattle.gc_worker.specs.declared.calls.did.Did.TheVariants.{Done}
@@ -190,6 +190,7 @@ looks_unmarked x (replies.Lost word) = tt
 
 accesses_unmarked : (o : Option Task) (t : Turn Accessed) → NoMark (told_access o t)
 accesses_unmarked o (Finished (Faults page)) = tt
+accesses_unmarked o (Finished Awaits) = tt
 accesses_unmarked o (Finished (Brings into word)) = effects_unmarked o
 accesses_unmarked o (Finished Stored) = effects_unmarked o
 accesses_unmarked o (Finished (Fails why)) = ends_unmarked o why

@@ -54,7 +54,7 @@ module _ (c : Configuration) (p : Plain) (z : Frozen) (saver : ℕ → Saver) (k
 
     forgets : IsForgetful x
     forgets = record {
-      less = λ reply. let r : Round = duty.taken (record d { stage = stage }) reply in round_less x b.room back r (duty.told r);
+      less = λ reply. let r : Round = duty.taken (record d { stage = stage }) reply in round_less x b.room back b.is.fits.stage.1 r (duty.told r);
       quiet = λ reply. rounds_are_quiet (duty.told (duty.taken (record d { stage = stage }) reply));
     }
 

@@ -1,5 +1,5 @@
 -- A step that answers another task than `snap` leaves what the plain heap has kept of checkpoints.
-use Rattle.std.proofs.Common.{◌≡◌, ℕ, List, Option, Some, None, Result, Ok, Err, false, refl, sym, subst}
+use Rattle.std.proofs.Common.{◌≡◌, [], ℕ, List, Option, Some, None, Result, Ok, Err, false, refl, sym, subst}
 use Rattle.std.specs.Result.{IfOk}
 use Rattle.std.specs.Prelude.{⊤, slice_get}
 use Rattle.mutator_asm.specs.declared.instr.Instr.{Instr}
@@ -53,7 +53,7 @@ stops_keep : (p : Plain) (k : ℕ) (end : End) (o : Option Mutator) → KeepsChe
 stops_keep p k end (Some q) = record { snaps = refl; snapped = refl }
 stops_keep p k end None = record { snaps = refl; snapped = refl }
 
-kept : (p : Plain) (k : ℕ) (t : Told) → IsNoSnap t → KeepsCheckpoint p.heap (after_told p k t).heap
+kept : (p : Plain) (k : ℕ) (t : Told) → IsNoSnap t → KeepsCheckpoint p.heap (after_told [] p k t).heap
 kept p k Silent other = record { snaps = refl; snapped = refl }
 kept p k Empties other = record { snaps = refl; snapped = refl }
 kept p k (Marks asked) other = record { snaps = refl; snapped = refl }

@@ -1,5 +1,5 @@
 -- A worker in a round of the duty, and in the scan of a page: what it holds of checkpoints is the same at each stage, and as the round ends.
-use Rattle.std.proofs.Common.{◌≡◌, ℕ, ◌&&◌, inl, Bool, true, false, cond, nat_lt, None, Some, refl, sym, subst, ◌∙◌}
+use Rattle.std.proofs.Common.{◌≡◌, ℕ, ◌==◌, ◌&&◌, inl, Bool, true, false, cond, nat_lt, None, Some, refl, sym, subst, ◌∙◌}
 use Rattle.atom_store.specs.declared.turn.Turn.{Turn}
 use Rattle.atom_store.specs.declared.turn.Turn.TheVariants.{More, Finished}
 use Rattle.fault_duty.specs.declared.round_end.RoundEnd.{RoundEnd}
@@ -15,16 +15,20 @@ use Rattle.page_slots.specs.Open as open_page
 use Rattle.heap_state.specs.Saving.Savers.{Saver, NoReads}
 use Rattle.heap_state.specs.Worker.{is_running, is_asking}
 use Rattle.heap_laws.specs.Saving.Rounds.{KnowsNoMore}
+use Rattle.gc_worker.specs.declared.access.Access.{Access}
 use Rattle.gc_worker.specs.declared.stage.back.Back.{Back}
-use Rattle.gc_worker.specs.declared.stage.back.Back.TheVariants.{ToAccess, ToPlace, ToSnap, ToScanner}
+use Rattle.gc_worker.specs.declared.stage.back.Back.TheVariants.{ToAccess, ToTarget, ToPlace, ToSnap, ToScanner}
 use Rattle.gc_worker.specs.declared.stage.goal.Goal.TheVariants.{ForScanner}
-use Rattle.gc_worker.specs.declared.stage.Stage.TheVariants.{Gone}
+use Rattle.gc_worker.specs.declared.stage.Stage.TheVariants.{Accesses, Gone}
+use Rattle.gc_worker.specs.Steps.Access.{is_at_target, writes_on}
 use Rattle.gc_worker.specs.Steps.Turned.{back_from, checkpoints, goes_back, of_round, served_by, traced_by, turned_copy, turned_opening, turned_round, turned_scan}
+use Rattle.gc_worker.specs.Workers.Fits.{FitsBack}
 use Rattle.gc_worker.specs.Workers.Held.{Held, header_for}
 use Rattle.gc_worker.specs.Workers.Knows.{post_back}
 use Rattle.gc_worker.specs.Workers.Saves.{guarded_back, saver_at, saver_of}
-use Rattle.gc_worker.proofs.Saving.Frame.Running.{places_run, running_saver}
+use Rattle.gc_worker.proofs.Saving.Frame.Running.{none_either, places_run, running_saver}
 use Rattle.gc_worker.proofs.Saving.Frame.Step.{bare_knows_no_more}
+use Rattle.gc_worker.proofs.Workers.Guarded.{writes_nothing}
 
 -- what it holds then
 abbrev pub round_saver : Held → Back → Saver
@@ -47,12 +51,14 @@ round_saver x back = record {
 module _ (x : Held) (room : x.layout.checkpoints ≡ true) where
   kept_by : (back : Back) → (page : ℕ) → (round_saver x back).guarded ≡ Some page → (round_saver x back).recalled ≡ true
   kept_by (ToAccess a) page is = rw room refl
+  kept_by (ToTarget a) page is = rw room refl
   kept_by ToPlace page is = rw room refl
   kept_by ToSnap page is = rw room refl
   kept_by ToScanner page is = absurd (cc)
 
   runs_by : (back : Back) → (round_saver x back).recalled ≡ true → (round_saver x back).runs ≡ true
   runs_by (ToAccess a) is = refl
+  runs_by (ToTarget a) is = refl
   runs_by ToPlace is = refl
   runs_by ToSnap is = refl
   runs_by ToScanner is = absurd (let none = (rw room at is) in cc)
@@ -79,6 +85,7 @@ module _ (x : Held) (room : x.layout.checkpoints ≡ true) where
 
   back_same : (back : Back) → saver_at x (goes_back x back) ≡ round_saver x back
   back_same (ToAccess a) = refl
+  back_same (ToTarget a) = refl
   back_same ToPlace = places_run x room (header_for x) ∙ runs_back
   back_same ToSnap = refl
   back_same ToScanner = refl
@@ -87,11 +94,16 @@ module _ (x : Held) (room : x.layout.checkpoints ≡ true) where
   helps_same true = refl
   helps_same false = refl
 
-  traced_same : (back : Back) → saver_of (traced_by x back) ≡ round_saver x back
-  traced_same (ToAccess a) = back_same (ToAccess a)
-  traced_same ToPlace = back_same ToPlace
-  traced_same ToSnap = refl
-  traced_same ToScanner = helps_same x.layout.checkpoints
+  -- who loads the target of a cell writes on no page
+  loads_target : (a : Access) → is_at_target a.stage ≡ true → saver_at x (Accesses a) ≡ round_saver x (ToTarget a)
+  loads_target a target = λ i. record (round_saver x (ToTarget a)) { guarded = none_either (x.running == 0) (writes_on a.spaces a.stage) (writes_nothing a.spaces a.stage target) i }
+
+  traced_same : (z : Held) (back : Back) → FitsBack z back → saver_of (traced_by x back) ≡ round_saver x back
+  traced_same z (ToAccess a) own = back_same (ToAccess a)
+  traced_same z (ToTarget a) own = loads_target a own.1
+  traced_same z ToPlace own = back_same ToPlace
+  traced_same z ToSnap own = refl
+  traced_same z ToScanner own = helps_same x.layout.checkpoints
 
   -- a worker that is gone knows nothing
   gone_by : (back : Back) (is_mutator : Bool) → nat_lt x.number x.mutators ≡ is_mutator → KnowsNoMore (saver_at x Gone) (round_saver x back)
@@ -103,17 +115,17 @@ module _ (x : Held) (room : x.layout.checkpoints ≡ true) where
 module _ (x : Held) (room : x.layout.checkpoints ≡ true) (back : Back) where
   -- ---- after a reply
 
-  served_less : (d : duty.Round) (result : RoundEnd) → KnowsNoMore (saver_of (served_by x d back result)) (round_saver x back)
-  served_less d (ScanPage page) = same_still x room back
-  served_less d (ScanInPlace page) = same_still x room back
-  served_less d Marked = goes_on_as x room back (saver_of (back_from (of_round x d) back)) (back_same (of_round x d) room back)
-  served_less d Traced = goes_on_as x room back (saver_of (traced_by (of_round x d) back)) (traced_same (of_round x d) room back)
-  served_less d (NothingNow word) = goes_on_as x room back (saver_of (back_from (of_round x d) back)) (back_same (of_round x d) room back)
-  served_less d (AllLeft word) = gone_by x room back (nat_lt x.number x.mutators) refl
+  served_less : FitsBack x back → (d : duty.Round) (result : RoundEnd) → KnowsNoMore (saver_of (served_by x d back result)) (round_saver x back)
+  served_less own d (ScanPage page) = same_still x room back
+  served_less own d (ScanInPlace page) = same_still x room back
+  served_less own d Marked = goes_on_as x room back (saver_of (back_from (of_round x d) back)) (back_same (of_round x d) room back)
+  served_less own d Traced = goes_on_as x room back (saver_of (traced_by (of_round x d) back)) (traced_same (of_round x d) room x back own)
+  served_less own d (NothingNow word) = goes_on_as x room back (saver_of (back_from (of_round x d) back)) (back_same (of_round x d) room back)
+  served_less own d (AllLeft word) = gone_by x room back (nat_lt x.number x.mutators) refl
 
-  pub round_less : (d : duty.Round) (t : Turn RoundEnd) → KnowsNoMore (saver_of (turned_round x d back t)) (round_saver x back)
-  round_less d More = same_still x room back
-  round_less d (Finished result) = served_less d result
+  pub round_less : FitsBack x back → (d : duty.Round) (t : Turn RoundEnd) → KnowsNoMore (saver_of (turned_round x d back t)) (round_saver x back)
+  round_less own d More = same_still x room back
+  round_less own d (Finished result) = served_less own d result
 
   pub scan_less : (s : scan.Scanning) (t : Turn Scanned) → KnowsNoMore (saver_of (turned_scan x s back t)) (round_saver x back)
   scan_less s More = same_still x room back

@@ -1,5 +1,5 @@
 -- From rows of the whole table to the words of a step: what a step that is on a row, and gets this reply, keeps of checkpoints.
-use Rattle.std.proofs.Common.{◌≡◌, ◌≢◌, ℕ, ◌==◌, true, false, refl, Option, None, Some, slice_index, sym, ◌∙◌, ⊎_elim}
+use Rattle.std.proofs.Common.{◌≡◌, [], ◌≢◌, ℕ, ◌==◌, true, false, refl, Option, None, Some, slice_index, sym, ◌∙◌, ⊎_elim}
 use Rattle.std.proofs.lemmas.Bool.{eq-eqb, ne_eqb, cases_eq}
 use Rattle.plain_state.specs.State.{Plain}
 use Rattle.atom_store.specs.declared.reply.Reply.{Reply}
@@ -31,7 +31,7 @@ pub record SavedBy (c : Configuration) (p : Plain) (saver : ℕ → Saver) (k : 
   pub fits : RowFits c.pages e
   pub frozen : Frozen
   pub stands : SavingStands (table_after (table c) e) (saves_after (saves c) e) frozen (team c).count (put saver k (saver_of (turned x reply)))
-  pub shows : ShowsSnapped c.pages (saves_after (saves c) e) frozen (after_told p k (told x reply)).heap
+  pub shows : ShowsSnapped c.pages (saves_after (saves c) e) frozen (after_told [] p k (told x reply)).heap
 
 -- the word at a row's place
 pub reads_any : (c : Configuration) (row : WholeRow) → IsWholeRow c.pages row → slice_index c.words (whole_place_of c.pages row) ≡ word_in_whole c.pages c.words row

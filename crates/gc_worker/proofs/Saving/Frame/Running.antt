@@ -22,7 +22,7 @@ use Rattle.gc_worker.specs.declared.stage.write.Write.TheVariants.{OfAccess, OfP
 use Rattle.gc_worker.specs.declared.stage.Stage.{Stage}
 use Rattle.gc_worker.specs.declared.stage.Stage.TheVariants.{Looks, Guards, Serves}
 use Rattle.gc_worker.specs.Steps.Turned.{checkpoints, goes_on, guards, guards_access, guards_place, passes, places, serves_snap, writes}
-use Rattle.gc_worker.specs.Workers.Held.{Held, fields_for, header_for, may_snap, run_held}
+use Rattle.gc_worker.specs.Workers.Held.{Held, fields_for, header_for, may_snap, run_held, target_for}
 use Rattle.gc_worker.specs.Workers.Saves.{guarded_by, guarded_in, marked_at, marked_in, saver_at}
 use Rattle.gc_worker.proofs.Saving.Frame.Step.{bare_knows_no_more}
 use Rattle.gc_worker.proofs.Workers.Guarded.{page_written}
@@ -54,7 +54,7 @@ runs_forgetting v snap running recalled done same_snap same_running none =
 
 -- ---- pages that are written or opened next
 
-none_either : (b : Bool) (o : Option ℕ) → o ≡ None → cond b None o ≡ None
+pub none_either : (b : Bool) (o : Option ℕ) → o ≡ None → cond b None o ≡ None
 none_either true o none = refl
 none_either false o none = none
 
@@ -137,7 +137,7 @@ module _ (x : Held) (room : x.layout.checkpoints ≡ true) where
   pub places_run : (header : Option Header) → Runs (places x header)
   places_run None = looks_run
   places_run (Some header) =
-      let p : place.Placing = place.begun x.layout (run_held x) header x.epoch (fields_for x) x.snap in
+      let p : place.Placing = place.begun x.layout (run_held x) header x.epoch (fields_for x) x.snap (target_for x) in
       places_run_at p (first_by p header.kind _)
 
   snaps_by : (b : Bool) → Runs (cond b (serves_snap x) Looks)

@@ -1,5 +1,5 @@
 -- What is kept of checkpoints after a step of one worker: what each kind of step owes, and the kinds that teach nothing of them.
-use Rattle.std.proofs.Common.{◌≡◌, ℕ, inl, true, false, refl, Option, None, sym, ◌∙◌}
+use Rattle.std.proofs.Common.{◌≡◌, [], ℕ, inl, true, false, refl, Option, None, sym, ◌∙◌}
 use Rattle.plain_state.specs.State.{Plain}
 use Rattle.atom_store.specs.declared.step.Step.{Step}
 use Rattle.atom_store.specs.Step.{words_after, reply_of}
@@ -54,16 +54,16 @@ pub record SavesStep (c : Configuration) (p : Plain) (saver : ℕ → Saver) (k 
   pub fits : RowFits c.pages entry
   pub frozen : Frozen
   pub stands : SavingStands (table_after (table c) entry) (saves_after (saves c) entry) frozen (team c).count (put saver k (saver_of (turned x (reply_of q c.words))))
-  pub shows : ShowsSnapped c.pages (saves_after (saves c) entry) frozen (after_told p k (told x (reply_of q c.words))).heap
+  pub shows : ShowsSnapped c.pages (saves_after (saves c) entry) frozen (after_told [] p k (told x (reply_of q c.words))).heap
 
 -- ---- the plain heap
 
 -- a step that is this to the plain machine leaves what its heap has kept of checkpoints
 pub record KeepsSnaps (p : Plain) (k : ℕ) (t : Told) : Type 0 where
-  pub snaps : (after_told p k t).heap.snaps ≡ p.heap.snaps
-  pub snapped : (after_told p k t).heap.snapped ≡ p.heap.snapped
+  pub snaps : (after_told [] p k t).heap.snaps ≡ p.heap.snaps
+  pub snapped : (after_told [] p k t).heap.snapped ≡ p.heap.snapped
 
-pub shows_still : (n : ℕ) (s : Saves) (z : Frozen) (p : Plain) (k : ℕ) (t : Told) → ShowsSnapped n s z p.heap → KeepsSnaps p k t → ShowsSnapped n s z (after_told p k t).heap
+pub shows_still : (n : ℕ) (s : Saves) (z : Frozen) (p : Plain) (k : ℕ) (t : Told) → ShowsSnapped n s z p.heap → KeepsSnaps p k t → ShowsSnapped n s z (after_told [] p k t).heap
 shows_still n s z p k t shows keeps = record { number = shows.number ∙ sym keeps.snaps; keeps = λ some. rw keeps.snapped (shows.keeps some) }
 
 -- ---- rows that spare the checkpoints

@@ -11,6 +11,8 @@ use Rattle.atom_store.specs.declared.step.Step.{Step}
 use Rattle.atom_store.specs.declared.step.Step.TheVariants.{Load, Store, Exchange}
 use Rattle.space_map.specs.Spaces.{board_page, page_of}
 use Rattle.space_map.specs.Table.{HeapWord, place_of}
+use Rattle.fault_duty.specs.declared.caller.Caller.TheVariants as callers
+use Rattle.fault_duty.specs.Duty as duty
 use Rattle.heap_state.specs.Configuration.{Configuration, table, team}
 use Rattle.heap_state.specs.Memory.Entries.{Entry, WordIs}
 use Rattle.heap_state.specs.Saving.Frozen.{Frozen}
@@ -22,14 +24,14 @@ use Rattle.heap_laws.proofs.Saving.Sparing.{stores_are_spared}
 use Rattle.gc_worker.specs.declared.access.Access.{Access}
 use Rattle.gc_worker.specs.declared.access.access_stage.AccessStage.{AccessStage}
 use Rattle.gc_worker.specs.declared.access.access_stage.AccessStage.TheVariants.{LooksAtRecord, LoadsHeader, LooksAtCount, LoadsCount, LooksAtField, LoadsField, StoresField, LoadsForCas, ExchangesField, LooksAtBoard, LoadsBoard, StoresBoard, LoadsForSwap, SwapsBoard}
-use Rattle.gc_worker.specs.declared.access.accessed.Accessed.TheVariants.{Faults, Brings, Stored, Fails}
+use Rattle.gc_worker.specs.declared.access.accessed.Accessed.TheVariants.{Faults, Awaits, Brings, Stored, Fails}
 use Rattle.gc_worker.specs.declared.stage.after.After.TheVariants as afters
-use Rattle.gc_worker.specs.declared.stage.back.Back.TheVariants.{ToAccess}
-use Rattle.gc_worker.specs.declared.stage.Stage.TheVariants.{Accesses}
+use Rattle.gc_worker.specs.declared.stage.back.Back.TheVariants.{ToAccess, ToTarget}
+use Rattle.gc_worker.specs.declared.stage.Stage.TheVariants.{Accesses, Serves}
 use Rattle.gc_worker.specs.declared.task.Task.{Task}
-use Rattle.gc_worker.specs.Steps.Access.{Answered, GoesTo, Comes, IsAccessOf, answered, board_at, count_at, field_at, goes_by, turn_by, writes_on}
+use Rattle.gc_worker.specs.Steps.Access.{Answered, GoesTo, WaitsAt, Comes, IsAccessOf, answered, board_at, count_at, field_at, goes_by, turn_by, writes_on}
 use Rattle.gc_worker.specs.Steps.Access as access
-use Rattle.gc_worker.specs.Steps.Turned.{Silent, ended, guards_access, loads, told_access, told_effect, told_end, turned_access, went_on}
+use Rattle.gc_worker.specs.Steps.Turned.{Silent, ended, guards_access, loads, serves_target, told_access, told_effect, told_end, turned_access, went_on}
 use Rattle.gc_worker.specs.Steps.Wanted.{wanted}
 use Rattle.gc_worker.specs.Workers.Held.{Held, at_stage}
 use Rattle.gc_worker.specs.Workers.Saves.{saver_at, saver_of}
@@ -67,7 +69,9 @@ differs _ stage is = refl
 -- to the plain machine it is its task's effect or end
 keeps_by : (p : Plain) (k : ℕ) (task : Option Task) (o : Answered) → IsNoSnap (told_effect task) → KeepsSnaps p k (told_access task (turn_by o))
 keeps_by p k task (GoesTo stage) other = keeps_snaps p k Silent tt
+keeps_by p k task (WaitsAt stage) other = keeps_snaps p k Silent tt
 keeps_by p k task (Comes (Faults page)) other = keeps_snaps p k Silent tt
+keeps_by p k task (Comes Awaits) other = keeps_snaps p k Silent tt
 keeps_by p k task (Comes (Brings into word)) other = keeps_snaps p k (told_effect task) other
 keeps_by p k task (Comes Stored) other = keeps_snaps p k (told_effect task) other
 keeps_by p k task (Comes (Fails why)) other = keeps_snaps p k (told_end task why) (no_snap_end task why)
@@ -78,10 +82,21 @@ module _ (x : Held) (room : x.layout.checkpoints ≡ true) (a : Access) where
   runs_then w same =
       subst (λ (v : Saver). KnowsNoMore v (saver_at x (Accesses a))) (sym same) (runs_forgetting (saver_at x (Accesses a)) x.snap x.running (rw room refl) refl refl refl refl)
 
+  -- one that waits to load the target of a cell
+  waits_so : (next : Access) → KnowsNoMore (saver_at x (serves_target x next)) (saver_at x (Accesses a))
+  waits_so next = runs_then (saver_at x (serves_target x next)) (rw room refl)
+
+  faulted : (page : ℕ) (target : Bool)
+      → KnowsNoMore (saver_at x (Serves (duty.begun x.layout (callers.Faulted page) x.epoch x.number) (cond target (ToTarget a) (ToAccess a)))) (saver_at x (Accesses a))
+  faulted page true = runs_then (saver_at x (Serves (duty.begun x.layout (callers.Faulted page) x.epoch x.number) (ToTarget a))) (rw room refl)
+  faulted page false = same_still x room (ToAccess a)
+
   -- what it knows of checkpoints then it knew
   accessed : (o : Answered) → KnowsNoMore (saver_of (turned_access x (goes_by a o) (turn_by o))) (saver_at x (Accesses a))
   accessed (GoesTo stage) = runs_then (saver_at x (guards_access x (access.at_stage a stage))) (accesses_run x room (access.at_stage a stage))
-  accessed (Comes (Faults page)) = same_still x room (ToAccess a)
+  accessed (WaitsAt stage) = waits_so (access.at_stage a stage)
+  accessed (Comes (Faults page)) = faulted page (access.is_at_target a.stage)
+  accessed (Comes Awaits) = waits_so a
   accessed (Comes (Brings into word)) = runs_then (saver_of (loads x into word)) (looks_run (loads x into word) room)
   accessed (Comes Stored) = runs_then (saver_of (went_on x)) (looks_run (went_on x) room)
   accessed (Comes (Fails why)) = runs_then (saver_of (ended x why)) (leaves_run x room afters.Looks)

@@ -93,6 +93,12 @@ module _ (c : Configuration) (p : Plain) (s : Stands c p) (k : ℕ) (below : k <
     place_writes place_stage.StoresCount page sound has on =
         let room = sound.stage in
         WritesStock _ (z.run.at + 1) (record { runs = runs; has = has }) (omega arith) (omega (arith, room)) (same_Some _ page on)
+    place_writes place_stage.StoresTarget page sound has on =
+        let room = sound.stage in
+        WritesStock _ (z.run.at + 1) (record { runs = runs; has = has }) (omega arith) (omega (arith, room)) (same_Some _ page on)
+    place_writes place_stage.StoresLink page sound has on =
+        let room = sound.stage in
+        WritesStock _ (z.run.at + 2) (record { runs = runs; has = has }) (omega arith) (omega (arith, room)) (same_Some _ page on)
     place_writes place_stage.StoresHeader page sound has on =
         let room = sound.stage in
         WritesStock _ z.run.at (record { runs = runs; has = has }) (omega arith) (omega (arith, room)) (same_Some _ page on)
@@ -102,6 +108,8 @@ module _ (c : Configuration) (p : Plain) (s : Stands c p) (k : ℕ) (below : k <
 
 unmarked : (z : place.Placing) (stage : PlaceStage) (page : ℕ) → place.writes_on z stage ≡ Some page → marked_at z stage ≡ None
 unmarked z place_stage.StoresCount page on = refl
+unmarked z place_stage.StoresTarget page on = refl
+unmarked z place_stage.StoresLink page on = refl
 unmarked z place_stage.StoresHeader page on = refl
 unmarked z _ page on = absurd (cc)
 

@@ -27,7 +27,7 @@ use Rattle.alloc_end.specs.declared.allocated.Allocated.TheVariants.{Placed, Ful
 use Rattle.alloc_end.specs.declared.fitting.Fitting.{Fitting}
 use Rattle.alloc_end.specs.declared.new_pages.NewPages.{NewPages}
 use Rattle.alloc_end.specs.declared.place_stage.PlaceStage.{PlaceStage}
-use Rattle.alloc_end.specs.declared.place_stage.PlaceStage.TheVariants.{LoadsTraced, LoadsSize, LoadsArea, ExchangesArea, StoresZero, StoresNew, OpensPage, StoresCount, StoresHeader, Ended}
+use Rattle.alloc_end.specs.declared.place_stage.PlaceStage.TheVariants.{LoadsTraced, LoadsSize, LoadsArea, ExchangesArea, StoresZero, StoresNew, OpensPage, StoresCount, StoresTarget, StoresLink, StoresHeader, Ended}
 use Rattle.alloc_end.specs.declared.run.Run.{Run}
 use Rattle.alloc_end.specs.declared.shortage.Shortage.{Shortage}
 use Rattle.alloc_end.specs.Place.{Placing, area_after, kept_room, looked_at_area, pages_for, readies, size_of, stores_first, taken, told, words_for, writes_on}
@@ -58,7 +58,7 @@ use Rattle.gc_worker.specs.Plain.Seen.{Making}
 use Rattle.gc_worker.specs.Steps.Turned.{Silent, asks_flip, checkpoints, end_by_shortage, ended, full_by, is_full, passes, told_effect, told_end, told_full, told_place, turned_place, with_record}
 use Rattle.gc_worker.specs.Steps.Wanted.{wanted}
 use Rattle.gc_worker.specs.Workers.Fits.{IsMaking}
-use Rattle.gc_worker.specs.Workers.Held.{Held, at_stage, fields_for, making_for}
+use Rattle.gc_worker.specs.Workers.Held.{Held, at_stage, fields_for, making_for, target_for}
 use Rattle.gc_worker.specs.Workers.Knows.{opened_to, zeroed_to}
 use Rattle.gc_worker.specs.Workers.Saves.{marked_at, saver_of}
 use Rattle.gc_worker.proofs.Plain.NewRecords.{made, made_is}
@@ -149,7 +149,7 @@ small_room false area = omega arith
 
 module _ (c : Configuration) (p : Plain) (z : Frozen) (saver : ℕ → Saver) (k : ℕ) (y : Held) (run : Run) (header : Header) where
   abbrev placing : PlaceStage → Placing
-  placing stage = record { layout = y.layout; run = run; header = header; fields = fields_for y; epoch = y.epoch; snap = y.snap; stage = stage }
+  placing stage = record { layout = y.layout; run = run; header = header; fields = fields_for y; epoch = y.epoch; snap = y.snap; target = target_for y; stage = stage }
 
   abbrev at : PlaceStage → Held
   at stage = at_stage y (Places (placing stage))
@@ -322,6 +322,14 @@ module _ (c : Configuration) (p : Plain) (z : Frozen) (saver : ℕ → Saver) (k
       let s = b.is.fits.stage.sound in
       let r = s.run in let f = s.stage in let n = pages StoresCount b in
       stores_on StoresCount b (run.at + 1) (number_word (fields_for y)) (omega (arith, r, f, n)) refl refl refl
+  by_stage StoresTarget b =
+      let s = b.is.fits.stage.sound in
+      let r = s.run in let f = s.stage in let n = pages StoresTarget b in
+      stores_on StoresTarget b (run.at + 1) (target_for y) (omega (arith, r, f, n)) refl refl refl
+  by_stage StoresLink b =
+      let s = b.is.fits.stage.sound in
+      let r = s.run in let f = s.stage in let n = pages StoresLink b in
+      stores_on StoresLink b (run.at + 2) 0 (omega (arith, r, f, n)) refl refl refl
   by_stage StoresHeader b =
       let s = b.is.fits.stage.sound in
       let r = s.run in let f = s.stage in let n = pages StoresHeader b in
@@ -333,6 +341,6 @@ module _ (c : Configuration) (p : Plain) (z : Frozen) (saver : ℕ → Saver) (k
   places v b =
       let f = b.is.fits.stage in
       let same : v ≡ placing c p z saver k y v.run v.header v.stage =
-      (λ i. record { layout = f.layout i; run = v.run; header = v.header; fields = f.fields i; epoch = f.epoch i; snap = f.snap i; stage = v.stage }) in
+      (λ i. record { layout = f.layout i; run = v.run; header = v.header; fields = f.fields i; epoch = f.epoch i; snap = f.snap i; target = f.target i; stage = v.stage }) in
       subst (λ (u : Placing). (q : Step) → wanted (at_stage y (Places u)) ≡ Some q → SavesStep c p saver k (at_stage y (Places u)) q) (sym same)
       (by_stage c p z saver k y v.run v.header v.stage (subst (λ (u : Placing). Before c p z saver k (at_stage y (Places u))) same b))

@@ -2,7 +2,6 @@
 use Rattle.std.proofs.Common.{◌≡◌, ℕ, ◌+◌, inl, inr, Bool, true, false, nat_lt, length, Option, None, Some, Err, refl, sym, ap, subst, ◌∙◌, arith, le-leb, lt-ltb, ltb-false}
 use Rattle.std.specs.Bool.{⊤}
 use Rattle.std.proofs.lemmas.Bool.{ltb-true}
-use Rattle.plain_state.specs.declared.end.End.TheVariants.{IntoRaw}
 use Rattle.plain_state.specs.declared.kind.Kind.TheVariants as kind
 use Rattle.plain_state.specs.declared.value.Identity.{Identity}
 use Rattle.plain_state.specs.declared.value.Value.{Value}
@@ -43,9 +42,9 @@ use Rattle.gc_worker.proofs.Words.RowSteps.{loads}
 use Rattle.gc_worker.proofs.Stages.Access.Acting.{calls, names, is_small, q, Held_value}
 use Rattle.gc_worker.proofs.Stages.Access.Fields.{held_by_role}
 use Rattle.gc_worker.proofs.Stages.Access.Going.{own, at, ready, goes_on_to_field}
-use Rattle.gc_worker.proofs.Stages.Access.Headers.{again, same_access, seen_again, Decided, decided}
+use Rattle.gc_worker.proofs.Stages.Access.Headers.{again, same_access, seen_again, Decided, decided, may_refuse, not_full, refusal}
 use Rattle.gc_worker.proofs.Stages.Access.Outcomes.{goes_ending}
-use Rattle.gc_worker.proofs.Stages.Access.Storing.{Condition, fits_field, into_raw, is_field, mixed_value, names_both, renewed, storing_action, storing_use, valued_so}
+use Rattle.gc_worker.proofs.Stages.Access.Storing.{Condition, fits_field, holds_it_not, is_field, mixed_value, names_both, renewed, storing_action, storing_use, valued_so}
 
 -- a value of a mixed record has the role that the count says
 has_by_count : (count x : ℕ) → parts.HasRole (kind.Mixed count) (x + 2) (role_of (role_by_count count x))
@@ -152,10 +151,12 @@ module _ (c : Configuration) (p : Plain) (s : Stands c p) (k : ℕ) (y : Held) w
           goes of_new is act_new executes (storing_use o (word_as (role of_new is) v)) (is_field o j at_value v 2 (role of_new is) t.0)
           (fits_field o (word_for v) (word_as (role of_new is) v) is.fits.stage.sound.stage.1) (comes_new ∙ rw (seen_so, t.1, t.2, renewed o (word_for v) (word_as (role of_new is) v)) refl)
       by_holding (inr t) =
-          goes_ending c p s k y (LoadsCount of_new) is act_new executes (replies.Value (word of_new is)) IntoRaw (comes_new ∙ rw (seen_so, t.0) refl)
-          (calls c p s k y (LoadsCount of_new) is act_new executes (Err IntoRaw)
-          (into_raw o j at_value v s.ghost.identity k p.heap (q c p s k y (LoadsCount of_new) is) (says of_new is).record_there
-          (rw (says of_new is).is (within of_new is)) (says of_new is).is (rw (holding of_new is (plain_value s.ghost.identity v)) t.1))) tt tt
+          goes_ending c p s k y (LoadsCount of_new) is act_new executes (replies.Value (word of_new is)) (refusal (role of_new is)) (comes_new ∙ rw (seen_so, t.0) refl) refl
+          (may_refuse k p.heap (q c p s k y (LoadsCount of_new) is) executes.instr (role of_new is)
+          (calls c p s k y (LoadsCount of_new) is act_new executes (Err (refusal (role of_new is)))
+          (holds_it_not o j at_value v s.ghost.identity k p.heap (q c p s k y (LoadsCount of_new) is) (refusal (role of_new is)) (says of_new is).record_there
+          (rw (says of_new is).is (within of_new is)) (says of_new is).is (rw (holding of_new is (plain_value s.ghost.identity v)) t.1))))
+          (not_full c.pages c.words (at c p s k y (LoadsCount of_new)) (role of_new is)) tt
 
       stores_it : Answers of_new
       stores_it = by_holding (decided s.ghost.identity (role of_new is) at_value v)

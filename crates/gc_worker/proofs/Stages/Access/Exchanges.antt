@@ -27,7 +27,7 @@ use Rattle.gc_worker.specs.declared.access.field_access.FieldAccess.{FieldAccess
 use Rattle.gc_worker.specs.declared.access.field_access.FieldExchange.{FieldExchange}
 use Rattle.gc_worker.specs.declared.access.field_access.FieldUse.TheVariants as field_uses
 use Rattle.gc_worker.specs.declared.access.field_access.Role.{Role}
-use Rattle.gc_worker.specs.Steps.Access.{IsFieldOfAction, field_at, field_of, kind_of, role_of, word_as}
+use Rattle.gc_worker.specs.Steps.Access.{IsFieldOfAction, field_at, field_of, is_target, kind_of, role_of, word_as}
 use Rattle.gc_worker.specs.Workers.Fits.{ExecutesAction}
 use Rattle.gc_worker.specs.Steps.Goes.{Is, Goes, StepsSo}
 use Rattle.gc_worker.specs.Steps.Turned as turned
@@ -41,7 +41,7 @@ use Rattle.gc_worker.proofs.Stages.Gate.Words.{wants}
 use Rattle.gc_worker.proofs.Words.RowSteps as steps
 use Rattle.gc_worker.proofs.Words.RowSteps.{nothing}
 use Rattle.gc_worker.proofs.Stages.Access.Acting.{q, its, names, decode_number, number_held, Held_value}
-use Rattle.gc_worker.proofs.Stages.Access.Fields.{fits_role, heap_after, holds, in_table, stored_law, stores_in_plain, value_is}
+use Rattle.gc_worker.proofs.Stages.Access.Fields.{fits_role, heap_after, holds, in_table, no_target, stored_law, stores_in_plain, value_is}
 use Rattle.gc_worker.proofs.Stages.Access.Going.{at, ready, no_end, goes_to}
 use Rattle.gc_worker.proofs.Stages.Access.Outcomes.{goes_bringing, goes_loading}
 
@@ -66,7 +66,7 @@ module _ (c : Configuration) (p : Plain) (s : Stands c p) (k : ℕ) (y : Held) w
     module _ (stage : AccessStage) (is : Is c k (at c p s k y stage)) (knows_it : access_at stage ≡ Some (known_access f)) (found : opened_at y.layout stage ≡ Some (page_of (field_at f)))
         (executes : ExecutesAction y.account y.registers y.task act) (holding : may_hold (kind_of role) x v ≡ Ok v) where
       abbrev value : Value
-      value = (value_is c p s k y j first role x stage is knows_it found).value
+      value = (value_is c p s k y j first role x stage is knows_it found (no_target role x v holding)).value
 
       abbrev expected : Value
       expected = plain_value s.ghost.identity u
@@ -79,7 +79,7 @@ module _ (c : Configuration) (p : Plain) (s : Stands c p) (k : ℕ) (y : Held) w
 
       -- the word is what is expected just if the plain value is
       same : (word_held (role_of role) word ≡ word_for u) ↔ (value ≡ expected)
-      same = same_words (era c) (memory c) (team c) s.ghost k (word_held (role_of role) word) (word_for u) value expected (ready c p s k y stage is) (holds c p s k y j first role x stage is knows_it found) holds_all.1
+      same = same_words (era c) (memory c) (team c) s.ghost k (word_held (role_of role) word) (word_for u) value expected (ready c p s k y stage is) (holds c p s k y j first role x stage is knows_it found (no_target role x v holding)) holds_all.1
 
       are_same-if : word_held (role_of role) word ≡ word_for u → are_same value expected ≡ true
       are_same-if e = subst (λ (z : Value). are_same value z ≡ true) (same.0 e) (same-are value)
@@ -94,8 +94,8 @@ module _ (c : Configuration) (p : Plain) (s : Stands c p) (k : ℕ) (y : Held) w
       abbrev leaves : (found : Value) → Heap → After
       leaves found heap = cond (are_same found expected) (plain.loads heap mine d (Number 1)) (plain.loads p.heap mine d (Number 0))
 
-      acts : performed k p.heap mine (Exchanges d (s.ghost.identity j.serial) x expected (plain_value s.ghost.identity v)) ≡ Ok (leaves value (heap_after c p s k y j first role x stage is knows_it found v holds_all.2 holding))
-      acts = stores_in_plain c p s k y j first role x stage is knows_it found v holds_all.2 holding leaves
+      acts : performed k p.heap mine (Exchanges d (s.ghost.identity j.serial) x expected (plain_value s.ghost.identity v)) ≡ Ok (leaves value (heap_after c p s k y j first role x stage is knows_it found (no_target role x v holding) v holds_all.2 holding))
+      acts = stores_in_plain c p s k y j first role x stage is knows_it found (no_target role x v holding) v holds_all.2 holding leaves
 
     -- ---- the load
 
@@ -107,11 +107,11 @@ module _ (c : Configuration) (p : Plain) (s : Stands c p) (k : ℕ) (y : Held) w
       loads_it true test =
           goes_to c p s k y loading is (ExchangesField f e word) (replies.Value word) (rw test refl) (nothing c p s k (at c p s k y loading) is (knows (at c p s k y (ExchangesField f e word))) refl)
           (record { act = act; executes = executes; is = ((refl, holding, refl), eqb-true (word_held (role_of role) word) (word_for u) test) }) is.fits.stage.sound.stage
-          (fits_role c p s k y j first role x loading is refl refl role refl)
+          (fits_role c p s k y j first role x loading is refl refl (no_target role x v holding) role refl)
       loads_it false test =
           goes_loading c p s k y loading is act executes (replies.Value word) d (number_word 0) (Number 0) (rw test refl) is.fits.stage.sound.stage.1 (number_is_value 0 (omega arith))
           (number_held (era c) s.ghost 0 (omega arith)) (acts loading is refl refl executes holding ∙ rw (are_other-if loading is refl refl executes holding test) refl)
-          (fits_role c p s k y j first role x loading is refl refl role refl)
+          (fits_role c p s k y j first role x loading is refl refl (no_target role x v holding) role refl)
 
     -- ---- the exchange
 
@@ -128,12 +128,12 @@ module _ (c : Configuration) (p : Plain) (s : Stands c p) (k : ℕ) (y : Held) w
           let own_q = q c p s k y exchanging is in
           let new_holds = (holds_all exchanging is refl refl executes holding).2 in
           let now = plain.went_on (plain.set_register own_q d (Number 1)) in
-          let later = heap_after c p s k y j first role x exchanging is refl refl v new_holds holding in
+          let later = heap_after c p s k y j first role x exchanging is refl refl (no_target role x v holding) v new_holds holding in
           let equal = are_same-if exchanging is refl refl executes holding (ap (λ (w : ℕ). word_held (role_of role) w) stands ∙ is_expected) in
           let one = number_held (era c) s.ghost 1 (omega arith) in
           goes_bringing c p s k y exchanging is act executes (Some (WordIs (field_at f) (word_as role v))) replies.Won d (number_word 1) (record { heap = later; mutator = now }) refl fits.1
           (number_is_value 1 (omega arith)) (acts exchanging is refl refl executes holding ∙ rw equal refl)
-          (stored_law c p s k y j first role x exchanging is refl refl v new_holds holding (knows (turned.loads here d (number_word 1))) now
+          (stored_law c p s k y j first role x exchanging is refl refl (no_target role x v holding) v new_holds holding (knows (turned.loads here d (number_word 1))) now
           (loaded_goes c p s k here is refl (no_end c p s k y exchanging is) own_q (its c p s k y exchanging is) d (number_word 1) (Number 1) fits.1 one)
           (loaded_as c p s k here is refl (no_end c p s k y exchanging is) own_q (its c p s k y exchanging is) d (number_word 1) (Number 1) fits.1 one)) tt
 

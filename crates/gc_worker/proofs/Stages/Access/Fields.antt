@@ -1,5 +1,5 @@
 -- The load and the store of a value of a record, whose page was found open: the instruction's effect.
-use Rattle.std.proofs.Common.{◌≡◌, ℕ, ◌+◌, ◌*◌, ◌<◌, ◌≤◌, true, [], length, Option, None, Some, Ok, slice_get, refl, ap, sym, subst, ◌∙◌, ◌≢◌, arith, le-ltb, false}
+use Rattle.std.proofs.Common.{◌≡◌, ℕ, ◌+◌, ◌*◌, ◌<◌, ◌≤◌, true, [], length, Option, None, Some, Ok, slice_get, refl, ap, sym, subst, ◌∙◌, arith, le-ltb, false}
 use Rattle.std.specs.Prelude.{Result, nat_le, nat_lt, slice_set}
 use Rattle.std.specs.Option.{option_map_or}
 use Rattle.std.proofs.lemmas.Bool.{and_parts, leb-true, lt-ltb, ltb-true}
@@ -11,7 +11,7 @@ use Rattle.plain_state.specs.declared.sizes.TheConstants.{NUMBERS}
 use Rattle.plain_state.specs.declared.value.Identity.{Identity}
 use Rattle.plain_state.specs.declared.value.Value.{Value}
 use Rattle.plain_state.specs.declared.value.Value.TheVariants.{Number, Reference}
-use Rattle.plain_state.specs.Layout.{is_raw, word_of_value}
+use Rattle.plain_state.specs.Layout.{is_raw, values_at, word_of_value}
 use Rattle.plain_state.specs.State.{Heap, Mutator, Plain, Record, record_of}
 use Rattle.plain_state.specs.Writing.{stored}
 use Rattle.plain_heap.specs.declared.action.Action.{Action}
@@ -29,22 +29,22 @@ use Rattle.heap_state.specs.Memory.Entries.{WordIs}
 use Rattle.heap_state.specs.Invariant.Parts.Knowledge as parts
 use Rattle.heap_state.specs.Memory.Table.{word_in}
 use Rattle.heap_state.specs.Worker.{Worker}
-use Rattle.heap_state.specs.Worker as workers
 use Rattle.heap_state.proofs.Records.Layouts.{raw_is_no_field}
-use Rattle.heap_laws.specs.Fields.Effects.{IsValueOf, FitsRole, word_held, word_stored}
+use Rattle.heap_laws.specs.Fields.Effects.{IsFieldOrNumber, IsTargetOf, IsValueOf, FitsRole, word_held, word_stored}
 use Rattle.heap_laws.specs.Fields.Held.{HoldsValue, MutatorGoesOn}
 use Rattle.heap_laws.specs.Fields.Stores.{IsAs}
 use Rattle.heap_laws.specs.Fields.Words.{MayStore, StandsFor}
-use Rattle.heap_laws.proofs.Fields.Effects.{accesses_are_values}
+use Rattle.heap_laws.proofs.Fields.Effects.{accesses_are_values, targets_are_values}
 use Rattle.heap_laws.proofs.Fields.Laws.{mutators_store}
 use Rattle.heap_laws.proofs.Fields.Stored.{words_are_loaded}
 use Rattle.gc_worker.specs.declared.access.access_stage.AccessStage.{AccessStage}
 use Rattle.gc_worker.specs.declared.access.access_stage.AccessStage.TheVariants.{LoadsField, StoresField}
+use Rattle.gc_worker.specs.declared.access.accessed.Accessed.TheVariants.{Brings}
 use Rattle.gc_worker.specs.declared.access.field_access.FieldAccess.{FieldAccess}
 use Rattle.gc_worker.specs.declared.access.field_access.FieldUse.TheVariants as field_uses
 use Rattle.gc_worker.specs.declared.access.field_access.Role.{Role}
 use Rattle.gc_worker.specs.declared.access.field_access.Role.TheVariants as roles
-use Rattle.gc_worker.specs.Steps.Access.{IsFieldOfAction, IsHeapAddress, field_at, field_of, kind_of, role_of, word_as}
+use Rattle.gc_worker.specs.Steps.Access.{Comes, IsFieldOfAction, IsHeapAddress, field_at, field_of, is_target, kind_of, role_of, word_as}
 use Rattle.gc_worker.specs.Workers.Fits.{ExecutesAction}
 use Rattle.gc_worker.specs.Steps.Goes.{Is, Goes, StepsSo}
 use Rattle.gc_worker.specs.Workers.Held.{Held}
@@ -76,43 +76,58 @@ held_by_role (kind.Mixed count) roles.Number x v has =
     rw (le-ltb x count (omega (arith, behind))) refl
 held_by_role kind.Weak roles.Field x v has = absurd (cc)
 held_by_role kind.Weak roles.Number x v has = absurd (cc)
+held_by_role kind.Weak roles.Target x v has = refl
+held_by_role kind.Fields roles.Target x v has = absurd (let weak = has.0 in cc)
+held_by_role kind.Raw roles.Target x v has = absurd (let weak = has.0 in cc)
+held_by_role (kind.Mixed count) roles.Target x v has = absurd (let weak = has.0 in cc)
 
--- a record with such a value is no cell
-no_cell : (of : kinds.Kind) (o : Role) (word : ℕ) → parts.HasRole of word (role_of o) → is_cell of ≡ false
-no_cell kind.Fields o word has = refl
-no_cell kind.Raw o word has = refl
-no_cell (kind.Mixed count) o word has = refl
-no_cell kind.Weak roles.Field word has = absurd (cc)
-no_cell kind.Weak roles.Number word has = absurd (cc)
+-- a record with such a value is no cell, if it is no target
+no_cell : (of : kinds.Kind) (o : Role) (word : ℕ) → is_target o ≡ false → parts.HasRole of word (role_of o) → is_cell of ≡ false
+no_cell kind.Fields o word other has = refl
+no_cell kind.Raw o word other has = refl
+no_cell (kind.Mixed count) o word other has = refl
+no_cell kind.Weak roles.Field word other has = absurd (cc)
+no_cell kind.Weak roles.Number word other has = absurd (cc)
+no_cell kind.Weak roles.Target word other has = absurd (cc)
 
-known_role : (o : Role) → role_of o ≢ workers.UnknownRole
-known_role roles.Field same = absurd (cc)
-known_role roles.Number same = absurd (cc)
+field_or_number : (o : Role) → is_target o ≡ false → IsFieldOrNumber (role_of o)
+field_or_number roles.Field other = tt
+field_or_number roles.Number other = tt
+field_or_number roles.Target other = absurd (cc)
+
+-- what may be stored is stored in no cell
+pub no_target : (o : Role) (x : ℕ) (v : Value) → may_hold (kind_of o) x v ≡ Ok v → is_target o ≡ false
+no_target roles.Field x v may = refl
+no_target roles.Number x v may = refl
+no_target roles.Target x v may = absurd (cc)
 
 -- what is stored for a value that may be held
 stored_as : (o : Role) (x : ℕ) (v : Value) → IsSmall v → may_hold (kind_of o) x v ≡ Ok v → word_stored (role_of o) (word_for v) ≡ Some (word_as o v)
 stored_as roles.Field x v small may = refl
 stored_as roles.Number x (Number n) small may = ap number_in (decode_number n small)
 stored_as roles.Number x (Reference i) small may = absurd (cc)
+stored_as roles.Target x v small may = absurd (cc)
 
 may_plain : (identity : ℕ → Identity) (o : Role) (x : ℕ) (v : Value) → may_hold (kind_of o) x v ≡ Ok v → may_hold (kind_of o) x (plain_value identity v) ≡ Ok (plain_value identity v)
 may_plain identity roles.Field x v may = refl
 may_plain identity roles.Number x (Number n) may = refl
 may_plain identity roles.Number x (Reference i) may = absurd (cc)
+may_plain identity roles.Target x v may = absurd (cc)
 
 fits_as : (o : Role) (x : ℕ) (v : Value) → IsSmall v → may_hold (kind_of o) x v ≡ Ok v → FitsRole (role_of o) (word_as o v)
 fits_as roles.Field x v small may = tt
 fits_as roles.Number x (Number n) small may = small
 fits_as roles.Number x (Reference i) small may = absurd (cc)
+fits_as roles.Target x v small may = tt
 
 -- ---- the plain heap
 
-module _ (heap : Heap) (i : Identity) (r : Record) (x : ℕ) (v : Value) (there : record_of heap i ≡ Some r) (is : slice_get r.values x ≡ Some v) (other : is_cell r.kind ≡ false) where
+module _ (heap : Heap) (i : Identity) (r : Record) (x : ℕ) (v : Value) (there : record_of heap i ≡ Some r) (is : slice_get r.values x ≡ Some v) where
   value_there : value_in heap i x ≡ Ok v
   value_there =
       let values : values_of heap i ≡ r.values = ap (λ (o : Option Record). option_map_or (λ (r : Record). r.values) o []) there in
       let within : nat_lt x (length r.values) ≡ true = lt-ltb x (length r.values) (slice_get_within r.values x v is) in
-      rw (values, within, there, other) (ap Ok (get_or_from_slice_get r.values x v (Number 0) is))
+      rw (values, within) (ap Ok (get_or_from_slice_get r.values x v (Number 0) is))
 
 module _ (c : Configuration) (p : Plain) (s : Stands c p) (k : ℕ) (y : Held) where
   -- a field of the record that an action names
@@ -123,10 +138,11 @@ module _ (c : Configuration) (p : Plain) (s : Stands c p) (k : ℕ) (y : Held) w
     abbrev word : ℕ
     word = word_in c.pages c.words (HeapWord (field_at f))
 
-    module _ (stage : AccessStage) (is : Is c k (at c p s k y stage)) (knows_it : access_at stage ≡ Some (known_access f)) (found : opened_at y.layout stage ≡ Some (page_of (field_at f))) where
+    module _ (stage : AccessStage) (is : Is c k (at c p s k y stage)) (knows_it : access_at stage ≡ Some (known_access f)) (found : opened_at y.layout stage ≡ Some (page_of (field_at f)))
+        (other : is_target role ≡ false) where
       pub value_is : IsValueOf (era c) (memory c) s.ghost p (known_access f) x
       value_is =
-          accesses_are_values (era c) (memory c) (team c) s.ghost p k (known_access f) x (ready c p s k y stage is) s.shown (ap (λ (w : Worker). w.access) is.as_known ∙ knows_it) (known_role role)
+          accesses_are_values (era c) (memory c) (team c) s.ghost p k (known_access f) x (ready c p s k y stage is) s.shown (ap (λ (w : Worker). w.access) is.as_known ∙ knows_it) (field_or_number role other)
           (ap (λ (w : Worker). w.opened) is.as_known ∙ found) (ap (λ (n : ℕ). x + n) (knew_access c p s k y stage is (known_access f) knows_it).first)
 
       held_is : (v : Value) → may_hold value_is.record_there.kind x v ≡ may_hold (kind_of role) x v
@@ -135,7 +151,6 @@ module _ (c : Configuration) (p : Plain) (s : Stands c p) (k : ℕ) (y : Held) w
       pub there_in_plain : value_in p.heap (s.ghost.identity j.serial) x ≡ Ok value_is.value
       there_in_plain =
           value_there p.heap (s.ghost.identity j.serial) value_is.record_there x value_is.value value_is.is value_is.there
-          (no_cell value_is.record_there.kind role (word_of_value value_is.record_there.kind x) value_is.role)
 
       -- ---- the load
 
@@ -145,7 +160,7 @@ module _ (c : Configuration) (p : Plain) (s : Stands c p) (k : ℕ) (y : Held) w
       -- it is of no cell
       is_no_cell : ¬ (s.ghost.kind j.serial ≡ kind.Weak)
       is_no_cell e =
-          let none = no_cell value_is.record_there.kind role (word_of_value value_is.record_there.kind x) value_is.role in
+          let none = no_cell value_is.record_there.kind role (word_of_value value_is.record_there.kind x) other value_is.role in
           let cell : is_cell value_is.record_there.kind ≡ true = ap is_cell (value_is.kind ∙ e) in
           absurd (let z = sym none ∙ cell in cc)
 
@@ -158,6 +173,7 @@ module _ (c : Configuration) (p : Plain) (s : Stands c p) (k : ℕ) (y : Held) w
 
       pub fits_role : (o : Role) → role ≡ o → FitsRole (role_of o) word
       fits_role roles.Field same = tt
+      fits_role roles.Target same = tt
       fits_role roles.Number same =
           let raw : is_raw (s.ghost.kind j.serial) (word_of_value (s.ghost.kind j.serial) x) ≡ true =
           subst (λ (k : kinds.Kind). is_raw k (word_of_value k x) ≡ true) value_is.kind
@@ -198,19 +214,58 @@ module _ (c : Configuration) (p : Plain) (s : Stands c p) (k : ℕ) (y : Held) w
             (ready c p s k y stage is) (running c p s k y stage is) s.shown is_no_cell value_is.word (rw here value_is.opens) may_store.0 value_is.is may_store.1 goes as_it)
 
     module _ (d : ℕ) (is : Is c k (at c p s k y (LoadsField f d))) (executes : ExecutesAction y.account y.registers y.task (Loads d j x)) where
-      loads_it : Goes c p s k None (at c p s k y (LoadsField f d)) (replies.Value word)
-      loads_it =
-          let v = value_is (LoadsField f d) is refl refl in
-          goes_loading c p s k y (LoadsField f d) is (Loads d j x) executes (replies.Value word) d (word_held (role_of role) word) v.value refl is.fits.stage.sound.stage.1
-          (value_word s.ghost.identity (word_held (role_of role) word) v.value (holds (LoadsField f d) is refl refl).denotes) (holds (LoadsField f d) is refl refl)
-          (ap (λ (o : Result Value End). o >>= (λ (v : Value). Ok (plain.loads p.heap (q c p s k y (LoadsField f d) is) d v))) (there_in_plain (LoadsField f d) is refl refl))
-          (fits_role (LoadsField f d) is refl refl role refl)
+      abbrev loading : AccessStage
+      loading = LoadsField f d
+
+      -- the register gets a word that holds the plain value
+      brings : (w : ℕ) (v : Value) → HoldsValue (era c) s.ghost w v → value_in p.heap (s.ghost.identity j.serial) x ≡ Ok v → word_held (role_of role) word ≡ w → FitsRole (role_of role) word
+          → Goes c p s k None (at c p s k y loading) (replies.Value word)
+      brings w v holds there same fits =
+          goes_loading c p s k y loading is (Loads d j x) executes (replies.Value word) d w v (ap (λ (z : ℕ). Comes (Brings d z)) same) is.fits.stage.sound.stage.1
+          (value_word s.ghost.identity w v holds.denotes) holds (ap (λ (o : Result Value End). o >>= (λ (v : Value). Ok (plain.loads p.heap (q c p s k y loading is) d v))) there) fits
+
+      other_value : is_target role ≡ false → Goes c p s k None (at c p s k y loading) (replies.Value word)
+      other_value other =
+          brings (word_held (role_of role) word) (value_is loading is refl refl other).value (holds loading is refl refl other) (there_in_plain loading is refl refl other) refl
+          (fits_role loading is refl refl other role refl)
+
+      -- the target of a cell, whose epoch is traced
+      module _ (is_role : role ≡ roles.Target) where
+        target_is : IsTargetOf (era c) (memory c) s.ghost p (known_access f)
+        target_is =
+            targets_are_values (era c) (memory c) (team c) s.ghost p k (known_access f) (ready c p s k y loading is) s.shown (ap (λ (w : Worker). w.access) is.as_known) (ap role_of is_role)
+            (ap (λ (w : Worker). w.traced_seen) is.as_known ∙ ap is_target is_role)
+
+        first_value : 0 ≡ x
+        first_value =
+            let a = knew_access c p s k y loading is (known_access f) refl in
+            let has = subst (λ (o : Role). parts.HasRole (s.ghost.kind j.serial) (x + first) (role_of o)) is_role a.role in
+            let b = a.first ∙ ap values_at has.0 in
+            let w = has.1 in
+            omega (arith, b, w)
+
+        target_value : Goes c p s k None (at c p s k y loading) (replies.Value word)
+        target_value =
+            brings word target_is.value (subst (λ (w : ℕ). HoldsValue (era c) s.ghost w target_is.value) (heap_word c (field_at f)) target_is.loaded)
+            (value_there p.heap (s.ghost.identity j.serial) target_is.record_there x target_is.value target_is.is (subst (λ (n : ℕ). slice_get target_is.record_there.values n ≡ Some target_is.value) first_value target_is.there))
+            (ap (λ (o : Role). word_held (role_of o) word) is_role) (subst (λ (o : Role). FitsRole (role_of o) word) (sym is_role) tt)
+
+      loads_by_role : (o : Role) → role ≡ o → Goes c p s k None (at c p s k y loading) (replies.Value word)
+      loads_by_role roles.Field is_role = other_value (ap is_target is_role)
+      loads_by_role roles.Number is_role = other_value (ap is_target is_role)
+      loads_by_role roles.Target is_role = target_value is_role
+
+      loads_it : Goes c p s k None (at c p s k y loading) (replies.Value word)
+      loads_it = loads_by_role role refl
 
     -- ---- the store
 
     module _ (v : Value) (is : Is c k (at c p s k y (StoresField f (word_as role v)))) (executes : ExecutesAction y.account y.registers y.task (Stores j x v)) (holding : may_hold (kind_of role) x v ≡ Ok v) where
       abbrev stage : AccessStage
       stage = StoresField f (word_as role v)
+
+      other : is_target role ≡ false
+      other = no_target role x v holding
 
       abbrev own_x : Held
       own_x = at c p s k y stage
@@ -222,15 +277,15 @@ module _ (c : Configuration) (p : Plain) (s : Stands c p) (k : ℕ) (y : Held) w
       holds_new = (names c p s k y stage is (Stores j x v) executes).1
 
       abbrev later : Heap
-      later = heap_after stage is refl refl v holds_new holding
+      later = heap_after stage is refl refl other v holds_new holding
 
       acts : performed k p.heap (q c p s k y stage is) (Stores (s.ghost.identity j.serial) x (plain_value s.ghost.identity v)) ≡ Ok (record { heap = later; mutator = now })
-      acts = stores_in_plain stage is refl refl v holds_new holding (λ old heap. record { heap = heap; mutator = now })
+      acts = stores_in_plain stage is refl refl other v holds_new holding (λ old heap. record { heap = heap; mutator = now })
 
       stores_it : Goes c p s k (Some (WordIs (field_at f) (word_as role v))) own_x replies.Done
       stores_it =
           goes_storing c p s k y stage is (Stores j x v) executes (Some (WordIs (field_at f) (word_as role v))) replies.Done (record { heap = later; mutator = now }) refl acts
-          (stored_law stage is refl refl v holds_new holding (moved c p s k own_x is refl (no_end c p s k y stage is) y.registers) now
+          (stored_law stage is refl refl other v holds_new holding (moved c p s k own_x is refl (no_end c p s k y stage is) y.registers) now
           (moved_goes c p s k own_x is refl (no_end c p s k y stage is) (q c p s k y stage is) (its c p s k y stage is)) (moved_as c p s k own_x is refl (no_end c p s k y stage is) (q c p s k y stage is) (its c p s k y stage is))) tt
 
   -- ---- the stages

@@ -4,19 +4,22 @@ use Rattle.std.proofs.lemmas.Bool.{eqb-true}
 use Rattle.std.proofs.lemmas.Option.{same_Some}
 use Rattle.plain_state.specs.State.{Plain}
 use Rattle.plain_heap.specs.declared.action.Action.{Action}
+use Rattle.plain_heap.specs.declared.action.Action.TheVariants.{Loads, Stores, Exchanges}
+use Rattle.plain_heap.specs.Call.{may_hold}
 use Rattle.atom_store.specs.declared.reply.Reply.{Reply}
 use Rattle.atom_store.specs.declared.reply.Reply.TheVariants.{Value, Done, Won, Lost}
 use Rattle.space_map.specs.declared.page_word.PageWord.TheVariants.{Open}
 use Rattle.space_map.specs.Spaces.{Layout, board_page, page_of}
 use Rattle.fault_duty.specs.declared.caller.Caller.TheVariants as callers
 use Rattle.fault_duty.specs.Duty as duty
+use Rattle.fault_duty.specs.Soundness.{IsSoundRound}
 use Rattle.plain_state.specs.declared.end.End.{End}
 use Rattle.heap_state.specs.Configuration.{Configuration, Stands, table, era, memory, team}
 use Rattle.heap_state.specs.Invariant.Inductive as inductive
 use Rattle.heap_state.specs.Invariant.Parts.Knowledge as parts
 use Rattle.heap_state.specs.Worker.{Worker, is_running}
 use Rattle.heap_state.specs.Worker as workers
-use Rattle.heap_laws.specs.Fields.Held.{MayHold, MutatorGoesOn}
+use Rattle.heap_laws.specs.Fields.Held.{MayHold, MutatorGoesOn, going_on}
 use Rattle.heap_laws.specs.Steps.{Ready}
 use Rattle.heap_laws.proofs.Fields.GoingOn.{runs, timely}
 use Rattle.heap_laws.proofs.Fields.Laws.{goes_on_so, mutators_learn}
@@ -26,20 +29,24 @@ use Rattle.gc_worker.specs.declared.access.access_stage.AccessStage.{AccessStage
 use Rattle.gc_worker.specs.declared.access.access_stage.AccessStage.TheVariants.{LooksAtField, LoadsField, StoresField, LoadsForCas, ExchangesField, StoresBoard, SwapsBoard}
 use Rattle.gc_worker.specs.declared.access.accessed.Accessed.TheVariants.{Faults}
 use Rattle.gc_worker.specs.declared.access.field_access.FieldAccess.{FieldAccess}
+use Rattle.gc_worker.specs.declared.access.field_access.FieldExchange.{FieldExchange}
 use Rattle.gc_worker.specs.declared.access.field_access.FieldUse.{FieldUse}
 use Rattle.gc_worker.specs.declared.access.field_access.FieldUse.TheVariants as field_uses
-use Rattle.gc_worker.specs.declared.stage.back.Back.TheVariants.{ToAccess}
+use Rattle.gc_worker.specs.declared.access.field_access.Role.{Role}
+use Rattle.gc_worker.specs.declared.access.field_access.Role.TheVariants as roles
+use Rattle.gc_worker.specs.declared.stage.back.Back.TheVariants.{ToAccess, ToTarget}
 use Rattle.gc_worker.specs.declared.stage.Stage.TheVariants.{Accesses, Serves}
-use Rattle.gc_worker.specs.Steps.Access.{Answered, GoesTo, Comes, FitsFieldUse, FitsStage, IsFieldOfAction, IsHeapAddress, answered, answered_at, field_at, goes_by, read_before, to_field, turn_by, uses_field, writes_on}
+use Rattle.gc_worker.specs.Steps.Access.{Answered, GoesTo, WaitsAt, Comes, FitsFieldUse, FitsStage, IsFieldOfAction, IsHeapAddress, answered, answered_at, field_at, goes_at, goes_by, goes_to_field, is_at_target, is_target, kind_of, read_before, to_field, turn_by, uses_field, writes_on}
 use Rattle.gc_worker.specs.Steps.Access as access
 use Rattle.gc_worker.specs.Workers.Fits.{ExecutesAction, Fits, IsAccessing, IsFaulting}
 use Rattle.gc_worker.specs.Steps.Goes.{Is, Goes}
 use Rattle.gc_worker.specs.Workers.Held.{Held, at_stage}
-use Rattle.gc_worker.specs.Workers.Knows.{knows, access_at, known_access, opened_at}
-use Rattle.gc_worker.specs.Steps.Turned.{guards_access, turned_access, told_access}
+use Rattle.gc_worker.specs.Workers.Knows.{knows, access_at, known_access, known_at, opened_at}
+use Rattle.gc_worker.specs.Steps.Turned.{back_to, guards_access, serves_target, turned_access, told_access}
+use Rattle.gc_worker.proofs.Workers.GoingOn.{targets_fit}
 use Rattle.gc_worker.proofs.Workers.Guarded.{guards_access_fits, guards_access_known}
 use Rattle.gc_worker.proofs.Workers.Parts.{refit, page_count}
-use Rattle.gc_worker.proofs.Words.RowSteps.{Law, becomes, nothing, prepared}
+use Rattle.gc_worker.proofs.Words.RowSteps.{Law, becomes, prepared}
 
 pub no_end_by : (o : Option End) → is_some o ≡ false → o ≡ None
 no_end_by None e = refl
@@ -64,6 +71,19 @@ faults_at_look l epoch (SwapsBoard s old) Done page comes = absurd (cc)
 faults_at_look l epoch (SwapsBoard s old) Won page comes = absurd (cc)
 faults_at_look l epoch (SwapsBoard s old) (Lost word) page comes = absurd (cc)
 faults_at_look l epoch stage reply page comes = refl
+
+-- nothing is stored in a cell
+no_store : (act : Action) (f : FieldAccess) (new : ℕ) → f.role ≡ roles.Target → IsFieldOfAction act f (field_uses.Stores new) → ⊥
+no_store (Stores i x v) f new is_role of = let e = ap (λ (role : Role). may_hold (kind_of role) x v) (sym is_role) ∙ of.1 in cc
+no_store (Loads d i x) f new is_role of = let e = of.1 in cc
+no_store (Exchanges d i x u v) f new is_role of = let e = of.2 in cc
+no_store _ f new is_role of = absurd of
+
+no_exchange : (act : Action) (f : FieldAccess) (e : FieldExchange) → f.role ≡ roles.Target → IsFieldOfAction act f (field_uses.Exchanges e) → ⊥
+no_exchange (Exchanges d i x u v) f e is_role of = let e = ap (λ (role : Role). may_hold (kind_of role) x v) (sym is_role) ∙ of.1 in cc
+no_exchange (Loads d i x) f e is_role of = let e = of.1 in cc
+no_exchange (Stores i x v) f e is_role of = let e = of.2 in cc
+no_exchange _ f e is_role of = absurd of
 
 module _ (c : Configuration) (p : Plain) (s : Stands c p) (k : ℕ) (y : Held) where
   abbrev pub own : AccessStage → Access
@@ -107,16 +127,25 @@ module _ (c : Configuration) (p : Plain) (s : Stands c p) (k : ℕ) (y : Held) w
 
     -- ---- the next stage: before a word is written, the look at its page
 
-    pub learns : (next : AccessStage) → ((f : workers.Access) → access_at next ≡ Some f → parts.Accesses (era c) s.ghost.size s.ghost.writer s.ghost.kind f)
-        → ((page : ℕ) → opened_at y.layout next ≡ Some page → (table c).page page ≡ Open (era c).epoch) → Law c p s k x None (knows (at next)) s.ghost
-    learns next accesses opens =
+    -- whether it has seen its epoch traced or not
+    forgetting : (seen : Bool) → (seen ≡ true → is_at_target stage ≡ true) → (next : AccessStage)
+        → ((f : workers.Access) → access_at next ≡ Some f → parts.Accesses (era c) s.ghost.size s.ghost.writer s.ghost.kind f)
+        → ((page : ℕ) → opened_at y.layout next ≡ Some page → (table c).page page ≡ Open (era c).epoch)
+        → Law c p s k x None (record (knows (at next)) { traced_seen = seen }) s.ghost
+    forgetting seen saw next accesses opens =
         let w = (team c).worker k in
-        let goes : MutatorGoesOn (era c) (memory c) s.ghost (knows x) (knows (at next)) =
-        subst (λ (u : Worker). MutatorGoesOn (era c) (memory c) s.ghost u (record u { account = y.account; registers = λ r. slice_index y.registers r; access = access_at next; opened = opened_at y.layout next; gate_step = None })) is.as_known
-        (goes_on_so (era c) (memory c) (team c) s.ghost k y.account (λ r. slice_index y.registers r) (access_at next) (opened_at y.layout next) ready
-        (ap (λ (u : Worker). u.account.serial) (sym is.as_known)) accesses opens (λ _ j small. held j small)) in
-        mutators_learn (era c) (memory c) (team c) s.ghost k (knows (at next)) ready running (rw is.as_known goes)
+        let then : Worker = record (knows (at next)) { traced_seen = seen } in
+        let goes : MutatorGoesOn (era c) (memory c) s.ghost (knows x) then =
+        subst (λ (u : Worker). MutatorGoesOn (era c) (memory c) s.ghost u (going_on u y.account (λ r. slice_index y.registers r) (access_at next) (opened_at y.layout next) seen)) is.as_known
+        (goes_on_so (era c) (memory c) (team c) s.ghost k y.account (λ r. slice_index y.registers r) (access_at next) (opened_at y.layout next) seen ready
+        (ap (λ (u : Worker). u.account.serial) (sym is.as_known)) accesses opens (λ _ j small. held j small) (λ e. ap (λ (u : Worker). u.traced_seen) is.as_known ∙ saw e)) in
+        mutators_learn (era c) (memory c) (team c) s.ghost k then ready running (rw is.as_known goes)
         (ap (λ (u : Worker). u.account) (sym is.as_known)) (ap (λ (u : Worker). u.registers) (sym is.as_known))
+
+    pub learns : (next : AccessStage) → (is_at_target next ≡ true → is_at_target stage ≡ true)
+        → ((f : workers.Access) → access_at next ≡ Some f → parts.Accesses (era c) s.ghost.size s.ghost.writer s.ghost.kind f)
+        → ((page : ℕ) → opened_at y.layout next ≡ Some page → (table c).page page ≡ Open (era c).epoch) → Law c p s k x None (knows (at next)) s.ghost
+    learns next saw accesses opens = forgetting (is_at_target next) saw next accesses opens
 
     pub next_fits : (next : AccessStage) → IsAccessing y.account y.registers y.task next → FitsStage y.layout.pages next → Fits c.pages c.mutators k (at next)
     next_fits next task fits =
@@ -130,6 +159,23 @@ module _ (c : Configuration) (p : Plain) (s : Stands c p) (k : ℕ) (y : Held) w
         (subst (λ (w : Worker). Law c p s k x None w s.ghost) (sym (guards_access_known y (own next))) law)
         (ap (λ (r : Answered). told_access y.task (turn_by r)) e) refl takes (guards_access_fits c.pages c.mutators k y (own next) (next_fits next task fits))
 
+    -- ---- it waits for its epoch to be traced
+
+    -- the round goes back to this access
+    abbrev waiting : AccessStage → Held
+    waiting next = at_stage y (serves_target y (own next))
+
+    pub waits_at : (next : AccessStage) (reply : Reply) → answered (own stage) reply ≡ WaitsAt next → is_at_target next ≡ true
+        → ((f : workers.Access) → access_at next ≡ Some f → parts.Accesses (era c) s.ghost.size s.ghost.writer s.ghost.kind f)
+        → ((page : ℕ) → opened_at y.layout next ≡ Some page → (table c).page page ≡ Open (era c).epoch)
+        → IsAccessing y.account y.registers y.task next → FitsStage y.layout.pages next → access.AccessTakes stage reply → Goes c p s k None x reply
+    waits_at next reply e target accesses opens task fits takes =
+        becomes c p s k x None reply (waiting next) s.ghost (ap (λ (r : Answered). turned_access x (goes_by (own stage) r) (turn_by r)) e) is.below
+        (forgetting false (λ seen. absurd (let e = seen in cc)) next accesses opens)
+        (ap (λ (r : Answered). told_access y.task (turn_by r)) e) refl takes
+        (targets_fit c.pages c.mutators k x is.fits is.fits.end is.fits.side (own next)
+        (record { layout = refl; epoch = refl; sound = record { pages = page_count c.pages c.mutators k x is.fits; stage = fits } }, target) task)
+
     -- what it then accesses is this alone
     pub it_only : (f g : workers.Access) → parts.Accesses (era c) s.ghost.size s.ghost.writer s.ghost.kind f → Some f ≡ Some g → parts.Accesses (era c) s.ghost.size s.ghost.writer s.ghost.kind g
     it_only f g allowed e = subst (parts.Accesses (era c) s.ghost.size s.ghost.writer s.ghost.kind) (same_Some f g e) allowed
@@ -142,42 +188,82 @@ module _ (c : Configuration) (p : Plain) (s : Stands c p) (k : ℕ) (y : Held) w
 
     module _ (act : Action) (executes : ExecutesAction y.account y.registers y.task act) (f : FieldAccess) (reply : Reply) (allowed : parts.Accesses (era c) s.ghost.size s.ghost.writer s.ghost.kind (known_access f))
         (in_heap : IsHeapAddress y.layout.pages (field_at f)) (found : opened_at y.layout stage ≡ Some (page_of (read_before f))) (takes : access.AccessTakes stage reply) where
-      field_by : (usage : FieldUse) (b : Bool) → (page_of (read_before f) == page_of (field_at f)) ≡ b → IsFieldOfAction act f usage → FitsFieldUse usage
+      -- the page of the word that was read last is that of this one, or not
+      same_then : (page_of (read_before f) == page_of (field_at f)) ≡ true → (page : ℕ) → Some (page_of (field_at f)) ≡ Some page → (table c).page page ≡ Open (era c).epoch
+      same_then same = same_page (read_before f) (field_at f) found same
+
+      other_then : (page : ℕ) → Some (page_of (read_before f)) ≡ Some page → (table c).page page ≡ Open (era c).epoch
+      other_then page e = knew_opened page (found ∙ e)
+
+      accesses_it : (g : workers.Access) → Some (known_access f) ≡ Some g → parts.Accesses (era c) s.ghost.size s.ghost.writer s.ghost.kind g
+      accesses_it g e = it_only (known_access f) g allowed e
+
+      field_by : is_target f.role ≡ false → (usage : FieldUse) (b : Bool) → (page_of (read_before f) == page_of (field_at f)) ≡ b → IsFieldOfAction act f usage → FitsFieldUse usage
           → answered (own stage) reply ≡ GoesTo (cond b (uses_field f usage) (LooksAtField f usage)) → Goes c p s k None x reply
-      field_by (field_uses.Loads into) true same of fits comes =
-          goes_to (LoadsField f into) reply comes (learns (LoadsField f into) (λ g e. it_only (known_access f) g allowed e) (same_page (read_before f) (field_at f) found same))
+      field_by other (field_uses.Loads into) true same of fits comes =
+          goes_to (LoadsField f into) reply comes (learns (LoadsField f into) (λ e. absurd (let z = sym other ∙ e in cc)) accesses_it (same_then same))
           (record { act = act; executes = executes; is = of }) (in_heap, fits) takes
-      field_by (field_uses.Stores new) true same of fits comes =
-          goes_to (StoresField f new) reply comes (learns (StoresField f new) (λ g e. it_only (known_access f) g allowed e) (same_page (read_before f) (field_at f) found same))
+      field_by other (field_uses.Stores new) true same of fits comes =
+          goes_to (StoresField f new) reply comes (learns (StoresField f new) (λ e. absurd (let z = e in cc)) accesses_it (same_then same))
           (record { act = act; executes = executes; is = of }) in_heap takes
-      field_by (field_uses.Exchanges e) true same of fits comes =
-          goes_to (LoadsForCas f e) reply comes (learns (LoadsForCas f e) (λ g e. it_only (known_access f) g allowed e) (same_page (read_before f) (field_at f) found same))
+      field_by other (field_uses.Exchanges e) true same of fits comes =
+          goes_to (LoadsForCas f e) reply comes (learns (LoadsForCas f e) (λ e. absurd (let z = e in cc)) accesses_it (same_then same))
           (record { act = act; executes = executes; is = of }) (in_heap, fits) takes
-      field_by usage false other of fits comes =
-          goes_to (LooksAtField f usage) reply comes (learns (LooksAtField f usage) (λ g e. it_only (known_access f) g allowed e) (λ page e. knew_opened page (found ∙ e)))
+      field_by other usage false apart of fits comes =
+          goes_to (LooksAtField f usage) reply comes (learns (LooksAtField f usage) (λ e. absurd (let z = sym other ∙ e in cc)) accesses_it other_then)
           (record { act = act; executes = executes; is = of }) (in_heap, fits) takes
 
+      -- the target of a cell
+      target_by : f.role ≡ roles.Target → (usage : FieldUse) (b : Bool) → (page_of (read_before f) == page_of (field_at f)) ≡ b → IsFieldOfAction act f usage → FitsFieldUse usage
+          → answered (own stage) reply ≡ WaitsAt (cond b (uses_field f usage) (LooksAtField f usage)) → Goes c p s k None x reply
+      target_by is_role (field_uses.Loads into) true same of fits comes =
+          waits_at (LoadsField f into) reply comes (ap is_target is_role) accesses_it (same_then same) (record { act = act; executes = executes; is = of }) (in_heap, fits) takes
+      target_by is_role (field_uses.Stores new) true same of fits comes = absurd (no_store act f new is_role of)
+      target_by is_role (field_uses.Exchanges e) true same of fits comes = absurd (no_exchange act f e is_role of)
+      target_by is_role usage false apart of fits comes =
+          waits_at (LooksAtField f usage) reply comes (ap is_target is_role) accesses_it other_then (record { act = act; executes = executes; is = of }) (in_heap, fits) takes
+
+      role_by : (usage : FieldUse) → IsFieldOfAction act f usage → FitsFieldUse usage → (role : Role) → f.role ≡ role → answered (own stage) reply ≡ goes_at role (goes_to_field f usage)
+          → Goes c p s k None x reply
+      role_by usage of fits roles.Field is_role comes = field_by (ap is_target is_role) usage (page_of (read_before f) == page_of (field_at f)) refl of fits comes
+      role_by usage of fits roles.Number is_role comes = field_by (ap is_target is_role) usage (page_of (read_before f) == page_of (field_at f)) refl of fits comes
+      role_by usage of fits roles.Target is_role comes = target_by is_role usage (page_of (read_before f) == page_of (field_at f)) refl of fits comes
+
       pub goes_on_to_field : (usage : FieldUse) → IsFieldOfAction act f usage → FitsFieldUse usage → answered (own stage) reply ≡ to_field usage f → Goes c p s k None x reply
-      goes_on_to_field usage of fits comes = field_by usage (page_of (read_before f) == page_of (field_at f)) refl of fits comes
+      goes_on_to_field usage of fits comes = role_by usage of fits f.role refl comes
 
     -- ---- a fault
 
     abbrev faulted : ℕ → Held
-    faulted page = at_stage x (Serves (duty.begun y.layout (callers.Faulted page) y.epoch y.number) (ToAccess (own stage)))
+    faulted page = at_stage x (Serves (duty.begun y.layout (callers.Faulted page) y.epoch y.number) (back_to (own stage)))
+
+    fault_known : (page : ℕ) (target : Bool) → is_at_target stage ≡ target
+        → known_at y (Serves (duty.begun y.layout (callers.Faulted page) y.epoch y.number) (cond target (ToTarget (own stage)) (ToAccess (own stage)))) ≡ record (knows x) { traced_seen = false }
+    fault_known page true target = refl
+    fault_known page false target = refl
+
+    fault_sound : (page : ℕ) → page ≤ board_page y.layout.pages → IsSoundRound (duty.begun y.layout (callers.Faulted page) y.epoch y.number)
+    fault_sound page within =
+        record { pages = page_count c.pages c.mutators k x is.fits; caller = within; epoch = is.fits.epoch; worker = rw is.fits.number is.fits.few; stage = tt }
+
+    fault_fits : (page : ℕ) (target : Bool) → is_at_target stage ≡ target → writes_on y.layout stage ≡ None → page ≤ board_page y.layout.pages → IsFaulting x page
+        → Fits c.pages c.mutators k (at_stage x (Serves (duty.begun y.layout (callers.Faulted page) y.epoch y.number) (cond target (ToTarget (own stage)) (ToAccess (own stage)))))
+    fault_fits page true target none within faulting =
+        refit c.pages c.mutators k x is.fits (Serves (duty.begun y.layout (callers.Faulted page) y.epoch y.number) (ToTarget (own stage))) is.fits.end is.fits.side is.fits.task (
+          record { layout = refl; worker = refl; caller = faulting; epoch = refl; going = tt; sound = fault_sound page within },
+          (is.fits.stage, target),
+        )
+    fault_fits page false target none within faulting =
+        refit c.pages c.mutators k x is.fits (Serves (duty.begun y.layout (callers.Faulted page) y.epoch y.number) (ToAccess (own stage))) is.fits.end is.fits.side is.fits.task (
+          record { layout = refl; worker = refl; caller = faulting; epoch = refl; going = tt; sound = fault_sound page within },
+          (is.fits.stage, none, target),
+        )
 
     pub goes_faulting : (page : ℕ) (reply : Reply) → answered (own stage) reply ≡ Comes (Faults page) → page ≤ board_page y.layout.pages → IsFaulting x page → access.AccessTakes stage reply
         → Goes c p s k None x reply
     goes_faulting page reply e within faulting takes =
         becomes c p s k x None reply (faulted page) s.ghost (ap (λ (r : Answered). turned_access x (goes_by (own stage) r) (turn_by r)) e) is.below
-        (nothing c p s k x is (knows (faulted page)) refl) (ap (λ (r : Answered). told_access y.task (turn_by r)) e) refl takes
-        (refit c.pages c.mutators k x is.fits (Serves (duty.begun y.layout (callers.Faulted page) y.epoch y.number) (ToAccess (own stage))) is.fits.end is.fits.side is.fits.task (
-          record {
-            layout = refl;
-            worker = refl;
-            caller = faulting;
-            epoch = refl;
-            going = tt;
-            sound = record { pages = page_count c.pages c.mutators k x is.fits; caller = within; epoch = is.fits.epoch; worker = rw is.fits.number is.fits.few; stage = tt };
-          },
-          (is.fits.stage, faults_at_look y.layout y.epoch stage reply page e),
-        ))
+        (subst (λ (w : Worker). Law c p s k x None w s.ghost) (sym (fault_known page (is_at_target stage) refl))
+        (forgetting false (λ seen. absurd (let e = seen in cc)) stage knew_access knew_opened))
+        (ap (λ (r : Answered). told_access y.task (turn_by r)) e) refl takes
+        (fault_fits page (is_at_target stage) refl (faults_at_look y.layout y.epoch stage reply page e) within faulting)

@@ -1,5 +1,5 @@
 -- The load of a record's header: its kind and its length decide what the access comes to, or where it goes on.
-use Rattle.std.proofs.Common.{◌≡◌, ℕ, ◌+◌, ◌-◌, ◌*◌, ◌^◌, ◌<◌, ◌==◌, ◌⊎◌, inl, inr, Bool, true, false, cond, [], length, nat_lt, Option, None, Some, Ok, Err, refl, ap, sym, subst, ◌∙◌, arith}
+use Rattle.std.proofs.Common.{◌≡◌, ℕ, ◌+◌, ◌-◌, ◌*◌, ◌^◌, ◌<◌, ◌≤◌, ◌==◌, ◌⊎◌, inl, inr, Bool, true, false, cond, List, [], length, nat_lt, Option, None, Some, Ok, Err, refl, ap, sym, subst, ◌∙◌, arith}
 use Rattle.std.specs.Bool.{⊤}
 use Rattle.std.specs.Option.{option_map_or}
 use Rattle.std.proofs.lemmas.Bool.{ltb-true}
@@ -13,11 +13,12 @@ use Rattle.plain_state.specs.declared.value.Identity.{Identity}
 use Rattle.plain_state.specs.declared.value.Value.{Value}
 use Rattle.plain_state.specs.declared.value.Value.TheVariants.{Number, Reference}
 use Rattle.plain_state.specs.Layout.{values_at, words_behind, word_of_value}
-use Rattle.plain_state.specs.State.{Plain, Record}
+use Rattle.plain_state.specs.State.{Heap, Mutator, Plain, Record}
 use Rattle.plain_heap.specs.declared.action.Action.{Action}
 use Rattle.plain_heap.specs.declared.action.Action.TheVariants.{Sets, Jumps, Links, Prints, Makes, Measures, Loads, Stores, Exchanges, Gets, Puts, Swaps, Snaps}
 use Rattle.plain_heap.specs.Action.{in_record}
-use Rattle.plain_heap.specs.Call.{values_of, may_hold}
+use Rattle.plain_heap.specs.Call.{call, values_of, may_hold}
+use Rattle.mutator_asm.specs.declared.instr.Instr.{Instr}
 use Rattle.atom_store.specs.declared.step.Step.TheVariants.{Load}
 use Rattle.atom_store.specs.declared.reply.Reply.TheVariants as replies
 use Rattle.heap_words.specs.declared.kind.Kind.{Kind as HeaderKind}
@@ -49,7 +50,7 @@ use Rattle.gc_worker.specs.declared.access.field_access.Role.TheVariants as role
 use Rattle.gc_worker.specs.declared.access.mixed_access.MixedAccess.{MixedAccess}
 use Rattle.gc_worker.specs.declared.access.record_access.RecordAccess.{RecordAccess}
 use Rattle.gc_worker.specs.declared.access.record_access.RecordUse.TheVariants as record_uses
-use Rattle.gc_worker.specs.Steps.Access.{GoesTo, Comes, IsHeapAddress, before_header, begun, by_kind, counted_by, counting, IsFieldOfAction, FitsFieldUse, FitsMixedUse, answered, field_of, kind_of, role_of, read_header, record_use, refused_by, used_by, to_field, storing, may_store, word_as}
+use Rattle.gc_worker.specs.Steps.Access.{GoesTo, Comes, IsHeapAddress, before_header, begun, by_kind, counted_by, counting, IsFieldOfAction, FitsFieldUse, FitsMixedUse, answered, field_of, kind_of, role_of, read_header, record_use, used_by, to_field, storing, may_store, word_as}
 use Rattle.gc_worker.specs.Workers.Fits.{ExecutesAction}
 use Rattle.gc_worker.specs.Steps.Goes.{Is, Goes, StepsSo}
 use Rattle.gc_worker.specs.Workers.Held.{Held}
@@ -64,41 +65,57 @@ use Rattle.gc_worker.proofs.Words.RowSteps.{loads}
 use Rattle.gc_worker.proofs.Stages.Access.Acting.{q, calls, led, names, is_small, Held_value, IsSmall, decode_number, number_held}
 use Rattle.gc_worker.proofs.Stages.Access.Going.{own, at, ready, knew_opened, it_only, same_page, learns, goes_to, goes_on_to_field}
 use Rattle.gc_worker.proofs.Stages.Access.Outcomes.{goes_loading, goes_ending}
-use Rattle.gc_worker.proofs.Stages.Access.Storing.{Condition, begins, counted_so, fits_field, fits_mixed, into_raw, is_field, is_value, names_both, out_of_range, refused_so, renewed, storing_action, storing_use, used_so, weak_cell}
+use Rattle.gc_worker.proofs.Stages.Access.Storing.{Condition, begins, counted_so, fits_field, fits_mixed, holds_it_not, is_field, is_value, names_both, out_of_range, renewed, storing_action, storing_use, used_so}
 
 -- ---- kinds and roles
 
--- all values of a record have one role, or it is mixed, or a cell
+-- all values of a record have one role, or it is mixed
 abbrev Sorted : kinds.Kind → Type 0
-Sorted of = ((role : Role) × (of ≡ kind_of role)) ⊎ (((count : ℕ) × (of ≡ kind.Mixed count)) ⊎ (of ≡ kind.Weak))
+Sorted of = ((role : Role) × (of ≡ kind_of role)) ⊎ ((count : ℕ) × (of ≡ kind.Mixed count))
 
 kinds_are : (of : kinds.Kind) → Sorted of
 kinds_are kind.Fields = inl (roles.Field, refl)
 kinds_are kind.Raw = inl (roles.Number, refl)
-kinds_are (kind.Mixed count) = inr (inl (count, refl))
-kinds_are kind.Weak = inr (inr refl)
+kinds_are (kind.Mixed count) = inr (count, refl)
+kinds_are kind.Weak = inl (roles.Target, refl)
 
 said_by : (role : Role) (next : ℕ) → said_kind (header_kind (kind_of role)) next ≡ kind_of role
 said_by roles.Field next = refl
 said_by roles.Number next = refl
+said_by roles.Target next = refl
 
 -- its values begin behind the header
 first_by : (role : Role) → values_at (kind_of role) ≡ 1
 first_by roles.Field = refl
 first_by roles.Number = refl
+first_by roles.Target = refl
 
--- and no word stands behind them
-none_behind : (role : Role) → words_behind (kind_of role) ≡ 0
-none_behind roles.Field = refl
-none_behind roles.Number = refl
+-- how many it has by its length: behind that of a cell stands a link
+abbrev many : Role → (len : ℕ) → ℕ
+many roles.Field len = len
+many roles.Number len = len
+many roles.Target len = len - 1
 
-read_by : (r : RecordAccess) (role : Role) (len : ℕ) → by_kind r (header_kind (kind_of role)) len ≡ used_by r role len r.usage
+counts_by : (role : Role) (n len : ℕ) → n + (values_at (kind_of role) + words_behind (kind_of role)) ≡ len + 1 → n ≡ many role len
+counts_by roles.Field n len long = omega (arith, long)
+counts_by roles.Number n len long = omega (arith, long)
+counts_by roles.Target n len long = omega (arith, long)
+
+many_within : (role : Role) (len : ℕ) → many role len ≤ len
+many_within roles.Field len = omega arith
+many_within roles.Number len = omega arith
+many_within roles.Target len = omega arith
+
+read_by : (r : RecordAccess) (role : Role) (len : ℕ) → by_kind r (header_kind (kind_of role)) len ≡ used_by r role (many role len) r.usage
 read_by r roles.Field len = refl
 read_by r roles.Number len = refl
+read_by r roles.Target len = refl
 
-has_role : (role : Role) (word : ℕ) → parts.HasRole (kind_of role) word (role_of role)
-has_role roles.Field word = refl
-has_role roles.Number word = refl
+-- a cell has one value, its target
+has_role : (role : Role) (x len : ℕ) → (kind_of role ≡ kind.Weak → len ≡ 2) → x < many role len → parts.HasRole (kind_of role) (word_of_value (kind_of role) x) (role_of role)
+has_role roles.Field x len two within = refl
+has_role roles.Number x len two within = refl
+has_role roles.Target x len two within = let is = two refl in (refl, omega (arith, within, is))
 
 module _ (c : Configuration) (p : Plain) (s : Stands c p) (k : ℕ) (y : Held) (r : RecordAccess) (is : Is c k (at c p s k y (LoadsHeader r))) (act : Action) (executes : ExecutesAction y.account y.registers y.task act)
     (holds : Held_value c p s k y (LoadsHeader r) is (Reference (record { mutator = 0; serial = r.at }))) where
@@ -158,27 +175,34 @@ module _ (c : Configuration) (p : Plain) (s : Stands c p) (k : ℕ) (y : Held) (
     first_is : values_at says.record_there.kind ≡ 1
     first_is = ap values_at kind_is ∙ first_by role
 
-    reads_it : answered (own c p s k y stage) (replies.Value word) ≡ used_by r role len r.usage
+    reads_it : answered (own c p s k y stage) (replies.Value word) ≡ used_by r role (many role len) r.usage
     reads_it = reads (kind_of role) of ∙ read_by r role len
 
-    count_is : length says.record_there.values ≡ len
-    count_is = let n = says.long in let b = ap words_behind kind_is ∙ none_behind role in omega (arith, n, first_is, b)
+    count_is : length says.record_there.values ≡ many role len
+    count_is =
+        counts_by role (length says.record_there.values) len
+        (subst (λ (of : kinds.Kind). length says.record_there.values + (values_at of + words_behind of) ≡ len + 1) kind_is says.long)
 
-    long : length (values_of p.heap i) ≡ len
+    long : length (values_of p.heap i) ≡ many role len
     long = ap length values_are ∙ count_is
 
-    module _ (x_at : ℕ) (within : x_at < len) where
+    -- a cell takes three words
+    two_behind : kind_of role ≡ kind.Weak → len ≡ 2
+    two_behind weak = let three = s.invariant.cells.chain.three a there.stands.0 (of ∙ weak) in omega (arith, three)
+
+    module _ (x_at : ℕ) (within : x_at < many role len) where
       abbrev f : FieldAccess
       f = field_of a 1 role x_at
 
       allowed : parts.Accesses (era c) s.ghost.size s.ghost.writer s.ghost.kind (known_access f)
       allowed =
           subst (λ (n : ℕ). parts.Accesses (era c) s.ghost.size s.ghost.writer s.ghost.kind (record { at = a; first = n; word = x_at + n; role = role_of role })) first_is
-          (says.access x_at (role_of role) (omega (arith, within, count_is)) (rw kind_is (has_role role (word_of_value (kind_of role) x_at))))
+          (says.access x_at (role_of role) (omega (arith, within, count_is)) (rw kind_is (has_role role x_at len two_behind within)))
 
       goes_to_it : (usage : FieldUse) → IsFieldOfAction act f usage → FitsFieldUse usage → answered (own c p s k y stage) (replies.Value word) ≡ to_field usage f → Goes c p s k None x (replies.Value word)
       goes_to_it =
-          goes_on_to_field c p s k y stage is act executes f (replies.Value word) allowed (below (x_at + 1) (omega (arith, within))) (ap (λ (n : ℕ). Some (page_of n)) (let z : a ≡ a + 0 = omega arith in z)) tt
+          let least = many_within role len in
+          goes_on_to_field c p s k y stage is act executes f (replies.Value word) allowed (below (x_at + 1) (omega (arith, within, least))) (ap (λ (n : ℕ). Some (page_of n)) (let z : a ≡ a + 0 = omega arith in z)) tt
 
   -- ---- a mixed record
 
@@ -211,28 +235,16 @@ module _ (c : Configuration) (p : Plain) (s : Stands c p) (k : ℕ) (y : Held) (
           → answered (own c p s k y stage) (replies.Value word) ≡ GoesTo (cond b (LoadsCount m) (LooksAtCount m)) → Goes c p s k None x (replies.Value word)
       count_by true same of fits comes =
           goes_to c p s k y stage is (LoadsCount m) (replies.Value word) comes
-          (learns c p s k y stage is (LoadsCount m) (λ g e. it_only c p s k y stage is (uncounted_access m) g allowed_mixed e) (same_page c p s k y stage is a (a + 1) refl same))
+          (learns c p s k y stage is (LoadsCount m) (λ e. absurd (cc)) (λ g e. it_only c p s k y stage is (uncounted_access m) g allowed_mixed e) (same_page c p s k y stage is a (a + 1) refl same))
           (record { act = act; executes = executes; is = of }) (below (x_at + 2) (omega (arith, within)), fits) tt
       count_by false other of fits comes =
           goes_to c p s k y stage is (LooksAtCount m) (replies.Value word) comes
-          (learns c p s k y stage is (LooksAtCount m) (λ g e. it_only c p s k y stage is (uncounted_access m) g allowed_mixed e) (knew_opened c p s k y stage is))
+          (learns c p s k y stage is (LooksAtCount m) (λ e. absurd (cc)) (λ g e. it_only c p s k y stage is (uncounted_access m) g allowed_mixed e) (knew_opened c p s k y stage is))
           (record { act = act; executes = executes; is = of }) (below (x_at + 2) (omega (arith, within)), fits) tt
 
       goes_to_count : begun act ≡ Some (LooksAtRecord (before_header m)) → FitsMixedUse usage → answered (own c p s k y stage) (replies.Value word) ≡ counting a usage (Ok x_at)
           → Goes c p s k None x (replies.Value word)
       goes_to_count of fits comes = count_by (page_of a == page_of (a + 1)) refl of fits comes
-
-  -- ---- a cell
-
-  module _ (of : s.ghost.kind a ≡ kind.Weak) where
-    kind_weak : says.record_there.kind ≡ kind.Weak
-    kind_weak = kind_said kind.Weak of
-
-    reads_weak : answered (own c p s k y stage) (replies.Value word) ≡ refused_by r (len - 1) r.usage
-    reads_weak = reads kind.Weak of
-
-    long_weak : length (values_of p.heap i) ≡ len - 1
-    long_weak = let n = says.long in let b = ap values_at kind_weak in let e = ap words_behind kind_weak in ap length values_are ∙ omega (arith, n, b, e)
 
 -- ---- what may be stored
 
@@ -251,17 +263,34 @@ pub seen_again : (v : Value) → IsSmall v → IsValueWord (word_for v) → valu
 seen_again (Number n) small is = ap seen_as (decode_number n small)
 seen_again (Reference i) small is = ap seen_as (decode-pointer_word i.serial (address_short i.serial (nat_lt (1 + 4 * i.serial) (2 ^ 34)) refl is))
 
+-- the end of a mutator that stores what a record whose words have this role may not hold
+abbrev pub refusal : Role → End
+refusal roles.Field = IntoRaw
+refusal roles.Number = IntoRaw
+refusal roles.Target = WeakCell
+
+pub may_refuse : (m : ℕ) (heap : Heap) (k : Mutator) (instr : Instr) (role : Role) → call m heap k instr ≡ Err (refusal role) → MayEnd m heap k instr (refusal role)
+may_refuse m heap k instr roles.Field calls = calls
+may_refuse m heap k instr roles.Number calls = calls
+may_refuse m heap k instr roles.Target calls = calls
+
+pub not_full : (n : ℕ) (words : List ℕ) (x : Held) (role : Role) → FullByEnd n words x (refusal role)
+not_full n words x roles.Field = tt
+not_full n words x roles.Number = tt
+not_full n words x roles.Target = tt
+
 module _ (identity : ℕ → Identity) where
   -- a record whose words have this role may hold the value, or not, for the mutator and in the plain machine
   abbrev pub Decided : Role → (x : ℕ) → Value → Type 0
   Decided o x v = ((may_hold (kind_of o) x v ≡ Ok v) × (may_hold (kind_of o) x (again v) ≡ Ok (again v)) × (word_as o (again v) ≡ word_as o v))
-      ⊎ ((may_hold (kind_of o) x (again v) ≡ Err IntoRaw) × (may_hold (kind_of o) x (plain_value identity v) ≡ Err IntoRaw))
+      ⊎ ((may_hold (kind_of o) x (again v) ≡ Err (refusal o)) × (may_hold (kind_of o) x (plain_value identity v) ≡ Err (refusal o)))
 
   pub decided : (o : Role) (x : ℕ) (v : Value) → Decided o x v
   decided roles.Field x (Number n) = inl (refl, refl, refl)
   decided roles.Field x (Reference i) = inl (refl, refl, refl)
   decided roles.Number x (Number n) = inl (refl, refl, refl)
   decided roles.Number x (Reference i) = inr (refl, refl)
+  decided roles.Target x v = inr (refl, refl)
 
 -- ---- by the action
 
@@ -295,9 +324,8 @@ module _ (c : Configuration) (p : Plain) (s : Stands c p) (k : ℕ) (y : Held) w
           fits = short c p s k y of_length is (Measures d j) executes holds_measured
 
           by_kinds : Sorted (s.ghost.kind j.serial) → Answers of_length
-          by_kinds (inl t) = tells _ fits (long c p s k y of_length is (Measures d j) executes holds_measured t.0 t.1) (reads_it c p s k y of_length is (Measures d j) executes holds_measured t.0 t.1)
-          by_kinds (inr (inl t)) = tells _ (omega (arith, fits)) (long_mixed c p s k y of_length is (Measures d j) executes holds_measured t.0 t.1) (reads_mixed c p s k y of_length is (Measures d j) executes holds_measured t.0 t.1)
-          by_kinds (inr (inr t)) = tells _ (omega (arith, fits)) (long_weak c p s k y of_length is (Measures d j) executes holds_measured t) (reads_weak c p s k y of_length is (Measures d j) executes holds_measured t)
+          by_kinds (inl t) = tells _ (let l = many_within t.0 (len c p s k y of_length is (Measures d j) executes holds_measured) in omega (arith, fits, l)) (long c p s k y of_length is (Measures d j) executes holds_measured t.0 t.1) (reads_it c p s k y of_length is (Measures d j) executes holds_measured t.0 t.1)
+          by_kinds (inr t) = tells _ (omega (arith, fits)) (long_mixed c p s k y of_length is (Measures d j) executes holds_measured t.0 t.1) (reads_mixed c p s k y of_length is (Measures d j) executes holds_measured t.0 t.1)
 
   -- a value of it
   module _ (d : ℕ) (j : Identity) (at_value : ℕ) where
@@ -315,15 +343,15 @@ module _ (c : Configuration) (p : Plain) (s : Stands c p) (k : ℕ) (y : Held) w
       no_value : (n : ℕ) → length (values_of p.heap (s.ghost.identity j.serial)) ≡ n → nat_lt at_value n ≡ false
           → answered (own c p s k y (LoadsHeader of_value)) (replies.Value (word_in c.pages c.words (HeapWord j.serial))) ≡ Comes (Fails OutOfRange) → Answers of_value
       no_value n long test comes =
-          goes_ending c p s k y (LoadsHeader of_value) is (Loads d j at_value) executes (replies.Value (word_in c.pages c.words (HeapWord j.serial))) OutOfRange comes
+          goes_ending c p s k y (LoadsHeader of_value) is (Loads d j at_value) executes (replies.Value (word_in c.pages c.words (HeapWord j.serial))) OutOfRange comes refl
           (calls c p s k y (LoadsHeader of_value) is (Loads d j at_value) executes (Err OutOfRange) (rw (long, test) refl)) tt tt
 
-      loads_by : (role : Role) (of : s.ghost.kind j.serial ≡ kind_of role) (b : Bool) → nat_lt at_value so_long ≡ b → Answers of_value
+      loads_by : (role : Role) (of : s.ghost.kind j.serial ≡ kind_of role) (b : Bool) → nat_lt at_value (many role so_long) ≡ b → Answers of_value
       loads_by role of true test =
-          goes_to_it c p s k y of_value is (Loads d j at_value) executes holds_it role of at_value (ltb-true at_value so_long test) (field_uses.Loads d) (refl, refl) is.fits.stage.sound.stage.1
+          goes_to_it c p s k y of_value is (Loads d j at_value) executes holds_it role of at_value (ltb-true at_value (many role so_long) test) (field_uses.Loads d) (refl, refl) is.fits.stage.sound.stage.1
           (reads_it c p s k y of_value is (Loads d j at_value) executes holds_it role of ∙ rw test refl)
       loads_by role of false test =
-          no_value so_long (long c p s k y of_value is (Loads d j at_value) executes holds_it role of) test (reads_it c p s k y of_value is (Loads d j at_value) executes holds_it role of ∙ rw test refl)
+          no_value (many role so_long) (long c p s k y of_value is (Loads d j at_value) executes holds_it role of) test (reads_it c p s k y of_value is (Loads d j at_value) executes holds_it role of ∙ rw test refl)
 
       loads_mixed : (count : ℕ) (of : s.ghost.kind j.serial ≡ kind.Mixed count) (b : Bool) → nat_lt at_value (so_long - 1) ≡ b → Answers of_value
       loads_mixed count of true test =
@@ -333,21 +361,9 @@ module _ (c : Configuration) (p : Plain) (s : Stands c p) (k : ℕ) (y : Held) w
           no_value (so_long - 1) (long_mixed c p s k y of_value is (Loads d j at_value) executes holds_it count of) test
           (reads_mixed c p s k y of_value is (Loads d j at_value) executes holds_it count of ∙ rw test refl)
 
-      loads_cell : (of : s.ghost.kind j.serial ≡ kind.Weak) (b : Bool) → nat_lt at_value (so_long - 1) ≡ b → Answers of_value
-      loads_cell of true test =
-          let there = says c p s k y of_value is (Loads d j at_value) executes holds_it in
-          goes_ending c p s k y (LoadsHeader of_value) is (Loads d j at_value) executes (replies.Value (word_in c.pages c.words (HeapWord j.serial))) WeakCell
-          (reads_weak c p s k y of_value is (Loads d j at_value) executes holds_it of ∙ rw test refl)
-          (calls c p s k y (LoadsHeader of_value) is (Loads d j at_value) executes (Err WeakCell)
-          (rw (long_weak c p s k y of_value is (Loads d j at_value) executes holds_it of, test, there.is, kind_weak c p s k y of_value is (Loads d j at_value) executes holds_it of) refl)) tt tt
-      loads_cell of false test =
-          no_value (so_long - 1) (long_weak c p s k y of_value is (Loads d j at_value) executes holds_it of) test
-          (reads_weak c p s k y of_value is (Loads d j at_value) executes holds_it of ∙ rw test refl)
-
       loads_it : Sorted (s.ghost.kind j.serial) → Answers of_value
-      loads_it (inl t) = loads_by t.0 t.1 (nat_lt at_value so_long) refl
-      loads_it (inr (inl t)) = loads_mixed t.0 t.1 (nat_lt at_value (so_long - 1)) refl
-      loads_it (inr (inr t)) = loads_cell t (nat_lt at_value (so_long - 1)) refl
+      loads_it (inl t) = loads_by t.0 t.1 (nat_lt at_value (many t.0 so_long)) refl
+      loads_it (inr t) = loads_mixed t.0 t.1 (nat_lt at_value (so_long - 1)) refl
 
   -- a value of it becomes another
   module _ (o : Condition) (j : Identity) (at_value : ℕ) (v : Value) where
@@ -373,7 +389,7 @@ module _ (c : Configuration) (p : Plain) (s : Stands c p) (k : ℕ) (y : Held) w
       ends_new : (why : End) → answered (own c p s k y (LoadsHeader of_new)) (replies.Value (word_in c.pages c.words (HeapWord j.serial))) ≡ Comes (Fails why)
           → MayEnd k p.heap (q c p s k y (LoadsHeader of_new) is) executes.instr why → FullByEnd c.pages c.words (at c p s k y (LoadsHeader of_new)) why → Answers of_new
       ends_new why comes may full =
-          goes_ending c p s k y (LoadsHeader of_new) is act_new executes (replies.Value (word_in c.pages c.words (HeapWord j.serial))) why comes may full tt
+          goes_ending c p s k y (LoadsHeader of_new) is act_new executes (replies.Value (word_in c.pages c.words (HeapWord j.serial))) why comes refl may full tt
 
       -- the record has no such value
       no_new_value : (n : ℕ) → length (values_of p.heap (s.ghost.identity j.serial)) ≡ n → nat_lt at_value n ≡ false
@@ -384,22 +400,23 @@ module _ (c : Configuration) (p : Plain) (s : Stands c p) (k : ℕ) (y : Held) w
 
       module _ (role : Role) (of : s.ghost.kind j.serial ≡ kind_of role) where
         comes_new : answered (own c p s k y (LoadsHeader of_new)) (replies.Value (word_in c.pages c.words (HeapWord j.serial)))
-            ≡ storing (field_of j.serial 1 role at_value) (storing_use o (word_for v)) (may_store role (word_for v) (in_record length_there at_value))
-        comes_new = reads_it c p s k y of_new is act_new executes holds_both.0 role of ∙ used_so o of_new role length_there (word_for v)
+            ≡ storing (field_of j.serial 1 role at_value) (storing_use o (word_for v)) (may_store role (word_for v) (in_record (many role length_there) at_value))
+        comes_new = reads_it c p s k y of_new is act_new executes holds_both.0 role of ∙ used_so o of_new role (many role length_there) (word_for v)
 
-        by_holding : nat_lt at_value length_there ≡ true → Decided s.ghost.identity role at_value v → Answers of_new
+        by_holding : nat_lt at_value (many role length_there) ≡ true → Decided s.ghost.identity role at_value v → Answers of_new
         by_holding test (inl t) =
-            goes_to_it c p s k y of_new is act_new executes holds_both.0 role of at_value (ltb-true at_value length_there test) (storing_use o (word_as role v)) (is_field o j at_value v 1 role t.0)
+            goes_to_it c p s k y of_new is act_new executes holds_both.0 role of at_value (ltb-true at_value (many role length_there) test) (storing_use o (word_as role v)) (is_field o j at_value v 1 role t.0)
             (fits_field o (word_for v) (word_as role v) fits_new) (comes_new ∙ rw (test, seen_so, t.1, t.2, renewed o (word_for v) (word_as role v)) refl)
-        by_holding test (inr t) = ends_new IntoRaw (comes_new ∙ rw (test, seen_so, t.0) refl)
-            (calls c p s k y (LoadsHeader of_new) is act_new executes (Err IntoRaw)
-            (into_raw o j at_value v s.ghost.identity k p.heap (q c p s k y (LoadsHeader of_new) is) (says c p s k y of_new is act_new executes holds_both.0).record_there
+        by_holding test (inr t) = ends_new (refusal role) (comes_new ∙ rw (test, seen_so, t.0) refl)
+            (may_refuse k p.heap (q c p s k y (LoadsHeader of_new) is) executes.instr role
+            (calls c p s k y (LoadsHeader of_new) is act_new executes (Err (refusal role))
+            (holds_it_not o j at_value v s.ghost.identity k p.heap (q c p s k y (LoadsHeader of_new) is) (refusal role) (says c p s k y of_new is act_new executes holds_both.0).record_there
             (rw (long c p s k y of_new is act_new executes holds_both.0 role of) test) (says c p s k y of_new is act_new executes holds_both.0).is
-            (rw (kind_is c p s k y of_new is act_new executes holds_both.0 role of) t.1))) tt
+            (rw (kind_is c p s k y of_new is act_new executes holds_both.0 role of) t.1)))) (not_full c.pages c.words (at c p s k y (LoadsHeader of_new)) role)
 
-        stores_by : (b : Bool) → nat_lt at_value length_there ≡ b → Answers of_new
+        stores_by : (b : Bool) → nat_lt at_value (many role length_there) ≡ b → Answers of_new
         stores_by true test = by_holding test (decided s.ghost.identity role at_value v)
-        stores_by false test = no_new_value length_there (long c p s k y of_new is act_new executes holds_both.0 role of) test (comes_new ∙ rw test refl)
+        stores_by false test = no_new_value (many role length_there) (long c p s k y of_new is act_new executes holds_both.0 role of) test (comes_new ∙ rw test refl)
 
       stores_mixed : (count : ℕ) (of : s.ghost.kind j.serial ≡ kind.Mixed count) (b : Bool) → nat_lt at_value (length_there - 1) ≡ b → Answers of_new
       stores_mixed count of true test =
@@ -409,21 +426,9 @@ module _ (c : Configuration) (p : Plain) (s : Stands c p) (k : ℕ) (y : Held) w
           no_new_value (length_there - 1) (long_mixed c p s k y of_new is act_new executes holds_both.0 count of) test
           (reads_mixed c p s k y of_new is act_new executes holds_both.0 count of ∙ counted_so o of_new (length_there - 1) (word_for v) ∙ rw test refl)
 
-      stores_cell : (of : s.ghost.kind j.serial ≡ kind.Weak) (b : Bool) → nat_lt at_value (length_there - 1) ≡ b → Answers of_new
-      stores_cell of true test =
-          let there = says c p s k y of_new is act_new executes holds_both.0 in
-          ends_new WeakCell (reads_weak c p s k y of_new is act_new executes holds_both.0 of ∙ refused_so o of_new (length_there - 1) (word_for v) ∙ rw test refl)
-          (calls c p s k y (LoadsHeader of_new) is act_new executes (Err WeakCell)
-          (weak_cell o j at_value v s.ghost.identity k p.heap (q c p s k y (LoadsHeader of_new) is) there.record_there
-          (rw (long_weak c p s k y of_new is act_new executes holds_both.0 of) test) there.is (kind_weak c p s k y of_new is act_new executes holds_both.0 of))) tt
-      stores_cell of false test =
-          no_new_value (length_there - 1) (long_weak c p s k y of_new is act_new executes holds_both.0 of) test
-          (reads_weak c p s k y of_new is act_new executes holds_both.0 of ∙ refused_so o of_new (length_there - 1) (word_for v) ∙ rw test refl)
-
       stores_it : Sorted (s.ghost.kind j.serial) → Answers of_new
-      stores_it (inl t) = stores_by t.0 t.1 (nat_lt at_value length_there) refl
-      stores_it (inr (inl t)) = stores_mixed t.0 t.1 (nat_lt at_value (length_there - 1)) refl
-      stores_it (inr (inr t)) = stores_cell t (nat_lt at_value (length_there - 1)) refl
+      stores_it (inl t) = stores_by t.0 t.1 (nat_lt at_value (many t.0 length_there)) refl
+      stores_it (inr t) = stores_mixed t.0 t.1 (nat_lt at_value (length_there - 1)) refl
 
   -- ---- the stage
 

@@ -22,7 +22,7 @@ use Rattle.gc_worker.specs.declared.access.field_access.FieldUse.{FieldUse}
 use Rattle.gc_worker.specs.declared.access.field_access.FieldUse.TheVariants as field_uses
 use Rattle.gc_worker.specs.declared.access.mixed_access.MixedAccess.{MixedAccess}
 use Rattle.gc_worker.specs.declared.access.record_access.RecordAccess.{RecordAccess}
-use Rattle.gc_worker.specs.Steps.Access.{GoesTo, Comes, IsHeapAddress, FitsStage, answered, let_through, looked, page_step, count_at, field_at}
+use Rattle.gc_worker.specs.Steps.Access.{GoesTo, Comes, IsHeapAddress, FitsStage, answered, let_through, looked, is_at_target, page_step, count_at, field_at}
 use Rattle.gc_worker.specs.Steps.Access as access
 use Rattle.gc_worker.specs.Workers.Fits.{IsAccessing, IsFaulting}
 use Rattle.gc_worker.specs.Steps.Goes.{Is, Goes, StepsSo}
@@ -69,6 +69,7 @@ module _ (c : Configuration) (p : Plain) (s : Stands c p) (k : ℕ) (y : Held) w
 
     module _ (next : AccessStage) (page : ℕ) (asks : access.wanted_at y.layout stage ≡ page_step y.layout page)
         (comes : (word : ℕ) → answered (own c p s k y stage) (Value word) ≡ looked page y.epoch word next) (takes : (word : ℕ) → access.AccessTakes stage (Value word))
+        (saw : is_at_target next ≡ true → is_at_target stage ≡ true)
         (within : page ≤ board_page y.layout.pages) (faulting : IsFaulting (at c p s k y stage) page) (opens : opened_at y.layout next ≡ Some page)
         (accesses : (f : workers.Access) → access_at next ≡ Some f → parts.Accesses (era c) s.ghost.size s.ghost.writer s.ghost.kind f)
         (task : IsAccessing y.account y.registers y.task next) (fits : FitsStage y.layout.pages next) where
@@ -87,7 +88,7 @@ module _ (c : Configuration) (p : Plain) (s : Stands c p) (k : ℕ) (y : Held) w
       goes : Through page y.epoch next says → Goes c p s k None (at c p s k y stage) (Value (page_now c page))
       goes (inl t) =
           goes_to c p s k y stage is next (Value (page_now c page)) (reads ∙ t.1)
-          (learns c p s k y stage is next accesses (λ q e. ap (λ z. (table c).page z) (sym (same_page q e)) ∙ t.0 ∙ ap Open (present c p s k y stage is)))
+          (learns c p s k y stage is next saw accesses (λ q e. ap (λ z. (table c).page z) (sym (same_page q e)) ∙ t.0 ∙ ap Open (present c p s k y stage is)))
           task fits (takes (page_now c page))
       goes (inr e) = goes_faulting c p s k y stage is page (Value (page_now c page)) (reads ∙ e) within faulting (takes (page_now c page))
 
@@ -101,7 +102,7 @@ module _ (c : Configuration) (p : Plain) (s : Stands c p) (k : ℕ) (y : Held) w
   pub looks_at_record : (r : RecordAccess) → Is c k (at c p s k y (LooksAtRecord r)) → (era c).start ≤ r.at → StepsSo c p s k (at c p s k y (LooksAtRecord r))
   looks_at_record r is low =
       let fits = is.fits.stage.sound.stage in
-      looks (LooksAtRecord r) is (LoadsHeader r) (page_of r.at) refl (λ word. refl) (λ word. tt) (page_within y.layout.pages r.at fits.0) (in_space (LooksAtRecord r) is r.at low) refl
+      looks (LooksAtRecord r) is (LoadsHeader r) (page_of r.at) refl (λ word. refl) (λ word. tt) (λ e. absurd (cc)) (page_within y.layout.pages r.at fits.0) (in_space (LooksAtRecord r) is r.at low) refl
       (λ f e. absurd (cc)) (record { act = is.fits.task.act; executes = is.fits.task.executes; is = is.fits.task.is }) fits
 
   -- ---- a count
@@ -115,7 +116,7 @@ module _ (c : Configuration) (p : Plain) (s : Stands c p) (k : ℕ) (y : Held) w
         let fits = is.fits.stage.sound.stage in
         let inside = fits.0 in
         let start = of_mixed.inside.0 in
-        looks (LooksAtCount m) is (LoadsCount m) (page_of (count_at m)) refl (λ word. refl) (λ word. tt) (page_within y.layout.pages (count_at m) (omega (arith, inside)))
+        looks (LooksAtCount m) is (LoadsCount m) (page_of (count_at m)) refl (λ word. refl) (λ word. tt) (λ e. absurd (cc)) (page_within y.layout.pages (count_at m) (omega (arith, inside)))
         (in_space (LooksAtCount m) is (count_at m) (omega (arith, start))) refl (λ g e. it_only c p s k y (LooksAtCount m) is (uncounted_access m) g of_mixed e)
         (record { act = is.fits.task.act; executes = is.fits.task.executes; is = is.fits.task.is }) fits
 
@@ -131,17 +132,17 @@ module _ (c : Configuration) (p : Plain) (s : Stands c p) (k : ℕ) (y : Held) w
     pub looks_at_field : (usage : FieldUse) → Is c k (at c p s k y (LooksAtField f usage)) → StepsSo c p s k (at c p s k y (LooksAtField f usage))
     looks_at_field (field_uses.Loads into) is =
         let fits = is.fits.stage.sound.stage in
-        looks (LooksAtField f (field_uses.Loads into)) is (LoadsField f into) (page_of (field_at f)) refl (λ word. refl) (λ word. tt) (page_within y.layout.pages (field_at f) fits.0)
+        looks (LooksAtField f (field_uses.Loads into)) is (LoadsField f into) (page_of (field_at f)) refl (λ word. refl) (λ word. tt) (λ e. e) (page_within y.layout.pages (field_at f) fits.0)
         (in_space (LooksAtField f (field_uses.Loads into)) is (field_at f) (low (field_uses.Loads into) is)) refl (λ g e. it_only c p s k y (LooksAtField f (field_uses.Loads into)) is (known_access f) g (in_field (field_uses.Loads into) is) e)
         (record { act = is.fits.task.act; executes = is.fits.task.executes; is = is.fits.task.is }) fits
     looks_at_field (field_uses.Stores new) is =
         let fits = is.fits.stage.sound.stage in
-        looks (LooksAtField f (field_uses.Stores new)) is (StoresField f new) (page_of (field_at f)) refl (λ word. refl) (λ word. tt) (page_within y.layout.pages (field_at f) fits.0)
+        looks (LooksAtField f (field_uses.Stores new)) is (StoresField f new) (page_of (field_at f)) refl (λ word. refl) (λ word. tt) (λ e. absurd (cc)) (page_within y.layout.pages (field_at f) fits.0)
         (in_space (LooksAtField f (field_uses.Stores new)) is (field_at f) (low (field_uses.Stores new) is)) refl (λ g e. it_only c p s k y (LooksAtField f (field_uses.Stores new)) is (known_access f) g (in_field (field_uses.Stores new) is) e)
         (record { act = is.fits.task.act; executes = is.fits.task.executes; is = is.fits.task.is }) fits.0
     looks_at_field (field_uses.Exchanges e) is =
         let fits = is.fits.stage.sound.stage in
-        looks (LooksAtField f (field_uses.Exchanges e)) is (LoadsForCas f e) (page_of (field_at f)) refl (λ word. refl) (λ word. tt) (page_within y.layout.pages (field_at f) fits.0)
+        looks (LooksAtField f (field_uses.Exchanges e)) is (LoadsForCas f e) (page_of (field_at f)) refl (λ word. refl) (λ word. tt) (λ e. absurd (cc)) (page_within y.layout.pages (field_at f) fits.0)
         (in_space (LooksAtField f (field_uses.Exchanges e)) is (field_at f) (low (field_uses.Exchanges e) is)) refl (λ g e'. it_only c p s k y (LooksAtField f (field_uses.Exchanges e)) is (known_access f) g (in_field (field_uses.Exchanges e) is) e')
         (record { act = is.fits.task.act; executes = is.fits.task.executes; is = is.fits.task.is }) fits
 
@@ -156,11 +157,11 @@ module _ (c : Configuration) (p : Plain) (s : Stands c p) (k : ℕ) (y : Held) w
 
     pub looks_at_board : (usage : BoardUse) → Is c k (at c p s k y (on_board usage)) → StepsSo c p s k (at c p s k y (on_board usage))
     looks_at_board (board_uses.Loads into) is =
-        looks (on_board (board_uses.Loads into)) is (LoadsBoard word into) (board_page y.layout.pages) refl (λ w. refl) (λ w. tt) board_within (inl refl) refl (λ f e. absurd (cc))
+        looks (on_board (board_uses.Loads into)) is (LoadsBoard word into) (board_page y.layout.pages) refl (λ w. refl) (λ w. tt) (λ e. absurd (cc)) board_within (inl refl) refl (λ f e. absurd (cc))
         (record { act = is.fits.task.act; executes = is.fits.task.executes; is = is.fits.task.is }) is.fits.stage.sound.stage
     looks_at_board (board_uses.Stores new) is =
-        looks (on_board (board_uses.Stores new)) is (StoresBoard word new) (board_page y.layout.pages) refl (λ w. refl) (λ w. tt) board_within (inl refl) refl (λ f e. absurd (cc))
+        looks (on_board (board_uses.Stores new)) is (StoresBoard word new) (board_page y.layout.pages) refl (λ w. refl) (λ w. tt) (λ e. absurd (cc)) board_within (inl refl) refl (λ f e. absurd (cc))
         (record { act = is.fits.task.act; executes = is.fits.task.executes; is = is.fits.task.is }) is.fits.stage.sound.stage.0
     looks_at_board (board_uses.Swaps into new) is =
-        looks (on_board (board_uses.Swaps into new)) is (LoadsForSwap (record { word = word; into = into; new = new })) (board_page y.layout.pages) refl (λ w. refl) (λ w. tt) board_within (inl refl) refl
+        looks (on_board (board_uses.Swaps into new)) is (LoadsForSwap (record { word = word; into = into; new = new })) (board_page y.layout.pages) refl (λ w. refl) (λ w. tt) (λ e. absurd (cc)) board_within (inl refl) refl
         (λ f e. absurd (cc)) (record { act = is.fits.task.act; executes = is.fits.task.executes; is = is.fits.task.is }) is.fits.stage.sound.stage

@@ -1,5 +1,5 @@
 -- What an access comes to: the effect of its instruction, or the end of its mutator.
-use Rattle.std.proofs.Common.{◌≡◌, ℕ, ◌<◌, Option, None, Ok, slice_set, refl, ap}
+use Rattle.std.proofs.Common.{◌≡◌, ℕ, ◌<◌, Option, None, Ok, slice_set, false, refl, ap, sym}
 use Rattle.plain_state.specs.declared.end.End.{End}
 use Rattle.plain_state.specs.declared.value.Value.{Value}
 use Rattle.plain_state.specs.State.{Plain}
@@ -13,7 +13,7 @@ use Rattle.heap_laws.specs.Fields.Held.{HoldsValue}
 use Rattle.heap_laws.proofs.Fields.Laws.{mutators_step}
 use Rattle.gc_worker.specs.declared.access.access_stage.AccessStage.{AccessStage}
 use Rattle.gc_worker.specs.declared.access.accessed.Accessed.TheVariants.{Brings, Stored, Fails}
-use Rattle.gc_worker.specs.Steps.Access.{Answered, Comes, answered, turn_by, goes_by}
+use Rattle.gc_worker.specs.Steps.Access.{Answered, Comes, answered, is_at_target, turn_by, goes_by}
 use Rattle.gc_worker.specs.Steps.Access as access
 use Rattle.gc_worker.specs.Plain.Answer.{MayEnd}
 use Rattle.gc_worker.specs.Workers.Fits.{ExecutesAction}
@@ -22,7 +22,7 @@ use Rattle.gc_worker.specs.Steps.Goes.{Is, Goes}
 use Rattle.gc_worker.specs.Workers.Held.{Held}
 use Rattle.gc_worker.specs.Workers.Knows.{knows}
 use Rattle.gc_worker.specs.Plain.Seen.{IsValueWord}
-use Rattle.gc_worker.specs.Steps.Turned.{turned_access, told_access, loads, went_on}
+use Rattle.gc_worker.specs.Steps.Turned.{turned_access, told_access, ended, loads, went_on}
 use Rattle.gc_worker.proofs.Plain.Actions.{plain_action}
 use Rattle.gc_worker.proofs.Plain.AnswerSteps.{LawTo}
 use Rattle.gc_worker.proofs.Plain.Effects.{loaded_goes, loaded_as, effect, ends, went_on_fits, loads_fits}
@@ -64,9 +64,9 @@ module _ (c : Configuration) (p : Plain) (s : Stands c p) (k : ℕ) (y : Held) (
       (calls c p s k y stage is act executes (Ok after) acts) law takes (went_on_fits c p s k x is refl (no_end c p s k y stage is) is.fits.side)
 
   -- it is the mutator's end
-  pub goes_ending : (reply : Reply) (why : End) → answered (own c p s k y stage) reply ≡ Comes (Fails why) → MayEnd k p.heap (q c p s k y stage is) executes.instr why → FullByEnd c.pages c.words x why
+  pub goes_ending : (reply : Reply) (why : End) → answered (own c p s k y stage) reply ≡ Comes (Fails why) → is_at_target stage ≡ false → MayEnd k p.heap (q c p s k y stage is) executes.instr why → FullByEnd c.pages c.words x why
       → access.AccessTakes stage reply → Goes c p s k None x reply
-  goes_ending reply why comes may full takes =
+  goes_ending reply why comes other may full takes =
       ends c p s k x is refl (no_end c p s k y stage is) (q c p s k y stage is) (its c p s k y stage is) reply executes.instr why executes.task_is
-      (ap (λ (r : Answered). turned_access x (goes_by (own c p s k y stage) r) (turn_by r)) comes) (ap (λ (r : Answered). told_access y.task (turn_by r)) comes) refl may full refl takes
+      (ap (λ (r : Answered). turned_access x (goes_by (own c p s k y stage) r) (turn_by r)) comes) (ap (λ (r : Answered). told_access y.task (turn_by r)) comes) refl may full (λ i. record (knows (ended x why)) { traced_seen = sym other i }) takes
       (ended_fits c.pages c.mutators k x is.fits is.fits.side why)

@@ -1,8 +1,7 @@
 -- What a store and an exchange have in common: a value is to become one of a record, which may hold it or not.
 use Rattle.std.proofs.Common.{◌≡◌, ℕ, true, false, nat_lt, length, Option, None, Some, Ok, Err, refl}
-use Rattle.plain_state.specs.declared.end.End.TheVariants.{OutOfRange, WeakCell, IntoRaw}
-use Rattle.plain_state.specs.declared.kind.Kind.{Kind}
-use Rattle.plain_state.specs.declared.kind.Kind.TheVariants as kind
+use Rattle.plain_state.specs.declared.end.End.{End}
+use Rattle.plain_state.specs.declared.end.End.TheVariants.{OutOfRange}
 use Rattle.plain_state.specs.declared.value.Identity.{Identity}
 use Rattle.plain_state.specs.declared.value.Value.{Value}
 use Rattle.plain_state.specs.declared.value.Value.TheVariants.{Reference}
@@ -10,16 +9,15 @@ use Rattle.plain_state.specs.State.{Heap, Mutator, Record, record_of}
 use Rattle.plain_heap.specs.declared.action.Action.{Action}
 use Rattle.plain_heap.specs.declared.action.Action.TheVariants.{Stores, Exchanges}
 use Rattle.plain_heap.specs.Action.{in_record}
-use Rattle.plain_heap.specs.Call.{is_cell, may_hold, performed, values_of}
+use Rattle.plain_heap.specs.Call.{may_hold, performed, values_of}
 use Rattle.plain_heap.proofs.Calls.Named.{Names}
 use Rattle.gc_worker.specs.declared.access.access_stage.AccessStage.TheVariants.{LooksAtRecord}
-use Rattle.gc_worker.specs.declared.access.accessed.Accessed.TheVariants.{Fails}
 use Rattle.gc_worker.specs.declared.access.field_access.FieldUse.{FieldUse}
 use Rattle.gc_worker.specs.declared.access.field_access.FieldUse.TheVariants as field_uses
 use Rattle.gc_worker.specs.declared.access.field_access.Role.{Role}
 use Rattle.gc_worker.specs.declared.access.mixed_access.MixedAccess.{MixedAccess}
 use Rattle.gc_worker.specs.declared.access.record_access.RecordAccess.{RecordAccess}
-use Rattle.gc_worker.specs.Steps.Access.{Comes, FitsFieldUse, FitsMixedUse, FitsRecordUse, IsFieldOfAction, begun, counted_by, counting, field_of, kind_of, may_store, record_use, refusal, refused_by, storing, used_by, valued, with_new, word_as}
+use Rattle.gc_worker.specs.Steps.Access.{FitsFieldUse, FitsMixedUse, FitsRecordUse, IsFieldOfAction, begun, counted_by, counting, field_of, kind_of, may_store, record_use, storing, used_by, valued, with_new, word_as}
 use Rattle.gc_worker.specs.Plain.Seen.{IsValueWord, value_seen, word_for}
 use Rattle.gc_worker.proofs.Plain.Actions.{plain_action, plain_value}
 
@@ -51,21 +49,10 @@ pub counted_so : (o : Condition) (r : RecordAccess) (len new : ℕ) → counted_
 counted_so None r len new = refl
 counted_so (Some e) r len new = refl
 
-pub refused_so : (o : Condition) (r : RecordAccess) (len new : ℕ) → refused_by r len (record_use (storing_use o new)) ≡ Comes (Fails (refusal (in_record len r.value)))
-refused_so None r len new = refl
-refused_so (Some e) r len new = refl
-
 pub valued_so : (o : Condition) (m : MixedAccess) (role : Role) (new : ℕ)
     → valued m role (storing_use o new) ≡ storing (field_of m.at 2 role m.value) (storing_use o new) (may_hold (kind_of role) m.value (value_seen new))
 valued_so None m role new = refl
 valued_so (Some e) m role new = refl
-
--- a record that may hold no such value for its numbers is no cell
-no_cell : (of : Kind) (x : ℕ) (v : Value) → may_hold of x v ≡ Err IntoRaw → is_cell of ≡ false
-no_cell kind.Fields x v may_not = refl
-no_cell kind.Raw x v may_not = refl
-no_cell (kind.Mixed count) x v may_not = refl
-no_cell kind.Weak x v may_not = absurd (cc)
 
 -- ---- what it keeps of itself
 
@@ -120,19 +107,10 @@ module _ (o : Condition) (j : Identity) (x : ℕ) (v : Value) where
         by_condition (Some e) = rw past refl
 
     -- it has, and may not hold the new one
-    pub into_raw : (r : Record) → nat_lt x (length (values_of heap (identity j.serial))) ≡ true → record_of heap (identity j.serial) ≡ Some r → may_hold r.kind x (plain_value identity v) ≡ Err IntoRaw
-        → performed m heap k (plain_action identity (storing_action o j x v)) ≡ Err IntoRaw
-    into_raw r within is may_not = by_condition o
+    pub holds_it_not : (why : End) (r : Record) → nat_lt x (length (values_of heap (identity j.serial))) ≡ true → record_of heap (identity j.serial) ≡ Some r → may_hold r.kind x (plain_value identity v) ≡ Err why
+        → performed m heap k (plain_action identity (storing_action o j x v)) ≡ Err why
+    holds_it_not why r within is may_not = by_condition o
       where
-        by_condition : (o : Condition) → performed m heap k (plain_action identity (storing_action o j x v)) ≡ Err IntoRaw
-        by_condition None = rw (within, is, no_cell r.kind x (plain_value identity v) may_not, may_not) refl
-        by_condition (Some e) = rw (within, is, no_cell r.kind x (plain_value identity v) may_not, may_not) refl
-
-    -- it has, and is a cell
-    pub weak_cell : (r : Record) → nat_lt x (length (values_of heap (identity j.serial))) ≡ true → record_of heap (identity j.serial) ≡ Some r → r.kind ≡ kind.Weak
-        → performed m heap k (plain_action identity (storing_action o j x v)) ≡ Err WeakCell
-    weak_cell r within is cell = by_condition o
-      where
-        by_condition : (o : Condition) → performed m heap k (plain_action identity (storing_action o j x v)) ≡ Err WeakCell
-        by_condition None = rw (within, is, cell) refl
-        by_condition (Some e) = rw (within, is, cell) refl
+        by_condition : (o : Condition) → performed m heap k (plain_action identity (storing_action o j x v)) ≡ Err why
+        by_condition None = rw (within, is, may_not) refl
+        by_condition (Some e) = rw (within, is, may_not) refl

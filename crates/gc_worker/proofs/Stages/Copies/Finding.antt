@@ -27,7 +27,7 @@ use Rattle.heap_laws.specs.Answers.{OldHeader, OldHeaderAnswers, InPlace, KeptBy
 use Rattle.heap_laws.proofs.Copying.Laws.{announces_are_cleared, forwards_are_found}
 use Rattle.heap_laws.proofs.Steps.Answers.{old_headers_are_read}
 use Rattle.gc_worker.specs.declared.stage.back.Back.{Back}
-use Rattle.gc_worker.specs.declared.stage.back.Back.TheVariants.{ToAccess, ToPlace, ToSnap, ToScanner}
+use Rattle.gc_worker.specs.declared.stage.back.Back.TheVariants.{ToAccess, ToTarget, ToPlace, ToSnap, ToScanner}
 use Rattle.gc_worker.specs.declared.stage.Stage.TheVariants.{Evacuates, Scans}
 use Rattle.gc_worker.specs.Workers.Fits.{Fits, FitsBack, HasAsked}
 use Rattle.gc_worker.specs.Steps.Goes.{Is, Goes, StepsSo}
@@ -66,6 +66,7 @@ module _ (y : Held) (v : Evacuation) (scan : Scanning) (back : Back) where
 
   back_fits : (q : ScanStage) (z : EvacStage) (to : ℕ) (b : Back) → FitsBack (asking z q) b → FitsBack (going_on q to) b
   back_fits q z to (ToAccess a) f = f
+  back_fits q z to (ToTarget a) f = f
   back_fits q z to ToPlace f = f
   back_fits q z to ToSnap f = f
   back_fits q z to ToScanner f = f

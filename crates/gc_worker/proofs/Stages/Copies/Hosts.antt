@@ -11,7 +11,7 @@ use Rattle.page_scan.specs.Scanning.{Scanning}
 use Rattle.heap_state.specs.Worker.{Copy, Quest, Origin, Register, Scanned}
 use Rattle.gc_worker.specs.declared.stage.after.After.{After}
 use Rattle.gc_worker.specs.declared.stage.back.Back.{Back}
-use Rattle.gc_worker.specs.declared.stage.back.Back.TheVariants.{ToAccess, ToPlace, ToSnap, ToScanner}
+use Rattle.gc_worker.specs.declared.stage.back.Back.TheVariants.{ToAccess, ToTarget, ToPlace, ToSnap, ToScanner}
 use Rattle.gc_worker.specs.declared.stage.Stage.{Stage}
 use Rattle.gc_worker.specs.declared.stage.Stage.TheVariants.{Forwards, Evacuates}
 use Rattle.gc_worker.specs.Workers.Fits.{Fits, FitsBack, Takes}
@@ -126,6 +126,7 @@ module _ (y : Held) (w : evac.Evacuation) where
 
     same_back : (o : Host) (z q : EvacStage) (b : Back) → FitsBack (at y o w z) b → FitsBack (at y o w q) b
     same_back o z q (ToAccess a) f = f
+    same_back o z q (ToTarget a) f = f
     same_back o z q ToPlace f = f
     same_back o z q ToSnap f = f
     same_back o z q ToScanner f = f

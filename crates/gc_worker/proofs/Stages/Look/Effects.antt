@@ -1,6 +1,6 @@
 -- A look whose instruction's effect the registers alone decide: a register is set, a jump is made, a number is printed, or `snap` finds no
 -- number, or no room, for one more checkpoint.
-use Rattle.std.proofs.Common.{◌≡◌, ℕ, ◌+◌, ◌%◌, ◌<◌, ◌≤◌, List, [], ◌∷◌, ◌++◌, length, slice_index, slice_set, is_some, Some, None, Result, Ok, refl, ap, sym, subst, ◌∙◌, length-set, arith}
+use Rattle.std.proofs.Common.{◌≡◌, ℕ, ◌+◌, ◌%◌, ◌<◌, ◌≤◌, false, List, [], ◌∷◌, ◌++◌, length, slice_index, slice_set, is_some, Some, None, Result, Ok, refl, ap, sym, subst, ◌∙◌, length-set, arith}
 use Rattle.std.specs.Prelude.{⊤, IsTrue}
 use Rattle.std.proofs.lemmas.List.{length-append}
 use Rattle.plain_state.specs.declared.end.End.{End}
@@ -77,7 +77,7 @@ module _ (c : Configuration) (p : Plain) (s : Stands c p) (k : ℕ) (y : Held) w
     -- where the plain heap stays
     module _ (account : Account) (registers : List ℕ) (next : Mutator) (serial : account.serial ≡ x.account.serial) (no_end : account.end ≡ None) (few : length account.printed ≤ MOST_PRINTED)
         (eight : length registers ≡ REGISTERS) (values : AreValues registers) (may : (j : ℕ) → j < 8 → MayHold (era c) s.ghost.size s.ghost.writer (slice_index registers j))
-        (like : IsAs s.ghost p.heap k (going_on (knows x) account (λ (j : ℕ). slice_index registers j) None None) next)
+        (like : IsAs s.ghost p.heap k (going_on (knows x) account (λ (j : ℕ). slice_index registers j) None None false) next)
         (calls : call k p.heap q instr ≡ Ok (record { heap = p.heap; mutator = next })) (same : turned x reply ≡ settled_as (begins x) account registers x.run) where
       law : LawTo c p s k x None (knows (settled_as (begins x) account registers x.run)) s.ghost (with_mutator p k next)
       law = mutators_step (era c) (memory c) (team c) s.ghost p k (knows (settled_as (begins x) account registers x.run)) next (prepared c p s k x is)

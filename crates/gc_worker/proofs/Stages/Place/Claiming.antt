@@ -32,7 +32,7 @@ use Rattle.heap_laws.proofs.Steps.Forgotten.{traced_is_forgotten}
 use Rattle.gc_worker.specs.declared.stage.Stage.TheVariants.{Places}
 use Rattle.gc_worker.specs.Workers.Fits.{Fits, LeavesShortRun}
 use Rattle.gc_worker.specs.Steps.Goes.{Is, Goes, StepsSo}
-use Rattle.gc_worker.specs.Workers.Held.{Held, at_stage, fields_for}
+use Rattle.gc_worker.specs.Workers.Held.{Held, at_stage, fields_for, target_for}
 use Rattle.gc_worker.specs.Workers.Knows.{knows, zeroed_to}
 use Rattle.gc_worker.proofs.Words.Areas.{area_now, area_is, is_space}
 use Rattle.gc_worker.proofs.Words.Eras.{ends_below, start_is, span_is}
@@ -43,7 +43,7 @@ use Rattle.gc_worker.proofs.Words.RowSteps.{Law, becomes, loads, exchanges, noth
 
 module _ (c : Configuration) (p : Plain) (s : Stands c p) (k : ℕ) (y : Held) (run : Run) (header : Header) where
   abbrev pub placing : PlaceStage → Placing
-  placing stage = record { layout = y.layout; run = run; header = header; fields = fields_for y; epoch = y.epoch; snap = y.snap; stage = stage }
+  placing stage = record { layout = y.layout; run = run; header = header; fields = fields_for y; epoch = y.epoch; snap = y.snap; target = target_for y; stage = stage }
 
   abbrev pub at : PlaceStage → Held
   at stage = at_stage y (Places (placing stage))
@@ -52,7 +52,7 @@ module _ (c : Configuration) (p : Plain) (s : Stands c p) (k : ℕ) (y : Held) (
   pub replace : (before stage : PlaceStage) → Is c k (at before) → IsPlacingGoing stage → LeavesShortRun run header stage → FitsPlaceStage y.layout.pages (pages_for (size_of header)) y.snap run header stage → Fits c.pages c.mutators k (at stage)
   replace before stage is going rest fits =
       refit c.pages c.mutators k (at before) is.fits (Places (placing stage)) is.fits.end is.fits.side is.fits.task
-      (record { layout = refl; epoch = refl; fields = refl; snap = refl; going = going; rest = rest; sound = record { pages = is.fits.stage.sound.pages; run = is.fits.stage.sound.run; fields = is.fits.stage.sound.fields; epoch = is.fits.stage.sound.epoch; snap = is.fits.stage.sound.snap; room = is.fits.stage.sound.room; stage = fits } })
+      (record { layout = refl; epoch = refl; fields = refl; snap = refl; target = refl; going = going; rest = rest; sound = record { pages = is.fits.stage.sound.pages; run = is.fits.stage.sound.run; fields = is.fits.stage.sound.fields; cell = is.fits.stage.sound.cell; epoch = is.fits.stage.sound.epoch; snap = is.fits.stage.sound.snap; room = is.fits.stage.sound.room; stage = fits } })
 
   -- its epoch is the current one
   pub now : (before : PlaceStage) → Is c k (at before) → y.epoch ≡ (era c).epoch
@@ -66,7 +66,7 @@ module _ (c : Configuration) (p : Plain) (s : Stands c p) (k : ℕ) (y : Held) (
     goes : (b : Bool) → (traced_now c == y.epoch + 1) ≡ b → Goes c p s k None (at LoadsTraced) (Value (traced_now c))
     goes b test =
         becomes c p s k (at LoadsTraced) None (Value (traced_now c)) (at (LoadsSize b)) s.ghost (ap (λ (t : Bool). at (LoadsSize t)) test) is.below (learnt b test) refl refl
-        (record { pages = is.fits.stage.sound.pages; run = is.fits.stage.sound.run; fields = is.fits.stage.sound.fields; epoch = is.fits.stage.sound.epoch; snap = is.fits.stage.sound.snap; room = is.fits.stage.sound.room; stage = tt })
+        (record { pages = is.fits.stage.sound.pages; run = is.fits.stage.sound.run; fields = is.fits.stage.sound.fields; cell = is.fits.stage.sound.cell; epoch = is.fits.stage.sound.epoch; snap = is.fits.stage.sound.snap; room = is.fits.stage.sound.room; stage = tt })
         (replace LoadsTraced (LoadsSize b) is tt tt tt)
       where
         learnt : (b : Bool) → (traced_now c == y.epoch + 1) ≡ b → Law c p s k (at LoadsTraced) None (knows (at (LoadsSize b))) s.ghost
@@ -103,7 +103,7 @@ module _ (c : Configuration) (p : Plain) (s : Stands c p) (k : ℕ) (y : Held) (
     found =
         becomes c p s k (at (LoadsSize traced)) None (Value size_now) (at (LoadsArea traced size_now)) s.ghost refl is.below
         size_learnt refl refl
-        (record { pages = is.fits.stage.sound.pages; run = is.fits.stage.sound.run; fields = is.fits.stage.sound.fields; epoch = is.fits.stage.sound.epoch; snap = is.fits.stage.sound.snap; room = is.fits.stage.sound.room; stage = few })
+        (record { pages = is.fits.stage.sound.pages; run = is.fits.stage.sound.run; fields = is.fits.stage.sound.fields; cell = is.fits.stage.sound.cell; epoch = is.fits.stage.sound.epoch; snap = is.fits.stage.sound.snap; room = is.fits.stage.sound.room; stage = few })
         (replace (LoadsSize traced) (LoadsArea traced size_now) is tt tt few)
 
     pub loads_size : StepsSo c p s k (at (LoadsSize traced))
@@ -197,14 +197,14 @@ module _ (c : Configuration) (p : Plain) (s : Stands c p) (k : ℕ) (y : Held) (
           let some : 0 < words_for header = omega arith in
           let fits : FitsPlaceStage y.layout.pages asked y.snap run header (StoresZero new_pages) = (lies, omega arith, omega (arith, some)) in
           becomes c p s k x (Some (AreaIs space (area_after (words_for header) f))) Won (at (StoresZero new_pages)) s.ghost refl is.below stocks refl refl
-          (record { pages = is.fits.stage.sound.pages; run = is.fits.stage.sound.run; fields = is.fits.stage.sound.fields; epoch = is.fits.stage.sound.epoch; snap = is.fits.stage.sound.snap; room = is.fits.stage.sound.room; stage = fits })
+          (record { pages = is.fits.stage.sound.pages; run = is.fits.stage.sound.run; fields = is.fits.stage.sound.fields; cell = is.fits.stage.sound.cell; epoch = is.fits.stage.sound.epoch; snap = is.fits.stage.sound.snap; room = is.fits.stage.sound.room; stage = fits })
           (replace (ExchangesArea f) (StoresZero new_pages) is tt tt fits)
 
     loses : Goes c p s k None x (Lost (area_now c space))
     loses =
         becomes c p s k x None (Lost (area_now c space)) (at LoadsTraced) s.ghost refl is.below
         (less c p s k x is (knows (at LoadsTraced)) (traced_is_forgotten (knows x) refl refl)) refl refl
-        (record { pages = is.fits.stage.sound.pages; run = is.fits.stage.sound.run; fields = is.fits.stage.sound.fields; epoch = is.fits.stage.sound.epoch; snap = is.fits.stage.sound.snap; room = is.fits.stage.sound.room; stage = tt })
+        (record { pages = is.fits.stage.sound.pages; run = is.fits.stage.sound.run; fields = is.fits.stage.sound.fields; cell = is.fits.stage.sound.cell; epoch = is.fits.stage.sound.epoch; snap = is.fits.stage.sound.snap; room = is.fits.stage.sound.room; stage = tt })
         (replace (ExchangesArea f) LoadsTraced is tt tt tt)
 
     pub exchanges_area : StepsSo c p s k x

@@ -152,5 +152,5 @@ module _ (c : Configuration) (p : Plain) (s : Stands c p) (k : ℕ) (y : Held) (
       finds_no_room =
           answers c p s k x None (Value (area_now c space)) after s.ghost q (Calls instr) (Trap end) comes answer refl is.below its.is its.no_end
           (plain_pages y making q v acts) law no_room
-          (record { pages = is.fits.stage.sound.pages; run = is.fits.stage.sound.run; fields = is.fits.stage.sound.fields; epoch = is.fits.stage.sound.epoch; snap = is.fits.stage.sound.snap; room = is.fits.stage.sound.room; stage = subst (FitsPlaceStage y.layout.pages asked y.snap run header) (sym reads) tt })
+          (record { pages = is.fits.stage.sound.pages; run = is.fits.stage.sound.run; fields = is.fits.stage.sound.fields; cell = is.fits.stage.sound.cell; epoch = is.fits.stage.sound.epoch; snap = is.fits.stage.sound.snap; room = is.fits.stage.sound.room; stage = subst (FitsPlaceStage y.layout.pages asked y.snap run header) (sym reads) tt })
           (ended_fits c.pages c.mutators k x is.fits is.fits.side end)

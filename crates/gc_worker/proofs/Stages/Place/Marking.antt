@@ -104,7 +104,7 @@ module _ (c : Configuration) (p : Plain) (s : Stands c p) (k : ℕ) (y : Held) (
         same = refl;
         silent = refl;
         none = refl;
-        takes = record { pages = is.fits.stage.sound.pages; run = is.fits.stage.sound.run; fields = is.fits.stage.sound.fields; epoch = is.fits.stage.sound.epoch; snap = is.fits.stage.sound.snap; room = is.fits.stage.sound.room; stage = is.fits.stage.sound.stage.0 };
+        takes = record { pages = is.fits.stage.sound.pages; run = is.fits.stage.sound.run; fields = is.fits.stage.sound.fields; cell = is.fits.stage.sound.cell; epoch = is.fits.stage.sound.epoch; snap = is.fits.stage.sound.snap; room = is.fits.stage.sound.room; stage = is.fits.stage.sound.stage.0 };
         fits = replace c p s k y run header (StoresNew new) (OpensPage new) is tt tt is.fits.stage.sound.stage.0;
       }
 

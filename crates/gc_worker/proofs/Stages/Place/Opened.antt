@@ -27,7 +27,7 @@ use Rattle.heap_laws.proofs.Allocation.Laws.{opens_pages}
 use Rattle.gc_worker.specs.declared.stage.Stage.TheVariants.{Places}
 use Rattle.gc_worker.specs.Workers.Fits.{Fits}
 use Rattle.gc_worker.specs.Steps.Goes.{Is, Goes, StepsSo}
-use Rattle.gc_worker.specs.Workers.Held.{Held, at_stage, fields_for}
+use Rattle.gc_worker.specs.Workers.Held.{Held, at_stage, fields_for, target_for}
 use Rattle.gc_worker.specs.Workers.Knows.{knows, kind_with, opened_to}
 use Rattle.gc_worker.specs.Steps.Turned.{Silent, guards_place, turned_place, told_place}
 use Rattle.gc_worker.proofs.Workers.GoingOn.{first_fits, first_going, first_rest}
@@ -119,40 +119,41 @@ module _ (c : Configuration) (p : Plain) (s : Stands c p) (k : ℕ) (y : Held) (
     sound : (b : Bool) → test_of ≡ b → IsSoundPlacing (pick b)
     sound true test =
         let l = ltb-true (new.next + 1) (page_of new.first + asked) test in let f = is.fits.stage.sound.stage in
-        record { pages = is.fits.stage.sound.pages; run = is.fits.stage.sound.run; fields = is.fits.stage.sound.fields; epoch = is.fits.stage.sound.epoch; snap = is.fits.stage.sound.snap; room = is.fits.stage.sound.room; stage = readied_fits c p s k y run header further (f.0, omega (arith, f), l) }
+        record { pages = is.fits.stage.sound.pages; run = is.fits.stage.sound.run; fields = is.fits.stage.sound.fields; cell = is.fits.stage.sound.cell; epoch = is.fits.stage.sound.epoch; snap = is.fits.stage.sound.snap; room = is.fits.stage.sound.room; stage = readied_fits c p s k y run header further (f.0, omega (arith, f), l) }
     sound false test =
         let f = is.fits.stage.sound.stage in
         record {
           pages = is.fits.stage.sound.pages;
           run = (omega arith, f.0);
           fields = is.fits.stage.sound.fields;
+          cell = is.fits.stage.sound.cell;
           epoch = is.fits.stage.sound.epoch;
           snap = is.fits.stage.sound.snap;
           room = is.fits.stage.sound.room;
-          stage = first_fits y.layout.pages asked y.snap (fields_for y) all header header.kind refl is.fits.stage.sound.fields (omega arith);
+          stage = first_fits y.layout.pages asked y.snap (fields_for y) all header header.kind refl is.fits.stage.sound.fields is.fits.stage.sound.cell (omega arith);
         }
 
     fits : (b : Bool) → test_of ≡ b → Fits c.pages c.mutators k (then b)
     fits true test =
         refit c.pages c.mutators k x is.fits (Places (pick true)) is.fits.end is.fits.side is.fits.task
-        (record { layout = refl; epoch = refl; fields = refl; snap = refl; going = readied_going c p s k y run header further; rest = readied_rest c p s k y run header further; sound = sound true test })
+        (record { layout = refl; epoch = refl; fields = refl; snap = refl; target = refl; going = readied_going c p s k y run header further; rest = readied_rest c p s k y run header further; sound = sound true test })
     fits false test =
         guards_place_fits c.pages c.mutators k y (first_for header.kind)
         (refit c.pages c.mutators k x is.fits (Places (pick false)) is.fits.end is.fits.side is.fits.task
-        (record { layout = refl; epoch = refl; fields = refl; snap = refl; going = first_going header.kind; rest = first_rest all header header.kind (omega arith); sound = sound false test }))
+        (record { layout = refl; epoch = refl; fields = refl; snap = refl; target = refl; going = first_going header.kind; rest = first_rest all header header.kind (omega arith); sound = sound false test }))
 
     -- at the record's first store all pages are open
     abbrev stock_with : (opened : ℕ) (ahead : List ℕ) → Stock
     stock_with opened ahead = record { epoch = y.epoch; at = new.first; end = new.first + words; zeroed = new.first + words; opened = opened; ahead = ahead }
 
     abbrev ahead_for : Kind → List ℕ
-    ahead_for kind = stored_ahead (kind_with kind (fields_for y))
+    ahead_for kind = stored_ahead (kind_with kind (fields_for y)) (target_for y)
 
     stock_first : (kind : Kind) → header.kind ≡ kind → first_word new.next + 64 ≡ new.first + words → stocked (knows x) (opened_further stock) ≡ knows (at_stage y (Places (first_for kind)))
     stock_first Fields is e = λ i. record (knows (at_stage y (Places (first_for Fields)))) { stock = Some (stock_with (e i) (ahead_for (sym is i))) }
     stock_first Raw is e = λ i. record (knows (at_stage y (Places (first_for Raw)))) { stock = Some (stock_with (e i) (ahead_for (sym is i))) }
     stock_first Mixed is e = λ i. record (knows (at_stage y (Places (first_for Mixed)))) { stock = Some (stock_with (e i) []) }
-    stock_first Weak is e = λ i. record (knows (at_stage y (Places (first_for Weak)))) { stock = Some (stock_with (e i) (ahead_for (sym is i))) }
+    stock_first Weak is e = λ i. record (knows (at_stage y (Places (first_for Weak)))) { stock = Some (stock_with (e i) []) }
 
     stock_then : (b : Bool) → test_of ≡ b → stocked (knows x) (opened_further stock) ≡ knows (then b)
     stock_then true test =

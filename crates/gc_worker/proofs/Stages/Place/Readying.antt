@@ -104,7 +104,7 @@ module _ (c : Configuration) (p : Plain) (s : Stands c p) (k : ℕ) (y : Held) (
     goes b test =
         becomes c p s k x (Some (WordIs new.next 0)) Done (here (next b)) s.ghost (ap (λ (t : Bool). by (next t)) test ∙ comes b) is.below
         (subst (λ (v : Worker). Law c p s k x (Some (WordIs new.next 0)) v s.ghost) (stock_then b test) law) (ap (λ (t : Bool). tells (next t)) test ∙ silent b) refl
-        (record { pages = is.fits.stage.sound.pages; run = is.fits.stage.sound.run; fields = is.fits.stage.sound.fields; epoch = is.fits.stage.sound.epoch; snap = is.fits.stage.sound.snap; room = is.fits.stage.sound.room; stage = subst (FitsPlaceStage y.layout.pages asked y.snap run header) (ap next (sym test)) (fits b test) })
+        (record { pages = is.fits.stage.sound.pages; run = is.fits.stage.sound.run; fields = is.fits.stage.sound.fields; cell = is.fits.stage.sound.cell; epoch = is.fits.stage.sound.epoch; snap = is.fits.stage.sound.snap; room = is.fits.stage.sound.room; stage = subst (FitsPlaceStage y.layout.pages asked y.snap run header) (ap next (sym test)) (fits b test) })
         (replace c p s k y run header (StoresZero new) (next b) is (going b) (rest b) (fits b test))
 
     pub stores_zero : StepsSo c p s k x

@@ -121,7 +121,7 @@ module _ (c : Configuration) (p : Plain) (s : Stands c p) (k : ℕ) (y : Held) (
     goes_on b test helps =
         becomes c p s k x None (Value (area_now c space)) (then b) s.ghost (ap by (reads b test) ∙ comes b helps) is.below
         (less c p s k x is (knows (then b)) (knows_less b)) (ap (λ (t : PlaceStage). told_place x (told (placing c p s k y run header t))) (reads b test) ∙ silent b helps) refl
-        (record { pages = is.fits.stage.sound.pages; run = is.fits.stage.sound.run; fields = is.fits.stage.sound.fields; epoch = is.fits.stage.sound.epoch; snap = is.fits.stage.sound.snap; room = is.fits.stage.sound.room; stage = subst (FitsPlaceStage y.layout.pages (pages_for (size_of header)) y.snap run header) (sym (reads b test)) (stage_fits b test) })
+        (record { pages = is.fits.stage.sound.pages; run = is.fits.stage.sound.run; fields = is.fits.stage.sound.fields; cell = is.fits.stage.sound.cell; epoch = is.fits.stage.sound.epoch; snap = is.fits.stage.sound.snap; room = is.fits.stage.sound.room; stage = subst (FitsPlaceStage y.layout.pages (pages_for (size_of header)) y.snap run header) (sym (reads b test)) (stage_fits b test) })
         (worker_fits b test helps)
 
     goes : (b : Bool) → fits true (words_for header) area ≡ b → (full : Bool) → is_full y found ≡ full → Goes c p s k None x (Value (area_now c space))

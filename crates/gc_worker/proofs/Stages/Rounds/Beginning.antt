@@ -23,7 +23,7 @@ use Rattle.heap_laws.specs.Tracing.{in_round}
 use Rattle.heap_laws.proofs.Gate.Scanner.{takes_epoch_of_gate}
 use Rattle.heap_laws.proofs.Tracing.Looks.{reads_traced}
 use Rattle.gc_worker.specs.declared.stage.back.Back.{Back}
-use Rattle.gc_worker.specs.declared.stage.back.Back.TheVariants.{ToAccess, ToPlace, ToSnap, ToScanner}
+use Rattle.gc_worker.specs.declared.stage.back.Back.TheVariants.{ToAccess, ToTarget, ToPlace, ToSnap, ToScanner}
 use Rattle.gc_worker.specs.declared.stage.Stage.TheVariants.{Serves, Gone}
 use Rattle.gc_worker.specs.Steps.Goes.{Is, Goes, StepsSo}
 use Rattle.gc_worker.specs.Workers.Held.{Held, at_stage}
@@ -135,6 +135,10 @@ module _ (c : Configuration) (p : Plain) (s : Stands c p) (k : ℕ) (y : Held) w
       → Goes c p s k None (at c p s k y (record d { caller = caller }) back LoadsGate) (Value (gate_now c))
   gate_goes d (Faulted page) (ToAccess a) is = mutator (record d { caller = Faulted page }) (ToAccess a) is.fits.stage.0.epoch is
       (ap (duty.looked_at_gate (round c p s k y (record d { caller = Faulted page }) (ToAccess a) LoadsGate) (gate_now c)) (gate_says c p s))
+  gate_goes d (Faulted page) (ToTarget a) is = mutator (record d { caller = Faulted page }) (ToTarget a) is.fits.stage.0.epoch is
+      (ap (duty.looked_at_gate (round c p s k y (record d { caller = Faulted page }) (ToTarget a) LoadsGate) (gate_now c)) (gate_says c p s))
+  gate_goes d Allocates (ToTarget a) is = mutator (record d { caller = Allocates }) (ToTarget a) is.fits.stage.0.epoch is
+      (ap (duty.looked_at_gate (round c p s k y (record d { caller = Allocates }) (ToTarget a) LoadsGate) (gate_now c)) (gate_says c p s))
   gate_goes d Allocates ToPlace is = mutator (record d { caller = Allocates }) ToPlace is.fits.stage.0.epoch is
       (ap (duty.looked_at_gate (round c p s k y (record d { caller = Allocates }) ToPlace LoadsGate) (gate_now c)) (gate_says c p s))
   gate_goes d Allocates ToSnap is = mutator (record d { caller = Allocates }) ToSnap is.fits.stage.0.epoch is
@@ -147,6 +151,7 @@ module _ (c : Configuration) (p : Plain) (s : Stands c p) (k : ℕ) (y : Held) w
   gate_goes d Allocates (ToAccess a) is = absurd is.fits.stage.0.caller
   gate_goes d Allocates ToScanner is = absurd is.fits.stage.0.caller
   gate_goes d (Scans mutators) (ToAccess a) is = absurd is.fits.stage.0.caller
+  gate_goes d (Scans mutators) (ToTarget a) is = absurd is.fits.stage.0.caller
   gate_goes d (Scans mutators) ToPlace is = absurd is.fits.stage.0.caller
   gate_goes d (Scans mutators) ToSnap is = absurd is.fits.stage.0.caller
 

@@ -3,7 +3,7 @@ use Rattle.std.proofs.Common.{◌≡◌, ℕ, ◌+◌, ◌*◌, ◌≤◌, ◌==
 use Rattle.std.proofs.lemmas.Bool.{eq-eqb, eqb-true}
 use Rattle.plain_state.specs.State.{Plain}
 use Rattle.atom_store.specs.declared.step.Step.TheVariants.{Exchange}
-use Rattle.atom_store.specs.declared.reply.Reply.TheVariants.{Value, Won, Lost}
+use Rattle.atom_store.specs.declared.reply.Reply.TheVariants.{Value, Won}
 use Rattle.space_map.specs.declared.gate_word.GateWord.{GateWord}
 use Rattle.space_map.specs.Spaces.{board_page, to_space, page_of}
 use Rattle.space_map.specs.Table.{Gate, Traced, Area, Page, place_of}
@@ -22,17 +22,20 @@ use Rattle.fault_duty.specs.Duty as duty
 use Rattle.fault_duty.specs.Duty.{Round}
 use Rattle.heap_state.specs.Configuration.{Configuration, Stands, table, era, memory, team}
 use Rattle.heap_state.specs.Memory.Entries.{Entry, TracedIs}
+use Rattle.heap_state.specs.Cells.{Passing}
 use Rattle.heap_state.specs.Worker.{Worker, Look, LastLook, Done}
 use Rattle.heap_state.proofs.Puts.{some_same}
 use Rattle.heap_state.specs.Worker as workers
 use Rattle.heap_state.proofs.Table.LaidOut.{table_pages}
-use Rattle.heap_laws.specs.Tracing.{look_begun, looking, has_traced}
+use Rattle.heap_laws.specs.Tracing.{FollowsTargets, WinsTraced, look_begun, looking, has_traced}
+use Rattle.heap_laws.proofs.Lifting.Laws.{plain_steps_are_lifted}
 use Rattle.heap_laws.proofs.Steps.Composing.{steps_forget}
 use Rattle.heap_laws.proofs.Steps.Forgotten.{of_round}
 use Rattle.heap_laws.proofs.Tracing.Looks.{begins_look, looks_at_front, looks_at_filling}
+use Rattle.heap_laws.proofs.Tracing.Lost.{lost_targets_are_zero}
 use Rattle.heap_laws.proofs.Tracing.Traced as tracing
 use Rattle.gc_worker.specs.declared.stage.back.Back.{Back}
-use Rattle.gc_worker.specs.Steps.Goes.{Is, Goes, StepsSo}
+use Rattle.gc_worker.specs.Steps.Goes.{Is, Goes, StepsSo, TracesEpoch}
 use Rattle.gc_worker.specs.Workers.Held.{Held}
 use Rattle.gc_worker.specs.Workers.Knows.{knows, look_with, upto_all, is_open_state}
 use Rattle.gc_worker.specs.Steps.Turned.{back_from}
@@ -42,6 +45,8 @@ use Rattle.fault_duty.proofs.Lowering.{to_start-le}
 use Rattle.gc_worker.proofs.Stages.Rounds.Choosing.{front_for, first_choice}
 use Rattle.gc_worker.proofs.Stages.Rounds.Going.{rests, round, at, done, goes_on, ends, ends_marked, ended_known, own_stock_same, loads_it, same_pages}
 use Rattle.gc_worker.proofs.Stages.Rounds.Words.{traced_now, traced_word, page_now, page_says}
+use Rattle.gc_worker.proofs.Plain.AnswerSteps.{LawTo}
+use Rattle.gc_worker.proofs.Plain.EmptyCells.{same_empty, traced_after}
 use Rattle.gc_worker.proofs.Words.RowSteps.{Law, exchanges, nothing, prepared}
 
 -- a page that is found open is open in the round's epoch
@@ -70,27 +75,56 @@ module _ (c : Configuration) (p : Plain) (s : Stands c p) (k : ℕ) (y : Held) (
     abbrev entry : Entry
     entry = TracedIs (d.epoch + 1)
 
-    wins : traced_now c ≡ traced → Law c p s k x (Some entry) (knows (back_from (done c p s k y d back) back)) s.ghost
-    wins same =
-        let l : LastLook = record { traced = traced } in
-        let t : Law c p s k x (Some (TracedIs (((team c).worker k).epoch + 1))) (has_traced ((team c).worker k)) s.ghost =
-        (tracing.traces (era c) (memory c) (team c) s.ghost k l (prepared c p s k x is) (record { looks = ap (λ (w : Worker). w.last_look) is.as_known; unchanged = traced_word c ∙ same; walked = ap (λ (w : Worker). w.pass) is.as_known })).steps in
-        let u : Law c p s k x (Some entry) (rests (knows x)) s.ghost =
-        subst (λ (w : Worker). Law c p s k x (Some (TracedIs (w.epoch + 1))) (has_traced w) s.ghost) is.as_known t in
-        subst (λ (w : Worker). Law c p s k x (Some entry) w s.ghost) (sym (ended_known c p s k y d back (Traces traced) is refl (own_stock_same c p s k y d back (Traces traced) is))) u
+    walked : ((team c).worker k).pass ≡ Some Done
+    walked = ap (λ (w : Worker). w.pass) is.as_known
+
+    looked : ((team c).worker k).last_look ≡ Some (record { traced = traced })
+    looked = ap (λ (w : Worker). w.last_look) is.as_known
 
     -- who has walked over the chain has the turn, and nobody else changes TRACED
+    turn : Passing (era c) (memory c) (memory c).weak_turn s.ghost s.invariant.cells.ranks ((team c).worker k) Done
+    turn = s.invariant.cells.chain.pass k Done is.below walked
+
     stays : traced_now c ≡ traced
     stays =
-        let look = (s.invariant.cells.chain.pass k Done is.below (ap (λ (w : Worker). w.pass) is.as_known)).look in
-        let same : look.0 ≡ record { traced = traced } = some_same (sym look.1 ∙ ap (λ (w : Worker). w.last_look) is.as_known) in
-        sym (traced_word c) ∙ (sym look.2 ∙ ap (λ (l : LastLook). l.traced) same)
+        let same : turn.look.0 ≡ record { traced = traced } = some_same (sym turn.look.1 ∙ looked) in
+        sym (traced_word c) ∙ (sym turn.look.2 ∙ ap (λ (l : LastLook). l.traced) same)
+
+    wins : WinsTraced (memory c) (team c) k (record { traced = traced })
+    wins = record { looks = looked; unchanged = traced_word c ∙ stays; walked = walked }
+
+    abbrev y' : Held
+    y' = back_from (done c p s k y d back) back
+
+    known : knows y' ≡ rests (knows x)
+    known = ended_known c p s k y d back (Traces traced) is refl (own_stock_same c p s k y d back (Traces traced) is)
+
+    now : d.epoch ≡ (era c).epoch
+    now = ap (λ (w : Worker). w.epoch) (sym is.as_known) ∙ turn.now.0
+
+    -- each state that follows the targets is stood for
+    follows : (q : Plain) → FollowsTargets (era c) (memory c) s.ghost p q → LawTo c p s k x (Some entry) (knows y') s.ghost q
+    follows q of_targets =
+        let t : LawTo c p s k x (Some (TracedIs (((team c).worker k).epoch + 1))) (has_traced ((team c).worker k)) s.ghost q =
+        (tracing.traces (era c) (memory c) (team c) s.ghost k (record { traced = traced }) (prepared c p s k x is) wins).steps p q s.shown of_targets in
+        let u : LawTo c p s k x (Some entry) (rests (knows x)) s.ghost q =
+        subst (λ (w : Worker). LawTo c p s k x (Some (TracedIs (w.epoch + 1))) (has_traced w) s.ghost q) is.as_known t in
+        subst (λ (w : Worker). LawTo c p s k x (Some entry) w s.ghost q) (sym known) u
+
+    traces : TracesEpoch c p s.ghost k (Some entry) y' s.ghost
+    traces = record {
+      settles = λ o cycle keeps. lost_targets_are_zero (era c) (memory c) (team c) s.ghost k (record { traced = traced }) p o (prepared c p s k x is) wins s.shown cycle keeps;
+      before = turn.now.1;
+      traced = traced_after c k (knows y') (d.epoch + 1) s.formed is.below ∙ ap (λ (e : ℕ). e + 1) now;
+      empty = same_empty c k (knows y') (d.epoch + 1) s.formed is.below (ap (λ (w : Worker). w.copy) (known ∙ ap rests (sym is.as_known)));
+      leaves = λ q of_targets. plain_steps_are_lifted c p q s (Some entry) k (knows y') s.ghost is.below (follows q of_targets);
+    }
 
     pub exchanges_traced : StepsSo c p s k x
     exchanges_traced =
         wants c p s k x (Exchange (place_of c.pages Traced) traced (d.epoch + 1)) (ap (λ n. Some (Exchange (place_of n Traced) traced (d.epoch + 1))) (same_pages c p s k y d back (Traces traced) is))
         (exchanges c p s k x entry traced tt
-        (λ same. ends_marked c p s k y d back (Traces traced) is (Some entry) Won s.ghost refl refl (wins same))
+        (λ same. ends_marked c p s k y d back (Traces traced) is (Some entry) Won s.ghost refl refl traces)
         (λ other. absurd (other stays)))
 
   -- ---- AREA

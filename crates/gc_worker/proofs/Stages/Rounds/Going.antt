@@ -24,17 +24,17 @@ use Rattle.heap_state.specs.Worker.{Worker}
 use Rattle.heap_laws.specs.Composing.{ends_round}
 use Rattle.heap_laws.proofs.Steps.Composites.{rounds_end}
 use Rattle.gc_worker.specs.declared.stage.back.Back.{Back}
-use Rattle.gc_worker.specs.declared.stage.back.Back.TheVariants.{ToAccess, ToPlace, ToSnap, ToScanner}
+use Rattle.gc_worker.specs.declared.stage.back.Back.TheVariants.{ToAccess, ToTarget, ToPlace, ToSnap, ToScanner}
 use Rattle.gc_worker.specs.declared.stage.Stage.TheVariants.{Serves}
 use Rattle.gc_worker.specs.Workers.Fits.{Fits, FitsBack, IsCallerOf, IsEpochOf}
-use Rattle.gc_worker.specs.Steps.Goes.{Is, Goes, StepsSo}
+use Rattle.gc_worker.specs.Steps.Goes.{Is, Goes, StepsSo, TracesEpoch}
 use Rattle.gc_worker.specs.Workers.Held.{Held, header_for}
 use Rattle.gc_worker.specs.Workers.Knows.{knows, own_stock, epoch_at, pass_at}
-use Rattle.gc_worker.specs.Steps.Turned.{turned_round, back_from, won_in, told_round, Silent, Empties}
+use Rattle.gc_worker.specs.Steps.Turned.{turned_round, back_from, won_in, told_round, Silent}
 use Rattle.gc_worker.proofs.Workers.Parts.{with_parts, refit}
 use Rattle.gc_worker.proofs.Workers.GoingOn.{places_known}
 use Rattle.gc_worker.proofs.Workers.GoingBack.{back_fits}
-use Rattle.gc_worker.proofs.Words.RowSteps.{Law, becomes, loads, prepared, becomes_so}
+use Rattle.gc_worker.proofs.Words.RowSteps.{Law, becomes, loads, prepared, traces_so}
 use Rattle.gc_worker.proofs.Stages.Gate.Words.{wants}
 
 -- a round that has more to do goes on
@@ -99,6 +99,7 @@ module _ (c : Configuration) (p : Plain) (s : Stands c p) (k : ℕ) (y : Held) (
 
     same_stock : (b : Back) → IsEpochOf x b d.epoch → FitsBack x b → SameStock
     same_stock (ToAccess a) of_epoch own = ap (λ e. own_stock e y.run) of_epoch
+    same_stock (ToTarget a) of_epoch own = ap (λ e. own_stock e y.run) of_epoch
     same_stock ToPlace of_epoch own = ap (λ e. own_stock e y.run) of_epoch
     same_stock ToSnap of_epoch own = ap (λ e. own_stock e y.run) of_epoch
     same_stock ToScanner of_epoch own = ap (own_stock d.epoch) own ∙ sym (ap (own_stock y.epoch) own)
@@ -118,18 +119,20 @@ module _ (c : Configuration) (p : Plain) (s : Stands c p) (k : ℕ) (y : Held) (
       abbrev done_with : Back → Held
       done_with b = record y { epoch = d.epoch; stage = Serves (round LoadsGate) b }
 
-      knows_back : (b : Back) → knows (back_from (done_with b) b) ≡ with_epoch b
-      knows_back (ToAccess a) = refl
-      knows_back ToPlace = places_known (done_with ToPlace) (header_for (done_with ToPlace))
-      knows_back ToSnap = refl
-      knows_back ToScanner = refl
+      knows_back : (b : Back) → FitsBack x b → knows (back_from (done_with b) b) ≡ with_epoch b
+      knows_back (ToAccess a) fits = λ i. record (with_epoch (ToAccess a)) { traced_seen = fits.2 i }
+      knows_back (ToTarget a) fits = refl
+      knows_back ToPlace fits = places_known (done_with ToPlace) (header_for (done_with ToPlace))
+      knows_back ToSnap fits = refl
+      knows_back ToScanner fits = refl
 
       pub ended_known : knows (back_from done back) ≡ rests (knows x)
-      ended_known = knows_back back ∙ same_worker back
+      ended_known = knows_back back is.fits.stage.1 ∙ same_worker back
 
     -- what it keeps of itself is of the round's epoch too
     caller_done : (b : Back) (caller : Caller) (e : ℕ) → IsEpochOf x b e → IsCallerOf x b caller → IsCallerOf (record x { epoch = e }) b caller
     caller_done (ToAccess a) caller e of_epoch own = subst (λ z. IsCallerOf (record x { epoch = z }) (ToAccess a) caller) (sym of_epoch) own
+    caller_done (ToTarget a) caller e of_epoch own = subst (λ z. IsCallerOf (record x { epoch = z }) (ToTarget a) caller) (sym of_epoch) own
     caller_done ToPlace caller e of_epoch own = subst (λ z. IsCallerOf (record x { epoch = z }) ToPlace caller) (sym of_epoch) own
     caller_done ToSnap caller e of_epoch own = subst (λ z. IsCallerOf (record x { epoch = z }) ToSnap caller) (sym of_epoch) own
     caller_done ToScanner (callers.Scans mutators) e of_epoch own = own
@@ -138,12 +141,14 @@ module _ (c : Configuration) (p : Plain) (s : Stands c p) (k : ℕ) (y : Held) (
 
     epoch_done : (b : Back) (e : ℕ) → IsEpochOf (record x { epoch = e }) b e
     epoch_done (ToAccess a) e = refl
+    epoch_done (ToTarget a) e = refl
     epoch_done ToPlace e = refl
     epoch_done ToSnap e = refl
     epoch_done ToScanner e = tt
 
     back_done : (b : Back) (e : ℕ) → IsEpochOf x b e → FitsBack x b → FitsBack (record x { epoch = e }) b
     back_done (ToAccess a) e of_epoch own = subst (λ z. FitsBack (record x { epoch = z }) (ToAccess a)) (sym of_epoch) own
+    back_done (ToTarget a) e of_epoch own = subst (λ z. FitsBack (record x { epoch = z }) (ToTarget a)) (sym of_epoch) own
     back_done ToPlace e of_epoch own = tt
     back_done ToSnap e of_epoch own = tt
     back_done ToScanner e of_epoch own = own
@@ -178,10 +183,10 @@ module _ (c : Configuration) (p : Plain) (s : Stands c p) (k : ℕ) (y : Held) (
 
     -- it ends, since the epoch is traced by it: what becomes of the worker
     pub ends_marked : (e : Option Entry) (reply : Reply) (h : Ghost) → duty.taken_at (round stage) stage reply ≡ round (Ended Marked) → won_in stage reply ≡ None
-        → Law c p s k x e (knows (back_from done back)) h → Goes c p s k e x reply
-    ends_marked e reply h taken none law = becomes_so c p s k x Empties tt e reply (back_from done back) h
+        → TracesEpoch c p s.ghost k e (back_from done back) h → Goes c p s k e x reply
+    ends_marked e reply h taken none traces = traces_so c p s k x e reply (back_from done back) h
         (ap (λ (r : Round). turned_round x r back (duty.told r)) taken)
-        is.below law (ap (λ (r : Round). told_round (duty.told r)) taken) none (subst IsSoundRound (sym taken) (sound_at (Ended Marked) tt)) ended_fits
+        traces (ap (λ (r : Round). told_round (duty.told r)) taken) none (subst IsSoundRound (sym taken) (sound_at (Ended Marked) tt)) ended_fits
 
     -- it becomes this with nothing, and what the round has read is forgotten
     pub ends_as : (reply : Reply) (result : RoundEnd) (next : Held) → duty.taken_at (round stage) stage reply ≡ round (Ended result)

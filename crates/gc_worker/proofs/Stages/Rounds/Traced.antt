@@ -1,5 +1,5 @@
--- A round finds its epoch traced. A mutator that begins a checkpoint, and a scanner where there are checkpoints, goes on with a round for
--- the one in progress; any other worker goes back.
+-- A round finds its epoch traced. A mutator that waits to load the target of a cell does so. One that begins a checkpoint, and a scanner
+-- where there are checkpoints, goes on with a round for the one in progress; any other worker goes back.
 use Rattle.std.proofs.Common.{◌≡◌, ℕ, ◌+◌, Bool, true, false, None, cond, refl, sym, ap, subst, ◌∙◌}
 use Rattle.plain_state.specs.State.{Plain}
 use Rattle.atom_store.specs.declared.reply.Reply.{Reply}
@@ -15,15 +15,20 @@ use Rattle.heap_laws.specs.Composing.{ends_round}
 use Rattle.heap_laws.proofs.Gate.Reading.{sees_traced}
 use Rattle.heap_laws.proofs.Steps.Composing.{steps_forget}
 use Rattle.heap_laws.proofs.Steps.Forgotten.{rounds_are_forgotten}
+use Rattle.gc_worker.specs.declared.access.Access.{Access}
 use Rattle.gc_worker.specs.declared.stage.back.Back.{Back}
-use Rattle.gc_worker.specs.declared.stage.back.Back.TheVariants.{ToAccess, ToPlace, ToSnap, ToScanner}
+use Rattle.gc_worker.specs.declared.stage.back.Back.TheVariants.{ToAccess, ToTarget, ToPlace, ToSnap, ToScanner}
 use Rattle.gc_worker.specs.declared.stage.goal.Goal.TheVariants.{ForSnap, ForScanner}
+use Rattle.gc_worker.specs.declared.stage.Stage.TheVariants.{Accesses}
 use Rattle.gc_worker.specs.Steps.Goes.{Is, Goes}
+use Rattle.gc_worker.specs.Workers.Fits.{Fits}
 use Rattle.gc_worker.specs.Workers.Held.{Held, at_stage}
-use Rattle.gc_worker.specs.Workers.Knows.{knows, epoch_at, pass_at}
+use Rattle.gc_worker.specs.Workers.Knows.{knows, epoch_at, pass_at, post_back}
 use Rattle.gc_worker.specs.Steps.Turned.{checkpoints, goes_back, turned_round, won_in, told_round}
+use Rattle.atom_store.specs.declared.turn.Turn.TheVariants.{Finished}
+use Rattle.gc_worker.proofs.Workers.Parts.{refit}
 use Rattle.gc_worker.proofs.Workers.Checkpointing.{has_room, round_for_snap, round_of_scanner}
-use Rattle.gc_worker.proofs.Stages.Rounds.Going.{at, done, ends_as, fits_done, goes_back_with, own_stock_same, sound_at}
+use Rattle.gc_worker.proofs.Stages.Rounds.Going.{at, done, ends_as, fits_done, goes_back_with, own_stock_same, rests, round, sound_at}
 use Rattle.gc_worker.proofs.Stages.Rounds.Words.{traced_now, traced_word}
 use Rattle.gc_worker.proofs.Words.RowSteps.{Law, becomes, prepared}
 
@@ -33,42 +38,65 @@ module _ (c : Configuration) (p : Plain) (s : Stands c p) (k : ℕ) (y : Held) (
   Finds = duty.taken_at (record d { stage = stage }) stage reply ≡ record d { stage = Ended Traced }
 
   module _ (taken : Finds) (none : won_in stage reply ≡ None) (still : pass_at stage ≡ None) (own : epoch_at y.epoch (record d { stage = stage }) stage ≡ d.epoch) where
-    -- ---- a mutator that begins a checkpoint has seen it
+    -- ---- a mutator that goes on has seen it
 
-    module _ (is : Is c k (at c p s k y d ToSnap stage)) (traced : traced_now c ≡ d.epoch + 1) where
+    abbrev aware : Worker → Worker
+    aware w = record w { traced_seen = true }
+
+    module _ (back : Back) (is : Is c k (at c p s k y d back stage)) (runs : is_running (post_back back) ≡ true) (traced : traced_now c ≡ d.epoch + 1) where
       abbrev x : Held
-      x = at c p s k y d ToSnap stage
-
-      abbrev ended : Held
-      ended = done c p s k y d ToSnap
-
-      abbrev begun : Held
-      begun = at_stage ended (checkpoints ended ForSnap)
-
-      abbrev aware : Worker → Worker
-      aware w = record w { traced_seen = true }
+      x = at c p s k y d back stage
 
       sees : Law c p s k x None (aware ((team c).worker k)) s.ghost
-      sees = sees_traced (era c) (memory c) (team c) s.ghost k (prepared c p s k x is) (ap (λ (w : Worker). is_running w.post) is.as_known)
+      sees = sees_traced (era c) (memory c) (team c) s.ghost k (prepared c p s k x is) (ap (λ (w : Worker). is_running w.post) is.as_known ∙ runs)
           (traced_word c ∙ (traced ∙ sym (ap (λ (w : Worker). w.epoch + 1) is.as_known ∙ ap (λ (e : ℕ). e + 1) own)))
 
-      knows_begun : knows begun ≡ aware (ends_round (knows x))
-      knows_begun = let stock = own_stock_same c p s k y d ToSnap stage is in λ i. record (knows begun) { epoch = sym own i; stock = stock i; pass = sym still i }
-
-      law : Law c p s k x None (knows begun) s.ghost
-      law =
+      -- it forgets what the round has read
+      law : (next : Held) → knows next ≡ aware (rests (knows x)) → Law c p s k x None (knows next) s.ghost
+      law next known =
           let w = aware ((team c).worker k) in
-          subst (λ (v : Worker). Law c p s k x None v s.ghost) (ap (λ (v : Worker). aware (ends_round v)) is.as_known ∙ sym knows_begun)
+          subst (λ (v : Worker). Law c p s k x None v s.ghost) (ap (λ (v : Worker). aware (ends_round v)) is.as_known ∙ (λ i. record (aware (ends_round (knows x))) { pass = still i }) ∙ sym known)
           (steps_forget (era c) (memory c) (team c) s.ghost k None w (ends_round w) s.ghost sees (rounds_are_forgotten w (ap (λ (v : Worker). v.pass) is.as_known ∙ still)))
 
-      goes : Goes c p s k None x reply
-      goes =
+      goes : (next : Held) → turned_round x (round c p s k y d back (Ended Traced)) back (Finished Traced) ≡ next → knows next ≡ aware (rests (knows x)) → Fits c.pages c.mutators k next
+          → Goes c p s k None x reply
+      goes next comes known fits =
+          becomes c p s k x None reply next s.ghost (ap (λ (r : Round). turned_round x r back (duty.told r)) taken ∙ comes) is.below (law next known)
+          (ap (λ (r : Round). told_round (duty.told r)) taken) none (subst IsSoundRound (sym taken) (sound_at c p s k y d back stage is (Ended Traced) tt)) fits
+
+    -- it loads the target of a cell
+    module _ (a : Access) (is : Is c k (at c p s k y d (ToTarget a) stage)) where
+      abbrev waited : Held
+      waited = done c p s k y d (ToTarget a)
+
+      abbrev loads : Held
+      loads = at_stage waited (Accesses a)
+
+      knows_loads : knows loads ≡ aware (rests (knows (at c p s k y d (ToTarget a) stage)))
+      knows_loads =
+          let stock = own_stock_same c p s k y d (ToTarget a) stage is in
+          λ i. record (knows loads) { epoch = sym own i; stock = stock i; traced_seen = is.fits.stage.1.1 i }
+
+      loads_fits : Fits c.pages c.mutators k loads
+      loads_fits =
+          let f = fits_done c p s k y d (ToTarget a) stage is in refit c.pages c.mutators k waited f (Accesses a) is.fits.end is.fits.side is.fits.task f.stage.1.0
+
+    -- it begins a checkpoint
+    module _ (is : Is c k (at c p s k y d ToSnap stage)) where
+      abbrev asked : Held
+      asked = done c p s k y d ToSnap
+
+      abbrev begun : Held
+      begun = at_stage asked (checkpoints asked ForSnap)
+
+      knows_begun : knows begun ≡ aware (rests (knows (at c p s k y d ToSnap stage)))
+      knows_begun = let stock = own_stock_same c p s k y d ToSnap stage is in λ i. record (knows begun) { epoch = sym own i; stock = stock i }
+
+      begun_fits : Fits c.pages c.mutators k begun
+      begun_fits =
           let f = fits_done c p s k y d ToSnap stage is in
           let task = is.fits.task in
-          becomes c p s k x None reply begun s.ghost
-          (ap (λ (r : Round). turned_round x r ToSnap (duty.told r)) taken) is.below law (ap (λ (r : Round). told_round (duty.told r)) taken) none
-          (subst IsSoundRound (sym taken) (sound_at c p s k y d ToSnap stage is (Ended Traced) tt))
-          (round_for_snap c.pages c.mutators k ended f is.fits.end (has_room ended task.1) is.fits.side task.0 task.1)
+          round_for_snap c.pages c.mutators k asked f is.fits.end (has_room asked task.1) is.fits.side task.0 task.1
 
     -- ---- a scanner
 
@@ -94,6 +122,7 @@ module _ (c : Configuration) (p : Plain) (s : Stands c p) (k : ℕ) (y : Held) (
 
     pub finds_traced : (back : Back) → Is c k (at c p s k y d back stage) → traced_now c ≡ d.epoch + 1 → Goes c p s k None (at c p s k y d back stage) reply
     finds_traced (ToAccess a) is traced = goes_back_with c p s k y d (ToAccess a) stage is reply Traced taken refl refl none still own
+    finds_traced (ToTarget a) is traced = goes (ToTarget a) is refl traced (loads a is) refl (knows_loads a is) (loads_fits a is)
     finds_traced ToPlace is traced = goes_back_with c p s k y d ToPlace stage is reply Traced taken refl refl none still own
-    finds_traced ToSnap is traced = goes is traced
+    finds_traced ToSnap is traced = goes ToSnap is refl traced (begun is) refl (knows_begun is) (begun_fits is)
     finds_traced ToScanner is traced = helps_by is y.layout.checkpoints refl

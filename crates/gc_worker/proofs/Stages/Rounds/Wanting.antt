@@ -24,8 +24,8 @@ use Rattle.heap_state.specs.Worker as workers
 use Rattle.heap_laws.specs.Scanning.Claims.{MayClaim}
 use Rattle.heap_laws.proofs.Steps.Answers.{areas_are_read}
 use Rattle.gc_worker.specs.declared.stage.back.Back.{Back}
-use Rattle.gc_worker.specs.declared.stage.back.Back.TheVariants.{ToAccess, ToPlace, ToSnap, ToScanner}
-use Rattle.gc_worker.specs.Workers.Fits.{IsCallerOf, IsEpochOf}
+use Rattle.gc_worker.specs.declared.stage.back.Back.TheVariants.{ToAccess, ToTarget, ToPlace, ToSnap, ToScanner}
+use Rattle.gc_worker.specs.Workers.Fits.{IsCallerOf, IsEpochOf, IsFaulting}
 use Rattle.gc_worker.specs.Steps.Goes.{Is, Goes, StepsSo}
 use Rattle.gc_worker.specs.Workers.Held.{Held}
 use Rattle.gc_worker.specs.Workers.Knows.{knows}
@@ -118,11 +118,15 @@ module _ (c : Configuration) (p : Plain) (s : Stands c p) (k : ℕ) (y : Held) (
     within = let own = is.fits.stage.0.sound in subst (FitsCaller d.layout.pages) own.stage.1 own.caller
 
     -- a page that a mutator faults on is the board, or in the space that is copied into
-    faulting : (b : Back) → IsCallerOf z b (Faulted w.page) → IsEpochOf z b d.epoch → (w.page ≡ board_page d.layout.pages) ⊎ (duty.to_start d ≤ first_word w.page)
-    faulting (ToAccess a) own of_epoch =
+    in_own_epoch : IsFaulting z w.page → d.epoch ≡ y.epoch → (w.page ≡ board_page d.layout.pages) ⊎ (duty.to_start d ≤ first_word w.page)
+    in_own_epoch own of_epoch =
         let n : y.layout.pages ≡ d.layout.pages = sym (ap (λ (l : Layout). l.pages) is.fits.stage.0.layout) in
         subst (λ m. (w.page ≡ board_page m) ⊎ (space_start m space ≤ first_word w.page)) n
         (subst (λ e. (w.page ≡ board_page y.layout.pages) ⊎ (space_start y.layout.pages (to_space e) ≤ first_word w.page)) (sym of_epoch) own)
+
+    faulting : (b : Back) → IsCallerOf z b (Faulted w.page) → IsEpochOf z b d.epoch → (w.page ≡ board_page d.layout.pages) ⊎ (duty.to_start d ≤ first_word w.page)
+    faulting (ToAccess a) own of_epoch = in_own_epoch own of_epoch
+    faulting (ToTarget a) own of_epoch = in_own_epoch own of_epoch
     faulting ToPlace own of_epoch = absurd own
     faulting ToSnap own of_epoch = absurd own
     faulting ToScanner own of_epoch = absurd own

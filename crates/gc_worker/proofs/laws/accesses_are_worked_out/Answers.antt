@@ -40,3 +40,15 @@ returns-clause-closed_page_is_a_fault c = record { steps = refl; ends = refl }
 pub returns-clause-no_such_value_fails : goal.returns-clause-no_such_value_fails
 unfolding decode tag_of number_word pointer_word decode_page place_of
 returns-clause-no_such_value_fails c = record { steps = refl; ends = refl }
+
+pub returns-clause-target_is_awaited : goal.returns-clause-target_is_awaited
+unfolding decode tag_of number_word pointer_word decode_page place_of
+returns-clause-target_is_awaited c = record { steps = refl; ends = refl }
+
+pub returns-clause-cell_is_not_stored_in : goal.returns-clause-cell_is_not_stored_in
+unfolding decode tag_of number_word pointer_word decode_page place_of
+returns-clause-cell_is_not_stored_in c = record { steps = refl; ends = refl }
+
+pub returns-clause-link_is_no_value : goal.returns-clause-link_is_no_value
+unfolding decode tag_of number_word pointer_word decode_page place_of
+returns-clause-link_is_no_value c = record { steps = refl; ends = refl }

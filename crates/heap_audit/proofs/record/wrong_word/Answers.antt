@@ -12,7 +12,7 @@ use Rattle.heap_audit.specs.Told.{dump_told}
 use Rattle.heap_audit.specs.Walks.{walked}
 use Rattle.heap_audit.proofs.OwnHeaders.{header_in-says}
 use Rattle.heap_audit.proofs.ShownHeads.{shown_kind, shown_record}
-use Rattle.heap_audit.proofs.RecordWords.{all_show, count_wrong, headless_shows, headless_wrong, value_wrong}
+use Rattle.heap_audit.proofs.RecordWords.{all_show, count_wrong, headless_shows, headless_wrong, target_wrong, value_wrong}
 use Rattle.heap_audit.proofs.record.wrong_word.Goals as goal
 
 count_as : (k j : Kind) (x y : ℕ) → k ≡ j → x ≡ y → CountShows k (λ a. x) 0 → CountShows j (λ a. y) 0
@@ -50,6 +50,19 @@ returns-then-not-count_shows-clause-first c =
     count_wrong d p w h c.requires.walked owned r (shown_record d p w h owned r s.0) (shown_kind d p w h owned r s.0) s.0.size s.1
     (λ shows. let q : true ≡ false = sym (c.count_shows.ensures.shows.1 (count_as r.kind c.kind.result (d.table.heap (c.args.found.at + 1)) c.word-2.result (sym c.kind.ensures) (sym c.word-2.ensures) shows)) ∙ c.if-not-count_shows.true in cc)
 
+pub returns-then-not-target_shows-clause-first : goal.returns-then-not-target_shows-clause-first
+returns-then-not-target_shows-clause-first c =
+    let d = dump_told c.args.heap.now in
+    let p = c.args.plain.now in
+    let w = walked c.args.found in
+    let h = c.in-Some.header in
+    let owned = header_in-says (own_header d c.args.found.at) h (sym (c.own_header.ensures ∙ ap (λ x. header_in (own_header_in d.kept (decode x))) c.word.ensures) ∙ c.in-Some.is) in
+    let r = c.in-Some-shown_by_head.wanted.now in
+    let s = c.in-Some-shown_by_head.ensures.shows in
+    let counted = count_as c.kind.result r.kind c.word-2.result (d.table.heap (c.args.found.at + 1)) c.kind.ensures c.word-2.ensures (c.count_shows.ensures.shows.0 c.if-not-count_shows.false) in
+    target_wrong d p w h c.requires.walked owned r (shown_record d p w h owned r s.0) (shown_kind d p w h owned r s.0) s.0.size s.1 counted (subst IsCount c.kind.ensures c.count_shows.ensures.fits)
+    (λ shows. let q : true ≡ false = sym (c.target_shows.ensures.1 shows) ∙ c.if-not-target_shows.true in cc)
+
 pub returns-in_err-x-clause-first : goal.returns-in_err-x-clause-first
 returns-in_err-x-clause-first c =
     let d = dump_told c.args.heap.now in
@@ -60,7 +73,8 @@ returns-in_err-x-clause-first c =
     let r = c.in-Some-shown_by_head.wanted.now in
     let s = c.in-Some-shown_by_head.ensures.shows in
     let counted = count_as c.kind.result r.kind c.word-2.result (d.table.heap (c.args.found.at + 1)) c.kind.ensures c.word-2.ensures (c.count_shows.ensures.shows.0 c.if-not-count_shows.false) in
-    let all = all_show d p w h c.requires.walked owned r (shown_record d p w h owned r s.0) (shown_kind d p w h owned r s.0) s.0.size s.1 counted (subst IsCount c.kind.ensures c.count_shows.ensures.fits) c.in_err-x.ensures.first in
+    let all = all_show d p w h c.requires.walked owned r (shown_record d p w h owned r s.0) (shown_kind d p w h owned r s.0) s.0.size s.1 counted (subst IsCount c.kind.ensures c.count_shows.ensures.fits)
+    (c.target_shows.ensures.0 c.if-not-target_shows.false) c.in_err-x.ensures.first in
     subst (TellsFirst (WordOfRecordShows d p w)) (sym c.from_residual.ensures) all
 
 pub returns-clause-first : goal.returns-clause-first
@@ -74,5 +88,5 @@ returns-clause-first c =
     let s = c.in-Some-shown_by_head.ensures.shows in
     let counted = count_as c.kind.result r.kind c.word-2.result (d.table.heap (c.args.found.at + 1)) c.kind.ensures c.word-2.ensures (c.count_shows.ensures.shows.0 c.if-not-count_shows.false) in
     let wrong = value_wrong d p w h c.requires.walked owned r (shown_record d p w h owned r s.0) (shown_kind d p w h owned r s.0) s.0.size s.1 counted (subst IsCount c.kind.ensures c.count_shows.ensures.fits)
-    c.in_ok-x.x c.in_ok-x.ensures.there c.in_ok-x.ensures.first.0 c.in_ok-x.ensures.first.1 in
+    (c.target_shows.ensures.0 c.if-not-target_shows.false) c.in_ok-x.x c.in_ok-x.ensures.there c.in_ok-x.ensures.first.0 c.in_ok-x.ensures.first.1 in
     subst (λ (k : ℕ). TellsFirst (WordOfRecordShows d p w) (Some (c.in_ok-x.x + k))) (sym (c.values_at.ensures ∙ ap values_at c.kind-2.ensures)) wrong

@@ -3,12 +3,12 @@ use Rattle.std.specs.Prelude.{◌≡◌, ℕ, ◌+◌, ◌*◌, ◌<◌, ◌≤�
 use Rattle.heap_words.specs.Decoded.{PointerWord, decode}
 use Rattle.plain_state.specs.Layout.{is_field, is_raw, values_at}
 use Rattle.plain_state.specs.declared.kind.Kind.{Kind}
-use Rattle.plain_state.specs.declared.kind.Kind.TheVariants.{Mixed}
+use Rattle.plain_state.specs.declared.kind.Kind.TheVariants.{Mixed, Weak}
 use Rattle.space_map.specs.declared.gate_word.GateWord.{GateWord}
 use Rattle.space_map.specs.declared.spaces.TheConstants.{PAGE_WORDS}
 use Rattle.heap_state.specs.Memory.Era.{Era}
 use Rattle.heap_state.specs.Invariant.Ghost.{Leads, Lands}
-use Rattle.heap_state.specs.Worker.{Post, Outside, Stopped, Snapping, Passage, Enter, Park, Request, RequestSnap, Clear, Forwarded, Resume, Leave, Reset, Role, FieldRole, NumberRole, UnknownRole, Access, is_live, is_running, is_asking, is_gone, is_behind}
+use Rattle.heap_state.specs.Worker.{Post, Outside, Stopped, Snapping, Passage, Enter, Park, Request, RequestSnap, Clear, Forwarded, Resume, Leave, Reset, Role, FieldRole, NumberRole, TargetRole, UnknownRole, Access, is_live, is_running, is_asking, is_gone, is_behind}
 
 -- ---- epochs and the gate
 
@@ -61,6 +61,7 @@ pub record Clean (E : Era) (size writer : ℕ → ℕ) (late : Bool) (done : ℕ
 abbrev pub HasRole : Kind → (word : ℕ) → Role → Type 0
 HasRole kind word FieldRole = is_field kind word ≡ true
 HasRole kind word NumberRole = is_raw kind word ≡ true
+HasRole kind word TargetRole = (kind ≡ Weak) × (word ≡ 1)
 HasRole kind word UnknownRole = (count : ℕ) × (kind ≡ Mixed count)
 
 -- the access is to a value of a record of the epoch's space that nobody writes, and its word has this role

@@ -1,5 +1,5 @@
 -- The load of a header by a lone mutator: it is one, and the access goes on by it or is done.
-use Rattle.std.proofs.Common.{◌≡◌, ℕ, ◌+◌, ◌-◌, ◌==◌, Bool, true, false, cond, Result, Ok, Err, Some, sym, ap, subst, ◌∙◌, arith}
+use Rattle.std.proofs.Common.{◌≡◌, ℕ, ◌+◌, ◌-◌, ◌<◌, ◌==◌, Bool, true, false, cond, Result, Ok, Err, Some, sym, ap, subst, ◌∙◌, arith}
 use Rattle.heap_words.specs.declared.kind.Kind.{Kind as HeaderKind}
 use Rattle.heap_words.specs.declared.kind.Kind.TheVariants as headers
 use Rattle.heap_words.specs.Decoded.{decode}
@@ -23,14 +23,16 @@ use Rattle.gc_worker.specs.declared.access.mixed_access.MixedAccess.{MixedAccess
 use Rattle.gc_worker.specs.declared.access.record_access.RecordAccess.{RecordAccess}
 use Rattle.gc_worker.specs.declared.access.record_access.RecordUse.{RecordUse}
 use Rattle.gc_worker.specs.declared.access.record_access.RecordUse.TheVariants as record_uses
-use Rattle.gc_worker.specs.Steps.Access.{Answered, GoesTo, answered, by_kind, counted_by, counting, field_of, may_store, read_header, refusal, refused_by, used_by}
+use Rattle.gc_worker.specs.Steps.Access.{Answered, GoesTo, answered, by_kind, counted_by, counting, field_of, may_store, read_header, used_by}
 use Rattle.gc_worker.specs.Workers.Held.{Held}
 use Rattle.gc_worker.proofs.Stages.Access.Going.{own, at}
 use Rattle.gc_worker.proofs.Stages.Scan.Headers.{heap_word}
+use Rattle.lone_mutator.specs.Bound.{guard_cost}
 use Rattle.lone_mutator.specs.Law.{IsAlone, StepsLower}
+use Rattle.lone_mutator.specs.Potential.{access_left}
 use Rattle.lone_mutator.proofs.Steps.Owed.{loads, wants}
 use Rattle.lone_mutator.proofs.Stages.Access.Looking.{leads}
-use Rattle.lone_mutator.proofs.Stages.Access.Outcomes.{Owed, brings, fails, goes, loads_it, stores_it}
+use Rattle.lone_mutator.proofs.Stages.Access.Outcomes.{Owed, brings, fails, goes, loads_it, stores_it, wait_for}
 
 module _ (c : Configuration) (p : Plain) (s : Stands c p) (y : Held) (r : RecordAccess) (a : IsAlone c (at c p s 0 y (LoadsHeader r))) where
   abbrev Owes : Answered → Type 0
@@ -38,11 +40,17 @@ module _ (c : Configuration) (p : Plain) (s : Stands c p) (y : Held) (r : Record
 
   -- ---- by what is done with the record
 
+  -- the header is read before the wait for a target
+  pays_wait : (role : Role) → 3 + wait_for c p s y (LoadsHeader r) a role + guard_cost < access_left c.pages (own c p s 0 y (LoadsHeader r))
+  pays_wait roles.Field = omega arith
+  pays_wait roles.Number = omega arith
+  pays_wait roles.Target = omega arith
+
   uses_by : (role : Role) (len : ℕ) (usage : RecordUse) → Owes (used_by r role len usage)
   uses_by role len (record_uses.TellsLength into) = brings c p s y (LoadsHeader r) a (table c) into (number_word len) a.remembers.quiet
-  uses_by role len (record_uses.Loads into) = loads_it c p s y (LoadsHeader r) a (field_of r.at 1 role r.value) (omega arith) into (in_record len r.value)
-  uses_by role len (record_uses.Stores new) = stores_it c p s y (LoadsHeader r) a (field_of r.at 1 role r.value) (omega arith) (field_uses.Stores new) (may_store role new (in_record len r.value))
-  uses_by role len (record_uses.Exchanges e) = stores_it c p s y (LoadsHeader r) a (field_of r.at 1 role r.value) (omega arith) (field_uses.Exchanges e) (may_store role e.new (in_record len r.value))
+  uses_by role len (record_uses.Loads into) = loads_it c p s y (LoadsHeader r) a (field_of r.at 1 role r.value) (pays_wait role) into (in_record len r.value)
+  uses_by role len (record_uses.Stores new) = stores_it c p s y (LoadsHeader r) a (field_of r.at 1 role r.value) (pays_wait role) (field_uses.Stores new) (may_store role new (in_record len r.value))
+  uses_by role len (record_uses.Exchanges e) = stores_it c p s y (LoadsHeader r) a (field_of r.at 1 role r.value) (pays_wait role) (field_uses.Exchanges e) (may_store role e.new (in_record len r.value))
 
   -- a mixed record's count is loaded, if it has the value
   count_by : (m : MixedAccess) (b : Bool) → Owes (GoesTo (cond b (LoadsCount m) (LooksAtCount m)))
@@ -59,18 +67,11 @@ module _ (c : Configuration) (p : Plain) (s : Stands c p) (y : Held) (r : Record
   uses_mixed len (record_uses.Stores new) = counts_by (field_uses.Stores new) (in_record len r.value)
   uses_mixed len (record_uses.Exchanges e) = counts_by (field_uses.Exchanges e) (in_record len r.value)
 
-  -- a cell's value is refused
-  refuses_cell : (len : ℕ) (usage : RecordUse) → Owes (refused_by r len usage)
-  refuses_cell len (record_uses.TellsLength into) = brings c p s y (LoadsHeader r) a (table c) into (number_word len) a.remembers.quiet
-  refuses_cell len (record_uses.Loads into) = fails c p s y (LoadsHeader r) a (table c) (refusal (in_record len r.value))
-  refuses_cell len (record_uses.Stores new) = fails c p s y (LoadsHeader r) a (table c) (refusal (in_record len r.value))
-  refuses_cell len (record_uses.Exchanges e) = fails c p s y (LoadsHeader r) a (table c) (refusal (in_record len r.value))
-
   by_head : (head : HeaderKind) (len : ℕ) → Owes (by_kind r head len)
   by_head headers.Fields len = uses_by roles.Field len r.usage
   by_head headers.Raw len = uses_by roles.Number len r.usage
   by_head headers.Mixed len = uses_mixed (len - 1) r.usage
-  by_head headers.Weak len = refuses_cell (len - 1) r.usage
+  by_head headers.Weak len = uses_by roles.Target (len - 1) r.usage
 
   -- ---- the load
 

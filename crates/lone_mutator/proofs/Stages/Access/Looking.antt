@@ -1,5 +1,5 @@
 -- The looks at a page by a lone mutator: it is open, or the epoch isn't traced and a round is made for it.
-use Rattle.std.proofs.Common.{◌≡◌, ◌≢◌, ℕ, ◌+◌, ◌*◌, ◌<◌, ◌≤◌, ◌⊎◌, inl, inr, ◌==◌, Bool, true, false, Some, refl, sym, ap, subst, ◌∙◌, arith}
+use Rattle.std.proofs.Common.{◌≡◌, ◌≢◌, ℕ, ◌+◌, ◌*◌, ◌<◌, ◌≤◌, ◌⊎◌, inl, inr, ◌==◌, Bool, true, false, cond, Some, refl, sym, ap, subst, ◌∙◌, arith}
 use Rattle.std.proofs.lemmas.Bool.{eqb-true, eq-eqb}
 use Rattle.plain_state.specs.State.{Plain}
 use Rattle.plain_state.specs.declared.value.Value.TheVariants.{Reference}
@@ -13,6 +13,8 @@ use Rattle.space_map.specs.PageWord.{age_of}
 use Rattle.space_map.specs.Spaces.{board_page, page_of, to_space}
 use Rattle.space_map.specs.Table.{Page, place_of}
 use Rattle.mmu_model.specs.Access.{access_of}
+use Rattle.fault_duty.specs.declared.caller.Caller.TheVariants.{Faulted}
+use Rattle.fault_duty.specs.Duty as duty
 use Rattle.heap_state.specs.Configuration.{Configuration, Stands, table, era, memory, team}
 use Rattle.heap_state.specs.Worker.{Worker}
 use Rattle.heap_state.specs.Invariant.Parts.Knowledge as parts
@@ -28,19 +30,22 @@ use Rattle.gc_worker.specs.declared.access.field_access.FieldUse.{FieldUse}
 use Rattle.gc_worker.specs.declared.access.field_access.FieldUse.TheVariants as field_uses
 use Rattle.gc_worker.specs.declared.access.mixed_access.MixedAccess.{MixedAccess}
 use Rattle.gc_worker.specs.declared.access.record_access.RecordAccess.{RecordAccess}
-use Rattle.gc_worker.specs.Steps.Access.{GoesTo, Comes, IsHeapAddress, answered, begun, count_at, field_at, left_at, let_through, looked, page_step}
+use Rattle.gc_worker.specs.declared.stage.back.Back.{Back}
+use Rattle.gc_worker.specs.declared.stage.back.Back.TheVariants.{ToAccess, ToTarget}
+use Rattle.gc_worker.specs.declared.stage.Stage.TheVariants.{Serves}
+use Rattle.gc_worker.specs.Steps.Access.{GoesTo, Comes, IsHeapAddress, answered, begun, count_at, field_at, is_at_target, left_at, let_through, looked, page_step}
 use Rattle.gc_worker.specs.Steps.Access as access
 use Rattle.gc_worker.specs.Workers.Fits.{ExecutesAction}
-use Rattle.gc_worker.specs.Workers.Held.{Held}
+use Rattle.gc_worker.specs.Workers.Held.{Held, at_stage}
 use Rattle.gc_worker.specs.Workers.Knows.{known_access, uncounted_access}
 use Rattle.gc_worker.proofs.Words.Eras.{board_is}
 use Rattle.gc_worker.proofs.Stages.Rounds.Words.{page_now, page_says}
 use Rattle.gc_worker.proofs.Stages.Access.Acting.{Held_value, led, names}
 use Rattle.gc_worker.proofs.Stages.Access.Going.{own, at, present, knew_access}
 use Rattle.lone_mutator.specs.Bound.{guard_cost}
-use Rattle.lone_mutator.specs.Law.{IsAlone, StepsLower}
+use Rattle.lone_mutator.specs.Law.{IsAlone, Lowers, StepsLower, saves}
 use Rattle.lone_mutator.specs.Lone.{AccessStands, IsLook}
-use Rattle.lone_mutator.specs.Potential.{access_left}
+use Rattle.lone_mutator.specs.Potential.{access_left, wait_left}
 use Rattle.lone_mutator.proofs.Epochs.Pages.{opened}
 use Rattle.lone_mutator.proofs.Steps.Owed.{loads, wants}
 use Rattle.lone_mutator.proofs.Epochs.Traced.{records_are_open}
@@ -71,7 +76,8 @@ module _ (c : Configuration) (p : Plain) (s : Stands c p) (y : Held) where
 
   module _ (stage : AccessStage) (a : IsAlone c (at c p s 0 y stage)) (look : IsLook stage) (next : AccessStage) (page : ℕ) (asks : access.wanted_at y.layout stage ≡ page_step y.layout page)
       (comes : (word : ℕ) → answered (own c p s 0 y stage) (Value word) ≡ looked page y.epoch word next) (within : page ≤ 2 * c.pages)
-      (traced_open : IsTracedNow → (table c).page page ≡ Open (table c).gate.epoch) (stands : AccessStands (table c) y.layout next) (fewer : left_at next + guard_cost < access_left (own c p s 0 y stage)) where
+      (traced_open : IsTracedNow → (table c).page page ≡ Open (table c).gate.epoch) (stands : AccessStands (table c) y.layout next)
+      (fewer : left_at next + wait_left c.pages next + guard_cost < access_left c.pages (own c p s 0 y stage)) where
     abbrev says : PageWord
     says = (table c).page page
 
@@ -82,23 +88,39 @@ module _ (c : Configuration) (p : Plain) (s : Stands c p) (y : Held) where
     open_of_epoch : (q : ℕ) → age_of ((table c).page q) ≡ (table c).gate.epoch + 1 → (table c).page q ≡ Open (table c).gate.epoch
     open_of_epoch q age = opened (era c) (memory c) (team c) s.ghost s.invariant a.one (ap (λ (w : Worker). w.scan) a.is.as_known) q age
 
-    faults : says ≢ Open y.epoch → Owed c p s y stage a (table c) (Comes (Faults page))
-    faults shut =
-        let closed : says ≢ Open (table c).gate.epoch = (λ is. shut (is ∙ ap Open (sym now))) in
-        let untraced : (table c).traced ≢ (table c).gate.epoch + 1 = (λ traced. closed (traced_open traced)) in
-        let due = due_untraced c.pages (table c).gate.epoch (table c).traced (table c).weak_turn ((table c).area (to_space (table c).gate.epoch)).owed (table c).page untraced in
-        let n = a.is.fits.pages in
-        record {
-          remembers = record {
-            began = λ past. a.remembers.began tt;
-            quiet = a.remembers.quiet;
-            stands = (
-              record { untraced = inr untraced; found = λ wanted is age. (let same : page ≡ wanted = cc in closed (subst (λ (q : ℕ). (table c).page q ≡ Open (table c).gate.epoch) (sym same) (open_of_epoch wanted age))) },
-              look,
-            );
-          };
-          falls = omega (arith, due, n);
-        }
+    -- who is to load a target has found the epoch traced
+    target_traced : is_at_target stage ≡ true → IsTracedNow
+    target_traced target = ((s.invariant.workers 0 a.is.below).seen_traced (ap (λ (w : Worker). w.traced_seen) a.is.as_known ∙ target)).1
+
+    module _ (shut : says ≢ Open y.epoch) where
+      closed : says ≢ Open (table c).gate.epoch
+      closed = λ is. shut (is ∙ ap Open (sym now))
+
+      untraced : (table c).traced ≢ (table c).gate.epoch + 1
+      untraced = λ traced. closed (traced_open traced)
+
+      abbrev Serves_it : Back → Type 0
+      Serves_it back = Lowers c.pages (saves c) (table c) (table c) (at c p s 0 y stage) (at_stage y (Serves (duty.begun y.layout (Faulted page) y.epoch y.number) back))
+
+      faults_by : (target : Bool) → is_at_target stage ≡ target → Serves_it (cond target (ToTarget (own c p s 0 y stage)) (ToAccess (own c p s 0 y stage)))
+      faults_by true target = absurd (untraced (target_traced target))
+      faults_by false other =
+          let due = due_untraced c.pages (table c).gate.epoch (table c).traced (table c).weak_turn ((table c).area (to_space (table c).gate.epoch)).owed (table c).page untraced in
+          let n = a.is.fits.pages in
+          record {
+            remembers = record {
+              began = λ past. a.remembers.began tt;
+              quiet = a.remembers.quiet;
+              stands = (
+                record { untraced = inr untraced; found = λ wanted is age. (let same : page ≡ wanted = cc in closed (subst (λ (q : ℕ). (table c).page q ≡ Open (table c).gate.epoch) (sym same) (open_of_epoch wanted age))) },
+                look,
+              );
+            };
+            falls = omega (arith, due, n);
+          }
+
+      faults : Owed c p s y stage a (table c) (Comes (Faults page))
+      faults = faults_by (is_at_target stage) refl
 
     by_word : Through page y.epoch next says → Owed c p s y stage a (table c) (let_through (access_of page (Some says) y.epoch) next)
     by_word (inl t) = subst (Owed c p s y stage a (table c)) (sym t.1) (goes c p s y stage a next stands fewer)

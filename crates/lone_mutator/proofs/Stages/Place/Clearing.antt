@@ -1,5 +1,6 @@
--- Pages claimed by a lone mutator are cleared and opened, and the count of its record's fields and its header are stored.
-use Rattle.std.proofs.Common.{◌≡◌, ℕ, ◌+◌, ◌<◌, ◌≤◌, ◌==◌, Bool, true, false, cond, Option, Some, nat_lt, refl, sym, ap, subst, arith}
+-- Pages claimed by a lone mutator are cleared and opened, and its record's header is stored; ahead of it the count of a mixed record's fields,
+-- or a cell's target and its link.
+use Rattle.std.proofs.Common.{◌≡◌, ℕ, ◌+◌, ◌*◌, ◌<◌, ◌≤◌, ◌==◌, Bool, true, false, cond, Option, Some, nat_lt, refl, sym, ap, subst, arith}
 use Rattle.plain_state.specs.State.{Plain}
 use Rattle.record_layout.specs.declared.header.Header.{Header}
 use Rattle.record_layout.specs.Layout.{header_says}
@@ -18,7 +19,7 @@ use Rattle.space_map.specs.Table.{Page, HeapWord, SaveOf, place_of}
 use Rattle.space_map.specs.WholeTable.{Behind, whole_place_of}
 use Rattle.alloc_end.specs.declared.new_pages.NewPages.{NewPages}
 use Rattle.alloc_end.specs.declared.place_stage.PlaceStage.{PlaceStage}
-use Rattle.alloc_end.specs.declared.place_stage.PlaceStage.TheVariants.{StoresZero, StoresNew, OpensPage, StoresCount, StoresHeader}
+use Rattle.alloc_end.specs.declared.place_stage.PlaceStage.TheVariants.{StoresZero, StoresNew, OpensPage, StoresCount, StoresTarget, StoresLink, StoresHeader}
 use Rattle.alloc_end.specs.declared.run.Run.{Run}
 use Rattle.alloc_end.specs.Place.{Placing, pages_for, readies, size_of, stores_first, told_at, words_for, writes_on}
 use Rattle.heap_state.specs.Configuration.{Configuration, Stands, table}
@@ -31,7 +32,7 @@ use Rattle.gc_worker.specs.declared.task.Task.{Task}
 use Rattle.gc_worker.specs.declared.stage.write.Write.TheVariants.{OfPlace}
 use Rattle.gc_worker.specs.declared.stage.Stage.{Stage}
 use Rattle.gc_worker.specs.declared.stage.Stage.TheVariants.{Guards, Places}
-use Rattle.gc_worker.specs.Workers.Held.{Held, at_stage, fields_for, making_for}
+use Rattle.gc_worker.specs.Workers.Held.{Held, at_stage, fields_for, making_for, target_for}
 use Rattle.gc_worker.specs.Workers.Saves.{saver_of}
 use Rattle.gc_worker.specs.Steps.Turned.{told_effect, told_place, turned_place, with_record}
 use Rattle.gc_worker.proofs.Words.TableRows.{marks_with_room}
@@ -181,7 +182,7 @@ module _ (c : Configuration) (p : Plain) (s : Stands c p) (y : Held) (run : Run)
     opened_last Weak =
         let fits = a.is.fits.stage.sound.stage in
         let from = fits.1 in let below = fits.2 in let due = due_after in
-        writes_next (OpensPage new) a (first_for Weak) opened_at 1 (λ x. refl) a.remembers.quiet tt (omega (arith, from, below, due))
+        writes_next (OpensPage new) a (first_for Weak) opened_at (3 + 2 * guard_cost) (λ x. refl) a.remembers.quiet tt (omega (arith, from, below, due))
 
     opened_by : (b : Bool) → Opens (cond b (placing c p s y run header (readies y.snap further)) (first_for header.kind))
     opened_by true = next_by (y.snap == 0)
@@ -211,6 +212,39 @@ module _ (c : Configuration) (p : Plain) (s : Stands c p) (y : Held) (run : Run)
         wants c p s (on StoresCount) (Store (place_of c.pages (HeapWord (run.at + 1))) (number_word (fields_for y)))
         (ap (λ n. Some (Store (place_of n (HeapWord (run.at + 1))) (number_word (fields_for y)))) a.is.fits.pages)
         (stores c p s (on StoresCount) (WordIs (run.at + 1) (number_word (fields_for y))) (omega (arith, inside, long, room, n)) tt lowers)
+
+  -- ---- a cell's target, and its link
+
+  module _ (a : IsAlone c (on StoresTarget)) where
+    abbrev targeted : Table
+    targeted = record (table c) { heap = put (table c).heap (run.at + 1) (target_for y) }
+
+    aims : Lowers c.pages (saves c) (table c) targeted (on StoresTarget) (turned_place (on StoresTarget) (placing c p s y run header StoresLink) More)
+    aims = writes_next StoresTarget a (placing c p s y run header StoresLink) targeted (2 + guard_cost) (λ x. refl) a.remembers.quiet tt (omega arith)
+
+    pub stores_target : StepsLower c (on StoresTarget)
+    stores_target =
+        let fits = a.is.fits.stage.sound.stage in
+        let long = fits.1 in let room = fits.2 in
+        let inside = a.is.fits.stage.sound.run.1 in let n = a.is.fits.pages in
+        wants c p s (on StoresTarget) (Store (place_of c.pages (HeapWord (run.at + 1))) (target_for y))
+        (ap (λ n. Some (Store (place_of n (HeapWord (run.at + 1))) (target_for y))) a.is.fits.pages)
+        (stores c p s (on StoresTarget) (WordIs (run.at + 1) (target_for y)) (omega (arith, inside, long, room, n)) tt aims)
+
+  module _ (a : IsAlone c (on StoresLink)) where
+    abbrev linked : Table
+    linked = record (table c) { heap = put (table c).heap (run.at + 2) 0 }
+
+    links : Lowers c.pages (saves c) (table c) linked (on StoresLink) (turned_place (on StoresLink) (placing c p s y run header StoresHeader) More)
+    links = writes_next StoresLink a (placing c p s y run header StoresHeader) linked 1 (λ x. refl) a.remembers.quiet tt (omega arith)
+
+    pub stores_link : StepsLower c (on StoresLink)
+    stores_link =
+        let fits = a.is.fits.stage.sound.stage in
+        let long = fits.1 in let room = fits.2 in
+        let inside = a.is.fits.stage.sound.run.1 in let n = a.is.fits.pages in
+        wants c p s (on StoresLink) (Store (place_of c.pages (HeapWord (run.at + 2))) 0) (ap (λ n. Some (Store (place_of n (HeapWord (run.at + 2))) 0)) a.is.fits.pages)
+        (stores c p s (on StoresLink) (WordIs (run.at + 2) 0) (omega (arith, inside, long, room, n)) tt links)
 
   -- ---- the header
 

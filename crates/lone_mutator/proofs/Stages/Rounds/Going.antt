@@ -18,7 +18,7 @@ use Rattle.heap_state.specs.Memory.Era.{Era, Memory}
 use Rattle.heap_state.specs.Memory.Table.{word_in}
 use Rattle.heap_state.specs.Worker.{Worker, is_running}
 use Rattle.gc_worker.specs.declared.stage.back.Back.{Back}
-use Rattle.gc_worker.specs.declared.stage.back.Back.TheVariants.{ToAccess, ToPlace, ToSnap, ToScanner}
+use Rattle.gc_worker.specs.declared.stage.back.Back.TheVariants.{ToAccess, ToTarget, ToPlace, ToSnap, ToScanner}
 use Rattle.gc_worker.specs.Workers.Fits.{IsCallerOf}
 use Rattle.gc_worker.specs.Workers.Held.{Held}
 use Rattle.gc_worker.specs.Workers.Knows.{epoch_at}
@@ -92,6 +92,9 @@ module _ (c : Configuration) (p : Plain) (s : Stands c p) (y : Held) (d : Round)
     mutator_by (ToAccess access) (callers.Faulted page) stands is mutators e = cc
     mutator_by (ToAccess access) callers.Allocates stands is mutators e = is
     mutator_by (ToAccess access) (callers.Scans other) stands is mutators e = is
+    mutator_by (ToTarget access) (callers.Faulted page) stands is mutators e = cc
+    mutator_by (ToTarget access) callers.Allocates stands is mutators e = cc
+    mutator_by (ToTarget access) (callers.Scans other) stands is mutators e = is
     mutator_by ToPlace (callers.Faulted page) stands is mutators e = is
     mutator_by ToPlace callers.Allocates stands is mutators e = cc
     mutator_by ToPlace (callers.Scans other) stands is mutators e = is

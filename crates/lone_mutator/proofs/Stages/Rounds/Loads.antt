@@ -85,7 +85,7 @@ module _ (c : Configuration) (p : Plain) (s : Stands c p) (y : Held) (d : Round)
         (subst (λ (h : Option ℕ). RoundGoes (era c) (memory c) (round_at (LoadsTraced hindrance)) (LoadsTraced h) (Value (memory c).traced)) (sym found.1)
         (looks.at_traced (era c) (memory c) (round_at (LoadsTraced hindrance)) own untraced found.0)))
 
-    -- or it ends a round of who begins a checkpoint
+    -- or it ends a round of who begins a checkpoint or loads a target
     by_traced : EndsTraced back → ((memory c).traced ≡ (era c).epoch + 1) ⊎ ((memory c).traced ≢ (era c).epoch + 1)
         → StepsLower c (at c p s 0 y d back (LoadsTraced hindrance))
     by_traced ends (inl traced) = ends_traced c p s y d hindrance back ends a traced

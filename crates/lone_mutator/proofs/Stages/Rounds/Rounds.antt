@@ -12,7 +12,7 @@ use Rattle.fault_duty.specs.Duty.{Round, at_stage, taken_at, told_at, left_at, a
 use Rattle.fault_duty.proofs.Lowering.{by_test}
 use Rattle.heap_state.specs.Memory.Era.{Era, Memory}
 use Rattle.gc_worker.specs.declared.stage.back.Back.{Back}
-use Rattle.gc_worker.specs.declared.stage.back.Back.TheVariants.{ToAccess, ToPlace, ToSnap, ToScanner}
+use Rattle.gc_worker.specs.declared.stage.back.Back.TheVariants.{ToAccess, ToTarget, ToPlace, ToSnap, ToScanner}
 use Rattle.lone_mutator.specs.Bound.{round_cost}
 use Rattle.lone_mutator.specs.Potential.{again_left, round_left, round_steps}
 use Rattle.lone_mutator.specs.Rounds.{FoundAt, IsUntraced}
@@ -47,6 +47,7 @@ first_stage-le n page false = by_test (λ s. claim.left_at s ≤ 26) (nat_eq pag
 -- in the midst of a round of an epoch that isn't traced, what the tracing costs, and the round after it
 pub left_again : (n left due : ℕ) → due ≡ left + round_cost n → (back : Back) → round_left left due back ≡ left + again_left n back
 left_again n left due is (ToAccess a) = omega arith
+left_again n left due is (ToTarget a) = omega (arith, is)
 left_again n left due is ToPlace = omega arith
 left_again n left due is ToSnap = omega (arith, is)
 left_again n left due is ToScanner = omega arith

@@ -62,7 +62,7 @@ module _ (c : Configuration) (p : Plain) (s : Stands c p) (y : Held) (d : Round)
     marked : due_in c.pages (with_entry entry t) ≡ 0
     marked = due_traced c.pages t.gate.epoch (d.epoch + 1) t.weak_turn (t.area (to_space t.gate.epoch)).owed t.page (ap (λ e. e + 1) (sym (era_epoch c p s y d back (Traces traced) a)))
 
-    -- who begins a checkpoint makes one more round, which is paid
+    -- who begins a checkpoint or loads a target makes one more round, which is paid
     paid_again : round_left (left_in c.pages t) (due_in c.pages t) back ≡ left_in c.pages t + again_left c.pages back
     paid_again = left_again c.pages (left_in c.pages t) (due_in c.pages t)
         (due_untraced c.pages t.gate.epoch t.traced t.weak_turn (t.area (to_space t.gate.epoch)).owed t.page a.remembers.stands.0.untraced) back

@@ -125,7 +125,7 @@ module _ (c : Configuration) (p : Plain) (s : Stands c p) (y : Held) (d : Round)
         ap (λ (e : ℕ). tracing_left c.pages t.gate.epoch t.traced (e + 1) owed t.page + walk_cost c.pages) same
         ∙ left_turned c.pages t.gate.epoch t.traced t.weak_turn owed t.page a.remembers.stands.0.untraced (λ (taken : t.weak_turn ≡ t.gate.epoch + 1). absurd (omega (arith, early, same, is, taken)))
 
-    -- who begins a checkpoint makes one more round, which is paid before as after
+    -- who begins a checkpoint or loads a target makes one more round, which is paid before as after
     again : (now : ℕ) → round_left (tracing_left c.pages t.gate.epoch t.traced now owed t.page) (due_in c.pages (record t { weak_turn = now })) back
         ≡ tracing_left c.pages t.gate.epoch t.traced now owed t.page + again_left c.pages back
     again now = left_again c.pages (tracing_left c.pages t.gate.epoch t.traced now owed t.page) (due_in c.pages (record t { weak_turn = now }))
