@@ -32,7 +32,8 @@ fn push_value(out: &mut String, value: Value) -> Result<(), NoMemory>
     }
 }
 
-/// So many values from an address on, the first of which words denote as in fields, each after a space.
+/// So many values from an address on, each after a space: the first ones as words denote them in fields,
+/// the others as numbers.
 fn push_values(
     out: &mut String,
     words: &SavedWords,

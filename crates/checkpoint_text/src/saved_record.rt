@@ -34,7 +34,8 @@ impl SavedRecord {
         self.fields.min(u64::from(self.len))
     }
 
-    /// How many of its values, from the first, a word denotes as in a field. A cell's target is one, though it isn't followed.
+    /// How many of its values, from the first, are denoted by their words as in fields. The target of a cell
+    /// is one of these, though it isn't a field.
     pub fn denoted_count(self) -> u64
         ensures { result ≡ denoted_count self }
     {

@@ -25,8 +25,10 @@ pub fn turns_are_taken()
     ensures { TurnsAreTaken }
 {}
 
-/// The exchange of TRACED: who wins it is of the current epoch, and keeps all; the plain state then is one that follows the targets of cells.
-/// These are lost exactly where they weren't reachable at the flip.
+/// The exchange of TRACED: who wins it is of the current epoch, and keeps all. The plain state then is one
+/// in which each cell is as before or empty, and holds what its target shows. If the plain state has kept
+/// the cells of the flip (`KeepsCells`), a target is 0 exactly if it wasn't reachable at the flip, and else
+/// shows what the cell held.
 pub fn epochs_are_traced()
     ensures traced { TracingKeeps }
     ensures lost { LostTargetsAreZero }
