@@ -38,7 +38,7 @@ use Rattle.fault_duty.specs.declared.round_end.RoundEnd.TheVariants.{AllLeft, No
 use Rattle.fault_duty.specs.declared.duty_stage.DutyStage.{DutyStage}
 use Rattle.fault_duty.specs.declared.duty_stage.DutyStage.TheVariants.{LoadsGate, LoadsTraced, LoadsWanted, LoadsFrontFor, LoadsFront, LoadsPage, Claims, EndGate, EndArea, EndPage, EndFilling, EndAreaAgain, Walks, Traces, Ended}
 use Rattle.fault_duty.specs.Duty
-use Rattle.fault_duty.specs.Duty.{Round, at_stage, duty_machine, told, taken_at}
+use Rattle.fault_duty.specs.Duty.{Round, at_stage, duty_machine, taken_at}
 use Rattle.fault_duty.specs.Soundness.{IsSoundRound}
 use Rattle.fault_duty.specs.Theorems.{word_of_row, ClaimsBoard, ClaimsWanted, ClaimsFilling, ClaimsFor}
 

@@ -27,7 +27,7 @@ use Rattle.fault_duty.specs.declared.round_end.RoundEnd.{RoundEnd}
 use Rattle.fault_duty.specs.declared.round_end.RoundEnd.TheVariants.{ScanPage, ScanInPlace, Marked, Traced, AllLeft, NothingNow}
 use Rattle.fault_duty.specs.declared.duty_stage.DutyStage.TheVariants.{LoadsTraced, LoadsFrontFor, LoadsFront, LoadsPage, EndArea, EndPage, EndFilling, EndAreaAgain, Ended}
 use Rattle.fault_duty.specs.Duty
-use Rattle.fault_duty.specs.Duty.{Round, told, told_at, taken_at}
+use Rattle.fault_duty.specs.Duty.{Round, told, told_at}
 use Rattle.fault_duty.specs.Theorems.{IsLater}
 
 -- ---- what a page's word says

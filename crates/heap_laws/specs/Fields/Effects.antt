@@ -1,5 +1,5 @@
 -- What a running mutator's registers, and the words that it accesses, are to the plain machine.
-use Rattle.std.specs.Prelude.{◌≡◌, ◌≢◌, ℕ, ◌+◌, ◌<◌, ⊤, true, length, Option, Some, None, slice_get, false}
+use Rattle.std.specs.Prelude.{◌≡◌, ℕ, ◌+◌, ◌<◌, ⊤, true, length, Option, Some, None, slice_get, false}
 use Rattle.heap_words.specs.declared.kind.Kind.{Kind as HeaderKind}
 use Rattle.heap_words.specs.Decoded.{NumberWord, PointerWord, HeaderWord, decode, number_in}
 use Rattle.heap_words.specs.Word.{number_word}

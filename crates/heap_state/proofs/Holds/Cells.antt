@@ -3,13 +3,12 @@ use Rattle.std.proofs.Common.{◌≡◌, ◌≢◌, ℕ, zero, suc, ◌+◌, ◌
 use Rattle.std.proofs.lemmas.Bool.{cases_eq, cases_lt}
 use Rattle.plain_state.specs.declared.kind.Kind.{Kind}
 use Rattle.plain_state.specs.declared.kind.Kind.TheVariants.{Fields, Raw, Mixed, Weak}
-use Rattle.heap_words.specs.declared.kind.Kind.{Kind as HeaderKind}
 use Rattle.heap_words.specs.declared.kind.Kind.TheVariants as header_kinds
 use Rattle.heap_words.specs.Decoded.{HeaderWord, decode}
 use Rattle.heap_state.specs.Cells.{Ranks, IsCopiedCell, LeadsToRank, HasCopier, Linked, MayCopy, Passing, Chain, passed_from}
-use Rattle.heap_state.specs.Configuration.{Configuration, table, era, memory, team}
+use Rattle.heap_state.specs.Configuration.{Configuration, era, memory, team}
 use Rattle.heap_state.specs.Invariant.Ghost.{Ghost, Leads, header_kind}
-use Rattle.heap_state.specs.Invariant.HoldsOfCells.{IsCopiedAt, WaitsForLink, LeadsThrough, IsChain, HasPassed, Passes, TurnHolds, IsWalkedTarget, CellsHold}
+use Rattle.heap_state.specs.Invariant.HoldsOfCells.{IsCopiedAt, WaitsForLink, LeadsThrough, IsChain, Passes, TurnHolds, IsWalkedTarget, CellsHold}
 use Rattle.heap_state.specs.Invariant.Inductive.{Invariant}
 use Rattle.heap_state.specs.Invariant.Parts.Pages.{Quiet, IsLastOpen}
 use Rattle.heap_state.specs.Memory.Era.{Era, Memory}
