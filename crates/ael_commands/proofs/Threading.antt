@@ -16,6 +16,7 @@ use Rattle.heap_state.specs.Worker.{Worker}
 use Rattle.gc_worker.specs.Workers.Held.{Held}
 use Rattle.gc_worker.specs.Workers.Knows.{knows}
 use Rattle.gc_worker.specs.Laws.Checkpoints.{TellsKept}
+use Rattle.gc_worker.specs.Laws.Lost.{AreEmptyIfLost}
 use Rattle.gc_worker.specs.Laws.Step.{Heap, WorkersStand, layout_of}
 use Rattle.gc_core.specs.Checkpoints.{TellsLastCheckpoint}
 use Rattle.gc_core.specs.Core.{CoreState, layout_by}
@@ -69,6 +70,9 @@ module _ (law : WhatStandsIsTold) (options : RunOptions) (program : List (List I
   stands : WorkersStand heap last flip
   stands = rw (r.plain_is, ← r.flip_is) r.stands
 
+  lost : AreEmptyIfLost heap last flip
+  lost = rw (r.plain_is, ← r.flip_is) r.lost
+
   -- the words say what the plain machine has kept
   checkpoint : options.snap ≡ true → TellsLastCheckpoint program options.turns (order_of r.log) ran.last
   checkpoint snap = record {
@@ -88,7 +92,7 @@ module _ (law : WhatStandsIsTold) (options : RunOptions) (program : List (List I
   pub has_closed : HasClosed options program items (told_by options.limit outputs)
   has_closed = record {
     ran = ran;
-    is = record { made = threaded; acts = r.acts; dump = so.dump; checkpoint = checkpoint; live = so.live };
+    is = record { made = threaded; acts = r.acts; dump = so.dump; checkpoint = checkpoint; live = so.live; lost = lost };
     tells = tells;
     seen = r.tells.mutators ∙ so.seen;
   }

@@ -1,6 +1,6 @@
 -- An instruction that isn't refused may be begun.
 use Rattle.std.proofs.Common.{◌≡◌, ℕ, ◌<◌, ◌+◌, ◌^◌, Bool, true, false, ◌&&◌, Option, Some, None, nat_le, refl, sym, ◌∙◌, leb-false, arith}
-use Rattle.std.specs.Prelude.{IsTrue, if◌then◌else◌}
+use Rattle.std.specs.Prelude.{if◌then◌else◌}
 use Rattle.plain_state.specs.declared.end.End.{End}
 use Rattle.plain_state.specs.State.{Mutator}
 use Rattle.plain_heap.specs.Action.{action}
@@ -11,10 +11,9 @@ use Rattle.gc_worker.specs.declared.task.Task.{Task}
 use Rattle.gc_worker.specs.declared.task.Task.TheVariants.{Calls}
 use Rattle.gc_worker.specs.declared.steps.allocating.Making.{Making}
 use Rattle.gc_worker.specs.Plain.Seen.{making_in, seen}
-use Rattle.gc_worker.specs.Workers.Fits.{FitsCall, MayBegin}
+use Rattle.gc_worker.specs.Workers.Fits.{MayBegin}
 use Rattle.gc_worker.specs.Workers.Held.{Held}
 use Rattle.gc_worker.proofs.Plain.RecordsMade.{made_of, makes_of}
-use Rattle.ael_threads.specs.declared.refused.Refused.{Refused}
 use Rattle.ael_threads.specs.declared.refused.Refused.TheVariants.{Operand, Records}
 use Rattle.ael_threads.specs.declared.refused.TheConstants.{MOST_RECORDS}
 use Rattle.ael_threads.specs.Refusals.{lacks_serial, makes_record, refusal, refusal_by}

@@ -1,5 +1,5 @@
 -- A step that is a load wins no page.
-use Rattle.std.proofs.Common.{◌≡◌, ℕ, true, false, Option, Some, None, refl, sym, ◌∙◌, ap, subst}
+use Rattle.std.proofs.Common.{◌≡◌, ℕ, true, false, Some, None, refl, sym, ◌∙◌, ap}
 use Rattle.atom_store.specs.declared.reply.Reply.{Reply}
 use Rattle.atom_store.specs.declared.reply.Reply.TheVariants as replies
 use Rattle.atom_store.specs.declared.step.Step.{Step}
@@ -14,7 +14,7 @@ use Rattle.gc_worker.specs.declared.stage.Stage.{Stage}
 use Rattle.gc_worker.specs.declared.stage.Stage.TheVariants.{Serves}
 use Rattle.gc_worker.specs.declared.steps.stepped.Stepped.{Stepped}
 use Rattle.gc_worker.specs.declared.steps.stepped.Stepped.TheVariants as stepped
-use Rattle.gc_worker.specs.Steps.Turned.{PageWon, won, won_at, won_by, won_in}
+use Rattle.gc_worker.specs.Steps.Turned.{won, won_at, won_by, won_in}
 use Rattle.gc_worker.specs.Steps.Wanted.{wanted}
 use Rattle.ael_threads.specs.Rounds.{is_write}
 use Rattle.ael_threads.specs.Seats.{Acts, ActsBy, Seated, with_claim}

@@ -19,6 +19,7 @@ use Rattle.gc_worker.specs.declared.stage.Stage.TheVariants.{Gone}
 use Rattle.gc_worker.specs.Laws.Between.{ShowsRegisters}
 use Rattle.gc_worker.specs.Laws.Checkpoints.{TellsKept}
 use Rattle.gc_worker.specs.Laws.Copied.{IsTraced}
+use Rattle.gc_worker.specs.Laws.Lost.{AreEmptyIfLost}
 use Rattle.gc_worker.specs.Workers.Held.{Held}
 use Rattle.gc_worker.specs.Laws.Step.{Heap, WorkersStand, epoch_of, read}
 use Rattle.gc_worker.specs.Plain.Marks.{EachActs}
@@ -92,7 +93,8 @@ pub record TellsRegisters (told : Outputs) (m : ℕ) (q : Mutator) : Type 0 wher
 -- THE CLAUSE OF RUN: all calls of its mutators stand in one legal history. In the order of that history the plain machine executes the
 -- program, each mutator its section from the start, none of its instructions skipped and none executed twice, to its end. The words that
 -- are told, with what all workers hold, which have left, stand for the plain state after it, and registers show the plain ones; what was
--- copied in an epoch that is traced is what was live at its last flip; what the plain machine has kept is the last checkpoint of the order,
+-- copied in an epoch that is traced is what was live at its last flip, and exactly those cells are empty that lost their targets by that
+-- flip, or were empty then; what the plain machine has kept is the last checkpoint of the order,
 -- and if checkpoints can be begun, the words say it; what else is told is what these say. Each flip was for a record, an instruction asking
 -- for one at most of a space all of whose pages are in use, and left the pages in use or doubled them; where a mutator's end is that the
 -- heap is full, it was, by words with which all workers stood at that call, and what was live at the flip before and the room left no more
@@ -112,6 +114,7 @@ pub record Runs (code : List (List Instr)) (config : Config) (told : Outputs) : 
   pub stands : WorkersStand (heap_of (plan_of (length code) config) told.words workers) (after_all (opening code) log) (last_flip (opening code) log)
   pub copied : IsTraced (heap_of (plan_of (length code) config) told.words workers)
       → CopiedIsLive (read (heap_of (plan_of (length code) config) told.words workers)) (last_flip (opening code) log)
+  pub lost : AreEmptyIfLost (heap_of (plan_of (length code) config) told.words workers) (after_all (opening code) log) (last_flip (opening code) log)
   pub kept : config.snap ≡ true → TellsKept (heap_of (plan_of (length code) config) told.words workers) (after_all (opening code) log)
   pub last : IsLastCheckpoint code config.turns (order_of log)
   pub epoch : told.cycles ≡ (tally (opening_tally (plan_of (length code) config)) log).flips

@@ -29,6 +29,7 @@ use Rattle.plain_state.specs.declared.end.End.TheVariants.{HeapFull}
 use Rattle.heap_state.specs.Worker.{is_running}
 use Rattle.gc_worker.specs.Laws.Checkpoints.{TellsKept}
 use Rattle.gc_worker.specs.Laws.Copied.{IsTraced}
+use Rattle.gc_worker.specs.Laws.Lost.{AreEmptyIfLost}
 use Rattle.gc_worker.specs.Laws.Gone.{ScannersAreLast}
 use Rattle.gc_worker.specs.Laws.Step.{FlipsWhereTold, WorkersStand, held_at, read, epoch_of}
 use Rattle.heap_state.specs.Cycles.Copies.{CopiedIsLive}
@@ -147,7 +148,8 @@ abbrev pub BeginsBySnap : Stage → Task → Type 0
 BeginsBySnap stage task = IsBeginningCheckpoint stage × (task ≡ Calls Snap)
 
 -- With these words, and with worker m, which holds x but for its count, all workers stand for the plain state after a legal history
--- that begins with this; what is counted along it fits them.
+-- that begins with this; once the epoch is traced, exactly those cells are empty that lost their targets by its last flip, or were empty
+-- then; and what is counted along it fits them.
 pub record StandWith (plan : Plan) (m : ℕ) (x : Held) (seen : List Entry) (words : List ℕ) : Type 0 where
   pub log : List Entry
   pub legal : IsLegal (first_plain plan) log
@@ -156,6 +158,7 @@ pub record StandWith (plan : Plan) (m : ℕ) (x : Held) (seen : List Entry) (wor
   pub count : length workers ≡ crew plan
   pub here : StandsAs workers m (uncounted x)
   pub stands : WorkersStand (heap_of plan words workers) (after_all (first_plain plan) log) (last_flip (first_plain plan) log)
+  pub lost : AreEmptyIfLost (heap_of plan words workers) (after_all (first_plain plan) log) (last_flip (first_plain plan) log)
   pub tallied : IsTallied plan.least (heap_of plan words workers) (opening_tally plan) log
 
 -- A step of worker m, whose code holds x and takes r. It is the step that x wants, on the words before it, and r is what that step replies;
@@ -340,7 +343,8 @@ pub record Stays (workers : List Held) (log : List Entry) (h : Hand) : Type 0 wh
 
 -- THE CLAUSE OF CLOSE: the calls of all these callers stand in one legal history, each once, of which what each has seen is a beginning;
 -- with what their codes hold the words stand for the plain state after it; if a scanner is gone, all mutators are; what was copied in an
--- epoch that is traced is what was live at the last flip of the history; if checkpoints can be begun, the words are just those of the
+-- epoch that is traced is what was live at the last flip of the history, and exactly those cells are empty that lost their targets by that
+-- flip, or were empty then; if checkpoints can be begun, the words are just those of the
 -- layout, and say what was kept at the last `snap` of the history; the gate's epoch is the number of its flips; each flip was for a record,
 -- and if a call told the heap to be full, what was live at the flip before it and the room left no more of the pages in use than the pages
 -- of records made since then, or made next, by the history or else by the tasks that mutators have begun; that flip came since the look by
@@ -357,6 +361,7 @@ pub record Closes (plan : Plan) (all : List Seated) (words : List ℕ) : Type 0 
   pub stands : WorkersStand (heap_of plan words workers) (after_all (first_plain plan) log) (last_flip (first_plain plan) log)
   pub last : ScannersAreLast (heap_of plan words workers)
   pub copied : IsTraced (heap_of plan words workers) → CopiedIsLive (read (heap_of plan words workers)) (last_flip (first_plain plan) log)
+  pub lost : AreEmptyIfLost (heap_of plan words workers) (after_all (first_plain plan) log) (last_flip (first_plain plan) log)
   pub kept : plan.spaces.checkpoints ≡ true → TellsKept (heap_of plan words workers) (after_all (first_plain plan) log)
   pub last_snap : IsLastOfHistory (first_plain plan) log
   pub epoch : epoch_of plan.spaces.pages words ≡ (tally (opening_tally plan) log).flips

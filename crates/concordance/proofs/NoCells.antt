@@ -4,7 +4,6 @@ use Rattle.std.proofs.lemmas.List.Elements.{All-replicate}
 use Rattle.plain_state.specs.declared.end.End.{End}
 use Rattle.plain_state.specs.declared.value.Identity.{Identity}
 use Rattle.plain_state.specs.declared.value.Value.TheVariants.{Number}
-use Rattle.plain_state.specs.Cells.{is_cell}
 use Rattle.plain_state.specs.State.{Heap, Mutator, Plain, Record, at_serial, made_by, record_of}
 use Rattle.plain_state.specs.Writing.{stored, with_heap}
 use Rattle.mutator_asm.specs.declared.instr.Instr.{Instr}

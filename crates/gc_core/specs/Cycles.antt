@@ -3,7 +3,6 @@
 use Rattle.std.specs.Prelude.{◌≡◌, ℕ, ◌+◌, ◌*◌, ◌-◌, ◌^◌, ◌<◌, ◌≤◌, ◌==◌, ◌&&◌, ◌⊎◌, Bool, List, Option, Some, None, if◌then◌else◌, zero, suc}
 use Rattle.plain_state.specs.declared.end.End.TheVariants as ends
 use Rattle.plain_state.specs.declared.sizes.TheConstants.{PAGE_WORDS}
-use Rattle.plain_state.specs.declared.value.Identity.{Identity}
 use Rattle.plain_state.specs.Reachable.{IsLive}
 use Rattle.plain_state.specs.State.{Plain}
 use Rattle.mutator_asm.specs.declared.instr.Instr.{Instr}
@@ -11,9 +10,8 @@ use Rattle.plain_heap.specs.Order.{Story, story}
 use Rattle.atom_store.specs.declared.step.Step.{Step}
 use Rattle.atom_store.specs.Step.{reply_of}
 use Rattle.heap_state.specs.Cycles.Copies.{CopiedIsLive}
-use Rattle.heap_state.specs.Memory.Walk.{Walked}
 use Rattle.gc_worker.specs.Laws.Copied.{IsTraced}
-use Rattle.gc_worker.specs.Laws.Lost.{IsEmptyIfLost, IsWalkedCell}
+use Rattle.gc_worker.specs.Laws.Lost.{AreEmptyIfLost}
 use Rattle.gc_worker.specs.Laws.Claims.{epoch_of_heap}
 use Rattle.gc_worker.specs.Laws.Cycles.{Grows, words_claimed}
 use Rattle.gc_worker.specs.Laws.Step.{read}
@@ -55,11 +53,8 @@ abbrev pub CyclesKeepWhatIsLive : Type 0
 CyclesKeepWhatIsLive = InEveryRun (λ code config schedule n. KeepsWhatIsLive (run_of code config schedule n).last (story_of code config schedule n).flip)
 
 -- and exactly those cells of its space are empty that lost their targets by the last flip, or were empty then
-abbrev pub AreEmptyIfLost : CoreState → Story → Type 0
-AreEmptyIfLost s story = IsTraced s.heap → (w : Walked) (i : Identity) → IsWalkedCell (read s.heap) w i → IsEmptyIfLost (read s.heap) story.now story.flip w i
-
 abbrev pub CyclesEmptyLostCells : Type 0
-CyclesEmptyLostCells = InEveryRun (λ code config schedule n. AreEmptyIfLost (run_of code config schedule n).last (story_of code config schedule n))
+CyclesEmptyLostCells = InEveryRun (λ code config schedule n. AreEmptyIfLost (run_of code config schedule n).last.heap (story_of code config schedule n).now (story_of code config schedule n).flip)
 
 -- ---- the pages in use
 

@@ -5,6 +5,7 @@ use Rattle.mutator_asm.specs.declared.instr.Instr.{Instr}
 use Rattle.mutator_asm.specs.declared.item.Item.{Item}
 use Rattle.plain_heap.specs.Order.{first_story, plain, story}
 use Rattle.plain_heap.specs.Print.{Seen, print_of, order_line, plain_seen}
+use Rattle.gc_worker.specs.Laws.Lost.{AreEmptyIfLost}
 use Rattle.gc_worker.specs.Plain.Marks.{EachActs}
 use Rattle.gc_core.specs.Checkpoints.{TellsLastCheckpoint}
 use Rattle.gc_core.specs.Cycles.{KeepsWhatIsLive}
@@ -48,13 +49,15 @@ IsMadeInManner (Threaded options) program items ran = IsThreaded options program
 
 -- This is what a run of the program came to. Each mark of its order acts: each mutator's marks execute its program from the start, none
 -- skipped and none twice. A dump represents what the plain machine comes to that executes the order. If checkpoints can be begun, the words
--- of the core say the last one of the order. What was copied in a traced epoch, and is told as live, was live at the last exchange of the spaces.
+-- of the core say the last one of the order. What was copied in a traced epoch, and is told as live, was live at the last exchange of the
+-- spaces. Exactly those cells of such an epoch are empty that lost their targets by that exchange, or were empty then.
 pub record IsRunOf (manner : Manner) (program : List (List Instr)) (items : List Item) (ran : Ran) : Type 0 where
   pub made : IsMadeInManner manner program items ran
   pub acts : EachActs program (options_by manner).turns (first_story program) ran.order
   pub dump : IsTrueDump ran.last (plain program (options_by manner).turns ran.order)
   pub checkpoint : (options_by manner).snap ≡ true → TellsLastCheckpoint program (options_by manner).turns ran.order ran.last
   pub live : KeepsWhatIsLive ran.last (story program (options_by manner).turns ran.order).flip
+  pub lost : AreEmptyIfLost ran.last.heap (plain program (options_by manner).turns ran.order) (story program (options_by manner).turns ran.order).flip
 
 -- ---- what is printed
 

@@ -18,8 +18,8 @@ use crate::runs::mutators::{push_mutators, verdict};
 use crate::runs::orders::shown_order;
 use crate::runs::scheduled::run_by_schedule;
 use gc_core::{
-    Core, OpenError, checkpoints_are_told, cycles_keep_what_is_live, full_heaps_are_filled,
-    large_heaps_are_never_full, runs_follow,
+    Core, OpenError, checkpoints_are_told, cycles_empty_lost_cells, cycles_keep_what_is_live,
+    full_heaps_are_filled, large_heaps_are_never_full, runs_follow,
 };
 use mutator_asm::Program;
 use plain_heap::{Mark, NoMemory};
@@ -60,6 +60,7 @@ pub fn sim(alloc: Global, program: &Program, options: SimOptions) -> Result<Answ
     runs_follow();
     checkpoints_are_told();
     cycles_keep_what_is_live();
+    cycles_empty_lost_cells();
     full_heaps_are_filled();
     large_heaps_are_never_full();
 

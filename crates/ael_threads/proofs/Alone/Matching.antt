@@ -1,5 +1,5 @@
 -- Two states in which mutator m is the same, which shares nothing: a step of it, and one of another in one of the states.
-use Rattle.std.proofs.Common.{◌≡◌, ◌≢◌, ℕ, zero, suc, ◌<◌, ◌⊎◌, inl, inr, true, false, List, [], length, replicate, Some, None, Result, Ok, Err, slice_get, slice_set, get_or, refl, ap, sym, ◌∙◌, subst, length-set, ⊎_elim}
+use Rattle.std.proofs.Common.{◌≡◌, ◌≢◌, ℕ, zero, suc, ◌<◌, ◌⊎◌, inl, inr, true, false, List, [], length, replicate, Some, Result, Ok, Err, slice_get, slice_set, get_or, refl, ap, sym, ◌∙◌, subst, length-set, ⊎_elim}
 use Rattle.std.specs.List.{All}
 use Rattle.std.specs.Result.{IfOk}
 use Rattle.std.proofs.lemmas.Bool.{cases_eq}

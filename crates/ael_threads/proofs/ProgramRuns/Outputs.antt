@@ -30,6 +30,7 @@ use Rattle.gc_worker.specs.declared.stage.Stage.TheVariants.{Gone}
 use Rattle.gc_worker.specs.Laws.Between.{IsSo}
 use Rattle.gc_worker.specs.Laws.Checkpoints.{TellsKept}
 use Rattle.gc_worker.specs.Laws.Copied.{IsTraced}
+use Rattle.gc_worker.specs.Laws.Lost.{AreEmptyIfLost}
 use Rattle.gc_worker.specs.Workers.Held.{Held}
 use Rattle.gc_worker.specs.Workers.Knows.{copy_in, knows}
 use Rattle.gc_worker.specs.Laws.Step.{Heap, WorkersStand, held_at, nobody, read}
@@ -326,6 +327,7 @@ module _ (code : List (List Instr)) (config : Config) (t : TableId) (ms : List S
           count = c.count;
           stands = subst (λ (z : Plain × List ℕ). WorkersStand (heap_of plan_here z.1 c.workers) (after_all z.0 c.log) (last_flip z.0 c.log)) (λ i. (from i, sym same i)) c.stands;
           copied = subst (λ (z : Plain × List ℕ). IsTraced (heap_of plan_here z.1 c.workers) → CopiedIsLive (read (heap_of plan_here z.1 c.workers)) (last_flip z.0 c.log)) (λ i. (from i, sym same i)) c.copied;
+          lost = subst (λ (z : Plain × List ℕ). AreEmptyIfLost (heap_of plan_here z.1 c.workers) (after_all z.0 c.log) (last_flip z.0 c.log)) (λ i. (from i, sym same i)) c.lost;
           kept = λ room. subst (λ (z : Plain × List ℕ). TellsKept (heap_of plan_here z.1 c.workers) (after_all z.0 c.log)) (λ i. (from i, sym same i)) (c.kept room);
           last = orders_keep_the_last_checkpoint code config.turns (order_of c.log);
           all_words = all;

@@ -33,6 +33,7 @@ use Rattle.gc_worker.proofs.Between.Last.{scanners_last_with, scanners_stay_last
 use Rattle.gc_worker.proofs.Between.Readying.{readying_stands}
 use Rattle.gc_worker.proofs.Between.Standing.{what_stands_is_so}
 use Rattle.gc_worker.proofs.Workers.ApartFromCount.{counted_fit, counts_are_apart}
+use Rattle.gc_worker.proofs.Plain.LostCells.{lost_cells_are_empty}
 use Rattle.gc_worker.proofs.StepKeeps.{steps_keep}
 use Rattle.gc_worker.proofs.StoriesKeep.{stories_keep}
 use Rattle.gc_worker.specs.declared.calls.call.Call.{Call}
@@ -177,6 +178,9 @@ module _ (plan : Plan) (id : ℕ) (was : Hand) (x : Held) (others : List Hand) (
   readied : WorkersStand (heap_of plan s.words workers1) p o
   readied = readying_stands (heap_of plan s.words b.workers) p o m y b.story.stands inside (subst (λ (w : Held). Readies n plan.mutators m w y) (sym old_is) (follows.readies count))
 
+  readied_story : StoryStands (heap_of plan s.words workers1) p o
+  readied_story = record { stands = readied; cells = b.story.cells }
+
   apart : CountsApart count x
   apart = counts_are_apart n plan.mutators m count x follows.fits
 
@@ -221,7 +225,7 @@ module _ (plan : Plan) (id : ℕ) (was : Hand) (x : Held) (others : List Hand) (
   story' : StoryStands heap' p' (last_flip (first_plain plan) log')
   story' = subst (λ (w : Plain × Plain). StoryStands heap' w.0 w.1)
       (λ i. ((ap (story_told p o m) tells ∙ sym (after_more (first_plain plan) o b.log m t)) i, (ap (at_flip p o) tells ∙ sym (flip_more (first_plain plan) (first_plain plan) o b.log m t)) i))
-      (stories_keep (heap_of plan s.words workers1) p o m y q (record { stands = readied; cells = b.story.cells }) inside1 (get_or-set_same b.workers m y nobody inside) (apart.wants ∙ want))
+      (stories_keep (heap_of plan s.words workers1) p o m y q readied_story inside1 (get_or-set_same b.workers m y nobody inside) (apart.wants ∙ want))
 
   abbrev stands' : WorkersStand heap' p' (last_flip (first_plain plan) log')
   stands' = story'.stands
@@ -428,6 +432,7 @@ module _ (plan : Plan) (id : ℕ) (was : Hand) (x : Held) (others : List Hand) (
     count = count1;
     here = record { held = y; is = set_here b.workers m y inside; shown = refl };
     stands = readied;
+    lost = lost_cells_are_empty (heap_of plan s.words workers1) p o readied_story;
     tallied = readied_tallied;
   }
 
@@ -440,6 +445,7 @@ module _ (plan : Plan) (id : ℕ) (was : Hand) (x : Held) (others : List Hand) (
     count = count2;
     here = has'.state;
     stands = stands';
+    lost = lost_cells_are_empty heap' p' (last_flip (first_plain plan) log') story';
     tallied = tallied';
   }
 

@@ -49,6 +49,7 @@ module _ (b c : Seated) (r : Reply) (s : Stepped) (h : ActsBy b r s c) where
         count = there.count;
         here = there.here;
         stands = there.stands;
+        lost = there.lost;
         tallied = there.tallied;
       } in
       record {

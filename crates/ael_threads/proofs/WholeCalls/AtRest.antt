@@ -1,8 +1,6 @@
 -- A caller that rests: it looks at the gate and has no task, or is gone.
-use Rattle.std.proofs.Common.{◌≡◌, ◌<◌, Bool, true, false, Option, Some, None, List, slice_get, length, refl, sym, ◌∙◌, ap, subst, arith, nat_lt, lt-ltb}
+use Rattle.std.proofs.Common.{◌≡◌, ◌<◌, Bool, true, false, Option, Some, None, List, slice_get, refl, sym, ◌∙◌, ap, arith, nat_lt, lt-ltb}
 use Rattle.std.specs.Option.{is_some}
-use Rattle.plain_state.specs.declared.end.End.{End}
-use Rattle.plain_state.specs.State.{Mutator}
 use Rattle.gc_worker.specs.declared.stage.Stage.{Stage}
 use Rattle.gc_worker.specs.declared.stage.Stage.TheVariants.{Gone, Looks, Serves}
 use Rattle.gc_worker.specs.declared.stage.back.Back.TheVariants.{ToScanner}
@@ -23,7 +21,7 @@ use Rattle.ael_threads.specs.Readers.{IsThere}
 use Rattle.ael_threads.specs.Seats.{Acts, Heads, IsPresent, Seated, ShowsSeen, first_number, plain_after_seen}
 use Rattle.ael_threads.proofs.WholeCalls.Acts.{heads_fit}
 use Rattle.ael_threads.proofs.WholeCalls.AfterSnap.{stand_by}
-use Rattle.ael_threads.proofs.WorkerSeats.Shown.{mutator_at, none_of}
+use Rattle.ael_threads.proofs.WorkerSeats.Shown.{mutator_at}
 
 -- ---- what it has
 

@@ -7,8 +7,10 @@ use Rattle.std.proofs.lemmas.List.{length-map, length-replicate}
 use Rattle.heap_laws.specs.Opening.{opening_mutator}
 use Rattle.gc_worker.specs.declared.calls.entry.Entry.{Entry}
 use Rattle.gc_worker.specs.Workers.Held.{Held}
-use Rattle.gc_worker.specs.Laws.Step.{WorkersStand, epoch_of}
+use Rattle.gc_worker.specs.Laws.Step.{epoch_of}
+use Rattle.gc_worker.specs.Laws.Stories.{StoryStands}
 use Rattle.gc_worker.proofs.Between.Pages.Copied.{copied_was_live}
+use Rattle.gc_worker.proofs.Plain.LostCells.{lost_cells_are_empty}
 use Rattle.gc_worker.proofs.Saving.Won.{checkpoints_are_kept}
 use Rattle.space_map.specs.Table.{whole_length}
 use Rattle.ael_threads.specs.declared.view.WonClaim.{WonClaim}
@@ -58,8 +60,9 @@ pub closes : (plan : Plan) (id : ℕ) (t : TableId) (all : List Seated) (one : S
 closes plan id t all one words xs g fits many end =
     let s = end.0 in
     let b = end.1.0 in
-    let stands : WorkersStand (heap_of plan words b.workers) (after_all (first_plain plan) b.log) (last_flip (first_plain plan) b.log) =
-    subst (λ (z : List ℕ). WorkersStand (heap_of plan z b.workers) (after_all (first_plain plan) b.log) (last_flip (first_plain plan) b.log)) end.2 b.story.stands in
+    let story : StoryStands (heap_of plan words b.workers) (after_all (first_plain plan) b.log) (last_flip (first_plain plan) b.log) =
+    subst (λ (z : List ℕ). StoryStands (heap_of plan z b.workers) (after_all (first_plain plan) b.log) (last_flip (first_plain plan) b.log)) end.2 b.story in
+    let stands = story.stands in
     let f = b.seats id one.knows end.1.1 in
     let whole : length words ≡ whole_length plan.spaces = many ∙ (fits.1 ∙ ap (λ (z : Plan). whole_length z.spaces) (f.same fits.0)) in
     let sized = tallied_sizes plan s.words b.workers b.log b.tallied in
@@ -72,6 +75,7 @@ closes plan id t all one words xs g fits many end =
       stands = stands;
       last = b.last;
       copied = copied_was_live (heap_of plan words b.workers) (after_all (first_plain plan) b.log) (last_flip (first_plain plan) b.log) stands;
+      lost = lost_cells_are_empty (heap_of plan words b.workers) (after_all (first_plain plan) b.log) (last_flip (first_plain plan) b.log) story;
       kept = λ room. record { counted = stands.stands.size; whole = whole; says = checkpoints_are_kept (heap_of plan words b.workers) (after_all (first_plain plan) b.log) (last_flip (first_plain plan) b.log) stands room };
       last_snap = histories_keep_the_last_checkpoint (first_plain plan) b.log refl;
       epoch = subst (λ (z : List ℕ). epoch_of plan.spaces.pages z ≡ (tally (opening_tally plan) b.log).flips) end.2 b.tallied.counts.epoch;

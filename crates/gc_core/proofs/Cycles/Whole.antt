@@ -179,10 +179,10 @@ cycles_keep_what_is_live code items config schedule n program size turns few =
     keeps_what_is_live copied_was_live (run_of code config schedule n).last now.now now.flip law.stands.stands
 
 pub cycles_empty_lost_cells : CyclesEmptyLostCells
-cycles_empty_lost_cells code items config schedule n program size turns few traced w i cell =
+cycles_empty_lost_cells code items config schedule n program size turns few =
     let law = law code items config schedule n program size turns few in
     let now : Story = story_of code config schedule n in
-    lost_cells_are_empty (run_of code config schedule n).last.heap now.now now.flip w i law.stands traced cell
+    lost_cells_are_empty (run_of code config schedule n).last.heap now.now now.flip law.stands
 
 pub sizes_are_between : SizesAreBetween
 sizes_are_between code items config schedule n program size turns few = between code items config schedule n program size turns few

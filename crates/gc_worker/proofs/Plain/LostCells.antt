@@ -127,4 +127,4 @@ module _ (h : Heap) (p o : Plain) (w : Walked) (i : Identity) (story : StoryStan
   empty_if_lost = record { empty = (lost_is, is_empty); kept = kept; made = made; now = has value.0 value.1 ∙ sym value.1 }
 
 pub lost_cells_are_empty : LostCellsAreEmpty
-lost_cells_are_empty h p o w i story traced cell = empty_if_lost h p o w i story traced cell
+lost_cells_are_empty h p o story traced w i cell = empty_if_lost h p o w i story traced cell

@@ -32,7 +32,9 @@ pub record IsEmptyIfLost (c : Configuration) (p o : Plain) (w : Walked) (i : Ide
   pub made : cell_of o.heap i ≡ None → (j : Identity) × (denoted c (target_word c w) ≡ Some (Reference j))
   pub now : denoted c (target_word c w) ≡ cell_of p.heap i
 
--- once the epoch is traced it is so of each cell in its space, by the plain state at its flip
+-- once the epoch is traced it is so of each cell in its space, by the plain state o at its flip and the plain state p now
+abbrev pub AreEmptyIfLost : Heap → (p o : Plain) → Type 0
+AreEmptyIfLost h p o = IsTraced h → (w : Walked) (i : Identity) → IsWalkedCell (read h) w i → IsEmptyIfLost (read h) p o w i
+
 abbrev pub LostCellsAreEmpty : Type 0
-LostCellsAreEmpty = (h : Heap) (p o : Plain) (w : Walked) (i : Identity) → StoryStands h p o → IsTraced h → IsWalkedCell (read h) w i
-    → IsEmptyIfLost (read h) p o w i
+LostCellsAreEmpty = (h : Heap) (p o : Plain) → StoryStands h p o → AreEmptyIfLost h p o

@@ -45,7 +45,7 @@ use Rattle.page_slots.specs.declared.claim_stage.ClaimStage.TheVariants as claim
 use Rattle.page_slots.specs.Claim.{Claiming}
 use Rattle.heap_laws.specs.Allocation.Records.{stored_ahead}
 use Rattle.heap_laws.specs.Copying.{begun}
-use Rattle.heap_state.specs.Worker.{Worker, Post, Outside, Running, Stopped, Flipping, Snapping, Passage, Enter, Park, Request, RequestSnap, Clear, Forwarded, Resume, Leave, GateStep, Reset, Stock, SeenHeader, SeenRecord, Role, FieldRole, NumberRole, UnknownRole, Origin, Register, Scanned, Quest, Copy, Scan, Round, Claim, Look, LastLook, Linking, Visit, Pass, Begins, At, Done}
+use Rattle.heap_state.specs.Worker.{Worker, Post, Outside, Running, Stopped, Flipping, Snapping, Passage, Enter, Park, Request, RequestSnap, Clear, Forwarded, Resume, Leave, GateStep, Reset, Stock, SeenHeader, SeenRecord, UnknownRole, Origin, Register, Scanned, Quest, Copy, Scan, Round, Claim, Look, LastLook, Linking, Visit, Pass, Begins, At, Done}
 use Rattle.heap_state.specs.Worker as workers
 use Rattle.heap_state.specs.Worker.{Access}
 use Rattle.gc_worker.specs.declared.access.access_stage.AccessStage.{AccessStage}

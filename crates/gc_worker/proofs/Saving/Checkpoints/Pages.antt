@@ -32,7 +32,7 @@ use Rattle.page_saves.specs.declared.save_state.SaveState.{SaveState}
 use Rattle.page_saves.specs.declared.save_state.SaveState.TheVariants.{Waits, Copying, Kept, Past}
 use Rattle.page_saves.specs.Save as save
 use Rattle.page_saves.specs.SaveRound as save_round
-use Rattle.page_saves.specs.SaveRound.{SavingRound, after_pages, looked_at_page, looked_at_save, looked_by, page_after, passed_page, to_page}
+use Rattle.page_saves.specs.SaveRound.{SavingRound, after_pages, looked_at_save, looked_by, page_after, passed_page, to_page}
 use Rattle.page_saves.specs.SaveState.{state_of, state_within}
 use Rattle.page_saves.specs.SoundRound.{IsRoundPage}
 use Rattle.page_saves.proofs.Pages.{to_page-le}

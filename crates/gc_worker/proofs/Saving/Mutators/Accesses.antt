@@ -29,7 +29,7 @@ use Rattle.gc_worker.specs.declared.stage.after.After.TheVariants as afters
 use Rattle.gc_worker.specs.declared.stage.back.Back.TheVariants.{ToAccess, ToTarget}
 use Rattle.gc_worker.specs.declared.stage.Stage.TheVariants.{Accesses, Serves}
 use Rattle.gc_worker.specs.declared.task.Task.{Task}
-use Rattle.gc_worker.specs.Steps.Access.{Answered, GoesTo, WaitsAt, Comes, IsAccessOf, answered, board_at, count_at, field_at, goes_by, turn_by, writes_on}
+use Rattle.gc_worker.specs.Steps.Access.{Answered, GoesTo, WaitsAt, Comes, IsAccessOf, answered, board_at, field_at, goes_by, turn_by, writes_on}
 use Rattle.gc_worker.specs.Steps.Access as access
 use Rattle.gc_worker.specs.Steps.Turned.{Silent, ended, guards_access, loads, serves_target, told_access, told_effect, told_end, turned_access, went_on}
 use Rattle.gc_worker.specs.Steps.Wanted.{wanted}

@@ -27,7 +27,7 @@ use Rattle.gc_worker.specs.declared.access.field_access.FieldAccess.{FieldAccess
 use Rattle.gc_worker.specs.declared.access.field_access.FieldExchange.{FieldExchange}
 use Rattle.gc_worker.specs.declared.access.field_access.FieldUse.TheVariants as field_uses
 use Rattle.gc_worker.specs.declared.access.field_access.Role.{Role}
-use Rattle.gc_worker.specs.Steps.Access.{IsFieldOfAction, field_at, field_of, is_target, kind_of, role_of, word_as}
+use Rattle.gc_worker.specs.Steps.Access.{IsFieldOfAction, field_at, field_of, kind_of, role_of, word_as}
 use Rattle.gc_worker.specs.Workers.Fits.{ExecutesAction}
 use Rattle.gc_worker.specs.Steps.Goes.{Is, Goes, StepsSo}
 use Rattle.gc_worker.specs.Steps.Turned as turned

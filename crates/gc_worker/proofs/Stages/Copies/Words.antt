@@ -23,7 +23,7 @@ use Rattle.heap_laws.specs.Copying.{IsNextWord, copying}
 use Rattle.heap_laws.proofs.Copying.Laws.{words_are_copied, old_words_are_loaded, crossings_are_stored}
 use Rattle.gc_worker.specs.Steps.Goes.{Is, Goes, StepsSo}
 use Rattle.gc_worker.specs.Workers.Held.{Held}
-use Rattle.gc_worker.specs.Workers.Knows.{knows, copy_at, found_in, linking_at, moving}
+use Rattle.gc_worker.specs.Workers.Knows.{knows, copy_at, found_in, moving}
 use Rattle.gc_worker.specs.Steps.Wanted.{wanted}
 use Rattle.gc_worker.proofs.Stages.Copies.Hosts.{Host, at, machine_at, wants_its, tells_nothing, wins_nothing, turns, takes, is_sound, has_pages, with_sound, refits, copy_is, quest_with, quest_is, linking_is, nothing_to_link, becomes_known}
 use Rattle.gc_worker.proofs.Stages.Gate.Words.{wants}

@@ -15,7 +15,7 @@ use Rattle.fault_duty.specs.declared.round_end.RoundEnd.TheVariants.{AllLeft, No
 use Rattle.fault_duty.specs.Duty as duty
 use Rattle.fault_duty.specs.Duty.{Round}
 use Rattle.fault_duty.specs.Soundness as duty_sound
-use Rattle.fault_duty.specs.Soundness.{IsSoundRound, IsHindrance, Forbids, BehindGate, FitsDutyStage}
+use Rattle.fault_duty.specs.Soundness.{IsSoundRound, IsHindrance, BehindGate}
 use Rattle.heap_state.specs.Configuration.{Configuration, Stands, table, era, memory, team}
 use Rattle.heap_state.specs.Worker.{Worker, is_mutator}
 use Rattle.heap_laws.specs.Gate as gate_laws

@@ -19,7 +19,7 @@ use Rattle.fault_duty.specs.declared.duty_stage.DutyStage.TheVariants.{LoadsFron
 use Rattle.fault_duty.specs.Duty as duty
 use Rattle.fault_duty.specs.Duty.{Round}
 use Rattle.fault_duty.specs.Soundness as duty_sound
-use Rattle.fault_duty.specs.Soundness.{FitsFront, IsChoice, PageInScan, FitsDutyStage}
+use Rattle.fault_duty.specs.Soundness.{FitsFront, IsChoice, PageInScan}
 use Rattle.fault_duty.proofs.Lowering.{to_start-le, to_start-to_page}
 use Rattle.fault_duty.proofs.RoundEnds.{says_state}
 use Rattle.heap_state.specs.Configuration.{Configuration, Stands, table, era, memory, team}

@@ -1,6 +1,6 @@
 -- The walk over the chain of copied cells, which a round makes before it exchanges TRACED: the turn is taken, WEAK is loaded, and of each
 -- cell its target, what stands where that leads, and its link; and a target that leads into the old space is replaced.
-use Rattle.std.proofs.Common.{◌≡◌, ◌≢◌, ℕ, ◌+◌, ◌-◌, ◌*◌, ◌/◌, ◌%◌, ◌^◌, ◌<◌, ◌≤◌, ◌⊎◌, ◌==◌, ◌||◌, inl, inr, Bool, true, false, Option, Some, None, nat_lt, refl, sym, ap, subst, ◌∙◌, arith, ⊎_elim, if◌then◌else◌}
+use Rattle.std.proofs.Common.{◌≡◌, ◌≢◌, ℕ, ◌+◌, ◌-◌, ◌*◌, ◌^◌, ◌<◌, ◌≤◌, ◌⊎◌, inl, inr, Bool, true, false, Option, Some, None, nat_lt, refl, sym, ap, subst, ◌∙◌, arith, ⊎_elim}
 use Rattle.std.specs.Prelude.{nat_le}
 use Rattle.std.proofs.lemmas.Bool.{and_parts, leb-true, ltb-true, ltb-false, le-leb, lt-ltb, eq-eqb, ne_eqb}
 use Rattle.plain_state.specs.State.{Plain}
@@ -8,7 +8,6 @@ use Rattle.atom_store.specs.declared.reply.Reply.{Reply}
 use Rattle.atom_store.specs.declared.reply.Reply.TheVariants.{Value, Done, Won, Lost}
 use Rattle.atom_store.specs.declared.step.Step.TheVariants.{Load, Store, Exchange}
 use Rattle.atom_store.specs.declared.turn.Turn.TheVariants.{More}
-use Rattle.heap_words.specs.declared.kind.Kind.{Kind}
 use Rattle.heap_words.specs.Decoded.{Decoded, NumberWord, PointerWord, HeaderWord, ForwardWord, BusyWord, Malformed, decode}
 use Rattle.heap_words.specs.Word.{number_word, pointer_word}
 use Rattle.heap_words.proofs.Decoding.{decode-number_word, decode-pointer_word}
@@ -19,12 +18,11 @@ use Rattle.cell_walk.specs.declared.walk_end.WalkEnd.TheVariants.{Passed, Anothe
 use Rattle.cell_walk.specs.declared.walk_stage.WalkStage.{WalkStage}
 use Rattle.cell_walk.specs.declared.walk_stage.WalkStage.TheVariants.{LoadsTurn, TakesTurn, LoadsWeak, LoadsTarget, LoadsTargetHeader, StoresTarget, LoadsLink, Ended}
 use Rattle.cell_walk.specs.Soundness.{FitsStage, FitsCell, IsReplacement}
-use Rattle.cell_walk.specs.Taken.{along, by_target, by_turn, is_old, replacement, stage_after, told}
+use Rattle.cell_walk.specs.Taken.{along, by_target, is_old, replacement, stage_after, told}
 use Rattle.cell_walk.specs.Walking.{Walking, IsGoing, most_cells}
 use Rattle.fault_duty.specs.declared.duty_stage.DutyStage.{DutyStage}
 use Rattle.fault_duty.specs.declared.duty_stage.DutyStage.TheVariants.{Walks, Traces}
 use Rattle.fault_duty.specs.declared.duty_stage.DutyStage.TheVariants as duty_stage
-use Rattle.fault_duty.specs.declared.round_end.RoundEnd.TheVariants.{NothingNow}
 use Rattle.fault_duty.specs.Duty as duty
 use Rattle.fault_duty.specs.Duty.{Round, walk_went}
 use Rattle.fault_duty.specs.Soundness.{IsOwnWalk, IsUntraced}

@@ -1,5 +1,5 @@
 -- The pointer to a copy is stored in the word that led to the old record, and the word is passed.
-use Rattle.std.proofs.Common.{◌≡◌, ℕ, ◌<◌, ◌^◌, Some, refl, ap, ◌∙◌, subst, arith, false}
+use Rattle.std.proofs.Common.{◌≡◌, ℕ, ◌<◌, ◌^◌, Some, refl, ap, ◌∙◌, subst, arith}
 use Rattle.plain_state.specs.State.{Plain}
 use Rattle.atom_store.specs.declared.step.Step.TheVariants.{Store}
 use Rattle.atom_store.specs.declared.reply.Reply.TheVariants.{Done}

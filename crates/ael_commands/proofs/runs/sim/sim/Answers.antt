@@ -29,6 +29,7 @@ returns c =
       dump = follows.dump;
       checkpoint = c.checkpoints_are_told.ensures program items (config options.run) schedule options.steps formed sizes turns scanners;
       live = c.cycles_keep_what_is_live.ensures program items (config options.run) schedule options.steps formed sizes turns scanners;
+      lost = c.cycles_empty_lost_cells.ensures program items (config options.run) schedule options.steps formed sizes turns scanners;
     } in
     let size = run_size options program items formed (limit_fits (config options.run) sizes) scanners follows.lawful in
     IfOk-weaker c.told.result _ _ (λ answer told. simulated options program items _ c.in_ok-order.order.items c.shown_order-shown.result.items told.3 _ _ is size follows.seen

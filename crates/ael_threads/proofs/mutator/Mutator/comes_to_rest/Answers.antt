@@ -1,4 +1,4 @@
-use Rattle.std.proofs.Common.{◌∙◌, sym}
+use Rattle.std.proofs.Common.{◌∙◌}
 use Rattle.ael_threads.proofs.WholeCalls.AtRest.{stands_looking}
 use Rattle.ael_threads.proofs.WholeCalls.FromActs.{quiet_more}
 use Rattle.ael_threads.proofs.mutator.Mutator.comes_to_rest.Goals as goal

@@ -1,4 +1,4 @@
-use Rattle.std.proofs.Common.{◌∙◌, refl}
+use Rattle.std.proofs.Common.{◌∙◌}
 use Rattle.ael_threads.proofs.scanner.Scanner.round.Goals as goal
 
 pub loop-preserved : goal.loop-preserved
