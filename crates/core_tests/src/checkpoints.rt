@@ -1,6 +1,6 @@
 use crate::asserting::assert_same;
 use crate::stepping::{
-    executes, gate, open_for_checkpoints, printed, program, step, until_store, until_word, want,
+    executes, gate, open_for_checkpoints, printed, program, step, until_want, until_word, want,
     word,
 };
 use atom_store::Step;
@@ -50,6 +50,9 @@ const NUMBER: usize = 226;
 const SAVE_3: usize = 636;
 
 const SAVE_BOARD: usize = 641;
+
+/// The number 6, as a word.
+const SIX: u64 = 24;
 
 /// A page is saved for checkpoint 1, or worker 0 or 1 saves it.
 const SAVED: u64 = 0x0001_0002;
@@ -203,7 +206,7 @@ fn who_found_a_page_saved_may_sleep(rt: HostRuntime) -> Result<(), Fail> {
     let mut core = open_for_checkpoints(rt.alloc(), &program, PAGES, 1)?;
     executes(&rt, &mut core, 0, BEGINNING + 1);
     until_word(&rt, &mut core, 2, SAVE_3, SAVED);
-    until_store(&rt, &mut core, 0, NUMBER);
+    until_want(&rt, &mut core, 0, Step::Store(NUMBER, SIX));
     until_word(&rt, &mut core, 2, DONE, 1);
     for _ in 0..LONG {
         step_telling_first(&rt, rt.alloc(), &mut core, 1)?;

@@ -1,7 +1,7 @@
 use crate::asserting::assert_same;
 use crate::rows::{GARBAGE, check_end};
 use crate::stepping::{
-    by_turns_to_the_end, executes, open, page_word, printed, program, step, until_all_came,
+    by_turns_to_the_end, executes, loses, open, page_word, printed, program, step, until_all_came,
     until_cycle, until_exchange, until_request, word,
 };
 use gc_core::{Core, Stepped};
@@ -14,17 +14,6 @@ use std::test::Fail;
 const SHARING: &str = "/.mutator/new r0 1/li r1 7/st r0 0 r1/put 0 r0/a: get r2 1/jz r2 a\
     /raw r3 127/li r3 0/raw r3 127/get r4 0/ld r5 r4 0/out r5/halt\
     /.mutator/b: get r0 0/isp r1 r0/jz r1 b/li r2 1/put 1 r2/get r4 0/ld r5 r4 0/out r5/halt/";
-
-/// The worker makes its exchange of the word at this place, which loses.
-fn loses(rt: &impl Abort, core: &mut Core<'_>, worker: u8, place: usize) {
-    let before = word(core, place);
-    assert!(rt;
-        until_exchange(rt, core, worker, place) != before,
-        "{worker} would win"
-    );
-    assert_same(rt, &step(rt, core, worker), &Stepped::Moved);
-    assert_same(rt, &word(core, place), &before);
-}
 
 /// So many scanners sleep before their claims of the board, whose word is at this place, until the next flip is past.
 fn check_past(rt: &impl Abort, core: &mut Core<'_>, scanners: u8, board: usize) {

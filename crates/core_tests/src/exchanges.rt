@@ -1,5 +1,5 @@
 use crate::asserting::assert_same;
-use crate::stepping::{alone_to_the_end, executes, open, printed, program, step, want, word};
+use crate::stepping::{GATE, alone_to_the_end, executes, open, printed, program, step, want, word};
 use atom_store::Step::{self, Exchange, Load};
 use gc_core::Core;
 use gc_core::Stepped::{self, Effect, Moved};
@@ -10,8 +10,6 @@ use std::test::Fail;
 /// Mutator 0 exchanges the number 0 in a field for 5. Mutator 1 exchanges it for 9, and then stores 0 again.
 const LINES: &str = "/.mutator/new r0 1/put 0 r0/li r2 5/cas r3 r0 0 r1 r2/out r3/halt\
     /.mutator/get r0 0/li r2 9/cas r3 r0 0 r1 r2/st r0 0 r1/halt/";
-
-const GATE: usize = 0;
 
 /// The word of page 3, and those of the record's header and its field, which are heap words 192 and 193.
 const PAGE: usize = 19;

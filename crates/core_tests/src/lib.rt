@@ -5,6 +5,8 @@
 #[cfg(test)]
 mod asserting;
 #[cfg(test)]
+mod cells;
+#[cfg(test)]
 mod checkpoints;
 #[cfg(test)]
 mod claims;

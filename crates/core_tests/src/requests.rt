@@ -1,5 +1,7 @@
 use crate::asserting::assert_same;
-use crate::stepping::{alone_to_the_end, executes, open, printed, program, step, want, word};
+use crate::stepping::{
+    GATE, TRACED, WEAK, alone_to_the_end, executes, open, printed, program, step, want, word,
+};
 use atom_store::Step::{self, Exchange, Load, Store};
 use gc_core::Core;
 use gc_core::Stepped::{self, Flipped, Moved};
@@ -11,17 +13,10 @@ use std::test::Fail;
 const LINES: &str = "/.mutator/raw r0 127/li r0 0/raw r0 63/halt\
     /.mutator/raw r0 127/li r0 0/raw r0 63/halt/";
 
-const GATE: usize = 0;
-
-const TRACED: usize = 2;
-
 /// The areas of both spaces.
 const AREA_0: usize = 4;
 
 const AREA_1: usize = 5;
-
-/// The cell that was linked last.
-const WEAK: usize = 6;
 
 /// The pages in use of both spaces.
 const SIZE_0: usize = 12;

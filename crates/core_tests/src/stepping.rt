@@ -1,5 +1,6 @@
 //! A core, step by step. Each loop here gives up after more steps than any of these runs has.
 
+use crate::asserting::assert_same;
 use atom_store::Step;
 use gc_core::{Config, Core, Stepped};
 use mmu_model::read;
@@ -11,6 +12,13 @@ use std::process::Abort;
 use std::test::Fail;
 
 const MOST: u32 = 10_000_000;
+
+/// Where the gate's word is, the number of the epoch that is traced, and what leads to the cell that was linked last.
+pub const GATE: usize = 0;
+
+pub const TRACED: usize = 2;
+
+pub const WEAK: usize = 6;
 
 /// The program whose lines are separated by slashes.
 pub fn program(alloc: Global, lines: &str) -> Result<Program, Fail> {
@@ -112,6 +120,17 @@ pub fn gate(rt: &impl Abort, core: &Core<'_>, spaces: Spaces) -> GateWord {
     }
 }
 
+/// Steps the worker up to the next step that isn't a mere move, and tells what that was.
+pub fn next_told(rt: &impl Abort, core: &mut Core<'_>, worker: u8) -> Stepped {
+    for _ in 0..MOST {
+        let told = step(rt, core, worker);
+        if told != Stepped::Moved {
+            return told;
+        }
+    }
+    panic!(rt; "worker {worker} only moves")
+}
+
 /// Steps the worker until it has executed one more instruction.
 fn until_effect(rt: &impl Abort, core: &mut Core<'_>, worker: u8) {
     for _ in 0..MOST {
@@ -182,17 +201,6 @@ pub fn until_word(rt: &impl Abort, core: &mut Core<'_>, worker: u8, place: usize
     panic!(rt; "worker {worker} never makes the word at {place} {wanted}");
 }
 
-/// Steps the worker until it is about to store in the word at this place.
-pub fn until_store(rt: &impl Abort, core: &mut Core<'_>, worker: u8, place: usize) {
-    for _ in 0..MOST {
-        match want(rt, core, worker) {
-            Some(Step::Store(at, _)) if at == place => return,
-            _ => step(rt, core, worker),
-        };
-    }
-    panic!(rt; "worker {worker} never stores in the word at {place}");
-}
-
 /// Steps the worker until it is about to exchange the word at this place, and tells which old word it expects there.
 pub fn until_exchange(rt: &impl Abort, core: &mut Core<'_>, worker: u8, place: usize) -> u64 {
     for _ in 0..MOST {
@@ -202,6 +210,28 @@ pub fn until_exchange(rt: &impl Abort, core: &mut Core<'_>, worker: u8, place: u
         };
     }
     panic!(rt; "worker {worker} never exchanges the word at {place}")
+}
+
+/// Steps the worker until it is about to make this step.
+pub fn until_want(rt: &impl Abort, core: &mut Core<'_>, worker: u8, wanted: Step) {
+    for _ in 0..MOST {
+        if want(rt, core, worker) == Some(wanted) {
+            return;
+        }
+        step(rt, core, worker);
+    }
+    panic!(rt; "worker {worker} never wants {wanted:?}");
+}
+
+/// The worker makes its exchange of the word at this place, which loses.
+pub fn loses(rt: &impl Abort, core: &mut Core<'_>, worker: u8, place: usize) {
+    let before = word(core, place);
+    assert!(rt;
+        until_exchange(rt, core, worker, place) != before,
+        "{worker} would win"
+    );
+    assert_same(rt, &step(rt, core, worker), &Stepped::Moved);
+    assert_same(rt, &word(core, place), &before);
 }
 
 /// Steps the worker, and no other, until it does nothing any more.
