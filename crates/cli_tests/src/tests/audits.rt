@@ -84,9 +84,9 @@ fn changed(alloc: Global, text: &str, changes: &str) -> Result<String, Fail> {
     Ok(changed)
 }
 
-/// The first text, and then an output.
-fn input(alloc: Global, output: &str) -> Result<String, Fail> {
-    Ok(format!(in alloc; "{FIRST}.output\n{output}")?)
+/// A text, and then an output.
+fn input(alloc: Global, text: &str, output: &str) -> Result<String, Fail> {
+    Ok(format!(in alloc; "{text}.output\n{output}")?)
 }
 
 /// What `sim --pages 4 --scanners 0 --order --dump` prints of the first text.
@@ -111,9 +111,69 @@ fn check_change<R: Threads + Wait + Sync>(
 
 #[test]
 fn a_change_of_an_output_is_found(rt: HostRuntime) -> Result<(), Fail> {
-    let input = input(rt.alloc(), &printed(rt.alloc())?)?;
+    let input = input(rt.alloc(), FIRST, &printed(rt.alloc())?)?;
     for row in CHANGES.split('\n') {
         check_change(&rt, rt.alloc(), &input, row)?;
+    }
+    Ok(())
+}
+
+/// Two weak cells: a register keeps the first one's record, and nothing the second one's.
+const CELLS: &str = "\
+.mutator
+new r0 1
+new r6 0
+weak r1 r0
+new r2 1
+weak r3 r2
+st r0 0 r3
+li r2 0
+raw r4 127
+li r4 0
+raw r4 100
+l: jmp l
+";
+
+/// Changes of what is printed of that text after a number of steps. `.output` is line 13, and the place P of the table is in line P + 20.
+/// Line 18 has what the mutator keeps while it copies the first record, line 245 that record's busy word. In the new space line 312 has
+/// the first cell's target, line 315 the second's, and line 316 its link.
+const CELL_CHANGES: [(&str, &str); 3] = [
+    (
+        "491",
+        "\
+as it was printed while a record is copied|audit||audit: yes/||0
+the header of another record is kept|audit|18=0000000000020012 0000000000000101/|audit: no: register 0 0/||9
+a busy word of a worker that keeps nothing|audit|245=0000000000010017/|audit: no: register 0 0/||9
+no place is kept for the copy|audit|18=0000000000010012 0000000000000000/|audit: yes/||0",
+    ),
+    (
+        "650",
+        "\
+as it was printed behind a cell that was emptied|audit||audit: yes/||0
+a cell that was emptied before the turn was taken|audit|27=0000000000000001/|audit: no: word 295/||9
+an empty cell whose record was copied|audit|312=0000000000000000/|audit: no: word 292/||9
+a cell that is still to be emptied|audit|315=0000000000000319/|audit: yes/||0
+a traced epoch whose cells lead into the old space|audit|22=0000000000000002/|audit: no: word 292/||9",
+    ),
+    (
+        "657",
+        "\
+as it was printed of a traced epoch|audit||audit: yes/||0
+no mark of tracing|audit|15=order 0 0 0 0 0 0 0 0 0 F2/|audit: no: word 295/||9
+a mark of tracing before the flip|audit|15=order 0 0 0 0 0 0 0 0 0 T F2/|audit: no: word 295/||9
+a link that is spelled as a pointer|audit|316=0000000000000301/|audit: yes/||0",
+    ),
+];
+
+#[test]
+fn a_change_of_an_output_with_weak_cells_is_found(rt: HostRuntime) -> Result<(), Fail> {
+    for (steps, rows) in CELL_CHANGES {
+        let words = format!(in rt.alloc(); "sim --pages 4 --order --dump --steps {steps}")?;
+        let told = call(&rt, rt.alloc(), &words, CELLS, AMPLE)?;
+        let input = input(rt.alloc(), CELLS, str::from_utf8(told.out.bytes())?)?;
+        for row in rows.split('\n') {
+            check_change(&rt, rt.alloc(), &input, row)?;
+        }
     }
     Ok(())
 }
@@ -125,7 +185,7 @@ fn check_front<R: Threads + Wait + Sync>(
     front: &[u8],
     line: u64,
 ) -> Result<(), Fail> {
-    let text = input(alloc, str::from_utf8(front)?)?;
+    let text = input(alloc, FIRST, str::from_utf8(front)?)?;
     let err = format!(in alloc; "ael: line {line}: error 10: bad output\n")?;
     let row = Row {
         name: "a front of an output",
@@ -171,7 +231,7 @@ sim --pages 4 --scanners 0 --order --dump --steps 83";
 fn what_a_run_prints_is_its_output(rt: HostRuntime) -> Result<(), Fail> {
     for words in RUNS.split('\n') {
         let told = call(&rt, rt.alloc(), words, FIRST, AMPLE)?;
-        let input = input(rt.alloc(), str::from_utf8(told.out.bytes())?)?;
+        let input = input(rt.alloc(), FIRST, str::from_utf8(told.out.bytes())?)?;
         let row = Row {
             name: words,
             words: "audit",

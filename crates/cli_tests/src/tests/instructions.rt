@@ -31,6 +31,7 @@ cas of a raw word|sim|.mutator/raw r0 1/li r1 4/st r0 0 r1/li r2 1/cas r3 r0 0 r
 cas of a raw word spelled as a pointer|sim|.mutator/raw r0 1/li r1 65281/st r0 0 r1/cas r3 r0 0 r0 r1/out r3/cas r3 r0 0 r1 r2/out r3/halt/|0: 0/0: 1/0: halt/||0
 operands of cas are read before the result is written|sim|.mutator/new r0 1/li r1 7/cas r1 r0 0 r2 r1/out r1/ld r0 r0 0/out r0/halt/|0: 1/0: 7/0: halt/||0
 weak|sim|.mutator/new r0 0/weak r1 r0/ld r2 r1 0/eq r3 r2 r0/out r3/len r2 r1/out r2/isp r2 r1/out r2/halt/|0: 1/0: 1/0: 1/0: halt/||0
+the length of a weak cell|sim|.mutator/new r0 0/weak r1 r0/len r2 r1/out r2/halt/|0: 1/0: halt/||0
 weak of a number|sim|.mutator/weak r1 r0/|0: not a pointer/||3
 a store into a weak cell|sim|.mutator/new r0 0/weak r1 r0/st r1 0 r0/|0: weak cell/||3
 a cas into a weak cell|sim|.mutator/new r0 0/weak r1 r0/cas r2 r1 0 r0 r1/|0: weak cell/||3
