@@ -1,15 +1,14 @@
-//! A mutator between two calls, and two mutators of a heap.
+//! Calls of a mutator that has no end.
 
-ghost use Rattle.std.specs.Prelude.{◌≡◌, ◌≤◌, [], None, IfOk, IsTrue, vec_capacity};
+ghost use Rattle.std.specs.Prelude.{◌≡◌, None, IsTrue};
 ghost use Rattle.gc_worker.specs.declared.task.Task.TheVariants.{Calls};
 ghost use Rattle.gc_worker.specs.Laws.Between.{with_task};
 ghost use Rattle.mutator_asm.specs.Program.{is_valid};
+ghost use Rattle.ael_threads.specs.Histories.{Each};
 
 use crate::asserting::assert_same;
-use ael_threads::{Did, Mutator, Seats, Shared};
-use gc_worker::{Config, OpenError};
+use ael_threads::{Did, Mutator, Shared};
 use mutator_asm::Instr;
-use std::alloc::Global;
 use std::process::Abort;
 use std::sync::Wait;
 
@@ -42,28 +41,15 @@ pub fn make<R: Wait + Abort>(rt: &R, h: &Shared, mutator: &mut Mutator, instr: I
     assert_same(rt, &did, &Did::Done);
 }
 
-/// A heap of so many pages with two mutators, which have made no step, and the seats without theirs, for which there is room. With
-/// `snap` checkpoints can be begun.
-pub fn open_two(
-    alloc: Global,
-    pages: u32,
-    snap: bool,
-) -> Result<(Shared, Seats, Mutator, Mutator), OpenError>
-    ensures first { IfOk result (λ o. (o.2.table ≡ o.0.table.shared.table_id) × (o.2.worker.task ≡ None)) }
-    ensures second { IfOk result (λ o. (o.3.table ≡ o.0.table.shared.table_id) × (o.3.worker.task ≡ None)) }
-    ensures seats { IfOk result (λ o. (o.1.mutators.items ≡ []) × (o.1.scanners.items ≡ [])) }
-    ensures room { IfOk result (λ o. 2 ≤ vec_capacity o.1.mutators) }
+/// These are executed, in order.
+pub fn make_all<R: Wait + Abort>(rt: &R, h: &Shared, mutator: &mut Mutator, instrs: &[Instr])
+    requires table { mutator.old.table ≡ h.now.table.shared.table_id }
+    requires rests { mutator.old.worker.task ≡ None }
+    requires valid { Each (λ i. IsTrue (is_valid i)) instrs.now }
+    ensures table { mutator.new.table ≡ mutator.old.table }
+    ensures rests { mutator.new.worker.task ≡ None }
 {
-    let config = Config {
-        pages,
-        limit: pages,
-        scanners: 0,
-        turns: 1,
-        snap,
-    };
-    let (heap, mut seats) = Shared::open(alloc, 2, &config)?;
-    let (Some(second), Some(first)) = (seats.mutators.pop(), seats.mutators.pop()) else {
-        unreachable!()
-    };
-    Ok((heap, seats, first, second))
+    for instr in instrs {
+        make(rt, h, mutator, *instr);
+    }
 }

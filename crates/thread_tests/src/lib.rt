@@ -9,7 +9,19 @@ mod calling;
 #[cfg(test)]
 mod gathering;
 #[cfg(test)]
+mod heaps;
+#[cfg(test)]
+mod keeping;
+#[cfg(test)]
 mod programs;
+#[cfg(test)]
+mod refusing;
+#[cfg(test)]
+mod resting;
+#[cfg(test)]
+mod scanning;
+#[cfg(test)]
+mod signs;
 #[cfg(test)]
 mod snapping;
 #[cfg(test)]

@@ -4,7 +4,8 @@ ghost use Rattle.std.specs.Prelude.{◌≡◌, None};
 ghost use Rattle.gc_worker.specs.declared.stage.Stage.TheVariants.{Gone};
 
 use crate::asserting::assert_same;
-use crate::calling::{make, open_two};
+use crate::calling::make;
+use crate::heaps::open_two;
 use ael_threads::{Mutator, Shared};
 use checkpoint_text::checkpoint;
 use mutator_asm::{Instr, Operand};

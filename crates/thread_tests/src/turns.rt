@@ -4,7 +4,8 @@ ghost use Rattle.std.specs.Prelude.{◌≡◌, None, IsTrue, true};
 ghost use Rattle.mutator_asm.specs.Program.{is_valid};
 
 use crate::asserting::assert_same;
-use crate::calling::{begin, open_two};
+use crate::calling::begin;
+use crate::heaps::{close_two, open_two};
 use ael_threads::{Mutator, Reg, Shared};
 use gc_worker::Stepped;
 use mutator_asm::{Instr, Operand};
@@ -101,12 +102,8 @@ fn share(rt: &impl Abort, h: &Shared, one: &mut Mutator, other: &mut Mutator)
 
 #[test]
 fn two_callers_see_what_the_other_shares(rt: HostRuntime) -> Result<(), Fail> {
-    let (h, mut seats, mut one, mut other) = open_two(rt.alloc(), 4, false)?;
+    let (h, seats, mut one, mut other) = open_two(rt.alloc(), 4, false)?;
     share(&rt, &h, &mut one, &mut other);
-    one.leave(&rt, &h);
-    other.leave(&rt, &h);
-    seats.mutators.push_reserved(one);
-    seats.mutators.push_reserved(other);
-    let _words = h.close(seats);
+    close_two(&rt, h, seats, one, other);
     Ok(())
 }

@@ -1,0 +1,98 @@
+//! A scanner that is stepped by rounds, and one that is stopped and begun again.
+
+ghost use Rattle.std.specs.Prelude.{◌≡◌, None};
+
+use crate::asserting::assert_same;
+use crate::calling::make;
+use crate::heaps::{close_scanned, open_scanned};
+use crate::keeping::{check_list, flip_until, make_list};
+use crate::signs::comes;
+use ael_threads::{Mutator, Round, Scanner, Shared};
+use mutator_asm::Instr;
+use std::process::Abort;
+use std::sync::Wait;
+use std::sync::atomic::{AtomicBool, Ordering};
+use std::test::Fail;
+use std::thread::join_mut;
+
+/// How often the spaces are exchanged in each of three parts.
+const FLIPS: u32 = 20;
+
+/// Rounds with work after `snap`: they save the board and the two pages of the list, and mark the checkpoint as finished.
+const SAVES: u32 = 4;
+
+/// What the two tell each other beside the heap.
+#[derive(Drop)]
+struct Signs {
+    stop: AtomicBool,
+    stopped: AtomicBool,
+    again: AtomicBool,
+}
+
+/// Flips while the scanner scans, while it is stopped and while it scans again; and leaves, with the list that it had before.
+fn works<R: Wait + Abort>(rt: &R, h: &Shared, mutator: &mut Mutator, signs: &Signs)
+    requires table { mutator.old.table ≡ h.now.table.shared.table_id }
+    requires rests { mutator.old.worker.task ≡ None }
+    ensures { mutator.new.table ≡ mutator.old.table }
+{
+    make_list(rt, h, mutator);
+    flip_until(rt, h, mutator, FLIPS);
+    signs.stop.store(true, Ordering::SeqCst);
+    assert!(rt; comes(&signs.stopped));
+    flip_until(rt, h, mutator, 2 * FLIPS);
+    signs.again.store(true, Ordering::SeqCst);
+    flip_until(rt, h, mutator, 3 * FLIPS);
+    check_list(rt, h, mutator);
+    mutator.leave(rt, h);
+}
+
+/// Scans until it is told to stop, and then again until the mutator has left.
+fn scans<R: Wait + Abort>(rt: &R, h: &Shared, scanner: &mut Scanner, signs: &Signs)
+    requires { scanner.old.seated.table ≡ h.now.table.shared.table_id }
+    ensures { scanner.new.seated.table ≡ scanner.old.seated.table }
+{
+    scanner.scans(rt, h, &signs.stop);
+    assert!(rt; scanner.rests());
+    signs.stop.store(false, Ordering::SeqCst);
+    signs.stopped.store(true, Ordering::SeqCst);
+    assert!(rt; comes(&signs.again));
+    let before = scanner.steps();
+    scanner.scans(rt, h, &signs.stop);
+    assert!(rt; scanner.steps() > before);
+    assert_same(rt, &scanner.round(rt, h), &Round::Gone);
+}
+
+#[test]
+fn a_scanner_stops_and_begins_again(rt: HostRuntime) -> Result<(), Fail> {
+    let (h, seats, mut mutator, mut scanner) = open_scanned(rt.alloc())?;
+    let signs = Signs {
+        stop: AtomicBool::new(false),
+        stopped: AtomicBool::new(false),
+        again: AtomicBool::new(false),
+    };
+    join_mut(
+        &rt,
+        &mut || works(&rt, &h, &mut mutator, &signs),
+        &mut || scans(&rt, &h, &mut scanner, &signs),
+    );
+    close_scanned(h, seats, mutator, scanner);
+    Ok(())
+}
+
+#[test]
+fn rounds_tell_whether_there_was_work(rt: HostRuntime) -> Result<(), Fail> {
+    let (h, seats, mut mutator, mut scanner) = open_scanned(rt.alloc())?;
+    assert_same(&rt, &scanner.round(&rt, &h), &Round::Nothing);
+    make_list(&rt, &h, &mut mutator);
+    make(&rt, &h, &mut mutator, Instr::Snap);
+    for _ in 0..SAVES {
+        assert_same(&rt, &scanner.round(&rt, &h), &Round::Worked);
+    }
+    assert_same(&rt, &scanner.round(&rt, &h), &Round::Nothing);
+    mutator.leave(&rt, &h);
+    // This one finds that all mutators have left.
+    assert_same(&rt, &scanner.round(&rt, &h), &Round::Nothing);
+    assert_same(&rt, &scanner.round(&rt, &h), &Round::Gone);
+    close_scanned(h, seats, mutator, scanner);
+    Ok(())
+}
