@@ -1,6 +1,6 @@
 -- The own header of a record, and the identity that it names, as the code reads them.
 use Rattle.std.proofs.Common.{◌≡◌, ℕ, zero, suc, ◌^◌, ◌<◌, ◌≤◌, List, [], ◌∷◌, Some, None, length, get_or, refl, sym, ap, ◌∙◌, arith}
-use Rattle.std.specs.Prelude.{option_map}
+use Rattle.std.specs.Prelude.{IsTrue, ◌↔◌, is_some, option_map}
 use Rattle.std.proofs.Math.Decide.{dec_le, dec_lt}
 use Rattle.heap_words.specs.Decoded.{Decoded, NumberWord, PointerWord, HeaderWord, BusyWord, ForwardWord, Malformed, decode, encode}
 use Rattle.heap_words.specs.Word.{tag_of}
@@ -15,6 +15,7 @@ use Rattle.record_layout.proofs.Rereading.{busy_in-said, forward_in-said, header
 use Rattle.crossing_map.specs.Crossing.{pairs_kept}
 use Rattle.heap_state.specs.Kept.{Kept, kept_at}
 use Rattle.heap_state.specs.Meaning.Denotes.{named_by, named_in, own_header_in}
+use Rattle.heap_state.specs.Meaning.Represents.{IsBusy}
 use Rattle.heap_state.proofs.Puts.{some_same}
 
 abbrev pub identity_by : Header → Identity
@@ -43,6 +44,16 @@ kept_nowhere (one ∷ pairs) (suc k) l = kept_nowhere pairs k (omega arith)
 pub no_header : header_in (decode 0) ≡ None
 unfolding decode tag_of header_in
 no_header = refl
+
+-- a word reads as busy exactly if it is
+pub busy_reads : (w : ℕ) (d : Decoded) → decode w ≡ d → (IsTrue (is_some (busy_in d)) ↔ IsBusy d)
+unfolding busy_in
+busy_reads w (BusyWord len worker) e = (λ t. tt, λ t. let b = busy_in-said w len worker e in ap is_some (ap busy_in (sym e) ∙ b.1))
+busy_reads w (HeaderWord kind len serial mutator) e = (λ t. cc, λ none. absurd none)
+busy_reads w (NumberWord n) e = (λ t. cc, λ none. absurd none)
+busy_reads w (PointerWord a) e = (λ t. cc, λ none. absurd none)
+busy_reads w (ForwardWord len a) e = (λ t. cc, λ none. absurd none)
+busy_reads w Malformed e = (λ t. cc, λ none. absurd none)
 
 -- ---- the own header
 

@@ -2,7 +2,6 @@
 use Rattle.std.proofs.Common.{◌≡◌, ℕ, zero, suc, ◌+◌, ◌-◌, ◌<◌, ◌≤◌, true, List, [], ◌∷◌, Option, Some, None, length, refl, sym, ap, ◌∙◌, subst, arith, ⊎_elim, ◌⊎◌, ◌≢◌, inl, inr}
 use Rattle.std.specs.Prelude.{nat_eq, option_map, slice_get}
 use Rattle.std.specs.HashMap.{get}
-use Rattle.std.specs.List.{Contains}
 use Rattle.std.proofs.lemmas.Bool.{cases_lt}
 use Rattle.heap_words.specs.Decoded.{Decoded, NumberWord, PointerWord, HeaderWord, BusyWord, ForwardWord, Malformed, decode}
 use Rattle.heap_words.specs.declared.kind.Kind.{Kind as HeaderKind}
@@ -20,9 +19,9 @@ use Rattle.record_layout.specs.Layout.{header_in}
 use Rattle.heap_state.specs.Invariant.Ghost.{header_kind, said_kind, count_said}
 use Rattle.heap_state.specs.Meaning.Denotes.{named_by}
 use Rattle.heap_state.specs.Meaning.Dump.{Dump}
-use Rattle.heap_state.specs.Meaning.Represents.{HeadShows, IsEmptied, IsInHeap, IsOwn, IsTarget, LeadsToRecord, Names, WordShows, denoted_in_dump, own_header}
+use Rattle.heap_state.specs.Meaning.Represents.{HeadShows, IsEmptied, IsInHeap, IsOwn, IsTarget, LeadsToRecord, MustOwn, Names, WordShows, denoted_in_dump, own_header}
 use Rattle.heap_state.specs.Meaning.Values.{CountShows}
-use Rattle.heap_state.specs.Memory.Walk.{Walked, walk_in}
+use Rattle.heap_state.specs.Memory.Walk.{Walked}
 use Rattle.heap_state.proofs.Puts.{some_same}
 use Rattle.heap_state.proofs.Records.Layouts.{field_is_value, values_behind_header}
 use Rattle.heap_audit.specs.Firsts.{TellsFirst}
@@ -65,9 +64,9 @@ module _ (d : Dump) (p : plain.Plain) (w : Walked) (none : None ≡ header_in (o
   not_own : {k : Kind} {l s m : ℕ} → IsOwn d w k l s m → ⊥
   not_own {l = l} {s = s} {m = m} o = none_is d w.at none o.head l s m o.header
 
-  pub headless_shows : (Contains (walk_in d.table d.kept) w → ⊥) → (i : ℕ) → WordOfRecordShows d p w i
-  headless_shows old i = record {
-    head = λ e. record { owns = λ now. absurd (old now); shows = λ k l s m o. absurd (not_own o); once = λ v k other l longer s m o. absurd (not_own o) };
+  pub headless_shows : (MustOwn d w → ⊥) → (i : ℕ) → WordOfRecordShows d p w i
+  headless_shows free i = record {
+    head = λ e. record { owns = λ must. absurd (free must); shows = λ k l s m o. absurd (not_own o); once = λ v k other l longer s m o. absurd (not_own o) };
     word = λ first last. record {
       count = λ k r names. absurd (not_own names.own);
       field = λ k r x names. absurd (not_own names.own);
@@ -78,8 +77,8 @@ module _ (d : Dump) (p : plain.Plain) (w : Walked) (none : None ≡ header_in (o
     };
   }
 
-  pub headless_wrong : Contains (walk_in d.table d.kept) w → HeadShows d p w → ⊥
-  headless_wrong now h = let o = h.owns now in not_own o.own
+  pub headless_wrong : MustOwn d w → HeadShows d p w → ⊥
+  headless_wrong must h = let o = h.owns must in not_own o.own
 
 -- ---- the first word of one that has a header
 
@@ -134,7 +133,7 @@ module _ (d : Dump) (p : plain.Plain) (w : Walked) (h : Header) (there : IsInHea
     pub head_shows : (r : plain.Record) → plain.record_of p.heap identity ≡ Some r → header_kind r.kind ≡ h.kind → size_of r ≡ w.size → w.size ≡ h.len + 1
         → ((f : ℕ) → found ≡ Some f → w.at ≤ f) → HeadShows d p w
     head_shows r is alike size long first = record {
-      owns = λ now. record { kind = kind; len = h.len; serial = h.serial; mutator = h.mutator; own = is_own };
+      owns = λ must. record { kind = kind; len = h.len; serial = h.serial; mutator = h.mutator; own = is_own };
       shows = λ k l s m o. (
         long ∙ ap (λ z. z + 1) (same_len o),
         (

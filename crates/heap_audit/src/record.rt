@@ -4,7 +4,7 @@ ghost use Rattle.std.specs.Prelude.{◌≡◌, ◌<◌, ◌≤◌, ◌+◌, ◌^
 ghost use Rattle.heap_words.specs.Decoded.{HeaderWord};
 ghost use Rattle.plain_state.specs.Layout.{size_of, values_at, word_of_value, words_behind};
 ghost use Rattle.heap_state.specs.Invariant.Ghost.{header_kind};
-ghost use Rattle.heap_state.specs.Meaning.Represents.{HeadShows, IsInHeap, own_header};
+ghost use Rattle.heap_state.specs.Meaning.Represents.{HeadShows, IsInHeap, MustOwn, own_header};
 ghost use Rattle.heap_state.specs.Meaning.Values.{CountShows};
 ghost use Rattle.heap_state.specs.Memory.Walk.{walk_in};
 ghost use Rattle.heap_audit.specs.Copied.{AreCopied};
@@ -135,6 +135,14 @@ fn wrong_value(heap: &ToldHeap, walks: &Walks, wanted: &PlainRecord, at: u32) ->
     None
 }
 
+/// Whether a record should have a header of its own. `now` says that it is in the epoch's space.
+fn must_own(heap: &ToldHeap, found: RecordAt, now: bool) -> bool
+    requires now { IsTrue now ↔ Contains (walk_in (dump_told heap.now).table (dump_told heap.now).kept) (walked found) }
+    ensures { IsTrue result ↔ MustOwn (dump_told heap.now) (walked found) }
+{
+    now || ToldHeap::is_busy(heap.word(found.at))
+}
+
 /// The first word of a record, counted from its first, by which it doesn't show what it should. `now` says that it is in the epoch's space.
 pub fn wrong_word(
     heap: &ToldHeap,
@@ -155,7 +163,11 @@ pub fn wrong_word(
     ensures short { IfSome result (λ i. i ≤ 4096) }
 {
     let Some(header) = heap.own_header(heap.word(found.at)) else {
-        return if now { Some(0) } else { None };
+        return if must_own(heap, found, now) {
+            Some(0)
+        } else {
+            None
+        };
     };
     let Some(wanted) = shown_by_head(heap, plain, owners, found, &header) else {
         return Some(0);

@@ -44,7 +44,7 @@ impl<'t> ToldHeap<'t> {
     ghost use Rattle.heap_words.specs.Decoded.{decode};
     ghost use Rattle.record_layout.specs.Layout.{header_in};
     ghost use Rattle.heap_state.specs.Meaning.Denotes.{named_in, own_header_in};
-    ghost use Rattle.heap_state.specs.Meaning.Represents.{IsCopying, IsInOrder, IsWalkedSpace, denoted_in_dump};
+    ghost use Rattle.heap_state.specs.Meaning.Represents.{IsBusy, IsCopying, IsInOrder, IsWalkedSpace, denoted_in_dump};
     ghost use Rattle.heap_audit.specs.Told.{MayHaveEmptied, dump_told, extent_of};
 
     /// The epoch.
@@ -130,6 +130,13 @@ impl<'t> ToldHeap<'t> {
             return 0;
         }
         self.words[self.spaces.word_place(address)]
+    }
+
+    /// Whether this word names a worker that should keep the header of a record that begins with it.
+    pub fn is_busy(word: u64) -> bool
+        ensures { IsTrue result ↔ IsBusy (decode word) }
+    {
+        read_busy(word).is_some()
     }
 
     /// The header of a record that begins with this word: in its place, or kept by the worker that the word names.

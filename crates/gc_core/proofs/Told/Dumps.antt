@@ -47,7 +47,7 @@ module _ (d : Dump) (p : plain.Plain) (mutators : ℕ) (registers : ℕ → ℕ 
 
   head_shows : (w : Walked) → HeadShows d p w → HeadShows other p w
   head_shows w h = record {
-    owns = λ walked. has_own w (h.owns walked);
+    owns = λ must. has_own w (h.owns must);
     shows = λ kind len serial mutator o. h.shows kind len serial mutator (own_back w kind len serial mutator o);
     once = λ v kind more len longer serial mutator o other_own.
         h.once v kind more len longer serial mutator (own_back w kind len serial mutator o) (own_back v more longer serial mutator other_own);

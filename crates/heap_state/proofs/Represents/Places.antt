@@ -1,6 +1,5 @@
 -- What a record shows word by word is what it shows as a whole.
 use Rattle.std.proofs.Common.{◌≡◌, ℕ, ◌+◌, ◌<◌, ◌≤◌, Some, refl, sym, ap, ◌∙◌, subst, arith, ⊎_elim, ◌⊎◌}
-use Rattle.std.specs.List.{Contains}
 use Rattle.std.specs.Prelude.{slice_get}
 use Rattle.std.proofs.lemmas.Bool.{cases_lt}
 use Rattle.plain_state.specs.declared.kind.Kind.{Kind}
@@ -12,9 +11,9 @@ use Rattle.plain_state.specs.Layout.{is_field, is_raw, size_of, values_at, word_
 use Rattle.plain_state.specs.State as plain
 use Rattle.heap_state.specs.Invariant.Ghost.{header_kind}
 use Rattle.heap_state.specs.Meaning.Dump.{Dump}
-use Rattle.heap_state.specs.Meaning.Represents.{HasOwn, IsEmptied, IsFieldOf, IsOwn, LeadsToRecord, Names, RecordShows, denoted_in_dump}
+use Rattle.heap_state.specs.Meaning.Represents.{HasOwn, IsEmptied, IsFieldOf, IsOwn, LeadsToRecord, MustOwn, Names, RecordShows, denoted_in_dump}
 use Rattle.heap_state.specs.Meaning.Values.{CountShows, Shows}
-use Rattle.heap_state.specs.Memory.Walk.{Walked, walk_in}
+use Rattle.heap_state.specs.Memory.Walk.{Walked}
 use Rattle.heap_state.proofs.Puts.{some_same}
 use Rattle.heap_state.proofs.Records.Layouts.{values_behind_header}
 
@@ -92,7 +91,7 @@ module _ (d : Dump) (p : plain.Plain) (w : Walked) where
         let s = (shows kind names.len names.serial names.mutator names.own).1 in
         subst (λ (q : plain.Record). Shows (denoted_in_dump d) heap w.at kind w.size q) (some_same (sym s.1 ∙ names.names)) s.2
 
-    pub record_shows : (Contains (walk_in d.table d.kept) w → HasOwn d w)
+    pub record_shows : (MustOwn d w → HasOwn d w)
         → ((kind : Kind) (len serial mutator i : ℕ) → IsOwn d w kind len serial mutator → IsFieldOf w kind i → LeadsToRecord d (heap (w.at + i)))
         → ((v : Walked) (kind other : Kind) (len longer serial mutator : ℕ) → IsOwn d w kind len serial mutator → IsOwn d v other longer serial mutator → w.at ≤ v.at)
         → ShowsTarget → TargetLeads → RecordShows d p w

@@ -1,6 +1,5 @@
 -- A configuration that keeps the invariant and shows a plain state represents it.
 use Rattle.std.proofs.Common.{◌≡◌, ℕ, ◌+◌, ◌-◌, ◌<◌, true, Some, None, refl, sym, ap, ◌∙◌, subst, arith, ⊎_elim, ◌⊎◌, inl, inr}
-use Rattle.std.specs.List.{Contains}
 use Rattle.std.specs.Prelude.{slice_get}
 use Rattle.std.proofs.lemmas.Bool.{lt-ltb}
 use Rattle.std.proofs.lemmas.Option.{slice_get_within}
@@ -17,13 +16,13 @@ use Rattle.heap_state.specs.Memory.Era.{Era, Memory}
 use Rattle.heap_state.specs.Invariant.Ghost.{Ghost, Leads, Lands, header_kind}
 use Rattle.heap_state.specs.Invariant.Inductive.{Invariant}
 use Rattle.heap_state.specs.Meaning.Dump.{dump_of}
-use Rattle.heap_state.specs.Meaning.Represents.{IsOwn, Names, HasOwn, IsEmptied, IsFieldOf, LeadsToRecord, RegisterShows, BoardWordShows, Represents}
+use Rattle.heap_state.specs.Meaning.Represents.{IsBusy, IsInHeap, IsOwn, MustOwn, Names, HasOwn, IsEmptied, IsFieldOf, LeadsToRecord, RegisterShows, BoardWordShows, Represents, own_header}
 use Rattle.heap_state.specs.Meaning.Values.{value_of, Shows, Shown}
-use Rattle.heap_state.specs.Memory.Walk.{Walked, walk_of}
+use Rattle.heap_state.specs.Memory.Walk.{Walked}
 use Rattle.heap_state.specs.Worker.{is_mutator}
-use Rattle.heap_state.proofs.Represents.Denoting.{denotes, reaches, field_lands, target_lands, board_lands}
+use Rattle.heap_state.proofs.Represents.Denoting.{Headers, Own, Forwarded, denotes, header_of, headers, reaches, field_lands, target_lands, board_lands}
 use Rattle.heap_state.proofs.Records.Holding.{uncopied_here}
-use Rattle.heap_state.proofs.Walks.InHeap.{in_heap_complete, lay, now_sound, now_read, old_readable}
+use Rattle.heap_state.proofs.Walks.InHeap.{in_heap_complete, in_heap_sound, lay, now_sound, now_read, old_readable}
 use Rattle.heap_state.proofs.Represents.Ordered.{in_order}
 use Rattle.heap_state.proofs.Represents.Owning.{Owns, owns, field_of, cell_shown}
 use Rattle.heap_state.proofs.Represents.Emptying.{is_emptied}
@@ -79,13 +78,31 @@ module _ (c : Configuration) (g : Ghost) (formed : IsFormed c.pages c.words) (in
             count = s.count;
           }
 
-  -- in the epoch's space each record has its own header
-  each_owns : (w : Walked) → Contains (walk_of c) w → HasOwn (dump_of c) w
-  each_owns w h =
+  -- what is known of a record is what its own header says
+  has_own : (w : Walked) → IsInHeap (dump_of c) w → 0 < g.size w.at → g.writer w.at ≡ 0 → own_header (dump_of c) w.at ≡ header_of c g formed inv w.at → HasOwn (dump_of c) w
+  has_own w here st written e = record {
+    kind = g.kind w.at;
+    len = g.size w.at - 1;
+    serial = (g.identity w.at).serial;
+    mutator = (g.identity w.at).mutator;
+    own = record { walked = here; head = header_kind (g.kind w.at); header = e; said = sym (said_there g.size g.writer g.kind m.heap inv.raw_words inv.counts w.at st written) };
+  }
+
+  -- in the epoch's space each record has its own header, and a header that a worker should keep it keeps
+  each_owns : (w : Walked) → IsInHeap (dump_of c) w → MustOwn (dump_of c) w → HasOwn (dump_of c) w
+  each_owns w here (inl h) =
       let i = now_sound c g formed inv w h in
       let st : 0 < g.size w.at = omega (arith, i.sized) in
       let u = uncopied_here E m (team c) g inv (lay c g formed inv) w.at st i.inside.0 i.inside.1 in
-      record { kind = g.kind w.at; len = g.size w.at - 1; serial = (g.identity w.at).serial; mutator = (g.identity w.at).mutator; own = record { walked = inl h; head = header_kind (g.kind w.at); header = rw (inv.headed.own w.at st i.written u.0 u.1) refl; said = sym (said_there g.size g.writer g.kind m.heap inv.raw_words inv.counts w.at st i.written) } }
+      has_own w here st i.written (rw (inv.headed.own w.at st i.written u.0 u.1) refl)
+  each_owns w here (inr busy) =
+      let known = in_heap_sound c g formed inv w here in
+      let st : 0 < g.size w.at = omega (arith, known.sized) in
+      by_headers st known.written (headers c g formed inv w.at st known.written)
+    where
+      by_headers : 0 < g.size w.at → g.writer w.at ≡ 0 → Headers c g formed inv w.at → HasOwn (dump_of c) w
+      by_headers st written (Own e h) = has_own w here st written e
+      by_headers st written (Forwarded b e y n f) = absurd (subst IsBusy f busy)
 
   -- ---- where words lead
 
@@ -157,7 +174,7 @@ module _ (c : Configuration) (g : Ghost) (formed : IsFormed c.pages c.words) (in
       board = board_word_shows;
       readable = now_read c g formed inv;
       old_readable = old_readable c g formed inv;
-      records = λ w h. record_shows (dump_of c) p w (λ kind len serial mutator is. let s = records_show w kind len serial mutator is in (omega (arith, s.0), s.1)) (each_owns w) (field_leads w)
+      records = λ w h. record_shows (dump_of c) p w (λ kind len serial mutator is. let s = records_show w kind len serial mutator is in (omega (arith, s.0), s.1)) (each_owns w h) (field_leads w)
           (λ v kind other len longer serial mutator a b. let e = once w v kind other len longer serial mutator a b in omega arith)
           (target_shows w) (target_leads w);
     };

@@ -1,7 +1,7 @@
 -- What it means that a dump or a configuration represents a state of the plain machine.
-use Rattle.std.specs.Prelude.{◌≡◌, ◌≢◌, ℕ, ◌+◌, ◌*◌, ◌<◌, ◌≤◌, ◌⊎◌, true, length, Contains, Option, Some, None, slice_get}
+use Rattle.std.specs.Prelude.{◌≡◌, ◌≢◌, ℕ, ◌+◌, ◌*◌, ◌<◌, ◌≤◌, ◌⊎◌, ⊤, true, length, Contains, Option, Some, None, slice_get}
 use Rattle.heap_words.specs.declared.kind.Kind.{Kind as HeaderKind}
-use Rattle.heap_words.specs.Decoded.{Decoded, NumberWord, PointerWord, HeaderWord, decode}
+use Rattle.heap_words.specs.Decoded.{Decoded, NumberWord, PointerWord, HeaderWord, BusyWord, decode}
 use Rattle.plain_state.specs.declared.kind.Kind.{Kind}
 use Rattle.plain_state.specs.declared.kind.Kind.TheVariants.{Weak}
 use Rattle.plain_state.specs.declared.value.Identity.{Identity}
@@ -72,6 +72,15 @@ pub record HasOwn (d : Dump) (w : Walked) : Type 0 where
   pub mutator : ℕ
   pub own : IsOwn d w kind len serial mutator
 
+-- the word names a worker that keeps the record's header
+abbrev pub IsBusy : Decoded → Type 0
+IsBusy (BusyWord len worker) = ⊤
+IsBusy _ = ⊥
+
+-- a record in the walk of the epoch's space, and one whose header a worker should keep
+abbrev pub MustOwn : Dump → Walked → Type 0
+MustOwn d w = Contains (walk_in d.table d.kept) w ⊎ IsBusy (decode (d.table.heap w.at))
+
 -- the word of the record is a field
 pub record IsFieldOf (w : Walked) (kind : Kind) (i : ℕ) : Type 0 where
   pub inside : (0 < i) × (i < w.size)
@@ -93,11 +102,11 @@ pub record BoardWordShows (d : Dump) (p : plain.Plain) (x : ℕ) : Type 0 where
   pub shows : denoted_in_dump d (d.table.heap ((era_of d.table).board + x)) ≡ slice_get p.heap.board x
   pub leads : LeadsToRecord d (d.table.heap ((era_of d.table).board + x))
 
--- A record in the walk of the epoch's space has its own header. One that has its own header has that many words, and there is a
--- plain record of its identity, of that kind, but for the count of a mixed one's fields, and of as many words. No record before it
+-- A record in the walk of the epoch's space has its own header, and so has an old one that isn't forwarded: if not in its place, its
+-- worker keeps it. One that has its own header has that many words, and there is a plain record of its identity, of that kind, but for the count of a mixed one's fields, and of as many words. No record before it
 -- that has its own header is of its identity, so that of two it is the later one that is wrong.
 pub record HeadShows (d : Dump) (p : plain.Plain) (w : Walked) : Type 0 where
-  pub owns : Contains (walk_in d.table d.kept) w → HasOwn d w
+  pub owns : MustOwn d w → HasOwn d w
   pub shows : (kind : Kind) (len serial mutator : ℕ) → IsOwn d w kind len serial mutator
       → (w.size ≡ len + 1)
       × ((r : plain.Record) × (plain.record_of p.heap (record { mutator = mutator; serial = serial }) ≡ Some r) × (header_kind r.kind ≡ header_kind kind) × (size_of r ≡ w.size))

@@ -18,20 +18,20 @@ use Rattle.heap_audit.proofs.record.wrong_word.Goals as goal
 count_as : (k j : Kind) (x y : ℕ) → k ≡ j → x ≡ y → CountShows k (λ a. x) 0 → CountShows j (λ a. y) 0
 count_as k j x y kinds words shows = subst (λ (z : Kind). CountShows z (λ a. y) 0) kinds (subst (λ (z : ℕ). CountShows k (λ a. z) 0) words shows)
 
-pub returns-then-now-clause-first : goal.returns-then-now-clause-first
-returns-then-now-clause-first c =
+pub returns-then-must_own-clause-first : goal.returns-then-must_own-clause-first
+returns-then-must_own-clause-first c =
     let d = dump_told c.args.heap.now in
     let none : None ≡ header_in (own_header d c.args.found.at) =
     sym c.in_default.is ∙ (c.own_header.ensures ∙ ap (λ w. header_in (own_header_in d.kept (decode w))) c.word.ensures) in
-    let wrong = headless_wrong d c.args.plain.now (walked c.args.found) none (c.requires.now.0 c.if-now.true) in
+    let wrong = headless_wrong d c.args.plain.now (walked c.args.found) none (c.must_own.ensures.0 c.if-must_own.true) in
     (λ shows. wrong (shows.head (λ i. 0)), λ a l. absurd (omega arith))
 
-pub returns-else-now-clause-first : goal.returns-else-now-clause-first
-returns-else-now-clause-first c =
+pub returns-else-must_own-clause-first : goal.returns-else-must_own-clause-first
+returns-else-must_own-clause-first c =
     let d = dump_told c.args.heap.now in
     let none : None ≡ header_in (own_header d c.args.found.at) =
     sym c.in_default.is ∙ (c.own_header.ensures ∙ ap (λ w. header_in (own_header_in d.kept (decode w))) c.word.ensures) in
-    headless_shows d c.args.plain.now (walked c.args.found) none (λ has. let q : true ≡ false = sym (c.requires.now.1 has) ∙ c.if-now.false in cc)
+    headless_shows d c.args.plain.now (walked c.args.found) none (λ must. let q : true ≡ false = sym (c.must_own.ensures.1 must) ∙ c.if-must_own.false in cc)
 
 pub shown_by_head-requires-clause-owned : goal.shown_by_head-requires-clause-owned
 shown_by_head-requires-clause-owned c =
