@@ -93,15 +93,14 @@ pub record TellsRegisters (told : Outputs) (m : ℕ) (q : Mutator) : Type 0 wher
 -- THE CLAUSE OF RUN: all calls of its mutators stand in one legal history. In the order of that history the plain machine executes the
 -- program, each mutator its section from the start, none of its instructions skipped and none executed twice, to its end. The words that
 -- are told, with what all workers hold, which have left, stand for the plain state after it, and registers show the plain ones; what was
--- copied in an epoch that is traced is what was live at its last flip, and exactly those cells are empty that lost their targets by that
--- flip, or were empty then; what the plain machine has kept is the last checkpoint of the order,
--- and if checkpoints can be begun, the words say it; what else is told is what these say. Each flip was for a record, an instruction asking
--- for one at most of a space all of whose pages are in use, and left the pages in use or doubled them; where a mutator's end is that the
--- heap is full, it was, by words with which all workers stood at that call, and what was live at the flip before and the room left no more
--- of the pages in use than the pages of records made since then, or made next by others; there is a look by which the mutator began that
--- instruction, and that flip came since and all pages of the space were in use, if it is not the last that there can be. So it is by the
--- order alone; and a heap whose limit is as large as the order needs is never full, but after the last flip that there can be its pages at
--- first have to be enough.
+-- copied in an epoch that is traced is what was live at its last flip, and exactly those cells of its space are empty that lost their
+-- targets by that flip, or were empty then; what the plain machine has kept is the last checkpoint of the order, and if checkpoints can be
+-- begun, the words say it; what else is told is what these say. Each flip was for a record, an instruction asking for one at most of a
+-- space all of whose pages are in use, and left the pages in use or doubled them; where a mutator's end is that the heap is full, it was,
+-- by words with which all workers stood at that call, and what was live at the flip before and the room left no more of the pages in use
+-- than the pages of records made since then, or made next by others; there is a look by which the mutator began that instruction, and that
+-- flip came since and all pages of the space were in use, if it is not the last that there can be. So it is by the order alone; and a heap
+-- whose limit is as large as the order needs is never full, but after the last flip that there can be its pages at first have to be enough.
 pub record Runs (code : List (List Instr)) (config : Config) (told : Outputs) : Type 0 where
   pub log : List Entry
   pub workers : List Held

@@ -148,8 +148,8 @@ abbrev pub BeginsBySnap : Stage → Task → Type 0
 BeginsBySnap stage task = IsBeginningCheckpoint stage × (task ≡ Calls Snap)
 
 -- With these words, and with worker m, which holds x but for its count, all workers stand for the plain state after a legal history
--- that begins with this; once the epoch is traced, exactly those cells are empty that lost their targets by its last flip, or were empty
--- then; and what is counted along it fits them.
+-- that begins with this; once the epoch is traced, exactly those cells of its space are empty that lost their targets by its last flip, or
+-- were empty then; and what is counted along it fits them.
 pub record StandWith (plan : Plan) (m : ℕ) (x : Held) (seen : List Entry) (words : List ℕ) : Type 0 where
   pub log : List Entry
   pub legal : IsLegal (first_plain plan) log
@@ -343,16 +343,16 @@ pub record Stays (workers : List Held) (log : List Entry) (h : Hand) : Type 0 wh
 
 -- THE CLAUSE OF CLOSE: the calls of all these callers stand in one legal history, each once, of which what each has seen is a beginning;
 -- with what their codes hold the words stand for the plain state after it; if a scanner is gone, all mutators are; what was copied in an
--- epoch that is traced is what was live at the last flip of the history, and exactly those cells are empty that lost their targets by that
--- flip, or were empty then; if checkpoints can be begun, the words are just those of the
--- layout, and say what was kept at the last `snap` of the history; the gate's epoch is the number of its flips; each flip was for a record,
--- and if a call told the heap to be full, what was live at the flip before it and the room left no more of the pages in use than the pages
--- of records made since then, or made next, by the history or else by the tasks that mutators have begun; that flip came since the look by
--- which the worker began that task, in the epoch that it keeps, and all pages of the space were in use, if that flip was not the last that
--- there can be. So a heap whose limit is as large as the history needs is never full; after the last flip that there can be, its pages at
--- first have to be enough. As many pages are in use as the history's flips have brought into use, each of which leaves them or doubles
--- them, as far as the limit goes; between two of its calls no mutator asked for two flips of a space all of whose pages were in use; if all
--- workers are there the history has no other calls; no worker stands twice, and no page was won twice in one epoch.
+-- epoch that is traced is what was live at the last flip of the history, and exactly those cells of its space are empty that lost their
+-- targets by that flip, or were empty then; if checkpoints can be begun, the words are just those of the layout, and say what was kept at
+-- the last `snap` of the history; the gate's epoch is the number of its flips; each flip was for a record, and if a call told the heap to
+-- be full, what was live at the flip before it and the room left no more of the pages in use than the pages of records made since then, or
+-- made next, by the history or else by the tasks that mutators have begun; that flip came since the look by which the worker began that
+-- task, in the epoch that it keeps, and all pages of the space were in use, if that flip was not the last that there can be. So a heap
+-- whose limit is as large as the history needs is never full; after the last flip that there can be, its pages at first have to be enough.
+-- As many pages are in use as the history's flips have brought into use, each of which leaves them or doubles them, as far as the limit
+-- goes; between two of its calls no mutator asked for two flips of a space all of whose pages were in use; if all workers are there the
+-- history has no other calls; no worker stands twice, and no page was won twice in one epoch.
 pub record Closes (plan : Plan) (all : List Seated) (words : List ℕ) : Type 0 where
   pub log : List Entry
   pub workers : List Held

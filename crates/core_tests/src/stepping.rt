@@ -13,7 +13,7 @@ use std::test::Fail;
 
 const MOST: u32 = 10_000_000;
 
-/// Where the gate's word is, the number of the epoch that is traced, and what leads to the cell that was linked last.
+/// The places of the gate's word, of TRACED, and of WEAK, the head of the chain of copied cells.
 pub const GATE: usize = 0;
 
 pub const TRACED: usize = 2;

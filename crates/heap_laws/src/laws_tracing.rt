@@ -26,9 +26,9 @@ pub fn turns_are_taken()
 {}
 
 /// The exchange of TRACED: who wins it is of the current epoch, and keeps all. The plain state then is one
-/// in which each cell is as before or empty, and holds what its target shows. If the plain state has kept
-/// the cells of the flip (`KeepsCells`), a target is 0 exactly if it wasn't reachable at the flip, and else
-/// shows what the cell held.
+/// in which each cell is as before or empty, and each one in the epoch's space holds what its target shows.
+/// If the plain state has kept the cells of the flip (`KeepsCells`), the target of such a cell is 0 if its
+/// record wasn't reachable at the flip, and else shows what the cell held.
 pub fn epochs_are_traced()
     ensures traced { TracingKeeps }
     ensures lost { LostTargetsAreZero }

@@ -64,9 +64,10 @@ pub fn only_stores_change_words()
 {}
 
 /// In an order, of whatever mutators, a load of a word of a record gets what the last store in that word
-/// before it wrote, and a load of a weak cell gets its target, or 0 if that is lost. An exchange finds there
+/// before it wrote, and a load of a weak cell gets the value that the cell has then. An exchange finds there
 /// what the last store wrote, tells whether it is what it expects, and is such a store itself if so. What
-/// no step has stored in is the number 0. And so it is of each word at any time, whether loaded or not.
+/// no step has stored in is the number 0. And so it is of each word of a record that is no cell, at any time,
+/// whether loaded or not.
 pub fn steps_find_the_last_store()
     ensures loads { StepsLoadTheLastStore }
     ensures exchanges { StepsCompareTheLastStore }

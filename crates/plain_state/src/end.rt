@@ -17,7 +17,7 @@ pub enum End {
     /// A length over 4095, or over 4094 of a mixed record, an index past a record's length, or a board
     /// word past 15.
     OutOfRange,
-    /// A word of a weak cell was to be stored or exchanged.
+    /// A word of a weak cell was to be stored into or exchanged.
     WeakCell,
     /// A reference was to be stored in a raw record, or behind the fields of a mixed one.
     IntoRaw,
