@@ -9,3 +9,4 @@ pub mod Alone
 pub mod Unread
 pub mod Refusals
 pub mod ScannerActs
+mod Taken

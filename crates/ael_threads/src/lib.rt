@@ -18,17 +18,21 @@ mod refusing;
 mod rounds;
 mod safepoints;
 mod scanner;
+mod seats;
 mod shared;
 mod view;
 mod words;
 
 pub use gc_worker::{
-    Call, Did, Entry, loads_get_the_last_store, records_keep_their_shape, who_is_gone_saw_why,
+    Call, Config, Did, Entry, OpenError, Stepped, loads_get_the_last_store,
+    records_keep_their_shape, who_is_gone_saw_why,
 };
 pub use laws::{board_words_stay, lone_calls_come_to_the_same, unread_boards_share_nothing};
 pub use mutator::{Mutator, Reg};
+pub use mutator_asm::{Instr, Operand, Program};
 pub use opening::Seats;
 pub use pace::{NoPace, Pace};
+pub use plain_state::End;
 pub use programs::outputs::{Outputs, Printed, RunError};
 pub use programs::running::run;
 pub use refused::{MOST_RECORDS, Refused};

@@ -1,5 +1,5 @@
 -- Facts of each element of a list, beginnings of lists, and lists made of others one by one.
-use Rattle.std.proofs.Common.{◌≡◌, ℕ, ◌+◌, ◌<◌, ◌≤◌, List, [], ◌∷◌, ◌++◌, map, take, get_or, length, subst, sym, ◌∙◌, ap, append_assoc, append-nil, arith}
+use Rattle.std.proofs.Common.{◌≡◌, ℕ, ◌+◌, ◌<◌, ◌≤◌, List, [], ◌∷◌, ◌++◌, map, take, get_or, length, refl, subst, sym, ◌∙◌, ap, append_assoc, append-nil, arith}
 use Rattle.std.proofs.lemmas.List.{map_more, take_all}
 use mathlib.Core.List.{IsPrefix}
 use Rattle.ael_threads.specs.Histories.{Each}
@@ -36,6 +36,17 @@ module _ {A : Type 0} where
   pub not_empty : (xs ys : List A) (x : A) → xs ++ x ∷ ys ≡ [] → ⊥
   not_empty [] ys x e = cc
   not_empty (z ∷ zs) ys x e = cc
+
+  -- a list with one more at its end tells both
+  pub one_less : (xs ys : List A) (x y : A) → xs ++ x ∷ [] ≡ ys ++ y ∷ [] → (x ≡ y) × (xs ≡ ys)
+  one_less [] [] x y e = let q : x ≡ y = cc in (q, refl)
+  one_less [] (z ∷ ys) x y e = let q : [] ≡ ys ++ y ∷ [] = cc in absurd (not_empty ys [] y (sym q))
+  one_less (z ∷ xs) [] x y e = let q : xs ++ x ∷ [] ≡ [] = cc in absurd (not_empty xs [] x q)
+  one_less (z ∷ xs) (w ∷ ys) x y e =
+      let rest : xs ++ x ∷ [] ≡ ys ++ y ∷ [] = cc in
+      let r = one_less xs ys x y rest in
+      let first : z ≡ w = cc in
+      (r.0, λ i. first i ∷ r.1 i)
 
   pub prefix_more : (xs ys zs : List A) → IsPrefix xs ys → IsPrefix xs (ys ++ zs)
   prefix_more xs ys zs h = (h.0 ++ zs, sym (append_assoc xs h.0 zs) ∙ ap (λ (z : List A). z ++ zs) h.1)
