@@ -118,6 +118,47 @@ fn a_change_of_an_output_is_found(rt: HostRuntime) -> Result<(), Fail> {
     Ok(())
 }
 
+/// Audits what these words print of a text, with the changes of each row.
+fn check_changes<R: Threads + Wait + Sync>(
+    rt: &R,
+    alloc: Global,
+    text: &str,
+    words: &str,
+    rows: &str,
+) -> Result<(), Fail> {
+    let told = call(rt, alloc, words, text, AMPLE)?;
+    let input = input(alloc, text, str::from_utf8(told.out.bytes())?)?;
+    for row in rows.split('\n') {
+        check_change(rt, alloc, &input, row)?;
+    }
+    Ok(())
+}
+
+/// Two records: a register keeps the first one, and nothing the second one.
+const LOST: &str = "\
+.mutator
+new r0 1
+new r1 1
+li r1 0
+raw r4 127
+li r4 0
+raw r4 100
+l: jmp l
+";
+
+const LOST_WORDS: &str = "sim --pages 4 --scanners 0 --order --dump --steps 300";
+
+/// Changes of what is printed of that text after a flip. `.output` is line 9, and the place P of the table is in line P + 15. Line 242 has
+/// the second record's header.
+const LOST_CHANGES: &str = "\
+as it was printed while a lost record is there|audit||audit: yes/||0
+a busy word of a worker that keeps nothing in its place|audit|242=0000000000000017/|audit: no: word 227/||9";
+
+#[test]
+fn a_change_of_an_old_record_is_found(rt: HostRuntime) -> Result<(), Fail> {
+    check_changes(&rt, rt.alloc(), LOST, LOST_WORDS, LOST_CHANGES)
+}
+
 /// Two weak cells: a register keeps the first one's record, and nothing the second one's.
 const CELLS: &str = "\
 .mutator
@@ -149,7 +190,7 @@ no place is kept for the copy|audit|18=0000000000010012 0000000000000000/|audit:
     (
         "650",
         "\
-as it was printed behind a cell that was emptied|audit||audit: yes/||0
+as it was printed after a cell was emptied|audit||audit: yes/||0
 a cell that was emptied before the turn was taken|audit|27=0000000000000001/|audit: no: word 295/||9
 an empty cell whose record was copied|audit|312=0000000000000000/|audit: no: word 292/||9
 a cell that is still to be emptied|audit|315=0000000000000319/|audit: yes/||0
@@ -169,11 +210,7 @@ a link that is spelled as a pointer|audit|316=0000000000000301/|audit: yes/||0",
 fn a_change_of_an_output_with_weak_cells_is_found(rt: HostRuntime) -> Result<(), Fail> {
     for (steps, rows) in CELL_CHANGES {
         let words = format!(in rt.alloc(); "sim --pages 4 --order --dump --steps {steps}")?;
-        let told = call(&rt, rt.alloc(), &words, CELLS, AMPLE)?;
-        let input = input(rt.alloc(), CELLS, str::from_utf8(told.out.bytes())?)?;
-        for row in rows.split('\n') {
-            check_change(&rt, rt.alloc(), &input, row)?;
-        }
+        check_changes(&rt, rt.alloc(), CELLS, &words, rows)?;
     }
     Ok(())
 }
