@@ -172,6 +172,21 @@ fn of_two_that_link_cells_both_get_on(rt: HostRuntime) -> Result<(), Fail> {
     Ok(())
 }
 
+/// The scanner walks, while all others sleep. No step lies between these.
+#[test]
+fn a_walk_makes_just_its_steps(rt: HostRuntime) -> Result<(), Fail> {
+    let program = program(rt.alloc(), LINES)?;
+    let mut core = forwarded(&rt, rt.alloc(), &program, 1)?;
+    until_want(&rt, &mut core, SCANNER, TURN);
+    step(&rt, &mut core, SCANNER);
+    for wanted in WALK {
+        assert_same(&rt, &want(&rt, &core, SCANNER), &Some(wanted));
+        step(&rt, &mut core, SCANNER);
+    }
+    check_end(&rt, &mut core);
+    Ok(())
+}
+
 /// The scanner has the turn, and sleeps before each step of its walk.
 #[test]
 fn who_walks_over_cells_may_sleep(rt: HostRuntime) -> Result<(), Fail> {

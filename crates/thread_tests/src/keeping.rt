@@ -10,10 +10,10 @@ use mutator_asm::Operand;
 use std::process::Abort;
 use std::sync::Wait;
 
-/// The list has so many links, each with a number, which take two pages.
+/// How many links the list has, each with a number. They take two pages.
 const LINKS: u64 = 30;
 
-/// More records of a page than are made between so many exchanges of spaces of a few pages.
+/// How many records of a page are made at most until an epoch has come. Here that is far more than it takes: a space holds only a few.
 const RECORDS: u32 = 1_000;
 
 const ZERO: Operand = Operand::Number(0);
@@ -58,7 +58,7 @@ pub fn check_list<R: Wait + Abort>(rt: &R, h: &Shared, mutator: &mut Mutator)
     assert_same(rt, &mutator.reg(0), &Reg::Number(0));
 }
 
-/// Makes records that nobody keeps, until the spaces have been exchanged so often.
+/// Makes records, of which it keeps only the last one, until it is in this epoch.
 pub fn flip_until<R: Wait + Abort>(rt: &R, h: &Shared, mutator: &mut Mutator, epoch: u32)
     requires table { mutator.old.table ≡ h.now.table.shared.table_id }
     requires rests { mutator.old.worker.task ≡ None }

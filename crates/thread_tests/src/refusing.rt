@@ -94,6 +94,7 @@ fn try_calls<R: Wait + Abort>(rt: &R, h: &Shared, mutator: &mut Mutator)
 fn refused_calls_change_nothing(rt: HostRuntime) -> Result<(), Fail> {
     let (h, seats, mut one, other) = open_two(rt.alloc(), 4, false)?;
     try_calls(&rt, &h, &mut one);
+    // Who has an end has no call under way, as `close_two` asks.
     assert!(rt; one.ended().is_some());
     close_two(&rt, h, seats, one, other);
     Ok(())

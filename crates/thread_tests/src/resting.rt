@@ -38,8 +38,8 @@ fn computes<R: Wait>(rt: &R, h: &Shared, mutator: &mut Mutator, has_flipped: &At
     sum
 }
 
-/// Is away until the other has flipped, and tells whether it has. Then it rests.
-fn waits<R: Threads + Wait + Sync + Abort>(
+/// Is away until the other has flipped, and tells whether it has.
+fn waits<R: Threads + Wait + Sync>(
     rt: &R,
     h: &Shared,
     mutator: &mut Mutator,
@@ -50,9 +50,7 @@ fn waits<R: Threads + Wait + Sync + Abort>(
     ensures table { mutator.new.table ≡ mutator.old.table }
     ensures rests { mutator.new.worker.task ≡ None }
 {
-    let has_come = mutator.away(rt, h, || comes(has_flipped));
-    assert!(rt; mutator.rests());
-    has_come
+    mutator.away(rt, h, || comes(has_flipped))
 }
 
 /// Flips, and tells it.

@@ -21,15 +21,17 @@ const FLIPS: u32 = 20;
 /// Rounds with work after `snap`: they save the board and the two pages of the list, and mark the checkpoint as finished.
 const SAVES: u32 = 4;
 
-/// What the two tell each other beside the heap.
+/// What the two tell each other apart from the heap.
 #[derive(Drop)]
 struct Signs {
     stop: AtomicBool,
     stopped: AtomicBool,
     again: AtomicBool,
+    worked: AtomicBool,
 }
 
-/// Flips while the scanner scans, while it is stopped and while it scans again; and leaves, with the list that it had before.
+/// Flips while the scanner scans, and while it is stopped. Then it makes `snap` and stands still until the scanner has worked again, flips
+/// while that scans again, and leaves with the list that it had before.
 fn works<R: Wait + Abort>(rt: &R, h: &Shared, mutator: &mut Mutator, signs: &Signs)
     requires table { mutator.old.table ≡ h.now.table.shared.table_id }
     requires rests { mutator.old.worker.task ≡ None }
@@ -40,25 +42,26 @@ fn works<R: Wait + Abort>(rt: &R, h: &Shared, mutator: &mut Mutator, signs: &Sig
     signs.stop.store(true, Ordering::SeqCst);
     assert!(rt; comes(&signs.stopped));
     flip_until(rt, h, mutator, 2 * FLIPS);
+    make(rt, h, mutator, Instr::Snap);
     signs.again.store(true, Ordering::SeqCst);
+    assert!(rt; comes(&signs.worked));
     flip_until(rt, h, mutator, 3 * FLIPS);
     check_list(rt, h, mutator);
     mutator.leave(rt, h);
 }
 
-/// Scans until it is told to stop, and then again until the mutator has left.
+/// Scans until it is told to stop. Then it makes a round, in which there is a page to save, and scans again until the mutator has left.
 fn scans<R: Wait + Abort>(rt: &R, h: &Shared, scanner: &mut Scanner, signs: &Signs)
     requires { scanner.old.seated.table ≡ h.now.table.shared.table_id }
     ensures { scanner.new.seated.table ≡ scanner.old.seated.table }
 {
     scanner.scans(rt, h, &signs.stop);
-    assert!(rt; scanner.rests());
     signs.stop.store(false, Ordering::SeqCst);
     signs.stopped.store(true, Ordering::SeqCst);
     assert!(rt; comes(&signs.again));
-    let before = scanner.steps();
+    assert_same(rt, &scanner.round(rt, h), &Round::Worked);
+    signs.worked.store(true, Ordering::SeqCst);
     scanner.scans(rt, h, &signs.stop);
-    assert!(rt; scanner.steps() > before);
     assert_same(rt, &scanner.round(rt, h), &Round::Gone);
 }
 
@@ -69,6 +72,7 @@ fn a_scanner_stops_and_begins_again(rt: HostRuntime) -> Result<(), Fail> {
         stop: AtomicBool::new(false),
         stopped: AtomicBool::new(false),
         again: AtomicBool::new(false),
+        worked: AtomicBool::new(false),
     };
     join_mut(
         &rt,
@@ -85,6 +89,9 @@ fn rounds_tell_whether_there_was_work(rt: HostRuntime) -> Result<(), Fail> {
     assert_same(&rt, &scanner.round(&rt, &h), &Round::Nothing);
     make_list(&rt, &h, &mut mutator);
     make(&rt, &h, &mut mutator, Instr::Snap);
+    // An act begins a round, of which `round` makes what is left.
+    scanner.act(&h);
+    assert!(rt; !scanner.rests());
     for _ in 0..SAVES {
         assert_same(&rt, &scanner.round(&rt, &h), &Round::Worked);
     }

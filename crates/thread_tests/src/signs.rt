@@ -1,4 +1,4 @@
-//! What threads tell each other beside the heap.
+//! What threads tell each other apart from the heap.
 
 use std::sync::atomic::{AtomicBool, Ordering};
 use std::thread;

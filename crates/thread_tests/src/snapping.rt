@@ -27,7 +27,7 @@ const ONE: Operand = Operand::Number(1);
 /// The record as it was at `snap`.
 const TEXT: &str = "checkpoint 1\nboard 0.1 0 0 0 0 0 0 0 0 0 0 0 0 0 0 0\n0.1 fields 1: 5\n";
 
-/// What the two tell each other beside the heap.
+/// What the two tell each other apart from the heap.
 #[derive(Drop)]
 struct Signs {
     snapped: AtomicU64,
