@@ -1,0 +1,11 @@
+pub mod RegisterCount
+pub mod SeenCalls
+pub mod PlainCalls
+pub mod Lengths
+pub mod Effects
+pub mod ShownRegisters
+pub mod NumberCalls
+pub mod RecordCalls
+pub mod NewRecords
+pub mod BoardCalls
+pub mod FrameCalls

@@ -1,0 +1,29 @@
+use Rattle.std.proofs.Common.{◌∙◌, subst}
+use Rattle.gc_worker.specs.declared.calls.did.Did.{Did}
+use Rattle.gc_worker.specs.declared.task.Task.TheVariants.{Calls}
+use Rattle.ael_threads.specs.Calls.{Called, CalledBy}
+use Rattle.ael_threads.specs.Seats.{IsMine, Seated}
+use Rattle.ael_runtime.proofs.SeenCalls.{called, executed, may_trap, mine_more}
+use Rattle.ael_runtime.proofs.local.Local.call.Goals as goal
+
+pub returns-clause-called : goal.returns-clause-called
+returns-clause-called g c =
+    called c.args.self.now c.exec.new.self c.args.instr c.exec.result c.requires.other
+    (subst (λ (s : Seated). CalledBy s c.args.instr c.exec.result c.exec.new.self) c.self.view_is c.exec.ensures.called)
+
+pub returns-clause-executed : goal.returns-clause-executed
+returns-clause-executed g c done =
+    let by = returns-clause-called g c in
+    executed c.args.self.now c.exec.new.self c.args.instr (subst (λ (s : Seated). IsMine s.knows) c.self.view_is c.self.invariant.2)
+    (subst (λ (did : Did). Called c.args.self.now (Calls c.args.instr) did c.exec.new.self) done by)
+
+pub returns-clause-trapped : goal.returns-clause-trapped
+returns-clause-trapped g c end trap =
+    let by = returns-clause-called g c in
+    may_trap c.args.self.now c.exec.new.self c.args.instr end (subst (λ (s : Seated). IsMine s.knows) c.self.view_is c.self.invariant.2)
+    (subst (λ (did : Did). Called c.args.self.now (Calls c.args.instr) did c.exec.new.self) trap by)
+
+pub invariant_of-self : goal.invariant_of-self
+invariant_of-self g c =
+    let by = returns-clause-called g c in
+    (c.exec.ensures.table ∙ c.self.invariant.0, by.rests, mine_more c.args.self.now c.exec.new.self (Calls c.args.instr) c.exec.result by)

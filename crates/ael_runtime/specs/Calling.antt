@@ -1,0 +1,83 @@
+-- Calls of a mutator, and what one does to what it sees.
+use Rattle.std.specs.Prelude.{◌≡◌, ◌≢◌, ℕ, ◌<◌, length, List, [], ◌∷◌, None, Some, Ok, IsOk}
+use Rattle.plain_state.specs.declared.end.End.{End}
+use Rattle.plain_state.specs.declared.sizes.TheConstants.{REGISTERS}
+use Rattle.plain_state.specs.declared.value.Identity.{Identity}
+use Rattle.plain_state.specs.State.{Heap, Mutator, serial_of}
+use Rattle.mutator_asm.specs.declared.instr.Instr.{Instr}
+use Rattle.mutator_asm.specs.declared.instr.Instr.TheVariants.{Snap}
+use Rattle.plain_heap.specs.Action.{action}
+use Rattle.plain_heap.specs.Call.{After, call}
+use Rattle.plain_heap.specs.Records.{RecordShape, shape_of}
+use Rattle.gc_worker.specs.declared.calls.did.Did.{Did}
+use Rattle.gc_worker.specs.declared.calls.did.Did.TheVariants.{Done, Trap}
+use Rattle.gc_worker.specs.declared.task.Task.TheVariants.{Calls}
+use Rattle.gc_worker.specs.Plain.Answer.{MayEnd}
+use Rattle.gc_worker.specs.Plain.Seen.{making_in}
+use Rattle.ael_threads.specs.Calls.{Called}
+use Rattle.ael_threads.specs.Seats.{Seated}
+use Rattle.ael_runtime.specs.declared.root.TheConstants.{SCRATCH}
+use Rattle.ael_runtime.specs.Reading.{heap_before, held, number, seen_heap, seen_mutator}
+
+-- ---- calls one after another
+
+-- an instruction, and what its call came to
+pub record OneCall : Type 0 where
+  pub instr : Instr
+  pub did : Did
+
+abbrev pub done : Instr → OneCall
+done instr = record { instr = instr; did = Done }
+
+abbrev pub trapped : Instr → End → OneCall
+trapped instr end = record { instr = instr; did = Trap end }
+
+-- just these calls were made
+abbrev pub CalledAll : Seated → List OneCall → Seated → Type 0
+CalledAll a [] b = b ≡ a
+CalledAll a (c ∷ cs) b = (then : Seated) × (Called a (Calls c.instr) c.did then × CalledAll then cs b)
+
+-- these had their effects and left the mutator without an end; of each register but this one, and that for scratch, the value stays
+pub record Leaves (a : Seated) (calls : List OneCall) (r : ℕ) (b : Seated) : Type 0 where
+  pub called : CalledAll a calls b
+  pub no_end : b.worker.account.end ≡ None
+  pub others : (j : ℕ) → j ≢ r → j ≢ SCRATCH → held b j ≡ held a j
+
+-- ---- one call
+
+-- each record of a heap is in a later one, with its kind and its length
+abbrev pub KeepsShapes : Heap → Heap → Type 0
+KeepsShapes heap later = (i : Identity) (known : RecordShape) → shape_of heap i ≡ Some known → shape_of later i ≡ Some known
+
+-- what is so at a call: others may have made calls since, by which the mutator itself and the number of its records have not changed
+pub record AtCall (a : Seated) (heap : Heap) : Type 0 where
+  pub shapes : KeepsShapes (seen_heap a) heap
+  pub serial : serial_of heap (number a) ≡ serial_of (seen_heap a) (number a)
+  pub kept : number a < length heap.records
+  pub registers : length (seen_mutator a).registers ≡ REGISTERS
+
+-- An instruction had its effect: what the plain machine's call leaves on the heap at that point is what is seen after it.
+pub record Executed (a : Seated) (instr : Instr) (b : Seated) : Type 0 where
+  pub called : Called a (Calls instr) Done b
+  pub heap : Heap
+  pub at_call : AtCall a heap
+  pub after : After
+  pub is : call (number a) heap (seen_mutator a) instr ≡ Ok after
+  pub before : heap_before b ≡ heap
+  pub heap_is : seen_heap b ≡ after.heap
+  pub mutator_is : seen_mutator b ≡ after.mutator
+  pub number_is : number b ≡ number a
+  pub serial_is : b.worker.account.serial ≡ serial_of (seen_heap b) (number b)
+
+-- it had this end, and nothing else changed
+pub record MayTrap (a : Seated) (instr : Instr) (end : End) (b : Seated) : Type 0 where
+  pub heap : Heap
+  pub at_call : AtCall a heap
+  pub may : MayEnd (number a) heap (seen_mutator a) instr end
+  pub heap_is : seen_heap b ≡ heap
+
+-- The instruction has its effect on each heap that there may be at the call, and makes no record.
+pub record IsSure (a : Seated) (instr : Instr) : Type 0 where
+  pub other : instr ≢ Snap
+  pub no_record : (k : Mutator) → making_in (action k instr) ≡ None
+  pub ok : (heap : Heap) → AtCall a heap → IsOk (call (number a) heap (seen_mutator a) instr)

@@ -1,0 +1,4 @@
+pub mod Reading
+pub mod Calling
+pub mod Failing
+pub mod Making

@@ -1,0 +1,78 @@
+//! Numbers in roots, and what is moved from one to another.
+
+ghost use Rattle.std.specs.Prelude.{◌≡◌, [], ◌∷◌, IfErr, OnOk, IfOk, IsTrue, ◌↔◌};
+ghost use Rattle.plain_state.specs.declared.value.Value.TheVariants as values;
+ghost use Rattle.mutator_asm.specs.declared.instr.Instr.TheVariants.{Eq, Li, Mov};
+ghost use Rattle.plain_heap.specs.Action.{are_same, is_reference};
+ghost use Rattle.ael_runtime.specs.declared.root.TheConstants.{SCRATCH};
+ghost use Rattle.ael_runtime.specs.Calling.{Leaves, done};
+ghost use Rattle.ael_runtime.specs.Failing.{Fails, NumberFails};
+ghost use Rattle.ael_runtime.specs.Reading.{held, number_of, register_of};
+
+use crate::failure::Failure;
+use crate::local::Local;
+use crate::root::{Root, SCRATCH};
+use mutator_asm::Instr;
+use plain_state::NUMBERS;
+use std::sync::Wait;
+
+impl<'h> Local<'h> {
+    /// The root holds this number. It is too large exactly from 2^62 on.
+    pub fn set_number<R: Wait>(&mut self, rt: &R, to: Root, number: u64) -> Result<(), Failure>
+        ensures of_heap { self.new.table ≡ self.old.table }
+        ensures value { OnOk result (held self.new (register_of to) ≡ values.Number number) }
+        ensures leaves { OnOk result (Leaves self.old (done (Li (register_of to) number) ∷ []) (register_of to) self.new) }
+        ensures fails { IfErr result (λ why. NumberFails self.old number why self.new) }
+    {
+        if let Some(end) = self.ended() {
+            return Err(Failure::Ended(end));
+        }
+        if number >= NUMBERS {
+            return Err(Failure::TooLarge);
+        }
+        self.does(rt, Instr::Li(to.register(), number));
+        Ok(())
+    }
+
+    /// The number in a root, if it holds no record.
+    pub fn number(&self, of: Root) -> Option<u64>
+        ensures { result ≡ number_of (held self.now (register_of of)) }
+    {
+        self.number_in(of.register())
+    }
+
+    /// Whether a root leads to a record.
+    pub fn is_record(&self, of: Root) -> bool
+        ensures { result ≡ is_reference (held self.now (register_of of)) }
+    {
+        self.number(of).is_none()
+    }
+
+    /// The root holds what another does.
+    pub fn copy<R: Wait>(&mut self, rt: &R, to: Root, from: Root) -> Result<(), Failure>
+        ensures of_heap { self.new.table ≡ self.old.table }
+        ensures value { OnOk result (held self.new (register_of to) ≡ held self.old (register_of from)) }
+        ensures leaves { OnOk result (Leaves self.old (done (Mov (register_of to) (register_of from)) ∷ []) (register_of to) self.new) }
+        ensures fails { IfErr result (λ why. Fails self.old why self.new) }
+    {
+        if let Some(end) = self.ended() {
+            return Err(Failure::Ended(end));
+        }
+        self.does(rt, Instr::Mov(to.register(), from.register()));
+        Ok(())
+    }
+
+    /// Whether two roots hold the same number, or lead to the same record.
+    pub fn same<R: Wait>(&mut self, rt: &R, one: Root, other: Root) -> Result<bool, Failure>
+        ensures of_heap { self.new.table ≡ self.old.table }
+        ensures same { IfOk result (λ yes. yes ≡ are_same (held self.old (register_of one)) (held self.old (register_of other))) }
+        ensures leaves { OnOk result (Leaves self.old (done (Eq SCRATCH (register_of one) (register_of other)) ∷ []) SCRATCH self.new) }
+        ensures fails { IfErr result (λ why. Fails self.old why self.new) }
+    {
+        if let Some(end) = self.ended() {
+            return Err(Failure::Ended(end));
+        }
+        self.does(rt, Instr::Eq(SCRATCH, one.register(), other.register()));
+        Ok(self.number_in(SCRATCH) == Some(1))
+    }
+}
