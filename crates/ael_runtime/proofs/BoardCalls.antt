@@ -31,7 +31,7 @@ pub is_put : (a b : Seated) (x r : ℕ) → x < BOARD_WORDS → Executed a (inst
 is_put a b x r within e =
     let s = writes a b (instrs.Put (operands.Number x) r) e (with_board e.heap x (held a r)) (call-put (number a) e.heap (seen_mutator a) x r within) in (
       s.heap_is ∙ ap (λ (h : Heap). with_board h x (held a r)) (sym e.before),
-      record { called = (b, (e.called, refl)); no_end = e.called.ends; others = λ j other scratch. s.registers j },
+      record { called = (b, (e.called, refl)); alive = e.alive; no_end = e.called.ends; others = λ j other scratch. s.registers j },
     )
 
 -- ---- get
@@ -72,6 +72,7 @@ is_taken a then b d x into within e f =
       empty = s.heap_is ∙ (ap (λ (h : Heap). with_board h x (held then d)) (sym f.before) ∙ ap (with_board (heap_before b) x) zero.value);
       leaves = record {
         called = (then, (e.called, (b, (f.called, refl))));
+        alive = e.alive;
         no_end = f.called.ends;
         others = λ j other scratch. s.others j other ∙ zero.others j other;
       };

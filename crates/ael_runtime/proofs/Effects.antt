@@ -12,7 +12,7 @@ use Rattle.ael_threads.specs.Seats.{Seated}
 use Rattle.ael_runtime.specs.Calling.{Executed}
 use Rattle.ael_runtime.specs.Reading.{held, number, seen_heap, seen_mutator}
 
-after_same : (o : Result After End) (x y : After) → o ≡ Ok x → o ≡ Ok y → x ≡ y
+pub after_same : (o : Result After End) (x y : After) → o ≡ Ok x → o ≡ Ok y → x ≡ y
 after_same o x y is other = cc
 
 -- it leaves this heap, and this value in register d

@@ -21,17 +21,13 @@ use Rattle.mutator_asm.specs.Program.{is_valid}
 use Rattle.plain_heap.specs.Call.{may_hold, values_of}
 use Rattle.plain_heap.specs.Records.{RecordShape, shape}
 use Rattle.gc_worker.proofs.Plain.RecordsMade.{made_of}
-use Rattle.gc_worker.specs.declared.calls.did.Did.{Did}
-use Rattle.gc_worker.specs.declared.calls.did.Did.TheVariants.{Trap}
-use Rattle.gc_worker.specs.declared.task.Task.TheVariants.{Calls}
 use Rattle.gc_worker.specs.Workers.Fits.{FitsCall}
 use Rattle.ael_threads.specs.declared.refused.TheConstants.{MOST_RECORDS}
-use Rattle.ael_threads.specs.Calls.{Called}
 use Rattle.ael_threads.specs.Seats.{Seated}
 use Rattle.ael_runtime.specs.declared.failure.Failure.{Failure}
 use Rattle.ael_runtime.specs.declared.root.Root.{Root}
 use Rattle.ael_runtime.specs.declared.root.TheConstants.{FRAMES, SCRATCH}
-use Rattle.ael_runtime.specs.Calling.{AtCall, Executed, IsSure, Leaves, MayTrap, OneCall}
+use Rattle.ael_runtime.specs.Calling.{AtCall, Executed, IsSure, LeavesOnceSeen, MayTrap, OneCall}
 use Rattle.ael_runtime.specs.Failing.{IsFullForFrame}
 use Rattle.ael_runtime.specs.Making.{HasMade, HasPushed}
 use Rattle.ael_runtime.specs.Reading.{held, len_of, number, register_of, seen_heap, seen_mutator, word_of}
@@ -40,6 +36,7 @@ use Rattle.ael_runtime.proofs.Lengths.{there_later}
 use Rattle.ael_runtime.proofs.NewRecords.{full, made, made_sets, makes_begin}
 use Rattle.ael_runtime.proofs.NumberCalls.{mov_sets, root_below}
 use Rattle.ael_runtime.proofs.PlainCalls.{call-new, call-st, is_done}
+use Rattle.ael_runtime.proofs.RecordCalls.{seen_others}
 
 fields_hold : (kind : Kind) (v : Value) → kind ≡ Fields → may_hold kind 0 v ≡ Ok v
 fields_hold kind v is = rw is refl
@@ -58,12 +55,16 @@ new_begins a kept n serial keeps short is few =
     makes_begin kept.worker.account kept.worker.registers (instrs.New FRAMES (operands.Number n)) (valid_new FRAMES n (omega arith) short) (omega (arith, same, is, few))
 
 pub full_frame : (a kept b : Seated) (slots n : ℕ) → n ≡ slots → n + 1 ≤ LONGEST_RECORD → Executed a (instrs.Mov SCRATCH FRAMES) kept
-    → (did : Did) (end : End) → Called kept (Calls (instrs.New FRAMES (operands.Number (n + 1)))) did b → did ≡ Trap end → MayTrap kept (instrs.New FRAMES (operands.Number (n + 1))) end b
-    → IsFullForFrame a slots end b
-full_frame a kept b slots n is short keeps did end call trap t =
-    let called : Called kept (Calls (instrs.New FRAMES (operands.Number (n + 1)))) (Trap end) b = subst (λ (z : Did). Called kept (Calls (instrs.New FRAMES (operands.Number (n + 1)))) z b) trap call in
+    → (end : End) → MayTrap kept (instrs.New FRAMES (operands.Number (n + 1))) end b → IsFullForFrame a slots end b
+full_frame a kept b slots n is short keeps end t =
     let for_n : IsFullForFrame a n end b = record {
-      called = (kept, (keeps.called, (b, (called, refl))));
+      ends = record {
+        called = (kept, (keeps.called, (b, (t.called, refl))));
+        alive = keeps.alive;
+        ended = t.called.ends;
+        heap = t.heap_is ∙ sym t.before;
+        others = λ j scratch. t.registers j ∙ (mov_sets a kept SCRATCH FRAMES keeps (omega arith)).others j scratch;
+      };
       full = full kept b (instrs.New FRAMES (operands.Number (n + 1))) end t Fields FRAMES (n + 1) (call-new (number kept) t.heap (seen_mutator kept) FRAMES (n + 1) short);
     } in
     subst (λ (k : ℕ). IsFullForFrame a k end b) is for_n
@@ -105,8 +106,8 @@ module _ (a kept new : Seated) (slots : ℕ) (short : slots + 1 ≤ LONGEST_RECO
         (call-st (number new) heap (seen_mutator new) FRAMES 0 SCRATCH i (frame heap at).0 (held new SCRATCH) is_new.leads (frame heap at).1 (frame_within heap at) (frame_holds heap at (held new SCRATCH)));
   }
 
-  pub pushed : (b : Seated) → Executed new (instrs.St FRAMES (operands.Number 0) SCRATCH) b → HasPushed a slots b
-  pushed b e =
+  pub pushed : (b : Seated) → a.worker.account.serial < MOST_RECORDS → Executed new (instrs.St FRAMES (operands.Number 0) SCRATCH) b → HasPushed a slots b
+  pushed b room e =
       let r = frame e.heap e.at_call in
       let v = held new SCRATCH in
       let s = writes new b (instrs.St FRAMES (operands.Number 0) SCRATCH) e (stored e.heap i r.0 0 v)
@@ -120,6 +121,9 @@ module _ (a kept new : Seated) (slots : ℕ) (short : slots + 1 ≤ LONGEST_RECO
         makes = makes.called;
         made = is_new;
         links = e.called;
+        alive = keeps.alive;
+        short = omega (arith, short);
+        room = room;
         no_end = e.called.ends;
         top = s.registers FRAMES;
         len = ap (len_of (seen_heap b)) top ∙ (ap length values ∙ (length-set r.0.values 0 v ∙ frame_len e.heap e.at_call));
@@ -136,22 +140,22 @@ module _ (a kept new : Seated) (slots : ℕ) (short : slots + 1 ≤ LONGEST_RECO
 module _ (a b : Seated) (slot n : ℕ) (n_is : n ≡ slot) where
   -- in a call that leaves a value in register d
   module _ (cs : List OneCall) (d : ℕ) (other : FRAMES ≢ d) where
-    top_stays : Leaves a cs d b → held b FRAMES ≡ held a FRAMES
-    top_stays leaves = leaves.others FRAMES other (λ e. absurd (omega (arith, e)))
+    top_stays : LeavesOnceSeen a FRAMES cs d b → held b FRAMES ≡ held a FRAMES
+    top_stays leaves = seen_others a FRAMES cs d b leaves FRAMES other (λ e. absurd (omega (arith, e)))
 
-    pub within_top : {T : Type 0} (p : Result T Failure) → OnOk p (n + 1 < len_of (seen_heap b) (held a FRAMES)) → OnOk p (Leaves a cs d b) → OnOk p (slot + 1 < len_of (seen_heap b) (held b FRAMES))
+    pub within_top : {T : Type 0} (p : Result T Failure) → OnOk p (n + 1 < len_of (seen_heap b) (held a FRAMES)) → OnOk p (LeavesOnceSeen a FRAMES cs d b) → OnOk p (slot + 1 < len_of (seen_heap b) (held b FRAMES))
     within_top (Ok x) within leaves = let top = ap (len_of (seen_heap b)) (top_stays leaves) in omega (arith, within, top, n_is)
     within_top (Err why) within leaves = tt
 
-    same_word : Leaves a cs d b → word_of (seen_heap b) (held a FRAMES) (n + 1) ≡ word_of (seen_heap b) (held b FRAMES) (slot + 1)
+    same_word : LeavesOnceSeen a FRAMES cs d b → word_of (seen_heap b) (held a FRAMES) (n + 1) ≡ word_of (seen_heap b) (held b FRAMES) (slot + 1)
     same_word leaves = (λ j. word_of (seen_heap b) (sym (top_stays leaves) j) (n_is j + 1))
 
-    pub restored : {T : Type 0} (p : Result T Failure) (r : ℕ) → d ≡ r → OnOk p (held b d ≡ word_of (seen_heap b) (held a FRAMES) (n + 1)) → OnOk p (Leaves a cs d b)
+    pub restored : {T : Type 0} (p : Result T Failure) (r : ℕ) → d ≡ r → OnOk p (held b d ≡ word_of (seen_heap b) (held a FRAMES) (n + 1)) → OnOk p (LeavesOnceSeen a FRAMES cs d b)
         → OnOk p (held b r ≡ word_of (seen_heap b) (held b FRAMES) (slot + 1))
     restored (Ok x) r is value leaves = ap (held b) (sym is) ∙ (value ∙ same_word leaves)
     restored (Err why) r is value leaves = tt
 
-    pub saved : {T : Type 0} (p : Result T Failure) (q r : ℕ) → q ≡ r → OnOk p (word_of (seen_heap b) (held a FRAMES) (n + 1) ≡ held a q) → OnOk p (Leaves a cs d b)
+    pub saved : {T : Type 0} (p : Result T Failure) (q r : ℕ) → q ≡ r → OnOk p (word_of (seen_heap b) (held a FRAMES) (n + 1) ≡ held a q) → OnOk p (LeavesOnceSeen a FRAMES cs d b)
         → OnOk p (word_of (seen_heap b) (held b FRAMES) (slot + 1) ≡ held a r)
     saved (Ok x) q r is value leaves = sym (same_word leaves) ∙ (value ∙ ap (held a) is)
     saved (Err why) q r is value leaves = tt

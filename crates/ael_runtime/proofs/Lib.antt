@@ -1,8 +1,8 @@
-pub mod RegisterCount
 pub mod SeenCalls
 pub mod PlainCalls
 pub mod Lengths
 pub mod Effects
+pub mod KnownLengths
 pub mod ShownRegisters
 pub mod NumberCalls
 pub mod RecordCalls

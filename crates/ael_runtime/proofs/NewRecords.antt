@@ -1,7 +1,8 @@
 -- Calls that make a record.
-use Rattle.std.proofs.Common.{◌≡◌, ℕ, ◌+◌, ◌<◌, ◌≤◌, ◌==◌, Bool, true, false, List, [], ◌∷◌, length, None, Ok, refl, ap, sym, ◌∙◌, subst, arith, add-one}
+use Rattle.std.proofs.Common.{◌≡◌, ℕ, ◌+◌, ◌-◌, ◌<◌, ◌≤◌, ◌==◌, Bool, true, false, List, [], ◌∷◌, length, None, Ok, refl, ap, sym, ◌∙◌, subst, arith, add-one}
 use Rattle.std.specs.Prelude.{IsTrue, if◌then◌else◌, nat_lt}
 use Rattle.std.proofs.lemmas.Bool.{eqb-true, ltb-false}
+use Rattle.std.proofs.lemmas.List.{length-replicate}
 use Rattle.std.proofs.lemmas.Option.{slice_get_past}
 use Rattle.plain_state.specs.declared.end.End.{End}
 use Rattle.plain_state.specs.declared.kind.Kind.{Kind}
@@ -20,18 +21,15 @@ use Rattle.plain_heap.specs.Alone.{is_heap_full}
 use Rattle.plain_heap.specs.Call.{allocated, call}
 use Rattle.heap_state.specs.Worker.{Account}
 use Rattle.gc_worker.specs.Workers.Fits.{FitsCall}
-use Rattle.gc_worker.specs.declared.calls.did.Did.{Did}
-use Rattle.gc_worker.specs.declared.calls.did.Did.TheVariants.{Trap}
-use Rattle.gc_worker.specs.declared.task.Task.TheVariants.{Calls}
-use Rattle.ael_threads.specs.Calls.{Called}
 use Rattle.ael_threads.specs.declared.refused.TheConstants.{MOST_RECORDS}
 use Rattle.ael_threads.specs.Seats.{Seated}
 use Rattle.ael_runtime.specs.declared.root.Root.{Root}
 use Rattle.ael_runtime.specs.Calling.{Executed, Leaves, MayTrap, done}
 use Rattle.ael_runtime.specs.Failing.{IsFull}
 use Rattle.ael_runtime.specs.Making.{HasMade, is_too_long, kind_for, making}
-use Rattle.ael_runtime.specs.Reading.{number, register_of, seen_heap, seen_mutator}
+use Rattle.ael_runtime.specs.Reading.{held, len_of, number, register_of, seen_heap, seen_mutator}
 use Rattle.ael_runtime.proofs.Effects.{Sets, sets}
+use Rattle.ael_runtime.proofs.Lengths.{len_by_record}
 use Rattle.ael_runtime.proofs.NumberCalls.{leaves_one, root_within}
 use Rattle.ael_runtime.proofs.PlainCalls.{call-mix, call-new, call-raw, ends_full, is_done}
 
@@ -63,6 +61,10 @@ module _ (a b : Seated) (i : Instr) (e : Executed a i b) (kind : Kind) (d len : 
     fresh = past_last (made_by (seen_heap a) (number a));
   }
 
+-- the length that is then known
+pub made_len : (a : Seated) (kind : Kind) (len to : ℕ) (b : Seated) → HasMade a kind len to b → len_of (seen_heap b) (held b to) ≡ len
+made_len a kind len to b m = ap (len_of (seen_heap b)) m.leads ∙ (len_by_record (seen_heap b) m.identity (zeros kind len) m.is ∙ length-replicate len (Number 0))
+
 -- ---- the instruction of the runtime
 
 -- A fact of the instruction, the kind and the length that holds in each of the three cases.
@@ -80,7 +82,7 @@ module _ (to fields numbers : ℕ) (P : Instr → Kind → ℕ → Type 0)
   kind_by none no_fields = if none then Fields else (if no_fields then Raw else Mixed fields)
 
   abbrev most_by : (none no_fields : Bool) → ℕ
-  most_by none no_fields = if none then LONGEST_RECORD else (if no_fields then LONGEST_RECORD else 4094)
+  most_by none no_fields = if none then LONGEST_RECORD else (if no_fields then LONGEST_RECORD else LONGEST_RECORD - 1)
 
   by_tests : (none no_fields : Bool) → (numbers == 0) ≡ none → (fields == 0) ≡ no_fields → nat_lt (most_by none no_fields) (fields + numbers) ≡ false → P (instr_by none no_fields) (kind_by none no_fields) (fields + numbers)
   by_tests true no_fields none_is fields_is short =
@@ -93,7 +95,7 @@ module _ (to fields numbers : ℕ) (P : Instr → Kind → ℕ → Type 0)
       let few = ltb-false LONGEST_RECORD (fields + numbers) short in
       let same : numbers ≡ fields + numbers = omega (arith, none) in
       subst (P (instrs.Raw to (operands.Number numbers)) Raw) same (of_numbers none (omega (arith, few, same)))
-  by_tests false false none_is fields_is short = let few = ltb-false 4094 (fields + numbers) short in of_both (omega (arith, few))
+  by_tests false false none_is fields_is short = let few = ltb-false (LONGEST_RECORD - 1) (fields + numbers) short in of_both (omega (arith, few))
 
   pub making_is : is_too_long fields numbers ≡ false → P (making to fields numbers) (kind_for fields numbers) (fields + numbers)
   making_is short = by_tests (numbers == 0) (fields == 0) refl refl short
@@ -136,10 +138,15 @@ module _ (a b : Seated) (to : Root) (d fields numbers : ℕ) (d_is : d ≡ regis
         leaves_one a b makes e (register_of to) _ _ (made_sets a b makes e (kind_for fields numbers) (register_of to) (fields + numbers) into is),
       )
 
-  pub full_root : (did : Did) (end : End) → Called a (Calls i) did b → did ≡ Trap end → MayTrap a i end b → IsFull a makes end b
-  full_root did end call trap may =
-      let called : Called a (Calls makes) (Trap end) b = subst (λ (z : Instr). Called a (Calls z) (Trap end) b) same (subst (λ (z : Did). Called a (Calls i) z b) trap call) in
+  pub full_root : (end : End) → MayTrap a i end b → IsFull a makes end b
+  full_root end may =
       let t : MayTrap a makes end b = subst (λ (z : Instr). MayTrap a z end b) same may in (
-        (b, (called, refl)),
+        record {
+          called = (b, (t.called, refl));
+          alive = t.alive;
+          ended = t.called.ends;
+          heap = t.heap_is ∙ sym t.before;
+          others = λ j scratch. t.registers j;
+        },
         full a b makes end t (kind_for fields numbers) (register_of to) (fields + numbers) (call_making (number a) t.heap (seen_mutator a) (register_of to) fields numbers few),
       )

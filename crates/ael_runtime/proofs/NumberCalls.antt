@@ -33,7 +33,7 @@ root_within r d is = let below = root_below r in omega (arith, below, is)
 
 -- one call that left a value in register d
 pub leaves_one : (a b : Seated) (i : Instr) (e : Executed a i b) (d : ℕ) (v : Value) (heap : Heap) → Sets a d v heap b → Leaves a (done i ∷ []) d b
-leaves_one a b i e d v heap s = record { called = (b, (e.called, refl)); no_end = e.called.ends; others = λ j other scratch. s.others j other }
+leaves_one a b i e d v heap s = record { called = (b, (e.called, refl)); alive = e.alive; no_end = e.called.ends; others = λ j other scratch. s.others j other }
 
 -- ---- li
 

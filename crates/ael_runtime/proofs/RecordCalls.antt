@@ -1,5 +1,5 @@
 -- Calls that look at a record, read a word of it or write one.
-use Rattle.std.proofs.Common.{◌≡◌, ◌≢◌, ℕ, ◌<◌, inl, Bool, true, false, List, [], ◌∷◌, ◌++◌, length, Option, Some, None, Result, Ok, Err, slice_index_or, slice_set, refl, ap, sym, ◌∙◌, subst, arith, get_or-set_same, length-set}
+use Rattle.std.proofs.Common.{◌≡◌, ◌≢◌, ℕ, ◌<◌, inl, inr, Bool, true, false, List, [], ◌∷◌, ◌++◌, length, Option, Some, None, Result, Ok, Err, slice_index_or, slice_set, refl, ap, sym, ◌∙◌, subst, arith, get_or-set_same, length-set}
 use Rattle.std.specs.Prelude.{IsTrue, is_some}
 use Rattle.std.specs.Option.{option_map_or}
 use Rattle.std.proofs.lemmas.Bool.{lt-ltb}
@@ -22,14 +22,11 @@ use Rattle.gc_worker.proofs.Plain.RecordsMade.{made_of}
 use Rattle.heap_state.specs.Worker.{Account}
 use Rattle.gc_worker.specs.Plain.Seen.{seen}
 use Rattle.gc_worker.specs.Workers.Fits.{FitsCall}
-use Rattle.gc_worker.specs.declared.calls.did.Did.TheVariants.{Trap}
-use Rattle.gc_worker.specs.declared.task.Task.TheVariants.{Calls}
-use Rattle.ael_threads.specs.Calls.{Called}
 use Rattle.ael_threads.specs.Seats.{Seated}
 use Rattle.ael_runtime.specs.declared.failure.Failure.{Failure}
 use Rattle.ael_runtime.specs.declared.failure.Failure.TheVariants.{Ended, NotRecord, OutOfRange, RecordsOut, TooLarge}
 use Rattle.ael_runtime.specs.declared.root.TheConstants.{SCRATCH}
-use Rattle.ael_runtime.specs.Calling.{AtCall, CalledAll, Executed, IsSure, Leaves, MayTrap, OneCall, done, trapped}
+use Rattle.ael_runtime.specs.Calling.{AtCall, CalledAll, EndsOnceSeen, Executed, IsSure, Leaves, LeavesOnceSeen, MayTrap, OneCall, done, trapped}
 use Rattle.ael_runtime.specs.Failing.{CantHold, RecordFails, StoreFails, WordFails}
 use Rattle.ael_runtime.specs.Reading.{held, len_of, number, number_of, seen_heap, seen_mutator, word_of}
 use Rattle.ael_runtime.proofs.Effects.{sets, writes}
@@ -95,15 +92,61 @@ pub measured : (a b : Seated) (s : ℕ) (i : Identity) → held a s ≡ Referenc
 measured a b s i is e =
     let to = sets a b (instrs.Len SCRATCH s) e SCRATCH (Number (length (values_of e.heap i))) e.heap (omega arith) (call-len (number a) e.heap (seen_mutator a) SCRATCH s i is) in (
       to.value ∙ sym (ap (λ (v : Value). Number (len_of (seen_heap b) v)) is ∙ ap (λ (h : Heap). Number (length (values_of h i))) to.heap_is),
-      record { called = (b, (e.called, refl)); no_end = e.called.ends; others = λ j other scratch. to.others j other },
+      record { called = (b, (e.called, refl)); alive = e.alive; no_end = e.called.ends; others = λ j other scratch. to.others j other },
     )
+
+-- ---- after a look, or without it
+
+pub seen_others : (a : Seated) (of : ℕ) (cs : List OneCall) (r : ℕ) (b : Seated) → LeavesOnceSeen a of cs r b → (j : ℕ) → j ≢ r → j ≢ SCRATCH → held b j ≡ held a j
+seen_others a of cs r b (inl l) = l.others
+seen_others a of cs r b (inr l) = l.others
+
+-- one more call
+leaves_more : (a : Seated) (of : ℕ) (then : Seated) (c : OneCall) (r : ℕ) (b : Seated) → LeavesOnceSeen a of [] SCRATCH then → CalledAll then (c ∷ []) b → b.worker.account.end ≡ None
+    → ((j : ℕ) → j ≢ r → held b j ≡ held then j) → LeavesOnceSeen a of (c ∷ []) r b
+leaves_more a of then c r b (inl l) called no_end others = inl (record {
+  called = called_then a [] then (c ∷ []) b l.called called;
+  alive = l.alive;
+  no_end = no_end;
+  others = λ j other scratch. others j other ∙ l.others j scratch scratch;
+})
+leaves_more a of then c r b (inr l) called no_end others = inr (record {
+  called = called_then a (done (instrs.Len SCRATCH of) ∷ []) then (c ∷ []) b l.called called;
+  alive = l.alive;
+  no_end = no_end;
+  others = λ j other scratch. others j other ∙ l.others j scratch scratch;
+})
+
+-- one more, which is the end
+ends_more : (a : Seated) (of : ℕ) (then : Seated) (i : Instr) (end : End) (b : Seated) → LeavesOnceSeen a of [] SCRATCH then → MayTrap then i end b → EndsOnceSeen a of (trapped i end ∷ []) end b
+ends_more a of then i end b (inl l) t = inl (record {
+  called = called_then a [] then (trapped i end ∷ []) b l.called (b, (t.called, refl));
+  alive = l.alive;
+  ended = t.called.ends;
+  heap = t.heap_is ∙ sym t.before;
+  others = λ j scratch. t.registers j ∙ l.others j scratch scratch;
+})
+ends_more a of then i end b (inr l) t = inr (record {
+  called = called_then a (done (instrs.Len SCRATCH of) ∷ []) then (trapped i end ∷ []) b l.called (b, (t.called, refl));
+  alive = l.alive;
+  ended = t.called.ends;
+  heap = t.heap_is ∙ sym t.before;
+  others = λ j scratch. t.registers j ∙ l.others j scratch scratch;
+})
+
+-- none at all
+pub leaves_none : (a : Seated) (r : ℕ) → a.worker.account.end ≡ None → Leaves a [] r a
+leaves_none a r none = record { called = refl; alive = none; no_end = none; others = λ j other scratch. refl }
 
 -- ---- a word of it
 
--- after a look at its length
-module _ (a then : Seated) (of at : ℕ) (look : Leaves a (done (instrs.Len SCRATCH of) ∷ []) SCRATCH then) (other : of ≢ SCRATCH) (within : at < len_of (seen_heap then) (held a of)) where
-  pub still : held then of ≡ held a of
-  still = look.others of other other
+-- after a look at its length, or without it
+module _ (a then : Seated) (of at : ℕ) (look : LeavesOnceSeen a of [] SCRATCH then) (other : of ≢ SCRATCH) (within : at < len_of (seen_heap then) (held a of)) where
+  look_others : (j : ℕ) → j ≢ SCRATCH → held then j ≡ held a j
+  look_others j scratch = seen_others a of [] SCRATCH then look j scratch scratch
+
+  still : held then of ≡ held a of
+  still = look_others of other
 
   abbrev i : Identity
   i = (leads_by_len (seen_heap then) (held a of) at within).0
@@ -138,7 +181,7 @@ module _ (a then : Seated) (of at : ℕ) (look : Leaves a (done (instrs.Len SCRA
     pub record Fetched (b : Seated) : Type 0 where
       pub value : held b to ≡ word_of (seen_heap b) (held a of) at
       pub inside : at < len_of (seen_heap b) (held a of)
-      pub leaves : Leaves a (done (instrs.Len SCRATCH of) ∷ done (instrs.Ld to of (operands.Number at)) ∷ []) to b
+      pub leaves : LeavesOnceSeen a of (done (instrs.Ld to of (operands.Number at)) ∷ []) to b
 
     pub fetched : (b : Seated) → to < REGISTERS → Executed then (instrs.Ld to of (operands.Number at)) b → Fetched b
     fetched b into e =
@@ -147,11 +190,7 @@ module _ (a then : Seated) (of at : ℕ) (look : Leaves a (done (instrs.Len SCRA
         let len : len_of (seen_heap b) (held a of) ≡ len_of (seen_heap then) (held a of) = ap (λ (h : Heap). len_of h (held a of)) s.heap_is ∙ len_at_call e.heap e.at_call in record {
           value = s.value ∙ sym (ap (λ (v : Value). word_of (seen_heap b) v at) leads ∙ ap (λ (h : Heap). word_of h (Reference i) at) s.heap_is);
           inside = omega (arith, within, len);
-          leaves = record {
-            called = called_then a (done (instrs.Len SCRATCH of) ∷ []) then (done (instrs.Ld to of (operands.Number at)) ∷ []) b look.called (b, (e.called, refl));
-            no_end = e.called.ends;
-            others = λ j apart scratch. s.others j apart ∙ look.others j scratch scratch;
-          };
+          leaves = leaves_more a of then (done (instrs.Ld to of (operands.Number at))) to b look (b, (e.called, refl)) e.called.ends s.others;
         }
 
   -- ---- st
@@ -164,12 +203,12 @@ module _ (a then : Seated) (of at : ℕ) (look : Leaves a (done (instrs.Len SCRA
     v = held then what
 
     same_value : v ≡ held a what
-    same_value = look.others what not_scratch not_scratch
+    same_value = look_others what not_scratch
 
     pub record Kept (b : Seated) : Type 0 where
       pub value : word_of (seen_heap b) (held a of) at ≡ held a what
       pub inside : at < len_of (seen_heap b) (held a of)
-      pub leaves : Leaves a (done (instrs.Len SCRATCH of) ∷ done store ∷ []) SCRATCH b
+      pub leaves : LeavesOnceSeen a of (done store ∷ []) SCRATCH b
 
     -- the record is there at the call
     module _ (heap : Heap) (at_call : AtCall then heap) where
@@ -205,11 +244,7 @@ module _ (a then : Seated) (of at : ℕ) (look : Leaves a (done (instrs.Len SCRA
             let old_len = length-set found.values at w in record {
               value = ap (λ (z : Value). word_of (seen_heap b) z at) leads ∙ (ap (λ (vs : List Value). slice_index_or vs at (Number 0)) values ∙ (get_or-set_same found.values at w (Number 0) in_found ∙ same));
               inside = omega (arith, there_len, new_len, old_len, in_found);
-              leaves = record {
-                called = called_then a (done (instrs.Len SCRATCH of) ∷ []) then (done store ∷ []) b look.called (b, (e.called, refl));
-                no_end = e.called.ends;
-                others = λ j apart scratch. s.registers j ∙ look.others j scratch scratch;
-              };
+              leaves = leaves_more a of then (done store) SCRATCH b look (b, (e.called, refl)) e.called.ends (λ j apart. s.registers j);
             }
         by_hold (Err end) holds =
             let no = call-st_not (number then) e.heap (seen_mutator then) of at what i found end leads_then there in_found holds in
@@ -252,7 +287,7 @@ module _ (a then : Seated) (of at : ℕ) (look : Leaves a (done (instrs.Len SCRA
         by_hold (Err other_end) holds =
             let is = call-st_not (number then) t.heap (seen_mutator then) of at what i found other_end leads_then there inside holds in
             let same : other_end ≡ end = same_end _ other_end end is ends in record {
-              called = called_then a (done (instrs.Len SCRATCH of) ∷ []) then (trapped store end ∷ []) b look.called (b, (made, refl));
+              ends = ends_more a of then store end b look t;
               within = omega (arith, within, len);
               identity = i;
               leads = leads;

@@ -1,16 +1,18 @@
 -- What a call does to what its mutator sees: since it saw the history before the call, others may have made calls, but it hasn't.
-use Rattle.std.proofs.Common.{◌≡◌, ◌≢◌, ℕ, ◌-◌, ◌<◌, List, [], ◌∷◌, ◌++◌, length, take, Result, Ok, Err, slice_get, slice_index_or, refl, ap, sym, ◌∙◌, subst, arith, get_or-set_same}
+use Rattle.std.proofs.Common.{◌≡◌, ◌≢◌, ℕ, ◌-◌, ◌<◌, List, [], ◌∷◌, ◌++◌, length, take, None, Some, Result, Ok, Err, slice_get, slice_index_or, refl, ap, sym, ◌∙◌, subst, append_assoc, arith, get_or-set_same}
 use Rattle.std.specs.Prelude.{IsOk}
 use Rattle.std.proofs.Math.Seq.{take-append_seam}
 use Rattle.std.proofs.lemmas.List.{append_cancel_right, length-append, length-replicate}
 use Rattle.std.proofs.lemmas.Option.{get_or_from_slice_get, slice_get_within}
 use Rattle.plain_state.specs.declared.end.End.{End}
 use Rattle.plain_state.specs.State.{Mutator, Plain, Record}
+use Rattle.plain_heap.specs.Action.{register}
 use Rattle.plain_state.proofs.Lists.{slice_get-set_same}
 use Rattle.mutator_asm.specs.declared.instr.Instr.{Instr}
 use Rattle.mutator_asm.specs.declared.instr.Instr.TheVariants as instrs
 use Rattle.plain_heap.specs.Call.{After, call}
 use Rattle.plain_heap.specs.Order.{fresh}
+use Rattle.plain_heap.specs.Records.{shape_of}
 use Rattle.plain_heap.specs.Step.{settled}
 use Rattle.heap_laws.specs.Opening.{opening_mutator}
 use Rattle.gc_worker.specs.declared.calls.call.Call.{Call}
@@ -30,9 +32,9 @@ use Rattle.ael_threads.specs.Calls.{Called, CalledBy, call_by}
 use Rattle.ael_threads.specs.Histories.{HasOwnCalls, first_plain}
 use Rattle.ael_threads.specs.Seats.{IsMine, Seated, first_number, first_own, plain_after_seen}
 use Rattle.ael_threads.proofs.WholeCalls.OneMore.{makers}
-use Rattle.ael_runtime.specs.Calling.{AtCall, Executed, MayTrap}
-use Rattle.ael_runtime.specs.Reading.{heap_before, number, seen_heap, seen_mutator}
-use Rattle.ael_runtime.proofs.RegisterCount.{have_registers}
+use Rattle.ael_runtime.specs.Calling.{AtCall, Executed, KeepsShapes, MayTrap}
+use Rattle.ael_runtime.specs.Reading.{heap_before, held, number, seen_heap, seen_mutator}
+use Rattle.ael_threads.proofs.RegisterCount.{have_registers}
 
 -- nothing comes after a call but after one of `snap`
 pub called : (a b : Seated) (i : Instr) (did : Did) → i ≢ instrs.Snap → CalledBy a i did b → Called a (Calls i) did b
@@ -86,8 +88,18 @@ module _ (a b : Seated) (task : Task) (did : Did) (mine : IsMine a.knows) (h : C
   number_same : number b ≡ n
   number_same = ap first_number h.hands
 
+  seen_all : plain_after_seen b.knows ≡ after_all start (front ++ Made c ∷ [])
+  seen_all = λ i. after_all (first_plain (h.plan i)) (h.history.is i)
+
   seen_then : plain_after_seen b.knows ≡ after_call at c
-  seen_then = (λ i. after_all (first_plain (h.plan i)) (h.history.is i)) ∙ after_append start front (Made c ∷ [])
+  seen_then = seen_all ∙ after_append start front (Made c ∷ [])
+
+  shapes_stay : KeepsShapes (seen_heap a) (seen_heap b)
+  unfolding seen_heap
+  shapes_stay i known is =
+      subst (λ (p : Plain). shape_of p.heap i ≡ Some known) (sym seen_all)
+      (subst (λ (log : List Entry). shape_of (after_all start log).heap i ≡ Some known) (sym (append_assoc a.knows.seen h.history.between (Made c ∷ [])))
+      (records_keep_their_shape start a.knows.seen (h.history.between ++ Made c ∷ []) i known is))
 
   before_is : heap_before b ≡ at.heap
   unfolding heap_before
@@ -115,7 +127,7 @@ module _ (a b : Seated) (task : Task) (did : Did) (mine : IsMine a.knows) (h : C
 
 -- ---- an instruction
 
-module _ (a b : Seated) (i : Instr) (mine : IsMine a.knows) (h : Called a (Calls i) Done b) where
+module _ (a b : Seated) (i : Instr) (alive : a.worker.account.end ≡ None) (mine : IsMine a.knows) (h : Called a (Calls i) Done b) where
   abbrev m : ℕ
   m = number a
 
@@ -131,6 +143,8 @@ module _ (a b : Seated) (i : Instr) (mine : IsMine a.knows) (h : Called a (Calls
       let left : plain_after_seen b.knows ≡ settled then m caller (Ok after) =
       seen_then a b (Calls i) Done mine h ∙ (ap (after_answer then m (Calls i) Done) h.comes.is ∙ ap (settled then m caller) is) in record {
         called = h;
+        alive = alive;
+        shapes = shapes_stay a b (Calls i) Done mine h;
         heap = then.heap;
         at_call = at_call_of a b (Calls i) Done mine h;
         after = after;
@@ -148,15 +162,30 @@ module _ (a b : Seated) (i : Instr) (mine : IsMine a.knows) (h : Called a (Calls
   pub executed : Executed a i b
   executed = by_outcome (call m then.heap caller i) refl h.comes.may
 
-module _ (a b : Seated) (i : Instr) (end : End) (mine : IsMine a.knows) (h : Called a (Calls i) (Trap end) b) where
+module _ (a b : Seated) (i : Instr) (end : End) (alive : a.worker.account.end ≡ None) (mine : IsMine a.knows) (h : Called a (Calls i) (Trap end) b) where
   abbrev last : Plain
   last = after_all (first_plain a.knows.plan) (a.knows.seen ++ h.history.between)
+
+  abbrev stopped : Mutator
+  stopped = record h.comes.mutator { end = Some end }
+
+  left : plain_after_seen b.knows ≡ ended last (number a) h.comes.mutator end
+  left = seen_then a b (Calls i) (Trap end) mine h ∙ ap (after_answer last (number a) (Calls i) (Trap end)) h.comes.is
+
+  mutator_is : seen_mutator b ≡ stopped
+  unfolding seen_mutator
+  mutator_is = (λ j. slice_index_or (left j).mutators (number_same a b (Calls i) (Trap end) mine h j) fresh)
+      ∙ get_or-set_same last.mutators (number a) stopped fresh (caller_within a b (Calls i) (Trap end) mine h)
 
   pub may_trap : MayTrap a i end b
   unfolding seen_heap
   may_trap = record {
+    called = h;
+    alive = alive;
     heap = last.heap;
     at_call = at_call_of a b (Calls i) (Trap end) mine h;
     may = subst (λ (k : Mutator). MayEnd (number a) last.heap k i end) (sym (caller_is a b (Calls i) (Trap end) mine h)) h.comes.may;
-    heap_is = ap (λ (p : Plain). p.heap) (seen_then a b (Calls i) (Trap end) mine h ∙ ap (after_answer last (number a) (Calls i) (Trap end)) h.comes.is);
+    before = before_is a b (Calls i) (Trap end) mine h;
+    heap_is = ap (λ (p : Plain). p.heap) left;
+    registers = λ j. ap (λ (k : Mutator). register k j) mutator_is ∙ ap (λ (k : Mutator). register k j) (sym (caller_is a b (Calls i) (Trap end) mine h));
   }

@@ -1,11 +1,11 @@
 -- Calls of a mutator, and what one does to what it sees.
-use Rattle.std.specs.Prelude.{◌≡◌, ◌≢◌, ℕ, ◌<◌, length, List, [], ◌∷◌, None, Some, Ok, IsOk}
+use Rattle.std.specs.Prelude.{◌≡◌, ◌≢◌, ℕ, ◌<◌, ◌⊎◌, length, List, [], ◌∷◌, None, Some, Ok, IsOk}
 use Rattle.plain_state.specs.declared.end.End.{End}
 use Rattle.plain_state.specs.declared.sizes.TheConstants.{REGISTERS}
 use Rattle.plain_state.specs.declared.value.Identity.{Identity}
 use Rattle.plain_state.specs.State.{Heap, Mutator, serial_of}
 use Rattle.mutator_asm.specs.declared.instr.Instr.{Instr}
-use Rattle.mutator_asm.specs.declared.instr.Instr.TheVariants.{Snap}
+use Rattle.mutator_asm.specs.declared.instr.Instr.TheVariants.{Len, Snap}
 use Rattle.plain_heap.specs.Action.{action}
 use Rattle.plain_heap.specs.Call.{After, call}
 use Rattle.plain_heap.specs.Records.{RecordShape, shape_of}
@@ -37,11 +37,29 @@ abbrev pub CalledAll : Seated → List OneCall → Seated → Type 0
 CalledAll a [] b = b ≡ a
 CalledAll a (c ∷ cs) b = (then : Seated) × (Called a (Calls c.instr) c.did then × CalledAll then cs b)
 
--- these had their effects and left the mutator without an end; of each register but this one, and that for scratch, the value stays
+-- these had their effects, of a mutator that had no end and has none; of each register but this one, and that for scratch, the value stays
 pub record Leaves (a : Seated) (calls : List OneCall) (r : ℕ) (b : Seated) : Type 0 where
   pub called : CalledAll a calls b
+  pub alive : a.worker.account.end ≡ None
   pub no_end : b.worker.account.end ≡ None
   pub others : (j : ℕ) → j ≢ r → j ≢ SCRATCH → held b j ≡ held a j
+
+-- so did these, after a look at the length of the record in a register, or without it if that is known
+abbrev pub LeavesOnceSeen : Seated → (of : ℕ) → List OneCall → ℕ → Seated → Type 0
+LeavesOnceSeen a of calls r b = Leaves a calls r b ⊎ Leaves a (done (Len SCRATCH of) ∷ calls) r b
+
+-- The last of these calls was this end, and changed nothing else: the records and the board are as they were just before it, and so are the
+-- registers, but for that for scratch.
+pub record Ends (a : Seated) (calls : List OneCall) (end : End) (b : Seated) : Type 0 where
+  pub called : CalledAll a calls b
+  pub alive : a.worker.account.end ≡ None
+  pub ended : b.worker.account.end ≡ Some end
+  pub heap : seen_heap b ≡ heap_before b
+  pub others : (j : ℕ) → j ≢ SCRATCH → held b j ≡ held a j
+
+-- so it was after a look at the length of the record in a register, or without it
+abbrev pub EndsOnceSeen : Seated → (of : ℕ) → List OneCall → End → Seated → Type 0
+EndsOnceSeen a of calls end b = Ends a calls end b ⊎ Ends a (done (Len SCRATCH of) ∷ calls) end b
 
 -- ---- one call
 
@@ -59,6 +77,8 @@ pub record AtCall (a : Seated) (heap : Heap) : Type 0 where
 -- An instruction had its effect: what the plain machine's call leaves on the heap at that point is what is seen after it.
 pub record Executed (a : Seated) (instr : Instr) (b : Seated) : Type 0 where
   pub called : Called a (Calls instr) Done b
+  pub alive : a.worker.account.end ≡ None
+  pub shapes : KeepsShapes (seen_heap a) (seen_heap b)
   pub heap : Heap
   pub at_call : AtCall a heap
   pub after : After
@@ -71,10 +91,14 @@ pub record Executed (a : Seated) (instr : Instr) (b : Seated) : Type 0 where
 
 -- it had this end, and nothing else changed
 pub record MayTrap (a : Seated) (instr : Instr) (end : End) (b : Seated) : Type 0 where
+  pub called : Called a (Calls instr) (Trap end) b
+  pub alive : a.worker.account.end ≡ None
   pub heap : Heap
   pub at_call : AtCall a heap
   pub may : MayEnd (number a) heap (seen_mutator a) instr end
+  pub before : heap_before b ≡ heap
   pub heap_is : seen_heap b ≡ heap
+  pub registers : (j : ℕ) → held b j ≡ held a j
 
 -- The instruction has its effect on each heap that there may be at the call, and makes no record.
 pub record IsSure (a : Seated) (instr : Instr) : Type 0 where

@@ -16,7 +16,7 @@ use Rattle.ael_threads.specs.Seats.{Seated}
 use Rattle.ael_runtime.specs.declared.failure.Failure.{Failure}
 use Rattle.ael_runtime.specs.declared.failure.Failure.TheVariants.{Ended, RecordsOut, NotRecord, OutOfRange, TooLarge}
 use Rattle.ael_runtime.specs.declared.root.TheConstants.{FRAMES, SCRATCH}
-use Rattle.ael_runtime.specs.Calling.{CalledAll, Leaves, done, trapped}
+use Rattle.ael_runtime.specs.Calling.{Ends, EndsOnceSeen, Leaves, done, trapped}
 use Rattle.ael_runtime.specs.Reading.{held, len_of, seen_heap}
 
 -- it had an end, and nothing was done
@@ -63,7 +63,7 @@ WordFails a of at why b = RecordFails a of why b
 
 -- it has this word, but a record of its kind can't hold the value there, and the mutator has this end
 pub record CantHold (a : Seated) (of at what : ℕ) (end : End) (b : Seated) : Type 0 where
-  pub called : CalledAll a (done (instrs.Len SCRATCH of) ∷ trapped (instrs.St of (operands.Number at) what) end ∷ []) b
+  pub ends : EndsOnceSeen a of (trapped (instrs.St of (operands.Number at) what) end ∷ []) end b
   pub within : at < len_of (seen_heap b) (held a of)
   pub identity : Identity
   pub leads : held a of ≡ Reference identity
@@ -80,22 +80,23 @@ StoreFails a of at what why b = WordFails a of at why b
 
 -- the heap is full
 abbrev pub IsFull : Seated → Instr → End → Seated → Type 0
-IsFull a instr end b = CalledAll a (trapped instr end ∷ []) b × (is_heap_full end ≡ true)
+IsFull a instr end b = Ends a (trapped instr end ∷ []) end b × (is_heap_full end ≡ true)
 
--- of one that makes a record, which may be too long
+-- of one that makes a record, which may be too long; that is told before there are too many
 abbrev pub MakeFails : (too_long : Bool) → Seated → Instr → Failure → Seated → Type 0
 MakeFails too_long a instr (Ended end) b = HadEnd a end b ⊎ IsFull a instr end b
-MakeFails too_long a instr RecordsOut b = Stays a b × (MOST_RECORDS ≤ a.worker.account.serial)
+MakeFails too_long a instr RecordsOut b = Stays a b × (too_long ≡ false) × (MOST_RECORDS ≤ a.worker.account.serial)
 MakeFails too_long a instr TooLarge b = Stays a b × (too_long ≡ true)
 MakeFails too_long a instr why b = ⊥
 
--- of one that puts a frame of so many slots on top: the frame is too long, or the heap is full for it
+-- the heap is full for a frame of so many slots, and what was on top stays there
 pub record IsFullForFrame (a : Seated) (slots : ℕ) (end : End) (b : Seated) : Type 0 where
-  pub called : CalledAll a (done (instrs.Mov SCRATCH FRAMES) ∷ trapped (instrs.New FRAMES (operands.Number (slots + 1))) end ∷ []) b
+  pub ends : Ends a (done (instrs.Mov SCRATCH FRAMES) ∷ trapped (instrs.New FRAMES (operands.Number (slots + 1))) end ∷ []) end b
   pub full : is_heap_full end ≡ true
 
+-- of one that puts a frame of so many slots on top, which may be too many; that is told before there are too many records
 abbrev pub FrameFails : Seated → (slots : ℕ) → Failure → Seated → Type 0
 FrameFails a slots (Ended end) b = HadEnd a end b ⊎ IsFullForFrame a slots end b
-FrameFails a slots RecordsOut b = Stays a b × (MOST_RECORDS ≤ a.worker.account.serial)
+FrameFails a slots RecordsOut b = Stays a b × (slots < LONGEST_RECORD) × (MOST_RECORDS ≤ a.worker.account.serial)
 FrameFails a slots TooLarge b = Stays a b × (LONGEST_RECORD ≤ slots)
 FrameFails a slots why b = ⊥

@@ -1,5 +1,5 @@
 -- New records.
-use Rattle.std.specs.Prelude.{◌≡◌, ◌≢◌, ℕ, ◌+◌, ◌==◌, Bool, Some, None, nat_lt, if◌then◌else◌}
+use Rattle.std.specs.Prelude.{◌≡◌, ◌≢◌, ℕ, ◌+◌, ◌-◌, ◌<◌, ◌==◌, Bool, Some, None, nat_lt, if◌then◌else◌}
 use Rattle.plain_state.specs.declared.kind.Kind.{Kind}
 use Rattle.plain_state.specs.declared.kind.Kind.TheVariants.{Fields, Raw, Mixed}
 use Rattle.plain_state.specs.declared.sizes.TheConstants.{LONGEST_RECORD}
@@ -12,6 +12,7 @@ use Rattle.mutator_asm.specs.declared.instr.Instr.TheVariants as instrs
 use Rattle.mutator_asm.specs.declared.operand.Operand.TheVariants as operands
 use Rattle.gc_worker.specs.declared.calls.did.Did.TheVariants.{Done}
 use Rattle.gc_worker.specs.declared.task.Task.TheVariants.{Calls}
+use Rattle.ael_threads.specs.declared.refused.TheConstants.{MOST_RECORDS}
 use Rattle.ael_threads.specs.Calls.{Called}
 use Rattle.ael_threads.specs.Seats.{Seated}
 use Rattle.ael_runtime.specs.declared.root.TheConstants.{FRAMES, SCRATCH}
@@ -30,7 +31,7 @@ making to fields numbers =
 
 -- the most words that it may have, in which a mixed one keeps the number of its fields
 abbrev pub most_words : (fields numbers : ℕ) → ℕ
-most_words fields numbers = if numbers == 0 then LONGEST_RECORD else (if fields == 0 then LONGEST_RECORD else 4094)
+most_words fields numbers = if numbers == 0 then LONGEST_RECORD else (if fields == 0 then LONGEST_RECORD else LONGEST_RECORD - 1)
 
 abbrev pub is_too_long : (fields numbers : ℕ) → Bool
 is_too_long fields numbers = nat_lt (most_words fields numbers) (fields + numbers)
@@ -52,6 +53,9 @@ pub record HasPushed (a : Seated) (slots : ℕ) (b : Seated) : Type 0 where
   pub makes : Called kept (Calls (instrs.New FRAMES (operands.Number (slots + 1)))) Done new
   pub made : HasMade kept Fields (slots + 1) FRAMES new
   pub links : Called new (Calls (instrs.St FRAMES (operands.Number 0) SCRATCH)) Done b
+  pub alive : a.worker.account.end ≡ None
+  pub short : slots < LONGEST_RECORD
+  pub room : a.worker.account.serial < MOST_RECORDS
   pub no_end : b.worker.account.end ≡ None
   pub top : held b FRAMES ≡ held new FRAMES
   pub len : len_of (seen_heap b) (held b FRAMES) ≡ slots + 1

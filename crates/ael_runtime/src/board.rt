@@ -1,6 +1,7 @@
 //! The board, on which threads meet: sixteen words that all of them read and write.
 
-ghost use Rattle.std.specs.Prelude.{◌≡◌, [], ◌∷◌, IfErr, OnOk};
+ghost use Rattle.std.specs.Prelude.{◌≡◌, ◌<◌, [], ◌∷◌, IfErr, OnOk};
+ghost use Rattle.plain_state.specs.declared.sizes.TheConstants.{BOARD_WORDS};
 ghost use Rattle.plain_state.specs.declared.value.Value.TheVariants as values;
 ghost use Rattle.mutator_asm.specs.declared.instr.Instr.TheVariants.{Get, Li, Put, Swap};
 ghost use Rattle.mutator_asm.specs.declared.operand.Operand.TheVariants as operands;
@@ -23,6 +24,7 @@ impl<'h> Local<'h> {
     pub fn share<R: Wait>(&mut self, rt: &R, word: u8, from: Root) -> Result<(), Failure>
         ensures of_heap { self.new.table ≡ self.old.table }
         ensures put { OnOk result (seen_heap self.new ≡ with_board (heap_before self.new) word (held self.old (register_of from))) }
+        ensures within { OnOk result (word < BOARD_WORDS) }
         ensures leaves { OnOk result (Leaves self.old (done (Put (operands.Number word) (register_of from)) ∷ []) SCRATCH self.new) }
         ensures fails { IfErr result (λ why. BoardFails self.old word why self.new) }
     {
@@ -41,6 +43,7 @@ impl<'h> Local<'h> {
     pub fn read_shared<R: Wait>(&mut self, rt: &R, to: Root, word: u8) -> Result<(), Failure>
         ensures of_heap { self.new.table ≡ self.old.table }
         ensures value { OnOk result (held self.new (register_of to) ≡ board_word (seen_heap self.new) word) }
+        ensures within { OnOk result (word < BOARD_WORDS) }
         ensures leaves { OnOk result (Leaves self.old (done (Get (register_of to) (operands.Number word)) ∷ []) (register_of to) self.new) }
         ensures fails { IfErr result (λ why. BoardFails self.old word why self.new) }
     {
@@ -55,11 +58,13 @@ impl<'h> Local<'h> {
         Ok(())
     }
 
-    /// Takes what stands on a word of the board, which is 0 then. Of two threads that take, only one gets it.
+    /// Takes what stands on a word of the board, which is 0 then. Of two threads that take, only one gets it: the word and the root change
+    /// places in one step, after the root was set to 0.
     pub fn take<R: Wait>(&mut self, rt: &R, to: Root, word: u8) -> Result<(), Failure>
         ensures of_heap { self.new.table ≡ self.old.table }
         ensures value { OnOk result (held self.new (register_of to) ≡ board_word (heap_before self.new) word) }
         ensures empty { OnOk result (seen_heap self.new ≡ with_board (heap_before self.new) word (values.Number 0)) }
+        ensures within { OnOk result (word < BOARD_WORDS) }
         ensures leaves { OnOk result (Leaves self.old (done (Li (register_of to) 0) ∷ done (Swap (register_of to) (operands.Number word)) ∷ []) (register_of to) self.new) }
         ensures fails { IfErr result (λ why. BoardFails self.old word why self.new) }
     {

@@ -1,11 +1,10 @@
 //! Frames: records that keep values while a function calls others. Each has a link to the one below it in word 0, and its slots behind that.
 
-ghost use Rattle.std.specs.Prelude.{◌≡◌, ◌+◌, ◌<◌, [], ◌∷◌, IfErr, OnOk, nat_le};
-ghost use Rattle.plain_state.specs.declared.sizes.TheConstants.{LONGEST_RECORD};
-ghost use Rattle.mutator_asm.specs.declared.instr.Instr.TheVariants.{Ld, Len, New, St};
+ghost use Rattle.std.specs.Prelude.{◌≡◌, ◌+◌, ◌<◌, [], ◌∷◌, IfErr, OnOk};
+ghost use Rattle.mutator_asm.specs.declared.instr.Instr.TheVariants.{Ld, St};
 ghost use Rattle.mutator_asm.specs.declared.operand.Operand.TheVariants as operands;
 ghost use Rattle.ael_runtime.specs.declared.root.TheConstants.{FRAMES, SCRATCH};
-ghost use Rattle.ael_runtime.specs.Calling.{Leaves, done};
+ghost use Rattle.ael_runtime.specs.Calling.{LeavesOnceSeen, done};
 ghost use Rattle.ael_runtime.specs.Failing.{FrameFails, StoreFails, WordFails};
 ghost use Rattle.ael_runtime.specs.Making.{HasPushed};
 ghost use Rattle.ael_runtime.specs.Reading.{held, len_of, register_of, seen_heap, word_of};
@@ -43,6 +42,7 @@ impl<'h> Local<'h> {
             return Err(Failure::Ended(end));
         }
         self.does(rt, Instr::St(FRAMES, Operand::Number(LINK), SCRATCH));
+        self.remember(FRAMES, len);
         Ok(())
     }
 
@@ -50,7 +50,7 @@ impl<'h> Local<'h> {
     pub fn pop_frame<R: Wait>(&mut self, rt: &R) -> Result<(), Failure>
         ensures of_heap { self.new.table ≡ self.old.table }
         ensures below { OnOk result (held self.new FRAMES ≡ word_of (seen_heap self.new) (held self.old FRAMES) 0) }
-        ensures leaves { OnOk result (Leaves self.old (done (Len SCRATCH FRAMES) ∷ done (Ld FRAMES FRAMES (operands.Number 0)) ∷ []) FRAMES self.new) }
+        ensures leaves { OnOk result (LeavesOnceSeen self.old FRAMES (done (Ld FRAMES FRAMES (operands.Number 0)) ∷ []) FRAMES self.new) }
         ensures fails { IfErr result (λ why. WordFails self.old FRAMES 0 why self.new) }
     {
         self.fetch(rt, FRAMES, FRAMES, LINK)
@@ -61,7 +61,7 @@ impl<'h> Local<'h> {
         ensures of_heap { self.new.table ≡ self.old.table }
         ensures value { OnOk result (word_of (seen_heap self.new) (held self.new FRAMES) (slot + 1) ≡ held self.old (register_of from)) }
         ensures within { OnOk result (slot + 1 < len_of (seen_heap self.new) (held self.new FRAMES)) }
-        ensures leaves { OnOk result (Leaves self.old (done (Len SCRATCH FRAMES) ∷ done (St FRAMES (operands.Number (slot + 1)) (register_of from)) ∷ []) SCRATCH self.new) }
+        ensures leaves { OnOk result (LeavesOnceSeen self.old FRAMES (done (St FRAMES (operands.Number (slot + 1)) (register_of from)) ∷ []) SCRATCH self.new) }
         ensures fails { IfErr result (λ why. StoreFails self.old FRAMES (slot + 1) (register_of from) why self.new) }
     {
         self.keep(rt, FRAMES, u64::from(slot) + 1, from.register())
@@ -72,7 +72,7 @@ impl<'h> Local<'h> {
         ensures of_heap { self.new.table ≡ self.old.table }
         ensures value { OnOk result (held self.new (register_of to) ≡ word_of (seen_heap self.new) (held self.new FRAMES) (slot + 1)) }
         ensures within { OnOk result (slot + 1 < len_of (seen_heap self.new) (held self.new FRAMES)) }
-        ensures leaves { OnOk result (Leaves self.old (done (Len SCRATCH FRAMES) ∷ done (Ld (register_of to) FRAMES (operands.Number (slot + 1))) ∷ []) (register_of to) self.new) }
+        ensures leaves { OnOk result (LeavesOnceSeen self.old FRAMES (done (Ld (register_of to) FRAMES (operands.Number (slot + 1))) ∷ []) (register_of to) self.new) }
         ensures fails { IfErr result (λ why. WordFails self.old FRAMES (slot + 1) why self.new) }
     {
         self.fetch(rt, to.register(), FRAMES, u64::from(slot) + 1)

@@ -8,6 +8,7 @@ mod board;
 mod failure;
 mod frames;
 mod local;
+mod measured;
 mod numbers;
 mod records;
 mod root;

@@ -1,6 +1,6 @@
 //! A thread's part of the runtime: its mutator, between two calls.
 
-ghost use Rattle.std.specs.Prelude.{◌≡◌, ◌≢◌, ◌<◌, None, Some, IsTrue};
+ghost use Rattle.std.specs.Prelude.{◌≡◌, ◌≢◌, ◌<◌, ◌≤◌, true, None, Some, IsTrue};
 ghost use Rattle.plain_state.specs.declared.end.End.{End};
 ghost use Rattle.plain_state.specs.declared.sizes.TheConstants.{REGISTERS};
 ghost use Rattle.plain_state.specs.State.{serial_of};
@@ -9,12 +9,14 @@ ghost use Rattle.mutator_asm.specs.Program.{is_valid};
 ghost use Rattle.gc_worker.specs.declared.calls.did.Did.TheVariants.{Done, Trap};
 ghost use Rattle.gc_worker.specs.declared.stage.Stage.TheVariants.{Gone};
 ghost use Rattle.gc_worker.specs.declared.task.Task.TheVariants.{Calls};
+ghost use Rattle.gc_worker.specs.Steps.AtRest.{is_at_rest};
 ghost use Rattle.gc_worker.specs.Workers.Fits.{MayBegin};
-ghost use Rattle.ael_threads.specs.Calls.{Called, Halts, StaysSilent};
+ghost use Rattle.ael_threads.specs.Calls.{Called, Halts, RegistersStand, StaysSilent};
 ghost use Rattle.ael_threads.specs.Seats.{IsMine};
 ghost use Rattle.ael_runtime.specs.Calling.{Executed, IsSure, MayTrap};
-ghost use Rattle.ael_runtime.specs.Reading.{SeesSame, held, number, number_of, seen_heap};
+ghost use Rattle.ael_runtime.specs.Reading.{SeesSame, held, len_of, number, number_of, seen_heap};
 
+use crate::measured::{Measured, known_after};
 use ael_threads::{Did, Mutator, Reg, Shared};
 use mutator_asm::Instr;
 use plain_state::End;
@@ -27,28 +29,35 @@ use std::thread::Threads;
 pub struct Local<'h> {
     heap: &'h Shared,
     mutator: Mutator,
+    known: Option<Measured>,
 }
 
 impl<'h> Model for Local<'h> {
     ghost use Rattle.std.specs.Prelude.{◌≡◌, None};
     ghost use Rattle.ael_threads.specs.Seats.{IsMine, Seated};
+    ghost use Rattle.ael_runtime.specs.Known.{IsKnown};
 
     ghost Value = { Seated };
 
     ghost view = { λ l. l.mutator };
 
-    ghost invariant = { λ l. (l.mutator.table ≡ l.heap.now.table.shared.table_id) × (l.mutator.worker.task ≡ None) × IsMine l.mutator.knows };
+    ghost invariant = { λ l. (l.mutator.table ≡ l.heap.now.table.shared.table_id) × (l.mutator.worker.task ≡ None) × IsMine l.mutator.knows × IsKnown l.known l.mutator };
 }
 
 impl<'h> Local<'h> {
-    /// Takes a mutator of this heap, which has no call under way and has seen all calls that it made, as a new one.
+    /// Takes a mutator of this heap, as a new one. It has no call under way, and has seen each call that it made: so has one that only made
+    /// whole calls. Register 7 should hold a number, as a new one's does, so that no frame is on top.
     pub fn new(heap: &'h Shared, mutator: Mutator) -> Local<'h>
         requires of_heap { mutator.table ≡ heap.now.table.shared.table_id }
         requires rests { mutator.worker.task ≡ None }
         requires mine { IsMine mutator.knows }
         ensures { result ≡ mutator }
     {
-        Local { heap, mutator }
+        Local {
+            heap,
+            mutator,
+            known: None,
+        }
     }
 
     /// The mutator's end, if it has one.
@@ -68,7 +77,9 @@ impl<'h> Local<'h> {
         ensures executed { result ≡ Done → Executed self.old instr self.new }
         ensures trapped { (end : End) → result ≡ Trap end → MayTrap self.old instr end self.new }
     {
-        self.mutator.exec(rt, self.heap, &instr)
+        let did = self.mutator.exec(rt, self.heap, &instr);
+        self.known = known_after(self.known, instr, did);
+        did
     }
 
     /// It makes one that has its effect, whatever others do meanwhile.
@@ -83,6 +94,26 @@ impl<'h> Local<'h> {
             Did::Done => {}
             Did::Trap(_) => unreachable!("its operands are what it asks for"),
         }
+    }
+
+    /// Whether the record in a register is known to have this word, so that it need not be looked at.
+    pub(crate) fn knows(&self, of: u8, at: u64) -> bool
+        ensures no_end { result ≡ true → self.now.worker.account.end ≡ None }
+        ensures within { result ≡ true → at < len_of (seen_heap self.now) (held self.now of) }
+    {
+        match self.known {
+            Some(measured) => measured.register == of && at < measured.len,
+            None => false,
+        }
+    }
+
+    /// From now on the record in a register is known to have so many words.
+    pub(crate) fn remember(&mut self, register: u8, len: u64)
+        requires no_end { self.old.worker.account.end ≡ None }
+        requires len { len ≤ len_of (seen_heap self.old) (held self.old register) }
+        ensures { self.new ≡ self.old }
+    {
+        self.known = Some(Measured { register, len });
     }
 
     /// The number that a register holds, if it holds one.
@@ -104,9 +135,11 @@ impl<'h> Local<'h> {
         self.mutator.serial()
     }
 
-    /// A safepoint: where others wait for a flip or a checkpoint, the mutator stops for it. It makes no call, and all that it sees stays.
+    /// A safepoint: if others wait for a flip or a checkpoint, the mutator stops for it. It makes no call, and all that it sees stays.
     pub fn safepoint<R: Wait>(&mut self, rt: &R)
         ensures of_heap { self.new.table ≡ self.old.table }
+        ensures rests { is_at_rest self.new.worker ≡ true }
+        ensures stand { self.new.worker.account.end ≡ None → RegistersStand self.new }
         ensures quiet { StaysSilent self.old self.new }
         ensures same { SeesSame self.old self.new }
     {
@@ -118,6 +151,8 @@ impl<'h> Local<'h> {
         requires may_call { F.pre blocks }
         ensures gives { F.post blocks result }
         ensures of_heap { self.new.table ≡ self.old.table }
+        ensures rests { is_at_rest self.new.worker ≡ true }
+        ensures stand { self.new.worker.account.end ≡ None → RegistersStand self.new }
         ensures quiet { StaysSilent self.old self.new }
         ensures same { SeesSame self.old self.new }
     {
@@ -131,7 +166,11 @@ impl<'h> Local<'h> {
         ensures ended { (end : End) → self.entry.worker.account.end ≡ Some end → StaysSilent self.entry result }
         ensures halts { self.entry.worker.account.end ≡ None → Halts self.entry result }
     {
-        let Local { heap, mut mutator } = self;
+        let Local {
+            heap,
+            mut mutator,
+            known: _,
+        } = self;
         mutator.leave(rt, heap);
         mutator
     }

@@ -1,6 +1,7 @@
 //! Numbers in roots, and what is moved from one to another.
 
-ghost use Rattle.std.specs.Prelude.{◌≡◌, [], ◌∷◌, IfErr, OnOk, IfOk, IsTrue, ◌↔◌};
+ghost use Rattle.std.specs.Prelude.{◌≡◌, ◌<◌, [], ◌∷◌, IfErr, OnOk, IfOk};
+ghost use Rattle.plain_state.specs.declared.sizes.TheConstants.{NUMBERS};
 ghost use Rattle.plain_state.specs.declared.value.Value.TheVariants as values;
 ghost use Rattle.mutator_asm.specs.declared.instr.Instr.TheVariants.{Eq, Li, Mov};
 ghost use Rattle.plain_heap.specs.Action.{are_same, is_reference};
@@ -21,6 +22,7 @@ impl<'h> Local<'h> {
     pub fn set_number<R: Wait>(&mut self, rt: &R, to: Root, number: u64) -> Result<(), Failure>
         ensures of_heap { self.new.table ≡ self.old.table }
         ensures value { OnOk result (held self.new (register_of to) ≡ values.Number number) }
+        ensures fits { OnOk result (number < NUMBERS) }
         ensures leaves { OnOk result (Leaves self.old (done (Li (register_of to) number) ∷ []) (register_of to) self.new) }
         ensures fails { IfErr result (λ why. NumberFails self.old number why self.new) }
     {

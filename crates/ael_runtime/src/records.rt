@@ -1,11 +1,13 @@
 //! Records: they are made, read and written.
 
-ghost use Rattle.std.specs.Prelude.{◌≡◌, ◌≢◌, ◌+◌, ◌<◌, [], ◌∷◌, None, IfErr, IfOk, OnOk};
+ghost use Rattle.std.specs.Prelude.{◌≡◌, ◌≢◌, ◌+◌, ◌<◌, [], ◌∷◌, true, false, IfErr, IfOk, IsOk, OnOk};
 ghost use Rattle.plain_state.specs.declared.sizes.TheConstants.{NUMBERS, REGISTERS};
 ghost use Rattle.mutator_asm.specs.declared.instr.Instr.TheVariants.{Ld, Len, St};
 ghost use Rattle.mutator_asm.specs.declared.operand.Operand.TheVariants as operands;
+ghost use Rattle.plain_heap.specs.Action.{is_reference};
+ghost use Rattle.ael_threads.specs.declared.refused.TheConstants.{MOST_RECORDS};
 ghost use Rattle.ael_runtime.specs.declared.root.TheConstants.{SCRATCH};
-ghost use Rattle.ael_runtime.specs.Calling.{Leaves, done};
+ghost use Rattle.ael_runtime.specs.Calling.{Leaves, LeavesOnceSeen, done};
 ghost use Rattle.ael_runtime.specs.Failing.{MakeFails, RecordFails, StoreFails, WordFails};
 ghost use Rattle.ael_runtime.specs.Making as making;
 ghost use Rattle.ael_runtime.specs.Reading.{held, len_of, register_of, seen_heap, word_of};
@@ -49,7 +51,7 @@ fn is_too_long(fields: u16, numbers: u16) -> bool
 
 impl<'h> Local<'h> {
     /// The root leads to a new record of so many fields, each a number or a record, and so many plain numbers behind them. All are 0. It is
-    /// too large exactly if it has more than 4095 words, or more than 4094 of both sorts.
+    /// too large exactly if it has more than 4095 words, or more than 4094 of both sorts; that is told before `RecordsOut`.
     pub fn make<R: Wait>(
         &mut self,
         rt: &R,
@@ -58,6 +60,7 @@ impl<'h> Local<'h> {
         numbers: u16,
     ) -> Result<(), Failure>
         ensures of_heap { self.new.table ≡ self.old.table }
+        ensures fits { OnOk result ((making.is_too_long fields numbers ≡ false) × (self.old.worker.account.serial < MOST_RECORDS)) }
         ensures made { OnOk result (making.HasMade self.old (making.kind_for fields numbers) (fields + numbers) (register_of to) self.new) }
         ensures leaves { OnOk result (Leaves self.old (done (making.making (register_of to) fields numbers) ∷ []) (register_of to) self.new) }
         ensures fails { IfErr result (λ why. MakeFails (making.is_too_long fields numbers) self.old (making.making (register_of to) fields numbers) why self.new) }
@@ -71,15 +74,17 @@ impl<'h> Local<'h> {
         if self.serial() >= MOST_RECORDS {
             return Err(Failure::RecordsOut);
         }
-        match self.call(rt, making(to.register(), fields, numbers)) {
-            Did::Done => Ok(()),
-            Did::Trap(end) => Err(Failure::Ended(end)),
+        if let Did::Trap(end) = self.call(rt, making(to.register(), fields, numbers)) {
+            return Err(Failure::Ended(end));
         }
+        self.remember(to.register(), u64::from(fields) + u64::from(numbers));
+        Ok(())
     }
 
     /// How many words the record of a root has.
     pub fn len<R: Wait>(&mut self, rt: &R, of: Root) -> Result<u64, Failure>
         ensures of_heap { self.new.table ≡ self.old.table }
+        ensures record { IsOk result → is_reference (held self.old (register_of of)) ≡ true }
         ensures len { IfOk result (λ len. len ≡ len_of (seen_heap self.new) (held self.old (register_of of))) }
         ensures leaves { OnOk result (Leaves self.old (done (Len SCRATCH (register_of of)) ∷ []) SCRATCH self.new) }
         ensures fails { IfErr result (λ why. RecordFails self.old (register_of of) why self.new) }
@@ -92,18 +97,19 @@ impl<'h> Local<'h> {
         ensures of_heap { self.new.table ≡ self.old.table }
         ensures value { OnOk result (held self.new (register_of to) ≡ word_of (seen_heap self.new) (held self.old (register_of of)) at) }
         ensures within { OnOk result (at < len_of (seen_heap self.new) (held self.old (register_of of))) }
-        ensures leaves { OnOk result (Leaves self.old (done (Len SCRATCH (register_of of)) ∷ done (Ld (register_of to) (register_of of) (operands.Number at)) ∷ []) (register_of to) self.new) }
+        ensures leaves { OnOk result (LeavesOnceSeen self.old (register_of of) (done (Ld (register_of to) (register_of of) (operands.Number at)) ∷ []) (register_of to) self.new) }
         ensures fails { IfErr result (λ why. WordFails self.old (register_of of) at why self.new) }
     {
         self.fetch(rt, to.register(), of.register(), u64::from(at))
     }
 
-    /// Word `at` of the record of a root becomes what another root holds. If the record can't hold that there, the mutator has an end.
+    /// Word `at` of the record of a root becomes what another root holds. If the record can't hold that there, the mutator has an end: a
+    /// record in place of a plain number, or anything in a weak cell.
     pub fn store<R: Wait>(&mut self, rt: &R, of: Root, at: u16, what: Root) -> Result<(), Failure>
         ensures of_heap { self.new.table ≡ self.old.table }
         ensures value { OnOk result (word_of (seen_heap self.new) (held self.old (register_of of)) at ≡ held self.old (register_of what)) }
         ensures within { OnOk result (at < len_of (seen_heap self.new) (held self.old (register_of of))) }
-        ensures leaves { OnOk result (Leaves self.old (done (Len SCRATCH (register_of of)) ∷ done (St (register_of of) (operands.Number at) (register_of what)) ∷ []) SCRATCH self.new) }
+        ensures leaves { OnOk result (LeavesOnceSeen self.old (register_of of) (done (St (register_of of) (operands.Number at) (register_of what)) ∷ []) SCRATCH self.new) }
         ensures fails { IfErr result (λ why. StoreFails self.old (register_of of) at (register_of what) why self.new) }
     {
         self.keep(rt, of.register(), u64::from(at), what.register())
@@ -114,6 +120,7 @@ impl<'h> Local<'h> {
         requires register { of < REGISTERS }
         requires other { of ≢ SCRATCH }
         ensures of_heap { self.new.table ≡ self.old.table }
+        ensures record { IsOk result → is_reference (held self.old of) ≡ true }
         ensures len { IfOk result (λ len. len ≡ len_of (seen_heap self.new) (held self.old of)) }
         ensures leaves { OnOk result (Leaves self.old (done (Len SCRATCH of) ∷ []) SCRATCH self.new) }
         ensures fails { IfErr result (λ why. RecordFails self.old of why self.new) }
@@ -125,21 +132,25 @@ impl<'h> Local<'h> {
             return Err(Failure::NotRecord);
         }
         self.does(rt, Instr::Len(SCRATCH, of));
-        match self.number_in(SCRATCH) {
-            Some(len) => Ok(len),
-            None => unreachable!("it holds the length"),
-        }
+        let Some(len) = self.number_in(SCRATCH) else {
+            unreachable!("it holds the length")
+        };
+        self.remember(of, len);
+        Ok(len)
     }
 
-    /// Looks whether the record in a register has this word.
+    /// Looks whether the record in a register has this word, if that isn't known.
     fn reach<R: Wait>(&mut self, rt: &R, of: u8, at: u64) -> Result<(), Failure>
         requires register { of < REGISTERS }
         requires other { of ≢ SCRATCH }
         ensures of_heap { self.new.table ≡ self.old.table }
         ensures within { OnOk result (at < len_of (seen_heap self.new) (held self.old of)) }
-        ensures leaves { OnOk result (Leaves self.old (done (Len SCRATCH of) ∷ []) SCRATCH self.new) }
+        ensures leaves { OnOk result (LeavesOnceSeen self.old of [] SCRATCH self.new) }
         ensures fails { IfErr result (λ why. WordFails self.old of at why self.new) }
     {
+        if self.knows(of, at) {
+            return Ok(());
+        }
         let len = self.measure(rt, of)?;
         if at >= len {
             return Err(Failure::OutOfRange);
@@ -156,7 +167,7 @@ impl<'h> Local<'h> {
         ensures of_heap { self.new.table ≡ self.old.table }
         ensures value { OnOk result (held self.new to ≡ word_of (seen_heap self.new) (held self.old of) at) }
         ensures within { OnOk result (at < len_of (seen_heap self.new) (held self.old of)) }
-        ensures leaves { OnOk result (Leaves self.old (done (Len SCRATCH of) ∷ done (Ld to of (operands.Number at)) ∷ []) to self.new) }
+        ensures leaves { OnOk result (LeavesOnceSeen self.old of (done (Ld to of (operands.Number at)) ∷ []) to self.new) }
         ensures fails { IfErr result (λ why. WordFails self.old of at why self.new) }
     {
         self.reach(rt, of, at)?;
@@ -173,7 +184,7 @@ impl<'h> Local<'h> {
         ensures of_heap { self.new.table ≡ self.old.table }
         ensures value { OnOk result (word_of (seen_heap self.new) (held self.old of) at ≡ held self.old what) }
         ensures within { OnOk result (at < len_of (seen_heap self.new) (held self.old of)) }
-        ensures leaves { OnOk result (Leaves self.old (done (Len SCRATCH of) ∷ done (St of (operands.Number at) what) ∷ []) SCRATCH self.new) }
+        ensures leaves { OnOk result (LeavesOnceSeen self.old of (done (St of (operands.Number at) what) ∷ []) SCRATCH self.new) }
         ensures fails { IfErr result (λ why. StoreFails self.old of at what why self.new) }
     {
         self.reach(rt, of, at)?;

@@ -9,4 +9,5 @@ pub mod Alone
 pub mod Unread
 pub mod Refusals
 pub mod ScannerActs
+pub mod RegisterCount
 mod Taken

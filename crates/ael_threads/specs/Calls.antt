@@ -8,7 +8,7 @@ use Rattle.plain_state.specs.State.{Mutator}
 use Rattle.plain_state.specs.State as plain
 use Rattle.mutator_asm.specs.declared.instr.Instr.{Instr}
 use Rattle.mutator_asm.specs.declared.instr.Instr.TheVariants.{Halt, Snap}
-use Rattle.gc_worker.specs.declared.stage.Stage.TheVariants.{Looks}
+use Rattle.gc_worker.specs.declared.stage.Stage.TheVariants.{Gone, Looks}
 use Rattle.gc_worker.specs.declared.steps.stepped.Stepped.{Stepped}
 use Rattle.gc_worker.specs.declared.task.Task.{Task}
 use Rattle.gc_worker.specs.declared.task.Task.TheVariants.{Calls}
@@ -195,6 +195,12 @@ pub record Halts (a b : Seated) : Type 0 where
   pub then : Seated
   pub called : Called a (Calls Halt) did then
   pub quiet : StaysSilent then b
+
+-- a caller that has left: it made `halt` if it had no end, and no other call
+pub record HasLeft (a b : Seated) : Type 0 where
+  pub gone : b.worker.stage ≡ Gone
+  pub ended : (end : End) → a.worker.account.end ≡ Some end → StaysSilent a b
+  pub halts : a.worker.account.end ≡ None → Halts a b
 
 -- a caller that is about to leave
 pub record Departs (a b : Seated) : Type 0 where

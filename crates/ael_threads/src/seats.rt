@@ -1,9 +1,11 @@
 //! Seats that are taken, one by one, and those that nobody takes.
 
 ghost use Rattle.std.specs.Prelude.{◌≡◌, ◌+◌, ◌<◌, ◌++◌, ◌↔◌, ℕ, None, Some, IsSome, length, option_to_list, vec_capacity, vec_len};
+ghost use Rattle.std.specs.List.{AllZip};
 ghost use Rattle.atomic_table.specs.Seated.{TableId};
 ghost use Rattle.gc_worker.specs.declared.stage.Stage.TheVariants.{Gone};
 ghost use Rattle.ael_threads.specs.declared.view.Plan.{Plan};
+ghost use Rattle.ael_threads.specs.Calls.{HasLeft};
 ghost use Rattle.ael_threads.specs.Histories.{Each};
 ghost use Rattle.ael_threads.specs.Opened.{new_scanner, new_scanners};
 ghost use Rattle.ael_threads.specs.Seats.{Seated, new_callers, new_seated};
@@ -45,7 +47,9 @@ impl Seats {
         requires of_heap { Each (λ (m : Seated). m.table ≡ h.now.table.shared.table_id) self.old.mutators.items }
         requires no_task { Each (λ (m : Seated). m.worker.account.end ≡ None → m.worker.task ≡ None) self.old.mutators.items }
         ensures gone { Each (λ (m : Seated). (m.table ≡ h.now.table.shared.table_id) × (m.worker.stage ≡ Gone)) self.new.mutators.items }
+        ensures left { AllZip HasLeft self.old.mutators.items self.new.mutators.items }
         ensures as_many { vec_len self.new.mutators ≡ vec_len self.old.mutators }
+        ensures room { vec_capacity self.new.mutators ≡ vec_capacity self.old.mutators }
         ensures scanners { self.new.scanners ≡ self.old.scanners }
     {
         all_leave(rt, h, self.mutators.as_mut_slice());
@@ -57,6 +61,7 @@ fn all_leave<R: Wait>(rt: &R, h: &Shared, mutators: &mut [Mutator])
     requires of_heap { Each (λ (m : Seated). m.table ≡ h.now.table.shared.table_id) mutators.old }
     requires no_task { Each (λ (m : Seated). m.worker.account.end ≡ None → m.worker.task ≡ None) mutators.old }
     ensures gone { Each (λ (m : Seated). (m.table ≡ h.now.table.shared.table_id) × (m.worker.stage ≡ Gone)) mutators.new }
+    ensures left { AllZip HasLeft mutators.old mutators.new }
     ensures as_many { length mutators.new ≡ length mutators.old }
 {
     let Some((first, rest)) = mutators.split_first_mut() else {

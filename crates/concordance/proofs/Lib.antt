@@ -1,6 +1,5 @@
 pub mod Calls
 pub mod Doing
-pub mod RegisterCount
 pub mod NoCells
 pub mod Lone
 pub mod Shown

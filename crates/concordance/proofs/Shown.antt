@@ -14,7 +14,7 @@ use Rattle.ael_threads.specs.Seats.{IsShown, Seated, ShowsSeen, first_number, fi
 use Rattle.concordance.specs.Desk.{desk_register}
 use Rattle.concordance.specs.Lone.{IsLone, alone_by, desk_of}
 use Rattle.concordance.proofs.Lone.{same_alone}
-use Rattle.concordance.proofs.RegisterCount.{have_registers}
+use Rattle.ael_threads.proofs.RegisterCount.{have_registers}
 
 module _ (s : Seated) (lone : IsLone s) (shows : ShowsSeen s.worker s.knows) (there : IsThere s) where
   abbrev n : ℕ

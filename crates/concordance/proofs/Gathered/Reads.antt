@@ -39,7 +39,7 @@ use Rattle.ael_threads.specs.Seats.{IsShown, Seated, ShowsSeen, first_number, pl
 use Rattle.concordance.specs.Gathering.{CanGet, HasAll, HasGot, HasRead, HasValueAt, WholeDesk, record_at, register_set, value_got, whole_desk_of, whole_register}
 use Rattle.concordance.specs.Lone.{KeepsSeat}
 use Rattle.concordance.specs.Whole.{CallsWhole}
-use Rattle.concordance.proofs.RegisterCount.{have_registers}
+use Rattle.ael_threads.proofs.RegisterCount.{have_registers}
 use Rattle.concordance.proofs.Whole.{whole_calls}
 
 -- ---- the plain machine's call

@@ -2,6 +2,7 @@ use Rattle.std.proofs.Common.{◌∙◌, subst}
 use Rattle.ael_threads.specs.Calls.{StaysSilent}
 use Rattle.ael_threads.specs.Seats.{Seated}
 use Rattle.ael_runtime.specs.Reading.{SeesSame}
+use Rattle.ael_runtime.proofs.KnownLengths.{known_silent}
 use Rattle.ael_runtime.proofs.ShownRegisters.{mine_silent, sees_same}
 use Rattle.ael_runtime.proofs.local.Local.away.Goals as goal
 
@@ -16,5 +17,6 @@ pub invariant_of-self : goal.invariant_of-self
 invariant_of-self g c = (
   c.away.ensures.table ∙ c.self.invariant.0,
   c.away.ensures.quiet.none,
-  mine_silent c.self.inside.mutator c.away.new.self c.away.ensures.quiet c.self.invariant.2,
+  mine_silent c.self.inside.mutator c.away.new.self c.away.ensures.quiet c.self.invariant.2.0,
+  known_silent c.self.inside.mutator c.away.new.self c.self.inside.known (sees_same c.self.inside.mutator c.away.new.self c.away.ensures.quiet c.away.ensures.end) c.self.invariant.2.1,
 )

@@ -3,6 +3,8 @@ use Rattle.gc_worker.specs.declared.calls.did.Did.{Did}
 use Rattle.gc_worker.specs.declared.task.Task.TheVariants.{Calls}
 use Rattle.ael_threads.specs.Calls.{Called, CalledBy}
 use Rattle.ael_threads.specs.Seats.{IsMine, Seated}
+use Rattle.ael_runtime.specs.Known.{IsKnown}
+use Rattle.ael_runtime.proofs.KnownLengths.{known_then}
 use Rattle.ael_runtime.proofs.SeenCalls.{called, executed, may_trap, mine_more}
 use Rattle.ael_runtime.proofs.local.Local.call.Goals as goal
 
@@ -14,16 +16,21 @@ returns-clause-called g c =
 pub returns-clause-executed : goal.returns-clause-executed
 returns-clause-executed g c done =
     let by = returns-clause-called g c in
-    executed c.args.self.now c.exec.new.self c.args.instr (subst (λ (s : Seated). IsMine s.knows) c.self.view_is c.self.invariant.2)
+    executed c.args.self.now c.exec.new.self c.args.instr c.requires.no_end (subst (λ (s : Seated). IsMine s.knows) c.self.view_is c.self.invariant.2.0)
     (subst (λ (did : Did). Called c.args.self.now (Calls c.args.instr) did c.exec.new.self) done by)
 
 pub returns-clause-trapped : goal.returns-clause-trapped
 returns-clause-trapped g c end trap =
     let by = returns-clause-called g c in
-    may_trap c.args.self.now c.exec.new.self c.args.instr end (subst (λ (s : Seated). IsMine s.knows) c.self.view_is c.self.invariant.2)
+    may_trap c.args.self.now c.exec.new.self c.args.instr end c.requires.no_end (subst (λ (s : Seated). IsMine s.knows) c.self.view_is c.self.invariant.2.0)
     (subst (λ (did : Did). Called c.args.self.now (Calls c.args.instr) did c.exec.new.self) trap by)
 
 pub invariant_of-self : goal.invariant_of-self
 invariant_of-self g c =
-    let by = returns-clause-called g c in
-    (c.exec.ensures.table ∙ c.self.invariant.0, by.rests, mine_more c.args.self.now c.exec.new.self (Calls c.args.instr) c.exec.result by)
+    let by = returns-clause-called g c in (
+      c.exec.ensures.table ∙ c.self.invariant.0,
+      by.rests,
+      mine_more c.args.self.now c.exec.new.self (Calls c.args.instr) c.exec.result by,
+      known_then c.args.self.now c.exec.new.self c.args.instr c.exec.result c.self.known c.known_after.result c.known_after.ensures
+          (subst (IsKnown c.self.known) c.self.view_is c.self.invariant.2.1) (returns-clause-executed g c),
+    )

@@ -1,5 +1,5 @@
 use Rattle.std.proofs.Common.{ℕ, ◌+◌, List, [], ◌∷◌}
-use Rattle.mutator_asm.specs.declared.instr.Instr.TheVariants.{Ld, Len}
+use Rattle.mutator_asm.specs.declared.instr.Instr.TheVariants.{Ld}
 use Rattle.mutator_asm.specs.declared.operand.Operand.TheVariants as operands
 use Rattle.ael_runtime.specs.Calling.{OneCall, done}
 use Rattle.ael_runtime.specs.Reading.{register_of}
@@ -8,7 +8,7 @@ use Rattle.ael_runtime.proofs.FrameCalls.{not_frames, restored, within_top}
 use Rattle.ael_runtime.proofs.local.Local.restore.Goals as goal
 
 abbrev made : (d n : ℕ) → List OneCall
-made d n = done (Len SCRATCH FRAMES) ∷ done (Ld d FRAMES (operands.Number (n + 1))) ∷ []
+made d n = done (Ld d FRAMES (operands.Number (n + 1))) ∷ []
 
 pub returns-clause-value : goal.returns-clause-value
 returns-clause-value g c =

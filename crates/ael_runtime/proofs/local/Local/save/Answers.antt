@@ -1,5 +1,5 @@
 use Rattle.std.proofs.Common.{ℕ, ◌+◌, List, [], ◌∷◌}
-use Rattle.mutator_asm.specs.declared.instr.Instr.TheVariants.{Len, St}
+use Rattle.mutator_asm.specs.declared.instr.Instr.TheVariants.{St}
 use Rattle.mutator_asm.specs.declared.operand.Operand.TheVariants as operands
 use Rattle.ael_runtime.specs.Calling.{OneCall, done}
 use Rattle.ael_runtime.specs.Reading.{register_of}
@@ -8,7 +8,7 @@ use Rattle.ael_runtime.proofs.FrameCalls.{not_scratch, saved, within_top}
 use Rattle.ael_runtime.proofs.local.Local.save.Goals as goal
 
 abbrev made : (n what : ℕ) → List OneCall
-made n what = done (Len SCRATCH FRAMES) ∷ done (St FRAMES (operands.Number (n + 1)) what) ∷ []
+made n what = done (St FRAMES (operands.Number (n + 1)) what) ∷ []
 
 pub returns-clause-value : goal.returns-clause-value
 returns-clause-value g c =

@@ -1,0 +1,35 @@
+//! The length that is known of a record, so that it need not be looked at each time.
+
+ghost use Rattle.std.specs.Prelude.{◌≡◌, ◌≤◌, ◌<◌, None, Some, IsTrue};
+ghost use Rattle.ael_runtime.specs.Known.{IsKept, Spares};
+
+use ael_threads::Did;
+use mutator_asm::Instr;
+
+/// A register, and how many words its record has.
+#[derive(Clone, Copy, Debug, PartialEq, Eq)]
+pub(crate) struct Measured {
+    pub register: u8,
+    pub len: u64,
+}
+
+/// Whether an instruction leaves what this register holds. Of one that isn't used between two looks at a record nothing is told.
+fn spares(instr: Instr, register: u8) -> bool
+    ensures { result ≡ true → Spares instr register }
+{
+    match instr {
+        Instr::Li(to, _) | Instr::Mov(to, _) | Instr::Ld(to, _, _) => to != register,
+        Instr::St(..) => true,
+        _ => false,
+    }
+}
+
+/// What is still known after a call.
+pub(crate) fn known_after(known: Option<Measured>, instr: Instr, did: Did) -> Option<Measured>
+    ensures { IsKept known instr did result }
+{
+    match (known, did) {
+        (Some(measured), Did::Done) if spares(instr, measured.register) => known,
+        _ => None,
+    }
+}
