@@ -1,9 +1,9 @@
 -- it is of the same heap
 use Rattle.std.proofs.Common.{◌≡◌}
-use Rattle.embedding.proofs.send.Given as goal
+use Rattle.embedding.proofs.actors.send.Given as goal
 
 abbrev pub invariant-loop-list : goal.invariant-loop-list
-invariant-loop-list g l = l.actor.table ≡ l.fn.actor.table
+invariant-loop-list g l = l.local.table ≡ l.fn.local.table
 
 abbrev pub invariant-loop-k : goal.invariant-loop-k
-invariant-loop-k g l = l.actor.table ≡ l.fn.actor.table
+invariant-loop-k g l = l.local.table ≡ l.fn.local.table

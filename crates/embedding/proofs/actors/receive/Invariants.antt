@@ -1,6 +1,6 @@
 -- it is of the same heap
 use Rattle.std.proofs.Common.{◌≡◌}
-use Rattle.embedding.proofs.until_empty.Given as goal
+use Rattle.embedding.proofs.actors.receive.Given as goal
 
 abbrev pub invariant-loop : goal.invariant-loop
-invariant-loop g l = l.actor.table ≡ l.fn.actor.table
+invariant-loop g l = l.local.table ≡ l.fn.local.table

@@ -1,0 +1,20 @@
+-- Lists of numbers.
+use Rattle.std.specs.Prelude.{◌≡◌, ℕ}
+use Rattle.plain_state.specs.declared.value.Value.{Value}
+use Rattle.ael_threads.specs.Seats.{Seated}
+use Rattle.ael_runtime.specs.Reading.{held, register_of, seen_heap, word_of}
+use Rattle.embedding.specs.declared.lists.TheConstants.{LIST, NUMBER_FIELD, REST, REST_FIELD}
+
+-- what the root for lists holds, and that for the rest of one
+abbrev pub list_of : Seated → Value
+list_of s = held s (register_of LIST)
+
+abbrev pub rest_of : Seated → Value
+rest_of s = held s (register_of REST)
+
+-- the first number of a list, and what follows it, as the mutator sees them
+abbrev pub number_in : Seated → (list : Value) → Value
+number_in s list = word_of (seen_heap s) list NUMBER_FIELD
+
+abbrev pub rest_in : Seated → (list : Value) → Value
+rest_in s list = word_of (seen_heap s) list REST_FIELD
