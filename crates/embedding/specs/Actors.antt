@@ -22,14 +22,14 @@ pub record HasTaken (b : Seated) : Type 0 where
   pub empty : seen_heap b ≡ with_board (heap_before b) BOX (Number 0)
 
 -- a mutator of this heap with no call under way and no end, which has seen all calls that it made
-pub record IsReady (t : TableId) (mutator : Seated) : Type 0 where
+pub record MayAct (t : TableId) (mutator : Seated) : Type 0 where
   pub of_heap : mutator.table ≡ t
   pub rests : mutator.worker.task ≡ None
   pub no_end : mutator.worker.account.end ≡ None
   pub mine : IsMine mutator.knows
 
 -- The mutator of an actor has left. Its spare has no call under way; if the actor failed, the spare has put up the sign and left.
-pub record HasEnded (t : TableId) (mutator spare : Seated) (outcome : Result ℕ Stop) : Type 0 where
+pub record HasFinished (t : TableId) (mutator spare : Seated) (outcome : Result ℕ Stop) : Type 0 where
   pub of_heap : (mutator.table ≡ t) × (spare.table ≡ t)
   pub rest : (mutator.worker.task ≡ None) × (spare.worker.task ≡ None)
   pub gone : mutator.worker.stage ≡ Gone

@@ -13,8 +13,8 @@ abbrev pub rest_of : Seated → Value
 rest_of s = held s (register_of REST)
 
 -- the first number of a list, and what follows it, as the mutator sees them
-abbrev pub number_in : Seated → (list : Value) → Value
-number_in s list = word_of (seen_heap s) list NUMBER_FIELD
+abbrev pub head_in : Seated → (list : Value) → Value
+head_in s list = word_of (seen_heap s) list NUMBER_FIELD
 
-abbrev pub rest_in : Seated → (list : Value) → Value
-rest_in s list = word_of (seen_heap s) list REST_FIELD
+abbrev pub tail_in : Seated → (list : Value) → Value
+tail_in s list = word_of (seen_heap s) list REST_FIELD

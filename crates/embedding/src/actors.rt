@@ -1,7 +1,7 @@
 //! The two actors: what each does, and how it ends.
 
 ghost use Rattle.std.specs.Prelude.{◌≡◌, OnOk};
-ghost use Rattle.embedding.specs.Actors.{HasEnded, HasPut, HasTaken, IsReady};
+ghost use Rattle.embedding.specs.Actors.{HasFinished, HasPut, HasTaken, MayAct};
 
 use crate::lists::{LIST, add, prepend};
 use crate::signs::{FOUND, Outcome, Stop, announce, heed};
@@ -29,9 +29,9 @@ pub type Ended = (Mutator, Mutator, Outcome);
 /// An actor does its work, and leaves. If it fails its spare puts up the sign, for a mutator with an end makes no call any more. The actor
 /// leaves before that: the spare may have to wait for a flip, which waits for all that have come and haven't left.
 pub fn acts<R: Wait>(rt: &R, heap: &Shared, role: Role, mutator: Mutator, spare: Mutator) -> Ended
-    requires mutator { IsReady heap.now.table.shared.table_id mutator }
-    requires spare { IsReady heap.now.table.shared.table_id spare }
-    ensures { HasEnded heap.now.table.shared.table_id result.0 result.1 result.2 }
+    requires mutator { MayAct heap.now.table.shared.table_id mutator }
+    requires spare { MayAct heap.now.table.shared.table_id spare }
+    ensures { HasFinished heap.now.table.shared.table_id result.0 result.1 result.2 }
 {
     let mut local = Local::new(heap, mutator);
     let outcome = match role {
@@ -68,7 +68,8 @@ fn put<R: Wait>(rt: &R, local: &mut Local<'_>) -> Result<(), Stop>
         heed(rt, local)?;
         local.read_shared(rt, FOUND, BOX)?;
         if local.number(FOUND) == Some(0) {
-            return Ok(local.share(rt, BOX, LIST)?);
+            local.share(rt, BOX, LIST)?;
+            return Ok(());
         }
         yield_now();
     }

@@ -4,7 +4,7 @@
 
 ghost use Rattle.std.specs.Prelude.{◌≡◌, IfOk, OnOk};
 ghost use Rattle.plain_state.specs.declared.value.Value.TheVariants as values;
-ghost use Rattle.embedding.specs.Lists.{list_of, number_in, rest_in, rest_of};
+ghost use Rattle.embedding.specs.Lists.{list_of, head_in, tail_in, rest_of};
 
 use crate::signs::{Outcome, Stop};
 use ael_runtime::{Failure, Local, Root};
@@ -25,7 +25,7 @@ const REST_FIELD: u16 = 1;
 /// Puts a number in front of the list.
 pub fn prepend<R: Wait>(rt: &R, local: &mut Local<'_>, number: u64) -> Result<(), Failure>
     ensures of_heap { local.new.table ≡ local.old.table }
-    ensures rest { OnOk result (rest_in local.new (list_of local.new) ≡ list_of local.old) }
+    ensures rest { OnOk result (tail_in local.new (list_of local.new) ≡ list_of local.old) }
 {
     local.copy(rt, REST, LIST)?;
     link(rt, local, number)?;
@@ -35,7 +35,7 @@ pub fn prepend<R: Wait>(rt: &R, local: &mut Local<'_>, number: u64) -> Result<()
 /// Makes a link with this number. What is to follow it stays in its root.
 fn link<R: Wait>(rt: &R, local: &mut Local<'_>, number: u64) -> Result<(), Failure>
     ensures of_heap { local.new.table ≡ local.old.table }
-    ensures number { OnOk result (number_in local.new (list_of local.new) ≡ values.Number number) }
+    ensures number { OnOk result (head_in local.new (list_of local.new) ≡ values.Number number) }
     ensures rest { OnOk result (rest_of local.new ≡ rest_of local.old) }
 {
     local.make(rt, LIST, LINK_LENGTH, 0)?;
@@ -63,7 +63,7 @@ pub fn add<R: Wait>(rt: &R, local: &mut Local<'_>, count: u64, mut sum: u64) -> 
 /// The first number of the list, which its root holds then.
 fn first<R: Wait>(rt: &R, local: &mut Local<'_>) -> Outcome
     ensures of_heap { local.new.table ≡ local.old.table }
-    ensures first { IfOk result (λ number. number_in local.new (list_of local.old) ≡ values.Number number) }
+    ensures first { IfOk result (λ number. head_in local.new (list_of local.old) ≡ values.Number number) }
 {
     local.load(rt, LIST, LIST, NUMBER_FIELD)?;
     local.number(LIST).ok_or(Stop::NoNumber)
