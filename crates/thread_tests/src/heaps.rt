@@ -1,6 +1,7 @@
 //! Heaps of two workers, opened and closed.
 
 ghost use Rattle.std.specs.Prelude.{◌≡◌, ◌≤◌, [], None, IfOk, vec_capacity};
+ghost use Rattle.ael_threads.specs.Seats.{new_callers};
 
 use ael_threads::{Mutator, Scanner, Seats, Shared};
 use gc_worker::{Config, OpenError};
@@ -63,6 +64,29 @@ pub fn open_scanned(alloc: Global) -> Result<(Shared, Seats, Mutator, Scanner), 
     };
     let (heap, mut seats) = Shared::open(alloc, 1, &config)?;
     let (Some(mutator), Some(scanner)) = (seats.mutators.pop(), seats.scanners.pop()) else {
+        unreachable!()
+    };
+    Ok((heap, seats, mutator, scanner))
+}
+
+/// A heap of four pages with a mutator and a scanner, which have made no step, and the seats without theirs, for which there is room.
+/// Another mutator is left there.
+pub fn open_untaken(alloc: Global) -> Result<(Shared, Seats, Mutator, Scanner), OpenError>
+    ensures mutator { IfOk result (λ o. (o.2.table ≡ o.0.table.shared.table_id) × (o.2.worker.task ≡ None)) }
+    ensures scanner { IfOk result (λ o. o.3.seated.table ≡ o.0.table.shared.table_id) }
+    ensures left { IfOk result (λ o. o.1.mutators.items ≡ new_callers o.0.table.shared.table_id o.0.table.shared.key 0 1) }
+    ensures no_scanner { IfOk result (λ o. o.1.scanners.items ≡ []) }
+    ensures room { IfOk result (λ o. (2 ≤ vec_capacity o.1.mutators) × (1 ≤ vec_capacity o.1.scanners)) }
+{
+    let config = Config {
+        pages: 4,
+        limit: 4,
+        scanners: 1,
+        turns: 1,
+        snap: false,
+    };
+    let (heap, mut seats) = Shared::open(alloc, 2, &config)?;
+    let (Some(mutator), Some(scanner)) = (seats.take_mutator(), seats.take_scanner()) else {
         unreachable!()
     };
     Ok((heap, seats, mutator, scanner))

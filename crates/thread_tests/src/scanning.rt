@@ -4,7 +4,7 @@ ghost use Rattle.std.specs.Prelude.{◌≡◌, None};
 
 use crate::asserting::assert_same;
 use crate::calling::make;
-use crate::heaps::{close_scanned, open_scanned};
+use crate::heaps::{close_scanned, open_scanned, open_untaken};
 use crate::keeping::{check_list, flip_until, make_list};
 use crate::signs::comes;
 use ael_threads::{Mutator, Round, Scanner, Shared};
@@ -101,5 +101,21 @@ fn rounds_tell_whether_there_was_work(rt: HostRuntime) -> Result<(), Fail> {
     assert_same(&rt, &scanner.round(&rt, &h), &Round::Nothing);
     assert_same(&rt, &scanner.round(&rt, &h), &Round::Gone);
     close_scanned(h, seats, mutator, scanner);
+    Ok(())
+}
+
+#[test]
+fn a_scanner_ends_though_a_seat_is_not_taken(rt: HostRuntime) -> Result<(), Fail> {
+    let (h, mut seats, mut mutator, mut scanner) = open_untaken(rt.alloc())?;
+    make_list(&rt, &h, &mut mutator);
+    mutator.leave(&rt, &h);
+    assert_same(&rt, &scanner.round(&rt, &h), &Round::Nothing);
+    seats.retire(&rt, &h);
+    // Nobody stops it.
+    scanner.scans(&rt, &h, &AtomicBool::new(false));
+    assert_same(&rt, &scanner.round(&rt, &h), &Round::Gone);
+    seats.mutators.push_reserved(mutator);
+    seats.scanners.push_reserved(scanner);
+    let _words = h.close(seats);
     Ok(())
 }
