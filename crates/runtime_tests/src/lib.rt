@@ -7,6 +7,8 @@ mod asserting;
 #[cfg(test)]
 mod board;
 #[cfg(test)]
+mod costs;
+#[cfg(test)]
 mod ends;
 #[cfg(test)]
 mod frames;
