@@ -48,6 +48,9 @@ valid_new d n into short = rw (lt-ltb d REGISTERS into, lt-ltb n NUMBERS (omega 
 pub serial_kept : (a b : Seated) (i : Instr) (e : Executed a i b) (d : ℕ) (v : Value) → Sets a d v e.heap b → b.worker.account.serial ≡ serial_of (seen_heap a) (number a)
 serial_kept a b i e d v s = e.serial_is ∙ ((λ j. serial_of (s.heap_is j) (e.number_is j)) ∙ e.at_call.serial)
 
+pub few_now : (a : Seated) (serial : ℕ) → serial ≡ a.worker.account.serial → serial < MOST_RECORDS → a.worker.account.serial < MOST_RECORDS
+few_now a serial is few = omega (arith, is, few)
+
 pub new_begins : (a kept : Seated) (n serial : ℕ) (keeps : Executed a (instrs.Mov SCRATCH FRAMES) kept) → n ≤ LONGEST_RECORD → serial ≡ serial_of (seen_heap a) (number a) → serial < MOST_RECORDS
     → FitsCall kept.worker.account kept.worker.registers (instrs.New FRAMES (operands.Number n))
 new_begins a kept n serial keeps short is few =

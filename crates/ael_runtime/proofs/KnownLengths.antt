@@ -1,8 +1,7 @@
 -- What is known of a record's length stays known while its register is left alone.
-use Rattle.std.proofs.Common.{◌≡◌, ◌≢◌, ℕ, ◌<◌, ◌≤◌, inl, inr, ◌⊎◌, Bool, true, false, Option, Some, None, Result, Ok, refl, ap, sym, ◌∙◌, subst, arith, get_or-set_other}
-use Rattle.std.specs.Prelude.{⊤, IfOk}
-use Rattle.std.proofs.lemmas.Bool.{cases_lt}
-use Rattle.plain_state.specs.declared.end.End.{End}
+use Rattle.std.proofs.Common.{◌≡◌, ◌≢◌, ℕ, ◌<◌, ◌≤◌, inl, inr, ◌⊎◌, true, Option, Some, None, refl, ap, sym, ◌∙◌, subst, arith, get_or-set_other}
+use Rattle.std.specs.Prelude.{⊤, IfOk, nat_eq, not}
+use Rattle.std.proofs.lemmas.Bool.{cases_lt, eqb-false, not-true}
 use Rattle.plain_state.specs.declared.value.Value.TheVariants.{Number}
 use Rattle.plain_state.specs.State.{Heap, Mutator, record_of}
 use Rattle.mutator_asm.specs.declared.instr.Instr.{Instr}
@@ -45,7 +44,7 @@ module _ (r m : ℕ) (heap : Heap) (k : Mutator) where
 
     loads_leave : (act : Action) → LoadsTo act → IfOk (performed m heap k act) IsLeft
     loads_leave (Loads e i y) is = if_ok-bind IsLeft (value_in heap i y) _ (λ v. get_or-set_other k.registers e r v (Number 0) (λ q. other (q ∙ is)))
-    loads_leave _ no = absurd no
+    loads_leave _ void = absurd void
 
     ld_leaves : IfOk (call m heap k (instrs.Ld d a x)) IsLeft
     unfolding call action
@@ -59,7 +58,7 @@ module _ (r m : ℕ) (heap : Heap) (k : Mutator) where
 
     stores_leave : (act : Action) → IsStore act → IfOk (performed m heap k act) IsLeft
     stores_leave (Stores i y v) is = if_ok-bind IsLeft (value_in heap i y) _ (λ old. if_ok-bind IsLeft (store_in heap i (record_of heap i) y v) _ (λ h. refl))
-    stores_leave _ no = absurd no
+    stores_leave _ void = absurd void
 
     st_leaves : IfOk (call m heap k (instrs.St a x b)) IsLeft
     unfolding call action
@@ -71,6 +70,20 @@ spares_ld d a x r other m heap k after is = if_ok-is (IsLeft r m heap k) _ after
 
 pub spares_st : (a : ℕ) (x : Operand) (b r : ℕ) → Spares (instrs.St a x b) r
 spares_st a x b r m heap k after is = if_ok-is (IsLeft r m heap k) _ after (st_leaves r m heap k a b x) is
+
+-- one of those that set a register, which is another one
+pub spares_set : (instr : Instr) (to r : ℕ)
+    → ((n : ℕ) × (instr ≡ instrs.Li to n)) ⊎ (((a : ℕ) × (instr ≡ instrs.Mov to a)) ⊎ ((a : ℕ) × (x : Operand) × (instr ≡ instrs.Ld to a x)))
+    → not (nat_eq to r) ≡ true → Spares instr r
+spares_set instr to r is told = by_instr is
+  where
+    other : r ≢ to
+    other e = eqb-false to r (not-true (nat_eq to r) told) (sym e)
+
+    by_instr : ((n : ℕ) × (instr ≡ instrs.Li to n)) ⊎ (((a : ℕ) × (instr ≡ instrs.Mov to a)) ⊎ ((a : ℕ) × (x : Operand) × (instr ≡ instrs.Ld to a x))) → Spares instr r
+    by_instr (inl (n, e)) = subst (λ (i : Instr). Spares i r) (sym e) (spares_li to n r other)
+    by_instr (inr (inl (a, e))) = subst (λ (i : Instr). Spares i r) (sym e) (spares_mov to a r other)
+    by_instr (inr (inr (a, x, e))) = subst (λ (i : Instr). Spares i r) (sym e) (spares_ld to a x r other)
 
 -- ---- what is known
 
@@ -89,10 +102,10 @@ module _ (a b : Seated) where
   pub known_then : (instr : Instr) (did : Did) (before after : Option Measured) → IsKept before instr did after → IsKnown before a → (did ≡ Done → Executed a instr b) → IsKnown after b
   known_then instr did before None kept known executed = tt
   known_then instr did before (Some measured) kept known executed =
-      let e : Executed a instr b = executed kept.1.0 in
+      let e : Executed a instr b = executed kept.1 in
       let at_first : IsKnown (Some measured) a = subst (λ (o : Option Measured). IsKnown o a) kept.0 known in
       let same : held b measured.register ≡ held a measured.register =
-      ap (λ (k : Mutator). register k measured.register) e.mutator_is ∙ kept.1.1 _ e.heap (seen_mutator a) e.after e.is in
+      ap (λ (k : Mutator). register k measured.register) e.mutator_is ∙ kept.2 _ e.heap (seen_mutator a) e.after e.is in
       (e.called.ends, len_kept instr measured.register measured.len same e at_first.1)
 
   -- nor does it change while the mutator makes no call

@@ -261,8 +261,8 @@ module _ (a then : Seated) (of at : ℕ) (look : LeavesOnceSeen a of [] SCRATCH 
     }
 
     -- the record can't hold it
-    pub cant_hold : (b : Seated) (end : End) → Called then (Calls store) (Trap end) b → MayTrap then store end b → CantHold a of at what end b
-    cant_hold b end made t = by_hold (may_hold found.kind at v) refl
+    pub cant_hold : (b : Seated) (end : End) → MayTrap then store end b → CantHold a of at what end b
+    cant_hold b end t = by_hold (may_hold found.kind at v) refl
       where
         found : Record
         found = r t.heap t.at_call

@@ -13,7 +13,7 @@ use Rattle.mutator_asm.specs.declared.instr.Instr.TheVariants as instrs
 use Rattle.plain_heap.specs.Call.{After, call}
 use Rattle.plain_heap.specs.Order.{fresh}
 use Rattle.plain_heap.specs.Records.{shape_of}
-use Rattle.plain_heap.specs.Step.{settled}
+use Rattle.plain_heap.specs.Step.{ended, settled}
 use Rattle.heap_laws.specs.Opening.{opening_mutator}
 use Rattle.gc_worker.specs.declared.calls.call.Call.{Call}
 use Rattle.gc_worker.specs.declared.calls.did.Did.{Did}
@@ -33,7 +33,7 @@ use Rattle.ael_threads.specs.Histories.{HasOwnCalls, first_plain}
 use Rattle.ael_threads.specs.Seats.{IsMine, Seated, first_number, first_own, plain_after_seen}
 use Rattle.ael_threads.proofs.WholeCalls.OneMore.{makers}
 use Rattle.ael_runtime.specs.Calling.{AtCall, Executed, KeepsShapes, MayTrap}
-use Rattle.ael_runtime.specs.Reading.{heap_before, held, number, seen_heap, seen_mutator}
+use Rattle.ael_runtime.specs.Reading.{heap_before, number, seen_heap, seen_mutator}
 use Rattle.ael_threads.proofs.RegisterCount.{have_registers}
 
 -- nothing comes after a call but after one of `snap`

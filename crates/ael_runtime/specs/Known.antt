@@ -1,6 +1,5 @@
 -- What is known of a record's length, and when it stays known.
-use Rattle.std.specs.Prelude.{◌≡◌, ℕ, ◌≤◌, ⊤, Option, Some, None, Result, Ok}
-use Rattle.plain_state.specs.declared.end.End.{End}
+use Rattle.std.specs.Prelude.{◌≡◌, ℕ, ◌≤◌, ⊤, Option, Some, None, Ok}
 use Rattle.plain_state.specs.State.{Heap, Mutator}
 use Rattle.mutator_asm.specs.declared.instr.Instr.{Instr}
 use Rattle.plain_heap.specs.Action.{register}

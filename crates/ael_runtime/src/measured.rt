@@ -1,6 +1,6 @@
 //! The length that is known of a record, so that it need not be looked at each time.
 
-ghost use Rattle.std.specs.Prelude.{◌≡◌, ◌≤◌, ◌<◌, None, Some, IsTrue};
+ghost use Rattle.std.specs.Prelude.{◌≡◌, true};
 ghost use Rattle.ael_runtime.specs.Known.{IsKept, Spares};
 
 use ael_threads::Did;

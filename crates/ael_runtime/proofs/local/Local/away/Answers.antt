@@ -17,6 +17,6 @@ pub invariant_of-self : goal.invariant_of-self
 invariant_of-self g c = (
   c.away.ensures.table ∙ c.self.invariant.0,
   c.away.ensures.quiet.none,
-  mine_silent c.self.inside.mutator c.away.new.self c.away.ensures.quiet c.self.invariant.2.0,
-  known_silent c.self.inside.mutator c.away.new.self c.self.inside.known (sees_same c.self.inside.mutator c.away.new.self c.away.ensures.quiet c.away.ensures.end) c.self.invariant.2.1,
+  mine_silent c.self.inside.mutator c.away.new.self c.away.ensures.quiet c.self.invariant.2,
+  known_silent c.self.inside.mutator c.away.new.self c.self.inside.known (sees_same c.self.inside.mutator c.away.new.self c.away.ensures.quiet c.away.ensures.end) c.self.invariant.3,
 )

@@ -10,27 +10,27 @@ use Rattle.ael_runtime.proofs.local.Local.call.Goals as goal
 
 pub returns-clause-called : goal.returns-clause-called
 returns-clause-called g c =
-    called c.args.self.now c.exec.new.self c.args.instr c.exec.result c.requires.other
-    (subst (λ (s : Seated). CalledBy s c.args.instr c.exec.result c.exec.new.self) c.self.view_is c.exec.ensures.called)
+    called c.args.self.now c.exec-did.new.self c.args.instr c.exec-did.result c.requires.other
+    (subst (λ (s : Seated). CalledBy s c.args.instr c.exec-did.result c.exec-did.new.self) c.self.view_is c.exec-did.ensures.called)
 
 pub returns-clause-executed : goal.returns-clause-executed
 returns-clause-executed g c done =
     let by = returns-clause-called g c in
-    executed c.args.self.now c.exec.new.self c.args.instr c.requires.no_end (subst (λ (s : Seated). IsMine s.knows) c.self.view_is c.self.invariant.2.0)
-    (subst (λ (did : Did). Called c.args.self.now (Calls c.args.instr) did c.exec.new.self) done by)
+    executed c.args.self.now c.exec-did.new.self c.args.instr c.requires.no_end (subst (λ (s : Seated). IsMine s.knows) c.self.view_is c.self.invariant.2)
+    (subst (λ (did : Did). Called c.args.self.now (Calls c.args.instr) did c.exec-did.new.self) done by)
 
 pub returns-clause-trapped : goal.returns-clause-trapped
 returns-clause-trapped g c end trap =
     let by = returns-clause-called g c in
-    may_trap c.args.self.now c.exec.new.self c.args.instr end c.requires.no_end (subst (λ (s : Seated). IsMine s.knows) c.self.view_is c.self.invariant.2.0)
-    (subst (λ (did : Did). Called c.args.self.now (Calls c.args.instr) did c.exec.new.self) trap by)
+    may_trap c.args.self.now c.exec-did.new.self c.args.instr end c.requires.no_end (subst (λ (s : Seated). IsMine s.knows) c.self.view_is c.self.invariant.2)
+    (subst (λ (did : Did). Called c.args.self.now (Calls c.args.instr) did c.exec-did.new.self) trap by)
 
 pub invariant_of-self : goal.invariant_of-self
 invariant_of-self g c =
     let by = returns-clause-called g c in (
-      c.exec.ensures.table ∙ c.self.invariant.0,
+      c.exec-did.ensures.table ∙ c.self.invariant.0,
       by.rests,
-      mine_more c.args.self.now c.exec.new.self (Calls c.args.instr) c.exec.result by,
-      known_then c.args.self.now c.exec.new.self c.args.instr c.exec.result c.self.known c.known_after.result c.known_after.ensures
-          (subst (IsKnown c.self.known) c.self.view_is c.self.invariant.2.1) (returns-clause-executed g c),
+      mine_more c.args.self.now c.exec-did.new.self (Calls c.args.instr) c.exec-did.result by,
+      known_then c.args.self.now c.exec-did.new.self c.args.instr c.exec-did.result c.self.inside.known c.known_after-self-inside.result c.known_after-self-inside.ensures
+          (subst (IsKnown c.self.inside.known) c.self.view_is c.self.invariant.3) (returns-clause-executed g c),
     )

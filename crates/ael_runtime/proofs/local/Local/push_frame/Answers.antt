@@ -1,8 +1,8 @@
-use Rattle.std.proofs.Common.{ℕ, inr, subst}
+use Rattle.std.proofs.Common.{ℕ, arith, inr, subst, sym}
 use Rattle.ael_threads.proofs.ProgramRuns.Executions.{is_done}
 use Rattle.ael_runtime.specs.declared.root.TheConstants.{FRAMES, SCRATCH}
 use Rattle.ael_runtime.specs.Making.{HasPushed}
-use Rattle.ael_runtime.proofs.FrameCalls.{full_frame, new_begins, pushed, sure_link}
+use Rattle.ael_runtime.proofs.FrameCalls.{few_now, full_frame, new_begins, pushed, sure_link}
 use Rattle.ael_runtime.proofs.NumberCalls.{sure_mov}
 use Rattle.ael_runtime.proofs.local.Local.push_frame.Goals as goal
 
@@ -16,15 +16,25 @@ call-requires-clause-may_begin g c =
 pub returns-in-Trap-clause-fails : goal.returns-in-Trap-clause-fails
 returns-in-Trap-clause-fails g c =
     inr (full_frame c.args.self.now c.does.new.self c.call.new.self c.args.slots c.from-len.result c.from-len.ensures c.if-len-gt-LONGEST_RECORD.false c.does.ensures.executed
-    c.call.result c.in-Trap.end c.call.ensures.called c.in-Trap.is (c.call.ensures.trapped c.in-Trap.end c.in-Trap.is))
+    c.in-Trap.end (c.call.ensures.trapped c.in-Trap.end c.in-Trap.is))
 
 pub does-requires-2-clause-sure : goal.does-requires-2-clause-sure
 does-requires-2-clause-sure g c =
     sure_link c.args.self.now c.does.new.self c.call.new.self c.from-len.result c.if-len-gt-LONGEST_RECORD.false c.does.ensures.executed
     (c.call.ensures.executed (is_done c.call.result c.in_default-call.not-Trap))
 
+pub remember-requires-clause-len : goal.remember-requires-clause-len
+remember-requires-clause-len g c =
+    let p = pushed c.args.self.now c.does.new.self c.call.new.self c.from-len.result c.if-len-gt-LONGEST_RECORD.false c.does.ensures.executed
+    (c.call.ensures.executed (is_done c.call.result c.in_default-call.not-Trap)) c.does-2.new.self
+    (few_now c.args.self.now c.serial.result c.serial.ensures.account c.if-serial-ge-MOST_RECORDS.false) c.does-2.ensures.executed in
+    let len = p.len in
+    omega (arith, len)
+
 pub returns-clause-pushed : goal.returns-clause-pushed
 returns-clause-pushed g c =
-    subst (λ (n : ℕ). HasPushed c.args.self.now n c.does-2.new.self) c.from-len.ensures
+    subst (HasPushed c.args.self.now c.args.slots) (sym c.remember.ensures)
+    (subst (λ (n : ℕ). HasPushed c.args.self.now n c.does-2.new.self) c.from-len.ensures
     (pushed c.args.self.now c.does.new.self c.call.new.self c.from-len.result c.if-len-gt-LONGEST_RECORD.false c.does.ensures.executed
-    (c.call.ensures.executed (is_done c.call.result c.in_default-call.not-Trap)) c.does-2.new.self c.does-2.ensures.executed)
+    (c.call.ensures.executed (is_done c.call.result c.in_default-call.not-Trap)) c.does-2.new.self
+    (few_now c.args.self.now c.serial.result c.serial.ensures.account c.if-serial-ge-MOST_RECORDS.false) c.does-2.ensures.executed))

@@ -3,7 +3,7 @@ use Rattle.mutator_asm.specs.declared.instr.Instr.TheVariants.{Ld}
 use Rattle.mutator_asm.specs.declared.operand.Operand.TheVariants as operands
 use Rattle.ael_runtime.specs.Calling.{OneCall, done}
 use Rattle.ael_runtime.specs.Reading.{register_of}
-use Rattle.ael_runtime.specs.declared.root.TheConstants.{FRAMES, SCRATCH}
+use Rattle.ael_runtime.specs.declared.root.TheConstants.{FRAMES}
 use Rattle.ael_runtime.proofs.FrameCalls.{not_frames, restored, within_top}
 use Rattle.ael_runtime.proofs.local.Local.restore.Goals as goal
 

@@ -17,6 +17,6 @@ pub invariant_of-self : goal.invariant_of-self
 invariant_of-self g c = (
   c.poll.ensures.table ∙ c.self.invariant.0,
   c.poll.ensures.quiet.none,
-  mine_silent c.self.inside.mutator c.poll.new.self c.poll.ensures.quiet c.self.invariant.2.0,
-  known_silent c.self.inside.mutator c.poll.new.self c.self.inside.known (sees_same c.self.inside.mutator c.poll.new.self c.poll.ensures.quiet c.poll.ensures.end) c.self.invariant.2.1,
+  mine_silent c.self.inside.mutator c.poll.new.self c.poll.ensures.quiet c.self.invariant.2,
+  known_silent c.self.inside.mutator c.poll.new.self c.self.inside.known (sees_same c.self.inside.mutator c.poll.new.self c.poll.ensures.quiet c.poll.ensures.end) c.self.invariant.3,
 )
