@@ -118,24 +118,27 @@ module _ (a kept new : Seated) (slots : ℕ) (short : slots + 1 ≤ LONGEST_RECO
       let later : record_of (seen_heap b) i ≡ Some (with_value r.0 0 v) = ap (λ (h : Heap). record_of h i) s.heap_is ∙ stored_there e.heap i r.0 0 v r.1 in
       let values : values_of (seen_heap b) i ≡ slice_set r.0.values 0 v = ap (λ (o : Option Record). option_map_or (λ (q : Record). q.values) o []) later in
       let top : held b FRAMES ≡ Reference i = s.registers FRAMES ∙ is_new.leads in record {
+        short = omega (arith, short);
+        room = room;
+        leaves = record {
+          called = (kept, (keeps.called, (new, (makes.called, (b, (e.called, refl))))));
+          alive = keeps.alive;
+          no_end = e.called.ends;
+          others = λ j other scratch. s.registers j
+              ∙ ((made_sets kept new (instrs.New FRAMES (operands.Number (slots + 1))) makes Fields FRAMES (slots + 1) (omega arith)
+              (call-new (number kept) makes.heap (seen_mutator kept) FRAMES (slots + 1) short)).others j other
+              ∙ (mov_sets a kept SCRATCH FRAMES keeps (omega arith)).others j scratch);
+        };
         kept = kept;
         keeps = keeps.called;
         new = new;
         makes = makes.called;
         made = is_new;
         links = e.called;
-        alive = keeps.alive;
-        short = omega (arith, short);
-        room = room;
-        no_end = e.called.ends;
         top = s.registers FRAMES;
         len = ap (len_of (seen_heap b)) top ∙ (ap length values ∙ (length-set r.0.values 0 v ∙ frame_len e.heap e.at_call));
         below = ap (λ (z : Value). word_of (seen_heap b) z 0) top
             ∙ (ap (λ vs. slice_index_or vs 0 (Number 0)) values ∙ (get_or-set_same r.0.values 0 v (Number 0) (frame_within e.heap e.at_call) ∙ link));
-        others = λ j other scratch. s.registers j
-            ∙ ((made_sets kept new (instrs.New FRAMES (operands.Number (slots + 1))) makes Fields FRAMES (slots + 1) (omega arith)
-            (call-new (number kept) makes.heap (seen_mutator kept) FRAMES (slots + 1) short)).others j other
-            ∙ (mov_sets a kept SCRATCH FRAMES keeps (omega arith)).others j scratch);
       }
 
 -- ---- slots of the topmost frame, which stays on top

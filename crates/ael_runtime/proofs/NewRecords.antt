@@ -1,5 +1,5 @@
 -- Calls that make a record.
-use Rattle.std.proofs.Common.{◌≡◌, ℕ, ◌+◌, ◌-◌, ◌<◌, ◌≤◌, ◌==◌, Bool, true, false, List, [], ◌∷◌, length, None, Ok, refl, ap, sym, ◌∙◌, subst, arith, add-one}
+use Rattle.std.proofs.Common.{◌≡◌, ℕ, ◌+◌, ◌-◌, ◌<◌, ◌≤◌, ◌==◌, ◌||◌, Bool, true, false, List, [], ◌∷◌, length, None, Ok, refl, ap, sym, ◌∙◌, subst, arith, add-one}
 use Rattle.std.specs.Prelude.{IsTrue, if◌then◌else◌, nat_lt}
 use Rattle.std.proofs.lemmas.Bool.{eqb-true, ltb-false}
 use Rattle.std.proofs.lemmas.List.{length-replicate}
@@ -82,7 +82,7 @@ module _ (to fields numbers : ℕ) (P : Instr → Kind → ℕ → Type 0)
   kind_by none no_fields = if none then Fields else (if no_fields then Raw else Mixed fields)
 
   abbrev most_by : (none no_fields : Bool) → ℕ
-  most_by none no_fields = if none then LONGEST_RECORD else (if no_fields then LONGEST_RECORD else LONGEST_RECORD - 1)
+  most_by none no_fields = if none || no_fields then LONGEST_RECORD else LONGEST_RECORD - 1
 
   by_tests : (none no_fields : Bool) → (numbers == 0) ≡ none → (fields == 0) ≡ no_fields → nat_lt (most_by none no_fields) (fields + numbers) ≡ false → P (instr_by none no_fields) (kind_by none no_fields) (fields + numbers)
   by_tests true no_fields none_is fields_is short =

@@ -89,12 +89,12 @@ MakeFails too_long a instr RecordsOut b = Stays a b × (too_long ≡ false) × (
 MakeFails too_long a instr TooLarge b = Stays a b × (too_long ≡ true)
 MakeFails too_long a instr why b = ⊥
 
--- the heap is full for a frame of so many slots, and what was on top stays there
+-- the heap is full for a frame with this number of slots, and what was on top stays there
 pub record IsFullForFrame (a : Seated) (slots : ℕ) (end : End) (b : Seated) : Type 0 where
   pub ends : Ends a (done (instrs.Mov SCRATCH FRAMES) ∷ trapped (instrs.New FRAMES (operands.Number (slots + 1))) end ∷ []) end b
   pub full : is_heap_full end ≡ true
 
--- of one that puts a frame of so many slots on top, which may be too many; that is told before there are too many records
+-- of one that puts a frame on top, which may have too many slots; that is told before there are too many records
 abbrev pub FrameFails : Seated → (slots : ℕ) → Failure → Seated → Type 0
 FrameFails a slots (Ended end) b = HadEnd a end b ⊎ IsFullForFrame a slots end b
 FrameFails a slots RecordsOut b = Stays a b × (slots < LONGEST_RECORD) × (MOST_RECORDS ≤ a.worker.account.serial)

@@ -21,7 +21,8 @@ use std::sync::Wait;
 const LINK: u64 = 0;
 
 impl<'h> Local<'h> {
-    /// Puts a frame on top, of so many slots, each of which is 0. It is too large exactly from 4095 slots on.
+    /// Puts a frame on top, with this number of slots, which are 0 when it is made. It is too large exactly from `LONGEST_RECORD` slots on,
+    /// since its link takes a word.
     pub fn push_frame<R: Wait>(&mut self, rt: &R, slots: u16) -> Result<(), Failure>
         ensures of_heap { self.new.table ≡ self.old.table }
         ensures pushed { OnOk result (HasPushed self.old slots self.new) }

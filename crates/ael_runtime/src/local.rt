@@ -107,7 +107,7 @@ impl<'h> Local<'h> {
         }
     }
 
-    /// From now on the record in a register is known to have so many words.
+    /// From now on the record in a register is known to have at least this many words.
     pub(crate) fn remember(&mut self, register: u8, len: u64)
         requires no_end { self.old.worker.account.end ≡ None }
         requires len { len ≤ len_of (seen_heap self.old) (held self.old register) }

@@ -6,14 +6,14 @@ ghost use Rattle.ael_runtime.specs.Known.{IsKept, Spares};
 use ael_threads::Did;
 use mutator_asm::Instr;
 
-/// A register, and how many words its record has.
+/// A register, and how many words its record has at least.
 #[derive(Clone, Copy, Debug, PartialEq, Eq)]
 pub(crate) struct Measured {
     pub register: u8,
     pub len: u64,
 }
 
-/// Whether an instruction leaves what this register holds. Of one that isn't used between two looks at a record nothing is told.
+/// Whether an instruction is known to leave what this register holds. After any other one the length is looked up anew.
 fn spares(instr: Instr, register: u8) -> bool
     ensures { result ≡ true → Spares instr register }
 {

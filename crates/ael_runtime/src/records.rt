@@ -39,9 +39,7 @@ fn is_too_long(fields: u16, numbers: u16) -> bool
     ensures { result ≡ making.is_too_long fields numbers }
 {
     let (fields, numbers) = (u64::from(fields), u64::from(numbers));
-    let most = if numbers == 0 {
-        LONGEST_RECORD
-    } else if fields == 0 {
+    let most = if numbers == 0 || fields == 0 {
         LONGEST_RECORD
     } else {
         LONGEST_RECORD - 1
@@ -50,8 +48,8 @@ fn is_too_long(fields: u16, numbers: u16) -> bool
 }
 
 impl<'h> Local<'h> {
-    /// The root leads to a new record of so many fields, each a number or a record, and so many plain numbers behind them. All are 0. It is
-    /// too large exactly if it has more than 4095 words, or more than 4094 of both sorts; that is told before `RecordsOut`.
+    /// The root leads to a new record, with this number of fields, each a number or a record, and of plain numbers behind them. All are 0. It
+    /// is too large exactly if it has more than `LONGEST_RECORD` words, or as many of both sorts; that is told before `RecordsOut`.
     pub fn make<R: Wait>(
         &mut self,
         rt: &R,

@@ -6,7 +6,7 @@ ghost use Rattle.ael_runtime.specs.Reading.{register_of};
 /// The register of the lengths and the records that are looked at. Nobody relies on what it holds.
 pub(crate) const SCRATCH: u8 = 5;
 
-/// The register that leads to the topmost frame, or holds a number where there is none.
+/// The register that leads to the topmost frame, or holds a number if there is none.
 pub(crate) const FRAMES: u8 = 7;
 
 /// A root: a register that a runtime may use. It holds a number or leads to a record, which it keeps.
