@@ -9,7 +9,7 @@ use Rattle.mutator_asm.specs.declared.instr.Instr.{Instr}
 use Rattle.plain_heap.specs.Action.{register}
 use Rattle.plain_heap.specs.Call.{After, call, loads, went_on}
 use Rattle.ael_threads.specs.Seats.{Seated}
-use Rattle.ael_runtime.specs.Calling.{Executed}
+use Rattle.ael_runtime.specs.Calling.{HadEffect}
 use Rattle.ael_runtime.specs.Reading.{held, number, seen_heap, seen_mutator}
 
 pub after_same : (o : Result After End) (x y : After) → o ≡ Ok x → o ≡ Ok y → x ≡ y
@@ -21,7 +21,7 @@ pub record Sets (a : Seated) (d : ℕ) (v : Value) (heap : Heap) (b : Seated) : 
   pub others : (j : ℕ) → j ≢ d → held b j ≡ held a j
   pub heap_is : seen_heap b ≡ heap
 
-pub sets : (a b : Seated) (i : Instr) (e : Executed a i b) (d : ℕ) (v : Value) (heap : Heap) → d < REGISTERS
+pub sets : (a b : Seated) (i : Instr) (e : HadEffect a i b) (d : ℕ) (v : Value) (heap : Heap) → d < REGISTERS
     → call (number a) e.heap (seen_mutator a) i ≡ Ok (loads heap (seen_mutator a) d v) → Sets a d v heap b
 sets a b i e d v heap within is =
     let same : e.after ≡ loads heap (seen_mutator a) d v = after_same _ e.after (loads heap (seen_mutator a) d v) e.is is in
@@ -37,7 +37,7 @@ pub record Writes (a : Seated) (heap : Heap) (b : Seated) : Type 0 where
   pub registers : (j : ℕ) → held b j ≡ held a j
   pub heap_is : seen_heap b ≡ heap
 
-pub writes : (a b : Seated) (i : Instr) (e : Executed a i b) (heap : Heap)
+pub writes : (a b : Seated) (i : Instr) (e : HadEffect a i b) (heap : Heap)
     → call (number a) e.heap (seen_mutator a) i ≡ Ok (record { heap = heap; mutator = went_on (seen_mutator a) }) → Writes a heap b
 writes a b i e heap is =
     let left : After = record { heap = heap; mutator = went_on (seen_mutator a) } in

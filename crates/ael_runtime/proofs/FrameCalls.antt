@@ -27,10 +27,10 @@ use Rattle.ael_threads.specs.Seats.{Seated}
 use Rattle.ael_runtime.specs.declared.failure.Failure.{Failure}
 use Rattle.ael_runtime.specs.declared.root.Root.{Root}
 use Rattle.ael_runtime.specs.declared.root.TheConstants.{FRAMES, SCRATCH}
-use Rattle.ael_runtime.specs.Calling.{AtCall, Executed, IsSure, LeavesOnceSeen, MayTrap, OneCall}
+use Rattle.ael_runtime.specs.Calling.{AtCall, HadEffect, IsSure, HadEffectsOnceSeen, WasTrapped, OneCall}
 use Rattle.ael_runtime.specs.Failing.{IsFullForFrame}
 use Rattle.ael_runtime.specs.Making.{HasMade, HasPushed}
-use Rattle.ael_runtime.specs.Reading.{held, len_of, number, register_of, seen_heap, seen_mutator, word_of}
+use Rattle.ael_runtime.specs.Reading.{held, len_of, number, root_register, seen_heap, seen_mutator, record_word}
 use Rattle.ael_runtime.proofs.Effects.{Sets, writes}
 use Rattle.ael_runtime.proofs.Lengths.{there_later}
 use Rattle.ael_runtime.proofs.NewRecords.{full, made, made_sets, makes_begin}
@@ -45,25 +45,25 @@ pub valid_new : (d n : ℕ) → d < REGISTERS → n ≤ LONGEST_RECORD → IsTru
 valid_new d n into short = rw (lt-ltb d REGISTERS into, lt-ltb n NUMBERS (omega (arith, short))) refl
 
 -- it has as many records as before
-pub serial_kept : (a b : Seated) (i : Instr) (e : Executed a i b) (d : ℕ) (v : Value) → Sets a d v e.heap b → b.worker.account.serial ≡ serial_of (seen_heap a) (number a)
+pub serial_kept : (a b : Seated) (i : Instr) (e : HadEffect a i b) (d : ℕ) (v : Value) → Sets a d v e.heap b → b.worker.account.serial ≡ serial_of (seen_heap a) (number a)
 serial_kept a b i e d v s = e.serial_is ∙ ((λ j. serial_of (s.heap_is j) (e.number_is j)) ∙ e.at_call.serial)
 
 pub few_now : (a : Seated) (serial : ℕ) → serial ≡ a.worker.account.serial → serial < MOST_RECORDS → a.worker.account.serial < MOST_RECORDS
 few_now a serial is few = omega (arith, is, few)
 
-pub new_begins : (a kept : Seated) (n serial : ℕ) (keeps : Executed a (instrs.Mov SCRATCH FRAMES) kept) → n ≤ LONGEST_RECORD → serial ≡ serial_of (seen_heap a) (number a) → serial < MOST_RECORDS
+pub new_begins : (a kept : Seated) (n serial : ℕ) (keeps : HadEffect a (instrs.Mov SCRATCH FRAMES) kept) → n ≤ LONGEST_RECORD → serial ≡ serial_of (seen_heap a) (number a) → serial < MOST_RECORDS
     → FitsCall kept.worker.account kept.worker.registers (instrs.New FRAMES (operands.Number n))
 new_begins a kept n serial keeps short is few =
     let same = serial_kept a kept (instrs.Mov SCRATCH FRAMES) keeps SCRATCH (held a FRAMES) (mov_sets a kept SCRATCH FRAMES keeps (omega arith)) in
     makes_begin kept.worker.account kept.worker.registers (instrs.New FRAMES (operands.Number n)) (valid_new FRAMES n (omega arith) short) (omega (arith, same, is, few))
 
-pub full_frame : (a kept b : Seated) (slots n : ℕ) → n ≡ slots → n + 1 ≤ LONGEST_RECORD → Executed a (instrs.Mov SCRATCH FRAMES) kept
-    → (end : End) → MayTrap kept (instrs.New FRAMES (operands.Number (n + 1))) end b → IsFullForFrame a slots end b
+pub full_frame : (a kept b : Seated) (slots n : ℕ) → n ≡ slots → n + 1 ≤ LONGEST_RECORD → HadEffect a (instrs.Mov SCRATCH FRAMES) kept
+    → (end : End) → WasTrapped kept (instrs.New FRAMES (operands.Number (n + 1))) end b → IsFullForFrame a slots end b
 full_frame a kept b slots n is short keeps end t =
     let for_n : IsFullForFrame a n end b = record {
       ends = record {
         called = (kept, (keeps.called, (b, (t.called, refl))));
-        alive = keeps.alive;
+        had_no_end = keeps.had_no_end;
         ended = t.called.ends;
         heap = t.heap_is ∙ sym t.before;
         others = λ j scratch. t.registers j ∙ (mov_sets a kept SCRATCH FRAMES keeps (omega arith)).others j scratch;
@@ -73,8 +73,8 @@ full_frame a kept b slots n is short keeps end t =
     subst (λ (k : ℕ). IsFullForFrame a k end b) is for_n
 
 -- the old top is kept, and the new one is made
-module _ (a kept new : Seated) (slots : ℕ) (short : slots + 1 ≤ LONGEST_RECORD) (keeps : Executed a (instrs.Mov SCRATCH FRAMES) kept)
-    (makes : Executed kept (instrs.New FRAMES (operands.Number (slots + 1))) new) where
+module _ (a kept new : Seated) (slots : ℕ) (short : slots + 1 ≤ LONGEST_RECORD) (keeps : HadEffect a (instrs.Mov SCRATCH FRAMES) kept)
+    (makes : HadEffect kept (instrs.New FRAMES (operands.Number (slots + 1))) new) where
   is_new : HasMade kept Fields (slots + 1) FRAMES new
   is_new = made kept new (instrs.New FRAMES (operands.Number (slots + 1))) makes Fields FRAMES (slots + 1) (omega arith)
       (call-new (number kept) makes.heap (seen_mutator kept) FRAMES (slots + 1) short)
@@ -109,7 +109,7 @@ module _ (a kept new : Seated) (slots : ℕ) (short : slots + 1 ≤ LONGEST_RECO
         (call-st (number new) heap (seen_mutator new) FRAMES 0 SCRATCH i (frame heap at).0 (held new SCRATCH) is_new.leads (frame heap at).1 (frame_within heap at) (frame_holds heap at (held new SCRATCH)));
   }
 
-  pub pushed : (b : Seated) → a.worker.account.serial < MOST_RECORDS → Executed new (instrs.St FRAMES (operands.Number 0) SCRATCH) b → HasPushed a slots b
+  pub pushed : (b : Seated) → a.worker.account.serial < MOST_RECORDS → HadEffect new (instrs.St FRAMES (operands.Number 0) SCRATCH) b → HasPushed a slots b
   pushed b room e =
       let r = frame e.heap e.at_call in
       let v = held new SCRATCH in
@@ -120,9 +120,9 @@ module _ (a kept new : Seated) (slots : ℕ) (short : slots + 1 ≤ LONGEST_RECO
       let top : held b FRAMES ≡ Reference i = s.registers FRAMES ∙ is_new.leads in record {
         short = omega (arith, short);
         room = room;
-        leaves = record {
+        effects = record {
           called = (kept, (keeps.called, (new, (makes.called, (b, (e.called, refl))))));
-          alive = keeps.alive;
+          had_no_end = keeps.had_no_end;
           no_end = e.called.ends;
           others = λ j other scratch. s.registers j
               ∙ ((made_sets kept new (instrs.New FRAMES (operands.Number (slots + 1))) makes Fields FRAMES (slots + 1) (omega arith)
@@ -137,7 +137,7 @@ module _ (a kept new : Seated) (slots : ℕ) (short : slots + 1 ≤ LONGEST_RECO
         links = e.called;
         top = s.registers FRAMES;
         len = ap (len_of (seen_heap b)) top ∙ (ap length values ∙ (length-set r.0.values 0 v ∙ frame_len e.heap e.at_call));
-        below = ap (λ (z : Value). word_of (seen_heap b) z 0) top
+        below = ap (λ (z : Value). record_word (seen_heap b) z 0) top
             ∙ (ap (λ vs. slice_index_or vs 0 (Number 0)) values ∙ (get_or-set_same r.0.values 0 v (Number 0) (frame_within e.heap e.at_call) ∙ link));
       }
 
@@ -146,28 +146,28 @@ module _ (a kept new : Seated) (slots : ℕ) (short : slots + 1 ≤ LONGEST_RECO
 module _ (a b : Seated) (slot n : ℕ) (n_is : n ≡ slot) where
   -- in a call that leaves a value in register d
   module _ (cs : List OneCall) (d : ℕ) (other : FRAMES ≢ d) where
-    top_stays : LeavesOnceSeen a FRAMES cs d b → held b FRAMES ≡ held a FRAMES
-    top_stays leaves = seen_others a FRAMES cs d b leaves FRAMES other (λ e. absurd (omega (arith, e)))
+    top_stays : HadEffectsOnceSeen a FRAMES cs d b → held b FRAMES ≡ held a FRAMES
+    top_stays effects = seen_others a FRAMES cs d b effects FRAMES other (λ e. absurd (omega (arith, e)))
 
-    pub within_top : {T : Type 0} (p : Result T Failure) → OnOk p (n + 1 < len_of (seen_heap b) (held a FRAMES)) → OnOk p (LeavesOnceSeen a FRAMES cs d b) → OnOk p (slot + 1 < len_of (seen_heap b) (held b FRAMES))
-    within_top (Ok x) within leaves = let top = ap (len_of (seen_heap b)) (top_stays leaves) in omega (arith, within, top, n_is)
-    within_top (Err why) within leaves = tt
+    pub within_top : {T : Type 0} (p : Result T Failure) → OnOk p (n + 1 < len_of (seen_heap b) (held a FRAMES)) → OnOk p (HadEffectsOnceSeen a FRAMES cs d b) → OnOk p (slot + 1 < len_of (seen_heap b) (held b FRAMES))
+    within_top (Ok x) within effects = let top = ap (len_of (seen_heap b)) (top_stays effects) in omega (arith, within, top, n_is)
+    within_top (Err why) within effects = tt
 
-    same_word : LeavesOnceSeen a FRAMES cs d b → word_of (seen_heap b) (held a FRAMES) (n + 1) ≡ word_of (seen_heap b) (held b FRAMES) (slot + 1)
-    same_word leaves = (λ j. word_of (seen_heap b) (sym (top_stays leaves) j) (n_is j + 1))
+    same_word : HadEffectsOnceSeen a FRAMES cs d b → record_word (seen_heap b) (held a FRAMES) (n + 1) ≡ record_word (seen_heap b) (held b FRAMES) (slot + 1)
+    same_word effects = (λ j. record_word (seen_heap b) (sym (top_stays effects) j) (n_is j + 1))
 
-    pub restored : {T : Type 0} (p : Result T Failure) (r : ℕ) → d ≡ r → OnOk p (held b d ≡ word_of (seen_heap b) (held a FRAMES) (n + 1)) → OnOk p (LeavesOnceSeen a FRAMES cs d b)
-        → OnOk p (held b r ≡ word_of (seen_heap b) (held b FRAMES) (slot + 1))
-    restored (Ok x) r is value leaves = ap (held b) (sym is) ∙ (value ∙ same_word leaves)
-    restored (Err why) r is value leaves = tt
+    pub restored : {T : Type 0} (p : Result T Failure) (r : ℕ) → d ≡ r → OnOk p (held b d ≡ record_word (seen_heap b) (held a FRAMES) (n + 1)) → OnOk p (HadEffectsOnceSeen a FRAMES cs d b)
+        → OnOk p (held b r ≡ record_word (seen_heap b) (held b FRAMES) (slot + 1))
+    restored (Ok x) r is value effects = ap (held b) (sym is) ∙ (value ∙ same_word effects)
+    restored (Err why) r is value effects = tt
 
-    pub saved : {T : Type 0} (p : Result T Failure) (q r : ℕ) → q ≡ r → OnOk p (word_of (seen_heap b) (held a FRAMES) (n + 1) ≡ held a q) → OnOk p (LeavesOnceSeen a FRAMES cs d b)
-        → OnOk p (word_of (seen_heap b) (held b FRAMES) (slot + 1) ≡ held a r)
-    saved (Ok x) q r is value leaves = sym (same_word leaves) ∙ (value ∙ ap (held a) is)
-    saved (Err why) q r is value leaves = tt
+    pub saved : {T : Type 0} (p : Result T Failure) (q r : ℕ) → q ≡ r → OnOk p (record_word (seen_heap b) (held a FRAMES) (n + 1) ≡ held a q) → OnOk p (HadEffectsOnceSeen a FRAMES cs d b)
+        → OnOk p (record_word (seen_heap b) (held b FRAMES) (slot + 1) ≡ held a r)
+    saved (Ok x) q r is value effects = sym (same_word effects) ∙ (value ∙ ap (held a) is)
+    saved (Err why) q r is value effects = tt
 
 -- no root is the register of the frames
-pub not_frames : (root : Root) (d : ℕ) → d ≡ register_of root → FRAMES ≢ d
+pub not_frames : (root : Root) (d : ℕ) → d ≡ root_register root → FRAMES ≢ d
 not_frames root d is = λ e. let below = root_below root in absurd (omega (arith, below, is, e))
 
 pub not_scratch : FRAMES ≢ SCRATCH

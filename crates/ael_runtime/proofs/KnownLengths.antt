@@ -16,8 +16,8 @@ use Rattle.gc_worker.specs.declared.calls.did.Did.{Did}
 use Rattle.gc_worker.specs.declared.calls.did.Did.TheVariants.{Done}
 use Rattle.ael_threads.specs.Seats.{Seated}
 use Rattle.ael_runtime.specs.declared.measured.Measured.{Measured}
-use Rattle.ael_runtime.specs.Calling.{Executed}
-use Rattle.ael_runtime.specs.Known.{IsKept, IsKnown, Spares}
+use Rattle.ael_runtime.specs.Calling.{HadEffect}
+use Rattle.ael_runtime.specs.Known.{StaysKnown, IsKnown, SparesRegister}
 use Rattle.ael_runtime.specs.Reading.{SeesSame, held, len_of, seen_heap, seen_mutator}
 use Rattle.ael_runtime.proofs.Effects.{after_same}
 use Rattle.ael_runtime.proofs.Lengths.{len_stays}
@@ -25,11 +25,11 @@ use Rattle.ael_runtime.proofs.PlainCalls.{call-li, call-mov}
 
 -- ---- instructions that leave a register
 
-pub spares_li : (d n r : ℕ) → r ≢ d → Spares (instrs.Li d n) r
+pub spares_li : (d n r : ℕ) → r ≢ d → SparesRegister (instrs.Li d n) r
 spares_li d n r other m heap k after is =
     ap (λ (x : After). register x.mutator r) (after_same _ after (loads heap k d (Number n)) is (call-li m heap k d n)) ∙ get_or-set_other k.registers d r (Number n) (Number 0) other
 
-pub spares_mov : (d a r : ℕ) → r ≢ d → Spares (instrs.Mov d a) r
+pub spares_mov : (d a r : ℕ) → r ≢ d → SparesRegister (instrs.Mov d a) r
 spares_mov d a r other m heap k after is =
     ap (λ (x : After). register x.mutator r) (after_same _ after (loads heap k d (register k a)) is (call-mov m heap k d a)) ∙ get_or-set_other k.registers d r (register k a) (Number 0) other
 
@@ -65,31 +65,31 @@ module _ (r m : ℕ) (heap : Heap) (k : Mutator) where
     st_leaves = if_ok-then IsStore IsLeft (action k (instrs.St a x b)) (performed m heap k)
         (if_ok-bind IsStore (reference_in (register k a)) _ (λ i. if_ok-bind IsStore (operand k x) _ (λ y. tt))) stores_leave
 
-pub spares_ld : (d a : ℕ) (x : Operand) (r : ℕ) → r ≢ d → Spares (instrs.Ld d a x) r
+pub spares_ld : (d a : ℕ) (x : Operand) (r : ℕ) → r ≢ d → SparesRegister (instrs.Ld d a x) r
 spares_ld d a x r other m heap k after is = if_ok-is (IsLeft r m heap k) _ after (ld_leaves r m heap k d a x other) is
 
-pub spares_st : (a : ℕ) (x : Operand) (b r : ℕ) → Spares (instrs.St a x b) r
+pub spares_st : (a : ℕ) (x : Operand) (b r : ℕ) → SparesRegister (instrs.St a x b) r
 spares_st a x b r m heap k after is = if_ok-is (IsLeft r m heap k) _ after (st_leaves r m heap k a b x) is
 
 -- one of those that set a register, which is another one
 pub spares_set : (instr : Instr) (to r : ℕ)
     → ((n : ℕ) × (instr ≡ instrs.Li to n)) ⊎ (((a : ℕ) × (instr ≡ instrs.Mov to a)) ⊎ ((a : ℕ) × (x : Operand) × (instr ≡ instrs.Ld to a x)))
-    → not (nat_eq to r) ≡ true → Spares instr r
+    → not (nat_eq to r) ≡ true → SparesRegister instr r
 spares_set instr to r is told = by_instr is
   where
     other : r ≢ to
     other e = eqb-false to r (not-true (nat_eq to r) told) (sym e)
 
-    by_instr : ((n : ℕ) × (instr ≡ instrs.Li to n)) ⊎ (((a : ℕ) × (instr ≡ instrs.Mov to a)) ⊎ ((a : ℕ) × (x : Operand) × (instr ≡ instrs.Ld to a x))) → Spares instr r
-    by_instr (inl (n, e)) = subst (λ (i : Instr). Spares i r) (sym e) (spares_li to n r other)
-    by_instr (inr (inl (a, e))) = subst (λ (i : Instr). Spares i r) (sym e) (spares_mov to a r other)
-    by_instr (inr (inr (a, x, e))) = subst (λ (i : Instr). Spares i r) (sym e) (spares_ld to a x r other)
+    by_instr : ((n : ℕ) × (instr ≡ instrs.Li to n)) ⊎ (((a : ℕ) × (instr ≡ instrs.Mov to a)) ⊎ ((a : ℕ) × (x : Operand) × (instr ≡ instrs.Ld to a x))) → SparesRegister instr r
+    by_instr (inl (n, e)) = subst (λ (i : Instr). SparesRegister i r) (sym e) (spares_li to n r other)
+    by_instr (inr (inl (a, e))) = subst (λ (i : Instr). SparesRegister i r) (sym e) (spares_mov to a r other)
+    by_instr (inr (inr (a, x, e))) = subst (λ (i : Instr). SparesRegister i r) (sym e) (spares_ld to a x r other)
 
 -- ---- what is known
 
 module _ (a b : Seated) where
   -- a register that is left leads to a record as long as before
-  len_kept : (instr : Instr) (r len : ℕ) → held b r ≡ held a r → Executed a instr b → len ≤ len_of (seen_heap a) (held a r) → len ≤ len_of (seen_heap b) (held b r)
+  len_kept : (instr : Instr) (r len : ℕ) → held b r ≡ held a r → HadEffect a instr b → len ≤ len_of (seen_heap a) (held a r) → len ≤ len_of (seen_heap b) (held b r)
   len_kept instr r len same e known = by_len (cases_lt 0 len)
     where
       by_len : (0 < len) ⊎ (len ≤ 0) → len ≤ len_of (seen_heap b) (held b r)
@@ -99,10 +99,10 @@ module _ (a b : Seated) where
           let then = ap (len_of (seen_heap b)) same in
           omega (arith, known, stays, then)
 
-  pub known_then : (instr : Instr) (did : Did) (before after : Option Measured) → IsKept before instr did after → IsKnown before a → (did ≡ Done → Executed a instr b) → IsKnown after b
+  pub known_then : (instr : Instr) (did : Did) (before after : Option Measured) → StaysKnown before instr did after → IsKnown before a → (did ≡ Done → HadEffect a instr b) → IsKnown after b
   known_then instr did before None kept known executed = tt
   known_then instr did before (Some measured) kept known executed =
-      let e : Executed a instr b = executed kept.1 in
+      let e : HadEffect a instr b = executed kept.1 in
       let at_first : IsKnown (Some measured) a = subst (λ (o : Option Measured). IsKnown o a) kept.0 known in
       let same : held b measured.register ≡ held a measured.register =
       ap (λ (k : Mutator). register k measured.register) e.mutator_is ∙ kept.2 _ e.heap (seen_mutator a) e.after e.is in

@@ -24,10 +24,10 @@ use Rattle.gc_worker.specs.Workers.Fits.{FitsCall}
 use Rattle.ael_threads.specs.declared.refused.TheConstants.{MOST_RECORDS}
 use Rattle.ael_threads.specs.Seats.{Seated}
 use Rattle.ael_runtime.specs.declared.root.Root.{Root}
-use Rattle.ael_runtime.specs.Calling.{Executed, Leaves, MayTrap, done}
+use Rattle.ael_runtime.specs.Calling.{HadEffect, HadEffects, WasTrapped, done}
 use Rattle.ael_runtime.specs.Failing.{IsFull}
 use Rattle.ael_runtime.specs.Making.{HasMade, is_too_long, kind_for, making}
-use Rattle.ael_runtime.specs.Reading.{held, len_of, number, register_of, seen_heap, seen_mutator}
+use Rattle.ael_runtime.specs.Reading.{held, len_of, number, root_register, seen_heap, seen_mutator}
 use Rattle.ael_runtime.proofs.Effects.{Sets, sets}
 use Rattle.ael_runtime.proofs.Lengths.{len_by_record}
 use Rattle.ael_runtime.proofs.NumberCalls.{leaves_one, root_within}
@@ -39,7 +39,7 @@ past_last xs = subst (λ (n : ℕ). at_serial xs n ≡ None) (sym (add-one (leng
 
 -- ---- one instruction that makes a record
 
-module _ (a b : Seated) (i : Instr) (e : Executed a i b) (kind : Kind) (d len : ℕ) (into : d < REGISTERS)
+module _ (a b : Seated) (i : Instr) (e : HadEffect a i b) (kind : Kind) (d len : ℕ) (into : d < REGISTERS)
     (is : call (number a) e.heap (seen_mutator a) i ≡ Ok (allocated (number a) e.heap (seen_mutator a) kind d len (Number 0))) where
   abbrev new_at : ℕ → Identity
   new_at serial = record { mutator = number a; serial = serial + 1 }
@@ -112,16 +112,16 @@ pub makes_begin : (account : Account) (registers : List ℕ) (i : Instr) → IsT
 makes_begin account registers i valid few = record { valid = valid; serial = λ m makes. omega (arith, few) }
 
 -- the heap was full, if it would have been executed
-pub full : (a b : Seated) (i : Instr) (end : End) (t : MayTrap a i end b) (kind : Kind) (d len : ℕ)
+pub full : (a b : Seated) (i : Instr) (end : End) (t : WasTrapped a i end b) (kind : Kind) (d len : ℕ)
     → call (number a) t.heap (seen_mutator a) i ≡ Ok (allocated (number a) t.heap (seen_mutator a) kind d len (Number 0)) → is_heap_full end ≡ true
 full a b i end t kind d len is = ends_full (number a) t.heap (seen_mutator a) i end (is_done _ _ is) t.may
 
 -- ---- of a root
 
-module _ (a b : Seated) (to : Root) (d fields numbers : ℕ) (d_is : d ≡ register_of to) (i : Instr) (i_is : i ≡ making d fields numbers)
+module _ (a b : Seated) (to : Root) (d fields numbers : ℕ) (d_is : d ≡ root_register to) (i : Instr) (i_is : i ≡ making d fields numbers)
     (long : Bool) (long_is : long ≡ is_too_long fields numbers) (short : long ≡ false) where
   abbrev makes : Instr
-  makes = making (register_of to) fields numbers
+  makes = making (root_register to) fields numbers
 
   same : i ≡ makes
   same = i_is ∙ ap (λ (r : ℕ). making r fields numbers) d_is
@@ -129,24 +129,24 @@ module _ (a b : Seated) (to : Root) (d fields numbers : ℕ) (d_is : d ≡ regis
   few : is_too_long fields numbers ≡ false
   few = sym long_is ∙ short
 
-  pub made_root : Executed a i b → HasMade a (kind_for fields numbers) (fields + numbers) (register_of to) b × Leaves a (done makes ∷ []) (register_of to) b
+  pub made_root : HadEffect a i b → HasMade a (kind_for fields numbers) (fields + numbers) (root_register to) b × HadEffects a (done makes ∷ []) (root_register to) b
   made_root was =
-      let e : Executed a makes b = subst (λ (z : Instr). Executed a z b) same was in
-      let into = root_within to (register_of to) refl in
-      let is = call_making (number a) e.heap (seen_mutator a) (register_of to) fields numbers few in (
-        made a b makes e (kind_for fields numbers) (register_of to) (fields + numbers) into is,
-        leaves_one a b makes e (register_of to) _ _ (made_sets a b makes e (kind_for fields numbers) (register_of to) (fields + numbers) into is),
+      let e : HadEffect a makes b = subst (λ (z : Instr). HadEffect a z b) same was in
+      let into = root_within to (root_register to) refl in
+      let is = call_making (number a) e.heap (seen_mutator a) (root_register to) fields numbers few in (
+        made a b makes e (kind_for fields numbers) (root_register to) (fields + numbers) into is,
+        leaves_one a b makes e (root_register to) _ _ (made_sets a b makes e (kind_for fields numbers) (root_register to) (fields + numbers) into is),
       )
 
-  pub full_root : (end : End) → MayTrap a i end b → IsFull a makes end b
+  pub full_root : (end : End) → WasTrapped a i end b → IsFull a makes end b
   full_root end may =
-      let t : MayTrap a makes end b = subst (λ (z : Instr). MayTrap a z end b) same may in (
+      let t : WasTrapped a makes end b = subst (λ (z : Instr). WasTrapped a z end b) same may in (
         record {
           called = (b, (t.called, refl));
-          alive = t.alive;
+          had_no_end = t.had_no_end;
           ended = t.called.ends;
           heap = t.heap_is ∙ sym t.before;
           others = λ j scratch. t.registers j;
         },
-        full a b makes end t (kind_for fields numbers) (register_of to) (fields + numbers) (call_making (number a) t.heap (seen_mutator a) (register_of to) fields numbers few),
+        full a b makes end t (kind_for fields numbers) (root_register to) (fields + numbers) (call_making (number a) t.heap (seen_mutator a) (root_register to) fields numbers few),
       )

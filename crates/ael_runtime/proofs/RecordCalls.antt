@@ -26,20 +26,20 @@ use Rattle.ael_threads.specs.Seats.{Seated}
 use Rattle.ael_runtime.specs.declared.failure.Failure.{Failure}
 use Rattle.ael_runtime.specs.declared.failure.Failure.TheVariants.{Ended, NotRecord, OutOfRange, RecordsOut, TooLarge}
 use Rattle.ael_runtime.specs.declared.root.TheConstants.{SCRATCH}
-use Rattle.ael_runtime.specs.Calling.{AtCall, CalledAll, EndsOnceSeen, Executed, IsSure, Leaves, LeavesOnceSeen, MayTrap, OneCall, done, trapped}
+use Rattle.ael_runtime.specs.Calling.{AtCall, CalledAll, EndedByOnceSeen, HadEffect, IsSure, HadEffects, HadEffectsOnceSeen, WasTrapped, OneCall, done, trapped}
 use Rattle.ael_runtime.specs.Failing.{CantHold, RecordFails, StoreFails, WordFails}
-use Rattle.ael_runtime.specs.Reading.{held, len_of, number, number_of, seen_heap, seen_mutator, word_of}
+use Rattle.ael_runtime.specs.Reading.{held, len_of, number, value_number, seen_heap, seen_mutator, record_word}
 use Rattle.ael_runtime.proofs.Effects.{sets, writes}
 use Rattle.ael_runtime.proofs.Lengths.{len_by_record, len_stays, there_by_len}
 use Rattle.ael_runtime.proofs.PlainCalls.{call-ld, call-len, call-st, call-st_not, is_done, own_end}
 
 -- ---- values
 
-pub no_reference : (v : Value) → is_some (number_of v) ≡ true → is_reference v ≡ false
+pub no_reference : (v : Value) → is_some (value_number v) ≡ true → is_reference v ≡ false
 no_reference (Number n) is = refl
 no_reference (Reference i) is = cc
 
-pub leads_by : (v : Value) → is_some (number_of v) ≡ false → (i : Identity) × (v ≡ Reference i)
+pub leads_by : (v : Value) → is_some (value_number v) ≡ false → (i : Identity) × (v ≡ Reference i)
 leads_by (Number n) is = absurd (cc)
 leads_by (Reference i) is = (i, refl)
 
@@ -51,7 +51,7 @@ leads_by_len heap (Reference i) x within = (i, refl)
 same_end : (o : Result After End) (x y : End) → o ≡ Err x → o ≡ Err y → x ≡ y
 same_end o x y is other = cc
 
-pub leads_tested : (v : Value) (o : Option ℕ) (told : Bool) → o ≡ number_of v → told ≡ is_some o → told ≡ false → (i : Identity) × (v ≡ Reference i)
+pub leads_tested : (v : Value) (o : Option ℕ) (told : Bool) → o ≡ value_number v → told ≡ is_some o → told ≡ false → (i : Identity) × (v ≡ Reference i)
 leads_tested v o told is told_is none = leads_by v (ap is_some (sym is) ∙ (sym told_is ∙ none))
 
 -- ---- failures
@@ -87,61 +87,61 @@ sure_len a d s i is = record {
   ok = λ heap at. is_done _ _ (call-len (number a) heap (seen_mutator a) d s i is);
 }
 
-pub measured : (a b : Seated) (s : ℕ) (i : Identity) → held a s ≡ Reference i → Executed a (instrs.Len SCRATCH s) b
-    → (held b SCRATCH ≡ Number (len_of (seen_heap b) (held a s))) × Leaves a (done (instrs.Len SCRATCH s) ∷ []) SCRATCH b
+pub measured : (a b : Seated) (s : ℕ) (i : Identity) → held a s ≡ Reference i → HadEffect a (instrs.Len SCRATCH s) b
+    → (held b SCRATCH ≡ Number (len_of (seen_heap b) (held a s))) × HadEffects a (done (instrs.Len SCRATCH s) ∷ []) SCRATCH b
 measured a b s i is e =
     let to = sets a b (instrs.Len SCRATCH s) e SCRATCH (Number (length (values_of e.heap i))) e.heap (omega arith) (call-len (number a) e.heap (seen_mutator a) SCRATCH s i is) in (
       to.value ∙ sym (ap (λ (v : Value). Number (len_of (seen_heap b) v)) is ∙ ap (λ (h : Heap). Number (length (values_of h i))) to.heap_is),
-      record { called = (b, (e.called, refl)); alive = e.alive; no_end = e.called.ends; others = λ j other scratch. to.others j other },
+      record { called = (b, (e.called, refl)); had_no_end = e.had_no_end; no_end = e.called.ends; others = λ j other scratch. to.others j other },
     )
 
 -- ---- after a look, or without it
 
-pub seen_others : (a : Seated) (of : ℕ) (cs : List OneCall) (r : ℕ) (b : Seated) → LeavesOnceSeen a of cs r b → (j : ℕ) → j ≢ r → j ≢ SCRATCH → held b j ≡ held a j
+pub seen_others : (a : Seated) (of : ℕ) (cs : List OneCall) (r : ℕ) (b : Seated) → HadEffectsOnceSeen a of cs r b → (j : ℕ) → j ≢ r → j ≢ SCRATCH → held b j ≡ held a j
 seen_others a of cs r b (inl l) = l.others
 seen_others a of cs r b (inr l) = l.others
 
 -- one more call
-leaves_more : (a : Seated) (of : ℕ) (then : Seated) (c : OneCall) (r : ℕ) (b : Seated) → LeavesOnceSeen a of [] SCRATCH then → CalledAll then (c ∷ []) b → b.worker.account.end ≡ None
-    → ((j : ℕ) → j ≢ r → held b j ≡ held then j) → LeavesOnceSeen a of (c ∷ []) r b
+leaves_more : (a : Seated) (of : ℕ) (then : Seated) (c : OneCall) (r : ℕ) (b : Seated) → HadEffectsOnceSeen a of [] SCRATCH then → CalledAll then (c ∷ []) b → b.worker.account.end ≡ None
+    → ((j : ℕ) → j ≢ r → held b j ≡ held then j) → HadEffectsOnceSeen a of (c ∷ []) r b
 leaves_more a of then c r b (inl l) called no_end others = inl (record {
   called = called_then a [] then (c ∷ []) b l.called called;
-  alive = l.alive;
+  had_no_end = l.had_no_end;
   no_end = no_end;
   others = λ j other scratch. others j other ∙ l.others j scratch scratch;
 })
 leaves_more a of then c r b (inr l) called no_end others = inr (record {
   called = called_then a (done (instrs.Len SCRATCH of) ∷ []) then (c ∷ []) b l.called called;
-  alive = l.alive;
+  had_no_end = l.had_no_end;
   no_end = no_end;
   others = λ j other scratch. others j other ∙ l.others j scratch scratch;
 })
 
 -- one more, which is the end
-ends_more : (a : Seated) (of : ℕ) (then : Seated) (i : Instr) (end : End) (b : Seated) → LeavesOnceSeen a of [] SCRATCH then → MayTrap then i end b → EndsOnceSeen a of (trapped i end ∷ []) end b
+ends_more : (a : Seated) (of : ℕ) (then : Seated) (i : Instr) (end : End) (b : Seated) → HadEffectsOnceSeen a of [] SCRATCH then → WasTrapped then i end b → EndedByOnceSeen a of (trapped i end ∷ []) end b
 ends_more a of then i end b (inl l) t = inl (record {
   called = called_then a [] then (trapped i end ∷ []) b l.called (b, (t.called, refl));
-  alive = l.alive;
+  had_no_end = l.had_no_end;
   ended = t.called.ends;
   heap = t.heap_is ∙ sym t.before;
   others = λ j scratch. t.registers j ∙ l.others j scratch scratch;
 })
 ends_more a of then i end b (inr l) t = inr (record {
   called = called_then a (done (instrs.Len SCRATCH of) ∷ []) then (trapped i end ∷ []) b l.called (b, (t.called, refl));
-  alive = l.alive;
+  had_no_end = l.had_no_end;
   ended = t.called.ends;
   heap = t.heap_is ∙ sym t.before;
   others = λ j scratch. t.registers j ∙ l.others j scratch scratch;
 })
 
 -- none at all
-pub leaves_none : (a : Seated) (r : ℕ) → a.worker.account.end ≡ None → Leaves a [] r a
-leaves_none a r none = record { called = refl; alive = none; no_end = none; others = λ j other scratch. refl }
+pub leaves_none : (a : Seated) (r : ℕ) → a.worker.account.end ≡ None → HadEffects a [] r a
+leaves_none a r none = record { called = refl; had_no_end = none; no_end = none; others = λ j other scratch. refl }
 
 -- ---- a word of it
 
 -- after a look at its length, or without it
-module _ (a then : Seated) (of at : ℕ) (look : LeavesOnceSeen a of [] SCRATCH then) (other : of ≢ SCRATCH) (within : at < len_of (seen_heap then) (held a of)) where
+module _ (a then : Seated) (of at : ℕ) (look : HadEffectsOnceSeen a of [] SCRATCH then) (other : of ≢ SCRATCH) (within : at < len_of (seen_heap then) (held a of)) where
   look_others : (j : ℕ) → j ≢ SCRATCH → held then j ≡ held a j
   look_others j scratch = seen_others a of [] SCRATCH then look j scratch scratch
 
@@ -179,18 +179,18 @@ module _ (a then : Seated) (of at : ℕ) (look : LeavesOnceSeen a of [] SCRATCH 
     }
 
     pub record Fetched (b : Seated) : Type 0 where
-      pub value : held b to ≡ word_of (seen_heap b) (held a of) at
+      pub value : held b to ≡ record_word (seen_heap b) (held a of) at
       pub inside : at < len_of (seen_heap b) (held a of)
-      pub leaves : LeavesOnceSeen a of (done (instrs.Ld to of (operands.Number at)) ∷ []) to b
+      pub effects : HadEffectsOnceSeen a of (done (instrs.Ld to of (operands.Number at)) ∷ []) to b
 
-    pub fetched : (b : Seated) → to < REGISTERS → Executed then (instrs.Ld to of (operands.Number at)) b → Fetched b
+    pub fetched : (b : Seated) → to < REGISTERS → HadEffect then (instrs.Ld to of (operands.Number at)) b → Fetched b
     fetched b into e =
         let word = slice_index_or (values_of e.heap i) at (Number 0) in
         let s = sets then b (instrs.Ld to of (operands.Number at)) e to word e.heap into (call-ld (number then) e.heap (seen_mutator then) to of at i leads_then (within_at_call e.heap e.at_call)) in
         let len : len_of (seen_heap b) (held a of) ≡ len_of (seen_heap then) (held a of) = ap (λ (h : Heap). len_of h (held a of)) s.heap_is ∙ len_at_call e.heap e.at_call in record {
-          value = s.value ∙ sym (ap (λ (v : Value). word_of (seen_heap b) v at) leads ∙ ap (λ (h : Heap). word_of h (Reference i) at) s.heap_is);
+          value = s.value ∙ sym (ap (λ (v : Value). record_word (seen_heap b) v at) leads ∙ ap (λ (h : Heap). record_word h (Reference i) at) s.heap_is);
           inside = omega (arith, within, len);
-          leaves = leaves_more a of then (done (instrs.Ld to of (operands.Number at))) to b look (b, (e.called, refl)) e.called.ends s.others;
+          effects = leaves_more a of then (done (instrs.Ld to of (operands.Number at))) to b look (b, (e.called, refl)) e.called.ends s.others;
         }
 
   -- ---- st
@@ -206,9 +206,9 @@ module _ (a then : Seated) (of at : ℕ) (look : LeavesOnceSeen a of [] SCRATCH 
     same_value = look_others what not_scratch
 
     pub record Kept (b : Seated) : Type 0 where
-      pub value : word_of (seen_heap b) (held a of) at ≡ held a what
+      pub value : record_word (seen_heap b) (held a of) at ≡ held a what
       pub inside : at < len_of (seen_heap b) (held a of)
-      pub leaves : LeavesOnceSeen a of (done store ∷ []) SCRATCH b
+      pub effects : HadEffectsOnceSeen a of (done store ∷ []) SCRATCH b
 
     -- the record is there at the call
     module _ (heap : Heap) (at_call : AtCall then heap) where
@@ -221,7 +221,7 @@ module _ (a then : Seated) (of at : ℕ) (look : LeavesOnceSeen a of [] SCRATCH 
       r_within : at < length r.values
       r_within = let len = len_by_record heap i r r_is in let w = within_at_call heap at_call in omega (arith, len, w)
 
-    pub kept : (b : Seated) → Executed then store b → Kept b
+    pub kept : (b : Seated) → HadEffect then store b → Kept b
     kept b e = by_hold (may_hold found.kind at v) refl
       where
         found : Record
@@ -242,9 +242,9 @@ module _ (a then : Seated) (of at : ℕ) (look : LeavesOnceSeen a of [] SCRATCH 
             let there_len = ap (len_of (seen_heap b)) leads in
             let new_len = ap length values in
             let old_len = length-set found.values at w in record {
-              value = ap (λ (z : Value). word_of (seen_heap b) z at) leads ∙ (ap (λ (vs : List Value). slice_index_or vs at (Number 0)) values ∙ (get_or-set_same found.values at w (Number 0) in_found ∙ same));
+              value = ap (λ (z : Value). record_word (seen_heap b) z at) leads ∙ (ap (λ (vs : List Value). slice_index_or vs at (Number 0)) values ∙ (get_or-set_same found.values at w (Number 0) in_found ∙ same));
               inside = omega (arith, there_len, new_len, old_len, in_found);
-              leaves = leaves_more a of then (done store) SCRATCH b look (b, (e.called, refl)) e.called.ends (λ j apart. s.registers j);
+              effects = leaves_more a of then (done store) SCRATCH b look (b, (e.called, refl)) e.called.ends (λ j apart. s.registers j);
             }
         by_hold (Err end) holds =
             let no = call-st_not (number then) e.heap (seen_mutator then) of at what i found end leads_then there in_found holds in
@@ -261,7 +261,7 @@ module _ (a then : Seated) (of at : ℕ) (look : LeavesOnceSeen a of [] SCRATCH 
     }
 
     -- the record can't hold it
-    pub cant_hold : (b : Seated) (end : End) → MayTrap then store end b → CantHold a of at what end b
+    pub cant_hold : (b : Seated) (end : End) → WasTrapped then store end b → CantHold a of at what end b
     cant_hold b end t = by_hold (may_hold found.kind at v) refl
       where
         found : Record

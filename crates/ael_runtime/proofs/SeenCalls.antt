@@ -32,7 +32,7 @@ use Rattle.ael_threads.specs.Calls.{Called, CalledBy, call_by}
 use Rattle.ael_threads.specs.Histories.{HasOwnCalls, first_plain}
 use Rattle.ael_threads.specs.Seats.{IsMine, Seated, first_number, first_own, plain_after_seen}
 use Rattle.ael_threads.proofs.WholeCalls.OneMore.{makers}
-use Rattle.ael_runtime.specs.Calling.{AtCall, Executed, KeepsShapes, MayTrap}
+use Rattle.ael_runtime.specs.Calling.{AtCall, HadEffect, KeepsShapes, WasTrapped}
 use Rattle.ael_runtime.specs.Reading.{heap_before, number, seen_heap, seen_mutator}
 use Rattle.ael_threads.proofs.RegisterCount.{have_registers}
 
@@ -127,7 +127,7 @@ module _ (a b : Seated) (task : Task) (did : Did) (mine : IsMine a.knows) (h : C
 
 -- ---- an instruction
 
-module _ (a b : Seated) (i : Instr) (alive : a.worker.account.end ≡ None) (mine : IsMine a.knows) (h : Called a (Calls i) Done b) where
+module _ (a b : Seated) (i : Instr) (had_no_end : a.worker.account.end ≡ None) (mine : IsMine a.knows) (h : Called a (Calls i) Done b) where
   abbrev m : ℕ
   m = number a
 
@@ -137,13 +137,13 @@ module _ (a b : Seated) (i : Instr) (alive : a.worker.account.end ≡ None) (min
   abbrev caller : Mutator
   caller = h.comes.mutator
 
-  by_outcome : (o : Result After End) → call m then.heap caller i ≡ o → IsOk o → Executed a i b
+  by_outcome : (o : Result After End) → call m then.heap caller i ≡ o → IsOk o → HadEffect a i b
   unfolding seen_heap seen_mutator
   by_outcome (Ok after) is ok =
       let left : plain_after_seen b.knows ≡ settled then m caller (Ok after) =
       seen_then a b (Calls i) Done mine h ∙ (ap (after_answer then m (Calls i) Done) h.comes.is ∙ ap (settled then m caller) is) in record {
         called = h;
-        alive = alive;
+        had_no_end = had_no_end;
         shapes = shapes_stay a b (Calls i) Done mine h;
         heap = then.heap;
         at_call = at_call_of a b (Calls i) Done mine h;
@@ -159,10 +159,10 @@ module _ (a b : Seated) (i : Instr) (alive : a.worker.account.end ≡ None) (min
       }
   by_outcome (Err why) is ok = absurd (cc)
 
-  pub executed : Executed a i b
+  pub executed : HadEffect a i b
   executed = by_outcome (call m then.heap caller i) refl h.comes.may
 
-module _ (a b : Seated) (i : Instr) (end : End) (alive : a.worker.account.end ≡ None) (mine : IsMine a.knows) (h : Called a (Calls i) (Trap end) b) where
+module _ (a b : Seated) (i : Instr) (end : End) (had_no_end : a.worker.account.end ≡ None) (mine : IsMine a.knows) (h : Called a (Calls i) (Trap end) b) where
   abbrev last : Plain
   last = after_all (first_plain a.knows.plan) (a.knows.seen ++ h.history.between)
 
@@ -177,11 +177,11 @@ module _ (a b : Seated) (i : Instr) (end : End) (alive : a.worker.account.end �
   mutator_is = (λ j. slice_index_or (left j).mutators (number_same a b (Calls i) (Trap end) mine h j) fresh)
       ∙ get_or-set_same last.mutators (number a) stopped fresh (caller_within a b (Calls i) (Trap end) mine h)
 
-  pub may_trap : MayTrap a i end b
+  pub may_trap : WasTrapped a i end b
   unfolding seen_heap
   may_trap = record {
     called = h;
-    alive = alive;
+    had_no_end = had_no_end;
     heap = last.heap;
     at_call = at_call_of a b (Calls i) (Trap end) mine h;
     may = subst (λ (k : Mutator). MayEnd (number a) last.heap k i end) (sym (caller_is a b (Calls i) (Trap end) mine h)) h.comes.may;

@@ -38,28 +38,28 @@ CalledAll a [] b = b ≡ a
 CalledAll a (c ∷ cs) b = (then : Seated) × (Called a (Calls c.instr) c.did then × CalledAll then cs b)
 
 -- these had their effects, of a mutator that had no end and has none; of each register but this one, and that for scratch, the value stays
-pub record Leaves (a : Seated) (calls : List OneCall) (r : ℕ) (b : Seated) : Type 0 where
+pub record HadEffects (a : Seated) (calls : List OneCall) (r : ℕ) (b : Seated) : Type 0 where
   pub called : CalledAll a calls b
-  pub alive : a.worker.account.end ≡ None
+  pub had_no_end : a.worker.account.end ≡ None
   pub no_end : b.worker.account.end ≡ None
   pub others : (j : ℕ) → j ≢ r → j ≢ SCRATCH → held b j ≡ held a j
 
 -- so did these, after a look at the length of the record in a register, or without it if that is known
-abbrev pub LeavesOnceSeen : Seated → (of : ℕ) → List OneCall → ℕ → Seated → Type 0
-LeavesOnceSeen a of calls r b = Leaves a calls r b ⊎ Leaves a (done (Len SCRATCH of) ∷ calls) r b
+abbrev pub HadEffectsOnceSeen : Seated → (of : ℕ) → List OneCall → ℕ → Seated → Type 0
+HadEffectsOnceSeen a of calls r b = HadEffects a calls r b ⊎ HadEffects a (done (Len SCRATCH of) ∷ calls) r b
 
 -- The last of these calls was this end, and changed nothing else: the records and the board are as they were just before it, and so are the
 -- registers, but for that for scratch.
-pub record Ends (a : Seated) (calls : List OneCall) (end : End) (b : Seated) : Type 0 where
+pub record EndedBy (a : Seated) (calls : List OneCall) (end : End) (b : Seated) : Type 0 where
   pub called : CalledAll a calls b
-  pub alive : a.worker.account.end ≡ None
+  pub had_no_end : a.worker.account.end ≡ None
   pub ended : b.worker.account.end ≡ Some end
   pub heap : seen_heap b ≡ heap_before b
   pub others : (j : ℕ) → j ≢ SCRATCH → held b j ≡ held a j
 
 -- so it was after a look at the length of the record in a register, or without it
-abbrev pub EndsOnceSeen : Seated → (of : ℕ) → List OneCall → End → Seated → Type 0
-EndsOnceSeen a of calls end b = Ends a calls end b ⊎ Ends a (done (Len SCRATCH of) ∷ calls) end b
+abbrev pub EndedByOnceSeen : Seated → (of : ℕ) → List OneCall → End → Seated → Type 0
+EndedByOnceSeen a of calls end b = EndedBy a calls end b ⊎ EndedBy a (done (Len SCRATCH of) ∷ calls) end b
 
 -- ---- one call
 
@@ -75,9 +75,9 @@ pub record AtCall (a : Seated) (heap : Heap) : Type 0 where
   pub registers : length (seen_mutator a).registers ≡ REGISTERS
 
 -- An instruction had its effect: what the plain machine's call leaves on the heap at that point is what is seen after it.
-pub record Executed (a : Seated) (instr : Instr) (b : Seated) : Type 0 where
+pub record HadEffect (a : Seated) (instr : Instr) (b : Seated) : Type 0 where
   pub called : Called a (Calls instr) Done b
-  pub alive : a.worker.account.end ≡ None
+  pub had_no_end : a.worker.account.end ≡ None
   pub shapes : KeepsShapes (seen_heap a) (seen_heap b)
   pub heap : Heap
   pub at_call : AtCall a heap
@@ -90,9 +90,9 @@ pub record Executed (a : Seated) (instr : Instr) (b : Seated) : Type 0 where
   pub serial_is : b.worker.account.serial ≡ serial_of (seen_heap b) (number b)
 
 -- it had this end, and nothing else changed
-pub record MayTrap (a : Seated) (instr : Instr) (end : End) (b : Seated) : Type 0 where
+pub record WasTrapped (a : Seated) (instr : Instr) (end : End) (b : Seated) : Type 0 where
   pub called : Called a (Calls instr) (Trap end) b
-  pub alive : a.worker.account.end ≡ None
+  pub had_no_end : a.worker.account.end ≡ None
   pub heap : Heap
   pub at_call : AtCall a heap
   pub may : MayEnd (number a) heap (seen_mutator a) instr end

@@ -16,10 +16,10 @@ IsKnown None s = ⊤
 IsKnown (Some known) s = (s.worker.account.end ≡ None) × (known.len ≤ len_of (seen_heap s) (held s known.register))
 
 -- An instruction leaves what a register holds.
-abbrev pub Spares : Instr → ℕ → Type 0
-Spares instr r = (m : ℕ) (heap : Heap) (k : Mutator) (after : After) → call m heap k instr ≡ Ok after → register after.mutator r ≡ register k r
+abbrev pub SparesRegister : Instr → ℕ → Type 0
+SparesRegister instr r = (m : ℕ) (heap : Heap) (k : Mutator) (after : After) → call m heap k instr ≡ Ok after → register after.mutator r ≡ register k r
 
 -- What is known after a call was known before, of a register that the call has left.
-abbrev pub IsKept : Option Measured → Instr → Did → Option Measured → Type 0
-IsKept before instr did None = ⊤
-IsKept before instr did (Some known) = (before ≡ Some known) × (did ≡ Done) × Spares instr known.register
+abbrev pub StaysKnown : Option Measured → Instr → Did → Option Measured → Type 0
+StaysKnown before instr did None = ⊤
+StaysKnown before instr did (Some known) = (before ≡ Some known) × (did ≡ Done) × SparesRegister instr known.register

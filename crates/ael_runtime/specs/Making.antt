@@ -16,8 +16,8 @@ use Rattle.ael_threads.specs.declared.refused.TheConstants.{MOST_RECORDS}
 use Rattle.ael_threads.specs.Calls.{Called}
 use Rattle.ael_threads.specs.Seats.{Seated}
 use Rattle.ael_runtime.specs.declared.root.TheConstants.{FRAMES, SCRATCH}
-use Rattle.ael_runtime.specs.Calling.{Leaves, done}
-use Rattle.ael_runtime.specs.Reading.{held, len_of, number, seen_heap, word_of}
+use Rattle.ael_runtime.specs.Calling.{HadEffects, done}
+use Rattle.ael_runtime.specs.Reading.{held, len_of, number, seen_heap, record_word}
 
 -- The kind of a record with these numbers of fields and of plain numbers behind them. One without plain numbers is of fields, and one of them alone is raw.
 abbrev pub kind_for : (fields numbers : ℕ) → Kind
@@ -50,7 +50,7 @@ pub record HasMade (a : Seated) (kind : Kind) (len to : ℕ) (b : Seated) : Type
 pub record HasPushed (a : Seated) (slots : ℕ) (b : Seated) : Type 0 where
   pub short : slots < LONGEST_RECORD
   pub room : a.worker.account.serial < MOST_RECORDS
-  pub leaves : Leaves a (done (instrs.Mov SCRATCH FRAMES) ∷ done (instrs.New FRAMES (operands.Number (slots + 1))) ∷ done (instrs.St FRAMES (operands.Number 0) SCRATCH) ∷ []) FRAMES b
+  pub effects : HadEffects a (done (instrs.Mov SCRATCH FRAMES) ∷ done (instrs.New FRAMES (operands.Number (slots + 1))) ∷ done (instrs.St FRAMES (operands.Number 0) SCRATCH) ∷ []) FRAMES b
   pub kept : Seated
   pub keeps : Called a (Calls (instrs.Mov SCRATCH FRAMES)) Done kept
   pub new : Seated
@@ -59,4 +59,4 @@ pub record HasPushed (a : Seated) (slots : ℕ) (b : Seated) : Type 0 where
   pub links : Called new (Calls (instrs.St FRAMES (operands.Number 0) SCRATCH)) Done b
   pub top : held b FRAMES ≡ held new FRAMES
   pub len : len_of (seen_heap b) (held b FRAMES) ≡ slots + 1
-  pub below : word_of (seen_heap b) (held b FRAMES) 0 ≡ held a FRAMES
+  pub below : record_word (seen_heap b) (held b FRAMES) 0 ≡ held a FRAMES

@@ -33,18 +33,18 @@ abbrev pub held : Seated → ℕ → Value
 held s r = register (seen_mutator s) r
 
 -- the number of a root's register
-abbrev pub register_of : Root → ℕ
-register_of R0 = 0
-register_of R1 = 1
-register_of R2 = 2
-register_of R3 = 3
-register_of R4 = 4
+abbrev pub root_register : Root → ℕ
+root_register R0 = 0
+root_register R1 = 1
+root_register R2 = 2
+root_register R3 = 3
+root_register R4 = 4
 
 -- ---- values
 
-abbrev pub number_of : Value → Option ℕ
-number_of (Number n) = Some n
-number_of (Reference i) = None
+abbrev pub value_number : Value → Option ℕ
+value_number (Number n) = Some n
+value_number (Reference i) = None
 
 -- how many words the record has to which a value leads; a number leads to none
 abbrev pub len_of : Heap → Value → ℕ
@@ -52,9 +52,9 @@ len_of heap (Number n) = 0
 len_of heap (Reference i) = length (values_of heap i)
 
 -- a word of that record
-abbrev pub word_of : Heap → Value → (at : ℕ) → Value
-word_of heap (Number n) at = Number 0
-word_of heap (Reference i) at = slice_index_or (values_of heap i) at (Number 0)
+abbrev pub record_word : Heap → Value → (at : ℕ) → Value
+record_word heap (Number n) at = Number 0
+record_word heap (Reference i) at = slice_index_or (values_of heap i) at (Number 0)
 
 -- ---- what stays
 

@@ -8,9 +8,9 @@ ghost use Rattle.mutator_asm.specs.declared.operand.Operand.TheVariants as opera
 ghost use Rattle.plain_state.specs.Writing.{with_board};
 ghost use Rattle.plain_heap.specs.Call.{board_word};
 ghost use Rattle.ael_runtime.specs.declared.root.TheConstants.{SCRATCH};
-ghost use Rattle.ael_runtime.specs.Calling.{Leaves, done};
+ghost use Rattle.ael_runtime.specs.Calling.{HadEffects, done};
 ghost use Rattle.ael_runtime.specs.Failing.{BoardFails};
-ghost use Rattle.ael_runtime.specs.Reading.{heap_before, held, register_of, seen_heap};
+ghost use Rattle.ael_runtime.specs.Reading.{heap_before, held, root_register, seen_heap};
 
 use crate::failure::Failure;
 use crate::local::Local;
@@ -23,9 +23,9 @@ impl<'h> Local<'h> {
     /// Puts what a root holds on a word of the board, 0 to 15.
     pub fn share<R: Wait>(&mut self, rt: &R, word: u8, from: Root) -> Result<(), Failure>
         ensures of_heap { self.new.table ≡ self.old.table }
-        ensures put { OnOk result (seen_heap self.new ≡ with_board (heap_before self.new) word (held self.old (register_of from))) }
+        ensures put { OnOk result (seen_heap self.new ≡ with_board (heap_before self.new) word (held self.old (root_register from))) }
         ensures within { OnOk result (word < BOARD_WORDS) }
-        ensures leaves { OnOk result (Leaves self.old (done (Put (operands.Number word) (register_of from)) ∷ []) SCRATCH self.new) }
+        ensures effects { OnOk result (HadEffects self.old (done (Put (operands.Number word) (root_register from)) ∷ []) SCRATCH self.new) }
         ensures fails { IfErr result (λ why. BoardFails self.old word why self.new) }
     {
         if let Some(end) = self.ended() {
@@ -42,9 +42,9 @@ impl<'h> Local<'h> {
     /// A root holds what stands on a word of the board.
     pub fn read_shared<R: Wait>(&mut self, rt: &R, to: Root, word: u8) -> Result<(), Failure>
         ensures of_heap { self.new.table ≡ self.old.table }
-        ensures value { OnOk result (held self.new (register_of to) ≡ board_word (seen_heap self.new) word) }
+        ensures value { OnOk result (held self.new (root_register to) ≡ board_word (seen_heap self.new) word) }
         ensures within { OnOk result (word < BOARD_WORDS) }
-        ensures leaves { OnOk result (Leaves self.old (done (Get (register_of to) (operands.Number word)) ∷ []) (register_of to) self.new) }
+        ensures effects { OnOk result (HadEffects self.old (done (Get (root_register to) (operands.Number word)) ∷ []) (root_register to) self.new) }
         ensures fails { IfErr result (λ why. BoardFails self.old word why self.new) }
     {
         if let Some(end) = self.ended() {
@@ -62,10 +62,10 @@ impl<'h> Local<'h> {
     /// places in one step, after the root was set to 0.
     pub fn take<R: Wait>(&mut self, rt: &R, to: Root, word: u8) -> Result<(), Failure>
         ensures of_heap { self.new.table ≡ self.old.table }
-        ensures value { OnOk result (held self.new (register_of to) ≡ board_word (heap_before self.new) word) }
+        ensures value { OnOk result (held self.new (root_register to) ≡ board_word (heap_before self.new) word) }
         ensures empty { OnOk result (seen_heap self.new ≡ with_board (heap_before self.new) word (values.Number 0)) }
         ensures within { OnOk result (word < BOARD_WORDS) }
-        ensures leaves { OnOk result (Leaves self.old (done (Li (register_of to) 0) ∷ done (Swap (register_of to) (operands.Number word)) ∷ []) (register_of to) self.new) }
+        ensures effects { OnOk result (HadEffects self.old (done (Li (root_register to) 0) ∷ done (Swap (root_register to) (operands.Number word)) ∷ []) (root_register to) self.new) }
         ensures fails { IfErr result (λ why. BoardFails self.old word why self.new) }
     {
         if let Some(end) = self.ended() {

@@ -4,10 +4,10 @@ ghost use Rattle.std.specs.Prelude.{◌≡◌, ◌+◌, ◌<◌, [], ◌∷◌, 
 ghost use Rattle.mutator_asm.specs.declared.instr.Instr.TheVariants.{Ld, St};
 ghost use Rattle.mutator_asm.specs.declared.operand.Operand.TheVariants as operands;
 ghost use Rattle.ael_runtime.specs.declared.root.TheConstants.{FRAMES, SCRATCH};
-ghost use Rattle.ael_runtime.specs.Calling.{LeavesOnceSeen, done};
+ghost use Rattle.ael_runtime.specs.Calling.{HadEffectsOnceSeen, done};
 ghost use Rattle.ael_runtime.specs.Failing.{FrameFails, StoreFails, WordFails};
 ghost use Rattle.ael_runtime.specs.Making.{HasPushed};
-ghost use Rattle.ael_runtime.specs.Reading.{held, len_of, register_of, seen_heap, word_of};
+ghost use Rattle.ael_runtime.specs.Reading.{held, len_of, root_register, seen_heap, record_word};
 
 use crate::failure::Failure;
 use crate::local::Local;
@@ -50,8 +50,8 @@ impl<'h> Local<'h> {
     /// Takes the topmost frame off. The one below it is on top then.
     pub fn pop_frame<R: Wait>(&mut self, rt: &R) -> Result<(), Failure>
         ensures of_heap { self.new.table ≡ self.old.table }
-        ensures below { OnOk result (held self.new FRAMES ≡ word_of (seen_heap self.new) (held self.old FRAMES) 0) }
-        ensures leaves { OnOk result (LeavesOnceSeen self.old FRAMES (done (Ld FRAMES FRAMES (operands.Number 0)) ∷ []) FRAMES self.new) }
+        ensures below { OnOk result (held self.new FRAMES ≡ record_word (seen_heap self.new) (held self.old FRAMES) 0) }
+        ensures effects { OnOk result (HadEffectsOnceSeen self.old FRAMES (done (Ld FRAMES FRAMES (operands.Number 0)) ∷ []) FRAMES self.new) }
         ensures fails { IfErr result (λ why. WordFails self.old FRAMES 0 why self.new) }
     {
         self.fetch(rt, FRAMES, FRAMES, LINK)
@@ -60,10 +60,10 @@ impl<'h> Local<'h> {
     /// A slot of the topmost frame holds what a root holds.
     pub fn save<R: Wait>(&mut self, rt: &R, slot: u16, from: Root) -> Result<(), Failure>
         ensures of_heap { self.new.table ≡ self.old.table }
-        ensures value { OnOk result (word_of (seen_heap self.new) (held self.new FRAMES) (slot + 1) ≡ held self.old (register_of from)) }
+        ensures value { OnOk result (record_word (seen_heap self.new) (held self.new FRAMES) (slot + 1) ≡ held self.old (root_register from)) }
         ensures within { OnOk result (slot + 1 < len_of (seen_heap self.new) (held self.new FRAMES)) }
-        ensures leaves { OnOk result (LeavesOnceSeen self.old FRAMES (done (St FRAMES (operands.Number (slot + 1)) (register_of from)) ∷ []) SCRATCH self.new) }
-        ensures fails { IfErr result (λ why. StoreFails self.old FRAMES (slot + 1) (register_of from) why self.new) }
+        ensures effects { OnOk result (HadEffectsOnceSeen self.old FRAMES (done (St FRAMES (operands.Number (slot + 1)) (root_register from)) ∷ []) SCRATCH self.new) }
+        ensures fails { IfErr result (λ why. StoreFails self.old FRAMES (slot + 1) (root_register from) why self.new) }
     {
         self.keep(rt, FRAMES, u64::from(slot) + 1, from.register())
     }
@@ -71,9 +71,9 @@ impl<'h> Local<'h> {
     /// A root holds what a slot of the topmost frame holds.
     pub fn restore<R: Wait>(&mut self, rt: &R, to: Root, slot: u16) -> Result<(), Failure>
         ensures of_heap { self.new.table ≡ self.old.table }
-        ensures value { OnOk result (held self.new (register_of to) ≡ word_of (seen_heap self.new) (held self.new FRAMES) (slot + 1)) }
+        ensures value { OnOk result (held self.new (root_register to) ≡ record_word (seen_heap self.new) (held self.new FRAMES) (slot + 1)) }
         ensures within { OnOk result (slot + 1 < len_of (seen_heap self.new) (held self.new FRAMES)) }
-        ensures leaves { OnOk result (LeavesOnceSeen self.old FRAMES (done (Ld (register_of to) FRAMES (operands.Number (slot + 1))) ∷ []) (register_of to) self.new) }
+        ensures effects { OnOk result (HadEffectsOnceSeen self.old FRAMES (done (Ld (root_register to) FRAMES (operands.Number (slot + 1))) ∷ []) (root_register to) self.new) }
         ensures fails { IfErr result (λ why. WordFails self.old FRAMES (slot + 1) why self.new) }
     {
         self.fetch(rt, to.register(), FRAMES, u64::from(slot) + 1)

@@ -13,8 +13,8 @@ ghost use Rattle.gc_worker.specs.Steps.AtRest.{is_at_rest};
 ghost use Rattle.gc_worker.specs.Workers.Fits.{MayBegin};
 ghost use Rattle.ael_threads.specs.Calls.{Called, Halts, RegistersStand, StaysSilent};
 ghost use Rattle.ael_threads.specs.Seats.{IsMine};
-ghost use Rattle.ael_runtime.specs.Calling.{Executed, IsSure, MayTrap};
-ghost use Rattle.ael_runtime.specs.Reading.{SeesSame, held, len_of, number, number_of, seen_heap};
+ghost use Rattle.ael_runtime.specs.Calling.{HadEffect, IsSure, WasTrapped};
+ghost use Rattle.ael_runtime.specs.Reading.{SeesSame, held, len_of, number, value_number, seen_heap};
 
 use crate::measured::{Measured, known_after};
 use ael_threads::{Did, Mutator, Reg, Shared};
@@ -74,8 +74,8 @@ impl<'h> Local<'h> {
         requires may_begin { MayBegin self.old.worker.account self.old.worker.registers (Some (Calls instr)) }
         ensures of_heap { self.new.table ≡ self.old.table }
         ensures called { Called self.old (Calls instr) result self.new }
-        ensures executed { result ≡ Done → Executed self.old instr self.new }
-        ensures trapped { (end : End) → result ≡ Trap end → MayTrap self.old instr end self.new }
+        ensures executed { result ≡ Done → HadEffect self.old instr self.new }
+        ensures trapped { (end : End) → result ≡ Trap end → WasTrapped self.old instr end self.new }
     {
         let did = self.mutator.exec(rt, self.heap, &instr);
         self.known = known_after(self.known, instr, did);
@@ -88,7 +88,7 @@ impl<'h> Local<'h> {
         requires no_end { self.old.worker.account.end ≡ None }
         requires sure { IsSure self.old instr }
         ensures of_heap { self.new.table ≡ self.old.table }
-        ensures executed { Executed self.old instr self.new }
+        ensures executed { HadEffect self.old instr self.new }
     {
         match self.call(rt, instr) {
             Did::Done => {}
@@ -119,7 +119,7 @@ impl<'h> Local<'h> {
     /// The number that a register holds, if it holds one.
     pub(crate) fn number_in(&self, register: u8) -> Option<u64>
         requires { register < REGISTERS }
-        ensures { result ≡ number_of (held self.now register) }
+        ensures { result ≡ value_number (held self.now register) }
     {
         match self.mutator.reg(register) {
             Reg::Number(n) => Some(n),

@@ -1,7 +1,7 @@
 //! The length that is known of a record, so that it need not be looked at each time.
 
 ghost use Rattle.std.specs.Prelude.{◌≡◌, true};
-ghost use Rattle.ael_runtime.specs.Known.{IsKept, Spares};
+ghost use Rattle.ael_runtime.specs.Known.{StaysKnown, SparesRegister};
 
 use ael_threads::Did;
 use mutator_asm::Instr;
@@ -15,7 +15,7 @@ pub(crate) struct Measured {
 
 /// Whether an instruction is known to leave what this register holds. After any other one the length is looked up anew.
 fn spares(instr: Instr, register: u8) -> bool
-    ensures { result ≡ true → Spares instr register }
+    ensures { result ≡ true → SparesRegister instr register }
 {
     match instr {
         Instr::Li(to, _) | Instr::Mov(to, _) | Instr::Ld(to, _, _) => to != register,
@@ -26,7 +26,7 @@ fn spares(instr: Instr, register: u8) -> bool
 
 /// What is still known after a call.
 pub(crate) fn known_after(known: Option<Measured>, instr: Instr, did: Did) -> Option<Measured>
-    ensures { IsKept known instr did result }
+    ensures { StaysKnown known instr did result }
 {
     match (known, did) {
         (Some(measured), Did::Done) if spares(instr, measured.register) => known,

@@ -6,9 +6,9 @@ ghost use Rattle.plain_state.specs.declared.value.Value.TheVariants as values;
 ghost use Rattle.mutator_asm.specs.declared.instr.Instr.TheVariants.{Eq, Li, Mov};
 ghost use Rattle.plain_heap.specs.Action.{are_same, is_reference};
 ghost use Rattle.ael_runtime.specs.declared.root.TheConstants.{SCRATCH};
-ghost use Rattle.ael_runtime.specs.Calling.{Leaves, done};
+ghost use Rattle.ael_runtime.specs.Calling.{HadEffects, done};
 ghost use Rattle.ael_runtime.specs.Failing.{Fails, NumberFails};
-ghost use Rattle.ael_runtime.specs.Reading.{held, number_of, register_of};
+ghost use Rattle.ael_runtime.specs.Reading.{held, value_number, root_register};
 
 use crate::failure::Failure;
 use crate::local::Local;
@@ -21,9 +21,9 @@ impl<'h> Local<'h> {
     /// The root holds this number. It is too large exactly from 2^62 on.
     pub fn set_number<R: Wait>(&mut self, rt: &R, to: Root, number: u64) -> Result<(), Failure>
         ensures of_heap { self.new.table ≡ self.old.table }
-        ensures value { OnOk result (held self.new (register_of to) ≡ values.Number number) }
+        ensures value { OnOk result (held self.new (root_register to) ≡ values.Number number) }
         ensures fits { OnOk result (number < NUMBERS) }
-        ensures leaves { OnOk result (Leaves self.old (done (Li (register_of to) number) ∷ []) (register_of to) self.new) }
+        ensures effects { OnOk result (HadEffects self.old (done (Li (root_register to) number) ∷ []) (root_register to) self.new) }
         ensures fails { IfErr result (λ why. NumberFails self.old number why self.new) }
     {
         if let Some(end) = self.ended() {
@@ -38,14 +38,14 @@ impl<'h> Local<'h> {
 
     /// The number in a root, if it holds no record.
     pub fn number(&self, of: Root) -> Option<u64>
-        ensures { result ≡ number_of (held self.now (register_of of)) }
+        ensures { result ≡ value_number (held self.now (root_register of)) }
     {
         self.number_in(of.register())
     }
 
     /// Whether a root leads to a record.
     pub fn is_record(&self, of: Root) -> bool
-        ensures { result ≡ is_reference (held self.now (register_of of)) }
+        ensures { result ≡ is_reference (held self.now (root_register of)) }
     {
         self.number(of).is_none()
     }
@@ -53,8 +53,8 @@ impl<'h> Local<'h> {
     /// The root holds what another does.
     pub fn copy<R: Wait>(&mut self, rt: &R, to: Root, from: Root) -> Result<(), Failure>
         ensures of_heap { self.new.table ≡ self.old.table }
-        ensures value { OnOk result (held self.new (register_of to) ≡ held self.old (register_of from)) }
-        ensures leaves { OnOk result (Leaves self.old (done (Mov (register_of to) (register_of from)) ∷ []) (register_of to) self.new) }
+        ensures value { OnOk result (held self.new (root_register to) ≡ held self.old (root_register from)) }
+        ensures effects { OnOk result (HadEffects self.old (done (Mov (root_register to) (root_register from)) ∷ []) (root_register to) self.new) }
         ensures fails { IfErr result (λ why. Fails self.old why self.new) }
     {
         if let Some(end) = self.ended() {
@@ -67,8 +67,8 @@ impl<'h> Local<'h> {
     /// Whether two roots hold the same number, or lead to the same record.
     pub fn same<R: Wait>(&mut self, rt: &R, one: Root, other: Root) -> Result<bool, Failure>
         ensures of_heap { self.new.table ≡ self.old.table }
-        ensures same { IfOk result (λ yes. yes ≡ are_same (held self.old (register_of one)) (held self.old (register_of other))) }
-        ensures leaves { OnOk result (Leaves self.old (done (Eq SCRATCH (register_of one) (register_of other)) ∷ []) SCRATCH self.new) }
+        ensures same { IfOk result (λ yes. yes ≡ are_same (held self.old (root_register one)) (held self.old (root_register other))) }
+        ensures effects { OnOk result (HadEffects self.old (done (Eq SCRATCH (root_register one) (root_register other)) ∷ []) SCRATCH self.new) }
         ensures fails { IfErr result (λ why. Fails self.old why self.new) }
     {
         if let Some(end) = self.ended() {

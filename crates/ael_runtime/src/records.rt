@@ -7,10 +7,10 @@ ghost use Rattle.mutator_asm.specs.declared.operand.Operand.TheVariants as opera
 ghost use Rattle.plain_heap.specs.Action.{is_reference};
 ghost use Rattle.ael_threads.specs.declared.refused.TheConstants.{MOST_RECORDS};
 ghost use Rattle.ael_runtime.specs.declared.root.TheConstants.{SCRATCH};
-ghost use Rattle.ael_runtime.specs.Calling.{Leaves, LeavesOnceSeen, done};
+ghost use Rattle.ael_runtime.specs.Calling.{HadEffects, HadEffectsOnceSeen, done};
 ghost use Rattle.ael_runtime.specs.Failing.{MakeFails, RecordFails, StoreFails, WordFails};
 ghost use Rattle.ael_runtime.specs.Making as making;
-ghost use Rattle.ael_runtime.specs.Reading.{held, len_of, register_of, seen_heap, word_of};
+ghost use Rattle.ael_runtime.specs.Reading.{held, len_of, root_register, seen_heap, record_word};
 
 use crate::failure::Failure;
 use crate::local::Local;
@@ -59,9 +59,9 @@ impl<'h> Local<'h> {
     ) -> Result<(), Failure>
         ensures of_heap { self.new.table ≡ self.old.table }
         ensures fits { OnOk result ((making.is_too_long fields numbers ≡ false) × (self.old.worker.account.serial < MOST_RECORDS)) }
-        ensures made { OnOk result (making.HasMade self.old (making.kind_for fields numbers) (fields + numbers) (register_of to) self.new) }
-        ensures leaves { OnOk result (Leaves self.old (done (making.making (register_of to) fields numbers) ∷ []) (register_of to) self.new) }
-        ensures fails { IfErr result (λ why. MakeFails (making.is_too_long fields numbers) self.old (making.making (register_of to) fields numbers) why self.new) }
+        ensures made { OnOk result (making.HasMade self.old (making.kind_for fields numbers) (fields + numbers) (root_register to) self.new) }
+        ensures effects { OnOk result (HadEffects self.old (done (making.making (root_register to) fields numbers) ∷ []) (root_register to) self.new) }
+        ensures fails { IfErr result (λ why. MakeFails (making.is_too_long fields numbers) self.old (making.making (root_register to) fields numbers) why self.new) }
     {
         if let Some(end) = self.ended() {
             return Err(Failure::Ended(end));
@@ -82,10 +82,10 @@ impl<'h> Local<'h> {
     /// How many words the record of a root has.
     pub fn len<R: Wait>(&mut self, rt: &R, of: Root) -> Result<u64, Failure>
         ensures of_heap { self.new.table ≡ self.old.table }
-        ensures record { IsOk result → is_reference (held self.old (register_of of)) ≡ true }
-        ensures len { IfOk result (λ len. len ≡ len_of (seen_heap self.new) (held self.old (register_of of))) }
-        ensures leaves { OnOk result (Leaves self.old (done (Len SCRATCH (register_of of)) ∷ []) SCRATCH self.new) }
-        ensures fails { IfErr result (λ why. RecordFails self.old (register_of of) why self.new) }
+        ensures record { IsOk result → is_reference (held self.old (root_register of)) ≡ true }
+        ensures len { IfOk result (λ len. len ≡ len_of (seen_heap self.new) (held self.old (root_register of))) }
+        ensures effects { OnOk result (HadEffects self.old (done (Len SCRATCH (root_register of)) ∷ []) SCRATCH self.new) }
+        ensures fails { IfErr result (λ why. RecordFails self.old (root_register of) why self.new) }
     {
         self.measure(rt, of.register())
     }
@@ -93,10 +93,10 @@ impl<'h> Local<'h> {
     /// The root holds word `at` of the record of another.
     pub fn load<R: Wait>(&mut self, rt: &R, to: Root, of: Root, at: u16) -> Result<(), Failure>
         ensures of_heap { self.new.table ≡ self.old.table }
-        ensures value { OnOk result (held self.new (register_of to) ≡ word_of (seen_heap self.new) (held self.old (register_of of)) at) }
-        ensures within { OnOk result (at < len_of (seen_heap self.new) (held self.old (register_of of))) }
-        ensures leaves { OnOk result (LeavesOnceSeen self.old (register_of of) (done (Ld (register_of to) (register_of of) (operands.Number at)) ∷ []) (register_of to) self.new) }
-        ensures fails { IfErr result (λ why. WordFails self.old (register_of of) at why self.new) }
+        ensures value { OnOk result (held self.new (root_register to) ≡ record_word (seen_heap self.new) (held self.old (root_register of)) at) }
+        ensures within { OnOk result (at < len_of (seen_heap self.new) (held self.old (root_register of))) }
+        ensures effects { OnOk result (HadEffectsOnceSeen self.old (root_register of) (done (Ld (root_register to) (root_register of) (operands.Number at)) ∷ []) (root_register to) self.new) }
+        ensures fails { IfErr result (λ why. WordFails self.old (root_register of) at why self.new) }
     {
         self.fetch(rt, to.register(), of.register(), u64::from(at))
     }
@@ -105,10 +105,10 @@ impl<'h> Local<'h> {
     /// record in place of a plain number, or anything in a weak cell.
     pub fn store<R: Wait>(&mut self, rt: &R, of: Root, at: u16, what: Root) -> Result<(), Failure>
         ensures of_heap { self.new.table ≡ self.old.table }
-        ensures value { OnOk result (word_of (seen_heap self.new) (held self.old (register_of of)) at ≡ held self.old (register_of what)) }
-        ensures within { OnOk result (at < len_of (seen_heap self.new) (held self.old (register_of of))) }
-        ensures leaves { OnOk result (LeavesOnceSeen self.old (register_of of) (done (St (register_of of) (operands.Number at) (register_of what)) ∷ []) SCRATCH self.new) }
-        ensures fails { IfErr result (λ why. StoreFails self.old (register_of of) at (register_of what) why self.new) }
+        ensures value { OnOk result (record_word (seen_heap self.new) (held self.old (root_register of)) at ≡ held self.old (root_register what)) }
+        ensures within { OnOk result (at < len_of (seen_heap self.new) (held self.old (root_register of))) }
+        ensures effects { OnOk result (HadEffectsOnceSeen self.old (root_register of) (done (St (root_register of) (operands.Number at) (root_register what)) ∷ []) SCRATCH self.new) }
+        ensures fails { IfErr result (λ why. StoreFails self.old (root_register of) at (root_register what) why self.new) }
     {
         self.keep(rt, of.register(), u64::from(at), what.register())
     }
@@ -120,7 +120,7 @@ impl<'h> Local<'h> {
         ensures of_heap { self.new.table ≡ self.old.table }
         ensures record { IsOk result → is_reference (held self.old of) ≡ true }
         ensures len { IfOk result (λ len. len ≡ len_of (seen_heap self.new) (held self.old of)) }
-        ensures leaves { OnOk result (Leaves self.old (done (Len SCRATCH of) ∷ []) SCRATCH self.new) }
+        ensures effects { OnOk result (HadEffects self.old (done (Len SCRATCH of) ∷ []) SCRATCH self.new) }
         ensures fails { IfErr result (λ why. RecordFails self.old of why self.new) }
     {
         if let Some(end) = self.ended() {
@@ -143,7 +143,7 @@ impl<'h> Local<'h> {
         requires other { of ≢ SCRATCH }
         ensures of_heap { self.new.table ≡ self.old.table }
         ensures within { OnOk result (at < len_of (seen_heap self.new) (held self.old of)) }
-        ensures leaves { OnOk result (LeavesOnceSeen self.old of [] SCRATCH self.new) }
+        ensures effects { OnOk result (HadEffectsOnceSeen self.old of [] SCRATCH self.new) }
         ensures fails { IfErr result (λ why. WordFails self.old of at why self.new) }
     {
         if self.knows(of, at) {
@@ -163,9 +163,9 @@ impl<'h> Local<'h> {
         requires other { of ≢ SCRATCH }
         requires at { at < NUMBERS }
         ensures of_heap { self.new.table ≡ self.old.table }
-        ensures value { OnOk result (held self.new to ≡ word_of (seen_heap self.new) (held self.old of) at) }
+        ensures value { OnOk result (held self.new to ≡ record_word (seen_heap self.new) (held self.old of) at) }
         ensures within { OnOk result (at < len_of (seen_heap self.new) (held self.old of)) }
-        ensures leaves { OnOk result (LeavesOnceSeen self.old of (done (Ld to of (operands.Number at)) ∷ []) to self.new) }
+        ensures effects { OnOk result (HadEffectsOnceSeen self.old of (done (Ld to of (operands.Number at)) ∷ []) to self.new) }
         ensures fails { IfErr result (λ why. WordFails self.old of at why self.new) }
     {
         self.reach(rt, of, at)?;
@@ -180,9 +180,9 @@ impl<'h> Local<'h> {
         requires others { (of ≢ SCRATCH) × (what ≢ SCRATCH) }
         requires at { at < NUMBERS }
         ensures of_heap { self.new.table ≡ self.old.table }
-        ensures value { OnOk result (word_of (seen_heap self.new) (held self.old of) at ≡ held self.old what) }
+        ensures value { OnOk result (record_word (seen_heap self.new) (held self.old of) at ≡ held self.old what) }
         ensures within { OnOk result (at < len_of (seen_heap self.new) (held self.old of)) }
-        ensures leaves { OnOk result (LeavesOnceSeen self.old of (done (St of (operands.Number at) what) ∷ []) SCRATCH self.new) }
+        ensures effects { OnOk result (HadEffectsOnceSeen self.old of (done (St of (operands.Number at) what) ∷ []) SCRATCH self.new) }
         ensures fails { IfErr result (λ why. StoreFails self.old of at what why self.new) }
     {
         self.reach(rt, of, at)?;

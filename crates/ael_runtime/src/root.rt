@@ -1,7 +1,7 @@
 //! The registers, and what each is for.
 
 ghost use Rattle.std.specs.Prelude.{◌≡◌};
-ghost use Rattle.ael_runtime.specs.Reading.{register_of};
+ghost use Rattle.ael_runtime.specs.Reading.{root_register};
 
 /// The register of the lengths and the records that are looked at. Nobody relies on what it holds.
 pub(crate) const SCRATCH: u8 = 5;
@@ -22,7 +22,7 @@ pub enum Root {
 impl Root {
     /// The number of its register.
     pub fn register(self) -> u8
-        ensures { result ≡ register_of self }
+        ensures { result ≡ root_register self }
     {
         match self {
             Root::R0 => 0,

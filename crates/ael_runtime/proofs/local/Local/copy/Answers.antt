@@ -8,6 +8,6 @@ pub returns-clause-value : goal.returns-clause-value
 returns-clause-value g c =
     (copied c.args.self.now c.does.new.self c.args.to c.register.result c.register.ensures c.args.from c.register-2.result c.register-2.ensures c.does.ensures.executed).0
 
-pub returns-clause-leaves : goal.returns-clause-leaves
-returns-clause-leaves g c =
+pub returns-clause-effects : goal.returns-clause-effects
+returns-clause-effects g c =
     (copied c.args.self.now c.does.new.self c.args.to c.register.result c.register.ensures c.args.from c.register-2.result c.register-2.ensures c.does.ensures.executed).1

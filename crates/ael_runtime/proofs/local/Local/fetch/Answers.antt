@@ -3,19 +3,19 @@ use Rattle.ael_runtime.proofs.local.Local.fetch.Goals as goal
 
 pub does-requires-clause-sure : goal.does-requires-clause-sure
 does-requires-clause-sure g c =
-    sure_ld c.args.self.now c.reach.new.self c.args.of c.args.at c.in_ok-reach.ensures.leaves c.requires.other c.in_ok-reach.ensures.within c.args.to
+    sure_ld c.args.self.now c.reach.new.self c.args.of c.args.at c.in_ok-reach.ensures.effects c.requires.other c.in_ok-reach.ensures.within c.args.to
 
 pub returns-clause-value : goal.returns-clause-value
 returns-clause-value g c =
-    (fetched c.args.self.now c.reach.new.self c.args.of c.args.at c.in_ok-reach.ensures.leaves c.requires.other c.in_ok-reach.ensures.within c.args.to
+    (fetched c.args.self.now c.reach.new.self c.args.of c.args.at c.in_ok-reach.ensures.effects c.requires.other c.in_ok-reach.ensures.within c.args.to
     c.does.new.self c.requires.to c.does.ensures.executed).value
 
 pub returns-clause-within : goal.returns-clause-within
 returns-clause-within g c =
-    (fetched c.args.self.now c.reach.new.self c.args.of c.args.at c.in_ok-reach.ensures.leaves c.requires.other c.in_ok-reach.ensures.within c.args.to
+    (fetched c.args.self.now c.reach.new.self c.args.of c.args.at c.in_ok-reach.ensures.effects c.requires.other c.in_ok-reach.ensures.within c.args.to
     c.does.new.self c.requires.to c.does.ensures.executed).inside
 
-pub returns-clause-leaves : goal.returns-clause-leaves
-returns-clause-leaves g c =
-    (fetched c.args.self.now c.reach.new.self c.args.of c.args.at c.in_ok-reach.ensures.leaves c.requires.other c.in_ok-reach.ensures.within c.args.to
-    c.does.new.self c.requires.to c.does.ensures.executed).leaves
+pub returns-clause-effects : goal.returns-clause-effects
+returns-clause-effects g c =
+    (fetched c.args.self.now c.reach.new.self c.args.of c.args.at c.in_ok-reach.ensures.effects c.requires.other c.in_ok-reach.ensures.within c.args.to
+    c.does.new.self c.requires.to c.does.ensures.executed).effects

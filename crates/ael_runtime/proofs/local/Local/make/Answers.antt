@@ -1,8 +1,8 @@
 use Rattle.std.proofs.Common.{◌+◌, [], ◌∷◌, inr, ap, arith, subst, sym}
 use Rattle.ael_threads.proofs.ProgramRuns.Executions.{is_done}
-use Rattle.ael_runtime.specs.Calling.{Leaves, done}
+use Rattle.ael_runtime.specs.Calling.{HadEffects, done}
 use Rattle.ael_runtime.specs.Making as making
-use Rattle.ael_runtime.specs.Reading.{held, len_of, register_of, seen_heap}
+use Rattle.ael_runtime.specs.Reading.{held, len_of, root_register, seen_heap}
 use Rattle.ael_runtime.proofs.NewRecords.{full_root, made_len, made_root}
 use Rattle.ael_runtime.proofs.local.Local.make.Goals as goal
 
@@ -16,7 +16,7 @@ remember-requires-clause-len g c =
     let b = c.call.new.self in
     let made = made_root c.args.self.now b c.args.to c.register.result c.args.fields c.args.numbers c.register.ensures c.making.result c.making.ensures
     c.is_too_long.result c.is_too_long.ensures c.if-is_too_long.false (c.call.ensures.executed (is_done c.call.result c.in_default-call.not-Trap)) in
-    let len = made_len c.args.self.now (making.kind_for c.args.fields c.args.numbers) (c.args.fields + c.args.numbers) (register_of c.args.to) b made.0 in
+    let len = made_len c.args.self.now (making.kind_for c.args.fields c.args.numbers) (c.args.fields + c.args.numbers) (root_register c.args.to) b made.0 in
     let to = ap (λ r. len_of (seen_heap b) (held b r)) c.register-2.ensures in
     let fields = c.from.ensures in
     let numbers = c.from-2.ensures in
@@ -24,12 +24,12 @@ remember-requires-clause-len g c =
 
 pub returns-clause-made : goal.returns-clause-made
 returns-clause-made g c =
-    subst (making.HasMade c.args.self.now (making.kind_for c.args.fields c.args.numbers) (c.args.fields + c.args.numbers) (register_of c.args.to)) (sym c.remember.ensures)
+    subst (making.HasMade c.args.self.now (making.kind_for c.args.fields c.args.numbers) (c.args.fields + c.args.numbers) (root_register c.args.to)) (sym c.remember.ensures)
     (made_root c.args.self.now c.call.new.self c.args.to c.register.result c.args.fields c.args.numbers c.register.ensures c.making.result c.making.ensures
     c.is_too_long.result c.is_too_long.ensures c.if-is_too_long.false (c.call.ensures.executed (is_done c.call.result c.in_default-call.not-Trap))).0
 
-pub returns-clause-leaves : goal.returns-clause-leaves
-returns-clause-leaves g c =
-    subst (Leaves c.args.self.now (done (making.making (register_of c.args.to) c.args.fields c.args.numbers) ∷ []) (register_of c.args.to)) (sym c.remember.ensures)
+pub returns-clause-effects : goal.returns-clause-effects
+returns-clause-effects g c =
+    subst (HadEffects c.args.self.now (done (making.making (root_register c.args.to) c.args.fields c.args.numbers) ∷ []) (root_register c.args.to)) (sym c.remember.ensures)
     (made_root c.args.self.now c.call.new.self c.args.to c.register.result c.args.fields c.args.numbers c.register.ensures c.making.result c.making.ensures
     c.is_too_long.result c.is_too_long.ensures c.if-is_too_long.false (c.call.ensures.executed (is_done c.call.result c.in_default-call.not-Trap))).1

@@ -9,7 +9,7 @@ returns-clause-value g c =
     (got_root c.args.self.now c.does.new.self c.args.to c.args.word c.from-2.result c.register.result c.from-2.ensures c.register.ensures
     (within_board c.args.word c.from.result c.from-2.result c.from.ensures c.from-2.ensures c.if-from-ge-BOARD_WORDS.false) c.does.ensures.executed).0
 
-pub returns-clause-leaves : goal.returns-clause-leaves
-returns-clause-leaves g c =
+pub returns-clause-effects : goal.returns-clause-effects
+returns-clause-effects g c =
     (got_root c.args.self.now c.does.new.self c.args.to c.args.word c.from-2.result c.register.result c.from-2.ensures c.register.ensures
     (within_board c.args.word c.from.result c.from-2.result c.from.ensures c.from-2.ensures c.if-from-ge-BOARD_WORDS.false) c.does.ensures.executed).1

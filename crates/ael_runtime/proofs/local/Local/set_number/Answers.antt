@@ -7,5 +7,5 @@ does-requires-clause-sure g c = sure_li c.args.self.now c.register.result c.args
 pub returns-clause-value : goal.returns-clause-value
 returns-clause-value g c = (number_set c.args.self.now c.does.new.self c.args.to c.register.result c.register.ensures c.args.number c.does.ensures.executed).0
 
-pub returns-clause-leaves : goal.returns-clause-leaves
-returns-clause-leaves g c = (number_set c.args.self.now c.does.new.self c.args.to c.register.result c.register.ensures c.args.number c.does.ensures.executed).1
+pub returns-clause-effects : goal.returns-clause-effects
+returns-clause-effects g c = (number_set c.args.self.now c.does.new.self c.args.to c.register.result c.register.ensures c.args.number c.does.ensures.executed).1

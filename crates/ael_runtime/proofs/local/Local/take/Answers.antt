@@ -19,7 +19,7 @@ returns-clause-empty g c =
     (taken_root c.args.self.now c.does.new.self c.does-2.new.self c.args.to c.args.word c.from-2.result c.register.result c.register-2.result c.from-2.ensures c.register.ensures c.register-2.ensures
     (within_board c.args.word c.from.result c.from-2.result c.from.ensures c.from-2.ensures c.if-from-ge-BOARD_WORDS.false) c.does.ensures.executed c.does-2.ensures.executed).empty
 
-pub returns-clause-leaves : goal.returns-clause-leaves
-returns-clause-leaves g c =
+pub returns-clause-effects : goal.returns-clause-effects
+returns-clause-effects g c =
     (taken_root c.args.self.now c.does.new.self c.does-2.new.self c.args.to c.args.word c.from-2.result c.register.result c.register-2.result c.from-2.ensures c.register.ensures c.register-2.ensures
-    (within_board c.args.word c.from.result c.from-2.result c.from.ensures c.from-2.ensures c.if-from-ge-BOARD_WORDS.false) c.does.ensures.executed c.does-2.ensures.executed).leaves
+    (within_board c.args.word c.from.result c.from-2.result c.from.ensures c.from-2.ensures c.if-from-ge-BOARD_WORDS.false) c.does.ensures.executed c.does-2.ensures.executed).effects
