@@ -7,8 +7,8 @@ use Rattle.mutator_asm.specs.declared.operand.Operand.TheVariants as operands
 use Rattle.plain_heap.specs.Call.{board_word}
 use Rattle.ael_threads.specs.Calls.{Halts}
 use Rattle.ael_threads.specs.Seats.{Seated}
-use Rattle.ael_runtime.specs.Calling.{Leaves, done}
-use Rattle.ael_runtime.specs.Reading.{heap_before, register_of, seen_heap}
+use Rattle.ael_runtime.specs.Calling.{HadEffects, done}
+use Rattle.ael_runtime.specs.Reading.{heap_before, root_register, seen_heap}
 use Rattle.embedding.specs.declared.signs.TheConstants.{FOUND, SIGN, STOPPED}
 
 -- the mutator has just put it up, and has no end
@@ -22,5 +22,5 @@ HasSignedOff spare = (then : Seated) × (PutsUp then × Halts then spare)
 
 -- it has looked there, and nobody has put it up
 pub record FindsQuiet (a b : Seated) : Type 0 where
-  pub leaves : Leaves a (done (Get (register_of FOUND) (operands.Number SIGN)) ∷ []) (register_of FOUND) b
+  pub effects : HadEffects a (done (Get (root_register FOUND) (operands.Number SIGN)) ∷ []) (root_register FOUND) b
   pub quiet : board_word (seen_heap b) SIGN ≡ Number 0

@@ -8,14 +8,14 @@ mod actors;
 mod lists;
 mod signs;
 
-ghost use Rattle.std.specs.Prelude.{◌≡◌, IsOk, OnOk, vec_len};
+ghost use Rattle.std.specs.Prelude.{◌≡◌, ◌≢◌, IsOk, OnOk, vec_len};
 ghost use Rattle.gc_worker.specs.declared.stage.Stage.TheVariants.{Gone};
 ghost use Rattle.ael_threads.specs.Histories.{Each};
 ghost use Rattle.ael_threads.specs.Seats.{Seated, new_callers};
+ghost use Rattle.embedding.specs.declared.signs.Stop.TheVariants.{PartnerStopped};
 
 use crate::actors::{Role, acts};
-use crate::signs::Outcome;
-use crate::signs::Stop::PartnerStopped;
+use crate::signs::{Outcome, Stop};
 use ael_runtime::{Config, Mutator, Seats, Shared};
 use anyhow::Result;
 use std::sync::Wait;
@@ -42,15 +42,10 @@ fn run<R: Threads + Wait + Sync + Print>(rt: &R, heap: &Shared, seats: &mut Seat
     ensures all { vec_len seats.new.mutators ≡ 4 }
     ensures same { seats.new.scanners ≡ seats.old.scanners }
 {
-    let taken = (
-        seats.take_mutator(),
-        seats.take_mutator(),
-        seats.take_mutator(),
-        seats.take_mutator(),
-    );
-    let (Some(spare), Some(other_spare), Some(receiver), Some(sender)) = taken else {
-        unreachable!()
-    };
+    let spare = seats.take_mutator().unwrap();
+    let other_spare = seats.take_mutator().unwrap();
+    let receiver = seats.take_mutator().unwrap();
+    let sender = seats.take_mutator().unwrap();
     let ((sender, spare, sent), (receiver, other_spare, received)) = join(
         rt,
         || acts(rt, heap, Role::Sender, sender, spare),
@@ -71,10 +66,22 @@ fn tell<R: Print>(rt: &R, sender: &Mutator, sent: Outcome, received: Outcome) ->
 {
     let sum = match (sent, received) {
         (Ok(_), Ok(sum)) => sum,
-        (Err(PartnerStopped), Err(why)) | (Err(why), _) | (_, Err(why)) => return Err(why.into()),
+        (Err(one), Err(other)) => return Err(cause(one, other).into()),
+        (Err(why), Ok(_)) | (Ok(_), Err(why)) => return Err(why.into()),
     };
     println!(rt; "checksum {sum}")?;
     let moved = sender.epoch() > 0;
     println!(rt; "records {}, moved {moved}", sender.serial())?;
     Ok(())
+}
+
+/// Of two reasons to stop, that of the actor that didn't stop for the other.
+fn cause(one: Stop, other: Stop) -> Stop
+    ensures own { one ≢ PartnerStopped → result ≡ one }
+    ensures others { one ≡ PartnerStopped → result ≡ other }
+{
+    match one {
+        Stop::PartnerStopped => other,
+        _ => one,
+    }
 }

@@ -1,0 +1,5 @@
+mod Outcomes
+mod SignCalls
+mod ListCalls
+mod Departures
+mod NewSeats
