@@ -31,7 +31,7 @@ pub type Ended = (Mutator, Mutator, Outcome);
 pub fn acts<R: Wait>(rt: &R, heap: &Shared, role: Role, mutator: Mutator, spare: Mutator) -> Ended
     requires mutator { MayAct heap.now.table.shared.table_id mutator }
     requires spare { MayAct heap.now.table.shared.table_id spare }
-    ensures { HasFinished heap.now.table.shared.table_id result.0 result.1 result.2 }
+    ensures { HasFinished heap.now.table.shared.table_id spare result.0 result.1 result.2 }
 {
     let mut local = Local::new(heap, mutator);
     let outcome = match role {
