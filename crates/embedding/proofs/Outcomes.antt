@@ -1,10 +1,13 @@
 -- What is said of an outcome that is Ok.
-use Rattle.std.proofs.Common.{◌≡◌, Result, Ok, Err, subst}
+use Rattle.std.proofs.Common.{◌≡◌, Result, Ok, Err, subst, sym}
 use Rattle.std.specs.Prelude.{OnErr, OnOk}
 
 module _ {T E : Type 0} (r : Result T E) where
   pub on_ok_by : (P : Type 0) (x : T) → r ≡ Ok x → OnOk r P → P
   on_ok_by P x is p = subst (λ (o : Result T E). OnOk o P) is p
+
+  pub on_ok_of_err : (P : Type 0) (e : E) → r ≡ Err e → OnOk r P
+  on_ok_of_err P e is = subst (λ (o : Result T E). OnOk o P) (sym is) tt
 
   -- by one fact, and by two
   pub on_ok_map : (P Q : Type 0) → OnOk r P → (P → Q) → OnOk r Q
