@@ -11,6 +11,7 @@ pub fn open(alloc: Global, pages: u32) -> Result<(Shared, Seats, Mutator, Scanne
     ensures of_heap { IfOk result (λ o. (o.2.table ≡ o.0.table.shared.table_id) × (o.3.seated.table ≡ o.0.table.shared.table_id)) }
     ensures new { IfOk result (λ o. (o.2.worker.task ≡ None) × IsMine o.2.knows) }
     ensures left { IfOk result (λ o. o.1.mutators.items ≡ new_callers o.0.table.shared.table_id o.0.table.shared.key 0 1) }
+    ensures of_two { IfOk result (λ o. o.0.table.shared.key.mutators ≡ 2) }
     ensures no_scanner { IfOk result (λ o. o.1.scanners.items ≡ []) }
 {
     let config = Config {

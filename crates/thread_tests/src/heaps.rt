@@ -75,6 +75,7 @@ pub fn open_untaken(alloc: Global) -> Result<(Shared, Seats, Mutator, Scanner), 
     ensures mutator { IfOk result (λ o. (o.2.table ≡ o.0.table.shared.table_id) × (o.2.worker.task ≡ None)) }
     ensures scanner { IfOk result (λ o. o.3.seated.table ≡ o.0.table.shared.table_id) }
     ensures left { IfOk result (λ o. o.1.mutators.items ≡ new_callers o.0.table.shared.table_id o.0.table.shared.key 0 1) }
+    ensures of_two { IfOk result (λ o. o.0.table.shared.key.mutators ≡ 2) }
     ensures no_scanner { IfOk result (λ o. o.1.scanners.items ≡ []) }
     ensures room { IfOk result (λ o. (2 ≤ vec_capacity o.1.mutators) × (1 ≤ vec_capacity o.1.scanners)) }
 {
