@@ -1,0 +1,30 @@
+use Rattle.std.proofs.Common.{◌∙◌, refl, sym, subst}
+use Rattle.gc_worker.specs.declared.task.Task.TheVariants.{Calls}
+use Rattle.mutator_asm.specs.declared.instr.Instr.TheVariants.{Halt}
+use Rattle.ael_threads.specs.Seats.{Seated}
+use Rattle.ael_threads.proofs.WholeCalls.FromActs.{halt_may_begin, under_way}
+use Rattle.ael_c.specs.declared.answer.Answer.TheVariants.{Again}
+use Rattle.ael_c.specs.Answers.{answer_by}
+use Rattle.ael_c.specs.Calls.{Leaves}
+use Rattle.ael_c.proofs.Cases.{is_idle, leaves_calling, leaves_halting}
+use Rattle.ael_c.proofs.mutator_seat.MutatorSeat.leave.Goals as goal
+
+pub begin-requires-clause-may_begin : goal.begin-requires-clause-may_begin
+begin-requires-clause-may_begin c = halt_may_begin c.self.inside.mutator.worker.account c.self.inside.mutator.worker.registers
+
+pub returns-then-is_calling : goal.returns-then-is_calling
+returns-then-is_calling c =
+    let m = c.self.inside.mutator in
+    let b = c.tries.new.mutator in
+    subst (λ (a : Seated). Leaves a Again b) c.self.view_is
+    (leaves_calling m b Again (sym c.ended.ensures.ended ∙ c.in_default.is) (sym c.is_calling.ensures ∙ c.if-is_calling.true)
+    (record { told = refl; came = answer_by c.tries.result; acts = record { did = c.tries.result; told = refl; tries = c.tries.ensures.tries } }))
+
+pub returns : goal.returns
+returns c =
+    let m = c.self.inside.mutator in
+    let b = c.tries-2.new.mutator in
+    let under = under_way m c.begin.new.self (Calls Halt) c.begin.ensures.begun c.begin.ensures.same.1 c.begin.ensures.looks_first in
+    subst (λ (a : Seated). Leaves a Again b) c.self.view_is
+    (leaves_halting m b Again (sym c.ended.ensures.ended ∙ c.in_default.is) (is_idle m.worker.task (sym c.is_calling.ensures ∙ c.if-is_calling.false))
+    (record { told = refl; came = answer_by c.tries-2.result; acts = record { did = c.tries-2.result; told = refl; tries = c.tries-2.ensures.tries m (Calls Halt) under } }))

@@ -1,0 +1,60 @@
+-- What C is told, and by which codes.
+use Rattle.std.specs.Prelude.{ℕ, ◌-◌, ℤ, pos, negsuc, Option, Some, None}
+use Rattle.plain_state.specs.declared.end.End.{End}
+use Rattle.plain_state.specs.declared.end.End.TheVariants as ends
+use Rattle.gc_worker.specs.declared.calls.did.Did.{Did}
+use Rattle.gc_worker.specs.declared.calls.did.Did.TheVariants as dids
+use Rattle.ael_threads.specs.declared.refused.Refused.{Refused}
+use Rattle.ael_threads.specs.declared.refused.Refused.TheVariants as reasons
+use Rattle.ael_c.specs.declared.answer.Answer.{Answer}
+use Rattle.ael_c.specs.declared.answer.Answer.TheVariants as answers
+
+-- ---- codes
+
+-- a number below 0
+abbrev pub minus : ℕ → ℤ
+minus n = negsuc (n - 1)
+
+abbrev pub end_code : End → ℤ
+end_code ends.Halt = minus 16
+end_code ends.NotPointer = minus 17
+end_code ends.NotNumber = minus 18
+end_code ends.OutOfRange = minus 19
+end_code ends.WeakCell = minus 20
+end_code ends.IntoRaw = minus 21
+end_code ends.ZeroDivisor = minus 22
+end_code (ends.HeapFull asked room live) = minus 23
+end_code ends.JumpOut = minus 24
+end_code ends.TurnsOut = minus 25
+end_code ends.OutputFull = minus 26
+
+abbrev pub code_of : Answer → ℤ
+code_of answers.Done = pos 0
+code_of answers.Again = pos 1
+code_of answers.Number = pos 2
+code_of answers.Pointer = pos 3
+code_of answers.Left = pos 4
+code_of answers.BadHandle = minus 1
+code_of answers.NoMemory = minus 2
+code_of answers.InUse = minus 3
+code_of answers.BadSize = minus 4
+code_of answers.BadInstruction = minus 5
+code_of answers.BadRegister = minus 6
+code_of answers.Unanswered = minus 7
+code_of answers.RecordsOut = minus 8
+code_of (answers.Ended end) = end_code end
+
+-- ---- answers
+
+-- what some acts for a call came to, if they answered it
+abbrev pub answer_by : Option Did → Answer
+answer_by None = answers.Again
+answer_by (Some dids.Done) = answers.Done
+answer_by (Some (dids.Trap end)) = answers.Ended end
+
+-- why a call is refused
+abbrev pub answer_to : Refused → Answer
+answer_to (reasons.Ended end) = answers.Ended end
+answer_to reasons.Calling = answers.Unanswered
+answer_to reasons.Operand = answers.BadInstruction
+answer_to reasons.Records = answers.RecordsOut

@@ -1,0 +1,5 @@
+pub mod Holding
+pub mod Answers
+pub mod Instructions
+pub mod Calls
+pub mod Handles

@@ -1,0 +1,105 @@
+//! What C is told.
+
+ghost use Rattle.std.specs.Prelude.{◌≡◌};
+ghost use Rattle.ael_c.specs.Answers.{answer_by, answer_to, code_of, end_code};
+
+use ael_threads::{Did, End, Refused};
+
+/// What an export answers.
+#[derive(Clone, Copy)]
+pub enum Answer {
+    /// It is done.
+    Done,
+    /// It is under way still.
+    Again,
+    /// A register holds a number.
+    Number,
+    /// A register holds a pointer to a record.
+    Pointer,
+    /// A mutator has left, or a scanner has seen that all mutators have.
+    Left,
+    /// The handle is null, or leads to a seat of the other kind.
+    BadHandle,
+    /// Memory is wanting.
+    NoMemory,
+    /// The handle leads to something, or what it leads to can't be freed yet.
+    InUse,
+    /// No heap has this size, or as many seats.
+    BadSize,
+    /// There is no such instruction.
+    BadInstruction,
+    /// There is no such register.
+    BadRegister,
+    /// The mutator's last call is under way still.
+    Unanswered,
+    /// The mutator has made as many records as it can.
+    RecordsOut,
+    /// The mutator has this end.
+    Ended(End),
+}
+
+impl Answer {
+    /// What some acts for a call came to.
+    pub fn by(did: Option<Did>) -> Answer
+        ensures { result ≡ answer_by did }
+    {
+        match did {
+            None => Answer::Again,
+            Some(Did::Done) => Answer::Done,
+            Some(Did::Trap(end)) => Answer::Ended(end),
+        }
+    }
+
+    /// Why a call is refused.
+    pub fn to(why: Refused) -> Answer
+        ensures { result ≡ answer_to why }
+    {
+        match why {
+            Refused::Ended(end) => Answer::Ended(end),
+            Refused::Calling => Answer::Unanswered,
+            Refused::Operand => Answer::BadInstruction,
+            Refused::Records => Answer::RecordsOut,
+        }
+    }
+
+    /// Its code.
+    pub fn code(self) -> i32
+        ensures { result ≡ code_of self }
+    {
+        match self {
+            Answer::Done => 0,
+            Answer::Again => 1,
+            Answer::Number => 2,
+            Answer::Pointer => 3,
+            Answer::Left => 4,
+            Answer::BadHandle => -1,
+            Answer::NoMemory => -2,
+            Answer::InUse => -3,
+            Answer::BadSize => -4,
+            Answer::BadInstruction => -5,
+            Answer::BadRegister => -6,
+            Answer::Unanswered => -7,
+            Answer::RecordsOut => -8,
+            Answer::Ended(end) => code_by_end(end),
+        }
+    }
+}
+
+/// The code of an end.
+fn code_by_end(end: End) -> i32
+    ensures { result ≡ end_code end }
+{
+    match end {
+        End::Halt => -16,
+        End::NotPointer => -17,
+        End::NotNumber => -18,
+        End::OutOfRange => -19,
+        End::WeakCell => -20,
+        End::IntoRaw => -21,
+        End::ZeroDivisor => -22,
+        End::HeapFull { .. } => -23,
+        End::JumpOut => -24,
+        End::TurnsOut => -25,
+        End::OutputFull => -26,
+    }
+}
