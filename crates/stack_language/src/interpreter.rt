@@ -84,10 +84,11 @@ impl<'i, R: Wait> Interpreter<'i, R> {
         ensures { self.new.local.table ≡ self.old.local.table }
     {
         let rt = self.job.rt;
+        let top = self.number(TOP);
         match op {
             Op::Number(n) => self.local.set_number(rt, TOP, n)?,
             Op::Compute(operation) => {
-                let computed = operation.apply(self.number(SECOND)?, self.number(TOP)?);
+                let computed = operation.apply(self.number(SECOND)?, top?);
                 self.local
                     .set_number(rt, TOP, computed.map_err(|_| Mistake::ZeroDivisor)?)?;
             }
@@ -112,11 +113,11 @@ impl<'i, R: Wait> Interpreter<'i, R> {
                 self.next = self.number(TOP)? as usize;
             }
             Op::Jump(place) => self.next = place,
-            Op::JumpIfZero(place) if self.is_zero(TOP) => self.next = place,
-            Op::Send => self.leave_at(self.board_word()?)?,
-            Op::Receive => self.take_from(self.board_word()?)?,
-            Op::Print => self.printed.push(self.number(TOP)?)?,
-            Op::Check if self.is_zero(TOP) => return Err(Mistake::CheckFailed),
+            Op::JumpIfZero(place) if top == Ok(0) => self.next = place,
+            Op::Send => self.leave_at(board_word(top?)?)?,
+            Op::Receive => self.take_from(board_word(top?)?)?,
+            Op::Print => self.printed.push(top?)?,
+            Op::Check if top == Ok(0) => return Err(Mistake::CheckFailed),
             Op::Drop | Op::JumpIfZero(_) | Op::Check => {}
         }
         Ok(())
@@ -169,11 +170,6 @@ impl<'i, R: Wait> Interpreter<'i, R> {
         Ok(())
     }
 
-    /// The word of the board that the number on top says.
-    fn board_word(&self) -> Result<u8, Mistake> {
-        u8::try_from(self.number(TOP)?).map_err(|_| Mistake::Heap(Failure::OutOfRange))
-    }
-
     /// Waits until 0 stands on a word of the board, and leaves the second value there.
     fn leave_at(&mut self, word: u8) -> Result<(), Mistake>
         ensures of_heap { self.new.local.table ≡ self.old.local.table }
@@ -214,4 +210,9 @@ impl<'i, R: Wait> Interpreter<'i, R> {
         }
         Err(Mistake::Deserted)
     }
+}
+
+/// The number of a word of the board.
+fn board_word(number: u64) -> Result<u8, Mistake> {
+    u8::try_from(number).map_err(|_| Mistake::Heap(Failure::OutOfRange))
 }

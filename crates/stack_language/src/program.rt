@@ -46,20 +46,21 @@ impl<'t> Program<'t> {
             self.words.insert(name, here)?;
             return Ok(());
         }
-        match word.as_bytes() {
-            b"begin" => self.open.push(here)?,
+        let meaning = match word.as_bytes() {
+            b"begin" => return Ok(self.open.push(here)?),
+            b"then" => return self.lead(here),
             b"if" | b"while" => {
                 self.open.push(here)?;
-                self.ops.push(((1, Op::JumpIfZero(0), false), self.lines))?;
+                (1, Op::JumpIfZero(0), false)
             }
-            b"then" => self.lead(here)?,
             b"repeat" => {
                 self.lead(here.saturating_add(1))?;
                 let begin = self.open.pop().ok_or(Mistake::Unmatched)?;
-                self.ops.push(((0, Op::Jump(begin), false), self.lines))?;
+                (0, Op::Jump(begin), false)
             }
-            _ => self.ops.push((self.meaning(word)?, self.lines))?,
-        }
+            _ => self.meaning(word)?,
+        };
+        self.ops.push((meaning, self.lines))?;
         Ok(())
     }
 
