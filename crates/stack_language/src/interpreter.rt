@@ -1,11 +1,11 @@
 //! How a thread runs a program.
 
-ghost use Rattle.std.specs.Prelude.{◌≡◌, ◌≢◌, true, false, OnOk};
+ghost use Rattle.std.specs.Prelude.{◌≡◌, ◌≢◌, true, OnOk};
 ghost use Rattle.plain_state.specs.declared.value.Value.TheVariants as values;
 ghost use Rattle.plain_state.specs.Writing.{with_board};
-ghost use Rattle.plain_heap.specs.Action.{is_reference, is_zero};
+ghost use Rattle.plain_heap.specs.Action.{is_reference};
 ghost use Rattle.plain_heap.specs.Call.{board_word};
-ghost use Rattle.ael_runtime.specs.Reading.{heap_before, held, register_of, seen_heap, word_of};
+ghost use Rattle.ael_runtime.specs.Reading.{heap_before, held, value_number, root_register, seen_heap, record_word};
 
 use crate::mistake::Mistake;
 use crate::op::{Meaning, Op};
@@ -125,9 +125,9 @@ impl<'i, R: Wait> Interpreter<'i, R> {
 
     /// A root leads to a new pair of what two roots hold.
     fn pair(&mut self, to: Root, first: Root, rest: Root) -> Result<(), Mistake>
-        requires others { (register_of first ≢ register_of to) × (register_of first ≢ 3) × (register_of to ≢ 3) }
+        requires others { (root_register first ≢ root_register to) × (root_register first ≢ 3) × (root_register to ≢ 3) }
         ensures of_heap { self.new.local.table ≡ self.old.local.table }
-        ensures first { OnOk result (word_of (seen_heap self.new.local) (held self.new.local (register_of to)) 0 ≡ held self.old.local (register_of first)) }
+        ensures first { OnOk result (record_word (seen_heap self.new.local) (held self.new.local (root_register to)) 0 ≡ held self.old.local (root_register first)) }
     {
         self.local.copy(self.job.rt, SPARE, rest)?;
         self.local.make(self.job.rt, to, 2, 0)?;
@@ -153,12 +153,6 @@ impl<'i, R: Wait> Interpreter<'i, R> {
         self.local.number(of).ok_or(Mistake::NotNumber)
     }
 
-    fn is_zero(&self, root: Root) -> bool
-        ensures { result ≡ is_zero (held self.now.local (register_of root)) }
-    {
-        self.local.number(root) == Some(0)
-    }
-
     /// Goes on at a word, which has a new frame.
     fn call(&mut self, place: usize) -> Result<(), Mistake>
         ensures { self.new.local.table ≡ self.old.local.table }
@@ -178,7 +172,7 @@ impl<'i, R: Wait> Interpreter<'i, R> {
         for _ in self.job.rt.forever() {
             let is_alone = self.job.stopped.load(Ordering::SeqCst);
             self.local.read_shared(self.job.rt, TOP, word)?;
-            if self.is_zero(TOP) {
+            if self.local.number(TOP) == Some(0) {
                 break;
             }
             if is_alone {
@@ -194,13 +188,13 @@ impl<'i, R: Wait> Interpreter<'i, R> {
     fn take_from(&mut self, word: u8) -> Result<(), Mistake>
         ensures of_heap { self.new.local.table ≡ self.old.local.table }
         ensures value { OnOk result (held self.new.local 1 ≡ board_word (heap_before self.new.local) word) }
-        ensures there { OnOk result (is_zero (held self.new.local 1) ≡ false) }
+        ensures there { OnOk result (value_number (held self.new.local 1) ≢ Some 0) }
         ensures empty { OnOk result (seen_heap self.new.local ≡ with_board (heap_before self.new.local) word (values.Number 0)) }
     {
         for _ in self.job.rt.forever() {
             let is_alone = self.job.stopped.load(Ordering::SeqCst);
             self.local.take(self.job.rt, TOP, word)?;
-            if !self.is_zero(TOP) {
+            if self.local.number(TOP) != Some(0) {
                 return Ok(());
             }
             if is_alone {
