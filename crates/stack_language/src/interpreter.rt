@@ -25,34 +25,34 @@ const REST: u16 = 1;
 /// Where a frame keeps the place behind the call of its word. The slots before it are locals.
 const CALLER: u16 = 4;
 
-/// What the threads share: what they wait by, the program, and whether one of them has stopped.
+/// What the threads share: the program, and whether one of them has stopped.
 #[derive(Drop)]
-pub(crate) struct Job<'j, R> {
-    pub rt: &'j R,
-    pub program: &'j Program<'j>,
+pub(crate) struct Job {
+    pub program: Program,
     pub stopped: AtomicBool,
 }
 
 /// A thread's part of the heap, where it is in the program, and what it has printed.
 #[derive(Drop)]
-pub(crate) struct Interpreter<'i, R> {
-    pub job: &'i Job<'i, R>,
-    pub local: Local<'i>,
+pub(crate) struct Interpreter<'r, 'j, 'h, R> {
+    pub rt: &'r R,
+    pub job: &'j Job,
+    pub local: Local<'h>,
     pub next: usize,
     pub line: u32,
     pub printed: Vec<u64>,
 }
 
-impl<'i, R: Wait> Interpreter<'i, R> {
+impl<'r, 'j, 'h, R: Wait> Interpreter<'r, 'j, 'h, R> {
     /// Runs a word of the text to its end.
     pub fn run(&mut self, word: &str) -> Result<(), Mistake>
         ensures { self.new.local.table ≡ self.old.local.table }
     {
-        let program = self.job.program;
+        let program = &self.job.program;
         let place = program.words.get(word).ok_or(Mistake::UnknownWord)?;
         self.next = program.ops.len();
         self.call(*place)?;
-        for _ in self.job.rt.forever() {
+        for _ in self.rt.forever() {
             let Some((meaning, line)) = program.ops.get(self.next) else {
                 break;
             };
@@ -83,7 +83,7 @@ impl<'i, R: Wait> Interpreter<'i, R> {
     fn act(&mut self, op: Op) -> Result<(), Mistake>
         ensures { self.new.local.table ≡ self.old.local.table }
     {
-        let rt = self.job.rt;
+        let rt = self.rt;
         let top = self.number(TOP);
         match op {
             Op::Number(n) => self.local.set_number(rt, TOP, n)?,
@@ -129,10 +129,10 @@ impl<'i, R: Wait> Interpreter<'i, R> {
         ensures of_heap { self.new.local.table ≡ self.old.local.table }
         ensures first { OnOk result (record_word (seen_heap self.new.local) (held self.new.local (root_register to)) 0 ≡ held self.old.local (root_register first)) }
     {
-        self.local.copy(self.job.rt, SPARE, rest)?;
-        self.local.make(self.job.rt, to, 2, 0)?;
-        self.local.store(self.job.rt, to, REST, SPARE)?;
-        self.local.store(self.job.rt, to, FIRST, first)?;
+        self.local.copy(self.rt, SPARE, rest)?;
+        self.local.make(self.rt, to, 2, 0)?;
+        self.local.store(self.rt, to, REST, SPARE)?;
+        self.local.store(self.rt, to, FIRST, first)?;
         Ok(())
     }
 
@@ -144,8 +144,8 @@ impl<'i, R: Wait> Interpreter<'i, R> {
         if !self.local.is_record(STACK) {
             return Err(Mistake::StackEmpty);
         }
-        self.local.load(self.job.rt, to, STACK, FIRST)?;
-        self.local.load(self.job.rt, STACK, STACK, REST)?;
+        self.local.load(self.rt, to, STACK, FIRST)?;
+        self.local.load(self.rt, STACK, STACK, REST)?;
         Ok(())
     }
 
@@ -157,9 +157,9 @@ impl<'i, R: Wait> Interpreter<'i, R> {
     fn call(&mut self, place: usize) -> Result<(), Mistake>
         ensures { self.new.local.table ≡ self.old.local.table }
     {
-        self.local.push_frame(self.job.rt, CALLER + 1)?;
-        self.local.set_number(self.job.rt, TOP, self.next as u64)?;
-        self.local.save(self.job.rt, CALLER, TOP)?;
+        self.local.push_frame(self.rt, CALLER + 1)?;
+        self.local.set_number(self.rt, TOP, self.next as u64)?;
+        self.local.save(self.rt, CALLER, TOP)?;
         self.next = place;
         Ok(())
     }
@@ -169,19 +169,19 @@ impl<'i, R: Wait> Interpreter<'i, R> {
         ensures of_heap { self.new.local.table ≡ self.old.local.table }
         ensures left { OnOk result (seen_heap self.new.local ≡ with_board (heap_before self.new.local) word (held self.old.local 2)) }
     {
-        for _ in self.job.rt.forever() {
+        for _ in self.rt.forever() {
             let is_alone = self.job.stopped.load(Ordering::SeqCst);
-            self.local.read_shared(self.job.rt, TOP, word)?;
+            self.local.read_shared(self.rt, TOP, word)?;
             if self.local.number(TOP) == Some(0) {
-                break;
+                self.local.share(self.rt, word, SECOND)?;
+                return Ok(());
             }
             if is_alone {
-                return Err(Mistake::Deserted);
+                break;
             }
             yield_now();
         }
-        self.local.share(self.job.rt, word, SECOND)?;
-        Ok(())
+        Err(Mistake::Deserted)
     }
 
     /// Waits until something else stands on a word of the board, and takes it.
@@ -191,9 +191,9 @@ impl<'i, R: Wait> Interpreter<'i, R> {
         ensures there { OnOk result (value_number (held self.new.local 1) ≢ Some 0) }
         ensures empty { OnOk result (seen_heap self.new.local ≡ with_board (heap_before self.new.local) word (values.Number 0)) }
     {
-        for _ in self.job.rt.forever() {
+        for _ in self.rt.forever() {
             let is_alone = self.job.stopped.load(Ordering::SeqCst);
-            self.local.take(self.job.rt, TOP, word)?;
+            self.local.take(self.rt, TOP, word)?;
             if self.local.number(TOP) != Some(0) {
                 return Ok(());
             }

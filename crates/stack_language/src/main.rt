@@ -34,13 +34,15 @@ const MANY: u64 = 100 * 64 * CONFIG.pages as u64 / 3;
 
 /// Runs a word of the text, and leaves the heap. What it printed, or nothing if it makes a mistake, which it tells.
 fn run_word<R: Wait + Eprint>(
-    job: &Job<'_, R>,
+    rt: &R,
+    job: &Job,
     local: Local<'_>,
     word: &str,
 ) -> (Mutator, Option<Vec<u64>>)
     ensures { result.0.table ≡ local.entry.table }
 {
     let mut interpreter = Interpreter {
+        rt,
         job,
         local,
         next: 0,
@@ -50,10 +52,10 @@ fn run_word<R: Wait + Eprint>(
     let ran = interpreter.run(word);
     job.stopped.store(true, Ordering::SeqCst);
     if let Err(mistake) = ran {
-        let _ = eprintln!(job.rt; "{word}: line {}: {mistake}", interpreter.line);
+        let _ = eprintln!(rt; "{word}: line {}: {mistake}", interpreter.line);
     }
     let Interpreter { local, printed, .. } = interpreter;
-    (local.leave(job.rt), ran.ok().map(|()| printed))
+    (local.leave(rt), ran.ok().map(|()| printed))
 }
 
 /// Tells what a thread printed, and how many records it made.
@@ -67,22 +69,20 @@ fn tell<R: Print>(rt: &R, word: &str, mutator: &Mutator, printed: Vec<u64>) -> i
 /// Opens a heap, and runs the words `left` and `right` on it, each on a thread.
 fn run<R: Threads + Wait + Sync + Print + Eprint + AllocGlobal>(
     rt: &R,
-    program: &Program<'_>,
+    program: Program,
 ) -> Result<(), anyhow::Error> {
     let (heap, mut seats) = Shared::open(rt.alloc(), 2, &CONFIG)?;
     let (Some(right), Some(left)) = (seats.take_mutator(), seats.take_mutator()) else {
         unreachable!()
     };
-    let job = Job {
+    let stopped = AtomicBool::new(false);
+    let job = Job { program, stopped };
+    let ((left, left_printed), (right, right_printed)) = join(
         rt,
-        program,
-        stopped: AtomicBool::new(false),
-    };
-    let ((left, Some(left_printed)), (right, Some(right_printed))) = join(
-        rt,
-        || run_word(&job, Local::new(&heap, left), "left"),
-        || run_word(&job, Local::new(&heap, right), "right"),
-    ) else {
+        || run_word(rt, &job, Local::new(&heap, left), "left"),
+        || run_word(rt, &job, Local::new(&heap, right), "right"),
+    );
+    let (Some(left_printed), Some(right_printed)) = (left_printed, right_printed) else {
         bail!("a thread has made a mistake")
     };
     tell(rt, "left", &left, left_printed)?;
@@ -101,5 +101,5 @@ fn main(rt: HostRuntime) -> Result<(), anyhow::Error> {
     if let Err(mistake) = program.read(text.as_str()) {
         bail!("line {}: {mistake}", program.lines);
     }
-    run(&rt, &program)
+    run(&rt, program)
 }

@@ -8,16 +8,16 @@ use std::collections::HashMap;
 
 /// The instructions of a text, each with its line, and where the text's words begin.
 #[derive(Drop)]
-pub(crate) struct Program<'t> {
+pub(crate) struct Program {
     pub ops: Vec<(Meaning, u32)>,
-    pub words: HashMap<&'t str, usize>,
+    pub words: HashMap<String, usize>,
     /// Where what has not ended yet begins, or the jump out of it stands.
     open: Vec<usize>,
     pub lines: u32,
 }
 
-impl<'t> Program<'t> {
-    pub fn new(alloc: Global) -> Program<'t> {
+impl Program {
+    pub fn new(alloc: Global) -> Program {
         Program {
             ops: Vec::new(alloc),
             words: HashMap::new(alloc),
@@ -27,7 +27,7 @@ impl<'t> Program<'t> {
     }
 
     /// Reads a text, up to the line of its first mistake.
-    pub fn read(&mut self, text: &'t str) -> Result<(), Mistake> {
+    pub fn read(&mut self, text: &str) -> Result<(), Mistake> {
         for line in text.lines() {
             self.lines = self.lines.saturating_add(1);
             for word in line.split_whitespace().take_while(|word| *word != "#") {
@@ -40,9 +40,10 @@ impl<'t> Program<'t> {
         Ok(())
     }
 
-    fn add(&mut self, word: &'t str) -> Result<(), Mistake> {
+    fn add(&mut self, word: &str) -> Result<(), Mistake> {
         let here = self.ops.len();
         if let Some(name) = word.strip_suffix(":") {
+            let name = String::from_str(*self.ops.allocator(), name)?;
             self.words.insert(name, here)?;
             return Ok(());
         }
