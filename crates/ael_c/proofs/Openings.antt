@@ -1,5 +1,5 @@
 -- The seats of a new heap behind handles, from the last one on; handles that are made null again; and when a heap is opened.
-use Rattle.std.proofs.Common.{◌≡◌, ℕ, suc, ◌+◌, ◌≤◌, ◌&&◌, true, false, Bool, not, List, [], ◌∷◌, ◌++◌, Option, Some, None, length, map, arith, refl, sym, ap, ◌∙◌, subst}
+use Rattle.std.proofs.Common.{◌≡◌, ℕ, suc, ◌+◌, ◌≤◌, ◌&&◌, true, false, Bool, not, List, [], ◌∷◌, ◌++◌, Option, Some, None, length, map, is_none, arith, refl, sym, ap, ◌∙◌, subst}
 use Rattle.std.proofs.lemmas.Bool.{le-leb}
 use Rattle.std.proofs.lemmas.List.{length-map, map_push}
 use Rattle.space_map.specs.Table.{whole_length}
