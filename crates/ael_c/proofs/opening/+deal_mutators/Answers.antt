@@ -28,5 +28,5 @@ returns-clause-dealt t c =
     let taken = c.in-Some-take_mutator.ensures.new h.table.shared.table_id h.table.shared.key (0) n (c.requires.new ∙ ap (first_mutators h) (sym count)) in
     let is = c.put.ensures ∙ ap (λ (x : Seat). Some x) (c.in_ok-new.ensures.ok ∙ ap Mutator c.new-seat.ensures) ∙ ap mutator_seat taken.0 in
     on_ok_weaker c.deal_mutators.result
-        (λ before. mutators_dealt h n c.deal_mutators.new.handles c.put.new.self before is ∙ ap (λ (k : ℕ). mutator_seats (first_mutators h k)) count)
-        c.deal_mutators.ensures.dealt
+    (λ before. mutators_dealt h n c.deal_mutators.new.handles c.put.new.self before is ∙ ap (λ (k : ℕ). mutator_seats (first_mutators h k)) count)
+    c.deal_mutators.ensures.dealt

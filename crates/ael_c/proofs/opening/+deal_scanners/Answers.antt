@@ -28,5 +28,5 @@ returns-clause-dealt t c =
     let taken = c.in-Some-take_scanner.ensures.new h.table.shared.table_id h.table.shared.key (h.table.shared.key.mutators) n (c.requires.new ∙ ap (first_scanners h) (sym count)) in
     let is = c.put.ensures ∙ ap (λ (x : Seat). Some x) (c.in_ok-new.ensures.ok ∙ ap Scanner c.new-seat.ensures) ∙ ap scanner_seat taken.0 in
     on_ok_weaker c.deal_scanners.result
-        (λ before. scanners_dealt h n c.deal_scanners.new.handles c.put.new.self before is ∙ ap (λ (k : ℕ). scanner_seats (first_scanners h k)) count)
-        c.deal_scanners.ensures.dealt
+    (λ before. scanners_dealt h n c.deal_scanners.new.handles c.put.new.self before is ∙ ap (λ (k : ℕ). scanner_seats (first_scanners h k)) count)
+    c.deal_scanners.ensures.dealt

@@ -27,10 +27,10 @@ returns c =
     subst (λ (a : Seated). Polls a c.if-comes_to_rest.result b) c.self.view_is
     (elim c.if-comes_to_rest.branch [
       | then-comes_to_rest w ↦
-        let at_rest = w.if-comes_to_rest.true in
-        let shows = c.comes_to_rest.ensures.shows at_rest in
-        let no_end = same_end_silent m b c.ended.ensures.there c.ended.ensures.shows shows quiet ∙ none in
-        subst (λ (x : Answer). Polls m x b) (sym w.result-is)
-        (polls_resting m b Done none idle (record { quiet = quiet; done = (c.comes_to_rest.ensures.rests at_rest, shows, c.comes_to_rest.ensures.stand at_rest no_end) }))
+          let at_rest = w.if-comes_to_rest.true in
+          let shows = c.comes_to_rest.ensures.shows at_rest in
+          let no_end = same_end_silent m b c.ended.ensures.there c.ended.ensures.shows shows quiet ∙ none in
+          subst (λ (x : Answer). Polls m x b) (sym w.result-is)
+          (polls_resting m b Done none idle (record { quiet = quiet; done = (c.comes_to_rest.ensures.rests at_rest, shows, c.comes_to_rest.ensures.stand at_rest no_end) }))
       | else-comes_to_rest w ↦ subst (λ (x : Answer). Polls m x b) (sym w.result-is) (polls_resting m b Again none idle (record { quiet = quiet; done = tt }))
     ])
