@@ -1,6 +1,5 @@
-//! A worker's next step, made on the words that all share: one function for each thing that it may be about to do. Looks, rounds,
-//! scans and copies are put into the loop that steps the workers; with all the others the compiler would put none there. What
-//! tells something and isn't put there is called by a small function that is, so that the loop keeps no room for what it tells.
+//! A worker's next step, made on the words that all share: one function for each thing that it may be about to do. If a program has one
+//! loop that steps workers, the compiler puts all of them into it, but for the steps for checkpoints.
 
 ghost use Rattle.std.specs.Prelude.{◌≡◌};
 ghost use Rattle.gc_worker.specs.Steps.Made.{MayMake, step_made};
@@ -68,7 +67,6 @@ impl State {
         self.look(reply)
     }
 
-    #[inline(never)]
     fn pass_on(&mut self, on: &mut PlainAtoms)
         requires at { IsAtGate self.old.stage }
         requires sound { IsSound self.old }
@@ -83,20 +81,7 @@ impl State {
         self.pass(reply);
     }
 
-    #[inline(always)]
     fn flip_on(&mut self, on: &mut PlainAtoms) -> Stepped
-        requires at { IsFlipping self.old.stage }
-        requires sound { IsSound self.old }
-        requires may { MayMake self.old on.old }
-        ensures state { self.new ≡ uncounted (step_made self.old on.old).held }
-        ensures words { on.new ≡ (step_made self.old on.old).words }
-        ensures tells { result ≡ (step_made self.old on.old).told }
-    {
-        self.flip_on_apart(on)
-    }
-
-    #[inline(never)]
-    fn flip_on_apart(&mut self, on: &mut PlainAtoms) -> Stepped
         requires at { IsFlipping self.old.stage }
         requires sound { IsSound self.old }
         requires may { MayMake self.old on.old }
@@ -111,7 +96,6 @@ impl State {
         self.flip(reply)
     }
 
-    #[inline(never)]
     fn forward_on(&mut self, on: &mut PlainAtoms)
         requires at { IsForwarding self.old.stage }
         requires sound { IsSound self.old }
@@ -126,20 +110,7 @@ impl State {
         self.forward(reply);
     }
 
-    #[inline(always)]
     fn access_on(&mut self, on: &mut PlainAtoms) -> Stepped
-        requires at { IsAtAccess self.old.stage }
-        requires sound { IsSound self.old }
-        requires may { MayMake self.old on.old }
-        ensures state { self.new ≡ uncounted (step_made self.old on.old).held }
-        ensures words { on.new ≡ (step_made self.old on.old).words }
-        ensures tells { result ≡ (step_made self.old on.old).told }
-    {
-        self.access_on_apart(on)
-    }
-
-    #[inline(never)]
-    fn access_on_apart(&mut self, on: &mut PlainAtoms) -> Stepped
         requires at { IsAtAccess self.old.stage }
         requires sound { IsSound self.old }
         requires may { MayMake self.old on.old }
@@ -154,20 +125,7 @@ impl State {
         self.access(reply)
     }
 
-    #[inline(always)]
     fn place_on(&mut self, on: &mut PlainAtoms) -> Stepped
-        requires at { IsPlacing self.old.stage }
-        requires sound { IsSound self.old }
-        requires may { MayMake self.old on.old }
-        ensures state { self.new ≡ uncounted (step_made self.old on.old).held }
-        ensures words { on.new ≡ (step_made self.old on.old).words }
-        ensures tells { result ≡ (step_made self.old on.old).told }
-    {
-        self.place_on_apart(on)
-    }
-
-    #[inline(never)]
-    fn place_on_apart(&mut self, on: &mut PlainAtoms) -> Stepped
         requires at { IsPlacing self.old.stage }
         requires sound { IsSound self.old }
         requires may { MayMake self.old on.old }
@@ -228,7 +186,6 @@ impl State {
         self.evacuate(reply);
     }
 
-    #[inline(never)]
     fn open_on(&mut self, on: &mut PlainAtoms)
         requires at { IsOpening self.old.stage }
         requires sound { IsSound self.old }
