@@ -1,7 +1,9 @@
 pub mod Checkpoint
 pub mod ClosedHeap
 pub mod Schedulers
+pub mod ToCome
 pub mod Orders
+pub mod Noted
 pub mod Run
 pub mod Schedule
 pub mod Verdict

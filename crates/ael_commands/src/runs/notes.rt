@@ -1,50 +1,33 @@
 //! What is kept of the order of a run.
 
-ghost use Rattle.std.specs.Prelude.{◌++◌, List, OnOk};
+ghost use Rattle.std.specs.Prelude.{◌≡◌, ◌++◌, List, OnOk};
 ghost use Rattle.std.specs.Option.{option_to_list};
 ghost use Rattle.plain_heap.specs.declared.mark.Mark.{Mark};
 ghost use Rattle.gc_worker.specs.Plain.Marks.{mark_of};
+ghost use Rattle.ael_commands.specs.Runs.Noted.{HasNoted};
 
 use gc_core::{Stepped, mark};
 use plain_heap::Mark;
 use std::alloc::AllocError;
 
-/// Takes note of the steps of a run, as far as it keeps any.
-pub trait Notes {
-    /// What holds of it once it has noted the marks of this order.
-    ghost HasNoted: { Self → List Mark → Type 0 };
-
-    /// Notes what a step told.
-    fn note(&mut self, told: Stepped) -> Result<(), AllocError>
-        ensures { (order : List Mark) → HasNoted self.old order → OnOk result (HasNoted self.new (order ++ option_to_list (mark_of told))) };
-}
-
-impl Notes for Vec<Mark> {
-    ghost use Rattle.ael_commands.specs.Runs.Orders.{AreNoted};
-
-    ghost HasNoted = { λ marks order. AreNoted marks.items order };
-
-    /// Adds the step's mark, if it has one.
-    #[inline(always)]
-    fn note(&mut self, told: Stepped) -> Result<(), AllocError> {
-        if let Some(mark) = mark(told) {
-            self.push(mark)?;
-        }
-        Ok(())
-    }
-}
-
-/// Notes nothing.
+/// The marks of the steps so far, if they are kept.
 #[derive(Drop)]
-pub struct Unnoted;
+pub struct Notes {
+    pub marks: Vec<Mark>,
+    pub kept: bool,
+}
 
-impl Notes for Unnoted {
-    ghost use Rattle.std.specs.Prelude.{⊤};
-
-    ghost HasNoted = { λ _ _. ⊤ };
-
+impl Notes {
+    /// Adds the mark of a step of which this is told, if it has one and marks are kept.
     #[inline(always)]
-    fn note(&mut self, _told: Stepped) -> Result<(), AllocError> {
+    pub fn note(&mut self, told: Stepped) -> Result<(), AllocError>
+        ensures kept { self.new.kept ≡ self.old.kept }
+        ensures noted { (order : List Mark) → HasNoted self.old order → OnOk result (HasNoted self.new (order ++ option_to_list (mark_of told))) }
+    {
+        match mark(told) {
+            Some(mark) if self.kept => self.marks.push(mark)?,
+            Some(_) | None => {}
+        }
         Ok(())
     }
 }

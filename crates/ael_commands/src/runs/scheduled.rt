@@ -8,14 +8,13 @@ ghost use Rattle.gc_core.specs.Core.{workers_of};
 ghost use Rattle.gc_core.specs.Event.{event_of, core_after};
 ghost use Rattle.gc_core.specs.Run.{all_ended, run_from};
 ghost use Rattle.ael_commands.specs.Runs.Orders.{AreNoted};
+ghost use Rattle.ael_commands.specs.Runs.Noted.{HasNoted};
 ghost use Rattle.ael_commands.specs.Runs.Schedule.{scheduled_by};
+ghost use Rattle.ael_commands.specs.Runs.ToCome.{to_come};
 
 use crate::arguments::options::SimOptions;
-use crate::runs::notes::{Notes, Unnoted};
+use crate::runs::notes::Notes;
 use crate::runs::scheduler::Scheduler;
-use crate::runs::scheduler::draws::Draws;
-use crate::runs::scheduler::listing::Listing;
-use crate::runs::scheduler::turns::Turns;
 use gc_core::{Core, Stepped, missing_workers_are_idle};
 use mutator_asm::Item;
 use plain_heap::Mark;
@@ -56,15 +55,16 @@ fn is_over(core: &Core, told: Stepped) -> bool
 
 /// Steps the workers that the scheduler names until every mutator has its end, or for so many steps, each of which is noted.
 #[inline(never)]
-fn run_noting<S: Scheduler, N: Notes>(
+fn run_noting(
     core: &mut Core,
-    mut scheduler: S,
-    notes: &mut N,
+    mut scheduler: Scheduler,
+    notes: &mut Notes,
     steps: u32,
 ) -> Result<(), AllocError>
-    requires fresh { N.HasNoted notes.old [] }
-    ensures core { OnOk result (core.new ≡ (run_from (S.to_come scheduler) 0 steps core.old).last) }
-    ensures order { OnOk result (N.HasNoted notes.new (run_from (S.to_come scheduler) 0 steps core.old).order) }
+    requires fresh { HasNoted notes.old [] }
+    ensures core { OnOk result (core.new ≡ (run_from (to_come scheduler.entry) 0 steps core.old).last) }
+    ensures kept { notes.new.kept ≡ notes.old.kept }
+    ensures order { OnOk result (HasNoted notes.new (run_from (to_come scheduler.entry) 0 steps core.old).order) }
 {
     let mut over = core.all_ended();
     for _ in 0..steps {
@@ -78,27 +78,10 @@ fn run_noting<S: Scheduler, N: Notes>(
     Ok(())
 }
 
-/// Makes such a run, and answers its order where that is asked for; else nothing is noted.
-fn run_with<S: Scheduler>(
-    alloc: Global,
-    core: &mut Core,
-    scheduler: S,
-    options: SimOptions,
-) -> Result<Vec<Mark>, AllocError>
-    ensures core { OnOk result (core.new ≡ (run_from (S.to_come scheduler) 0 options.steps core.old).last) }
-    ensures order { IfOk result (λ order. options.order ≡ true → AreNoted order.items (run_from (S.to_come scheduler) 0 options.steps core.old).order) }
-{
-    let mut order = Vec::new(alloc);
-    if options.order {
-        run_noting(core, scheduler, &mut order, options.steps)?;
-    } else {
-        run_noting(core, scheduler, &mut Unnoted, options.steps)?;
-    }
-    Ok(order)
-}
-
 /// Steps the workers that the schedule names until every mutator has its end, or for so many steps.
 /// Each position of the schedule counts as a step. The order is kept only where it is asked for.
+///
+/// There is one loop for all schedules, with the order noted or not: so the compiler puts all steps of a worker into it.
 pub fn run_by_schedule(
     alloc: Global,
     core: &mut Core,
@@ -111,10 +94,11 @@ pub fn run_by_schedule(
     ensures order { IfOk result (λ order. options.order ≡ true
         → AreNoted order.items (run_from (scheduled_by options.seed items.now (workers_of core.old)) 0 options.steps core.old).order) }
 {
-    let workers = core.workers();
-    match options.seed {
-        Some(seed) => run_with(alloc, core, Draws::new(seed, workers), options),
-        None if items.is_empty() => run_with(alloc, core, Turns::new(workers), options),
-        None => run_with(alloc, core, Listing::new(items), options),
-    }
+    let scheduler = Scheduler::new(options.seed, items, core.workers());
+    let mut notes = Notes {
+        marks: Vec::new(alloc),
+        kept: options.order,
+    };
+    run_noting(core, scheduler, &mut notes, options.steps)?;
+    Ok(notes.marks)
 }

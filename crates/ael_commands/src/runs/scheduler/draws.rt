@@ -1,8 +1,8 @@
 //! Workers by a seed.
 
-ghost use Rattle.std.specs.Prelude.{◌≡◌, ◌<◌};
+ghost use Rattle.std.specs.Prelude.{◌≡◌, ◌+◌, ◌<◌, ℕ};
+ghost use Rattle.ael_commands.specs.Runs.Schedulers.{drawn_from};
 
-use crate::runs::scheduler::Scheduler;
 use rand_core::SeedableRng;
 use rand_core::utils::NextWord;
 use rand_xoshiro::SplitMix64;
@@ -36,16 +36,13 @@ impl Draws {
             workers,
         }
     }
-}
-
-impl Scheduler for Draws {
-    ghost use Rattle.ael_commands.specs.Runs.Schedulers.{drawn_from};
-
-    ghost to_come = { drawn_from };
 
     /// The worker that the next word gives.
     #[inline(always)]
-    fn next(&mut self) -> u8 {
+    pub fn next(&mut self) -> u8
+        ensures names { result ≡ drawn_from self.old 0 }
+        ensures later { (at : ℕ) → drawn_from self.new at ≡ drawn_from self.old (at + 1) }
+    {
         (self.words.next_word() % u64::from(self.workers)) as u8
     }
 }

@@ -1,12 +1,11 @@
 //! The workers that a program lists.
 
-ghost use Rattle.std.specs.Prelude.{◌≡◌, ◌<◌, ℕ, length, IsTrue};
+ghost use Rattle.std.specs.Prelude.{◌≡◌, ◌+◌, ◌<◌, ℕ, length, IsTrue};
 ghost use Rattle.std.specs.List.{list_all};
 ghost use Rattle.mutator_asm.specs.Program.{is_item};
 ghost use Rattle.ael_commands.specs.Runs.Schedule.{repeated, steps_listed};
 ghost use Rattle.ael_commands.specs.Runs.Schedulers.{listed_from};
 
-use crate::runs::scheduler::Scheduler;
 use mutator_asm::Item;
 use std::marker::Model;
 
@@ -46,16 +45,13 @@ impl<'p> Listing<'p> {
             next: 1,
         }
     }
-}
-
-impl<'p> Scheduler for Listing<'p> {
-    ghost use Rattle.ael_commands.specs.Runs.Schedulers.{listed_from};
-
-    ghost to_come = { listed_from };
 
     /// The worker of the item at hand, or else of the one after it.
     #[inline(always)]
-    fn next(&mut self) -> u8 {
+    pub fn next(&mut self) -> u8
+        ensures names { result ≡ listed_from self.old 0 }
+        ensures later { (at : ℕ) → listed_from self.new at ≡ listed_from self.old (at + 1) }
+    {
         if self.now.times == 0 {
             let next = if self.next < self.items.len() {
                 self.next

@@ -1,8 +1,8 @@
 //! Workers in turn.
 
-ghost use Rattle.std.specs.Prelude.{◌≡◌, ◌<◌};
+ghost use Rattle.std.specs.Prelude.{◌≡◌, ◌+◌, ◌<◌, ℕ};
+ghost use Rattle.ael_commands.specs.Runs.Schedulers.{in_turn_from};
 
-use crate::runs::scheduler::Scheduler;
 use std::marker::Model;
 
 /// The workers in turn, from 0 on.
@@ -30,16 +30,13 @@ impl Turns {
     {
         Turns { next: 0, workers }
     }
-}
-
-impl Scheduler for Turns {
-    ghost use Rattle.ael_commands.specs.Runs.Schedulers.{in_turn_from};
-
-    ghost to_come = { in_turn_from };
 
     /// The worker whose turn it is.
     #[inline(always)]
-    fn next(&mut self) -> u8 {
+    pub fn next(&mut self) -> u8
+        ensures names { result ≡ in_turn_from self.old 0 }
+        ensures later { (at : ℕ) → in_turn_from self.new at ≡ in_turn_from self.old (at + 1) }
+    {
         let worker = self.next;
         self.next = if worker + 1 < self.workers {
             worker + 1

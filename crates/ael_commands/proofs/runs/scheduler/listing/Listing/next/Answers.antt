@@ -1,7 +1,7 @@
 use Rattle.std.proofs.Common.{arith}
 use Rattle.ael_commands.proofs.Rounds.{HasItemAtHand, ready_names, ready_later, ready_now, ready_next, ready_again}
-use Rattle.ael_commands.proofs.runs.scheduler.listing.ListingScheduler.next.Goals as goal
-use Rattle.ael_commands.proofs.runs.scheduler.listing.ListingScheduler.next.Goals.{After-self-2-1, then-self-eq0, then-self, else-self, else-self-eq0}
+use Rattle.ael_commands.proofs.runs.scheduler.listing.Listing.next.Goals as goal
+use Rattle.ael_commands.proofs.runs.scheduler.listing.Listing.next.Goals.{After-self-2-1, then-self-eq0, then-self, else-self, else-self-eq0}
 
 ready : (c : goal.After-self-2-1) → HasItemAtHand c.if-self-eq0.self-inside.now c.if-self-eq0.self-inside.next c.if-self-eq0.self-inside.items.now c.args.self.now
 ready c = elim c.if-self-eq0.branch [

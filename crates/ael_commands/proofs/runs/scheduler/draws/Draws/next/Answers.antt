@@ -1,7 +1,7 @@
 use Rattle.std.proofs.Common.{◌%◌, ℕ, ap, add-one}
 use Rattle.std.specs.Fn.{iterate}
 use Rattle.rand_xoshiro.specs.SplitMix64.{mix_u64, next_state}
-use Rattle.ael_commands.proofs.runs.scheduler.draws.DrawsScheduler.next.Goals as goal
+use Rattle.ael_commands.proofs.runs.scheduler.draws.Draws.next.Goals as goal
 
 pub returns-clause-names : goal.returns-clause-names
 returns-clause-names c = rw (← c.self.view_is, c.from.ensures) (ap (λ (p : ℕ × ℕ). p.0 % c.self.inside.workers) c.next_word.ensures)
