@@ -18,15 +18,29 @@ pub struct Notes {
 }
 
 impl Notes {
-    /// Adds the mark of a step of which this is told, if it has one and marks are kept.
+    /// Adds the mark of a step of which this is told, if it has one and marks are kept. Most steps have none that is kept, which is seen in
+    /// the loop of the run.
     #[inline(always)]
     pub fn note(&mut self, told: Stepped) -> Result<(), AllocError>
         ensures kept { self.new.kept ≡ self.old.kept }
         ensures noted { (order : List Mark) → HasNoted self.old order → OnOk result (HasNoted self.new (order ++ option_to_list (mark_of told))) }
     {
-        match mark(told) {
-            Some(mark) if self.kept => self.marks.push(mark)?,
-            Some(_) | None => {}
+        match told {
+            Stepped::Idle | Stepped::Moved => Ok(()),
+            Stepped::Effect(_) if !self.kept => Ok(()),
+            _ => self.keep(told),
+        }
+    }
+
+    #[inline(never)]
+    fn keep(&mut self, told: Stepped) -> Result<(), AllocError>
+        ensures kept { self.new.kept ≡ self.old.kept }
+        ensures noted { (order : List Mark) → HasNoted self.old order → OnOk result (HasNoted self.new (order ++ option_to_list (mark_of told))) }
+    {
+        if self.kept
+            && let Some(mark) = mark(told)
+        {
+            self.marks.push(mark)?;
         }
         Ok(())
     }

@@ -57,14 +57,14 @@ fn is_over(core: &Core, told: Stepped) -> bool
 #[inline(never)]
 fn run_noting(
     core: &mut Core,
-    mut scheduler: Scheduler,
+    scheduler: &mut Scheduler,
     notes: &mut Notes,
     steps: u32,
 ) -> Result<(), AllocError>
     requires fresh { HasNoted notes.old [] }
-    ensures core { OnOk result (core.new ≡ (run_from (to_come scheduler.entry) 0 steps core.old).last) }
+    ensures core { OnOk result (core.new ≡ (run_from (to_come scheduler.old) 0 steps core.old).last) }
     ensures kept { notes.new.kept ≡ notes.old.kept }
-    ensures order { OnOk result (HasNoted notes.new (run_from (to_come scheduler.entry) 0 steps core.old).order) }
+    ensures order { OnOk result (HasNoted notes.new (run_from (to_come scheduler.old) 0 steps core.old).order) }
 {
     let mut over = core.all_ended();
     for _ in 0..steps {
@@ -94,11 +94,11 @@ pub fn run_by_schedule(
     ensures order { IfOk result (λ order. options.order ≡ true
         → AreNoted order.items (run_from (scheduled_by options.seed items.now (workers_of core.old)) 0 options.steps core.old).order) }
 {
-    let scheduler = Scheduler::new(options.seed, items, core.workers());
+    let mut scheduler = Scheduler::new(options.seed, items, core.workers());
     let mut notes = Notes {
         marks: Vec::new(alloc),
         kept: options.order,
     };
-    run_noting(core, scheduler, &mut notes, options.steps)?;
+    run_noting(core, &mut scheduler, &mut notes, options.steps)?;
     Ok(notes.marks)
 }

@@ -45,6 +45,18 @@ impl<'p> Scheduler<'p> {
     {
         match self {
             Scheduler::InTurn(turns) => turns.next(),
+            Scheduler::Listed(_) | Scheduler::Drawn(_) => self.named(),
+        }
+    }
+
+    /// It stands apart from the loop of the run, where workers in turn are named.
+    #[inline(never)]
+    fn named(&mut self) -> u8
+        ensures names { result ≡ to_come self.old 0 }
+        ensures later { (at : ℕ) → to_come self.new at ≡ to_come self.old (at + 1) }
+    {
+        match self {
+            Scheduler::InTurn(turns) => turns.next(),
             Scheduler::Listed(listing) => listing.next(),
             Scheduler::Drawn(draws) => draws.next(),
         }

@@ -6,7 +6,7 @@ use Rattle.ael_commands.proofs.runs.scheduled.run_noting.Goals as goal
 
 pub loop-preserved : goal.loop-preserved
 loop-preserved c =
-    let schedule = to_come c.args.scheduler in
+    let schedule = to_come c.args.scheduler.now in
     let running = sym c.loop.invariant.over ∙ c.if-over.false in
     let at = c.loop-test.true in
     let now : c.loop.counter + 0 ≡ c.loop.counter = omega arith in
