@@ -190,6 +190,38 @@ static void effects(void) {
     close_heap(&h);
 }
 
+/* ---- calls that test first ---- */
+
+/* Each answers by a code what would end the mutator, which goes on. */
+static void tests_first(void) {
+    heap h = opened(256);
+    ael_mutator *m = &h.m[0], null = {0};
+    must(ael_new(m, 0, 2));
+    must(ael_set(m, 1, 2));
+    tell("a load that tests first, by null", ael_try_load(&null, 3, 0, 0));
+    tell("from no register", ael_try_load(m, 3, 8, 0));
+    tell("from a number", ael_try_load(m, 3, 1, 0));
+    tell("at no register", ael_try_load(m, 3, 0, AEL_IN(8)));
+    tell("at a pointer", ael_try_load(m, 3, 0, AEL_IN(0)));
+    tell("at the end", ael_try_load(m, 3, 0, 2));
+    tell("at the end, which a register has", ael_try_load(m, 3, 0, AEL_IN(1)));
+    tell("a store that tests first, in a number", ael_try_store(m, 1, 0, 0));
+    tell("at a pointer", ael_try_store(m, 0, AEL_IN(0), 0));
+    tell("at the end", ael_try_store(m, 0, 2, 0));
+    tell("at the last word", ael_try_store(m, 0, 1, 1));
+    tell("and a load there", ael_try_load(m, 3, 0, 1));
+    printf("it has %" PRIu64 "\n", in_register(m, 3));
+    tell("a frame of 4095 locals", ael_frame_push(m, 4095));
+    tell("a frame of 4094", ael_frame_push(m, 4094));
+    tell("its last local", ael_local_set(m, 4093, 1));
+    tell("is read", ael_local_get(m, 4, 4093));
+    tell("and the frame is gone", ael_frame_pop(m));
+    printf("it had %" PRIu64 ", and below it is %" PRIu64 "\n", in_register(m, 4), in_register(m, AEL_FRAME));
+    tell("a safepoint by null", ael_safepoint(&null));
+    tell("a safepoint", ael_safepoint(m));
+    close_heap(&h);
+}
+
 /* ---- traps ---- */
 
 typedef int32_t trap(ael_mutator *m);
@@ -312,10 +344,13 @@ static struct {
     void *at;
     size_t size;
 } blocks[64];
-static long calls_left = -1;
+static long calls_left = -1, calls_made = 0;
 
-/* Whether this call is refused: the one before which none is left. */
-static bool is_refused(void) { return calls_left >= 0 && calls_left-- == 0; }
+/* Counts a call for memory, and says whether it is refused: the one before which none is left. */
+static bool is_refused(void) {
+    calls_made++;
+    return calls_left >= 0 && calls_left-- == 0;
+}
 
 static size_t slot_of(const void *at) {
     size_t i = 0;
@@ -351,27 +386,31 @@ static size_t blocks_there(void) {
 }
 
 /* Each call for memory of ael_open is refused in turn. */
-static void refused(void) {
-    ael_mutator m[3] = {{0}, {0}, {0}};
-    ael_scanner s[2] = {{0}, {0}};
+static void refused(size_t mutators, size_t scanners) {
+    ael_mutator m[16];
+    ael_scanner s[8];
+    memset(m, 0, sizeof m);
+    memset(s, 0, sizeof s);
     int32_t code = AEL_NO_MEMORY;
     long calls = 0;
     bool is_clean = true;
     for (; code == AEL_NO_MEMORY; calls++) {
         calls_left = calls;
-        code = ael_open(4, 8, m, 3, s, 2);
+        code = ael_open(4, 8, m, mutators, s, scanners);
         if (code != AEL_NO_MEMORY) break;
-        is_clean = is_clean && name(code) && blocks_there() == 0 && !m[0].at && !m[1].at && !m[2].at && !s[0].at && !s[1].at;
+        is_clean = is_clean && name(code) && blocks_there() == 0;
+        for (size_t i = 0; i < mutators; i++) is_clean = is_clean && !m[i].at;
+        for (size_t i = 0; i < scanners; i++) is_clean = is_clean && !s[i].at;
     }
-    calls_left = 0;
+    calls_left = -1;
+    calls_made = 0;
     tell("with all memory that it asks for", code);
     printf("calls for memory: %ld, nothing is left of those that fail: %s\n", calls, is_clean ? "yes" : "no");
     must(ael_new(&m[0], 0, 100));
-    for (int i = 0; i < 3; i++) ael_leave_now(&m[i]);
-    calls_left = -1;
-    for (int i = 0; i < 3; i++) must(ael_free(&m[i]));
-    for (int i = 0; i < 2; i++) must(ael_free(&s[i]));
-    printf("calls after it take no memory, and all is freed: %s\n", blocks_there() == 0 ? "yes" : "no");
+    for (size_t i = 0; i < mutators; i++) ael_leave_now(&m[i]);
+    for (size_t i = 0; i < mutators; i++) must(ael_free(&m[i]));
+    for (size_t i = 0; i < scanners; i++) must(ael_free(&s[i]));
+    printf("calls after it take no memory, and all is freed: %s\n", calls_made == 0 && blocks_there() == 0 ? "yes" : "no");
 }
 
 /* No run makes 2^40 - 1 records. So this looks behind a handle, as no program may, for the word that ael_tell tells, and writes it. */
@@ -399,6 +438,7 @@ int main(void) {
     bad_handles();
     sizes();
     effects();
+    tests_first();
     traps("a load from a number", not_pointer);
     traps("the sum of pointers", not_number);
     traps("a load past the end", out_of_range);
@@ -409,7 +449,9 @@ int main(void) {
     halts();
     waits();
     scans();
-    refused();
+    refused(1, 0);
+    refused(3, 2);
+    refused(16, 8);
     records_out();
     for (int i = 0; i < CODES; i++)
         if (names[i] && !seen[i]) printf("not seen: %s\n", names[i]);
