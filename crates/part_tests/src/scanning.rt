@@ -4,9 +4,9 @@ ghost use Rattle.page_scan.specs.Soundness.{IsSound};
 ghost use Rattle.page_scan.specs.Taken.{taken};
 
 use crate::asserting::assert_same;
+use crate::memory::smallest;
 use atom_store::{Reply, Step, Turn};
 use page_scan::{Scan, Scanned};
-use space_map::{BadPages, Spaces};
 use std::process::Abort;
 
 /// The scan wants this step, and tells this once it has the reply.
@@ -21,8 +21,8 @@ fn check_step(rt: &impl Abort, scan: &mut Scan, wanted: Step, reply: Reply, told
 
 #[test]
 #[tactic(auto, unfolding(heap_words::specs::Decoded::decode, heap_words::specs::Word::tag_of))]
-fn pointer_on_the_board_is_replaced(rt: HostRuntime) -> Result<(), BadPages> {
-    let mut scan = Scan::new(Spaces::new(4)?, 8, 1, false);
+fn pointer_on_the_board_is_replaced(rt: HostRuntime) {
+    let mut scan = Scan::new(smallest(&rt), 8, 1, false);
     check_step(
         &rt,
         &mut scan,
@@ -39,13 +39,12 @@ fn pointer_on_the_board_is_replaced(rt: HostRuntime) -> Result<(), BadPages> {
         Turn::More,
     );
     assert_same(&rt, &scan.want(), &Step::Load(33 + 513));
-    Ok(())
 }
 
 #[test]
 #[tactic(auto, unfolding(heap_words::specs::Decoded::decode, heap_words::specs::Word::tag_of, space_map::specs::AreaWord::decode_area, space_map::specs::AreaWord::area_in))]
-fn filling_page_is_scanned_up_to_front(rt: HostRuntime) -> Result<(), BadPages> {
-    let mut scan = Scan::new(Spaces::new(4)?, 4, 1, true);
+fn filling_page_is_scanned_up_to_front(rt: HostRuntime) {
+    let mut scan = Scan::new(smallest(&rt), 4, 1, true);
     check_step(
         &rt,
         &mut scan,
@@ -81,13 +80,12 @@ fn filling_page_is_scanned_up_to_front(rt: HostRuntime) -> Result<(), BadPages> 
         Reply::Value(0x0000_03d0_0400_0003),
         Turn::Finished(Scanned::Ended { at_front: true }),
     );
-    Ok(())
 }
 
 #[test]
 #[tactic(auto, unfolding(heap_words::specs::Decoded::decode, heap_words::specs::Word::tag_of))]
-fn plain_numbers_of_a_mixed_record_are_passed(rt: HostRuntime) -> Result<(), BadPages> {
-    let mut scan = Scan::new(Spaces::new(4)?, 4, 1, false);
+fn plain_numbers_of_a_mixed_record_are_passed(rt: HostRuntime) {
+    let mut scan = Scan::new(smallest(&rt), 4, 1, false);
     check_step(
         &rt,
         &mut scan,
@@ -125,5 +123,4 @@ fn plain_numbers_of_a_mixed_record_are_passed(rt: HostRuntime) -> Result<(), Bad
         Turn::More,
     );
     assert_same(&rt, &scan.want(), &Step::Load(33 + 260));
-    Ok(())
 }

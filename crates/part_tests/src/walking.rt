@@ -2,16 +2,20 @@ ghost use Rattle.std.specs.Prelude.{◌*◌, ◌≤◌, length};
 ghost use Rattle.space_map.specs.Table.{table_length};
 
 use crate::asserting::assert_same;
+use crate::memory::smallest;
 use crossing_map::{Area, Walked, crossed, walk_next};
-use space_map::{BadPages, Spaces};
+use space_map::Spaces;
 use std::process::Abort;
 
 #[test]
 fn pages_that_begin_in_a_record(rt: HostRuntime) {
-    assert_same(&rt, &crossed(256, 3), &(4, 5));
-    assert_same(&rt, &crossed(257, 63), &(5, 5));
-    assert_same(&rt, &crossed(318, 3), &(5, 6));
-    assert_same(&rt, &crossed(0, 4096), &(0, 64));
+    let found = [
+        crossed(256, 3),
+        crossed(257, 63),
+        crossed(318, 3),
+        crossed(0, 4096),
+    ];
+    assert_same(&rt, &found, &[(4, 5), (5, 5), (5, 6), (0, 64)]);
 }
 
 /// From an address in epoch 1 the walk comes to this.
@@ -45,8 +49,8 @@ fn table() -> [u64; 633] {
 }
 
 #[test]
-fn a_walk_leaves_out_what_is_reserved_or_closed(rt: HostRuntime) -> Result<(), BadPages> {
-    let spaces = Spaces::new(4)?;
+fn a_walk_leaves_out_what_is_reserved_or_closed(rt: HostRuntime) {
+    let spaces = smallest(&rt);
     let words = table();
     let area = Area {
         front: 261,
@@ -61,12 +65,11 @@ fn a_walk_leaves_out_what_is_reserved_or_closed(rt: HostRuntime) -> Result<(), B
     let third = Walked::Record { at: 385, size: 3 };
     check_walk(&rt, spaces, &words, &area, 385, &kept, third);
     check_walk(&rt, spaces, &words, &area, 388, &kept, Walked::Ended);
-    Ok(())
 }
 
 #[test]
-fn a_walk_breaks_at_what_is_no_record(rt: HostRuntime) -> Result<(), BadPages> {
-    let spaces = Spaces::new(4)?;
+fn a_walk_breaks_at_what_is_no_record(rt: HostRuntime) {
+    let spaces = smallest(&rt);
     let mut words = [0; 633];
     words[33 + 256] = 0x1_0022;
     words[33 + 257] = 0x1c;
@@ -93,5 +96,4 @@ fn a_walk_breaks_at_what_is_no_record(rt: HostRuntime) -> Result<(), BadPages> {
         &[],
         Walked::Broken { at: 257 },
     );
-    Ok(())
 }

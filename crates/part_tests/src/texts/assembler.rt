@@ -1,8 +1,8 @@
+use super::{program, repeated};
 use crate::asserting::assert_same;
 use mutator_asm::{AsmError, Instr, Item, Operand, Program, assemble, list};
 use std::alloc::Global;
 use std::process::Abort;
-use std::test::Fail;
 
 /// The number and the line of a text's error, or 0 and 0 where it has none.
 fn fault_of(alloc: Global, text: &str) -> (u8, u32) {
@@ -14,18 +14,6 @@ fn fault_of(alloc: Global, text: &str) -> (u8, u32) {
         Err(AsmError::Text { no, line }) => (no, line),
         Err(AsmError::NoMemory) => (255, 0),
     }
-}
-
-/// The program of a text that has one.
-fn program_of(alloc: Global, text: &str) -> Result<Program, Fail> {
-    if text.len() >= 1 << 31 {
-        return Err("it is too long".into());
-    }
-    Ok(
-        assemble(alloc, text.as_bytes())
-            .ok()
-            .ok_or("it has an error")?,
-    )
 }
 
 /// A text with each instruction.
@@ -64,15 +52,14 @@ const INSTRUCTIONS: [Instr; 27] = [
 ];
 
 #[test]
-fn a_text_gives_its_instructions(rt: HostRuntime) -> Result<(), Fail> {
-    let program = program_of(rt.alloc(), EACH_INSTRUCTION)?;
+fn a_text_gives_its_instructions(rt: HostRuntime) {
+    let program = program(&rt, rt.alloc(), EACH_INSTRUCTION);
     assert_same(
         &rt,
         &program.code.sections()[0].as_slice(),
         &INSTRUCTIONS.as_slice(),
     );
     assert_same(&rt, &program.instr(0, 9), &Some(Instr::Jmp(24)));
-    Ok(())
 }
 
 /// Texts, each with the instructions of its one section.
@@ -110,149 +97,150 @@ fn check_program(rt: &impl Abort, text: &str, program: &Program, wanted: &[Instr
 }
 
 /// The text has one section, of these instructions, and no schedule.
-fn check_section(rt: &impl Abort, alloc: Global, text: &str, wanted: &[Instr]) -> Result<(), Fail> {
-    let program = program_of(alloc, text)?;
+fn check_section(rt: &impl Abort, alloc: Global, text: &str, wanted: &[Instr]) {
+    let program = program(rt, alloc, text);
     check_program(rt, text, &program, wanted);
-    Ok(())
 }
 
 #[test]
-fn a_label_is_the_number_of_the_next_instruction(rt: HostRuntime) -> Result<(), Fail> {
-    for (text, wanted) in SECTIONS.iter() {
-        check_section(&rt, rt.alloc(), text, wanted)?;
+fn a_label_is_the_number_of_the_next_instruction(rt: HostRuntime) {
+    for (text, wanted) in &SECTIONS {
+        check_section(&rt, rt.alloc(), text, wanted);
     }
-    Ok(())
 }
 
-/// So many steps of a worker.
-fn item(worker: u8, times: u32) -> Item {
-    Item { worker, times }
-}
+/// Two sections, with schedules before, between and behind them.
+const TWO_SECTIONS: &str = "\
+.schedule 1 023*001000000
+.mutator
+l: jmp l
+.schedule 0*2
+.mutator
+halt
+l: jmp l
+.schedule 5";
+
+/// Their schedule.
+const ITEMS: [Item; 4] = [
+    Item {
+        worker: 1,
+        times: 1,
+    },
+    Item {
+        worker: 23,
+        times: 1_000_000,
+    },
+    Item {
+        worker: 0,
+        times: 2,
+    },
+    Item {
+        worker: 5,
+        times: 1,
+    },
+];
 
 /// The program has two sections, each with a jump to a label of its own, and four items in its schedule.
 fn check_two_sections(rt: &impl Abort, program: &Program) {
     assert_same(rt, &program.code.len(), &2);
     assert_same(rt, &program.code.instr(0, 0), &Some(Instr::Jmp(0)));
     assert_same(rt, &program.code.instr(1, 1), &Some(Instr::Jmp(1)));
-    let wanted = [item(1, 1), item(23, 1_000_000), item(0, 2), item(5, 1)];
-    assert_same(rt, &program.schedule.as_slice(), &wanted.as_slice());
+    assert_same(rt, &program.schedule.as_slice(), &ITEMS.as_slice());
 }
 
 #[test]
-fn sections_have_labels_of_their_own(rt: HostRuntime) -> Result<(), Fail> {
-    let text =
-        ".schedule 1 023*001000000\n.mutator\nl: jmp l\n.schedule 0*2\n.mutator\nhalt\nl: jmp l\n.schedule 5";
-    let program = program_of(rt.alloc(), text)?;
+fn sections_have_labels_of_their_own(rt: HostRuntime) {
+    let program = program(&rt, rt.alloc(), TWO_SECTIONS);
     check_two_sections(&rt, &program);
-    Ok(())
 }
 
-/// The number and the line of an error, and a text that has it, with slashes for line ends.
-const FAULTS: &str = "\
-1 1|.mutat
-1 2|.mutator/halt\0
-1 2|.mutator/a :
-1 2|.mutator/1x:
-1 2|.mutator/a: b:
-1 2|.mutator/:
-1 1|x: .mutator
-1 1|x: .schedule 1
-2 2|.mutator/li r1
-2 2|.mutator/li r1 4611686018427387904 5
-2 2|.mutator/li r8 1
-2 2|.mutator/li r0 r1
-2 2|.mutator/st 4611686018427387904 0 r1
-2 2|.mutator/st r0 4611686018427387904 5
-2 2|.mutator/mix r0 4611686018427387904 foo
-2 2|.mutator/mix r0 foo 4611686018427387904
-2 2|.mutator/mix r0 1
-2 2|.mutator/mix 4611686018427387904 1 1
-2 2|.mutator/cas r0 r1 0 r2
-2 2|.mutator/cas r0 r1 4611686018427387904 r2 5
-2 2|.mutator/jmp 5
-2 2|.mutator/jz r1 a b
-2 1|.mutator x
-3 2|.mutator/jmp x
-3 1|jmp x
-3 1|l: jmp l
-3 4|.mutator/l:/.mutator/jmp l
-3 2|.mutator/jmp l/.mutator x/l:
-4 3|.mutator/l:/l: halt
-5 1|l:/.mutator
-5 1|halt/.mutator
-5 1|
-5 1|/ /; no more
-5 1|.schedule 1/
-8 1|.schedule 24/.mutator
-8 1|.schedule 0*0/.mutator
-8 1|.schedule 0*1000001
-8 1|.schedule 0*18446744073709551616
-8 1|.schedule 0*1*1
-8 1|.schedule *1
-8 1|.schedule
-9 2|.mutator/mix r0 1 4611686018427387904
-9 2|.mutator/mix r0 4611686018427387904 r1
-9 2|.mutator/cas r0 r1 4611686018427387904 r2 r3
-9 2|.mutator/li r0 4611686018427387904";
+/// The number and the line of an error, and a text that has it.
+const FAULTS: [((u8, u32), &str); 45] = [
+    ((1, 1), ".mutat"),
+    ((1, 2), ".mutator\nhalt\0"),
+    ((1, 2), ".mutator\na :"),
+    ((1, 2), ".mutator\n1x:"),
+    ((1, 2), ".mutator\na: b:"),
+    ((1, 2), ".mutator\n:"),
+    ((1, 1), "x: .mutator"),
+    ((1, 1), "x: .schedule 1"),
+    ((2, 2), ".mutator\nli r1"),
+    ((2, 2), ".mutator\nli r1 4611686018427387904 5"),
+    ((2, 2), ".mutator\nli r8 1"),
+    ((2, 2), ".mutator\nli r0 r1"),
+    ((2, 2), ".mutator\nst 4611686018427387904 0 r1"),
+    ((2, 2), ".mutator\nst r0 4611686018427387904 5"),
+    ((2, 2), ".mutator\nmix r0 4611686018427387904 foo"),
+    ((2, 2), ".mutator\nmix r0 foo 4611686018427387904"),
+    ((2, 2), ".mutator\nmix r0 1"),
+    ((2, 2), ".mutator\nmix 4611686018427387904 1 1"),
+    ((2, 2), ".mutator\ncas r0 r1 0 r2"),
+    ((2, 2), ".mutator\ncas r0 r1 4611686018427387904 r2 5"),
+    ((2, 2), ".mutator\njmp 5"),
+    ((2, 2), ".mutator\njz r1 a b"),
+    ((2, 1), ".mutator x"),
+    ((3, 2), ".mutator\njmp x"),
+    ((3, 1), "jmp x"),
+    ((3, 1), "l: jmp l"),
+    ((3, 4), ".mutator\nl:\n.mutator\njmp l"),
+    ((3, 2), ".mutator\njmp l\n.mutator x\nl:"),
+    ((4, 3), ".mutator\nl:\nl: halt"),
+    ((5, 1), "l:\n.mutator"),
+    ((5, 1), "halt\n.mutator"),
+    ((5, 1), ""),
+    ((5, 1), "\n \n; no more"),
+    ((5, 1), ".schedule 1\n"),
+    ((8, 1), ".schedule 24\n.mutator"),
+    ((8, 1), ".schedule 0*0\n.mutator"),
+    ((8, 1), ".schedule 0*1000001"),
+    ((8, 1), ".schedule 0*18446744073709551616"),
+    ((8, 1), ".schedule 0*1*1"),
+    ((8, 1), ".schedule *1"),
+    ((8, 1), ".schedule"),
+    ((9, 2), ".mutator\nmix r0 1 4611686018427387904"),
+    ((9, 2), ".mutator\nmix r0 4611686018427387904 r1"),
+    ((9, 2), ".mutator\ncas r0 r1 4611686018427387904 r2 r3"),
+    ((9, 2), ".mutator\nli r0 4611686018427387904"),
+];
 
 /// Texts with more than one error, each with the one that counts.
-const FIRST_FAULTS: &str = "\
-1 2|.mutator/foo/li r1
-2 2|.mutator/li r1/foo
-3 2|.mutator/jmp x/bad
-1 3|.mutator/jmp x/x: bad
-1 3|.mutator/a:/a: foo
-2 3|.mutator/a:/a: li r1
-3 3|.mutator/a:/a: jmp b
-4 3|.mutator/a:/a: li r0 4611686018427387904
-4 3|.mutator/a:/a:/foo
-5 1|li r0 4611686018427387904
-3 1|jmp x/.mutator/x:
-5 1|halt/.mutator x
-8 1|.schedule 24/foo
-9 2|.mutator/li r0 4611686018427387904/foo";
+const FIRST_FAULTS: [((u8, u32), &str); 14] = [
+    ((1, 2), ".mutator\nfoo\nli r1"),
+    ((2, 2), ".mutator\nli r1\nfoo"),
+    ((3, 2), ".mutator\njmp x\nbad"),
+    ((1, 3), ".mutator\njmp x\nx: bad"),
+    ((1, 3), ".mutator\na:\na: foo"),
+    ((2, 3), ".mutator\na:\na: li r1"),
+    ((3, 3), ".mutator\na:\na: jmp b"),
+    ((4, 3), ".mutator\na:\na: li r0 4611686018427387904"),
+    ((4, 3), ".mutator\na:\na:\nfoo"),
+    ((5, 1), "li r0 4611686018427387904"),
+    ((3, 1), "jmp x\n.mutator\nx:"),
+    ((5, 1), "halt\n.mutator x"),
+    ((8, 1), ".schedule 24\nfoo"),
+    ((9, 2), ".mutator\nli r0 4611686018427387904\nfoo"),
+];
 
-/// The number and the line that a row names.
-fn place_of(place: &str) -> Result<(u8, u32), Fail> {
-    let (number, line) = place.split_once(' ').ok_or("there is no line")?;
-    Ok((number.parse::<u8>()?, line.parse::<u32>()?))
-}
-
-/// The number and the line of a row's error, and the lines of its text.
-fn fault_row(row: &str) -> Result<((u8, u32), &str), Fail> {
-    let (place, lines) = row.split_once('|').ok_or("there is no bar")?;
-    Ok((place_of(place)?, lines))
-}
-
-/// The text, by this name, has this error.
-fn check_error(rt: &impl Abort, alloc: Global, name: &str, text: &str, wanted: (u8, u32)) {
-    assert_same(rt, &(name, fault_of(alloc, text)), &(name, wanted));
-}
-
-/// The text of a row has its error.
-fn check_fault(rt: &impl Abort, alloc: Global, row: &str) -> Result<(), Fail> {
-    let (wanted, lines) = fault_row(row)?;
-    let text = lines.replace(alloc, '/', "\n")?;
-    check_error(rt, alloc, row, &text, wanted);
-    Ok(())
+/// The text has this error.
+fn check_error(rt: &impl Abort, alloc: Global, text: &str, wanted: (u8, u32)) {
+    assert_same(rt, &(text, fault_of(alloc, text)), &(text, wanted));
 }
 
 /// The text of each row of a table has its error.
-fn check_faults(rt: &impl Abort, alloc: Global, table: &str) -> Result<(), Fail> {
-    for row in table.split('\n') {
-        check_fault(rt, alloc, row)?;
+fn check_faults(rt: &impl Abort, alloc: Global, table: &[((u8, u32), &str)]) {
+    for (wanted, text) in table {
+        check_error(rt, alloc, text, *wanted);
     }
-    Ok(())
 }
 
 #[test]
-fn each_error_has_its_place(rt: HostRuntime) -> Result<(), Fail> {
-    check_faults(&rt, rt.alloc(), FAULTS)
+fn each_error_has_its_place(rt: HostRuntime) {
+    check_faults(&rt, rt.alloc(), &FAULTS);
 }
 
 #[test]
-fn the_first_line_counts_and_then_the_lowest_number(rt: HostRuntime) -> Result<(), Fail> {
-    check_faults(&rt, rt.alloc(), FIRST_FAULTS)
+fn the_first_line_counts_and_then_the_lowest_number(rt: HostRuntime) {
+    check_faults(&rt, rt.alloc(), &FIRST_FAULTS);
 }
 
 /// The lines of a text, and the number of the error of the text up to each byte, or 0 where it is a program.
@@ -289,43 +277,26 @@ fn check_line(
     line: u32,
     bytes: &str,
     digits: &str,
-) -> Result<(), Fail> {
+) {
     for (byte, digit) in bytes.chars().zip(digits.chars()) {
-        text.push(byte)?;
-        check_error(rt, alloc, text, text, prefix_fault(digit, line));
+        text.push(byte).expect(rt, "no text");
+        check_error(rt, alloc, text, prefix_fault(digit, line));
     }
-    Ok(())
 }
 
 #[test]
-fn each_prefix_is_a_program_or_has_an_error(rt: HostRuntime) -> Result<(), Fail> {
+fn each_prefix_is_a_program_or_has_an_error(rt: HostRuntime) {
     let mut text = String::new(rt.alloc());
-    assert_same(&rt, &fault_of(rt.alloc(), &text), &(5, 1));
-    for (i, (line, numbers)) in PREFIXES.iter().enumerate() {
-        check_line(&rt, rt.alloc(), &mut text, i as u32 + 1, line, numbers)?;
+    let mut number = 0u32;
+    check_error(&rt, rt.alloc(), &text, (5, 1));
+    for (line, numbers) in &PREFIXES {
+        number = number.saturating_add(1);
+        check_line(&rt, rt.alloc(), &mut text, number, line, numbers);
     }
-    Ok(())
-}
-
-/// A text of a first line, a line that is repeated, and a last one.
-fn repeated(
-    alloc: Global,
-    first: &str,
-    line: &str,
-    times: u32,
-    last: &str,
-) -> Result<String, Fail> {
-    let mut text = String::new(alloc);
-    text.push_str(first)?;
-    for _ in 0..times {
-        text.push_str(line)?;
-    }
-    text.push_str(last)?;
-    Ok(text)
 }
 
 /// A first line, a line that is repeated so many times, a last one, and the number and the line of the text's error.
-const LIMITS: [(&str, &str, u32, &str, (u8, u32)); 11] = [
+const LIMITS: [(&str, &str, usize, &str, (u8, u32)); 11] = [
     ("", ".mutator\n", 16, "", (0, 0)),
     ("", ".mutator\n", 16, ".mutator", (6, 17)),
     ("", ".mutator\n", 17, "foo", (6, 17)),
@@ -357,25 +328,23 @@ fn check_limit(
     alloc: Global,
     first: &str,
     line: &str,
-    times: u32,
+    times: usize,
     last: &str,
     wanted: (u8, u32),
-) -> Result<(), Fail> {
-    let text = repeated(alloc, first, line, times, last)?;
+) {
+    let text = repeated(rt, alloc, first, line, times, last);
     assert_same(
         rt,
         &(line, last, fault_of(alloc, &text)),
         &(line, last, wanted),
     );
-    Ok(())
 }
 
 #[test]
-fn limits_are_those_of_the_whole_text(rt: HostRuntime) -> Result<(), Fail> {
-    for (first, line, times, last, wanted) in LIMITS.iter() {
-        check_limit(&rt, rt.alloc(), first, line, *times, last, *wanted)?;
+fn limits_are_those_of_the_whole_text(rt: HostRuntime) {
+    for (first, line, times, last, wanted) in &LIMITS {
+        check_limit(&rt, rt.alloc(), first, line, *times, last, *wanted);
     }
-    Ok(())
 }
 
 /// The texts of all errors, by their numbers.
@@ -392,80 +361,75 @@ const ERROR_TEXTS: [(u8, &str); 9] = [
 ];
 
 #[test]
-fn an_error_has_its_text(rt: HostRuntime) -> Result<(), Fail> {
-    for (no, wanted) in ERROR_TEXTS.iter() {
-        let text = AsmError::Text { no: *no, line: 20 }.to_string(rt.alloc())?;
+fn an_error_has_its_text(rt: HostRuntime) {
+    for (no, wanted) in &ERROR_TEXTS {
+        let error = AsmError::Text { no: *no, line: 20 };
+        let text = error.to_string(rt.alloc()).expect(&rt, "no text");
         assert_same(&rt, &text.as_str(), wanted);
     }
-    Ok(())
 }
 
 /// The listing of a text that has a program.
-fn listing_of(alloc: Global, text: &str) -> Result<Vec<u8>, Fail> {
-    Ok(list(alloc, &program_of(alloc, text)?)?)
+fn listing_of(rt: &impl Abort, alloc: Global, text: &str) -> Vec<u8> {
+    let program = program(rt, alloc, text);
+    list(alloc, &program).expect(rt, "no listing")
 }
 
 /// The text has this listing.
-fn check_listing(rt: &impl Abort, alloc: Global, text: &str, wanted: &str) -> Result<(), Fail> {
-    let listing = listing_of(alloc, text)?;
+fn check_listing(rt: &impl Abort, alloc: Global, text: &str, wanted: &str) {
+    let listing = listing_of(rt, alloc, text);
     assert_same(rt, &str::from_utf8(listing.as_slice()), &Ok(wanted));
-    Ok(())
 }
 
+/// Texts, each with its listing.
+const LISTINGS: [(&str, &str); 3] = [
+    (".mutator\nl: jmp l ; x", ".mutator\nL0: jmp L0\n"),
+    (
+        ".mutator\n\tli\tr1   007\r\nunused: jz r1 end\nend:\n.schedule 0 0*1 07 3*1000000",
+        ".schedule 0 0 7 3*1000000\n.mutator\nli r1 7\njz r1 L2\nL2:\n",
+    ),
+    (
+        ".mutator\na:\nb: put 1 r2\njal r7 a\njmp b\n.mutator\n.mutator\nc: st r0 r1 r2\njmp c",
+        ".mutator\nL0: put 1 r2\njal r7 L0\njmp L0\n.mutator\n.mutator\nL0: st r0 r1 r2\njmp L0\n",
+    ),
+];
+
 #[test]
-fn a_listing_is_laid_out_in_one_way(rt: HostRuntime) -> Result<(), Fail> {
-    let rows = [
-        (".mutator\nl: jmp l ; x", ".mutator\nL0: jmp L0\n"),
-        (
-            ".mutator\n\tli\tr1   007\r\nunused: jz r1 end\nend:\n.schedule 0 0*1 07 3*1000000",
-            ".schedule 0 0 7 3*1000000\n.mutator\nli r1 7\njz r1 L2\nL2:\n",
-        ),
-        (
-            ".mutator\na:\nb: put 1 r2\njal r7 a\njmp b\n.mutator\n.mutator\nc: st r0 r1 r2\njmp c",
-            ".mutator\nL0: put 1 r2\njal r7 L0\njmp L0\n.mutator\n.mutator\nL0: st r0 r1 r2\njmp L0\n",
-        ),
-    ];
-    for (text, wanted) in rows {
-        check_listing(&rt, rt.alloc(), text, wanted)?;
-        check_listing(&rt, rt.alloc(), wanted, wanted)?;
+fn a_listing_is_laid_out_in_one_way(rt: HostRuntime) {
+    for (text, wanted) in &LISTINGS {
+        check_listing(&rt, rt.alloc(), text, wanted);
+        check_listing(&rt, rt.alloc(), wanted, wanted);
     }
-    Ok(())
 }
 
 /// So many instructions, each of which jumps to itself.
-fn loops(alloc: Global, instrs: u32) -> Result<String, Fail> {
-    let mut text = String::from_str(alloc, ".mutator\n")?;
+fn loops(rt: &impl Abort, alloc: Global, instrs: u32) -> String {
+    let mut text = String::from_str(alloc, ".mutator\n").expect(rt, "no text");
     for k in 0..instrs {
-        writeln!(text, "L{k}: jmp L{k}")?;
+        writeln!(text, "L{k}: jmp L{k}").expect(rt, "no text");
     }
-    Ok(text)
+    text
 }
 
 /// The text of this name is its own listing.
-fn check_lists_itself(rt: &impl Abort, alloc: Global, name: &str, text: &str) -> Result<(), Fail> {
-    let lists_itself = listing_of(alloc, text)?.as_slice() == text.as_bytes();
+fn check_lists_itself(rt: &impl Abort, alloc: Global, name: &str, text: &str) {
+    let lists_itself = listing_of(rt, alloc, text).as_slice() == text.as_bytes();
     assert_same(rt, &(name, lists_itself), &(name, true));
-    Ok(())
 }
 
-/// The text of a first line, a line that is repeated so many times, and a last one is its own listing.
-fn check_lists_repeated(
-    rt: &impl Abort,
-    alloc: Global,
-    first: &str,
-    line: &str,
-    times: u32,
-    last: &str,
-) -> Result<(), Fail> {
-    let text = repeated(alloc, first, line, times, last)?;
-    check_lists_itself(rt, alloc, line, &text)
-}
+/// A first line, a line that is repeated so many times, and a last one, whose text is its own listing.
+const LISTED: [(&str, &str, usize, &str); 3] = [
+    ("", ".mutator\n", 16, ""),
+    (".mutator\n", "halt\n", 65536, ""),
+    (".schedule", " 0", 65536, "\n.mutator\n"),
+];
 
 #[test]
-fn texts_at_the_limits_list_themselves(rt: HostRuntime) -> Result<(), Fail> {
-    check_lists_repeated(&rt, rt.alloc(), "", ".mutator\n", 16, "")?;
-    check_lists_repeated(&rt, rt.alloc(), ".mutator\n", "halt\n", 65536, "")?;
-    check_lists_repeated(&rt, rt.alloc(), ".schedule", " 0", 65536, "\n.mutator\n")?;
-    let text = loops(rt.alloc(), 65536)?;
-    check_lists_itself(&rt, rt.alloc(), "loops", &text)
+fn texts_at_the_limits_list_themselves(rt: HostRuntime) {
+    for (first, line, times, last) in &LISTED {
+        let text = repeated(&rt, rt.alloc(), first, line, *times, last);
+        check_lists_itself(&rt, rt.alloc(), line, &text);
+    }
+    let text = loops(&rt, rt.alloc(), 65536);
+    check_lists_itself(&rt, rt.alloc(), "loops", &text);
 }

@@ -1,9 +1,9 @@
+use super::{program, repeated};
 use crate::asserting::assert_same;
 use heap_audit::{ReadingError, first_other_line, read_lines, read_order, read_part};
-use mutator_asm::{Program, assemble};
-use plain_heap::NoMemory;
+use mutator_asm::Program;
 use std::alloc::Global;
-use std::test::Fail;
+use std::process::Abort;
 
 /// A program whose mutator stores 7 in a record, loads it, prints it and halts.
 const PROGRAM: &str = ".mutator\nli r1 7\nnew r0 2\nst r0 1 r1\nld r2 r0 1\nout r2\nhalt\n";
@@ -27,72 +27,54 @@ const OTHER_LINES: [(&str, &str, u32, Option<usize>); 9] = [
     (LINES, ORDER, 3, Some(1)),
 ];
 
-/// The program of a text.
-fn program(alloc: Global, text: &str) -> Result<Program, Fail> {
-    if text.len() >= 1 << 31 {
-        return Err("it is too long".into());
-    }
-    Ok(assemble(alloc, text.as_bytes())?)
-}
-
 /// The first of these lines of one mutator that isn't the plain machine's.
 fn other_line(
+    rt: &impl Abort,
     alloc: Global,
     p: &Program,
     lines: &str,
     order: &str,
     turns: u32,
-) -> Result<Option<usize>, Fail> {
-    let (mutators, _, _) = read_lines(alloc, 1, lines.as_bytes())?;
-    let (marks, _) = read_order(alloc, 0, order.as_bytes())?;
-    Ok(first_other_line(alloc, p, turns, &marks, &mutators)?)
+) -> Option<usize> {
+    let read = read_lines(alloc, 1, lines.as_bytes());
+    let (mutators, _, _) = read.expect(rt, "no lines");
+    let (marks, _) = read_order(alloc, 0, order.as_bytes()).expect(rt, "no order");
+    first_other_line(alloc, p, turns, &marks, &mutators).expect(rt, "no run")
 }
 
 #[test]
-fn the_first_other_line_is_told(rt: HostRuntime) -> Result<(), Fail> {
-    let p = program(rt.alloc(), PROGRAM)?;
-    for (lines, order, turns, line) in OTHER_LINES.iter() {
-        let found = other_line(rt.alloc(), &p, lines, order, *turns)?;
+fn the_first_other_line_is_told(rt: HostRuntime) {
+    let p = program(&rt, rt.alloc(), PROGRAM);
+    for (lines, order, turns, line) in &OTHER_LINES {
+        let found = other_line(&rt, rt.alloc(), &p, lines, order, *turns);
         assert_same(&rt, &(*lines, found), &(*lines, *line));
     }
-    Ok(())
 }
 
-/// A word of the table, and a line of what one worker keeps, of which nothing is there.
+/// What registers and kept records are printed, of which nothing is there, and a word of the table.
+const NOTHING_THERE: &str = "\
+0000000000000000 0000000000000000 0000000000000000 0000000000000000 0000000000000000 0000000000000000 0000000000000000 0000000000000000
+0000000000000000 0000000000000000
+";
+
 const ZERO: &str = "0000000000000000\n";
-
-const NOTHING_KEPT: &str = "0000000000000000 0000000000000000\n";
-
-/// Adds the text so many times.
-fn add(out: &mut String, text: &str, times: u32) -> Result<(), NoMemory> {
-    for _ in 0..times {
-        out.push_str(text)?;
-    }
-    Ok(())
-}
 
 /// A part with these lines, this first line of a dump, and a table whose words are 0 but for the lines behind so many words.
 fn part(
+    rt: &impl Abort,
     alloc: Global,
     lines: &str,
     head: &str,
-    words: u32,
+    words: usize,
     last: &str,
-) -> Result<String, NoMemory> {
-    let mut out = String::new(alloc);
-    out.push_str(lines)?;
-    out.push_str(ORDER)?;
-    out.push_str(head)?;
-    add(&mut out, "0000000000000000 ", 7)?;
-    out.push_str(ZERO)?;
-    out.push_str(NOTHING_KEPT)?;
-    add(&mut out, ZERO, words)?;
-    out.push_str(last)?;
-    Ok(out)
+) -> String {
+    let first = format!(in alloc; "{lines}{ORDER}{head}{NOTHING_THERE}");
+    let first = first.expect(rt, "no lines");
+    repeated(rt, alloc, &first, ZERO, words, last)
 }
 
 /// Lines, the first line of a dump, how many words are 0, what stands behind them, and the first wrong line.
-const WRONG_LINES: [(&str, &str, u32, &str, Option<usize>); 9] = [
+const WRONG_LINES: [(&str, &str, usize, &str, Option<usize>); 9] = [
     (LINES, "dump 4 1 1\n", 633, "", None),
     (LINES, "dump 4 1 1\n", 226, "000000000000000A\n", Some(233)),
     (LINES, "dump 4 1 1\n", 632, "", Some(639)),
@@ -105,20 +87,19 @@ const WRONG_LINES: [(&str, &str, u32, &str, Option<usize>); 9] = [
 ];
 
 /// The first wrong line of a part of one mutator, none if it is read.
-fn wrong_line(alloc: Global, text: &str) -> Result<Option<usize>, ReadingError> {
+fn wrong_line(rt: &impl Abort, alloc: Global, text: &str) -> Option<usize> {
     match read_part(alloc, 1, text.as_bytes()) {
-        Ok(_) => Ok(None),
-        Err(ReadingError::Bad { line }) => Ok(Some(line)),
-        Err(error) => Err(error),
+        Ok(_) => None,
+        Err(ReadingError::Bad { line }) => Some(line),
+        Err(_) => panic!(rt; "no memory"),
     }
 }
 
 #[test]
-fn the_first_wrong_line_of_a_part_is_told(rt: HostRuntime) -> Result<(), Fail> {
-    for (lines, head, words, last, line) in WRONG_LINES.iter() {
-        let text = part(rt.alloc(), lines, head, *words, last)?;
-        let found = wrong_line(rt.alloc(), text.as_str())?;
+fn the_first_wrong_line_of_a_part_is_told(rt: HostRuntime) {
+    for (lines, head, words, last, line) in &WRONG_LINES {
+        let text = part(&rt, rt.alloc(), lines, head, *words, last);
+        let found = wrong_line(&rt, rt.alloc(), &text);
         assert_same(&rt, &(*words, found), &(*words, *line));
     }
-    Ok(())
 }
