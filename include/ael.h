@@ -14,7 +14,7 @@
  *
  * LIMITS:
  *  - A space has at most 2,048 pages of 64 words of 8 bytes, which is 1 MiB. All memory is taken by ael_open: two spaces, some tables, and
- *    512 KiB for each mutator.
+ *    less than 1 KiB for each mutator or scanner.
  *  - A heap has 1 to 16 mutators, at most 8 scanners, and a board of 16 words. A mutator that has left doesn't come back.
  *  - A mutator has eight registers. It needs more roots in records, as in the frames below.
  *  - A record has at most 4,095 words, 4,094 if it is mixed. A number is below 2^62, in a raw word too.

@@ -25,11 +25,11 @@ module _ (a b : Seated) (answer : Answer) where
   pub makes_none : (o : Option Instr) → o ≡ None → answer ≡ answers.BadInstruction → b ≡ a → MakesCall o a answer b
   makes_none o none told same = subst (λ (x : Option Instr). MakesCall x a answer b) (sym none) (told, same)
 
-  pub makes_refused : (o : Option Instr) (instr : Instr) (why : Refused) → o ≡ Some instr → refusal a.worker instr ≡ Some why → answer ≡ answer_to why → b ≡ a → MakesCall o a answer b
+  pub makes_refused : (o : Option Instr) (instr : Instr) (why : Refused) → o ≡ Some instr → refusal a instr ≡ Some why → answer ≡ answer_to why → b ≡ a → MakesCall o a answer b
   makes_refused o instr why is refused told same =
       subst (λ (x : Option Instr). MakesCall x a answer b) (sym is) (subst (λ (w : Option Refused). MakesUnless w instr a answer b) (sym refused) (told, same))
 
-  pub makes_acts : (o : Option Instr) (instr : Instr) → o ≡ Some instr → refusal a.worker instr ≡ None → MakesActs a (tasks.Calls instr) answer b → MakesCall o a answer b
+  pub makes_acts : (o : Option Instr) (instr : Instr) → o ≡ Some instr → refusal a instr ≡ None → MakesActs a (tasks.Calls instr) answer b → MakesCall o a answer b
   makes_acts o instr is free acts =
       subst (λ (x : Option Instr). MakesCall x a answer b) (sym is) (subst (λ (w : Option Refused). MakesUnless w instr a answer b) (sym free) acts)
 

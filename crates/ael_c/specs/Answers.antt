@@ -58,3 +58,4 @@ answer_to (reasons.Ended end) = answers.Ended end
 answer_to reasons.Calling = answers.Unanswered
 answer_to reasons.Operand = answers.BadInstruction
 answer_to reasons.Records = answers.RecordsOut
+answer_to reasons.Printing = answers.BadInstruction

@@ -39,7 +39,7 @@ MakesUnless None instr a answer b = MakesActs a (tasks.Calls instr) answer b
 -- THE CLAUSE OF CALL: the instruction is refused, or begun, and some acts are made for it
 abbrev pub MakesCall : Option Instr → Seated → Answer → Seated → Type 0
 MakesCall None a answer b = IsRefused answers.BadInstruction a answer b
-MakesCall (Some instr) a answer b = MakesUnless (refusal a.worker instr) instr a answer b
+MakesCall (Some instr) a answer b = MakesUnless (refusal a instr) instr a answer b
 
 -- ---- poll
 

@@ -59,6 +59,8 @@ impl Answer {
             Refused::Calling => Answer::Unanswered,
             Refused::Operand => Answer::BadInstruction,
             Refused::Records => Answer::RecordsOut,
+            // No number names `out`, so this isn't told.
+            Refused::Printing => Answer::BadInstruction,
         }
     }
 

@@ -5,7 +5,6 @@ ghost use Rattle.std.specs.Arc.{arc_value};
 ghost use Rattle.gc_worker.specs.Steps.AtRest.{is_at_rest};
 ghost use Rattle.ael_c.specs.Calls.{Leaves, MakesCall, Polls, ReadsRegister, Tells};
 
-use crate::acts::{comes_to_rest, departs, tries};
 use crate::answer::Answer;
 use ael_threads::{Instr, Mutator, Reg, Shared};
 use std::alloc::Global;
@@ -53,7 +52,7 @@ impl MutatorSeat {
             return Answer::to(why);
         }
         self.mutator.begin(&instr);
-        Answer::by(tries(&mut self.mutator, &self.heap))
+        Answer::by(self.mutator.tries(&self.heap))
     }
 
     /// Makes some acts for the call that is under way, or else up to where it rests.
@@ -64,9 +63,9 @@ impl MutatorSeat {
             return Answer::Ended(end);
         }
         if self.mutator.is_calling() {
-            return Answer::by(tries(&mut self.mutator, &self.heap));
+            return Answer::by(self.mutator.tries(&self.heap));
         }
-        if comes_to_rest(&mut self.mutator, &self.heap) {
+        if self.mutator.comes_to_rest(&self.heap) {
             Answer::Done
         } else {
             Answer::Again
@@ -78,18 +77,18 @@ impl MutatorSeat {
         ensures { Leaves self.old result self.new }
     {
         if let Some(_) = self.mutator.ended() {
-            return if departs(&mut self.mutator, &self.heap) {
+            return if self.mutator.departs(&self.heap) {
                 Answer::Left
             } else {
                 Answer::Again
             };
         }
         if self.mutator.is_calling() {
-            tries(&mut self.mutator, &self.heap);
+            self.mutator.tries(&self.heap);
             return Answer::Again;
         }
         self.mutator.begin(&Instr::Halt);
-        tries(&mut self.mutator, &self.heap);
+        self.mutator.tries(&self.heap);
         Answer::Again
     }
 

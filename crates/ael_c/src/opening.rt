@@ -38,7 +38,7 @@ pub fn open(
         turns: 1,
         snap: false,
     };
-    match Shared::open(alloc, count as u8, &config) {
+    match Shared::open_without_printing(alloc, count as u8, &config) {
         Ok((heap, seats)) => deal(alloc, heap, seats, mutators, scanners),
         Err(OpenError::BadPages) => Answer::BadSize,
         Err(OpenError::NoMemory) => Answer::NoMemory,

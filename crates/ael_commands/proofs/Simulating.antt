@@ -51,7 +51,7 @@ run_size options program items formed count few lawful =
     let last = (simulated_run options program items).last in
     let many = run_many (scheduled options program items) 0 options.steps opening in
     let mutators : last.heap.mutators ≡ length program = many.0 in
-    let workers : workers_of last ≡ length program + options.run.scanners = many.1 ∙ fresh_many (layout_by (config options.run)) (length program) 0 (length program + options.run.scanners) in
+    let workers : workers_of last ≡ length program + options.run.scanners = many.1 ∙ fresh_many true (layout_by (config options.run)) (length program) 0 (length program + options.run.scanners) in
     let some = formed.a_section in
     let sections = formed.few_sections in
     record {

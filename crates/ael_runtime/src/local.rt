@@ -1,6 +1,6 @@
 //! A thread's part of the runtime: its mutator, between two calls.
 
-ghost use Rattle.std.specs.Prelude.{◌≡◌, ◌≢◌, ◌<◌, ◌≤◌, true, None, Some, IsTrue};
+ghost use Rattle.std.specs.Prelude.{◌≡◌, ◌≢◌, ◌<◌, ◌≤◌, true, false, None, Some, IsTrue};
 ghost use Rattle.plain_state.specs.declared.end.End.{End};
 ghost use Rattle.plain_state.specs.declared.sizes.TheConstants.{REGISTERS};
 ghost use Rattle.plain_state.specs.State.{serial_of};
@@ -10,6 +10,7 @@ ghost use Rattle.gc_worker.specs.declared.calls.did.Did.TheVariants.{Done, Trap}
 ghost use Rattle.gc_worker.specs.declared.stage.Stage.TheVariants.{Gone};
 ghost use Rattle.gc_worker.specs.declared.task.Task.TheVariants.{Calls};
 ghost use Rattle.gc_worker.specs.Steps.AtRest.{is_at_rest};
+ghost use Rattle.gc_worker.specs.Steps.Stepped.{is_output};
 ghost use Rattle.gc_worker.specs.Workers.Fits.{MayBegin};
 ghost use Rattle.ael_threads.specs.Calls.{Called, Halts, RegistersStand, StaysSilent};
 ghost use Rattle.ael_threads.specs.Seats.{IsMine};
@@ -67,9 +68,10 @@ impl<'h> Local<'h> {
         self.mutator.ended()
     }
 
-    /// The mutator makes a call, but none of `snap`, for which it may wait until others get on.
+    /// The mutator makes a call, but none of `snap`, for which it may wait until others get on, and none that prints.
     pub(crate) fn call<R: Wait>(&mut self, rt: &R, instr: Instr) -> Did
         requires other { instr ≢ Snap }
+        requires silent { is_output instr ≡ false }
         requires no_end { self.old.worker.account.end ≡ None }
         requires may_begin { MayBegin self.old.worker.account self.old.worker.registers (Some (Calls instr)) }
         ensures of_heap { self.new.table ≡ self.old.table }
@@ -86,6 +88,7 @@ impl<'h> Local<'h> {
     pub(crate) fn does<R: Wait>(&mut self, rt: &R, instr: Instr)
         requires valid { IsTrue (is_valid instr) }
         requires no_end { self.old.worker.account.end ≡ None }
+        requires silent { is_output instr ≡ false }
         requires sure { IsSure self.old instr }
         ensures of_heap { self.new.table ≡ self.old.table }
         ensures executed { HadEffect self.old instr self.new }

@@ -1,5 +1,5 @@
 -- An instruction that isn't refused may be begun.
-use Rattle.std.proofs.Common.{◌≡◌, ℕ, ◌<◌, ◌+◌, ◌^◌, Bool, true, false, ◌&&◌, Option, Some, None, nat_le, refl, sym, ◌∙◌, leb-false, arith}
+use Rattle.std.proofs.Common.{◌≡◌, ℕ, ◌<◌, ◌+◌, ◌^◌, Bool, true, false, ◌&&◌, not, Option, Some, None, nat_le, refl, sym, ◌∙◌, leb-false, arith}
 use Rattle.std.specs.Prelude.{if◌then◌else◌}
 use Rattle.plain_state.specs.declared.end.End.{End}
 use Rattle.plain_state.specs.State.{Mutator}
@@ -12,11 +12,12 @@ use Rattle.gc_worker.specs.declared.task.Task.TheVariants.{Calls}
 use Rattle.gc_worker.specs.declared.steps.allocating.Making.{Making}
 use Rattle.gc_worker.specs.Plain.Seen.{making_in, seen}
 use Rattle.gc_worker.specs.Workers.Fits.{MayBegin}
-use Rattle.gc_worker.specs.Workers.Held.{Held}
+use Rattle.gc_worker.specs.Steps.Stepped.{MayExecute, MayIf, is_output}
 use Rattle.gc_worker.proofs.Plain.RecordsMade.{made_of, makes_of}
-use Rattle.ael_threads.specs.declared.refused.Refused.TheVariants.{Operand, Records}
+use Rattle.ael_threads.specs.declared.refused.Refused.TheVariants.{Operand, Printing, Records}
 use Rattle.ael_threads.specs.declared.refused.TheConstants.{MOST_RECORDS}
-use Rattle.ael_threads.specs.Refusals.{lacks_serial, makes_record, refusal, refusal_by}
+use Rattle.ael_threads.specs.Seats.{Seated}
+use Rattle.ael_threads.specs.Refusals.{lacks_room, lacks_serial, makes_record, refusal, refusal_by}
 
 -- the other instructions make no record
 makes_none : (q : Mutator) (instr : Instr) → makes_record instr ≡ false → makes_of q instr ≡ None
@@ -39,27 +40,42 @@ serial_left q instr serial left m is = by_making (makes_record instr) refl
     by_making false makes = absurd (let e : None ≡ Some m = sym (makes_none q instr makes) ∙ sym (made_of q instr) ∙ is in cc)
 
 -- what is so if there is no reason
-pub record MayBeBegun (x : Held) (instr : Instr) : Type 0 where
-  pub no_end : x.account.end ≡ None
-  pub no_task : x.task ≡ None
-  pub may_begin : MayBegin x.account x.registers (Some (Calls instr))
+pub record MayBeBegun (a : Seated) (instr : Instr) : Type 0 where
+  pub no_end : a.worker.account.end ≡ None
+  pub no_task : a.worker.task ≡ None
+  pub may_begin : MayBegin a.worker.account a.worker.registers (Some (Calls instr))
+  pub may_execute : MayExecute a.knows.plan.prints instr
 
-pub may_be_begun : (x : Held) (instr : Instr) → refusal x instr ≡ None → MayBeBegun x instr
-may_be_begun x instr none = by_end x.account.end refl x.task refl none
+-- there is room if it prints
+room_left : (asks prints : Bool) → asks && not prints ≡ false → MayIf asks prints
+room_left true true left = refl
+room_left true false left = absurd (cc)
+room_left false prints left = tt
+
+pub may_be_begun : (a : Seated) (instr : Instr) → refusal a instr ≡ None → MayBeBegun a instr
+may_be_begun a instr none = by_end a.worker.account.end refl a.worker.task refl none
   where
-    by_lack : x.account.end ≡ None → x.task ≡ None → is_valid instr ≡ true → (b : Bool) → lacks_serial instr x.account.serial ≡ b → (if b then Some Records else None) ≡ None → MayBeBegun x instr
-    by_lack end task valid true lacks e = absurd (cc)
-    by_lack end task valid false lacks e = record {
+    by_room : a.worker.account.end ≡ None → a.worker.task ≡ None → is_valid instr ≡ true → lacks_serial instr a.worker.account.serial ≡ false → (b : Bool) → lacks_room instr a.knows.plan.prints ≡ b → (if b then Some Printing else None) ≡ None
+        → MayBeBegun a instr
+    by_room end task valid left true lacks e = absurd (cc)
+    by_room end task valid left false lacks e = record {
       no_end = end;
       no_task = task;
-      may_begin = record { valid = valid; serial = serial_left (seen x.account x.registers) instr x.account.serial lacks };
+      may_begin = record { valid = valid; serial = serial_left (seen a.worker.account a.worker.registers) instr a.worker.account.serial left };
+      may_execute = room_left (is_output instr) a.knows.plan.prints lacks;
     }
 
-    by_valid : x.account.end ≡ None → x.task ≡ None → (b : Bool) → is_valid instr ≡ b → (if b then (if lacks_serial instr x.account.serial then Some Records else None) else Some Operand) ≡ None → MayBeBegun x instr
-    by_valid end task true valid e = by_lack end task valid (lacks_serial instr x.account.serial) refl e
+    by_lack : a.worker.account.end ≡ None → a.worker.task ≡ None → is_valid instr ≡ true → (b : Bool) → lacks_serial instr a.worker.account.serial ≡ b
+        → (if b then Some Records else (if lacks_room instr a.knows.plan.prints then Some Printing else None)) ≡ None → MayBeBegun a instr
+    by_lack end task valid true lacks e = absurd (cc)
+    by_lack end task valid false lacks e = by_room end task valid lacks (lacks_room instr a.knows.plan.prints) refl e
+
+    by_valid : a.worker.account.end ≡ None → a.worker.task ≡ None → (b : Bool) → is_valid instr ≡ b
+        → (if b then (if lacks_serial instr a.worker.account.serial then Some Records else (if lacks_room instr a.knows.plan.prints then Some Printing else None)) else Some Operand) ≡ None → MayBeBegun a instr
+    by_valid end task true valid e = by_lack end task valid (lacks_serial instr a.worker.account.serial) refl e
     by_valid end task false valid e = absurd (cc)
 
-    by_end : (end : Option End) → x.account.end ≡ end → (task : Option Task) → x.task ≡ task → refusal_by instr end task x.account.serial ≡ None → MayBeBegun x instr
+    by_end : (end : Option End) → a.worker.account.end ≡ end → (task : Option Task) → a.worker.task ≡ task → refusal_by instr end task a.worker.account.serial a.knows.plan.prints ≡ None → MayBeBegun a instr
     by_end (Some end) is task its e = absurd (cc)
     by_end None is (Some task) its e = absurd (cc)
     by_end None is None its e = by_valid is its (is_valid instr) refl e

@@ -62,7 +62,7 @@ AreBy numbers (Emptied cells ∷ es) = AreBy numbers es
 
 -- worker k before its first step
 abbrev pub first_held : Plan → ℕ → Held
-first_held plan k = fresh_worker plan.spaces plan.mutators k
+first_held plan k = fresh_worker plan.prints plan.spaces plan.mutators k
 
 -- so many workers from this number on, before their first steps
 abbrev pub new_hands : Plan → (from count : ℕ) → List Hand

@@ -1,5 +1,5 @@
 -- A heap as it is opened.
-use Rattle.std.specs.Prelude.{ℕ, zero, suc, ◌+◌, List, [], ◌∷◌, ◌++◌}
+use Rattle.std.specs.Prelude.{ℕ, zero, suc, Bool, true, false, ◌+◌, List, [], ◌∷◌, ◌++◌}
 use Rattle.atomic_table.specs.Seated.{TableId}
 use Rattle.gc_worker.specs.declared.config.Config.{Config}
 use Rattle.gc_worker.specs.Config.{layout_by}
@@ -7,8 +7,17 @@ use Rattle.ael_threads.specs.declared.view.Plan.{Plan}
 use Rattle.ael_threads.specs.Readers.{SeatedScanner}
 use Rattle.ael_threads.specs.Seats.{new_seated}
 
+-- the plan of a heap whose mutators may print, or may not
+abbrev pub plan_with : (prints : Bool) → (mutators : ℕ) → Config → Plan
+plan_with prints mutators config = record { spaces = layout_by config; least = config.pages; mutators = mutators; scanners = config.scanners; prints = prints }
+
+-- of one whose mutators may
 abbrev pub plan_of : (mutators : ℕ) → Config → Plan
-plan_of mutators config = record { spaces = layout_by config; least = config.pages; mutators = mutators; scanners = config.scanners }
+plan_of mutators config = plan_with true mutators config
+
+-- of one without room for numbers that are printed
+abbrev pub silent_plan : (mutators : ℕ) → Config → Plan
+silent_plan mutators config = plan_with false mutators config
 
 abbrev pub new_scanner : TableId → Plan → ℕ → SeatedScanner
 new_scanner t plan k = record { seated = new_seated t plan k; steps = 0 }

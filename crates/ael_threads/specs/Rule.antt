@@ -32,7 +32,7 @@ first_view plan = view plan (new_hands plan 0 (crew plan)) [] [] []
 
 -- a seat whose workers went to another seat
 abbrev pub no_plan : Plan
-no_plan = record { spaces = record { pages = 0; checkpoints = false }; least = 0; mutators = 0; scanners = 0 }
+no_plan = record { spaces = record { pages = 0; checkpoints = false }; least = 0; mutators = 0; scanners = 0; prints = false }
 
 abbrev pub spent_view : View
 spent_view = view no_plan [] [] [] []

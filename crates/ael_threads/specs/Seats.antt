@@ -217,12 +217,13 @@ pub record Seated : Type 0 where
   pub knows : View
 
 -- Since its last step the worker may have been given a task; whatever it has counted, to the proofs of the heap it is as it was then. Its
--- layout is the heap's.
+-- layout is the heap's, and it may print if mutators of the heap may.
 pub record Follows (plan : Plan) (m : ℕ) (was now : Held) : Type 0 where
   pub begins : Begins was now
   pub readies : (count : ℕ) → Readies plan.spaces.pages plan.mutators m (counted count was) (counted count now)
   pub fits : Fits plan.spaces.pages plan.mutators m now
   pub laid_out : now.layout ≡ plan.spaces
+  pub prints : now.prints ≡ plan.prints
 
 abbrev pub Heads : Plan → Held → List Hand → Type 0
 Heads plan x [] = ⊥

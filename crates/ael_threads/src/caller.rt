@@ -6,6 +6,7 @@ ghost use Rattle.gc_worker.specs.Laws.Between.{IsIdle, with_task};
 ghost use Rattle.gc_worker.specs.Laws.Cycles.{IsInCall};
 ghost use Rattle.gc_worker.specs.Workers.Fits.{MayBegin, MayStop};
 ghost use Rattle.gc_worker.specs.Workers.Held.{Held};
+ghost use Rattle.gc_worker.specs.Steps.Stepped.{MayExecute};
 ghost use Rattle.gc_worker.specs.Steps.Wanted.{wanted};
 ghost use Rattle.ael_threads.specs.Seats.{Absorbs, Acts, Heads, FitsTable, IsMine, Moves, Seated, ShowsSeen, first_number};
 
@@ -44,6 +45,7 @@ impl Caller {
     pub fn begin(&mut self, instr: &Instr)
         requires idle { IsIdle self.old.worker }
         requires may_begin { MayBegin self.old.worker.account self.old.worker.registers (Some (Calls instr.now)) }
+        requires may_execute { MayExecute self.old.knows.plan.prints instr.now }
         ensures begun { self.new.worker ≡ with_task self.old.worker (Calls instr.now) }
         ensures looks_first { IsInCall self.new.worker.stage → ⊥ }
         ensures same { (self.new.table ≡ self.old.table) × (self.new.knows ≡ self.old.knows) }

@@ -5,7 +5,7 @@ ghost use Rattle.plain_state.specs.declared.end.End.{End};
 ghost use Rattle.gc_worker.specs.declared.stage.Stage.TheVariants.{Gone};
 ghost use Rattle.gc_worker.specs.declared.task.Task.{Task};
 ghost use Rattle.gc_worker.specs.declared.task.Task.TheVariants.{Calls};
-ghost use Rattle.gc_worker.specs.Steps.Stepped.{awaits};
+ghost use Rattle.gc_worker.specs.Steps.Stepped.{MayExecute, awaits};
 ghost use Rattle.gc_worker.specs.Workers.Fits.{MayBegin};
 ghost use Rattle.ael_threads.specs.Calls.{Called, CalledBy, GoesOn, Halts, StaysSilent, IsUnderWay, Tries};
 ghost use Rattle.ael_threads.specs.Seats.{Seated};
@@ -17,7 +17,7 @@ use gc_worker::{Did, Stepped};
 use mutator_asm::Instr;
 use std::sync::Wait;
 
-/// How many acts a try has. Most instructions need fewer; who needs more waits for another worker, or copies.
+/// How many acts are made at once. Most instructions need fewer; who needs more waits for another worker, or copies.
 pub(crate) const ACTS: u32 = 64;
 
 impl Mutator {
@@ -31,6 +31,7 @@ impl Mutator {
         requires no_end { self.old.worker.account.end ≡ None }
         requires no_task { self.old.worker.task ≡ None }
         requires may_begin { MayBegin self.old.worker.account self.old.worker.registers (Some (Calls instr.now)) }
+        requires may_execute { MayExecute self.old.knows.plan.prints instr.now }
         ensures table { self.new.table ≡ self.old.table }
         ensures called { CalledBy self.old instr.now result self.new }
     {
@@ -49,6 +50,7 @@ impl Mutator {
         requires no_end { self.old.worker.account.end ≡ None }
         requires no_task { self.old.worker.task ≡ None }
         requires may_begin { MayBegin self.old.worker.account self.old.worker.registers (Some (Calls instr.now)) }
+        requires may_execute { MayExecute self.old.knows.plan.prints instr.now }
         ensures table { self.new.table ≡ self.old.table }
         ensures called { Called self.old (Calls instr.now) result self.new }
     {
@@ -72,8 +74,8 @@ impl Mutator {
         unreachable!()
     }
 
-    /// Makes some of them.
-    fn tries(&mut self, h: &Shared) -> Option<Did>
+    /// Makes some acts for the task that it has begun, and waits for nobody. It answers what the task came to, once an act answers it.
+    pub fn tries(&mut self, h: &Shared) -> Option<Did>
         requires table { self.old.table ≡ h.now.table.shared.table_id }
         ensures table { self.new.table ≡ self.old.table }
         ensures tries { (a : Seated) (task : Task) → IsUnderWay a task self.old → Tries a task result self.new }
@@ -141,8 +143,8 @@ impl Mutator {
         }
     }
 
-    /// Makes some acts, up to the one that finds that it has left.
-    fn departs(&mut self, h: &Shared) -> bool
+    /// Makes some acts of a mutator with an end, up to the one that finds that it has left, and waits for nobody.
+    pub fn departs(&mut self, h: &Shared) -> bool
         requires table { self.old.table ≡ h.now.table.shared.table_id }
         ensures table { self.new.table ≡ self.old.table }
         ensures left { result ≡ true → self.new.worker.stage ≡ Gone }

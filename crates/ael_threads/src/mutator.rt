@@ -9,7 +9,7 @@ ghost use Rattle.gc_worker.specs.Laws.Between.{with_task};
 ghost use Rattle.gc_worker.specs.Laws.Cycles.{IsInCall};
 ghost use Rattle.gc_worker.specs.Workers.Fits.{MayBegin, MayStop};
 ghost use Rattle.gc_worker.specs.Steps.AtRest.{is_at_rest};
-ghost use Rattle.gc_worker.specs.Steps.Stepped.{header_kept, place_kept};
+ghost use Rattle.gc_worker.specs.Steps.Stepped.{MayExecute, header_kept, place_kept};
 ghost use Rattle.ael_threads.specs.Readers.{IsReg, IsThere};
 ghost use Rattle.ael_threads.specs.Seats.{Absorbs, Acts, ShowsSeen};
 
@@ -50,11 +50,12 @@ impl Model for Mutator {
 impl Mutator {
     /// An instruction, which the next look at the gate begins. No instruction is begun yet, and the mutator has no end; the instruction is
     /// one that a text can hold: registers 0 to 7, numbers below 2^62, a jump's target at most 65,536. Where it makes a record, the serial
-    /// is below 2^40 - 1.
+    /// is below 2^40 - 1. It is not `out` if the heap was opened without printing.
     pub fn begin(&mut self, instr: &Instr)
         requires no_end { self.old.worker.account.end ≡ None }
         requires no_task { self.old.worker.task ≡ None }
         requires may_begin { MayBegin self.old.worker.account self.old.worker.registers (Some (Calls instr.now)) }
+        requires may_execute { MayExecute self.old.knows.plan.prints instr.now }
         ensures begun { self.new.worker ≡ with_task self.old.worker (Calls instr.now) }
         ensures looks_first { IsInCall self.new.worker.stage → ⊥ }
         ensures same { (self.new.table ≡ self.old.table) × (self.new.knows ≡ self.old.knows) }
@@ -115,6 +116,13 @@ impl Mutator {
             Some(address) => Reg::Pointer(address),
             None => unreachable!(),
         }
+    }
+
+    /// Whether it may print: its heap was not opened without printing.
+    pub fn can_print(&self) -> bool
+        ensures { result ≡ self.now.knows.plan.prints }
+    {
+        self.caller.worker.prints()
     }
 
     /// The numbers that it has printed, which are the plain mutator's after all that was seen.

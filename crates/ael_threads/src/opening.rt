@@ -6,7 +6,7 @@ ghost use Rattle.space_map.specs.Table.{whole_length};
 ghost use Rattle.gc_worker.specs.Config.{has_sizes, layout_by};
 ghost use Rattle.gc_worker.specs.Laws.Between.{opening_words};
 ghost use Rattle.ael_threads.specs.Histories.{first_held, new_hands};
-ghost use Rattle.ael_threads.specs.Opened.{new_scanners, plan_of};
+ghost use Rattle.ael_threads.specs.Opened.{new_scanners, plan_of, plan_with, silent_plan};
 ghost use Rattle.ael_threads.specs.Rule.{crew, first_view, view};
 ghost use Rattle.ael_threads.specs.Seats.{new_callers, new_seated};
 
@@ -65,6 +65,42 @@ impl Shared {
         ensures scanners { IfOk result (λ o. o.1.scanners.items ≡ new_scanners o.0.table.shared.table_id (plan_of mutators config.now) mutators config.now.scanners) }
         ensures bad_pages { IsErrOf result OpenError.BadPages ↔ IsTrue (not (has_sizes config.now)) }
     {
+        Shared::open_with(alloc, mutators, config, true)
+    }
+
+    /// A heap as `open` makes it, but none of its mutators may print: `out` is refused (`Refused::Printing`). So the 512 KiB are not taken
+    /// that the numbers of a mutator take.
+    pub fn open_without_printing(
+        alloc: Global,
+        mutators: u8,
+        config: &Config,
+    ) -> Result<(Shared, Seats), OpenError>
+        requires mutators { (1 ≤ mutators) × (mutators ≤ MOST_MUTATORS) }
+        requires scanners { config.now.scanners ≤ MOST_SCANNERS }
+        ensures key { IfOk result (λ o. o.0.table.shared.key ≡ silent_plan mutators config.now) }
+        ensures words { IfOk result (λ o. o.0.table.shared.table_id.words ≡ whole_length (layout_by config.now)) }
+        ensures mutators { IfOk result (λ o. o.1.mutators.items ≡ new_callers o.0.table.shared.table_id (silent_plan mutators config.now) 0 mutators) }
+        ensures scanners { IfOk result (λ o. o.1.scanners.items ≡ new_scanners o.0.table.shared.table_id (silent_plan mutators config.now) mutators config.now.scanners) }
+        ensures bad_pages { IsErrOf result OpenError.BadPages ↔ IsTrue (not (has_sizes config.now)) }
+    {
+        Shared::open_with(alloc, mutators, config, false)
+    }
+
+    /// Opens a heap whose mutators may print, or may not.
+    fn open_with(
+        alloc: Global,
+        mutators: u8,
+        config: &Config,
+        prints: bool,
+    ) -> Result<(Shared, Seats), OpenError>
+        requires mutators { (1 ≤ mutators) × (mutators ≤ MOST_MUTATORS) }
+        requires scanners { config.now.scanners ≤ MOST_SCANNERS }
+        ensures key { IfOk result (λ o. o.0.table.shared.key ≡ plan_with prints mutators config.now) }
+        ensures words { IfOk result (λ o. o.0.table.shared.table_id.words ≡ whole_length (layout_by config.now)) }
+        ensures mutators { IfOk result (λ o. o.1.mutators.items ≡ new_callers o.0.table.shared.table_id (plan_with prints mutators config.now) 0 mutators) }
+        ensures scanners { IfOk result (λ o. o.1.scanners.items ≡ new_scanners o.0.table.shared.table_id (plan_with prints mutators config.now) mutators config.now.scanners) }
+        ensures bad_pages { IsErrOf result OpenError.BadPages ↔ IsTrue (not (has_sizes config.now)) }
+    {
         let spaces = config.spaces()?;
         spaces.known();
         let plan = Plan {
@@ -72,6 +108,7 @@ impl Shared {
             least: config.pages,
             mutators,
             scanners: config.scanners,
+            prints,
         };
         let words = first_words(alloc, spaces, config.pages)?;
         let (table, seat) = Table::of_words(alloc, words.as_slice(), &plan)?;
@@ -93,7 +130,7 @@ impl Shared {
         let count = usize::from(plan.mutators);
         let mut mutators = Vec::with_capacity(alloc, count)?;
         for k in 0..plan.mutators {
-            let worker = Worker::mutator(alloc, plan.spaces, k, plan.mutators)?;
+            let worker = Worker::mutator(alloc, plan.spaces, k, plan.mutators, plan.prints)?;
             let caller = self.seated(&mut seat, worker, plan, k);
             mutators.push_reserved(Mutator { caller });
         }
@@ -101,7 +138,7 @@ impl Shared {
         let mut scanners = Vec::with_capacity(alloc, count)?;
         for i in 0..plan.scanners {
             let k = plan.mutators + i;
-            let worker = Worker::scanner(alloc, plan.spaces, k, plan.mutators);
+            let worker = Worker::scanner(alloc, plan.spaces, k, plan.mutators, plan.prints);
             let caller = self.seated(&mut seat, worker, plan, k);
             scanners.push_reserved(Scanner { caller, steps: 0 });
         }

@@ -26,7 +26,7 @@ fn makes_record(instr: Instr) -> bool
 impl Mutator {
     /// Why it can't begin this instruction now, if it can't. Without a reason `begin` and `exec` may be called.
     pub fn refusal(&self, instr: &Instr) -> Option<Refused>
-        ensures { result ≡ refusals.refusal self.now.worker instr.now }
+        ensures { result ≡ refusals.refusal self.now instr.now }
     {
         if let Some(end) = self.ended() {
             return Some(Refused::Ended(end));
@@ -40,13 +40,18 @@ impl Mutator {
         if makes_record(*instr) && self.serial() >= MOST_RECORDS {
             return Some(Refused::Records);
         }
+        if let Instr::Out(_) = instr {
+            if !self.can_print() {
+                return Some(Refused::Printing);
+            }
+        }
         None
     }
 
     /// Begins an instruction as `begin` does. If it is refused, nothing changes.
     pub fn try_begin(&mut self, instr: &Instr) -> Result<(), Refused>
-        ensures refused { IfErr result (λ why. (refusals.refusal self.old.worker instr.now ≡ Some why) × (self.new ≡ self.old)) }
-        ensures begun { IfOk result (λ _. (refusals.refusal self.old.worker instr.now ≡ None) × (self.new.worker ≡ with_task self.old.worker (Calls instr.now))) }
+        ensures refused { IfErr result (λ why. (refusals.refusal self.old instr.now ≡ Some why) × (self.new ≡ self.old)) }
+        ensures begun { IfOk result (λ _. (refusals.refusal self.old instr.now ≡ None) × (self.new.worker ≡ with_task self.old.worker (Calls instr.now))) }
         ensures same { (self.new.table ≡ self.old.table) × (self.new.knows ≡ self.old.knows) }
     {
         if let Some(why) = self.refusal(instr) {
@@ -60,8 +65,8 @@ impl Mutator {
     pub fn try_exec<R: Wait>(&mut self, rt: &R, h: &Shared, instr: &Instr) -> Result<Did, Refused>
         requires table { self.old.table ≡ h.now.table.shared.table_id }
         ensures table { self.new.table ≡ self.old.table }
-        ensures refused { IfErr result (λ why. (refusals.refusal self.old.worker instr.now ≡ Some why) × (self.new ≡ self.old)) }
-        ensures called { IfOk result (λ did. (refusals.refusal self.old.worker instr.now ≡ None) × CalledBy self.old instr.now did self.new) }
+        ensures refused { IfErr result (λ why. (refusals.refusal self.old instr.now ≡ Some why) × (self.new ≡ self.old)) }
+        ensures called { IfOk result (λ did. (refusals.refusal self.old instr.now ≡ None) × CalledBy self.old instr.now did self.new) }
     {
         if let Some(why) = self.refusal(instr) {
             return Err(why);

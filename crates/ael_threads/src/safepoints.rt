@@ -50,8 +50,8 @@ impl Mutator {
         }
     }
 
-    /// Makes some acts, up to the one after which it rests.
-    fn comes_to_rest(&mut self, h: &Shared) -> bool
+    /// Makes some acts of a mutator without a task, up to the one after which it rests, and waits for nobody.
+    pub fn comes_to_rest(&mut self, h: &Shared) -> bool
         requires table { self.old.table ≡ h.now.table.shared.table_id }
         ensures table { self.new.table ≡ self.old.table }
         ensures rests { result ≡ true → is_at_rest self.new.worker ≡ true }

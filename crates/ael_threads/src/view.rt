@@ -13,6 +13,8 @@ pub struct Plan {
     pub least: u32,
     pub mutators: u8,
     pub scanners: u8,
+    /// Whether mutators may print.
+    pub prints: bool,
 }
 
 /// A worker by its number, what it held after its last step, and the calls that it has made.

@@ -3,7 +3,7 @@
 mod joining;
 mod whole;
 
-ghost use Rattle.std.specs.Prelude.{◌≡◌, ◌≢◌, ◌<◌, ◌↔◌, ℕ, Some, None, IfErr, IsTrue, OnOk};
+ghost use Rattle.std.specs.Prelude.{◌≡◌, ◌≢◌, ◌<◌, ◌↔◌, ℕ, false, Some, None, IfErr, IsTrue, OnOk};
 ghost use Rattle.plain_state.specs.declared.end.End.{End};
 ghost use Rattle.plain_state.specs.declared.sizes.TheConstants.{REGISTERS};
 ghost use Rattle.plain_state.specs.declared.value.Value.TheVariants as values;
@@ -13,6 +13,7 @@ ghost use Rattle.plain_heap.specs.Alone.{is_heap_full};
 ghost use Rattle.gc_worker.specs.declared.stage.Stage.TheVariants.{Gone};
 ghost use Rattle.gc_worker.specs.declared.task.Task.TheVariants.{Calls};
 ghost use Rattle.gc_worker.specs.Workers.Fits.{MayBegin};
+ghost use Rattle.gc_worker.specs.Steps.Stepped.{is_output};
 ghost use Rattle.ael_threads.specs.Calls.{Called, Halts, StaysSilent};
 ghost use Rattle.ael_threads.specs.Seats.{ShowsSeen};
 ghost use Rattle.concordance.specs.Desk.{CanDo, CanMake, desk_after, desk_register};
@@ -77,9 +78,10 @@ impl<'h> Clerk<'h> {
         Clerk { heap, mutator }
     }
 
-    /// Its mutator makes a call, but none of `snap`, for which it may wait until others get on.
+    /// Its mutator makes a call, but none of `snap`, for which it may wait until others get on, and none that prints.
     fn call<R: Wait>(&mut self, rt: &R, instr: Instr) -> Did
         requires other { instr ≢ Snap }
+        requires silent { is_output instr ≡ false }
         requires no_end { self.old.worker.account.end ≡ None }
         requires may_begin { MayBegin self.old.worker.account self.old.worker.registers (Some (Calls instr)) }
         ensures of_heap { self.new.table ≡ self.old.table }

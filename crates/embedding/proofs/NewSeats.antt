@@ -13,7 +13,7 @@ abbrev IsFresh : Held → Type 0
 IsFresh x = (x.task ≡ None) × (x.account.end ≡ None)
 
 module _ (t : TableId) (plan : Plan) (n : ℕ) where
-  fresh : (is_mutator : Bool) → IsFresh (if is_mutator then fresh_mutator plan.spaces plan.mutators n else fresh_scanner plan.spaces plan.mutators n)
+  fresh : (is_mutator : Bool) → IsFresh (if is_mutator then fresh_mutator plan.prints plan.spaces plan.mutators n else fresh_scanner plan.prints plan.spaces plan.mutators n)
   fresh true = (refl, refl)
   fresh false = (refl, refl)
 

@@ -29,7 +29,7 @@ fn main(rt: HostRuntime) -> Result<()> {
         turns: 1,
         snap: false,
     };
-    let (heap, mut seats) = Shared::open(rt.alloc(), 4, &config)?;
+    let (heap, mut seats) = Shared::open_without_printing(rt.alloc(), 4, &config)?;
     let told = run(&rt, &heap, &mut seats);
     let _words = heap.close(seats);
     told

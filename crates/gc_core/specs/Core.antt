@@ -1,5 +1,5 @@
 -- What the machine with a collected heap is between two events.
-use Rattle.std.specs.Prelude.{ℕ, List, length}
+use Rattle.std.specs.Prelude.{ℕ, List, length, true}
 use Rattle.mutator_asm.specs.declared.instr.Instr.{Instr}
 pub use Rattle.gc_worker.specs.Config.{has_sizes, layout_by}
 use Rattle.gc_worker.specs.Laws.Between.{opening_heap}
@@ -15,7 +15,7 @@ pub record CoreState : Type 0 where
 
 -- the core in which a program begins: a mutator for each section, and the scanners
 abbrev pub opening_core : List (List Instr) → Config → CoreState
-opening_core code config = record { code = code; turns = config.turns; heap = opening_heap (layout_by config) config.pages (length code) config.scanners }
+opening_core code config = record { code = code; turns = config.turns; heap = opening_heap true (layout_by config) config.pages (length code) config.scanners }
 
 -- the mutators, then the scanners
 abbrev pub workers_of : CoreState → ℕ

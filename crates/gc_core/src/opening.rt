@@ -1,6 +1,6 @@
 //! How a core is opened.
 
-ghost use Rattle.std.specs.Prelude.{◌≡◌, ◌+◌, ◌≤◌, ◌<◌, ◌↔◌, length, IfOk, IsErrOf, IsTrue, not};
+ghost use Rattle.std.specs.Prelude.{◌≡◌, ◌+◌, ◌≤◌, ◌<◌, ◌↔◌, true, length, IfOk, IsErrOf, IsTrue, not};
 ghost use Rattle.gc_worker.specs.Laws.Between.{fresh_worker, fresh_workers, opening_words};
 ghost use Rattle.space_map.specs.declared.spaces.TheConstants.{LAST_WORKER, MOST_MUTATORS, MOST_SCANNERS};
 ghost use Rattle.gc_worker.specs.declared.config.TheConstants.{MOST_TURNS};
@@ -41,19 +41,19 @@ fn words(alloc: Global, spaces: Spaces, pages: u32) -> Result<PlainAtoms, NoMemo
 fn worker(alloc: Global, spaces: Spaces, k: u8, mutators: u8) -> Result<Slot, NoMemory>
     requires few { mutators ≤ MOST_MUTATORS }
     requires all { k ≤ LAST_WORKER }
-    ensures { IfOk result (λ slot. slot ≡ fresh_worker spaces mutators k) }
+    ensures { IfOk result (λ slot. slot ≡ fresh_worker true spaces mutators k) }
 {
     if k < mutators {
-        return Ok(Slot::new(Worker::mutator(alloc, spaces, k, mutators)?));
+        return Ok(Slot::new(Worker::mutator(alloc, spaces, k, mutators, true)?));
     }
-    Ok(Slot::new(Worker::scanner(alloc, spaces, k, mutators)))
+    Ok(Slot::new(Worker::scanner(alloc, spaces, k, mutators, true)))
 }
 
 /// All workers, the mutators first.
 fn slots(alloc: Global, spaces: Spaces, mutators: u8, count: u8) -> Result<Vec<Slot>, NoMemory>
     requires few { mutators ≤ MOST_MUTATORS }
     requires all { count ≤ MOST_MUTATORS + MOST_SCANNERS }
-    ensures { IfOk result (λ slots. slots.items ≡ fresh_workers spaces mutators 0 count) }
+    ensures { IfOk result (λ slots. slots.items ≡ fresh_workers true spaces mutators 0 count) }
 {
     let mut slots = Vec::new(alloc);
     for k in 0..count {

@@ -24,17 +24,21 @@ pub(crate) struct Slot {
 }
 
 impl Model for Slot {
+    ghost use Rattle.std.specs.Prelude.{◌≡◌, true};
     ghost use Rattle.gc_worker.specs.Workers.Counted.{counted};
     ghost use Rattle.gc_worker.specs.Workers.Held.{Held};
 
     ghost Value = { Held };
 
     ghost view = { λ s. counted s.count s.worker };
+
+    ghost invariant = { λ s. s.worker.prints ≡ true };
 }
 
 impl Slot {
-    /// A worker that has executed nothing.
+    /// A worker that has executed nothing, of a heap whose mutators may print.
     pub fn new(worker: Worker) -> Slot
+        requires prints { worker.prints ≡ true }
         ensures { result ≡ counted 0 worker }
     {
         Slot { worker, count: 0 }

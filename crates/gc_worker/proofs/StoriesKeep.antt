@@ -102,7 +102,7 @@ pub stories_keep : StoriesKeep
 stories_keep h p o k x q story below holds asked = story_keeps h p o k x q story below holds asked
 
 pub stories_open : StoriesOpen
-stories_open layout least mutators scanners size fewest most few all = record {
-  stands = heaps_open layout least mutators scanners size fewest most few all;
-  cells = opening_cells (IsTraced (opening_heap layout least mutators scanners)) mutators;
+stories_open prints layout least mutators scanners size fewest most few all = record {
+  stands = heaps_open prints layout least mutators scanners size fewest most few all;
+  cells = opening_cells (IsTraced (opening_heap prints layout least mutators scanners)) mutators;
 }

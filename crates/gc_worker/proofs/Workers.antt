@@ -11,3 +11,4 @@ pub mod Made
 pub mod CountedTurns
 pub mod ApartFromCount
 pub mod Sound
+pub mod Printing

@@ -15,6 +15,8 @@ pub(crate) struct State {
     pub number: u8,
     pub spaces: Spaces,
     pub mutators: u8,
+    /// Whether the heap's mutators may print.
+    pub prints: bool,
     pub epoch: u32,
     /// The epoch at the look that began the instruction.
     pub begun: u32,
@@ -49,7 +51,7 @@ impl State {
 impl Model for State {
     ghost use Rattle.std.specs.Prelude.{vec_capacity};
     ghost use Rattle.gc_worker.specs.Workers.Held.{Held};
-    ghost use Rattle.gc_worker.specs.Steps.Stepped.{task_due, HasRoomToPrint};
+    ghost use Rattle.gc_worker.specs.Steps.Stepped.{task_due, HasRoomToPrint, MayHave};
 
     ghost Value = { Held };
 
@@ -57,6 +59,7 @@ impl Model for State {
       number = s.number;
       layout = s.spaces;
       mutators = s.mutators;
+      prints = s.prints;
       epoch = s.epoch;
       begun = s.begun;
       snap = s.snap;
@@ -68,5 +71,5 @@ impl Model for State {
       stage = s.stage;
     } };
 
-    ghost invariant = { λ s. HasRoomToPrint s.number s.mutators (vec_capacity s.printed) };
+    ghost invariant = { λ s. HasRoomToPrint s.prints s.number s.mutators (vec_capacity s.printed) × MayHave s.prints (task_due s.due s.instr s.stop) };
 }

@@ -7,7 +7,7 @@ ghost use Rattle.gc_worker.specs.Laws.Between.{IsIdle, fresh_mutator, fresh_scan
 ghost use Rattle.gc_worker.specs.Workers.Fits.{MayBegin, MayStop, Takes};
 ghost use Rattle.gc_worker.specs.Steps.AtRest.{is_at_rest};
 ghost use Rattle.gc_worker.specs.Steps.Made.{MayMake, step_made};
-ghost use Rattle.gc_worker.specs.Steps.Stepped.{IsSound, awaits, header_kept, place_kept, stepped_by, uncounted};
+ghost use Rattle.gc_worker.specs.Steps.Stepped.{IsSound, MayExecute, awaits, header_kept, place_kept, stepped_by, uncounted};
 ghost use Rattle.gc_worker.specs.Steps.Turned.{told, turned};
 ghost use Rattle.gc_worker.specs.Steps.Wanted.{wanted};
 
@@ -54,31 +54,36 @@ impl fmt::Debug for Worker {
 }
 
 impl Worker {
-    /// A mutator that is about to come to a heap, with room for all that it may print.
+    /// A mutator that is about to come to a heap. If it may print, the room for the most numbers is taken here, and else none.
     pub fn mutator(
         alloc: Global,
         spaces: Spaces,
         number: u8,
         mutators: u8,
+        prints: bool,
     ) -> Result<Worker, NoMemory>
         requires number { number < mutators }
         requires few { mutators ≤ MOST_MUTATORS }
-        ensures { IfOk result (λ worker. worker ≡ fresh_mutator spaces mutators number) }
+        ensures { IfOk result (λ worker. worker ≡ fresh_mutator prints spaces mutators number) }
     {
         spaces.known();
-        let printed = Vec::with_capacity(alloc, MOST_PRINTED)?;
-        let state = State::mutator(spaces, number, mutators, printed);
+        let printed = if prints {
+            Vec::with_capacity(alloc, MOST_PRINTED)?
+        } else {
+            Vec::new(alloc)
+        };
+        let state = State::mutator(spaces, number, mutators, prints, printed);
         Ok(Worker { state })
     }
 
-    /// A scanner before its first round.
-    pub fn scanner(alloc: Global, spaces: Spaces, number: u8, mutators: u8) -> Worker
+    /// A scanner before its first round, of a heap whose mutators may print, or may not.
+    pub fn scanner(alloc: Global, spaces: Spaces, number: u8, mutators: u8, prints: bool) -> Worker
         requires number { mutators ≤ number }
         requires few { number ≤ LAST_WORKER }
-        ensures { result ≡ fresh_scanner spaces mutators number }
+        ensures { result ≡ fresh_scanner prints spaces mutators number }
     {
         spaces.known();
-        let state = State::scanner(spaces, number, mutators, Vec::new(alloc));
+        let state = State::scanner(spaces, number, mutators, prints, Vec::new(alloc));
         Worker { state }
     }
 
@@ -154,6 +159,7 @@ impl Worker {
     pub fn begin(&mut self, instr: &Instr)
         requires idle { IsIdle self.old }
         requires may_begin { MayBegin self.old.account self.old.registers (Some (Calls instr.now)) }
+        requires may_execute { MayExecute self.old.prints instr.now }
         ensures { self.new ≡ with_task self.old (Calls instr.now) }
     {
         self.state.begin(*instr);
@@ -174,6 +180,13 @@ impl Worker {
         ensures { result ≡ self.now.registers }
     {
         self.state.registers
+    }
+
+    /// Whether it may print.
+    pub fn prints(&self) -> bool
+        ensures { result ≡ self.now.prints }
+    {
+        self.state.prints
     }
 
     /// The numbers that it has printed.

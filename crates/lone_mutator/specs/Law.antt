@@ -117,5 +117,5 @@ LoneTasksBegin = (h : Heap) (task : Task) → IsLone h
 
 -- a heap of one mutator without scanners opens so
 abbrev pub LoneHeapsOpen : Type 0
-LoneHeapsOpen = (l : Layout) (least : ℕ) → IsPageCount l.pages → FEWEST_PAGES ≤ least → least ≤ l.pages
-    → IsLone (opening_heap l least 1 0) × (potential (opening_heap l least 1 0) < most_steps_of l)
+LoneHeapsOpen = (prints : Bool) (l : Layout) (least : ℕ) → IsPageCount l.pages → FEWEST_PAGES ≤ least → least ≤ l.pages
+    → IsLone (opening_heap prints l least 1 0) × (potential (opening_heap prints l least 1 0) < most_steps_of l)

@@ -1,7 +1,8 @@
 //! A list is built and summed by bare calls, and by the runtime. `bench/runtime` counts what each takes.
 
-ghost use Rattle.std.specs.Prelude.{◌≡◌, None, IsTrue};
+ghost use Rattle.std.specs.Prelude.{◌≡◌, false, None, IsTrue};
 ghost use Rattle.mutator_asm.specs.Program.{is_valid};
+ghost use Rattle.gc_worker.specs.Steps.Stepped.{is_output};
 
 use crate::asserting::assert_same;
 use crate::heaps::open;
@@ -29,6 +30,7 @@ fn call<R: Wait + Abort>(rt: &R, heap: &Shared, mutator: &mut Mutator, instr: In
     requires table { mutator.old.table ≡ heap.now.table.shared.table_id }
     requires rests { mutator.old.worker.task ≡ None }
     requires valid { IsTrue (is_valid instr) }
+    requires silent { is_output instr ≡ false }
     ensures table { mutator.new.table ≡ mutator.old.table }
     ensures rests { mutator.new.worker.task ≡ None }
 {

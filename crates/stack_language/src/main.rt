@@ -71,7 +71,7 @@ fn run<R: Threads + Wait + Sync + Print + Eprint + AllocGlobal>(
     rt: &R,
     program: Program,
 ) -> Result<(), anyhow::Error> {
-    let (heap, mut seats) = Shared::open(rt.alloc(), 2, &CONFIG)?;
+    let (heap, mut seats) = Shared::open_without_printing(rt.alloc(), 2, &CONFIG)?;
     let (Some(right), Some(left)) = (seats.take_mutator(), seats.take_mutator()) else {
         unreachable!()
     };

@@ -24,6 +24,7 @@ pub fn begin(rt: &impl Abort, mutator: &mut Mutator, instr: Instr)
 {
     assert!(rt; mutator.ended().is_none());
     assert!(rt; mutator.serial() < MOST_RECORDS);
+    assert!(rt; mutator.can_print());
     mutator.begin(&instr);
 }
 
@@ -37,6 +38,7 @@ pub fn make<R: Wait + Abort>(rt: &R, h: &Shared, mutator: &mut Mutator, instr: I
 {
     assert!(rt; mutator.ended().is_none());
     assert!(rt; mutator.serial() < MOST_RECORDS);
+    assert!(rt; mutator.can_print());
     let did = mutator.exec(rt, h, &instr);
     assert_same(rt, &did, &Did::Done);
 }

@@ -69,6 +69,24 @@ pub fn open_scanned(alloc: Global) -> Result<(Shared, Seats, Mutator, Scanner), 
     Ok((heap, seats, mutator, scanner))
 }
 
+/// A heap of four pages that was opened without printing, with a mutator, which has made no step.
+pub fn open_silent(alloc: Global) -> Result<(Shared, Mutator), OpenError>
+    ensures { IfOk result (λ o. o.1.table ≡ o.0.table.shared.table_id) }
+{
+    let config = Config {
+        pages: 4,
+        limit: 4,
+        scanners: 0,
+        turns: 1,
+        snap: false,
+    };
+    let (heap, mut seats) = Shared::open_without_printing(alloc, 1, &config)?;
+    let Some(mutator) = seats.mutators.pop() else {
+        unreachable!()
+    };
+    Ok((heap, mutator))
+}
+
 /// A heap of four pages with a mutator and a scanner, which have made no step, and the seats without theirs, for which there is room.
 /// Another mutator is left there.
 pub fn open_untaken(alloc: Global) -> Result<(Shared, Seats, Mutator, Scanner), OpenError>

@@ -3,7 +3,7 @@
 ghost use Rattle.std.specs.Prelude.{◌≡◌};
 
 use crate::asserting::assert_same;
-use crate::heaps::{close_two, open_two};
+use crate::heaps::{close_two, open_silent, open_two};
 use ael_threads::{Did, Mutator, Refused, Reg, Shared};
 use mutator_asm::{Instr, Operand};
 use plain_state::End;
@@ -25,6 +25,16 @@ const INSTRS: [Instr; 5] = [
     Instr::Li(0, 1 << 62),
     Instr::New(0, Operand::Reg(8)),
     Instr::Jmp(65_537),
+];
+
+/// Instructions that print nothing.
+const SILENT: [Instr; 6] = [
+    Instr::Li(1, 7),
+    Instr::New(0, ONE),
+    Instr::St(0, ZERO, 1),
+    Instr::Ld(2, 0, ZERO),
+    Instr::Put(ZERO, 0),
+    Instr::Snap,
 ];
 
 /// What is seen of a mutator that uses two registers.
@@ -67,6 +77,16 @@ fn check_refused<R: Wait + Abort>(
     }
 }
 
+/// Each of these is executed.
+fn check_done<R: Wait + Abort>(rt: &R, h: &Shared, mutator: &mut Mutator, instrs: &[Instr])
+    requires { mutator.old.table ≡ h.now.table.shared.table_id }
+    ensures { mutator.new.table ≡ mutator.old.table }
+{
+    for instr in instrs {
+        assert_same(rt, &mutator.try_exec(rt, h, instr), &Ok(Did::Done));
+    }
+}
+
 /// Tries calls between two instructions, while one is under way, and after an end.
 fn try_calls<R: Wait + Abort>(rt: &R, h: &Shared, mutator: &mut Mutator)
     requires { mutator.old.table ≡ h.now.table.shared.table_id }
@@ -97,5 +117,16 @@ fn refused_calls_change_nothing(rt: HostRuntime) -> Result<(), Fail> {
     // Who has an end has no call under way, as `close_two` asks.
     assert!(rt; one.ended().is_some());
     close_two(&rt, h, seats, one, other);
+    Ok(())
+}
+
+#[test]
+fn a_heap_opened_without_printing_refuses_out_alone(rt: HostRuntime) -> Result<(), Fail> {
+    let (h, mut mutator) = open_silent(rt.alloc())?;
+    assert!(rt; !mutator.can_print());
+    check_refused(&rt, &h, &mut mutator, &[Instr::Out(0)], Refused::Printing);
+    check_refused(&rt, &h, &mut mutator, &[Instr::Out(8)], Refused::Operand);
+    check_done(&rt, &h, &mut mutator, &SILENT);
+    assert_same(&rt, &mutator.reg(2), &Reg::Number(7));
     Ok(())
 }

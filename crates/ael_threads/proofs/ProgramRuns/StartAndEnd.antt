@@ -55,7 +55,7 @@ module _ (code : List (List Instr)) (turns : ℕ) (t : TableId) (plan : Plan) wh
   scanning : (k : ℕ) → RunsAsScanner work k (new_seated t plan k)
   scanning k = record { table = refl; plan = refl; hands = refl; task = by_side (nat_lt k plan.mutators) }
     where
-      by_side : (is_mutator : Bool) → (if is_mutator then fresh_mutator plan.spaces plan.mutators k else fresh_scanner plan.spaces plan.mutators k).task ≡ None
+      by_side : (is_mutator : Bool) → (if is_mutator then fresh_mutator plan.prints plan.spaces plan.mutators k else fresh_scanner plan.prints plan.spaces plan.mutators k).task ≡ None
       by_side true = refl
       by_side false = refl
 

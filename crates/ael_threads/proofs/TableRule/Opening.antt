@@ -45,25 +45,25 @@ opening_length layout least = length_by layout.pages least layout.checkpoints
 
 -- as they stand in the list
 abbrev first_workers : Plan → List Held
-first_workers plan = fresh_workers plan.spaces plan.mutators 0 (crew plan)
+first_workers plan = fresh_workers plan.prints plan.spaces plan.mutators 0 (crew plan)
 
-module _ (s : Layout) (mutators : ℕ) where
-  count_is : (from count : ℕ) → length (fresh_workers s mutators from count) ≡ count
+module _ (prints : Bool) (s : Layout) (mutators : ℕ) where
+  count_is : (from count : ℕ) → length (fresh_workers prints s mutators from count) ≡ count
   unfolding fresh_workers
   count_is from zero = refl
   count_is from (suc count) = ap suc (count_is (from + 1) count)
 
-  pub worker_at : (from count k : ℕ) → k < count → get_elem? (fresh_workers s mutators from count) k ≡ some (fresh_worker s mutators (from + k))
+  pub worker_at : (from count k : ℕ) → k < count → get_elem? (fresh_workers prints s mutators from count) k ≡ some (fresh_worker prints s mutators (from + k))
   unfolding fresh_workers
   worker_at from zero k l = absurd (omega arith)
-  worker_at from (suc count) zero l = ap (λ (j : ℕ). some (fresh_worker s mutators j)) (let e : from ≡ from + 0 = omega arith in e)
-  worker_at from (suc count) (suc k) l = worker_at (from + 1) count k (omega arith) ∙ ap (λ (j : ℕ). some (fresh_worker s mutators j)) (let e : from + 1 + k ≡ from + suc k = omega arith in e)
+  worker_at from (suc count) zero l = ap (λ (j : ℕ). some (fresh_worker prints s mutators j)) (let e : from ≡ from + 0 = omega arith in e)
+  worker_at from (suc count) (suc k) l = worker_at (from + 1) count k (omega arith) ∙ ap (λ (j : ℕ). some (fresh_worker prints s mutators j)) (let e : from + 1 + k ≡ from + suc k = omega arith in e)
 
   -- it has counted nothing
-  pub uncounted_first : (k : ℕ) → uncounted (fresh_worker s mutators k) ≡ fresh_worker s mutators k
+  pub uncounted_first : (k : ℕ) → uncounted (fresh_worker prints s mutators k) ≡ fresh_worker prints s mutators k
   uncounted_first k = by_side (nat_lt k mutators)
     where
-      by_side : (b : Bool) → uncounted (if b then fresh_mutator s mutators k else fresh_scanner s mutators k) ≡ (if b then fresh_mutator s mutators k else fresh_scanner s mutators k)
+      by_side : (b : Bool) → uncounted (if b then fresh_mutator prints s mutators k else fresh_scanner prints s mutators k) ≡ (if b then fresh_mutator prints s mutators k else fresh_scanner prints s mutators k)
       by_side true = refl
       by_side false = refl
 
@@ -84,31 +84,31 @@ apart plan from zero = tt
 apart plan from (suc count) = (later plan from (from + 1) count (omega arith), apart plan (from + 1) count)
 
 -- no new worker is in a call
-new_looks : (s : Layout) (mutators k : ℕ) → IsInCall (fresh_worker s mutators k).stage → ⊥
-new_looks s mutators k = by_side (nat_lt k mutators)
+new_looks : (prints : Bool) (s : Layout) (mutators k : ℕ) → IsInCall (fresh_worker prints s mutators k).stage → ⊥
+new_looks prints s mutators k = by_side (nat_lt k mutators)
   where
-    by_side : (b : Bool) → IsInCall (if b then fresh_mutator s mutators k else fresh_scanner s mutators k).stage → ⊥
+    by_side : (b : Bool) → IsInCall (if b then fresh_mutator prints s mutators k else fresh_scanner prints s mutators k).stage → ⊥
     by_side true call = call
     by_side false call = call
 
-fresh_looks : (s : Layout) (mutators from count m : ℕ) (x : Held) → get_elem? (fresh_workers s mutators from count) m ≡ some x → IsInCall x.stage → ⊥
+fresh_looks : (prints : Bool) (s : Layout) (mutators from count m : ℕ) (x : Held) → get_elem? (fresh_workers prints s mutators from count) m ≡ some x → IsInCall x.stage → ⊥
 unfolding fresh_workers
-fresh_looks s mutators from zero m x is call = absurd (some-ne-none x (sym is))
-fresh_looks s mutators from (suc count) zero x is call = new_looks s mutators from (subst (λ (y : Held). IsInCall y.stage) (sym (some-injective (fresh_worker s mutators from) x is)) call)
-fresh_looks s mutators from (suc count) (suc m) x is call = fresh_looks s mutators (from + 1) count m x is call
+fresh_looks prints s mutators from zero m x is call = absurd (some-ne-none x (sym is))
+fresh_looks prints s mutators from (suc count) zero x is call = new_looks prints s mutators from (subst (λ (y : Held). IsInCall y.stage) (sym (some-injective (fresh_worker prints s mutators from) x is)) call)
+fresh_looks prints s mutators from (suc count) (suc m) x is call = fresh_looks prints s mutators (from + 1) count m x is call
 
 pub opens_kept : (plan : Plan) → IsPageCount plan.spaces.pages → FEWEST_PAGES ≤ plan.least → plan.least ≤ plan.spaces.pages → plan.mutators ≤ 16 → crew plan ≤ 24 → RuleHolds plan (table.opening {S = ℕ} (first_words plan) [] (first_view plan))
 opens_kept plan size fewest most few all = record {
   log = [];
   workers = first_workers plan;
-  count = count_is plan.spaces plan.mutators 0 (crew plan);
+  count = count_is plan.prints plan.spaces plan.mutators 0 (crew plan);
   owner = λ n. 0;
   winner = λ c. 0;
   legal = tt;
-  story = stories_open plan.spaces plan.least plan.mutators plan.scanners size fewest most few all;
-  last = scanners_begin_last plan.spaces plan.least plan.mutators plan.scanners;
-  tallied = opening_tallied plan.spaces plan.least plan.mutators plan.scanners size fewest most few all (first_plain plan);
-  begun = λ m x is call. absurd (fresh_looks plan.spaces plan.mutators 0 (crew plan) m x is call);
+  story = stories_open plan.prints plan.spaces plan.least plan.mutators plan.scanners size fewest most few all;
+  last = scanners_begin_last plan.prints plan.spaces plan.least plan.mutators plan.scanners;
+  tallied = opening_tallied plan.prints plan.spaces plan.least plan.mutators plan.scanners size fewest most few all (first_plain plan);
+  begun = λ m x is call. absurd (fresh_looks plan.prints plan.spaces plan.mutators 0 (crew plan) m x is call);
   flipped = λ m front rest task asked room live is. absurd (not_empty front rest _ is);
   seats = λ id v at. one id v at;
 }
@@ -116,8 +116,8 @@ opens_kept plan size fewest most few all = record {
     state : (k : ℕ) → k < crew plan → StandsAs (first_workers plan) (0 + k) (first_held plan (0 + k))
     state k less = record {
       held = first_held plan (0 + k);
-      is = (let e : 0 + k ≡ k = omega arith in ap (get_elem? (first_workers plan)) e ∙ worker_at plan.spaces plan.mutators 0 (crew plan) k less);
-      shown = uncounted_first plan.spaces plan.mutators (0 + k);
+      is = (let e : 0 + k ≡ k = omega arith in ap (get_elem? (first_workers plan)) e ∙ worker_at plan.prints plan.spaces plan.mutators 0 (crew plan) k less);
+      shown = uncounted_first plan.prints plan.spaces plan.mutators (0 + k);
     }
 
     first_fits : FitsView plan (first_words plan) (first_workers plan) [] (λ n. 0) (λ c. 0) 0 (first_view plan)

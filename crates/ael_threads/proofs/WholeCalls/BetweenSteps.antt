@@ -53,6 +53,7 @@ begins plan x now task (was ∷ others) is h idle may = subst (Follows plan was.
       record { same = s.same ∙ r.same; saver = s.saver ∙ r.saver; layout = s.layout ∙ r.layout; fits = λ f. s.fits (r.fits f) };
   fits = (tasks_may_begin plan.spaces.pages plan.mutators was.number x task h.fits idle may).fits h.fits;
   laid_out = h.laid_out;
+  prints = h.prints;
 })
 
 -- and shows what it did
@@ -69,21 +70,28 @@ pub shows_of : (a b : Seated) → a ≡ b → ShowsSeen a.worker a.knows → Sho
 shows_of a b same h = subst (λ (z : Seated). ShowsSeen z.worker z.knows) same h
 
 -- as it stands after a step
-stays : (plan : Plan) (m : ℕ) (x : Held) → Fits plan.spaces.pages plan.mutators m x → x.layout ≡ plan.spaces → Follows plan m x x
-stays plan m x f layout = record { begins = inl refl; readies = λ count. record { same = refl; saver = refl; layout = refl; fits = λ g. g }; fits = f; laid_out = layout }
+stays : (plan : Plan) (m : ℕ) (x : Held) → Fits plan.spaces.pages plan.mutators m x → x.layout ≡ plan.spaces → x.prints ≡ plan.prints → Follows plan m x x
+stays plan m x f layout prints = record { begins = inl refl; readies = λ count. record { same = refl; saver = refl; layout = refl; fits = λ g. g }; fits = f; laid_out = layout; prints = prints }
 
 -- its layout is the heap's
 laid_out : (plan : Plan) (x : Held) (hs : List Hand) → Heads plan x hs → x.layout ≡ plan.spaces
 laid_out plan x [] h = absurd h
 laid_out plan x (was ∷ others) h = h.laid_out
 
+-- it may print if they may
+pub may_print : (plan : Plan) (x : Held) (hs : List Hand) → Heads plan x hs → x.prints ≡ plan.prints
+may_print plan x [] h = absurd h
+may_print plan x (was ∷ others) h = h.prints
+
 pub moved_heads : (v : View) (x now : Held) (r : Reply) (w : View) → Heads v.plan x v.hands → Moves v (first_number v.hands) x r w → now ≡ uncounted (turned x r) → Heads w.plan now w.hands
 moved_heads v x now r w h t e =
     let n = v.plan.spaces.pages in
     let m = first_number v.hands in
     let f : Fits n v.plan.mutators m (uncounted (turned x r)) = (counted_fit n v.plan.mutators m 0 (turned x r)).1 t.fits in
-    let layout : (turned x r).layout ≡ v.plan.spaces = (workers_go_on n v.plan.mutators m x r (heads_fit v.plan x v.hands h)).layout ∙ laid_out v.plan x v.hands h in
-    subst (λ (z : Plan × (Held × List Hand)). Heads z.0 z.1.0 z.1.1) (λ i. (sym t.plan i, (sym e i, sym t.hands i))) (stays v.plan m (uncounted (turned x r)) f layout)
+    let goes = workers_go_on n v.plan.mutators m x r (heads_fit v.plan x v.hands h) in
+    let layout : (turned x r).layout ≡ v.plan.spaces = goes.layout ∙ laid_out v.plan x v.hands h in
+    let prints : (turned x r).prints ≡ v.plan.prints = goes.prints ∙ may_print v.plan x v.hands h in
+    subst (λ (z : Plan × (Held × List Hand)). Heads z.0 z.1.0 z.1.1) (λ i. (sym t.plan i, (sym e i, sym t.hands i))) (stays v.plan m (uncounted (turned x r)) f layout prints)
 
 pub sound_by : (n mutators k : ℕ) (x : Held) → Fits n mutators k x → IsSound x
 sound_by n mutators k x f = subst (λ (j : ℕ). Fits x.layout.pages x.mutators j x) (sym f.number)
@@ -97,25 +105,32 @@ still_live t u v w e f live = subst (λ (z : TableId × Plan). (0 < z.1.spaces.p
 first_fits : (plan : Plan) (k : ℕ) → IsPageCount plan.spaces.pages → k ≤ 23 → Fits plan.spaces.pages plan.mutators k (first_held plan k)
 first_fits plan k size few = by_side (nat_lt k plan.mutators) refl
   where
-    by_side : (b : Bool) → nat_lt k plan.mutators ≡ b → Fits plan.spaces.pages plan.mutators k (if b then fresh_mutator plan.spaces plan.mutators k else fresh_scanner plan.spaces plan.mutators k)
-    by_side true e = mutator_fits plan.spaces plan.mutators k size few e
-    by_side false e = scanner_fits plan.spaces plan.mutators k size few e
+    by_side : (b : Bool) → nat_lt k plan.mutators ≡ b → Fits plan.spaces.pages plan.mutators k (if b then fresh_mutator plan.prints plan.spaces plan.mutators k else fresh_scanner plan.prints plan.spaces plan.mutators k)
+    by_side true e = mutator_fits plan.prints plan.spaces plan.mutators k size few e
+    by_side false e = scanner_fits plan.prints plan.spaces plan.mutators k size few e
 
 first_layout : (plan : Plan) (k : ℕ) → (first_held plan k).layout ≡ plan.spaces
 first_layout plan k = by_side (nat_lt k plan.mutators)
   where
-    by_side : (b : Bool) → (if b then fresh_mutator plan.spaces plan.mutators k else fresh_scanner plan.spaces plan.mutators k).layout ≡ plan.spaces
+    by_side : (b : Bool) → (if b then fresh_mutator plan.prints plan.spaces plan.mutators k else fresh_scanner plan.prints plan.spaces plan.mutators k).layout ≡ plan.spaces
+    by_side true = refl
+    by_side false = refl
+
+first_prints : (plan : Plan) (k : ℕ) → (first_held plan k).prints ≡ plan.prints
+first_prints plan k = by_side (nat_lt k plan.mutators)
+  where
+    by_side : (b : Bool) → (if b then fresh_mutator plan.prints plan.spaces plan.mutators k else fresh_scanner plan.prints plan.spaces plan.mutators k).prints ≡ plan.prints
     by_side true = refl
     by_side false = refl
 
 pub fresh_heads : (plan : Plan) (k : ℕ) (x : Held) (v : View) → IsPageCount plan.spaces.pages → k ≤ 23 → x ≡ first_held plan k → v ≡ view plan (hand k (first_held plan k) [] ∷ []) [] [] [] → Heads v.plan x v.hands
 fresh_heads plan k x v size few e is =
-    subst (λ (z : Held × View). Heads z.1.plan z.0 z.1.hands) (λ i. (sym e i, sym is i)) (stays plan k (first_held plan k) (first_fits plan k size few) (first_layout plan k))
+    subst (λ (z : Held × View). Heads z.1.plan z.0 z.1.hands) (λ i. (sym e i, sym is i)) (stays plan k (first_held plan k) (first_fits plan k size few) (first_layout plan k) (first_prints plan k))
 
-first_end : (l : Layout) (mutators k : ℕ) → (fresh_worker l mutators k).account.end ≡ None
-first_end l mutators k = by_side (nat_lt k mutators)
+first_end : (prints : Bool) (l : Layout) (mutators k : ℕ) → (fresh_worker prints l mutators k).account.end ≡ None
+first_end prints l mutators k = by_side (nat_lt k mutators)
   where
-    by_side : (b : Bool) → (if b then fresh_mutator l mutators k else fresh_scanner l mutators k).account.end ≡ None
+    by_side : (b : Bool) → (if b then fresh_mutator prints l mutators k else fresh_scanner prints l mutators k).account.end ≡ None
     by_side true = refl
     by_side false = refl
 
@@ -125,14 +140,14 @@ fresh_shown : (plan : Plan) (k : ℕ) → IsPageCount plan.spaces.pages → plan
 fresh_shown plan k size few all below q its =
     let n = plan.spaces.pages in
     let l : Layout = plan.spaces in
-    let first : ℕ → Held = fresh_worker l plan.mutators in
-    let h : Heap = opening_heap l n plan.mutators plan.scanners in
-    let so = what_stands_is_so h (first_plain plan) (first_plain plan) (heaps_open l n plan.mutators plan.scanners size size.0 (omega arith) few all) in
+    let first : ℕ → Held = fresh_worker plan.prints l plan.mutators in
+    let h : Heap = opening_heap plan.prints l n plan.mutators plan.scanners in
+    let so = what_stands_is_so h (first_plain plan) (first_plain plan) (heaps_open plan.prints l n plan.mutators plan.scanners size size.0 (omega arith) few all) in
     let same : 0 + k ≡ k = omega arith in
-    let held : held_at h k ≡ counted 0 (first k) = get_of h.workers k (first (0 + k)) nobody (worker_at l plan.mutators 0 (crew plan) k below) ∙ (ap first same ∙ sym (uncounted_first l plan.mutators k)) in
+    let held : held_at h k ≡ counted 0 (first k) = get_of h.workers k (first (0 + k)) nobody (worker_at plan.prints l plan.mutators 0 (crew plan) k below) ∙ (ap first same ∙ sym (uncounted_first plan.prints l plan.mutators k)) in
     let a : IsAsPlain h (first_plain plan) k (counted 0 (first k)) q = subst (λ (x : Held). IsAsPlain h (first_plain plan) k x q) held (so.mutators k q its) in
-    let shown = shown_by h (first_plain plan) k 0 (first k) q a (a.shows (sym a.account.end ∙ first_end l plan.mutators k)) in
-    subst (λ (x : Held). IsShown (first_plain plan).heap k x q) (uncounted_first l plan.mutators k) shown
+    let shown = shown_by h (first_plain plan) k 0 (first k) q a (a.shows (sym a.account.end ∙ first_end plan.prints l plan.mutators k)) in
+    subst (λ (x : Held). IsShown (first_plain plan).heap k x q) (uncounted_first plan.prints l plan.mutators k) shown
 
 pub fresh_shows : (plan : Plan) (k : ℕ) (x : Held) (v : View) → IsPageCount plan.spaces.pages → plan.mutators ≤ 16 → crew plan ≤ 24 → k < crew plan → x ≡ first_held plan k
     → v ≡ view plan (hand k (first_held plan k) [] ∷ []) [] [] [] → ShowsSeen x v

@@ -29,10 +29,10 @@ module _ (plan : Plan) (me : Me) where
   has_fewer k h = subst (HasFrom plan me) (omega arith) h
 
 -- what a worker holds as it gets its seat
-pub held_mutator : (plan : Plan) (k : ℕ) (x : Held) → k < plan.mutators → x ≡ fresh_mutator plan.spaces plan.mutators k → x ≡ first_held plan k
+pub held_mutator : (plan : Plan) (k : ℕ) (x : Held) → k < plan.mutators → x ≡ fresh_mutator plan.prints plan.spaces plan.mutators k → x ≡ first_held plan k
 held_mutator plan k x below is = rw (lt-ltb k plan.mutators below) is
 
-pub held_scanner : (plan : Plan) (k : ℕ) (x : Held) → plan.mutators ≤ k → x ≡ fresh_scanner plan.spaces plan.mutators k → x ≡ first_held plan k
+pub held_scanner : (plan : Plan) (k : ℕ) (x : Held) → plan.mutators ≤ k → x ≡ fresh_scanner plan.prints plan.spaces plan.mutators k → x ≡ first_held plan k
 held_scanner plan k x past is = rw (le-ltb k plan.mutators past) is
 
 module _ (t : TableId) (plan : Plan) where

@@ -1,6 +1,6 @@
 //! What all threads of a run share.
 
-ghost use Rattle.std.specs.Prelude.{◌≤◌};
+ghost use Rattle.std.specs.Prelude.{◌≡◌, ◌≤◌, true};
 ghost use Rattle.gc_worker.specs.declared.config.TheConstants.{MOST_TURNS};
 
 use crate::shared::Shared;
@@ -17,6 +17,7 @@ pub(crate) struct Job<'a, R, P> {
     pub program: &'a Program,
     pub turns: u32,
     pub ghost few: { turns ≤ MOST_TURNS },
+    pub ghost prints: { heap.now.table.shared.key.prints ≡ true },
 }
 
 impl<'a, R, P> Model for Job<'a, R, P> {

@@ -1,5 +1,5 @@
 -- What cycles keep in every run, from its history.
-use Rattle.std.proofs.Common.{◌≡◌, ℕ, ◌+◌, ◌*◌, ◌≤◌, false, List, [], ◌++◌, length, Some, refl, sym, subst, arith}
+use Rattle.std.proofs.Common.{◌≡◌, ℕ, ◌+◌, ◌*◌, ◌≤◌, true, false, List, [], ◌++◌, length, Some, refl, sym, subst, arith}
 use Rattle.std.specs.Prelude.{IsTrue}
 use Rattle.plain_state.specs.declared.end.End.TheVariants as ends
 use Rattle.plain_state.specs.declared.sizes.TheConstants.{PAGE_WORDS}
@@ -76,7 +76,7 @@ module _ (code : List (List Instr)) (items : List Item) (config : Config) (sched
   begins = record {
     steady = steady;
     stands = stands;
-    tallied = (let at = sizes_fit config size in opening_tallied (layout_by config) config.pages (length code) config.scanners (limit_fits config size) at.0 at.1 program.few_sections fits (opening code));
+    tallied = (let at = sizes_fit config size in opening_tallied true (layout_by config) config.pages (length code) config.scanners (limit_fits config size) at.0 at.1 program.few_sections fits (opening code));
     legal = tt;
     fetched = λ m. tt;
   }
@@ -84,8 +84,8 @@ module _ (code : List (List Instr)) (items : List Item) (config : Config) (sched
   fills : HasClaimed config.limit s 0
   fills =
       let at = sizes_fit config size in
-      let l = low (layout_by config) config.pages (length code) config.scanners (limit_fits config size) at.0 at.1 program.few_sections fits in
-      let u = in_use (layout_by config) config.pages (length code) config.scanners (limit_fits config size) at.0 at.1 program.few_sections fits in
+      let l = low true (layout_by config) config.pages (length code) config.scanners (limit_fits config size) at.0 at.1 program.few_sections fits in
+      let u = in_use true (layout_by config) config.pages (length code) config.scanners (limit_fits config size) at.0 at.1 program.few_sections fits in
       record { limit_is = refl; low = omega (arith, l, u) }
 
   -- a core of this program, its history, and the words that were claimed since the last flip

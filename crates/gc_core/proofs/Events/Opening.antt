@@ -70,19 +70,19 @@ opening_words-length layout least = ap length (opening_words_are layout least) �
 -- ---- the workers
 
 -- one worker more is the next one
-pub fresh_push : (s : Layout) (mutators from count : ℕ) → fresh_workers s mutators from (count + 1) ≡ fresh_workers s mutators from count ++ fresh_worker s mutators (from + count) ∷ []
+pub fresh_push : (prints : Bool) (s : Layout) (mutators from count : ℕ) → fresh_workers prints s mutators from (count + 1) ≡ fresh_workers prints s mutators from count ++ fresh_worker prints s mutators (from + count) ∷ []
 unfolding fresh_workers
-fresh_push s mutators from zero = let e : from + 0 ≡ from = omega arith in rw e refl
-fresh_push s mutators from (suc count) =
+fresh_push prints s mutators from zero = let e : from + 0 ≡ from = omega arith in rw e refl
+fresh_push prints s mutators from (suc count) =
     let e : from + 1 + count ≡ from + suc count = omega arith in
     let f : suc count + 1 ≡ suc (count + 1) = omega arith in
-    rw f (ap (λ (ks : List Held). fresh_worker s mutators from ∷ ks) (fresh_push s mutators (from + 1) count ∙ ap (λ (k : ℕ). fresh_workers s mutators (from + 1) count ++ fresh_worker s mutators k ∷ []) e))
+    rw f (ap (λ (ks : List Held). fresh_worker prints s mutators from ∷ ks) (fresh_push prints s mutators (from + 1) count ∙ ap (λ (k : ℕ). fresh_workers prints s mutators (from + 1) count ++ fresh_worker prints s mutators k ∷ []) e))
 
 module _ (opens : HeapsOpen) (code : List (List Instr)) (items : List Item) (config : Config) (program : IsWellFormed code items) (size : IsTrue (has_sizes config)) (turns : config.turns ≤ 10000000) (few : config.scanners ≤ 8) where
   pub opening_stands : WorkersStand (opening_core code config).heap (order.opening code) (order.opening code)
   opening_stands =
       subst (λ (p : Plain). WorkersStand (opening_core code config).heap p p) (opens_so code)
-      (let fit = sizes_fit config size in opens (layout_by config) config.pages (length code) config.scanners (limit_fits config size) fit.0 fit.1 program.few_sections (let l = program.few_sections in omega (arith, l, few)))
+      (let fit = sizes_fit config size in opens true (layout_by config) config.pages (length code) config.scanners (limit_fits config size) fit.0 fit.1 program.few_sections (let l = program.few_sections in omega (arith, l, few)))
 
   -- and so for a story that begins there
   pub opening_story : StoryStands (opening_core code config).heap (order.opening code) (order.opening code)
@@ -91,10 +91,10 @@ module _ (opens : HeapsOpen) (code : List (List Instr)) (items : List Item) (con
     cells = let traced = IsTraced (opening_core code config).heap in subst (λ (p : Plain). CellsFollow traced p p) (opens_so code) (opening_cells traced (length code));
   }
 
-  mutator_there : (m : ℕ) → m < length code → held_at (opening_core code config).heap m ≡ fresh_mutator (layout_by config) (length code) m
+  mutator_there : (m : ℕ) → m < length code → held_at (opening_core code config).heap m ≡ fresh_mutator true (layout_by config) (length code) m
   mutator_there m l =
-      is_there (layout_by config) (length code) 0 (length code + config.scanners) m m (omega (arith, l)) (omega arith)
-      ∙ ap (λ (b : Bool). if b then fresh_mutator (layout_by config) (length code) m else fresh_scanner (layout_by config) (length code) m) (lt-ltb m (length code) l)
+      is_there true (layout_by config) (length code) 0 (length code + config.scanners) m m (omega (arith, l)) (omega arith)
+      ∙ ap (λ (b : Bool). if b then fresh_mutator true (layout_by config) (length code) m else fresh_scanner true (layout_by config) (length code) m) (lt-ltb m (length code) l)
 
   pub opening_steady : IsSteady (opening_core code config)
   opening_steady = record {
@@ -102,7 +102,7 @@ module _ (opens : HeapsOpen) (code : List (List Instr)) (items : List Item) (con
     sections = refl;
     turns_fit = turns;
     on_task = λ m l. let e = mutator_there m l in record { counted = rw e (omega arith); within = rw e (omega arith); task = λ task t. none≢some (sym (ap (λ (h : Held). h.task) e) ∙ t) };
-    last = scanners_begin_last (layout_by config) config.pages (length code) config.scanners;
+    last = scanners_begin_last true (layout_by config) config.pages (length code) config.scanners;
     whole = opening_words-length (layout_by config) config.pages;
   }
 

@@ -82,22 +82,23 @@ record Turns (x y : Held) (t : Told) : Type 0 where
   pub number : y.number ≡ x.number
   pub layout : y.layout ≡ x.layout
   pub mutators : y.mutators ≡ x.mutators
+  pub prints : y.prints ≡ x.prints
 
 module _ (x : Held) where
   -- the same worker, with another stage or what a step makes of it
   abbrev Same : Held → Type 0
-  Same y = (y.number ≡ x.number) × (y.layout ≡ x.layout) × (y.mutators ≡ x.mutators)
+  Same y = (y.number ≡ x.number) × (y.layout ≡ x.layout) × (y.mutators ≡ x.mutators) × (y.prints ≡ x.prints)
 
   turns : (y : Held) (t : Told) → Same y → Comes x y t → Turns x y t
-  turns y t same comes = record { comes = comes; number = same.0; layout = same.1; mutators = same.2 }
+  turns y t same comes = record { comes = comes; number = same.0; layout = same.1; mutators = same.2; prints = same.3 }
 
   effect_by : (y : Held) → Same y → y.task ≡ None → RestsAt x.stage y.stage → (task : Option Task) → x.task ≡ task → Turns x y (told_effect task)
   effect_by y same rests after (Some task) asked = turns y (Answers task Done) same (record { asked = asked; rests = rests; after = after })
   effect_by y same rests after None none = turns y Silent same (rests ∙ sym none)
 
   end_by : (why : End) (task : Option Task) → x.task ≡ task → Turns x (ended x why) (told_end task why)
-  end_by why (Some task) asked = turns (ended x why) (Answers task (Trap why)) (refl, refl, refl) (record { asked = asked; rests = refl; after = (refl, refl) })
-  end_by why None none = turns (ended x why) Silent (refl, refl, refl) (sym none)
+  end_by why (Some task) asked = turns (ended x why) (Answers task (Trap why)) (refl, refl, refl, refl) (record { asked = asked; rests = refl; after = (refl, refl) })
+  end_by why None none = turns (ended x why) Silent (refl, refl, refl, refl) (sym none)
 
   -- ---- a look
 
@@ -107,33 +108,33 @@ module _ (x : Held) where
 
     -- a checkpoint is begun later, or cannot be begun
     snap_if : (b : Bool) → Turns x (cond b (at_stage (begins x) (serves_snap (begins x))) (went_on (begins x))) (cond b Silent (Answers task Done))
-    snap_if true = turns (at_stage (begins x) (serves_snap (begins x))) Silent (refl, refl, refl) refl
-    snap_if false = at_once (went_on (begins x)) (refl, refl, refl) refl tt
+    snap_if true = turns (at_stage (begins x) (serves_snap (begins x))) Silent (refl, refl, refl, refl) refl
+    snap_if false = at_once (went_on (begins x)) (refl, refl, refl, refl) refl tt
 
     by_action : (act : Action) → Turns x (acts (begins x) act) (told_action x task act)
-    by_action (Sets d v) = at_once (acts (begins x) (Sets d v)) (refl, refl, refl) refl tt
-    by_action (Jumps target) = at_once (acts (begins x) (Jumps target)) (refl, refl, refl) refl tt
-    by_action (Links d target) = at_once (acts (begins x) (Links d target)) (refl, refl, refl) refl tt
-    by_action (Prints n) = at_once (acts (begins x) (Prints n)) (refl, refl, refl) refl tt
+    by_action (Sets d v) = at_once (acts (begins x) (Sets d v)) (refl, refl, refl, refl) refl tt
+    by_action (Jumps target) = at_once (acts (begins x) (Jumps target)) (refl, refl, refl, refl) refl tt
+    by_action (Links d target) = at_once (acts (begins x) (Links d target)) (refl, refl, refl, refl) refl tt
+    by_action (Prints n) = at_once (acts (begins x) (Prints n)) (refl, refl, refl, refl) refl tt
     by_action Snaps = snap_if (may_snap x)
-    by_action (Makes kind d n v) = turns (acts (begins x) (Makes kind d n v)) Silent (refl, refl, refl) refl
-    by_action (Measures d i) = turns (acts (begins x) (Measures d i)) Silent (refl, refl, refl) refl
-    by_action (Loads d i n) = turns (acts (begins x) (Loads d i n)) Silent (refl, refl, refl) refl
-    by_action (Stores i n v) = turns (acts (begins x) (Stores i n v)) Silent (refl, refl, refl) refl
-    by_action (Exchanges d i n u v) = turns (acts (begins x) (Exchanges d i n u v)) Silent (refl, refl, refl) refl
-    by_action (Gets d n) = turns (acts (begins x) (Gets d n)) Silent (refl, refl, refl) refl
-    by_action (Puts n v) = turns (acts (begins x) (Puts n v)) Silent (refl, refl, refl) refl
-    by_action (Swaps d n v) = turns (acts (begins x) (Swaps d n v)) Silent (refl, refl, refl) refl
+    by_action (Makes kind d n v) = turns (acts (begins x) (Makes kind d n v)) Silent (refl, refl, refl, refl) refl
+    by_action (Measures d i) = turns (acts (begins x) (Measures d i)) Silent (refl, refl, refl, refl) refl
+    by_action (Loads d i n) = turns (acts (begins x) (Loads d i n)) Silent (refl, refl, refl, refl) refl
+    by_action (Stores i n v) = turns (acts (begins x) (Stores i n v)) Silent (refl, refl, refl, refl) refl
+    by_action (Exchanges d i n u v) = turns (acts (begins x) (Exchanges d i n u v)) Silent (refl, refl, refl, refl) refl
+    by_action (Gets d n) = turns (acts (begins x) (Gets d n)) Silent (refl, refl, refl, refl) refl
+    by_action (Puts n v) = turns (acts (begins x) (Puts n v)) Silent (refl, refl, refl, refl) refl
+    by_action (Swaps d n v) = turns (acts (begins x) (Swaps d n v)) Silent (refl, refl, refl, refl) refl
 
     stops_at : (why : End) → Turns x (ended (begins x) why) (Answers task (Trap why))
-    stops_at why = turns (ended (begins x) why) (Answers task (Trap why)) (refl, refl, refl) (record { asked = asked; rests = refl; after = (refl, refl) })
+    stops_at why = turns (ended (begins x) why) (Answers task (Trap why)) (refl, refl, refl, refl) (record { asked = asked; rests = refl; after = (refl, refl) })
 
     by_result : (r : Result Action End) → Turns x (acted (begins x) r) (told_acted x task r)
     by_result (Ok act) = by_action act
     by_result (Err why) = stops_at why
 
   start_by : (task : Option Task) → x.task ≡ task → Turns x (started x task) (told_start x task)
-  start_by None none = turns (started x None) Silent (refl, refl, refl) refl
+  start_by None none = turns (started x None) Silent (refl, refl, refl, refl) refl
   start_by (Some (Calls instr)) asked = by_result (Calls instr) asked (action (seen x.account x.registers) instr)
   start_by (Some (Stops why)) asked = stops_at (Stops why) asked why
 
@@ -142,55 +143,55 @@ module _ (x : Held) where
   request_by false parked same task = start_by x.task refl
 
   gate_by : (o : Option GateWord) → Turns x (looked_by x o) (told_gate x o)
-  gate_by (Some read) = request_by read.request (at_stage x (passes x Park afters.Looks)) (refl, refl, refl) refl
-  gate_by None = turns x Silent (refl, refl, refl) refl
+  gate_by (Some read) = request_by read.request (at_stage x (passes x Park afters.Looks)) (refl, refl, refl, refl) refl
+  gate_by None = turns x Silent (refl, refl, refl, refl) refl
 
   look_by : (reply : Reply) → Turns x (turned_look x reply) (told_look x reply)
   look_by (replies.Value word) = gate_by (decode_gate word)
-  look_by replies.Done = turns x Silent (refl, refl, refl) refl
-  look_by replies.Won = turns x Silent (refl, refl, refl) refl
-  look_by (replies.Lost word) = turns x Silent (refl, refl, refl) refl
+  look_by replies.Done = turns x Silent (refl, refl, refl, refl) refl
+  look_by replies.Won = turns x Silent (refl, refl, refl, refl) refl
+  look_by (replies.Lost word) = turns x Silent (refl, refl, refl, refl) refl
 
   -- ---- at the gate
 
   passed_so : (after : After) (passage : Passage) (result : Passed) → Turns x (passed_by x after passage result) Silent
-  passed_so after Attach (passed.Went word) = turns (passed_by x after Attach (passed.Went word)) Silent (refl, refl, refl) refl
-  passed_so after Attach (passed.NotYet word) = turns (passed_by x after Attach (passed.NotYet word)) Silent (refl, refl, refl) refl
-  passed_so after Park (passed.Went word) = turns (passed_by x after Park (passed.Went word)) Silent (refl, refl, refl) refl
-  passed_so after Park (passed.NotYet word) = turns (passed_by x after Park (passed.NotYet word)) Silent (refl, refl, refl) refl
-  passed_so after Request (passed.Went word) = turns (passed_by x after Request (passed.Went word)) Silent (refl, refl, refl) refl
-  passed_so after Request (passed.NotYet word) = turns (passed_by x after Request (passed.NotYet word)) Silent (refl, refl, refl) refl
-  passed_so after (Resume own) (passed.Went word) = turns (passed_by x after (Resume own) (passed.Went word)) Silent (refl, refl, refl) refl
-  passed_so after (Resume own) (passed.NotYet word) = turns (passed_by x after (Resume own) (passed.NotYet word)) Silent (refl, refl, refl) refl
-  passed_so after Forwarded (passed.Went word) = turns (passed_by x after Forwarded (passed.Went word)) Silent (refl, refl, refl) refl
-  passed_so after Forwarded (passed.NotYet word) = turns (passed_by x after Forwarded (passed.NotYet word)) Silent (refl, refl, refl) refl
-  passed_so after Leave (passed.Went word) = turns (passed_by x after Leave (passed.Went word)) Silent (refl, refl, refl) refl
-  passed_so after Leave (passed.NotYet word) = turns (passed_by x after Leave (passed.NotYet word)) Silent (refl, refl, refl) refl
-  passed_so after Look result = turns x Silent (refl, refl, refl) refl
-  passed_so after Clear (passed.Went word) = turns (passed_by x after Clear (passed.Went word)) Silent (refl, refl, refl) refl
-  passed_so after Clear (passed.NotYet word) = turns x Silent (refl, refl, refl) refl
+  passed_so after Attach (passed.Went word) = turns (passed_by x after Attach (passed.Went word)) Silent (refl, refl, refl, refl) refl
+  passed_so after Attach (passed.NotYet word) = turns (passed_by x after Attach (passed.NotYet word)) Silent (refl, refl, refl, refl) refl
+  passed_so after Park (passed.Went word) = turns (passed_by x after Park (passed.Went word)) Silent (refl, refl, refl, refl) refl
+  passed_so after Park (passed.NotYet word) = turns (passed_by x after Park (passed.NotYet word)) Silent (refl, refl, refl, refl) refl
+  passed_so after Request (passed.Went word) = turns (passed_by x after Request (passed.Went word)) Silent (refl, refl, refl, refl) refl
+  passed_so after Request (passed.NotYet word) = turns (passed_by x after Request (passed.NotYet word)) Silent (refl, refl, refl, refl) refl
+  passed_so after (Resume own) (passed.Went word) = turns (passed_by x after (Resume own) (passed.Went word)) Silent (refl, refl, refl, refl) refl
+  passed_so after (Resume own) (passed.NotYet word) = turns (passed_by x after (Resume own) (passed.NotYet word)) Silent (refl, refl, refl, refl) refl
+  passed_so after Forwarded (passed.Went word) = turns (passed_by x after Forwarded (passed.Went word)) Silent (refl, refl, refl, refl) refl
+  passed_so after Forwarded (passed.NotYet word) = turns (passed_by x after Forwarded (passed.NotYet word)) Silent (refl, refl, refl, refl) refl
+  passed_so after Leave (passed.Went word) = turns (passed_by x after Leave (passed.Went word)) Silent (refl, refl, refl, refl) refl
+  passed_so after Leave (passed.NotYet word) = turns (passed_by x after Leave (passed.NotYet word)) Silent (refl, refl, refl, refl) refl
+  passed_so after Look result = turns x Silent (refl, refl, refl, refl) refl
+  passed_so after Clear (passed.Went word) = turns (passed_by x after Clear (passed.Went word)) Silent (refl, refl, refl, refl) refl
+  passed_so after Clear (passed.NotYet word) = turns x Silent (refl, refl, refl, refl) refl
 
   passing_by : (g : gate.Passing) (after : After) (turn : Turn Passed) → Turns x (turned_gate x g after turn) Silent
-  passing_by g after More = turns (turned_gate x g after More) Silent (refl, refl, refl) refl
+  passing_by g after More = turns (turned_gate x g after More) Silent (refl, refl, refl, refl) refl
   passing_by g after (Finished result) = passed_so after g.passage result
 
   flip_by : (f : flip.Flipping) (turn : Turn Flipped) → Turns x (turned_flip x f turn) (told_flip turn)
-  flip_by f More = turns (turned_flip x f More) Silent (refl, refl, refl) refl
-  flip_by f (Finished (flipped.Went asked)) = turns (turned_flip x f (Finished (flipped.Went asked))) (Marks asked) (refl, refl, refl) refl
-  flip_by f (Finished (flipped.NotYet word)) = turns (turned_flip x f (Finished (flipped.NotYet word))) Silent (refl, refl, refl) refl
+  flip_by f More = turns (turned_flip x f More) Silent (refl, refl, refl, refl) refl
+  flip_by f (Finished (flipped.Went asked)) = turns (turned_flip x f (Finished (flipped.Went asked))) (Marks asked) (refl, refl, refl, refl) refl
+  flip_by f (Finished (flipped.NotYet word)) = turns (turned_flip x f (Finished (flipped.NotYet word))) Silent (refl, refl, refl, refl) refl
 
   register_by : (w : ForwardingRegister) (turn : Turn To) → Turns x (turned_register x w turn) Silent
-  register_by w More = turns (turned_register x w More) Silent (refl, refl, refl) refl
-  register_by w (Finished to) = turns (turned_register x w (Finished to)) Silent (refl, refl, refl) refl
+  register_by w More = turns (turned_register x w More) Silent (refl, refl, refl, refl) refl
+  register_by w (Finished to) = turns (turned_register x w (Finished to)) Silent (refl, refl, refl, refl) refl
 
   -- ---- an access, an allocation
 
   access_by : (a : Access) (turn : Turn Accessed) → Turns x (turned_access x a turn) (told_access x.task turn)
-  access_by a More = turns (turned_access x a More) Silent (refl, refl, refl) refl
-  access_by a (Finished (Faults page)) = turns (turned_access x a (Finished (Faults page))) Silent (refl, refl, refl) refl
-  access_by a (Finished Awaits) = turns (turned_access x a (Finished Awaits)) Silent (refl, refl, refl) refl
-  access_by a (Finished (Brings into word)) = effect_by (turned_access x a (Finished (Brings into word))) (refl, refl, refl) refl tt x.task refl
-  access_by a (Finished Stored) = effect_by (turned_access x a (Finished Stored)) (refl, refl, refl) refl tt x.task refl
+  access_by a More = turns (turned_access x a More) Silent (refl, refl, refl, refl) refl
+  access_by a (Finished (Faults page)) = turns (turned_access x a (Finished (Faults page))) Silent (refl, refl, refl, refl) refl
+  access_by a (Finished Awaits) = turns (turned_access x a (Finished Awaits)) Silent (refl, refl, refl, refl) refl
+  access_by a (Finished (Brings into word)) = effect_by (turned_access x a (Finished (Brings into word))) (refl, refl, refl, refl) refl tt x.task refl
+  access_by a (Finished Stored) = effect_by (turned_access x a (Finished Stored)) (refl, refl, refl, refl) refl tt x.task refl
   access_by a (Finished (Fails why)) = end_by why x.task refl
 
   full_if : (b : Bool) (why : End) (asks : Held) → Same asks → asks.task ≡ x.task → Turns x (cond b (ended x why) asks) (cond b (told_end x.task why) Silent)
@@ -198,71 +199,71 @@ module _ (x : Held) where
   full_if false why asks same task = turns asks Silent same task
 
   shortage_by : (s : Shortage) (traced : Bool) → Turns x (full_by x s traced) (told_full x s traced)
-  shortage_by s false = turns (full_by x s false) Silent (refl, refl, refl) refl
-  shortage_by s true = full_if (is_full x s) (end_by_shortage s) (at_stage x (asks_flip x)) (refl, refl, refl) refl
+  shortage_by s false = turns (full_by x s false) Silent (refl, refl, refl, refl) refl
+  shortage_by s true = full_if (is_full x s) (end_by_shortage s) (at_stage x (asks_flip x)) (refl, refl, refl, refl) refl
 
   module _ (making : IsMaking x.account x.registers x.task) where
     placed_by : (run : Run) (at : ℕ) (made : Option Making) → making_for x x.task ≡ made → Turns x (with_record x run at made) (told_effect x.task)
-    placed_by run at (Some m) is = effect_by (with_record x run at (Some m)) (refl, refl, refl) refl tt x.task refl
+    placed_by run at (Some m) is = effect_by (with_record x run at (Some m)) (refl, refl, refl, refl) refl tt x.task refl
     placed_by run at None none = absurd (let e = sym none ∙ made_is x making in cc)
 
     place_by : (p : place.Placing) (turn : Turn Allocated) → Turns x (turned_place x p turn) (told_place x turn)
-    place_by p More = turns (turned_place x p More) Silent (refl, refl, refl) refl
+    place_by p More = turns (turned_place x p More) Silent (refl, refl, refl, refl) refl
     place_by p (Finished (Placed at)) = placed_by p.run at (making_for x x.task) refl
     place_by p (Finished (Full s)) = shortage_by s s.traced
 
   -- ---- rounds and scans
 
   traced_so : (d : duty.Round) (back : Back) → Turns x (traced_by (of_round x d) back) Silent
-  traced_so d (ToAccess a) = turns (traced_by (of_round x d) (ToAccess a)) Silent (refl, refl, refl) refl
-  traced_so d (ToTarget a) = turns (traced_by (of_round x d) (ToTarget a)) Silent (refl, refl, refl) refl
-  traced_so d ToPlace = turns (traced_by (of_round x d) ToPlace) Silent (refl, refl, refl) refl
-  traced_so d ToSnap = turns (traced_by (of_round x d) ToSnap) Silent (refl, refl, refl) refl
-  traced_so d ToScanner = turns (traced_by (of_round x d) ToScanner) Silent (refl, refl, refl) refl
+  traced_so d (ToAccess a) = turns (traced_by (of_round x d) (ToAccess a)) Silent (refl, refl, refl, refl) refl
+  traced_so d (ToTarget a) = turns (traced_by (of_round x d) (ToTarget a)) Silent (refl, refl, refl, refl) refl
+  traced_so d ToPlace = turns (traced_by (of_round x d) ToPlace) Silent (refl, refl, refl, refl) refl
+  traced_so d ToSnap = turns (traced_by (of_round x d) ToSnap) Silent (refl, refl, refl, refl) refl
+  traced_so d ToScanner = turns (traced_by (of_round x d) ToScanner) Silent (refl, refl, refl, refl) refl
 
   served_so : (d : duty.Round) (back : Back) (result : RoundEnd) → Turns x (served_by x d back result) (told_round (Finished result))
-  served_so d back (ScanPage page) = turns (served_by x d back (ScanPage page)) Silent (refl, refl, refl) refl
-  served_so d back (ScanInPlace page) = turns (served_by x d back (ScanInPlace page)) Silent (refl, refl, refl) refl
-  served_so d back Marked = turns (served_by x d back Marked) Empties (refl, refl, refl) refl
+  served_so d back (ScanPage page) = turns (served_by x d back (ScanPage page)) Silent (refl, refl, refl, refl) refl
+  served_so d back (ScanInPlace page) = turns (served_by x d back (ScanInPlace page)) Silent (refl, refl, refl, refl) refl
+  served_so d back Marked = turns (served_by x d back Marked) Empties (refl, refl, refl, refl) refl
   served_so d back Traced = traced_so d back
-  served_so d back (NothingNow word) = turns (served_by x d back (NothingNow word)) Silent (refl, refl, refl) refl
-  served_so d back (AllLeft word) = turns (served_by x d back (AllLeft word)) Silent (refl, refl, refl) refl
+  served_so d back (NothingNow word) = turns (served_by x d back (NothingNow word)) Silent (refl, refl, refl, refl) refl
+  served_so d back (AllLeft word) = turns (served_by x d back (AllLeft word)) Silent (refl, refl, refl, refl) refl
 
   round_by : (d : duty.Round) (back : Back) (turn : Turn RoundEnd) → Turns x (turned_round x d back turn) (told_round turn)
-  round_by d back More = turns (turned_round x d back More) Silent (refl, refl, refl) refl
+  round_by d back More = turns (turned_round x d back More) Silent (refl, refl, refl, refl) refl
   round_by d back (Finished result) = served_so d back result
 
   scan_by : (s : scan.Scanning) (back : Back) (turn : Turn Scanned) → Turns x (turned_scan x s back turn) Silent
-  scan_by s back More = turns (turned_scan x s back More) Silent (refl, refl, refl) refl
-  scan_by s back (Finished (scanned.Ask old)) = turns (turned_scan x s back (Finished (scanned.Ask old))) Silent (refl, refl, refl) refl
-  scan_by s back (Finished (scanned.Ended at_front)) = turns (turned_scan x s back (Finished (scanned.Ended at_front))) Silent (refl, refl, refl) refl
+  scan_by s back More = turns (turned_scan x s back More) Silent (refl, refl, refl, refl) refl
+  scan_by s back (Finished (scanned.Ask old)) = turns (turned_scan x s back (Finished (scanned.Ask old))) Silent (refl, refl, refl, refl) refl
+  scan_by s back (Finished (scanned.Ended at_front)) = turns (turned_scan x s back (Finished (scanned.Ended at_front))) Silent (refl, refl, refl, refl) refl
 
   copy_by : (v : evac.Evacuation) (s : scan.Scanning) (back : Back) (turn : Turn To) → Turns x (turned_copy x v s back turn) Silent
-  copy_by v s back More = turns (turned_copy x v s back More) Silent (refl, refl, refl) refl
-  copy_by v s back (Finished to) = turns (turned_copy x v s back (Finished to)) Silent (refl, refl, refl) refl
+  copy_by v s back More = turns (turned_copy x v s back More) Silent (refl, refl, refl, refl) refl
+  copy_by v s back (Finished to) = turns (turned_copy x v s back (Finished to)) Silent (refl, refl, refl, refl) refl
 
   opening_by : (o : open_page.Opening) (s : scan.Scanning) (back : Back) (turn : Turn Opened) → Turns x (turned_opening x o s back turn) Silent
-  opening_by o s back More = turns (turned_opening x o s back More) Silent (refl, refl, refl) refl
-  opening_by o s back (Finished opened) = turns (turned_opening x o s back (Finished opened)) Silent (refl, refl, refl) refl
+  opening_by o s back More = turns (turned_opening x o s back More) Silent (refl, refl, refl, refl) refl
+  opening_by o s back (Finished opened) = turns (turned_opening x o s back (Finished opened)) Silent (refl, refl, refl, refl) refl
 
   -- ---- checkpoints
 
   recall_by : (r : recall.Recalling) (after : After) (turn : Turn Recalled) → Turns x (turned_recall x r after turn) Silent
-  recall_by r after More = turns (turned_recall x r after More) Silent (refl, refl, refl) refl
-  recall_by r after (Finished result) = turns (turned_recall x r after (Finished result)) Silent (refl, refl, refl) refl
+  recall_by r after More = turns (turned_recall x r after More) Silent (refl, refl, refl, refl) refl
+  recall_by r after (Finished result) = turns (turned_recall x r after (Finished result)) Silent (refl, refl, refl, refl) refl
 
   guard_by : (g : guard.Guarding) (write : Write) (turn : Turn MayWrite) → Turns x (turned_guard x g write turn) Silent
-  guard_by g write More = turns (turned_guard x g write More) Silent (refl, refl, refl) refl
-  guard_by g write (Finished result) = turns (turned_guard x g write (Finished result)) Silent (refl, refl, refl) refl
+  guard_by g write More = turns (turned_guard x g write More) Silent (refl, refl, refl, refl) refl
+  guard_by g write (Finished result) = turns (turned_guard x g write (Finished result)) Silent (refl, refl, refl, refl) refl
 
   save_round_by : (r : save_round.SavingRound) (goal : Goal) (turn : Turn SaveRoundEnd) → Turns x (turned_save_round x r goal turn) Silent
-  save_round_by r goal More = turns (turned_save_round x r goal More) Silent (refl, refl, refl) refl
-  save_round_by r goal (Finished result) = turns (turned_save_round x r goal (Finished result)) Silent (refl, refl, refl) refl
+  save_round_by r goal More = turns (turned_save_round x r goal More) Silent (refl, refl, refl, refl) refl
+  save_round_by r goal (Finished result) = turns (turned_save_round x r goal (Finished result)) Silent (refl, refl, refl, refl) refl
 
   snap_by : IsBeginningCheckpoint x.stage → (s : snap.Snapping) (turn : Turn Snapped) → Turns x (turned_snap x s turn) (told_snap x.task turn)
-  snap_by begins s More = turns (turned_snap x s More) Silent (refl, refl, refl) refl
-  snap_by begins s (Finished (snapped.Begun seen)) = effect_by (begins_checkpoint x seen) (refl, refl, refl) refl (begins, refl, refl) x.task refl
-  snap_by begins s (Finished (snapped.NotYet word)) = turns (turned_snap x s (Finished (snapped.NotYet word))) Silent (refl, refl, refl) refl
+  snap_by begins s More = turns (turned_snap x s More) Silent (refl, refl, refl, refl) refl
+  snap_by begins s (Finished (snapped.Begun seen)) = effect_by (begins_checkpoint x seen) (refl, refl, refl, refl) refl (begins, refl, refl) x.task refl
+  snap_by begins s (Finished (snapped.NotYet word)) = turns (turned_snap x s (Finished (snapped.NotYet word))) Silent (refl, refl, refl, refl) refl
 
   -- ---- each stage
 
@@ -281,7 +282,7 @@ module _ (x : Held) where
   by_stage (Guards g write) e task reply = guard_by (guard.taken g reply) write (guard.told (guard.taken g reply))
   by_stage (Checkpoints r goal) e task reply = save_round_by (save_round.taken r reply) goal (save_round.told (save_round.taken r reply))
   by_stage (BeginsCheckpoint s) e task reply = snap_by (subst IsBeginningCheckpoint (sym e) tt) (snap.taken s reply) (snap.told (snap.taken s reply))
-  by_stage Gone e task reply = turns x Silent (refl, refl, refl) refl
+  by_stage Gone e task reply = turns x Silent (refl, refl, refl, refl) refl
 
   -- ---- a mutator with an end
 
@@ -341,4 +342,5 @@ workers_go_on n mutators k x reply fits =
       number = t.number;
       layout = t.layout;
       mutators = t.mutators;
+      prints = t.prints;
     }

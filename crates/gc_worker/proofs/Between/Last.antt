@@ -197,8 +197,8 @@ scanners_last_with h k now l same last j m below scanner gone l_m =
 -- ---- the opening
 
 pub scanners_begin_last : ScannersBeginLast
-scanners_begin_last s least mutators scanners k m below scanner gone l_m =
-    let there : k < mutators + scanners = (let e = many s mutators 0 (mutators + scanners) in omega (arith, below, e)) in
-    let is : held_at (opening_heap s least mutators scanners) k ≡ fresh_scanner s mutators k =
-    is_there s mutators 0 (mutators + scanners) k k there (omega arith) ∙ ap (λ (b : Bool). cond b (fresh_mutator s mutators k) (fresh_scanner s mutators k)) (le-ltb k mutators scanner) in
+scanners_begin_last prints s least mutators scanners k m below scanner gone l_m =
+    let there : k < mutators + scanners = (let e = many prints s mutators 0 (mutators + scanners) in omega (arith, below, e)) in
+    let is : held_at (opening_heap prints s least mutators scanners) k ≡ fresh_scanner prints s mutators k =
+    is_there prints s mutators 0 (mutators + scanners) k k there (omega arith) ∙ ap (λ (b : Bool). cond b (fresh_mutator prints s mutators k) (fresh_scanner prints s mutators k)) (le-ltb k mutators scanner) in
     absurd (let e = sym (ap (λ (z : Held). z.stage) is) ∙ gone in cc)

@@ -40,18 +40,18 @@ no_word r = ⊎_elim
     (λ (l : 8 ≤ r). get_or_past (replicate 8 0) r 0 (let n = length-replicate {A = ℕ} 8 0 in omega (arith, l, n)))
     (cases_lt r 8)
 
-module _ (s : Layout) (mutators k : ℕ) where
-  known_mutator : knows (fresh_mutator s mutators k) ≡ workers.fresh Outside
+module _ (prints : Bool) (s : Layout) (mutators k : ℕ) where
+  known_mutator : knows (fresh_mutator prints s mutators k) ≡ workers.fresh Outside
   known_mutator = λ i. record (workers.fresh Outside) { registers = λ r. no_word r i }
 
-  known_scanner : knows (fresh_scanner s mutators k) ≡ workers.fresh Scanner
+  known_scanner : knows (fresh_scanner prints s mutators k) ≡ workers.fresh Scanner
   known_scanner = λ i. record (workers.fresh Scanner) { registers = λ r. no_word r i }
 
   is_value : (r : ℕ) → r < REGISTERS → IsValueWord (slice_index (replicate REGISTERS 0) r)
   is_value r l = subst IsValueAs (sym (ap decode (no_word r) ∙ zero_word)) tt
 
   module _ (size : IsPageCount s.pages) (few : k ≤ 23) where
-    pub mutator_fits : nat_lt k mutators ≡ true → Fits s.pages mutators k (fresh_mutator s mutators k)
+    pub mutator_fits : nat_lt k mutators ≡ true → Fits s.pages mutators k (fresh_mutator prints s mutators k)
     mutator_fits side = record {
       worker = new_worker s mutators k size few is_value;
       end = refl;
@@ -60,7 +60,7 @@ module _ (s : Layout) (mutators k : ℕ) where
       stage = record { layout = refl; passage = tt; going = tt; sound = record { pages = size; stage = tt } };
     }
 
-    pub scanner_fits : nat_lt k mutators ≡ false → Fits s.pages mutators k (fresh_scanner s mutators k)
+    pub scanner_fits : nat_lt k mutators ≡ false → Fits s.pages mutators k (fresh_scanner prints s mutators k)
     scanner_fits side = record {
       worker = new_worker s mutators k size few is_value;
       end = refl;
@@ -79,45 +79,45 @@ module _ (s : Layout) (mutators k : ℕ) where
       );
     }
 
-    by_side : (b : Bool) → nat_lt k mutators ≡ b → Fits s.pages mutators k (cond b (fresh_mutator s mutators k) (fresh_scanner s mutators k))
+    by_side : (b : Bool) → nat_lt k mutators ≡ b → Fits s.pages mutators k (cond b (fresh_mutator prints s mutators k) (fresh_scanner prints s mutators k))
     by_side true side = mutator_fits side
     by_side false side = scanner_fits side
 
-    fresh_fits : Fits s.pages mutators k (fresh_worker s mutators k)
+    fresh_fits : Fits s.pages mutators k (fresh_worker prints s mutators k)
     fresh_fits = by_side (nat_lt k mutators) refl
 
 -- ---- all workers
 
-module _ (s : Layout) (mutators : ℕ) where
-  as_mutator : (k : ℕ) → k < mutators → knows (fresh_worker s mutators k) ≡ workers.fresh Outside
-  as_mutator k l = ap (λ (b : Bool). knows (cond b (fresh_mutator s mutators k) (fresh_scanner s mutators k))) (lt-ltb k mutators l) ∙ known_mutator s mutators k
+module _ (prints : Bool) (s : Layout) (mutators : ℕ) where
+  as_mutator : (k : ℕ) → k < mutators → knows (fresh_worker prints s mutators k) ≡ workers.fresh Outside
+  as_mutator k l = ap (λ (b : Bool). knows (cond b (fresh_mutator prints s mutators k) (fresh_scanner prints s mutators k))) (lt-ltb k mutators l) ∙ known_mutator prints s mutators k
 
-  as_scanner : (k : ℕ) → mutators ≤ k → knows (fresh_worker s mutators k) ≡ workers.fresh Scanner
-  as_scanner k l = ap (λ (b : Bool). knows (cond b (fresh_mutator s mutators k) (fresh_scanner s mutators k))) (le-ltb k mutators l) ∙ known_scanner s mutators k
+  as_scanner : (k : ℕ) → mutators ≤ k → knows (fresh_worker prints s mutators k) ≡ workers.fresh Scanner
+  as_scanner k l = ap (λ (b : Bool). knows (cond b (fresh_mutator prints s mutators k) (fresh_scanner prints s mutators k))) (le-ltb k mutators l) ∙ known_scanner prints s mutators k
 
-  scanners_known : (from count : ℕ) → mutators ≤ from → map knows (fresh_workers s mutators from count) ≡ replicate count (workers.fresh Scanner)
+  scanners_known : (from count : ℕ) → mutators ≤ from → map knows (fresh_workers prints s mutators from count) ≡ replicate count (workers.fresh Scanner)
   unfolding fresh_workers
   scanners_known from zero l = refl
   scanners_known from (suc count) l = λ i. as_scanner from l i ∷ scanners_known (from + 1) count (omega (arith, l)) i
 
   known : (from count scanners total : ℕ) → from + count ≡ mutators → total ≡ count + scanners
-      → map knows (fresh_workers s mutators from total) ≡ replicate count (workers.fresh Outside) ++ replicate scanners (workers.fresh Scanner)
+      → map knows (fresh_workers prints s mutators from total) ≡ replicate count (workers.fresh Outside) ++ replicate scanners (workers.fresh Scanner)
   unfolding fresh_workers
   known from zero scanners total at all =
       let same : total ≡ scanners = omega (arith, all) in
-      ap (λ (m : ℕ). map knows (fresh_workers s mutators from m)) same ∙ scanners_known from scanners (omega (arith, at))
+      ap (λ (m : ℕ). map knows (fresh_workers prints s mutators from m)) same ∙ scanners_known from scanners (omega (arith, at))
   known from (suc count) scanners zero at all = absurd (omega (arith, all))
   known from (suc count) scanners (suc total) at all = λ i. as_mutator from (omega (arith, at)) i ∷ known (from + 1) count scanners total (omega (arith, at)) (omega (arith, all)) i
 
-  pub many : (from count : ℕ) → length (fresh_workers s mutators from count) ≡ count
+  pub many : (from count : ℕ) → length (fresh_workers prints s mutators from count) ≡ count
   unfolding fresh_workers
   many from zero = refl
   many from (suc count) = ap suc (many (from + 1) count)
 
-  pub is_there : (from count j k : ℕ) → j < count → k ≡ from + j → get_or (fresh_workers s mutators from count) j nobody ≡ fresh_worker s mutators k
+  pub is_there : (from count j k : ℕ) → j < count → k ≡ from + j → get_or (fresh_workers prints s mutators from count) j nobody ≡ fresh_worker prints s mutators k
   unfolding fresh_workers
   is_there from zero j k l at = absurd (omega (arith, l))
-  is_there from (suc count) zero k l at = ap (fresh_worker s mutators) (let same : from ≡ k = omega (arith, at) in same)
+  is_there from (suc count) zero k l at = ap (fresh_worker prints s mutators) (let same : from ≡ k = omega (arith, at) in same)
   is_there from (suc count) (suc j) k l at = is_there (from + 1) count j k (omega (arith, l)) (omega (arith, at))
 
 -- ---- the words
@@ -154,41 +154,41 @@ module _ (n least : ℕ) (size : IsPageCount n) (some : 4 ≤ least) (short : le
 
 -- ---- the heap
 
-module _ (n : ℕ) (room : Bool) (least mutators scanners : ℕ) (size : IsPageCount n) (fewest : 4 ≤ least) (most : least ≤ n) (all : mutators + scanners ≤ 24) where
+module _ (prints : Bool) (n : ℕ) (room : Bool) (least mutators scanners : ℕ) (size : IsPageCount n) (fewest : 4 ≤ least) (most : least ≤ n) (all : mutators + scanners ≤ 24) where
   abbrev s : Layout
   s = layout n room
 
   abbrev h : Heap
-  h = opening_heap s least mutators scanners
+  h = opening_heap prints s least mutators scanners
 
   words : AreOpening n least room h.words
   words = are_opening n least size fewest most room
 
   in_team : (k : ℕ) → k < length h.workers → k < mutators + scanners
-  in_team k l = let e = many s mutators 0 (mutators + scanners) in omega (arith, l, e)
+  in_team k l = let e = many prints s mutators 0 (mutators + scanners) in omega (arith, l, e)
 
-  there : (k : ℕ) → k < length h.workers → held_at h k ≡ fresh_worker s mutators k
-  there k l = is_there s mutators 0 (mutators + scanners) k k (in_team k l) (omega arith)
+  there : (k : ℕ) → k < length h.workers → held_at h k ≡ fresh_worker prints s mutators k
+  there k l = is_there prints s mutators 0 (mutators + scanners) k k (in_team k l) (omega arith)
 
   -- what is so of a new mutator and of a new scanner is so of each
-  each_fresh : (P : Held → Type 0) (k : ℕ) → k < length h.workers → P (fresh_mutator s mutators k) → P (fresh_scanner s mutators k) → P (held_at h k)
+  each_fresh : (P : Held → Type 0) (k : ℕ) → k < length h.workers → P (fresh_mutator prints s mutators k) → P (fresh_scanner prints s mutators k) → P (held_at h k)
   each_fresh P k l mutator scanner = subst P (sym (there k l)) (by_kind (nat_lt k mutators))
     where
-      by_kind : (b : Bool) → P (cond b (fresh_mutator s mutators k) (fresh_scanner s mutators k))
+      by_kind : (b : Bool) → P (cond b (fresh_mutator prints s mutators k) (fresh_scanner prints s mutators k))
       by_kind true = mutator
       by_kind false = scanner
 
   fits : (k : ℕ) → k < length h.workers → Fits n mutators k (held_at h k)
   fits k l =
       let below = in_team k l in
-      subst (λ (x : Held). Fits n mutators k x) (sym (there k l)) (fresh_fits s mutators k size (omega (arith, below, all)))
+      subst (λ (x : Held). Fits n mutators k x) (sym (there k l)) (fresh_fits prints s mutators k size (omega (arith, below, all)))
 
   -- with its words the opening of the laws is this heap
   abbrev with_words : Configuration
   with_words = record (laws.opening_configuration n least mutators scanners) { words = h.words }
 
   as_read : with_words ≡ read h
-  as_read = λ i. record with_words { workers = sym (known s mutators 0 mutators scanners (mutators + scanners) (omega arith) refl) i }
+  as_read = λ i. record with_words { workers = sym (known prints s mutators 0 mutators scanners (mutators + scanners) (omega arith) refl) i }
 
   abbrev Begins : Configuration → Type 0
   Begins c = (st : Stands c (opening_plain mutators)) × Cycle (era c) (memory c) (team c) st.ghost (opening_plain mutators)
@@ -203,9 +203,9 @@ module _ (n : ℕ) (room : Bool) (least mutators scanners : ℕ) (size : IsPageC
 
 -- ---- checkpoints
 
-module _ (n least mutators scanners : ℕ) (size : IsPageCount n) (fewest : 4 ≤ least) (most : least ≤ n) (all : mutators + scanners ≤ 24) where
+module _ (prints : Bool) (n least mutators scanners : ℕ) (size : IsPageCount n) (fewest : 4 ≤ least) (most : least ≤ n) (all : mutators + scanners ≤ 24) where
   abbrev whole : Heap
-  whole = opening_heap (layout n true) least mutators scanners
+  whole = opening_heap prints (layout n true) least mutators scanners
 
   says_nothing : saves_in whole ≡ blank_saves
   says_nothing = (opened_whole n least size fewest most).saves
@@ -214,11 +214,11 @@ module _ (n least mutators scanners : ℕ) (size : IsPageCount n) (fewest : 4 �
   none_begun = subst (λ (v : Saves). NoneWasBegun v nothing_frozen) (sym says_nothing) (record { snap = refl; done = refl; save = λ page. refl; held = λ page. refl })
 
   knows_nothing : (k : ℕ) → k < length whole.workers → KnowsNothing (saver_of (held_at whole k))
-  knows_nothing k l = each_fresh n true least mutators scanners size fewest most all (λ (x : Held). KnowsNothing (saver_of x)) k l
+  knows_nothing k l = each_fresh prints n true least mutators scanners size fewest most all (λ (x : Held). KnowsNothing (saver_of x)) k l
       (record { recalled = refl; settled = refl; still = refl; guarded = refl; marked = refl; save = refl; reads = refl; round = refl })
       (record { recalled = refl; settled = refl; still = refl; guarded = refl; marked = refl; save = refl; reads = refl; round = refl })
 
-  saving : (room : Bool) → StandIf room (opening_heap (layout n room) least mutators scanners) (opening_plain mutators)
+  saving : (room : Bool) → StandIf room (opening_heap prints (layout n room) least mutators scanners) (opening_plain mutators)
   saving false = tt
   saving true = record {
     formed = (opened_whole n least size fewest most).saves_formed;
@@ -228,13 +228,13 @@ module _ (n least mutators scanners : ℕ) (size : IsPageCount n) (fewest : 4 �
   }
 
 pub heaps_open : HeapsOpen
-heaps_open s least mutators scanners size fewest most few all =
-    let b = begins s.pages s.checkpoints least mutators scanners size fewest most all few in
+heaps_open prints s least mutators scanners size fewest most few all =
+    let b = begins prints s.pages s.checkpoints least mutators scanners size fewest most all few in
     record {
       stands = b.0;
       cycle = b.1;
-      fit = fits s.pages s.checkpoints least mutators scanners size fewest most all;
-      laid_out = λ k l. each_fresh s.pages s.checkpoints least mutators scanners size fewest most all (λ (x : Held). x.layout.checkpoints ≡ s.checkpoints) k l refl refl;
+      fit = fits prints s.pages s.checkpoints least mutators scanners size fewest most all;
+      laid_out = λ k l. each_fresh prints s.pages s.checkpoints least mutators scanners size fewest most all (λ (x : Held). x.layout.checkpoints ≡ s.checkpoints) k l refl refl;
       whole = (are_opening s.pages least size fewest most s.checkpoints).whole;
-      saving = saving s.pages least mutators scanners size fewest most all s.checkpoints;
+      saving = saving prints s.pages least mutators scanners size fewest most all s.checkpoints;
     }

@@ -31,15 +31,15 @@ in_use_now : (h : Heap) (space : ℕ) → (table (read h)).in_use space ≡ word
 unfolding table_of
 in_use_now h space = refl
 
-module _ (s : Layout) (least mutators scanners : ℕ) (size : IsPageCount s.pages) (fewest : 4 ≤ least) (most : least ≤ s.pages) (few : mutators ≤ 16) (all : mutators + scanners ≤ 24) where
+module _ (prints : Bool) (s : Layout) (least mutators scanners : ℕ) (size : IsPageCount s.pages) (fewest : 4 ≤ least) (most : least ≤ s.pages) (few : mutators ≤ 16) (all : mutators + scanners ≤ 24) where
   abbrev n : ℕ
   n = s.pages
 
   abbrev h : Heap
-  h = opening_heap s least mutators scanners
+  h = opening_heap prints s least mutators scanners
 
   stands : WorkersStand h (opening_plain mutators) (opening_plain mutators)
-  stands = heaps_open s least mutators scanners size fewest most few all
+  stands = heaps_open prints s least mutators scanners size fewest most few all
 
   says : table (read h) ≡ table_with n (opening_entries n least)
   says = (are_opening n least size fewest most s.checkpoints).says
@@ -57,20 +57,20 @@ module _ (s : Layout) (least mutators scanners : ℕ) (size : IsPageCount s.page
       ap (λ (e : ℕ). low_at n h.words (to_space e)) epoch
       ∙ (ap low_said (area_says (read h) (opening_plain mutators) stands.stands 0 (is_space 0)) ∙ (ap (λ (t : Table). (t.area 0).low) says ∙ whole_at_first n least))
 
-  first_worker : (m : ℕ) → m < length h.workers → held_at h m ≡ fresh_worker s mutators m
-  first_worker m below = is_there s mutators 0 (mutators + scanners) m m (let count = many s mutators 0 (mutators + scanners) in omega (arith, below, count)) (omega arith)
+  first_worker : (m : ℕ) → m < length h.workers → held_at h m ≡ fresh_worker prints s mutators m
+  first_worker m below = is_there prints s mutators 0 (mutators + scanners) m m (let count = many prints s mutators 0 (mutators + scanners) in omega (arith, below, count)) (omega arith)
 
   -- nobody asks for a flip
-  first_asks : (m : ℕ) (b : Bool) → IsFirst n h.words (cond b (fresh_mutator s mutators m) (fresh_scanner s mutators m))
+  first_asks : (m : ℕ) (b : Bool) → IsFirst n h.words (cond b (fresh_mutator prints s mutators m) (fresh_scanner prints s mutators m))
   first_asks m true = tt
   first_asks m false = tt
 
-  first_begun : (m : ℕ) (b : Bool) → (cond b (fresh_mutator s mutators m) (fresh_scanner s mutators m)).begun ≡ 0
+  first_begun : (m : ℕ) (b : Bool) → (cond b (fresh_mutator prints s mutators m) (fresh_scanner prints s mutators m)).begun ≡ 0
   first_begun m true = refl
   first_begun m false = refl
 
   begun : (m : ℕ) → m < mutators → (held_at h m).begun ≡ 0
-  begun m few = ap (λ (x : Held). x.begun) (first_worker m (let count = many s mutators 0 (mutators + scanners) in omega (arith, few, count))) ∙ first_begun m (nat_lt m mutators)
+  begun m few = ap (λ (x : Held). x.begun) (first_worker m (let count = many prints s mutators 0 (mutators + scanners) in omega (arith, few, count))) ∙ first_begun m (nat_lt m mutators)
 
   -- nothing is claimed, and no flip came
   pub opening_tallied : (p : Plain) → IsTallied least h (first_tally p) []

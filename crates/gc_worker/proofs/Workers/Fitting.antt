@@ -1,6 +1,8 @@
 -- What fits a worker at a stage fits it whatever its stage was before, and whatever its account, its registers and its task are.
 use Rattle.std.proofs.Common.{◌≡◌, ℕ, ◌+◌, Bool, false, if◌then◌else◌, List, Option, ◌∙◌, sym, ap, subst, refl}
-use Rattle.alloc_end.specs.Place.{Placing}
+use Rattle.alloc_end.specs.Place.{Placing, taken, told}
+use Rattle.atom_store.specs.declared.reply.Reply.{Reply}
+use Rattle.atom_store.specs.declared.turn.Turn.TheVariants.{More}
 use Rattle.fault_duty.specs.Duty.{Round}
 use Rattle.forwarding.specs.Evacuation.{Evacuation}
 use Rattle.heap_state.specs.Worker.{Account}
@@ -18,7 +20,7 @@ use Rattle.gc_worker.specs.declared.task.Task.{Task}
 use Rattle.gc_worker.specs.Workers.Fits.{FitsCopy, FitsPlace, FitsRound, FitsScan, FitsStage, FitsWrite, IsRoundFor, IsRoundOfMutator}
 use Rattle.gc_worker.specs.Workers.Held.{Held, at_stage, fields_for, target_for}
 use Rattle.gc_worker.specs.Steps.Stepped.{IsForCheckpoint}
-use Rattle.gc_worker.specs.Steps.Turned.{back_from, checkpoints, goes_back, traced_by}
+use Rattle.gc_worker.specs.Steps.Turned.{back_from, checkpoints, goes_back, guards_place, traced_by, turned, turned_at, turned_place}
 
 -- the parts of which no machine knows
 pub record Aside : Type 0 where
@@ -92,6 +94,15 @@ fits_after x now stage f =
 
 pub fits_moved : (x : Held) (was now stage : Stage) → FitsStage (at_stage x was) stage → FitsStage (at_stage x now) stage
 fits_moved x was now stage f = fits_after x now stage (fits_before x was stage f)
+
+-- an allocation that goes on, from which the step makes what is sound
+pub placing_guarded : (v x : Held) (p q : Placing) (reply : Reply) → v ≡ x → v.stage ≡ Places p → q ≡ taken p reply → told q ≡ More → FitsStage (turned x reply) (turned x reply).stage
+    → FitsStage (at_stage v (Places q)) (guards_place v q)
+placing_guarded v x p q reply same is takes more fits =
+    let comes : turned v reply ≡ at_stage v (guards_place v q) =
+    ap (λ (s : Stage). turned_at v s reply) is ∙ (ap (λ (z : Placing). turned_place v z (told z)) (sym takes) ∙ ap (turned_place v q) more) in
+    let fits_v = subst (λ (y : Held). FitsStage (turned y reply) (turned y reply).stage) (sym same) fits in
+    fits_moved v (guards_place v q) (Places q) (guards_place v q) (subst (λ (y : Held). FitsStage y y.stage) comes fits_v)
 
 -- without room for checkpoints, who is to begin one or to help with one goes back, if it finds the epoch traced
 pub traced_without : (x : Held) (back : Back) → IsForCheckpoint back → x.layout.checkpoints ≡ false → FitsStage (traced_by x back) (traced_by x back).stage → traced_by x back ≡ back_from x back

@@ -40,12 +40,14 @@ use Rattle.gc_worker.specs.Steps.Wanted.{wanted}
 
 -- ---- how it begins
 
--- worker k before its first step: a mutator that is about to attach, or a scanner before its first round
-abbrev pub fresh : Layout → (mutators k : ℕ) → Held
-fresh layout mutators k = record {
+-- Worker k before its first step: a mutator that is about to attach, or a scanner before its first round. Mutators may print, or none of
+-- them may.
+abbrev pub fresh : (prints : Bool) → Layout → (mutators k : ℕ) → Held
+fresh prints layout mutators k = record {
   number = k;
   layout = layout;
   mutators = mutators;
+  prints = prints;
   epoch = 0;
   begun = 0;
   snap = 0;
@@ -57,38 +59,38 @@ fresh layout mutators k = record {
   stage = Gone;
 }
 
-abbrev pub fresh_mutator : Layout → (mutators k : ℕ) → Held
-fresh_mutator layout mutators k = let x = fresh layout mutators k in record x { stage = passes x Attach afters.Looks }
+abbrev pub fresh_mutator : (prints : Bool) → Layout → (mutators k : ℕ) → Held
+fresh_mutator prints layout mutators k = let x = fresh prints layout mutators k in record x { stage = passes x Attach afters.Looks }
 
-abbrev pub fresh_scanner : Layout → (mutators k : ℕ) → Held
-fresh_scanner layout mutators k = let x = fresh layout mutators k in record x { stage = Serves (duty.begun x.layout (callers.Scans mutators) 0 k) ToScanner }
+abbrev pub fresh_scanner : (prints : Bool) → Layout → (mutators k : ℕ) → Held
+fresh_scanner prints layout mutators k = let x = fresh prints layout mutators k in record x { stage = Serves (duty.begun x.layout (callers.Scans mutators) 0 k) ToScanner }
 
-abbrev pub fresh_worker : Layout → (mutators k : ℕ) → Held
-fresh_worker layout mutators k = if nat_lt k mutators then fresh_mutator layout mutators k else fresh_scanner layout mutators k
+abbrev pub fresh_worker : (prints : Bool) → Layout → (mutators k : ℕ) → Held
+fresh_worker prints layout mutators k = if nat_lt k mutators then fresh_mutator prints layout mutators k else fresh_scanner prints layout mutators k
 
 -- so many workers from this number on
-unfoldable pub fresh_workers : Layout → (mutators from count : ℕ) → List Held
-fresh_workers layout mutators from zero = []
-fresh_workers layout mutators from (suc count) = fresh_worker layout mutators from ∷ fresh_workers layout mutators (from + 1) count
+unfoldable pub fresh_workers : (prints : Bool) → Layout → (mutators from count : ℕ) → List Held
+fresh_workers prints layout mutators from zero = []
+fresh_workers prints layout mutators from (suc count) = fresh_worker prints layout mutators from ∷ fresh_workers prints layout mutators (from + 1) count
 
 -- at first so many pages of each space are in use, and nothing is said of checkpoints
 abbrev pub opening_words : Layout → (least : ℕ) → List ℕ
 opening_words layout least =
     if layout.checkpoints then written_whole layout.pages (opening_entries layout.pages least) else written layout.pages (opening_entries layout.pages least)
 
-abbrev pub opening_heap : Layout → (least mutators scanners : ℕ) → Heap
-opening_heap layout least mutators scanners = record {
+abbrev pub opening_heap : (prints : Bool) → Layout → (least mutators scanners : ℕ) → Heap
+opening_heap prints layout least mutators scanners = record {
   pages = layout.pages;
   checkpoints = layout.checkpoints;
   words = opening_words layout least;
   mutators = mutators;
-  workers = fresh_workers layout mutators 0 (mutators + scanners);
+  workers = fresh_workers prints layout mutators 0 (mutators + scanners);
 }
 
 -- it stands for the plain state in which nothing was made yet, and a cycle begins there
 abbrev pub HeapsOpen : Type 0
-HeapsOpen = (layout : Layout) (least mutators scanners : ℕ) → IsPageCount layout.pages → FEWEST_PAGES ≤ least → least ≤ layout.pages → mutators ≤ MOST_MUTATORS → mutators + scanners ≤ MOST_MUTATORS + MOST_SCANNERS
-    → WorkersStand (opening_heap layout least mutators scanners) (opening_plain mutators) (opening_plain mutators)
+HeapsOpen = (prints : Bool) (layout : Layout) (least mutators scanners : ℕ) → IsPageCount layout.pages → FEWEST_PAGES ≤ least → least ≤ layout.pages → mutators ≤ MOST_MUTATORS → mutators + scanners ≤ MOST_MUTATORS + MOST_SCANNERS
+    → WorkersStand (opening_heap prints layout least mutators scanners) (opening_plain mutators) (opening_plain mutators)
 
 -- ---- what a worker may become without a step
 
@@ -150,7 +152,7 @@ pub record IsAnswerOf (was now : Held) (task : Task) (outcome : Did) : Type 0 wh
   pub after : RestsAfter was now outcome
 
 -- A step answers no other task than the one begun; it keeps that one until it answers it, and then there is none. A mutator with an end
--- keeps its account and registers. The worker's number, layout and number of mutators never change.
+-- keeps its account and registers. The worker's number, layout and number of mutators never change, nor whether it may print.
 pub record KeepsToTask (x : Held) (reply : Reply) : Type 0 where
   pub answers : (task : Task) (outcome : Did) → told x reply ≡ Answers task outcome → IsAnswerOf x (turned x reply) task outcome
   pub kept : IsNoAnswer (told x reply) → (turned x reply).task ≡ x.task
@@ -158,6 +160,7 @@ pub record KeepsToTask (x : Held) (reply : Reply) : Type 0 where
   pub number : (turned x reply).number ≡ x.number
   pub layout : (turned x reply).layout ≡ x.layout
   pub mutators : (turned x reply).mutators ≡ x.mutators
+  pub prints : (turned x reply).prints ≡ x.prints
 
 abbrev pub WorkersGoOn : Type 0
 WorkersGoOn = (n mutators k : ℕ) (x : Held) (reply : Reply) → Fits n mutators k x → KeepsToTask x reply

@@ -1,5 +1,5 @@
 -- Why a worker is gone: a mutator has left, or a scanner has read that all mutators have.
-use Rattle.std.specs.Prelude.{◌≡◌, ℕ, ◌<◌, ◌≤◌, ◌⊎◌, List, length, Some}
+use Rattle.std.specs.Prelude.{◌≡◌, ℕ, ◌<◌, ◌≤◌, ◌⊎◌, List, length, Some, Bool}
 use Rattle.plain_state.specs.State.{Plain}
 use Rattle.atom_store.specs.declared.reply.Reply.TheVariants.{Won}
 use Rattle.atom_store.specs.declared.step.Step.{Step}
@@ -48,7 +48,7 @@ ScannersAreLast h = (k m : ℕ) → k < length h.workers → h.mutators ≤ k �
 
 -- it is so at the opening, and each step of a worker keeps it
 abbrev pub ScannersBeginLast : Type 0
-ScannersBeginLast = (layout : Layout) (least mutators scanners : ℕ) → ScannersAreLast (opening_heap layout least mutators scanners)
+ScannersBeginLast = (prints : Bool) (layout : Layout) (least mutators scanners : ℕ) → ScannersAreLast (opening_heap prints layout least mutators scanners)
 
 abbrev pub ScannersStayLast : Type 0
 ScannersStayLast = (h : Heap) (p o : Plain) (k : ℕ) (x : Held) (q : Step) → WorkersStand h p o → k < length h.workers → held_at h k ≡ x → wanted x ≡ Some q

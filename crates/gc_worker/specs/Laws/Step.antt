@@ -57,6 +57,7 @@ nobody = record {
   number = 0;
   layout = without_checkpoints 0;
   mutators = 0;
+  prints = false;
   epoch = 0;
   begun = 0;
   snap = 0;

@@ -1,5 +1,5 @@
 -- The law of a step as a story has it: where the epoch is traced, the cells lose their targets that weren't reachable at the last flip.
-use Rattle.std.specs.Prelude.{◌≡◌, ℕ, ◌+◌, ◌<◌, ◌≤◌, length, Some}
+use Rattle.std.specs.Prelude.{◌≡◌, ℕ, ◌+◌, ◌<◌, ◌≤◌, length, Some, Bool}
 use Rattle.plain_state.specs.Cells.{CellsFollow}
 use Rattle.plain_state.specs.State.{Plain}
 use Rattle.space_map.specs.declared.spaces.TheConstants.{FEWEST_PAGES, MOST_MUTATORS, MOST_SCANNERS}
@@ -28,5 +28,5 @@ StoriesKeep = (h : Heap) (p o : Plain) (k : ℕ) (x : Held) (q : Step) → Story
 
 -- a new heap stands for the story that begins where nothing was made yet
 abbrev pub StoriesOpen : Type 0
-StoriesOpen = (layout : Layout) (least mutators scanners : ℕ) → IsPageCount layout.pages → FEWEST_PAGES ≤ least → least ≤ layout.pages → mutators ≤ MOST_MUTATORS → mutators + scanners ≤ MOST_MUTATORS + MOST_SCANNERS
-    → StoryStands (opening_heap layout least mutators scanners) (opening_plain mutators) (opening_plain mutators)
+StoriesOpen = (prints : Bool) (layout : Layout) (least mutators scanners : ℕ) → IsPageCount layout.pages → FEWEST_PAGES ≤ least → least ≤ layout.pages → mutators ≤ MOST_MUTATORS → mutators + scanners ≤ MOST_MUTATORS + MOST_SCANNERS
+    → StoryStands (opening_heap prints layout least mutators scanners) (opening_plain mutators) (opening_plain mutators)

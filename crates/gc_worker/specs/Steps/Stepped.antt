@@ -6,7 +6,9 @@ use Rattle.plain_state.specs.declared.value.Value.{Value}
 use Rattle.plain_state.specs.declared.value.Value.TheVariants.{Number, Reference}
 use Rattle.plain_state.specs.State.{Mutator}
 use Rattle.mutator_asm.specs.declared.instr.Instr.{Instr}
-use Rattle.mutator_asm.specs.declared.instr.Instr.TheVariants.{Halt}
+use Rattle.mutator_asm.specs.declared.instr.Instr.TheVariants.{Halt, Out}
+use Rattle.gc_worker.specs.declared.access.accessed.Accessed.{Accessed}
+use Rattle.gc_worker.specs.declared.access.accessed.Accessed.TheVariants.{Brings, Stored}
 use Rattle.gc_worker.specs.declared.stage.Stage.{Stage}
 use Rattle.gc_worker.specs.declared.stage.Stage.TheVariants.{Looks, Passes, Flips, Forwards, Accesses, Places, Serves, Scans, Evacuates, Opens, Recalls, Guards, Checkpoints, BeginsCheckpoint, Gone}
 use Rattle.gc_worker.specs.declared.calls.did.Did.TheVariants.{Done, Trap}
@@ -67,9 +69,28 @@ awaits x = awaits_at x.stage x.task
 abbrev pub IsSound : Held → Type 0
 IsSound x = Fits x.layout.pages x.mutators x.number x
 
--- a mutator has room for all that it may print
-abbrev pub HasRoomToPrint : (number mutators capacity : ℕ) → Type 0
-HasRoomToPrint number mutators capacity = nat_lt number mutators ≡ true → MOST_PRINTED ≤ capacity
+-- a mutator that may print has room for the most numbers
+abbrev pub HasRoomToPrint : (prints : Bool) → (number mutators capacity : ℕ) → Type 0
+HasRoomToPrint prints number mutators capacity = prints ≡ true → nat_lt number mutators ≡ true → MOST_PRINTED ≤ capacity
+
+-- the instruction prints a number, if it doesn't end its mutator
+abbrev pub is_output : Instr → Bool
+is_output (Out a) = true
+is_output instr = false
+
+abbrev pub MayIf : (asks prints : Bool) → Type 0
+MayIf true prints = prints ≡ true
+MayIf false prints = ⊤
+
+-- such an instruction is for a mutator that may print
+abbrev pub MayExecute : (prints : Bool) → Instr → Type 0
+MayExecute prints instr = MayIf (is_output instr) prints
+
+-- no other has it as its task
+abbrev pub MayHave : (prints : Bool) → Option Task → Type 0
+MayHave prints None = ⊤
+MayHave prints (Some (Calls instr)) = MayExecute prints instr
+MayHave prints (Some (Stops end)) = ⊤
 
 -- what is told of a step of worker k
 abbrev pub stepped_by : (k : ℕ) → turned.Told → Stepped
@@ -107,6 +128,12 @@ IsForwarding _ = ⊥
 abbrev pub IsAtAccess : Stage → Type 0
 IsAtAccess (Accesses a) = ⊤
 IsAtAccess _ = ⊥
+
+-- what an access comes to has no effect: it faults, awaits or fails
+abbrev pub HasNoEffect : Accessed → Type 0
+HasNoEffect (Brings into word) = ⊥
+HasNoEffect Stored = ⊥
+HasNoEffect accessed = ⊤
 
 abbrev pub IsPlacing : Stage → Type 0
 IsPlacing (Places p) = ⊤

@@ -77,6 +77,7 @@ impl State {
     pub fn print(&mut self, number: u64) -> Stepped
         requires at { self.old.stage ≡ Stage.Looks }
         requires is_mutator { nat_lt self.old.number self.old.mutators ≡ true }
+        requires may { self.old.prints ≡ true }
         requires few { length self.old.account.printed < MOST_PRINTED }
         ensures state { self.new ≡ uncounted (prints self.old number) }
         ensures tells { result ≡ Stepped.Effect self.old.number }

@@ -114,6 +114,7 @@ impl State {
     fn print_number(&mut self, a: u8) -> Stepped
         requires at { self.old.stage ≡ Stage.Looks }
         requires is_mutator { nat_lt self.old.number self.old.mutators ≡ true }
+        requires may { self.old.prints ≡ true }
         ensures state { self.new ≡ uncounted (acted self.old (action (seen_by self.old) (Instr.Out a))) }
         ensures tells { (task : Task) → result ≡ stepped_by self.old.number (told_acted self.old task (action (seen_by self.old) (Instr.Out a))) }
     {

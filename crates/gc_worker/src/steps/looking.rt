@@ -33,6 +33,7 @@ impl State {
         }
     }
 
+    #[inline(always)]
     fn looked(&mut self, word: u64) -> Stepped
         requires at { self.old.stage ≡ Stage.Looks }
         requires is_mutator { nat_lt self.old.number self.old.mutators ≡ true }
@@ -54,6 +55,7 @@ impl State {
     }
 
     /// The task begins, if there is one.
+    #[inline(always)]
     fn start(&mut self) -> Stepped
         requires at { self.old.stage ≡ Stage.Looks }
         requires is_mutator { nat_lt self.old.number self.old.mutators ≡ true }

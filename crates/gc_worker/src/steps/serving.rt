@@ -6,7 +6,7 @@ ghost use Rattle.space_map.specs.declared.spaces.TheConstants.{LAST_WORKER};
 ghost use Rattle.gc_worker.specs.declared.access.access_stage.AccessStage.{AccessStage};
 ghost use Rattle.gc_worker.specs.Workers.Fits.{FitsStage, IsAccessing, Takes};
 ghost use Rattle.gc_worker.specs.Workers.Held.{at_stage};
-ghost use Rattle.gc_worker.specs.Steps.Stepped.{IsAtAccess, IsEvacuating, IsOpening, IsAtScan, IsForCheckpoint, IsServing, IsSound, MayBeginAnew, back_at, served_in, stepped_by, uncounted};
+ghost use Rattle.gc_worker.specs.Steps.Stepped.{HasNoEffect, IsAtAccess, IsEvacuating, IsOpening, IsAtScan, IsForCheckpoint, IsServing, IsSound, MayBeginAnew, back_at, served_in, stepped_by, uncounted};
 ghost use Rattle.gc_worker.specs.Steps.Turned.{accessed_at, back_from, goes_back, scans, serves_target, told, told_access, told_round, traced_by, turned};
 
 use crate::access::Access;
@@ -47,11 +47,37 @@ impl State {
         }
     }
 
-    /// What an access comes to. It stands apart, also where it is inlined, so that the room of the stages that it may begin is
-    /// cleared only here, and not at each step of an access.
-    #[inline(always)]
+    /// What an access comes to. It is small enough to be put into its caller without being told to. If it were told to, the compiler would
+    /// not put the access itself into its caller, since that would grow very large.
+    #[inline]
     fn has_accessed(&mut self, accessed: Accessed) -> Stepped
         requires at { IsAtAccess self.old.stage }
+        requires calls { (stage : AccessStage) × IsAccessing self.old.account self.old.registers self.old.task stage }
+        requires fits { FitsStage (accessed_at self.old self.old.stage accessed) (accessed_at self.old self.old.stage accessed).stage }
+        ensures state { self.new ≡ uncounted (accessed_at self.old self.old.stage accessed) }
+        ensures tells { result ≡ stepped_by self.old.number (told_access self.old.task (Turn.Finished accessed)) }
+    {
+        match accessed {
+            Accessed::Brings(into, word) => {
+                self.stage = Stage::Looks;
+                self.load(into, word)
+            }
+            Accessed::Stored => {
+                self.stage = Stage::Looks;
+                self.go_on()
+            }
+            Accessed::Faults(_) | Accessed::Awaits | Accessed::Fails(_) => {
+                self.is_held_up(accessed)
+            }
+        }
+    }
+
+    /// What an access comes to that has no effect. It stands apart, so that the room of the stages that it may begin is cleared only here,
+    /// and not at each step of an access.
+    #[inline(never)]
+    fn is_held_up(&mut self, accessed: Accessed) -> Stepped
+        requires at { IsAtAccess self.old.stage }
+        requires no_effect { HasNoEffect accessed }
         requires calls { (stage : AccessStage) × IsAccessing self.old.account self.old.registers self.old.task stage }
         requires fits { FitsStage (accessed_at self.old self.old.stage accessed) (accessed_at self.old self.old.stage accessed).stage }
         ensures state { self.new ≡ uncounted (accessed_at self.old self.old.stage accessed) }
@@ -66,20 +92,12 @@ impl State {
                 self.await_traced();
                 Stepped::Moved
             }
-            Accessed::Brings(into, word) => {
-                self.stage = Stage::Looks;
-                self.load(into, word)
-            }
-            Accessed::Stored => {
-                self.stage = Stage::Looks;
-                self.go_on()
-            }
             Accessed::Fails(why) => self.end_with(why),
+            Accessed::Brings(..) | Accessed::Stored => unreachable!(),
         }
     }
 
     /// A round is made for the page at which the access failed.
-    #[inline(never)]
     fn serve_for(&mut self, page: u32)
         requires at { IsAtAccess self.old.stage }
         requires fits { FitsStage (accessed_at self.old self.old.stage (Accessed.Faults page)) (accessed_at self.old self.old.stage (Accessed.Faults page)).stage }
@@ -98,7 +116,6 @@ impl State {
     }
 
     /// The target of a cell is loaded once the epoch is traced.
-    #[inline(never)]
     fn await_traced(&mut self)
         requires at { IsAtAccess self.old.stage }
         requires fits { FitsStage (accessed_at self.old self.old.stage Accessed.Awaits) (accessed_at self.old self.old.stage Accessed.Awaits).stage }

@@ -8,7 +8,7 @@ ghost use Rattle.gc_worker.specs.declared.task.Task.TheVariants.{Calls, Stops};
 ghost use Rattle.gc_worker.specs.Laws.Between.{fresh, fresh_mutator, fresh_scanner, with_task};
 ghost use Rattle.gc_worker.specs.Workers.Fits.{Takes};
 ghost use Rattle.gc_worker.specs.Workers.Held.{at_stage};
-ghost use Rattle.gc_worker.specs.Steps.Stepped.{HasRoomToPrint, IsForCheckpoints, IsSound, stepped_by, uncounted};
+ghost use Rattle.gc_worker.specs.Steps.Stepped.{HasRoomToPrint, MayExecute, IsForCheckpoints, IsSound, stepped_by, uncounted};
 ghost use Rattle.gc_worker.specs.Steps.Turned.{told, turned};
 ghost use Rattle.gc_worker.specs.Steps.Wanted.{wanted};
 
@@ -27,42 +27,63 @@ use space_map::Spaces;
 
 impl State {
     /// A mutator that is about to come to a heap.
-    pub fn mutator(spaces: Spaces, number: u8, mutators: u8, printed: Vec<u64>) -> State
-        requires room { HasRoomToPrint number mutators (vec_capacity printed) }
+    pub fn mutator(
+        spaces: Spaces,
+        number: u8,
+        mutators: u8,
+        prints: bool,
+        printed: Vec<u64>,
+    ) -> State
+        requires room { HasRoomToPrint prints number mutators (vec_capacity printed) }
         requires empty { printed.items ≡ [] }
-        ensures { result ≡ fresh_mutator spaces mutators number }
+        ensures { result ≡ fresh_mutator prints spaces mutators number }
     {
         let stage = Stage::Passes(Gate::attach(spaces), After::Looks);
-        State::new(spaces, number, mutators, printed, stage)
+        State::new(spaces, number, mutators, prints, printed, stage)
     }
 
     /// A scanner before its first round.
-    pub fn scanner(spaces: Spaces, number: u8, mutators: u8, printed: Vec<u64>) -> State
+    pub fn scanner(
+        spaces: Spaces,
+        number: u8,
+        mutators: u8,
+        prints: bool,
+        printed: Vec<u64>,
+    ) -> State
         requires few { number ≤ LAST_WORKER }
-        requires room { HasRoomToPrint number mutators (vec_capacity printed) }
+        requires room { HasRoomToPrint prints number mutators (vec_capacity printed) }
         requires empty { printed.items ≡ [] }
-        ensures { result ≡ fresh_scanner spaces mutators number }
+        ensures { result ≡ fresh_scanner prints spaces mutators number }
     {
         let duty = Duty::scanner(spaces, number, mutators);
         State::new(
             spaces,
             number,
             mutators,
+            prints,
             printed,
             Stage::Serves(duty, Back::ToScanner),
         )
     }
 
     /// A worker before its first step, which is about to do this.
-    fn new(spaces: Spaces, number: u8, mutators: u8, printed: Vec<u64>, stage: Stage) -> State
-        requires room { HasRoomToPrint number mutators (vec_capacity printed) }
+    fn new(
+        spaces: Spaces,
+        number: u8,
+        mutators: u8,
+        prints: bool,
+        printed: Vec<u64>,
+        stage: Stage,
+    ) -> State
+        requires room { HasRoomToPrint prints number mutators (vec_capacity printed) }
         requires empty { printed.items ≡ [] }
-        ensures { result ≡ at_stage (fresh spaces mutators number) stage }
+        ensures { result ≡ at_stage (fresh prints spaces mutators number) stage }
     {
         State {
             number,
             spaces,
             mutators,
+            prints,
             epoch: 0,
             begun: 0,
             snap: 0,
@@ -82,6 +103,7 @@ impl State {
 
     /// The task is an instruction.
     pub fn begin(&mut self, instr: Instr)
+        requires { MayExecute self.old.prints instr }
         ensures { self.new ≡ with_task self.old (Calls instr) }
     {
         self.instr = instr;

@@ -1,5 +1,5 @@
 -- A new heap of one mutator is alone, and has no more to pay than an instruction and its attaching.
-use Rattle.std.proofs.Common.{◌≡◌, ℕ, ◌+◌, ◌<◌, ◌≤◌, length, refl, sym, ap, subst, arith}
+use Rattle.std.proofs.Common.{◌≡◌, ℕ, ◌+◌, ◌<◌, ◌≤◌, Bool, length, refl, sym, ap, subst, arith}
 use Rattle.heap_state.specs.Memory.Entries.{table_with}
 use Rattle.heap_state.specs.Memory.Table.{Table, table_of}
 use Rattle.heap_state.specs.Saving.Words.{Saves}
@@ -19,12 +19,12 @@ use Rattle.lone_mutator.proofs.Epochs.Cost.{due_traced}
 use Rattle.lone_mutator.proofs.Epochs.Saves.{saving_in-le}
 use Rattle.lone_mutator.proofs.Runs.MostSteps.{costs_lt_most, most_le_most_of}
 
-module _ (l : Layout) (least : ℕ) (size : IsPageCount l.pages) (least_fits : FEWEST_PAGES ≤ least) (within : least ≤ l.pages) where
+module _ (prints : Bool) (l : Layout) (least : ℕ) (size : IsPageCount l.pages) (least_fits : FEWEST_PAGES ≤ least) (within : least ≤ l.pages) where
   abbrev x : Held
-  x = fresh_mutator l 1 0
+  x = fresh_mutator prints l 1 0
 
   abbrev h : Heap
-  h = opening_heap l least 1 0
+  h = opening_heap prints l least 1 0
 
   -- the table before the first step
   abbrev t : Table
@@ -36,7 +36,7 @@ module _ (l : Layout) (least : ℕ) (size : IsPageCount l.pages) (least_fits : F
   says : t ≡ opened
   says = (are_opening l.pages least size least_fits within l.checkpoints).says
 
-  one : length (fresh_workers l 1 0 1) ≡ 1
+  one : length (fresh_workers prints l 1 0 1) ≡ 1
   unfolding fresh_workers
   one = refl
 
@@ -72,4 +72,4 @@ module _ (l : Layout) (least : ℕ) (size : IsPageCount l.pages) (least_fits : F
   )
 
 pub heaps_open : LoneHeapsOpen
-heaps_open l least size least_fits within = opens l least size least_fits within
+heaps_open prints l least size least_fits within = opens prints l least size least_fits within

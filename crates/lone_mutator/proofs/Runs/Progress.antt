@@ -237,7 +237,7 @@ pace most steps executed paid some less few =
     let below : steps / most < executed + 1 = (div-lt_iff_lt-mul some).1 (omega (arith, less, few)) in
     omega (arith, below)
 
-first_executed : (l : Layout) (least : ℕ) → (held_at (opening_heap l least 1 0) 0).account.executed ≡ 0
+first_executed : (l : Layout) (least : ℕ) → (held_at (opening_heap true l least 1 0) 0).account.executed ≡ 0
 unfolding fresh_workers
 first_executed l least = refl
 
@@ -249,11 +249,11 @@ module _ (section : List Instr) (items : List Item) (config : Config) (program :
   abbrev l : Layout
   l = layout_by config
 
-  heap_is : first.heap ≡ opening_heap l config.pages 1 0
-  heap_is = ap (opening_heap l config.pages 1) none
+  heap_is : first.heap ≡ opening_heap true l config.pages 1 0
+  heap_is = ap (opening_heap true l config.pages 1) none
 
   begins : IsLone first.heap × (potential first.heap < most_steps_of l)
-  begins = subst (λ (h : Heap). IsLone h × (potential h < most_steps_of l)) (sym heap_is) (let fit = sizes_fit config size in heaps_open l config.pages (limit_fits config size) fit.0 fit.1)
+  begins = subst (λ (h : Heap). IsLone h × (potential h < most_steps_of l)) (sym heap_is) (let fit = sizes_fit config size in heaps_open true l config.pages (limit_fits config size) fit.0 fit.1)
 
   some : 0 < most_steps_of l
   some = let bound = costs_lt_most config.limit (limit_fits config size).0 in let most = most_le_most_of l in omega (arith, bound, most)

@@ -22,7 +22,6 @@ use Rattle.cell_walk.specs.Taken.{along, by_target, is_old, replacement, stage_a
 use Rattle.cell_walk.specs.Walking.{Walking, IsGoing, most_cells}
 use Rattle.fault_duty.specs.declared.duty_stage.DutyStage.{DutyStage}
 use Rattle.fault_duty.specs.declared.duty_stage.DutyStage.TheVariants.{Walks, Traces}
-use Rattle.fault_duty.specs.declared.duty_stage.DutyStage.TheVariants as duty_stage
 use Rattle.fault_duty.specs.Duty as duty
 use Rattle.fault_duty.specs.Duty.{Round, walk_went}
 use Rattle.fault_duty.specs.Soundness.{IsOwnWalk, IsUntraced}

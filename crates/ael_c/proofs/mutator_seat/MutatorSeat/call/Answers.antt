@@ -8,14 +8,17 @@ use Rattle.ael_c.proofs.Cases.{makes_acts}
 use Rattle.ael_c.proofs.mutator_seat.MutatorSeat.call.Goals as goal
 
 pub begin-requires-clause-may_begin : goal.begin-requires-clause-may_begin
-begin-requires-clause-may_begin c = (may_be_begun c.self.inside.mutator.worker c.in-Some.instr (sym c.refusal.ensures ∙ c.in_default-refusal.is)).may_begin
+begin-requires-clause-may_begin c = (may_be_begun c.self.inside.mutator c.in-Some.instr (sym c.refusal.ensures ∙ c.in_default-refusal.is)).may_begin
 
 pub returns : goal.returns
 returns c =
     let m = c.self.inside.mutator in
-    let b = c.tries.new.mutator in
+    let b = c.tries.new.self in
     let instr = c.in-Some.instr in
     let under = under_way m c.begin.new.self (Calls instr) c.begin.ensures.begun c.begin.ensures.same.1 c.begin.ensures.looks_first in
     subst (λ (a : Seated). MakesCall c.args.instr a c.by.result b) c.self.view_is
     (makes_acts m b c.by.result c.args.instr instr c.in-Some.is (sym c.refusal.ensures ∙ c.in_default-refusal.is)
     (record { did = c.tries.result; told = c.by.ensures; tries = c.tries.ensures.tries m (Calls instr) under }))
+
+pub begin-requires-clause-may_execute : goal.begin-requires-clause-may_execute
+begin-requires-clause-may_execute c = (may_be_begun c.self.inside.mutator c.in-Some.instr (sym c.refusal.ensures ∙ c.in_default-refusal.is)).may_execute

@@ -15,7 +15,7 @@ begin-requires-clause-may_begin c = halt_may_begin c.self.inside.mutator.worker.
 pub returns-then-is_calling : goal.returns-then-is_calling
 returns-then-is_calling c =
     let m = c.self.inside.mutator in
-    let b = c.tries.new.mutator in
+    let b = c.tries.new.self in
     subst (λ (a : Seated). Leaves a Again b) c.self.view_is
     (leaves_calling m b Again (sym c.ended.ensures.ended ∙ c.in_default.is) (sym c.is_calling.ensures ∙ c.if-is_calling.true)
     (record { told = refl; came = answer_by c.tries.result; acts = record { did = c.tries.result; told = refl; tries = c.tries.ensures.tries } }))
@@ -23,7 +23,7 @@ returns-then-is_calling c =
 pub returns : goal.returns
 returns c =
     let m = c.self.inside.mutator in
-    let b = c.tries-2.new.mutator in
+    let b = c.tries-2.new.self in
     let under = under_way m c.begin.new.self (Calls Halt) c.begin.ensures.begun c.begin.ensures.same.1 c.begin.ensures.looks_first in
     subst (λ (a : Seated). Leaves a Again b) c.self.view_is
     (leaves_halting m b Again (sym c.ended.ensures.ended ∙ c.in_default.is) (is_idle m.worker.task (sym c.is_calling.ensures ∙ c.if-is_calling.false))

@@ -12,7 +12,7 @@ use Rattle.ael_c.proofs.mutator_seat.MutatorSeat.poll.Goals.{then-comes_to_rest,
 pub returns-then-is_calling : goal.returns-then-is_calling
 returns-then-is_calling c =
     let m = c.self.inside.mutator in
-    let b = c.tries.new.mutator in
+    let b = c.tries.new.self in
     subst (λ (a : Seated). Polls a c.by.result b) c.self.view_is
     (polls_calling m b c.by.result (sym c.ended.ensures.ended ∙ c.in_default.is) (sym c.is_calling.ensures ∙ c.if-is_calling.true)
     (record { did = c.tries.result; told = c.by.ensures; tries = c.tries.ensures.tries }))
@@ -20,7 +20,7 @@ returns-then-is_calling c =
 pub returns : goal.returns
 returns c =
     let m = c.self.inside.mutator in
-    let b = c.comes_to_rest.new.mutator in
+    let b = c.comes_to_rest.new.self in
     let none = sym c.ended.ensures.ended ∙ c.in_default.is in
     let idle = is_idle m.worker.task (sym c.is_calling.ensures ∙ c.if-is_calling.false) in
     let quiet = c.comes_to_rest.ensures.quiet m (quiet_first m idle) in

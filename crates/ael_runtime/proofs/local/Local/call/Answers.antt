@@ -1,6 +1,7 @@
 use Rattle.std.proofs.Common.{◌∙◌, subst}
 use Rattle.gc_worker.specs.declared.calls.did.Did.{Did}
 use Rattle.gc_worker.specs.declared.task.Task.TheVariants.{Calls}
+use Rattle.gc_worker.proofs.Workers.Printing.{may_execute_silent}
 use Rattle.ael_threads.specs.Calls.{Called, CalledBy}
 use Rattle.ael_threads.specs.Seats.{IsMine, Seated}
 use Rattle.ael_runtime.specs.Known.{IsKnown}
@@ -34,3 +35,6 @@ invariant_of-self g c =
       known_then c.args.self.now c.exec-did.new.self c.args.instr c.exec-did.result c.self.inside.known c.known_after-self-inside.result c.known_after-self-inside.ensures
           (subst (IsKnown c.self.inside.known) c.self.view_is c.self.invariant.3) (returns-clause-executed g c),
     )
+
+pub exec-did-requires-clause-may_execute : goal.exec-did-requires-clause-may_execute
+exec-did-requires-clause-may_execute g c = may_execute_silent _ c.args.instr c.requires.silent

@@ -1,8 +1,10 @@
-use Rattle.std.proofs.Common.{◌<◌, ◌≤◌, ◌∙◌, ap, subst, arith}
+use Rattle.std.proofs.Common.{◌<◌, ◌≤◌, ◌∙◌, ap, sym, subst, arith}
 use Rattle.plain_state.specs.declared.end.End.TheVariants.{JumpOut, TurnsOut}
 use Rattle.mutator_asm.specs.Program.{instr_at}
 use Rattle.gc_worker.specs.declared.task.Task.TheVariants.{Calls, Stops}
 use Rattle.gc_worker.specs.declared.calls.did.Did.{Did}
+use Rattle.gc_worker.proofs.Workers.Printing.{may_execute_all}
+use Rattle.ael_threads.specs.declared.view.Plan.{Plan}
 use Rattle.ael_threads.specs.Calls.{Called}
 use Rattle.ael_threads.specs.Running.{Work}
 use Rattle.ael_threads.proofs.ProgramRuns.Executions.{executing_ends, executing_more, is_done, next_call, next_jumps, out_of_turns, read_off}
@@ -55,3 +57,9 @@ returns g c =
     let enough : w.turns ≤ c.loop-executed.executed = omega (arith, past, turns) in
     executing_ends w c.args.m c.loop-executed.executed a c.loop-executed.invariant c.stop-2.new.self (Stops TurnsOut) TurnsOut c.stop-2.ensures.table
     (out_of_turns w c.args.m c.loop-executed.executed a c.loop-executed.invariant enough) c.stop-2.ensures.called
+
+pub calls-requires-clause-may_execute : goal.calls-requires-clause-may_execute
+calls-requires-clause-may_execute g c =
+    let at = c.loop-executed.invariant.plan in
+    let prints = ap (λ (w : Work). w.plan.prints) (sym c.job.view_is) in
+    may_execute_all _ c.in-Some.instr (ap (λ (p : Plan). p.prints) at ∙ (prints ∙ c.job.inside.prints))

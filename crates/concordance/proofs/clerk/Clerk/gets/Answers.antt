@@ -1,6 +1,7 @@
-use Rattle.concordance.specs.Gathering.{whole_desk_of}
+use Rattle.concordance.specs.Gathering.{CanGet, whole_desk_of}
 use Rattle.concordance.proofs.Gathered.Reads.{gets_begins, gets_it, gets_not_end}
 use Rattle.concordance.proofs.Calls.{gets_not_snap}
+use Rattle.gc_worker.proofs.Workers.Printing.{prints_nothing}
 use Rattle.concordance.proofs.clerk.Clerk.gets.Goals as goal
 
 pub call-requires-clause-may_begin : goal.call-requires-clause-may_begin
@@ -17,3 +18,6 @@ returns g c = gets_it c.args.self.now c.call.new.self c.args.instr c.requires.al
 
 pub call-requires-clause-other : goal.call-requires-clause-other
 call-requires-clause-other g c = gets_not_snap (whole_desk_of c.args.self.now) c.args.instr c.requires.can
+
+pub call-requires-clause-silent : goal.call-requires-clause-silent
+call-requires-clause-silent g c = prints_nothing (CanGet (whole_desk_of c.args.self.now)) (λ a can. can) c.args.instr c.requires.can

@@ -1,11 +1,13 @@
 use Rattle.std.proofs.Common.{◌∙◌, ap, subst, arith}
 use Rattle.gc_worker.specs.declared.calls.did.Did.TheVariants.{Trap}
 use Rattle.ael_threads.specs.Seats.{Seated, ShowsSeen}
+use Rattle.concordance.specs.Desk.{CanMake}
 use Rattle.concordance.specs.Lone.{desk_of}
 use Rattle.concordance.proofs.Doing.{makes_serial}
 use Rattle.concordance.proofs.Lone.{finds_full, makes_desk, makes_full, makes_lone}
 use Rattle.concordance.proofs.Shown.{serial_read}
 use Rattle.concordance.proofs.Calls.{makes_not_snap}
+use Rattle.gc_worker.proofs.Workers.Printing.{prints_nothing}
 use Rattle.concordance.proofs.clerk.Clerk.makes.Goals as goal
 
 pub prove-unreachable-requires : goal.prove-unreachable-requires
@@ -38,3 +40,6 @@ returns-in-Trap-clause-shows g c = subst (λ (s : Seated). ShowsSeen s.worker s.
 
 pub call-requires-clause-other : goal.call-requires-clause-other
 call-requires-clause-other g c = makes_not_snap (desk_of c.args.self.now) c.args.instr c.requires.can
+
+pub call-requires-clause-silent : goal.call-requires-clause-silent
+call-requires-clause-silent g c = prints_nothing (CanMake (desk_of c.args.self.now)) (λ a can. can) c.args.instr c.requires.can

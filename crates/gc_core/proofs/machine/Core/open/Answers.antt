@@ -1,4 +1,4 @@
-use Rattle.std.proofs.Common.{◌≡◌, ◌+◌, length, refl, ap, ◌∙◌, arith}
+use Rattle.std.proofs.Common.{◌≡◌, ◌+◌, length, true, refl, ap, ◌∙◌, arith}
 use Rattle.gc_worker.proofs.Between.Opening.{many}
 use Rattle.gc_core.proofs.Events.Lawful.{lawful_opening}
 use Rattle.gc_core.proofs.machine.Core.open.Goals as goal
@@ -6,7 +6,7 @@ use Rattle.gc_core.proofs.machine.Core.open.Goals as goal
 all_there : (c : goal.In_ok-slots) → length c.in_ok-slots.slots.items ≡ length c.args.program.now.code + c.args.config.now.scanners
 all_there c =
     ap length c.in_ok-slots.ensures
-    ∙ many c.in_ok-spaces.spaces c.len-mutators.result 0 (c.len-mutators.result + c.args.config.now.scanners)
+    ∙ many true c.in_ok-spaces.spaces c.len-mutators.result 0 (c.len-mutators.result + c.args.config.now.scanners)
     ∙ ap (λ n. n + c.args.config.now.scanners) c.len-mutators.ensures
 
 pub words-requires : goal.words-requires

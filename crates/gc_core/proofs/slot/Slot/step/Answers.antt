@@ -4,7 +4,8 @@ use Rattle.gc_worker.specs.Workers.Counted.{counted}
 use Rattle.gc_worker.specs.Workers.Held.{Held}
 use Rattle.gc_worker.specs.Steps.Made.{MayMake, step_made}
 use Rattle.gc_worker.specs.Steps.Stepped.{IsSound}
-use Rattle.gc_core.proofs.Events.Tasks.{may_apart, words_apart, told_apart, made_effect, made_other}
+use Rattle.gc_worker.proofs.Workers.Printing.{made_prints}
+use Rattle.gc_core.proofs.Events.Tasks.{may_apart, sound_apart, words_apart, told_apart, made_effect, made_other}
 use Rattle.gc_core.proofs.slot.Slot.step.Goals as goal
 
 pub step-told-requires : goal.step-told-requires
@@ -41,3 +42,11 @@ overflow_add-self c =
     let room = subst (λ (x : Held). (m : ℕ) → (step_made x c.args.on.now).told ≡ Effect m → x.account.executed < 4294967295) (sym c.self.view_is) c.requires.room in
     let l = room c.in-Effect.field-0 (sym (told_apart c.self.inside.count c.self.inside.worker (subst IsSound (sym c.self.view_is) c.requires.sound) c.args.on.now) ∙ (sym c.step-told.ensures.tells ∙ c.in-Effect.is)) in
     omega (arith, l)
+
+pub invariant_of-self : goal.invariant_of-self
+invariant_of-self c =
+    made_prints c.self.inside.worker c.step-told.new.self c.args.on.now (sound_apart c.self.inside.count c.self.inside.worker (subst IsSound (sym c.self.view_is) c.requires.sound)) c.step-told.ensures.state ∙ c.self.invariant
+
+pub invariant_of-self-in_default : goal.invariant_of-self-in_default
+invariant_of-self-in_default c =
+    made_prints c.self.inside.worker c.step-told.new.self c.args.on.now (sound_apart c.self.inside.count c.self.inside.worker (subst IsSound (sym c.self.view_is) c.requires.sound)) c.step-told.ensures.state ∙ c.self.invariant

@@ -1,16 +1,11 @@
-use Rattle.std.proofs.Common.{rules, ◌≡◌, ℕ, ◌^◌, ◌<◌, ◌≤◌, IsTrue, true, nat_lt, ◌+◌, ◌-◌, ◌*◌, length, ◌/◌, ◌%◌, Bool, false, nat_eq, List, [], ◌∷◌, ◌++◌, slice_index_or, slice_set, bit_and, bit_or, Fits, w8, w32, w64, Bor, MutBor, Ok, ap, subst, sym, ◌∙◌}
-use Rattle.space_map.specs.declared.spaces.TheConstants.{LAST_WORKER}
-use Rattle.mutator_asm.specs.Program.{is_valid}
-use Rattle.plain_state.specs.declared.kind.Kind.{Kind}
-use Rattle.plain_state.specs.declared.sizes.TheConstants.{BOARD_WORDS}
+use Rattle.std.proofs.Common.{Ok, ap, subst, sym, ◌∙◌}
 use Rattle.plain_heap.specs.declared.action.Action.TheVariants.{Makes}
 use Rattle.plain_state.specs.declared.kind.Kind.TheVariants as kinds
 use Rattle.plain_state.specs.declared.value.Value.TheVariants.{Number}
-use Rattle.plain_heap.specs.Action.{◌>>=◌, action, allocates, computes, mixes}
-use Rattle.gc_worker.specs.declared.task.Task.{Task}
+use Rattle.plain_heap.specs.Action.{◌>>=◌}
 use Rattle.gc_worker.specs.Workers.Fits.{FitsStage}
-use Rattle.gc_worker.specs.Steps.Stepped.{IsCall, instr_due, seen_by, stepped_by, uncounted}
-use Rattle.gc_worker.specs.Steps.Turned.{acted, told_acted}
+use Rattle.gc_worker.specs.Steps.Stepped.{seen_by}
+use Rattle.gc_worker.specs.Steps.Turned.{acted}
 use Rattle.gc_worker.proofs.Plain.RecordsMade.{mixed_makes}
 use Rattle.gc_worker.proofs.Workers.Fitting.{fits_before}
 use Rattle.gc_worker.specs.Steps.Turned.{places}

@@ -1,14 +1,9 @@
-use Rattle.std.proofs.Common.{rules, ◌≡◌, ◌≤◌, true, ℕ, ◌+◌, ◌-◌, ◌*◌, ◌<◌, length, ◌/◌, ◌%◌, Bool, false, nat_eq, nat_lt, List, [], ◌∷◌, ◌++◌, slice_index_or, slice_set, bit_and, bit_or, Fits, w8, w32, w64, Bor, MutBor, ap, subst, sym, ◌∙◌}
-use Rattle.space_map.specs.Spaces.{board_page}
-use Rattle.space_map.specs.declared.spaces.TheConstants.{LAST_WORKER}
-use Rattle.gc_worker.specs.declared.access.access_stage.AccessStage.{AccessStage}
-use Rattle.gc_worker.specs.Workers.Fits.{FitsStage, IsAccessing, Takes}
-use Rattle.gc_worker.specs.Workers.Held.{at_stage, header_for}
-use Rattle.gc_worker.specs.declared.stage.back.Back.{Back}
-use Rattle.gc_worker.specs.declared.stage.Stage.{Stage}
+use Rattle.std.proofs.Common.{ap, subst, sym, ◌∙◌}
+use Rattle.gc_worker.specs.Workers.Fits.{FitsStage}
+use Rattle.gc_worker.specs.Workers.Held.{header_for}
 use Rattle.gc_worker.proofs.Workers.Fitting.{fits_before}
-use Rattle.gc_worker.specs.Steps.Stepped.{IsAtAccess, IsEvacuating, IsOpening, IsAtScan, IsForCheckpoint, IsServing, IsSound, MayBeginAnew, back_at, served_in, stepped_by, uncounted}
-use Rattle.gc_worker.specs.Steps.Turned.{accessed_at, back_from, goes_back, places, scans, serves_target, told, told_access, told_round, traced_by, turned}
+use Rattle.gc_worker.specs.Steps.Stepped.{back_at}
+use Rattle.gc_worker.specs.Steps.Turned.{back_from, goes_back, places}
 use Rattle.gc_worker.proofs.state.State.go_back.Goals as goal
 
 -- src/steps/serving.rt:253:30

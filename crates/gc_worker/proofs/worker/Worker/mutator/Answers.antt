@@ -5,4 +5,4 @@ use Rattle.gc_worker.proofs.worker.Worker.mutator.Goals as goal
 pub invariant_of-result : goal.invariant_of-result
 invariant_of-result c =
     let size : IsPageCount c.args.spaces.pages = c.known.ensures in
-    mutators_are_sound c.args.spaces c.args.mutators c.args.number _ c.mutator-state.ensures size c.requires.number c.requires.few
+    mutators_are_sound c.args.prints c.args.spaces c.args.mutators c.args.number _ c.mutator-state.ensures size c.requires.number c.requires.few

@@ -1,4 +1,4 @@
-use Rattle.std.proofs.Common.{◌≡◌, ◌≤◌, ℕ, true, not, List, [], length, Result, Ok, Err, refl, sym, subst, ap, ◌∙◌, arith}
+use Rattle.std.proofs.Common.{◌≡◌, ◌≤◌, ℕ, Bool, true, not, List, [], length, Result, Ok, Err, refl, sym, subst, ap, ◌∙◌, arith}
 use Rattle.std.specs.Prelude.{◌↔◌, IsErrAnd, IsErrOf, IsTrue}
 use Rattle.std.proofs.lemmas.Bool.{le-leb}
 use Rattle.space_map.specs.Table.{whole_length}
@@ -14,7 +14,7 @@ use Rattle.ael_threads.specs.Opened.{new_scanners}
 use Rattle.ael_threads.specs.Rule.{RuleHolds, crew, first_view}
 use Rattle.ael_threads.specs.Seats.{new_callers}
 use Rattle.ael_threads.proofs.TableRule.Opening.{opening_length, opens_kept}
-use Rattle.ael_threads.proofs.shared.Shared.open.Goals as goal
+use Rattle.ael_threads.proofs.shared.Shared.open_with.Goals as goal
 
 -- of sizes that a heap may have only memory may be wanting
 module _ (config : Config) (n : ℕ) (size : IsPageCount n) (is : n ≡ config.limit) (within : (FEWEST_PAGES ≤ config.pages) × (config.pages ≤ n)) where
@@ -34,12 +34,12 @@ module _ (config : Config) (n : ℕ) (size : IsPageCount n) (is : n ≡ config.l
   is_open x = (λ is. cc, λ refused. absurd (allowed refused))
 
 -- the plan, with this layout
-abbrev opens : (mutators : ℕ) → Config → Layout → Plan
-opens mutators config layout = record { spaces = layout; least = config.pages; mutators = mutators; scanners = config.scanners }
+abbrev opens : (prints : Bool) → (mutators : ℕ) → Config → Layout → Plan
+opens prints mutators config layout = record { spaces = layout; least = config.pages; mutators = mutators; scanners = config.scanners; prints = prints }
 
 pub of_words-requires : goal.of_words-requires
 of_words-requires c =
-    let plan : Plan = record { spaces = c.in_ok-spaces.spaces; least = c.args.config.now.pages; mutators = c.args.mutators; scanners = c.args.config.now.scanners } in
+    let plan : Plan = record { spaces = c.in_ok-spaces.spaces; least = c.args.config.now.pages; mutators = c.args.mutators; scanners = c.args.config.now.scanners; prints = c.args.prints } in
     let all : crew plan ≤ 24 = (let a = c.requires.mutators.1 in let b = c.requires.scanners in omega (arith, a, b)) in
     subst (λ (words : List ℕ). RuleHolds plan (table.opening {S = ℕ} words [] (first_view plan))) (sym (c.as_slice.ensures.value ∙ c.in_ok-words.ensures))
     (opens_kept plan c.known.ensures c.in_ok-spaces.ensures.at_first.0 c.in_ok-spaces.ensures.at_first.1 c.requires.mutators.1 all)
@@ -54,17 +54,17 @@ pub deal-requires-clause-seat : goal.deal-requires-clause-seat
 deal-requires-clause-seat c = c.in_ok-table.ensures.4
 
 pub returns-clause-key : goal.returns-clause-key
-returns-clause-key c = c.in_ok-table.ensures.5 ∙ ap (opens c.args.mutators c.args.config.now) c.in_ok-spaces.ensures.layout
+returns-clause-key c = c.in_ok-table.ensures.5 ∙ ap (opens c.args.prints c.args.mutators c.args.config.now) c.in_ok-spaces.ensures.layout
 
 pub returns-clause-mutators : goal.returns-clause-mutators
 returns-clause-mutators c =
     let t = c.in_ok-table.table.shared.table_id in
-    c.in_ok-seats.ensures.mutators ∙ ap (λ (l : Layout). new_callers t (opens c.args.mutators c.args.config.now l) 0 c.args.mutators) c.in_ok-spaces.ensures.layout
+    c.in_ok-seats.ensures.mutators ∙ ap (λ (l : Layout). new_callers t (opens c.args.prints c.args.mutators c.args.config.now l) 0 c.args.mutators) c.in_ok-spaces.ensures.layout
 
 pub returns-clause-scanners : goal.returns-clause-scanners
 returns-clause-scanners c =
     let t = c.in_ok-table.table.shared.table_id in
-    c.in_ok-seats.ensures.scanners ∙ ap (λ (l : Layout). new_scanners t (opens c.args.mutators c.args.config.now l) c.args.mutators c.args.config.now.scanners) c.in_ok-spaces.ensures.layout
+    c.in_ok-seats.ensures.scanners ∙ ap (λ (l : Layout). new_scanners t (opens c.args.prints c.args.mutators c.args.config.now l) c.args.mutators c.args.config.now.scanners) c.in_ok-spaces.ensures.layout
 
 pub returns-in_err-words-clause-bad_pages : goal.returns-in_err-words-clause-bad_pages
 returns-in_err-words-clause-bad_pages c = no_memory c.args.config.now _ c.known.ensures (ap (λ (l : Layout). l.pages) c.in_ok-spaces.ensures.layout) c.in_ok-spaces.ensures.at_first _ c.from_residual-in_err-words.ensures.1
