@@ -54,6 +54,7 @@ impl State {
         }
     }
 
+    #[inline(always)]
     fn look_on(&mut self, on: &mut PlainAtoms) -> Stepped
         requires at { self.old.stage ≡ Stage.Looks }
         requires sound { IsSound self.old }
