@@ -6,7 +6,7 @@ use Rattle.space_map.specs.Table.{whole_length}
 use Rattle.gc_worker.specs.declared.config.Config.{Config}
 use Rattle.gc_worker.specs.Config.{has_sizes, layout_by}
 use Rattle.ael_threads.specs.declared.shared.Shared.{Shared}
-use Rattle.ael_threads.specs.Opened.{new_scanner, silent_plan}
+use Rattle.ael_threads.specs.Opened.{new_scanner, plan_without_printing}
 use Rattle.ael_threads.specs.Readers.{SeatedScanner}
 use Rattle.ael_threads.specs.Seats.{Seated, new_seated}
 use Rattle.ael_c.specs.declared.answer.Answer.{Answer}
@@ -94,7 +94,7 @@ pub counts_hold : (mutators scanners : ℕ) → 1 ≤ mutators → mutators ≤ 
 counts_hold mutators scanners some few little =
     rw (le-leb 1 mutators some, le-leb mutators 16 few, le-leb scanners 8 little) refl
 
-opens_by : (answer : Answer) (config : Config) (before after : Handles) (heap : Shared) → heap.table.shared.key ≡ silent_plan (length before.mutators) config
+opens_by : (answer : Answer) (config : Config) (before after : Handles) (heap : Shared) → heap.table.shared.key ≡ plan_without_printing (length before.mutators) config
     → heap.table.shared.table_id.words ≡ whole_length (layout_by config) → DealsBy answer heap before after → OpensBy answer config before after
 opens_by answers.Done config before after heap plan words dealt = record { heap = heap; plan = plan; words = words; dealt = dealt }
 opens_by answers.NoMemory config before after heap plan words same = same
@@ -114,7 +114,7 @@ opens_by (answers.Ended end) config before after heap plan words never = absurd 
 -- for none of the reasons for which it is refused
 pub opened : (pages limit : ℕ) (answer : Answer) (before after : Handles) (heap : Shared) → are_counts (length before.mutators) (length before.scanners) ≡ true
     → are_null before.mutators ≡ true → are_null before.scanners ≡ true → has_sizes (config_of pages limit (length before.scanners)) ≡ true
-    → heap.table.shared.key ≡ silent_plan (length before.mutators) (config_of pages limit (length before.scanners))
+    → heap.table.shared.key ≡ plan_without_printing (length before.mutators) (config_of pages limit (length before.scanners))
     → heap.table.shared.table_id.words ≡ whole_length (layout_by (config_of pages limit (length before.scanners))) → DealsBy answer heap before after → Opens pages limit before answer after
 opened pages limit answer before after heap counts null also sizes plan words deals =
     let config = config_of pages limit (length before.scanners) in

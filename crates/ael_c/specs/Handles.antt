@@ -6,7 +6,7 @@ use Rattle.gc_worker.specs.Config.{has_sizes, layout_by}
 use Rattle.gc_worker.specs.declared.config.Config.{Config}
 use Rattle.gc_worker.specs.Steps.AtRest.{is_at_rest}
 use Rattle.ael_threads.specs.declared.shared.Shared.{Shared}
-use Rattle.ael_threads.specs.Opened.{new_scanners, silent_plan}
+use Rattle.ael_threads.specs.Opened.{new_scanners, plan_without_printing}
 use Rattle.ael_threads.specs.Readers.{SeatedScanner}
 use Rattle.ael_threads.specs.Seats.{Seated, new_callers}
 use Rattle.ael_c.specs.declared.answer.Answer.{Answer}
@@ -106,7 +106,7 @@ DealsBy answer heap before after = ⊥
 -- they lead to the seats of a new heap of this size, whose mutators may not print
 pub record IsOpened (config : Config) (before after : Handles) : Type 0 where
   pub heap : Shared
-  pub plan : heap.table.shared.key ≡ silent_plan (length before.mutators) config
+  pub plan : heap.table.shared.key ≡ plan_without_printing (length before.mutators) config
   pub words : heap.table.shared.table_id.words ≡ whole_length (layout_by config)
   pub dealt : AreDealt heap before after
 

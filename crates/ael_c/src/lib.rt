@@ -14,7 +14,7 @@ mod opening;
 mod scanner_seat;
 mod seat;
 
-ghost use Rattle.std.specs.Prelude.{◌≡◌, None, false};
+ghost use Rattle.std.specs.Prelude.{◌≡◌, false};
 ghost use Rattle.ael_c.specs.Answers.{code_of};
 ghost use Rattle.ael_c.specs.Calls.{MakesCall, Polls, Leaves, ReadsRegister, Scans, Tells};
 ghost use Rattle.ael_c.specs.Handles.{ByHandle, Frees, OnMutator, OnScanner, Opens, handles, is_mutator};

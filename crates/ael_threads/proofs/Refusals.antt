@@ -17,7 +17,7 @@ use Rattle.gc_worker.proofs.Plain.RecordsMade.{made_of, makes_of}
 use Rattle.ael_threads.specs.declared.refused.Refused.TheVariants.{Operand, Printing, Records}
 use Rattle.ael_threads.specs.declared.refused.TheConstants.{MOST_RECORDS}
 use Rattle.ael_threads.specs.Seats.{Seated}
-use Rattle.ael_threads.specs.Refusals.{lacks_room, lacks_serial, makes_record, refusal, refusal_by}
+use Rattle.ael_threads.specs.Refusals.{lacks_serial, makes_record, may_not_print, refusal, refusal_by}
 
 -- the other instructions make no record
 makes_none : (q : Mutator) (instr : Instr) → makes_record instr ≡ false → makes_of q instr ≡ None
@@ -55,8 +55,8 @@ room_left false prints left = tt
 pub may_be_begun : (a : Seated) (instr : Instr) → refusal a instr ≡ None → MayBeBegun a instr
 may_be_begun a instr none = by_end a.worker.account.end refl a.worker.task refl none
   where
-    by_room : a.worker.account.end ≡ None → a.worker.task ≡ None → is_valid instr ≡ true → lacks_serial instr a.worker.account.serial ≡ false → (b : Bool) → lacks_room instr a.knows.plan.prints ≡ b → (if b then Some Printing else None) ≡ None
-        → MayBeBegun a instr
+    by_room : a.worker.account.end ≡ None → a.worker.task ≡ None → is_valid instr ≡ true → lacks_serial instr a.worker.account.serial ≡ false
+        → (b : Bool) → may_not_print instr a.knows.plan.prints ≡ b → (if b then Some Printing else None) ≡ None → MayBeBegun a instr
     by_room end task valid left true lacks e = absurd (cc)
     by_room end task valid left false lacks e = record {
       no_end = end;
@@ -66,16 +66,19 @@ may_be_begun a instr none = by_end a.worker.account.end refl a.worker.task refl 
     }
 
     by_lack : a.worker.account.end ≡ None → a.worker.task ≡ None → is_valid instr ≡ true → (b : Bool) → lacks_serial instr a.worker.account.serial ≡ b
-        → (if b then Some Records else (if lacks_room instr a.knows.plan.prints then Some Printing else None)) ≡ None → MayBeBegun a instr
+        → (if b then Some Records else (if may_not_print instr a.knows.plan.prints then Some Printing else None)) ≡ None → MayBeBegun a instr
     by_lack end task valid true lacks e = absurd (cc)
-    by_lack end task valid false lacks e = by_room end task valid lacks (lacks_room instr a.knows.plan.prints) refl e
+    by_lack end task valid false lacks e = by_room end task valid lacks (may_not_print instr a.knows.plan.prints) refl e
 
     by_valid : a.worker.account.end ≡ None → a.worker.task ≡ None → (b : Bool) → is_valid instr ≡ b
-        → (if b then (if lacks_serial instr a.worker.account.serial then Some Records else (if lacks_room instr a.knows.plan.prints then Some Printing else None)) else Some Operand) ≡ None → MayBeBegun a instr
+        → (if b then (if lacks_serial instr a.worker.account.serial then Some Records else (if may_not_print instr a.knows.plan.prints then Some Printing else None))
+        else Some Operand) ≡ None
+        → MayBeBegun a instr
     by_valid end task true valid e = by_lack end task valid (lacks_serial instr a.worker.account.serial) refl e
     by_valid end task false valid e = absurd (cc)
 
-    by_end : (end : Option End) → a.worker.account.end ≡ end → (task : Option Task) → a.worker.task ≡ task → refusal_by instr end task a.worker.account.serial a.knows.plan.prints ≡ None → MayBeBegun a instr
+    by_end : (end : Option End) → a.worker.account.end ≡ end → (task : Option Task) → a.worker.task ≡ task
+        → refusal_by instr end task a.worker.account.serial a.knows.plan.prints ≡ None → MayBeBegun a instr
     by_end (Some end) is task its e = absurd (cc)
     by_end None is (Some task) its e = absurd (cc)
     by_end None is None its e = by_valid is its (is_valid instr) refl e

@@ -15,9 +15,9 @@ plan_with prints mutators config = record { spaces = layout_by config; least = c
 abbrev pub plan_of : (mutators : ℕ) → Config → Plan
 plan_of mutators config = plan_with true mutators config
 
--- of one without room for numbers that are printed
-abbrev pub silent_plan : (mutators : ℕ) → Config → Plan
-silent_plan mutators config = plan_with false mutators config
+-- of one whose mutators may not
+abbrev pub plan_without_printing : (mutators : ℕ) → Config → Plan
+plan_without_printing mutators config = plan_with false mutators config
 
 abbrev pub new_scanner : TableId → Plan → ℕ → SeatedScanner
 new_scanner t plan k = record { seated = new_seated t plan k; steps = 0 }

@@ -23,16 +23,16 @@ makes_record instr = false
 abbrev pub lacks_serial : Instr → (serial : ℕ) → Bool
 lacks_serial instr serial = makes_record instr && nat_le MOST_RECORDS serial
 
--- it prints, and mutators of the heap may not
-abbrev pub lacks_room : Instr → (prints : Bool) → Bool
-lacks_room instr prints = is_output instr && not prints
+-- it prints a number, and mutators of the heap may not
+abbrev pub may_not_print : Instr → (prints : Bool) → Bool
+may_not_print instr prints = is_output instr && not prints
 
--- the first reason of a mutator with this end, this task and as many records, which may print or may not
+-- the first reason of a mutator with this end, this task and so many records, if mutators of its heap may print, or may not
 abbrev pub refusal_by : Instr → Option End → Option Task → (serial : ℕ) → (prints : Bool) → Option Refused
 refusal_by instr (Some end) task serial prints = Some (Ended end)
 refusal_by instr None (Some task) serial prints = Some Calling
 refusal_by instr None None serial prints =
-    if is_valid instr then (if lacks_serial instr serial then Some Records else (if lacks_room instr prints then Some Printing else None)) else Some Operand
+    if is_valid instr then (if lacks_serial instr serial then Some Records else (if may_not_print instr prints then Some Printing else None)) else Some Operand
 
 abbrev pub refusal : Seated → Instr → Option Refused
 refusal a instr = refusal_by instr a.worker.account.end a.worker.task a.worker.account.serial a.knows.plan.prints

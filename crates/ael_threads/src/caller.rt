@@ -1,14 +1,12 @@
 //! A worker with its seat.
 
-ghost use Rattle.std.specs.Prelude.{◌≡◌, ◌<◌, [], Some, None};
+ghost use Rattle.std.specs.Prelude.{◌≡◌, ◌<◌, [], Some};
 ghost use Rattle.gc_worker.specs.declared.task.Task.TheVariants.{Calls, Stops};
 ghost use Rattle.gc_worker.specs.Laws.Between.{IsIdle, with_task};
 ghost use Rattle.gc_worker.specs.Laws.Cycles.{IsInCall};
 ghost use Rattle.gc_worker.specs.Workers.Fits.{MayBegin, MayStop};
-ghost use Rattle.gc_worker.specs.Workers.Held.{Held};
 ghost use Rattle.gc_worker.specs.Steps.Stepped.{MayExecute};
-ghost use Rattle.gc_worker.specs.Steps.Wanted.{wanted};
-ghost use Rattle.ael_threads.specs.Seats.{Absorbs, Acts, Heads, FitsTable, IsMine, Moves, Seated, ShowsSeen, first_number};
+ghost use Rattle.ael_threads.specs.Seats.{Absorbs, Acts, Heads, FitsTable, IsMine, Seated, ShowsSeen};
 
 use crate::shared::{Both, Learn, Shared};
 use crate::view::View;
@@ -41,7 +39,7 @@ impl Model for Caller {
 }
 
 impl Caller {
-    /// An instruction, which the next look at the gate begins.
+    /// An instruction, which the next look at the gate begins. It is `out` only if the heap's mutators may print.
     pub fn begin(&mut self, instr: &Instr)
         requires idle { IsIdle self.old.worker }
         requires may_begin { MayBegin self.old.worker.account self.old.worker.registers (Some (Calls instr.now)) }

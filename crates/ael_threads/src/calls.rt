@@ -74,7 +74,8 @@ impl Mutator {
         unreachable!()
     }
 
-    /// Makes some acts for the task that it has begun, and waits for nobody. It answers what the task came to, once an act answers it.
+    /// Makes at most 64 acts for the task that it has begun, and waits for nobody. It answers what the task came to, once an act answers it.
+    /// After `snap` all other mutators stand still, until it makes more acts: `comes_to_rest` makes them.
     pub fn tries(&mut self, h: &Shared) -> Option<Did>
         requires table { self.old.table ≡ h.now.table.shared.table_id }
         ensures table { self.new.table ≡ self.old.table }

@@ -119,7 +119,7 @@ impl Mutator {
     }
 
     /// Whether it may print: its heap was not opened without printing.
-    pub fn can_print(&self) -> bool
+    pub fn may_print(&self) -> bool
         ensures { result ≡ self.now.knows.plan.prints }
     {
         self.caller.worker.prints()

@@ -6,7 +6,7 @@ ghost use Rattle.space_map.specs.Table.{whole_length};
 ghost use Rattle.gc_worker.specs.Config.{has_sizes, layout_by};
 ghost use Rattle.gc_worker.specs.Laws.Between.{opening_words};
 ghost use Rattle.ael_threads.specs.Histories.{first_held, new_hands};
-ghost use Rattle.ael_threads.specs.Opened.{new_scanners, plan_of, plan_with, silent_plan};
+ghost use Rattle.ael_threads.specs.Opened.{new_scanners, plan_of, plan_with, plan_without_printing};
 ghost use Rattle.ael_threads.specs.Rule.{crew, first_view, view};
 ghost use Rattle.ael_threads.specs.Seats.{new_callers, new_seated};
 
@@ -68,8 +68,8 @@ impl Shared {
         Shared::open_with(alloc, mutators, config, true)
     }
 
-    /// A heap as `open` makes it, but none of its mutators may print: `out` is refused (`Refused::Printing`). So the 512 KiB are not taken
-    /// that the numbers of a mutator take.
+    /// A heap as `open` makes it, but none of its mutators may print: `begin` and `exec` may not be called with `out`, and `try_begin` and
+    /// `try_exec` refuse it (`Refused::Printing`). So the 512 KiB are not taken that the numbers of a mutator take.
     pub fn open_without_printing(
         alloc: Global,
         mutators: u8,
@@ -77,10 +77,10 @@ impl Shared {
     ) -> Result<(Shared, Seats), OpenError>
         requires mutators { (1 ≤ mutators) × (mutators ≤ MOST_MUTATORS) }
         requires scanners { config.now.scanners ≤ MOST_SCANNERS }
-        ensures key { IfOk result (λ o. o.0.table.shared.key ≡ silent_plan mutators config.now) }
+        ensures key { IfOk result (λ o. o.0.table.shared.key ≡ plan_without_printing mutators config.now) }
         ensures words { IfOk result (λ o. o.0.table.shared.table_id.words ≡ whole_length (layout_by config.now)) }
-        ensures mutators { IfOk result (λ o. o.1.mutators.items ≡ new_callers o.0.table.shared.table_id (silent_plan mutators config.now) 0 mutators) }
-        ensures scanners { IfOk result (λ o. o.1.scanners.items ≡ new_scanners o.0.table.shared.table_id (silent_plan mutators config.now) mutators config.now.scanners) }
+        ensures mutators { IfOk result (λ o. o.1.mutators.items ≡ new_callers o.0.table.shared.table_id (plan_without_printing mutators config.now) 0 mutators) }
+        ensures scanners { IfOk result (λ o. o.1.scanners.items ≡ new_scanners o.0.table.shared.table_id (plan_without_printing mutators config.now) mutators config.now.scanners) }
         ensures bad_pages { IsErrOf result OpenError.BadPages ↔ IsTrue (not (has_sizes config.now)) }
     {
         Shared::open_with(alloc, mutators, config, false)

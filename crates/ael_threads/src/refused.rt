@@ -21,7 +21,7 @@ pub enum Refused {
     /// The instruction makes a record, and the mutator has made `MOST_RECORDS`.
     #[error("the mutator can make no more records")]
     Records,
-    /// The instruction is `out`, and the heap was opened without room for numbers that are printed.
-    #[error("the heap has no room for printed numbers")]
+    /// The instruction is `out`, and the heap was opened without printing.
+    #[error("the mutator may not print")]
     Printing,
 }

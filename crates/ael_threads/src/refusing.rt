@@ -3,6 +3,7 @@
 ghost use Rattle.std.specs.Prelude.{◌≡◌, None, Some, IfErr, IfOk};
 ghost use Rattle.gc_worker.specs.declared.task.Task.TheVariants.{Calls};
 ghost use Rattle.gc_worker.specs.Laws.Between.{with_task};
+ghost use Rattle.gc_worker.specs.Steps.Stepped as outputs;
 ghost use Rattle.ael_threads.specs.Calls.{CalledBy};
 ghost use Rattle.ael_threads.specs.Refusals as refusals;
 
@@ -23,6 +24,13 @@ fn makes_record(instr: Instr) -> bool
     )
 }
 
+/// Whether the instruction prints a number, if it doesn't end its mutator.
+fn is_output(instr: Instr) -> bool
+    ensures { result ≡ outputs.is_output instr }
+{
+    matches!(instr, Instr::Out(_))
+}
+
 impl Mutator {
     /// Why it can't begin this instruction now, if it can't. Without a reason `begin` and `exec` may be called.
     pub fn refusal(&self, instr: &Instr) -> Option<Refused>
@@ -40,10 +48,8 @@ impl Mutator {
         if makes_record(*instr) && self.serial() >= MOST_RECORDS {
             return Some(Refused::Records);
         }
-        if let Instr::Out(_) = instr {
-            if !self.can_print() {
-                return Some(Refused::Printing);
-            }
+        if is_output(*instr) && !self.may_print() {
+            return Some(Refused::Printing);
         }
         None
     }

@@ -1,10 +1,6 @@
 //! The words that threads share, and how a step is made on them.
 
-ghost use Rattle.std.specs.Prelude.{◌≡◌, ◌<◌, ◌≤◌, ◌+◌, ℕ, [], Some, IfOk, IsOk, vec_len};
-ghost use Rattle.heap_laws.specs.Opening.{opening_entries};
-ghost use Rattle.heap_state.specs.Memory.Entries.{written};
-ghost use Rattle.space_map.specs.Table.{table_length};
-ghost use Rattle.gc_worker.specs.Laws.Between.{fresh_mutator};
+ghost use Rattle.std.specs.Prelude.{◌≡◌, ◌<◌, ◌≤◌, ◌+◌, [], Some};
 ghost use Rattle.gc_worker.specs.Workers.Held.{Held};
 ghost use Rattle.gc_worker.specs.Laws.Step.{nobody};
 ghost use Rattle.gc_worker.specs.Steps.Wanted.{wanted};

@@ -13,7 +13,7 @@ pub struct Plan {
     pub least: u32,
     pub mutators: u8,
     pub scanners: u8,
-    /// Whether mutators may print.
+    /// Whether its mutators may print.
     pub prints: bool,
 }
 

@@ -1,4 +1,4 @@
-ghost use Rattle.std.specs.Prelude.{◌≡◌, ◌<◌, IfOk, length, replicate};
+ghost use Rattle.std.specs.Prelude.{◌≡◌, ◌<◌, IfOk, length, replicate, slice_index, slice_set};
 ghost use Rattle.atom_store.specs.Step.{place_in, words_after, reply_of};
 
 use crate::atoms::Atoms;
@@ -30,6 +30,24 @@ impl PlainAtoms {
         Ok(PlainAtoms {
             words: vec![in alloc; 0; len]?,
         })
+    }
+
+    /// The word at a place, as the step `Load` replies it.
+    #[inline(always)]
+    pub fn load(&self, place: usize) -> u64
+        requires { place < length self.now }
+        ensures { result ≡ slice_index self.now place }
+    {
+        self.words[place]
+    }
+
+    /// Writes the word at a place, as the step `Store` does.
+    #[inline(always)]
+    pub fn store(&mut self, place: usize, word: u64)
+        requires { place < length self.old }
+        ensures { self.new ≡ slice_set self.old place word }
+    {
+        self.words[place] = word;
     }
 
     pub fn words(&self) -> &[u64]

@@ -6,7 +6,7 @@ ghost use Rattle.std.specs.Thread.{IsSync};
 ghost use Rattle.space_map.specs.declared.spaces.TheConstants.{MOST_MUTATORS, MOST_SCANNERS};
 ghost use Rattle.space_map.specs.Spaces.{is_size};
 ghost use Rattle.ael_threads.specs.Histories.{Each};
-ghost use Rattle.ael_threads.specs.Opened.{new_scanners, silent_plan};
+ghost use Rattle.ael_threads.specs.Opened.{plan_without_printing};
 ghost use Rattle.ael_threads.specs.Readers.{SeatedScanner};
 ghost use Rattle.ael_threads.specs.Seats.{new_callers};
 ghost use Rattle.concordance_text.specs.declared.part.Part.{Part};
@@ -124,8 +124,8 @@ fn open(alloc: Global, clerks: u8, config: &Config) -> Result<(Shared, Seats), C
     requires pages { IsTrue (is_size config.now.pages) }
     requires limit { config.now.limit ≡ config.now.pages }
     requires scanners { config.now.scanners ≤ MOST_SCANNERS }
-    ensures plan { IfOk result (λ o. o.0.table.shared.key ≡ silent_plan clerks config.now) }
-    ensures mutators { IfOk result (λ o. o.1.mutators.items ≡ new_callers o.0.table.shared.table_id (silent_plan clerks config.now) 0 clerks) }
+    ensures plan { IfOk result (λ o. o.0.table.shared.key ≡ plan_without_printing clerks config.now) }
+    ensures mutators { IfOk result (λ o. o.1.mutators.items ≡ new_callers o.0.table.shared.table_id (plan_without_printing clerks config.now) 0 clerks) }
     ensures scanners { IfOk result (λ o. Each (λ (s : SeatedScanner). s.seated.table ≡ o.0.table.shared.table_id) o.1.scanners.items) }
     ensures memory { (e : ConcordError) → IsErrOf result e → e ≡ ConcordError.NoMemory }
 {

@@ -1,9 +1,8 @@
 //! How a part of the text is read.
 
 ghost use Rattle.std.specs.Prelude.{◌≡◌, ◌+◌, ◌*◌, ◌^◌, ◌<◌, ◌≤◌, List, None, [], ◌∷◌, ◌++◌, IfErr, IfSome, OnOk, length, false};
-ghost use Rattle.std.specs.List.{AllByRecursion};
 ghost use Rattle.concordance_text.specs.Parts.{IsNumbered, mentions_of_part};
-ghost use Rattle.concordance_text.specs.Words.{HasShortWords, Mention, has_long_word, lines_of, mentions_in, words_in};
+ghost use Rattle.concordance_text.specs.Words.{HasShortWords, Mention, has_long_word, mentions_in, words_in};
 ghost use Rattle.ael_threads.specs.Seats.{first_number};
 ghost use Rattle.concordance.specs.Full.{WasFullFor};
 ghost use Rattle.concordance.specs.Lone.{IsLone, KeepsSeat, desk_of};

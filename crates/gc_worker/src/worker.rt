@@ -154,7 +154,7 @@ impl Worker {
         self.state.number
     }
 
-    /// An instruction, which the next look at the gate begins.
+    /// An instruction, which the next look at the gate begins. It is `out` only if the heap's mutators may print.
     #[tactic(auto, using(crate::proofs::Workers::Sound::begun_are_sound))]
     pub fn begin(&mut self, instr: &Instr)
         requires idle { IsIdle self.old }
@@ -182,7 +182,7 @@ impl Worker {
         self.state.registers
     }
 
-    /// Whether it may print.
+    /// Whether the heap's mutators may print.
     pub fn prints(&self) -> bool
         ensures { result ≡ self.now.prints }
     {

@@ -24,7 +24,7 @@ pub fn begin(rt: &impl Abort, mutator: &mut Mutator, instr: Instr)
 {
     assert!(rt; mutator.ended().is_none());
     assert!(rt; mutator.serial() < MOST_RECORDS);
-    assert!(rt; mutator.can_print());
+    assert!(rt; mutator.may_print());
     mutator.begin(&instr);
 }
 
@@ -38,7 +38,7 @@ pub fn make<R: Wait + Abort>(rt: &R, h: &Shared, mutator: &mut Mutator, instr: I
 {
     assert!(rt; mutator.ended().is_none());
     assert!(rt; mutator.serial() < MOST_RECORDS);
-    assert!(rt; mutator.can_print());
+    assert!(rt; mutator.may_print());
     let did = mutator.exec(rt, h, &instr);
     assert_same(rt, &did, &Did::Done);
 }

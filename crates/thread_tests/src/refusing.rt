@@ -123,7 +123,7 @@ fn refused_calls_change_nothing(rt: HostRuntime) -> Result<(), Fail> {
 #[test]
 fn a_heap_opened_without_printing_refuses_out_alone(rt: HostRuntime) -> Result<(), Fail> {
     let (h, mut mutator) = open_silent(rt.alloc())?;
-    assert!(rt; !mutator.can_print());
+    assert!(rt; !mutator.may_print());
     check_refused(&rt, &h, &mut mutator, &[Instr::Out(0)], Refused::Printing);
     check_refused(&rt, &h, &mut mutator, &[Instr::Out(8)], Refused::Operand);
     check_done(&rt, &h, &mut mutator, &SILENT);

@@ -18,7 +18,7 @@ pub struct Notes {
 }
 
 impl Notes {
-    /// Adds the mark of a step of which this is told, if it has one and marks are kept. Most steps have none that is kept, which is seen in
+    /// Adds the mark of a step of which this is told, if it has one and marks are kept. That marks of instructions aren't kept is seen in
     /// the loop of the run.
     #[inline(always)]
     pub fn note(&mut self, told: Stepped) -> Result<(), AllocError>
@@ -26,14 +26,22 @@ impl Notes {
         ensures noted { (order : List Mark) → HasNoted self.old order → OnOk result (HasNoted self.new (order ++ option_to_list (mark_of told))) }
     {
         match told {
-            Stepped::Idle | Stepped::Moved => Ok(()),
             Stepped::Effect(_) if !self.kept => Ok(()),
             _ => self.keep(told),
         }
     }
 
-    #[inline(never)]
+    /// It copies what is told, which the loop would else have to keep in memory.
+    #[inline(always)]
     fn keep(&mut self, told: Stepped) -> Result<(), AllocError>
+        ensures kept { self.new.kept ≡ self.old.kept }
+        ensures noted { (order : List Mark) → HasNoted self.old order → OnOk result (HasNoted self.new (order ++ option_to_list (mark_of told))) }
+    {
+        self.keep_apart(told)
+    }
+
+    #[inline(never)]
+    fn keep_apart(&mut self, told: Stepped) -> Result<(), AllocError>
         ensures kept { self.new.kept ≡ self.old.kept }
         ensures noted { (order : List Mark) → HasNoted self.old order → OnOk result (HasNoted self.new (order ++ option_to_list (mark_of told))) }
     {

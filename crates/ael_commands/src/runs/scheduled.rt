@@ -1,9 +1,12 @@
 //! A run of a core by a schedule.
 
-ghost use Rattle.std.specs.Prelude.{◌≡◌, ◌≢◌, ◌<◌, ℕ, [], IfOk, IsTrue, OnOk, true, false};
+ghost use Rattle.std.specs.Prelude.{◌≡◌, ◌≢◌, ◌<◌, ◌++◌, ℕ, List, [], IfOk, IsTrue, OnOk, true, false};
 ghost use Rattle.std.specs.List.{list_all};
+ghost use Rattle.std.specs.Option.{option_to_list};
 ghost use Rattle.plain_state.specs.declared.end.End.{End};
 ghost use Rattle.mutator_asm.specs.Program.{is_item};
+ghost use Rattle.plain_heap.specs.declared.mark.Mark.{Mark};
+ghost use Rattle.gc_worker.specs.Plain.Marks.{mark_of};
 ghost use Rattle.gc_core.specs.Core.{workers_of};
 ghost use Rattle.gc_core.specs.Event.{event_of, core_after};
 ghost use Rattle.gc_core.specs.Run.{all_ended, run_from};
@@ -53,6 +56,24 @@ fn is_over(core: &Core, told: Stepped) -> bool
     }
 }
 
+/// Notes a step of which this is told. It tells whether every mutator has its end then. Most steps tell that nothing happened, which is
+/// seen in the loop of the run.
+#[inline(always)]
+fn noted(core: &Core, notes: &mut Notes, told: Stepped) -> Result<bool, AllocError>
+    requires { ((m : ℕ) (why : End) → told ≢ Stepped.Ended m why) → all_ended core.now ≡ false }
+    ensures over { IfOk result (λ over. over ≡ all_ended core.now) }
+    ensures kept { notes.new.kept ≡ notes.old.kept }
+    ensures noted { (order : List Mark) → HasNoted notes.old order → OnOk result (HasNoted notes.new (order ++ option_to_list (mark_of told))) }
+{
+    match told {
+        Stepped::Idle | Stepped::Moved => Ok(false),
+        _ => {
+            notes.note(told)?;
+            Ok(is_over(core, told))
+        }
+    }
+}
+
 /// Steps the workers that the scheduler names until every mutator has its end, or for so many steps, each of which is noted.
 #[inline(never)]
 fn run_noting(
@@ -72,8 +93,7 @@ fn run_noting(
             break;
         }
         let stepped = step(core, scheduler.next());
-        notes.note(stepped)?;
-        over = is_over(core, stepped);
+        over = noted(core, notes, stepped)?;
     }
     Ok(())
 }

@@ -1,6 +1,6 @@
 //! Reading a source to its end.
 
-ghost use Rattle.std.specs.Prelude.{◌≡◌, ◌≢◌, ◌<◌, ◌≤◌, IfOk, Err, length};
+ghost use Rattle.std.specs.Prelude.{◌≡◌, ◌≢◌, ◌<◌, ◌≤◌, IfOk, Err};
 ghost use Rattle.ael_commands.specs.Streams.Stream.{Rose};
 ghost use Rattle.ael_commands.specs.declared.streams.reading.ReadError.TheVariants.{Fault, TooLong, NoMemory};
 ghost use Rattle.ael_commands.specs.Streams.Input.{IsWholeInput, IsPastLimit, IsBounded};

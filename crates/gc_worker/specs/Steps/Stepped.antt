@@ -7,6 +7,7 @@ use Rattle.plain_state.specs.declared.value.Value.TheVariants.{Number, Reference
 use Rattle.plain_state.specs.State.{Mutator}
 use Rattle.mutator_asm.specs.declared.instr.Instr.{Instr}
 use Rattle.mutator_asm.specs.declared.instr.Instr.TheVariants.{Halt, Out}
+use Rattle.page_scan.specs.Scanning.{IsAsking}
 use Rattle.gc_worker.specs.declared.access.accessed.Accessed.{Accessed}
 use Rattle.gc_worker.specs.declared.access.accessed.Accessed.TheVariants.{Brings, Stored}
 use Rattle.gc_worker.specs.declared.stage.Stage.{Stage}
@@ -78,15 +79,16 @@ abbrev pub is_output : Instr → Bool
 is_output (Out a) = true
 is_output instr = false
 
+-- what is asked of a heap, if anything is: its mutators may print
 abbrev pub MayIf : (asks prints : Bool) → Type 0
 MayIf true prints = prints ≡ true
 MayIf false prints = ⊤
 
--- such an instruction is for a mutator that may print
+-- an instruction that prints is for a heap whose mutators may
 abbrev pub MayExecute : (prints : Bool) → Instr → Type 0
 MayExecute prints instr = MayIf (is_output instr) prints
 
--- no other has it as its task
+-- a task of a worker of such a heap: it prints only if mutators may
 abbrev pub MayHave : (prints : Bool) → Option Task → Type 0
 MayHave prints None = ⊤
 MayHave prints (Some (Calls instr)) = MayExecute prints instr
@@ -150,6 +152,11 @@ IsAtScan _ = ⊥
 abbrev pub IsEvacuating : Stage → Type 0
 IsEvacuating (Evacuates v s back) = ⊤
 IsEvacuating _ = ⊥
+
+-- its scan asks for the copy
+abbrev pub IsCopying : Stage → Type 0
+IsCopying (Evacuates v s back) = IsAsking s.stage
+IsCopying _ = ⊥
 
 abbrev pub IsOpening : Stage → Type 0
 IsOpening (Opens o s back) = ⊤

@@ -377,6 +377,11 @@ abbrev pub allocated_by : Held → place.Placing → Allocated → Held
 allocated_by x p (Placed at) = with_record x p.run at (making_for x x.task)
 allocated_by x p (Full s) = full_by x s s.traced
 
+-- what the allocation that is at hand comes to
+abbrev pub allocated_at : Held → Stage → Allocated → Held
+allocated_at x (Places p) result = allocated_by x p result
+allocated_at x stage result = x
+
 abbrev pub turned_place : Held → place.Placing → Turn Allocated → Held
 turned_place x p More = at_stage x (guards_place x p)
 turned_place x p (Finished result) = allocated_by x p result
@@ -469,13 +474,27 @@ abbrev pub scanned_by : Held → scan.Scanning → Back → Scanned → Held
 scanned_by x s back (scanned.Ask old) = at_stage x (Evacuates (evac.begun x.layout old x.epoch x.number) s back)
 scanned_by x s back (scanned.Ended at_front) = at_stage x (Opens (open_page.begun x.layout s.page x.epoch) s back)
 
+-- what the scan that is at hand comes to
+abbrev pub scanned_at : Held → Stage → Scanned → Held
+scanned_at x (Scans s back) result = scanned_by x s back result
+scanned_at x stage result = x
+
 abbrev pub turned_scan : Held → scan.Scanning → Back → Turn Scanned → Held
 turned_scan x s back More = at_stage x (Scans s back)
 turned_scan x s back (Finished result) = scanned_by x s back result
 
+-- the scan goes on with the address of the copy
+abbrev pub copied_by : Held → scan.Scanning → Back → To → Held
+copied_by x s back to = at_stage x (Scans (scan_taken.answered s to.0) back)
+
+-- what the copy that is at hand comes to
+abbrev pub copied_at : Held → Stage → To → Held
+copied_at x (Evacuates v s back) to = copied_by x s back to
+copied_at x stage to = x
+
 abbrev pub turned_copy : Held → evac.Evacuation → scan.Scanning → Back → Turn To → Held
 turned_copy x v s back More = at_stage x (Evacuates v s back)
-turned_copy x v s back (Finished to) = at_stage x (Scans (scan_taken.answered s to.0) back)
+turned_copy x v s back (Finished to) = copied_by x s back to
 
 abbrev pub turned_opening : Held → open_page.Opening → scan.Scanning → Back → Turn Opened → Held
 turned_opening x o s back More = at_stage x (Opens o s back)

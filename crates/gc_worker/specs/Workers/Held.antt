@@ -19,9 +19,9 @@ use Rattle.gc_worker.specs.declared.stage.Stage.{Stage}
 use Rattle.gc_worker.specs.declared.task.Task.{Task}
 use Rattle.gc_worker.specs.declared.task.Task.TheVariants.{Calls, Stops}
 
--- A worker: its number, the layout of the heap, the number of mutators and whether it may print, which never change; its epoch, and that at the look which
--- began its instruction; how many checkpoints were begun when it began to run, and the one that was in progress then, or 0; its account,
--- its eight registers, and its run; the task that it was given and has not answered; and what it is about to do.
+-- A worker: its number, the layout of the heap, the number of mutators and whether they may print, which never change; its epoch, and that
+-- at the look which began its instruction; how many checkpoints were begun when it began to run, and the one that was in progress then, or
+-- 0; its account, its eight registers, and its run; the task that it was given and has not answered; and what it is about to do.
 pub record Held : Type 0 where
   pub number : ℕ
   pub layout : Layout

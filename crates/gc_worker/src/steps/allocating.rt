@@ -1,6 +1,7 @@
 //! The allocation of the record that an instruction makes.
 
 ghost use Rattle.std.specs.Prelude.{◌≡◌, ◌+◌, ◌^◌, ◌<◌, MatchOption};
+ghost use Rattle.atom_store.specs.declared.turn.Turn.TheVariants.{Finished};
 ghost use Rattle.heap_words.specs.Decoded.{HeaderWord};
 ghost use Rattle.record_layout.specs.Layout.{header_in};
 ghost use Rattle.heap_state.specs.Invariant.Ghost.{header_kind, header_len};
@@ -8,7 +9,7 @@ ghost use Rattle.gc_worker.specs.Workers.Fits.{FitsStage, IsMaking, Takes};
 ghost use Rattle.gc_worker.specs.Workers.Held.{pages_needed, at_stage, header_for, fields_for, fields_of, making_for, target_for};
 ghost use Rattle.gc_worker.specs.Plain.Seen.{cell_made, mixed_made, register_for};
 ghost use Rattle.gc_worker.specs.Steps.Stepped.{IsCall, IsPlacing, IsSound, instr_due, seen_by, stepped_by, uncounted};
-ghost use Rattle.gc_worker.specs.Steps.Turned.{full_by, is_full, places, told, told_effect, told_full, turned, with_record};
+ghost use Rattle.gc_worker.specs.Steps.Turned.{allocated_at, full_by, guarded_at, is_full, places, told, told_effect, told_full, told_place, turned, with_record};
 
 use crate::stage::Stage;
 use crate::stage::after::After;
@@ -170,11 +171,38 @@ impl State {
         let Stage::Places(place) = &mut self.stage else {
             unreachable!()
         };
-        let Turn::Finished(allocated) = place.take(reply) else {
-            if self.running != 0 {
-                self.guard_at_place();
-            }
-            return Stepped::Moved;
+        match place.take(reply) {
+            Turn::More => self.go_on_placing(),
+            Turn::Finished(allocated) => self.has_allocated(allocated),
+        }
+    }
+
+    /// The allocation goes on, but with a look before its next write, if a checkpoint is in progress.
+    #[inline(always)]
+    pub fn go_on_placing(&mut self) -> Stepped
+        requires at { IsPlacing self.old.stage }
+        requires fits { FitsStage self.old (guarded_at self.old self.old.stage) }
+        ensures state { self.new ≡ at_stage self.old (guarded_at self.old self.old.stage) }
+        ensures tells { result ≡ Stepped.Moved }
+    {
+        if self.running != 0 {
+            self.guard_at_place();
+        }
+        Stepped::Moved
+    }
+
+    /// What the allocation comes to.
+    #[inline(always)]
+    pub fn has_allocated(&mut self, allocated: Allocated) -> Stepped
+        requires at { IsPlacing self.old.stage }
+        requires serial { self.old.account.serial + 1 < 2 ^ 40 }
+        requires making { IsMaking self.old.account self.old.registers self.old.task }
+        requires fits { FitsStage (allocated_at self.old self.old.stage allocated) (allocated_at self.old self.old.stage allocated).stage }
+        ensures state { self.new ≡ uncounted (allocated_at self.old self.old.stage allocated) }
+        ensures tells { result ≡ stepped_by self.old.number (told_place self.old (Finished allocated)) }
+    {
+        let Stage::Places(place) = &self.stage else {
+            unreachable!()
         };
         let run = place.run();
         match allocated {

@@ -1,12 +1,11 @@
 //! What a worker does for checkpoints: it reads which one is in progress, makes rounds for it, and begins one.
 
-ghost use Rattle.std.specs.Prelude.{◌≡◌, ◌+◌, ◌^◌, ◌<◌, ◌≤◌, true, nat_lt};
+ghost use Rattle.std.specs.Prelude.{◌≡◌, ◌+◌, ◌^◌, ◌<◌, ◌≤◌, true};
 ghost use Rattle.space_map.specs.declared.spaces.TheConstants.{LAST_WORKER};
 ghost use Rattle.gate_core.specs.Snap.{begun};
 ghost use Rattle.gc_worker.specs.declared.stage.Stage.TheVariants.{BeginsCheckpoint};
 ghost use Rattle.gc_worker.specs.declared.task.Task.{Task};
-ghost use Rattle.gc_worker.specs.Plain.Seen.{seen};
-ghost use Rattle.gc_worker.specs.Workers.Fits.{FitsStage, Takes};
+ghost use Rattle.gc_worker.specs.Workers.Fits.{Takes};
 ghost use Rattle.gc_worker.specs.Workers.Held.{at_stage, may_snap};
 ghost use Rattle.gc_worker.specs.Steps.Stepped.{IsBeginningCheckpoint, IsCheckpointing, IsRecalling, IsSound, stepped_by, uncounted};
 ghost use Rattle.gc_worker.specs.Steps.Turned.{checkpoints, rounded, serves_snap, snaps, told, told_action, turned};

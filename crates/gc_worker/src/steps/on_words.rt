@@ -1,5 +1,8 @@
 //! A worker's next step, made on the words that all share: one function for each thing that it may be about to do. If a program has one
 //! loop that steps workers, the compiler puts all of them into it, but for the steps for checkpoints.
+//!
+//! Most steps are made by wanting one and taking the reply. An allocation, a round, a scan and a copy make theirs themselves (`step`): so
+//! they choose by their stage once, and not twice.
 
 ghost use Rattle.std.specs.Prelude.{◌≡◌};
 ghost use Rattle.gc_worker.specs.Steps.Made.{MayMake, step_made};
@@ -8,7 +11,7 @@ ghost use Rattle.gc_worker.specs.Steps.Stepped.{IsAtAccess, IsAtGate, IsBeginnin
 use crate::stage::Stage;
 use crate::state::State;
 use crate::steps::stepped::Stepped;
-use atom_store::{Atoms, PlainAtoms, Step};
+use atom_store::{Atoms, PlainAtoms, Step, Turn};
 
 impl State {
     /// Makes the next step, where there is one.
@@ -54,7 +57,6 @@ impl State {
         }
     }
 
-    #[inline(always)]
     fn look_on(&mut self, on: &mut PlainAtoms) -> Stepped
         requires at { self.old.stage ≡ Stage.Looks }
         requires sound { IsSound self.old }
@@ -133,11 +135,13 @@ impl State {
         ensures words { on.new ≡ (step_made self.old on.old).words }
         ensures tells { result ≡ (step_made self.old on.old).told }
     {
-        let Stage::Places(place) = &self.stage else {
+        let Stage::Places(place) = &mut self.stage else {
             unreachable!()
         };
-        let reply = on.act(place.want());
-        self.place(reply)
+        match place.step(on) {
+            Turn::More => self.go_on_placing(),
+            Turn::Finished(allocated) => self.has_allocated(allocated),
+        }
     }
 
     #[inline(always)]
@@ -149,11 +153,16 @@ impl State {
         ensures words { on.new ≡ (step_made self.old on.old).words }
         ensures tells { result ≡ (step_made self.old on.old).told }
     {
-        let Stage::Serves(duty, _) = &self.stage else {
+        let Stage::Serves(duty, _) = &mut self.stage else {
             unreachable!()
         };
-        let reply = on.act(duty.want());
-        self.serve(reply)
+        match duty.step(on) {
+            Turn::More => Stepped::Moved,
+            Turn::Finished(end) => {
+                let epoch = duty.epoch();
+                self.has_served(epoch, end)
+            }
+        }
     }
 
     #[inline(always)]
@@ -164,11 +173,12 @@ impl State {
         ensures state { self.new ≡ uncounted (step_made self.old on.old).held }
         ensures words { on.new ≡ (step_made self.old on.old).words }
     {
-        let Stage::Scans(scan, _) = &self.stage else {
+        let Stage::Scans(scan, _) = &mut self.stage else {
             unreachable!()
         };
-        let reply = on.act(scan.want());
-        self.scan(reply);
+        if let Turn::Finished(scanned) = scan.step(on) {
+            self.has_scanned(scanned);
+        }
     }
 
     #[inline(always)]
@@ -179,11 +189,12 @@ impl State {
         ensures state { self.new ≡ uncounted (step_made self.old on.old).held }
         ensures words { on.new ≡ (step_made self.old on.old).words }
     {
-        let Stage::Evacuates(evac, _, _) = &self.stage else {
+        let Stage::Evacuates(evac, _, _) = &mut self.stage else {
             unreachable!()
         };
-        let reply = on.act(evac.want());
-        self.evacuate(reply);
+        if let Turn::Finished(to) = evac.step(on) {
+            self.has_copied(to);
+        }
     }
 
     fn open_on(&mut self, on: &mut PlainAtoms)

@@ -6,8 +6,8 @@ ghost use Rattle.space_map.specs.declared.spaces.TheConstants.{LAST_WORKER};
 ghost use Rattle.gc_worker.specs.declared.access.access_stage.AccessStage.{AccessStage};
 ghost use Rattle.gc_worker.specs.Workers.Fits.{FitsStage, IsAccessing, Takes};
 ghost use Rattle.gc_worker.specs.Workers.Held.{at_stage};
-ghost use Rattle.gc_worker.specs.Steps.Stepped.{HasNoEffect, IsAtAccess, IsEvacuating, IsOpening, IsAtScan, IsForCheckpoint, IsServing, IsSound, MayBeginAnew, back_at, served_in, stepped_by, uncounted};
-ghost use Rattle.gc_worker.specs.Steps.Turned.{accessed_at, back_from, goes_back, scans, serves_target, told, told_access, told_round, traced_by, turned};
+ghost use Rattle.gc_worker.specs.Steps.Stepped.{HasNoEffect, IsAtAccess, IsCopying, IsEvacuating, IsOpening, IsAtScan, IsForCheckpoint, IsServing, IsSound, MayBeginAnew, back_at, served_in, stepped_by, uncounted};
+ghost use Rattle.gc_worker.specs.Steps.Turned.{accessed_at, back_from, copied_at, goes_back, scanned_at, scans, serves_target, told, told_access, told_round, traced_by, turned};
 
 use crate::access::Access;
 use crate::access::accessed::Accessed;
@@ -18,7 +18,7 @@ use crate::state::State;
 use crate::steps::stepped::Stepped;
 use atom_store::{Reply, Turn};
 use fault_duty::{Duty, RoundEnd};
-use forwarding::Evac;
+use forwarding::{Evac, To};
 use page_scan::{Scan, Scanned};
 use page_slots::Open;
 
@@ -47,8 +47,8 @@ impl State {
         }
     }
 
-    /// What an access comes to. It is small enough to be put into its caller without being told to. If it were told to, the compiler would
-    /// not put the access itself into its caller, since that would grow very large.
+    /// What an access comes to. It is small enough to be put into its caller without `#[inline(always)]`. With it the compiler would not put
+    /// the access itself into its caller, since that would grow very large.
     #[inline]
     fn has_accessed(&mut self, accessed: Accessed) -> Stepped
         requires at { IsAtAccess self.old.stage }
@@ -67,7 +67,7 @@ impl State {
                 self.go_on()
             }
             Accessed::Faults(_) | Accessed::Awaits | Accessed::Fails(_) => {
-                self.is_held_up(accessed)
+                self.has_accessed_apart(accessed)
             }
         }
     }
@@ -75,7 +75,7 @@ impl State {
     /// What an access comes to that has no effect. It stands apart, so that the room of the stages that it may begin is cleared only here,
     /// and not at each step of an access.
     #[inline(never)]
-    fn is_held_up(&mut self, accessed: Accessed) -> Stepped
+    fn has_accessed_apart(&mut self, accessed: Accessed) -> Stepped
         requires at { IsAtAccess self.old.stage }
         requires no_effect { HasNoEffect accessed }
         requires calls { (stage : AccessStage) × IsAccessing self.old.account self.old.registers self.old.task stage }
@@ -161,7 +161,7 @@ impl State {
 
     /// What a round of an epoch comes to.
     #[inline(always)]
-    fn has_served(&mut self, epoch: u32, end: RoundEnd) -> Stepped
+    pub fn has_served(&mut self, epoch: u32, end: RoundEnd) -> Stepped
         requires at { IsServing self.old.stage }
         requires round { MayBeginAnew self.old.layout self.old.mutators self.old.number self.old.stage }
         requires fits { FitsStage (served_in self.old epoch (back_at self.old.stage) end) (served_in self.old epoch (back_at self.old.stage) end).stage }
@@ -314,20 +314,35 @@ impl State {
         requires after { IsSound (turned self.old reply) }
         ensures { self.new ≡ uncounted (turned self.old reply) }
     {
-        let Stage::Scans(scan, back) = &mut self.stage else {
+        let Stage::Scans(scan, _) = &mut self.stage else {
             unreachable!()
         };
-        match scan.take(reply) {
-            Turn::More => {}
-            Turn::Finished(Scanned::Ask(old)) => {
-                let evac = Evac::new(self.spaces, old, self.epoch, self.number);
-                self.stage = Stage::Evacuates(evac, *scan, *back);
-            }
-            Turn::Finished(Scanned::Ended { .. }) => {
-                let open = Open::new(self.spaces, scan.page(), self.epoch);
-                self.stage = Stage::Opens(open, *scan, *back);
-            }
+        if let Turn::Finished(scanned) = scan.take(reply) {
+            self.has_scanned(scanned);
         }
+    }
+
+    /// What a scan comes to. It stands apart, so that the room of the stages that it begins is cleared only here, and not at each step of
+    /// a scan.
+    #[inline(never)]
+    pub fn has_scanned(&mut self, scanned: Scanned)
+        requires at { IsAtScan self.old.stage }
+        requires fits { FitsStage (scanned_at self.old self.old.stage scanned) (scanned_at self.old self.old.stage scanned).stage }
+        ensures { self.new ≡ scanned_at self.old self.old.stage scanned }
+    {
+        let Stage::Scans(scan, back) = &self.stage else {
+            unreachable!()
+        };
+        self.stage = match scanned {
+            Scanned::Ask(old) => {
+                let evac = Evac::new(self.spaces, old, self.epoch, self.number);
+                Stage::Evacuates(evac, *scan, *back)
+            }
+            Scanned::Ended { .. } => {
+                let open = Open::new(self.spaces, scan.page(), self.epoch);
+                Stage::Opens(open, *scan, *back)
+            }
+        };
     }
 
     /// A step of a copy for a scan.
@@ -339,13 +354,26 @@ impl State {
         requires after { IsSound (turned self.old reply) }
         ensures { self.new ≡ uncounted (turned self.old reply) }
     {
-        let Stage::Evacuates(evac, scan, back) = &mut self.stage else {
+        let Stage::Evacuates(evac, _, _) = &mut self.stage else {
             unreachable!()
         };
         if let Turn::Finished(to) = evac.take(reply) {
-            scan.answer(to.0);
-            self.stage = Stage::Scans(*scan, *back);
+            self.has_copied(to);
         }
+    }
+
+    /// The record is copied: the scan goes on with the address of the copy. It stands apart likewise.
+    #[inline(never)]
+    pub fn has_copied(&mut self, to: To)
+        requires at { IsCopying self.old.stage }
+        requires fits { FitsStage (copied_at self.old self.old.stage to) (copied_at self.old self.old.stage to).stage }
+        ensures { self.new ≡ copied_at self.old self.old.stage to }
+    {
+        let Stage::Evacuates(_, scan, back) = &mut self.stage else {
+            unreachable!()
+        };
+        scan.answer(to.0);
+        self.stage = Stage::Scans(*scan, *back);
     }
 
     /// A step of the opening of a page that was scanned.

@@ -2,7 +2,7 @@ use Rattle.std.proofs.Common.{◌≡◌, List, length, arith, refl, sym, subst, 
 use Rattle.std.proofs.lemmas.List.{length-map}
 use Rattle.space_map.specs.Table.{whole_length}
 use Rattle.gc_worker.specs.Config.{has_sizes, layout_by}
-use Rattle.ael_threads.specs.Opened.{silent_plan}
+use Rattle.ael_threads.specs.Opened.{plan_without_printing}
 use Rattle.ael_c.specs.declared.handle.Handle.{Handle}
 use Rattle.ael_c.specs.Handles.{DealsBy, Handles, behind, config_of, handles}
 use Rattle.ael_c.proofs.Openings.{counts_hold, opened, sizes_hold}
@@ -22,6 +22,6 @@ returns-in-Ok c =
     (counts_hold (length (behind ms)) (length (behind ss)) (let a = c.if-count-lt1.false in omega (arith, a, mutators)) (let a = c.if-count.false in omega (arith, a, mutators)) (let a = c.if-scanners.false in omega (arith, a, length-map ss (λ (h : Handle). h.value))))
     (sym c.if-not-all_null.ensures.null) (sym c.if-not-all_null-2.ensures.null)
     (sizes_hold (has_sizes (config_of c.args.pages c.args.limit (length (behind ss)))) (λ bad. let never = c.in-Ok.ensures.bad_pages.1 bad in cc))
-    (c.in-Ok.ensures.key ∙ (λ i. silent_plan (mutators i) (config_of c.args.pages c.args.limit (scanners i))))
+    (c.in-Ok.ensures.key ∙ (λ i. plan_without_printing (mutators i) (config_of c.args.pages c.args.limit (scanners i))))
     (c.in-Ok.ensures.words ∙ (λ i. whole_length (layout_by (config_of c.args.pages c.args.limit (scanners i)))))
     (subst (λ (before : Handles). DealsBy c.deal.result c.in-Ok.heap before after) same c.deal.ensures)

@@ -15,11 +15,11 @@ loop-preserved c =
       names = λ at.
           let later : c.loop.counter + (at + 1) ≡ c.loop.counter + 1 + at = omega arith in
           c.next.ensures.later at ∙ c.loop.invariant.names (at + 1) ∙ ap schedule later;
-      over = c.is_over-over.ensures;
-      kept = c.in_ok-note.ensures.kept ∙ c.loop.invariant.kept;
+      over = c.in_ok-over.ensures.over;
+      kept = c.in_ok-over.ensures.kept ∙ c.loop.invariant.kept;
       core = rw (c.step-stepped.ensures.after, worker) (comes_on _ _ _ _ _ at running c.loop.invariant.core);
       order = rw (c.step-stepped.ensures.after, worker)
-          (comes_on_noted _ _ _ _ _ _ _ at running (rw (← worker, ← c.step-stepped.ensures.told) c.in_ok-note.ensures.noted) c.loop.invariant.order);
+          (comes_on_noted _ _ _ _ _ _ _ at running (rw (← worker, ← c.step-stepped.ensures.told) c.in_ok-over.ensures.noted) c.loop.invariant.order);
     }
 
 pub returns-after-loop-clause-core : goal.returns-after-loop-clause-core
