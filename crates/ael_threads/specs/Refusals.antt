@@ -27,7 +27,7 @@ lacks_serial instr serial = makes_record instr && nat_le MOST_RECORDS serial
 abbrev pub may_not_print : Instr → (prints : Bool) → Bool
 may_not_print instr prints = is_output instr && not prints
 
--- the first reason of a mutator with this end, this task and so many records, if mutators of its heap may print, or may not
+-- the first reason of a mutator with this end, this task and so many records, in a heap whose mutators may print or may not
 abbrev pub refusal_by : Instr → Option End → Option Task → (serial : ℕ) → (prints : Bool) → Option Refused
 refusal_by instr (Some end) task serial prints = Some (Ended end)
 refusal_by instr None (Some task) serial prints = Some Calling

@@ -1,6 +1,7 @@
-ghost use Rattle.std.specs.Prelude.{◌≡◌, ◌+◌, ◌*◌, ◌^◌, ◌<◌, ◌≤◌, Some, IsTrue, IsSome};
-ghost use Rattle.atom_store.specs.Step.{HasItsWord, after_step, place_in, words_after_step};
-ghost use Rattle.atom_store.specs.declared.turn.Turn.TheVariants.{More};
+mod on_words;
+
+ghost use Rattle.std.specs.Prelude.{◌≡◌, ◌+◌, ◌*◌, ◌^◌, ◌<◌, ◌≤◌, Some, IsTrue};
+ghost use Rattle.atom_store.specs.Step.{place_in};
 ghost use Rattle.record_layout.specs.declared.header.Header.{Header};
 ghost use Rattle.space_map.specs.AreaWord.{AreaFits, decode_area};
 ghost use Rattle.space_map.specs.Spaces.{to_space};
@@ -14,7 +15,7 @@ use crate::new_pages::NewPages;
 use crate::place_stage::PlaceStage;
 use crate::run::Run;
 use crate::shortage::Shortage;
-use atom_store::{Atoms, PlainAtoms, Reply, Step, Turn};
+use atom_store::{Reply, Step, Turn};
 use heap_words::{Kind, Word};
 use record_layout::{Header, pack};
 use space_map::{AreaWord, PAGE_WORDS, PageWord, SaveWord, Spaces};
@@ -191,90 +192,6 @@ impl Place {
             (PlaceStage::StoresHeader, Reply::Done) => self.place(),
             _ => Turn::More,
         }
-    }
-
-    /// Makes its next step on these words, and takes the reply to it. It is the same as `take` of the reply to `want`, but chooses by the
-    /// stage once.
-    #[inline(always)]
-    pub fn step(&mut self, on: &mut PlainAtoms) -> Turn<Allocated>
-        requires going { IsPlacingGoing self.old.stage }
-        requires word { HasItsWord on.old (wanted self.old) }
-        requires sound { IsSoundPlacing (after_step (taken self.old) self.old on.old (wanted self.old)) }
-        ensures state { self.new ≡ after_step (taken self.old) self.old on.old (wanted self.old) }
-        ensures tells { result ≡ told self.new }
-        ensures words { on.new ≡ words_after_step on.old (wanted self.old) }
-        ensures steps { IsSome (wanted self.old) }
-    {
-        let spaces = self.spaces;
-        match self.stage {
-            PlaceStage::LoadsTraced => {
-                let word = on.load(spaces.traced_place());
-                self.go_on(PlaceStage::LoadsSize(word == u64::from(self.epoch) + 1))
-            }
-            PlaceStage::LoadsSize(traced) => {
-                let word = on.load(self.size_place());
-                self.spaces.known();
-                self.go_on(PlaceStage::LoadsArea(traced, word as u32))
-            }
-            PlaceStage::LoadsArea(traced, size) => {
-                let word = on.load(self.area_place());
-                self.look_at_area(traced, size, word)
-            }
-            PlaceStage::ExchangesArea(fitting) => {
-                let old = fitting.area.pack();
-                let new = claimed(spaces, self.header, fitting).pack();
-                match on.act(Step::Exchange(self.area_place(), old, new)) {
-                    Reply::Won => self.claim(fitting),
-                    Reply::Lost(_) => self.go_on(PlaceStage::LoadsTraced),
-                    Reply::Value(_) | Reply::Done => unreachable!(),
-                }
-            }
-            PlaceStage::StoresZero(new) => {
-                on.store(spaces.word_place(new.next), 0);
-                self.clear(new)
-            }
-            PlaceStage::StoresNew(new) => {
-                on.store(spaces.save_place(new.next), SaveWord::New(self.snap).pack());
-                self.go_on(PlaceStage::OpensPage(new))
-            }
-            PlaceStage::OpensPage(new) => {
-                on.store(
-                    spaces.page_place(new.next),
-                    PageWord::Open(self.epoch).pack(),
-                );
-                self.open(new)
-            }
-            PlaceStage::StoresCount => {
-                on.store(
-                    spaces.word_place(self.run.at + 1),
-                    Word::number(u64::from(self.fields)).0,
-                );
-                self.go_on(PlaceStage::StoresHeader)
-            }
-            PlaceStage::StoresTarget => {
-                on.store(spaces.word_place(self.run.at + 1), self.target);
-                self.go_on(PlaceStage::StoresLink)
-            }
-            PlaceStage::StoresLink => {
-                on.store(spaces.word_place(self.run.at + 2), 0);
-                self.go_on(PlaceStage::StoresHeader)
-            }
-            PlaceStage::StoresHeader => {
-                on.store(spaces.word_place(self.run.at), pack(&self.header));
-                self.place()
-            }
-            PlaceStage::Ended(_) => unreachable!(),
-        }
-    }
-
-    #[inline(always)]
-    fn go_on(&mut self, stage: PlaceStage) -> Turn<Allocated>
-        requires { IsSoundPlacing (at_stage self.old stage) }
-        ensures state { self.new ≡ at_stage self.old stage }
-        ensures tells { result ≡ More }
-    {
-        self.stage = stage;
-        Turn::More
     }
 
     #[inline(always)]

@@ -23,19 +23,7 @@ reply_of (Load place) words = Value (slice_index words place)
 reply_of (Store place value) words = Done
 reply_of (Exchange place old new) words = if slice_index words place == old then Won else Lost (slice_index words place)
 
--- ---- the next step of a machine on words, if it has one
-
--- the machine after it, by what a reply makes of it
-abbrev pub after_step : {M : Type 0} → (taken : Reply → M) → M → List ℕ → Option Step → M
-after_step taken m words None = m
-after_step taken m words (Some q) = taken (reply_of q words)
-
--- the words after it
-abbrev pub words_after_step : List ℕ → Option Step → List ℕ
-words_after_step words None = words
-words_after_step words (Some q) = words_after q words
-
--- its word is among them
+-- the word of a step is among these, if there is a step
 abbrev pub HasItsWord : List ℕ → Option Step → Type 0
 HasItsWord words None = ⊤
-HasItsWord words (Some q) = place_in q < length words
+HasItsWord words (Some step) = place_in step < length words

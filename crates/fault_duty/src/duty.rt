@@ -1,5 +1,5 @@
-ghost use Rattle.std.specs.Prelude.{◌≡◌, ◌≢◌, ℕ, ◌+◌, ◌*◌, ◌^◌, ◌<◌, ◌≤◌, Some, IsTrue, IsSome};
-ghost use Rattle.atom_store.specs.Step.{place_in, after_step, words_after_step, HasItsWord};
+ghost use Rattle.std.specs.Prelude.{◌≡◌, ◌≢◌, ℕ, ◌+◌, ◌*◌, ◌^◌, ◌<◌, ◌≤◌, Some, IsTrue};
+ghost use Rattle.atom_store.specs.Step.{place_in};
 ghost use Rattle.atom_store.specs.declared.turn.Turn.TheVariants.{More, Finished};
 ghost use Rattle.space_map.specs.declared.spaces.TheConstants.{LAST_WORKER};
 ghost use Rattle.space_map.specs.AreaWord.{decode_area};
@@ -13,12 +13,13 @@ ghost use Rattle.fault_duty.specs.Soundness.{FitsCaller, IsSoundRound, IsRoundGo
 
 mod choosing;
 mod ending;
+mod on_words;
 
 use crate::caller::Caller;
 use crate::duty_stage::DutyStage;
 use crate::page_state::PageState;
 use crate::round_end::RoundEnd;
-use atom_store::{Atoms, PlainAtoms, Reply, Step, Turn};
+use atom_store::{Reply, Step, Turn};
 use space_map::{AreaWord, PAGE_WORDS, PageWord, Spaces};
 use std::marker::Model;
 
@@ -155,119 +156,6 @@ impl Duty {
         self.spaces.known();
         self.go_on(reply);
         self.tell()
-    }
-
-    /// Makes its next step on these words, and takes the reply to it. It is the same as `take` of the reply to `want`, but chooses by the
-    /// stage once.
-    #[inline(always)]
-    pub fn step(&mut self, on: &mut PlainAtoms) -> Turn<RoundEnd>
-        requires going { IsRoundGoing self.old.stage }
-        requires word { HasItsWord on.old (wanted self.old) }
-        requires sound { IsSoundRound (after_step (taken self.old) self.old on.old (wanted self.old)) }
-        ensures state { self.new ≡ after_step (taken self.old) self.old on.old (wanted self.old) }
-        ensures tells { result ≡ told self.new }
-        ensures words { on.new ≡ words_after_step on.old (wanted self.old) }
-        ensures steps { IsSome (wanted self.old) }
-    {
-        let spaces = self.spaces;
-        match self.stage {
-            DutyStage::LoadsGate => self.look_at_gate(on.load(spaces.gate_place())),
-            DutyStage::LoadsTraced(hindrance) => self.look_at_traced(
-                hindrance,
-                on.load(spaces.traced_place()),
-            ),
-            DutyStage::LoadsWanted(seen, page) => self.look_at_wanted(
-                seen,
-                page,
-                on.load(spaces.page_place(page)),
-            ),
-            DutyStage::LoadsFrontFor(seen, wanted) => self.find_front_for(
-                seen,
-                wanted,
-                on.load(self.area_place()),
-            ),
-            DutyStage::LoadsFront(seen) => self.find_front(seen, on.load(self.area_place())),
-            DutyStage::LoadsPage(choice, page) => self.look_at_page(
-                choice,
-                page,
-                on.load(spaces.page_place(page)),
-            ),
-            DutyStage::Claims(_) => self.step_claim(on),
-            DutyStage::EndGate(traced) => self.end_at_gate(traced, on.load(spaces.gate_place())),
-            DutyStage::EndArea(traced) => self.end_at_area(traced, on.load(self.area_place())),
-            DutyStage::EndPage(look, page) => self.end_at_page(
-                look,
-                page,
-                on.load(spaces.page_place(page)),
-            ),
-            DutyStage::EndFilling(look) => self.end_at_filling(
-                look,
-                on.load(spaces.page_place(spaces.page_of(look.front))),
-            ),
-            DutyStage::EndAreaAgain(look, filling) => self.end_at_area_again(
-                look,
-                filling,
-                on.load(self.area_place()),
-            ),
-            DutyStage::Walks(..) => self.step_walk(on),
-            DutyStage::Traces(traced) => self.step_mark(traced, on),
-            DutyStage::Ended(_) => unreachable!(),
-        }
-        self.tell()
-    }
-
-    /// Makes the next step of its claim.
-    #[inline(always)]
-    fn step_claim(&mut self, on: &mut PlainAtoms)
-        requires claiming { IsClaiming self.old.stage }
-        requires word { HasItsWord on.old (wanted self.old) }
-        ensures state { self.new ≡ after_step (taken self.old) self.old on.old (wanted self.old) }
-        ensures words { on.new ≡ words_after_step on.old (wanted self.old) }
-        ensures steps { IsSome (wanted self.old) }
-    {
-        let DutyStage::Claims(claim) = &self.stage else {
-            unreachable!();
-        };
-        let reply = on.act(claim.want());
-        self.go_on_claiming(reply);
-    }
-
-    /// Makes the next step of its walk.
-    #[inline(always)]
-    fn step_walk(&mut self, on: &mut PlainAtoms)
-        requires walking { IsWalking self.old.stage }
-        requires word { HasItsWord on.old (wanted self.old) }
-        requires sound { IsSoundRound (after_step (taken self.old) self.old on.old (wanted self.old)) }
-        ensures state { self.new ≡ after_step (taken self.old) self.old on.old (wanted self.old) }
-        ensures words { on.new ≡ words_after_step on.old (wanted self.old) }
-        ensures steps { IsSome (wanted self.old) }
-    {
-        let DutyStage::Walks(_, walk) = &self.stage else {
-            unreachable!();
-        };
-        let reply = on.act(walk.want());
-        self.go_on_walking(reply);
-    }
-
-    /// Exchanges TRACED, from the word that was read to the number of its epoch.
-    #[inline(always)]
-    fn step_mark(&mut self, traced: u64, on: &mut PlainAtoms)
-        requires at { self.old.stage ≡ DutyStage.Traces traced }
-        requires word { HasItsWord on.old (wanted self.old) }
-        ensures state { self.new ≡ after_step (taken self.old) self.old on.old (wanted self.old) }
-        ensures words { on.new ≡ words_after_step on.old (wanted self.old) }
-        ensures steps { IsSome (wanted self.old) }
-    {
-        let step = Step::Exchange(
-            self.spaces.traced_place(),
-            traced,
-            u64::from(self.epoch) + 1,
-        );
-        match on.act(step) {
-            Reply::Won => self.end(RoundEnd::Marked),
-            Reply::Lost(word) => self.end(RoundEnd::NothingNow(word)),
-            Reply::Value(_) | Reply::Done => unreachable!(),
-        }
     }
 
     #[inline(always)]

@@ -1,6 +1,8 @@
-ghost use Rattle.std.specs.Prelude.{◌≡◌, ◌≢◌, ◌+◌, ◌*◌, ◌^◌, ◌<◌, ◌≤◌, ℕ, Some, IsTrue, IsSome};
+mod on_words;
+
+ghost use Rattle.std.specs.Prelude.{◌≡◌, ◌≢◌, ◌+◌, ◌*◌, ◌^◌, ◌<◌, ◌≤◌, ℕ, Some, IsTrue};
 ghost use Rattle.atom_store.specs.declared.reply.Reply.TheVariants.{Value, Done, Won, Lost};
-ghost use Rattle.atom_store.specs.Step.{HasItsWord, after_step, place_in, words_after_step};
+ghost use Rattle.atom_store.specs.Step.{place_in};
 ghost use Rattle.heap_words.specs.Decoded.{decode};
 ghost use Rattle.heap_words.specs.Word.{busy_word, forward_word};
 ghost use Rattle.space_map.specs.declared.spaces.TheConstants.{LAST_WORKER};
@@ -17,7 +19,7 @@ use crate::kept_header::KeptHeader;
 use crate::loaded_word::LoadedWord;
 use crate::reserved::Reserved;
 use crate::to::To;
-use atom_store::{Atoms, PlainAtoms, Reply, Step, Turn};
+use atom_store::{Reply, Step, Turn};
 use heap_words::Kind;
 use record_layout::{Busy, Forward, pack_busy, pack_forward, read, read_forward};
 use space_map::{AreaWord, PAGE_WORDS, Spaces, crossed};
@@ -124,95 +126,6 @@ impl Evac {
             Reply::Value(word) => self.has_loaded(word),
             Reply::Done => self.has_stored(),
             Reply::Won | Reply::Lost(_) => self.has_exchanged(reply),
-        }
-    }
-
-    /// Makes its next step on these words, and takes the reply to it. It is the same as `take` of the reply to `want`, but chooses by the
-    /// stage once.
-    #[inline(always)]
-    pub fn step(&mut self, on: &mut PlainAtoms) -> Turn<To>
-        requires going { IsGoing self.old.stage }
-        requires word { HasItsWord on.old (wanted self.old) }
-        requires sound { IsSound (after_step (taken self.old) self.old on.old (wanted self.old)) }
-        ensures state { self.new ≡ after_step (taken self.old) self.old on.old (wanted self.old) }
-        ensures told { result ≡ told self.new.stage }
-        ensures words { on.new ≡ words_after_step on.old (wanted self.old) }
-        ensures steps { IsSome (wanted self.old) }
-    {
-        let spaces = self.spaces;
-        match self.stage {
-            EvacStage::LoadsHeader => self.reads_header(on.load(spaces.word_place(self.addr))),
-            EvacStage::TakesHeader(kept) => {
-                let taking = Step::Exchange(
-                    spaces.word_place(self.addr),
-                    kept.word,
-                    busy(kept, self.worker),
-                );
-                match on.act(taking) {
-                    Reply::Won => self.goes_to(EvacStage::LoadsArea(kept)),
-                    _ => self.goes_to(EvacStage::LoadsHeader),
-                }
-            }
-            EvacStage::LoadsArea(kept) => {
-                let word = on.load(spaces.area_place(spaces.to_space(self.epoch)));
-                self.reads_area(kept, word)
-            }
-            EvacStage::Announces(kept, area) => {
-                let to = front(spaces, self.epoch, kept, area);
-                on.store(spaces.announce_place(self.worker), u64::from(to) + 1);
-                self.goes_to(EvacStage::Reserves(kept, area))
-            }
-            EvacStage::Reserves(kept, area) => {
-                let reserving = Step::Exchange(
-                    spaces.area_place(spaces.to_space(self.epoch)),
-                    area.pack(),
-                    past(kept, area).pack(),
-                );
-                match on.act(reserving) {
-                    Reply::Lost(word) => self.reads_other_area(kept, area, word),
-                    _ => self.has_reserved(kept, area),
-                }
-            }
-            EvacStage::StoresHeader(r) => {
-                on.store(spaces.word_place(r.to), r.kept.word);
-                self.has_copied(r, 1)
-            }
-            EvacStage::LoadsWord(r, number) => {
-                let word = on.load(spaces.word_place(self.addr + number));
-                self.goes_to(EvacStage::StoresWord(r, LoadedWord { number, word }))
-            }
-            EvacStage::StoresWord(r, w) => {
-                on.store(spaces.word_place(r.to + w.number), w.word);
-                self.has_copied(r, w.number + 1)
-            }
-            EvacStage::StoresCross(r, page) => {
-                on.store(spaces.cross_place(page), u64::from(r.to));
-                self.has_crossed(r, page + 1)
-            }
-            EvacStage::StoresForward(r) => {
-                on.store(spaces.word_place(self.addr), forward(r));
-                self.has_published(r)
-            }
-            EvacStage::LoadsWeak(to) => {
-                let head = on.load(spaces.weak_place());
-                self.goes_to(EvacStage::StoresLink(to, head))
-            }
-            EvacStage::StoresLink(to, head) => {
-                on.store(spaces.word_place(to + LINK), head);
-                self.goes_to(EvacStage::TakesWeak(to, head))
-            }
-            EvacStage::TakesWeak(to, head) => {
-                let linking = Step::Exchange(spaces.weak_place(), head, u64::from(to) + 1);
-                match on.act(linking) {
-                    Reply::Won => self.goes_to(EvacStage::Clears(to)),
-                    _ => self.goes_to(EvacStage::LoadsWeak(to)),
-                }
-            }
-            EvacStage::Clears(to) => {
-                on.store(spaces.announce_place(self.worker), 0);
-                self.ends(to)
-            }
-            EvacStage::Ended(_) => unreachable!(),
         }
     }
 

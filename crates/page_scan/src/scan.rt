@@ -1,5 +1,7 @@
-ghost use Rattle.std.specs.Prelude.{◌≡◌, ◌+◌, ◌^◌, ◌<◌, ◌≤◌, Some, IsTrue, ◌≢◌, ℕ, max, IsSome};
-ghost use Rattle.atom_store.specs.Step.{HasItsWord, after_step, place_in, words_after_step};
+mod on_words;
+
+ghost use Rattle.std.specs.Prelude.{◌≡◌, ◌+◌, ◌^◌, ◌<◌, ◌≤◌, Some, IsTrue, ◌≢◌, ℕ, max};
+ghost use Rattle.atom_store.specs.Step.{place_in};
 ghost use Rattle.heap_words.specs.Decoded.{PointerWord, decode};
 ghost use Rattle.space_map.specs.AreaWord.{decode_area};
 ghost use Rattle.space_map.specs.Spaces.{board_page, first_word, to_space};
@@ -16,7 +18,7 @@ use crate::scan_stage::ScanStage;
 use crate::scanned::Scanned;
 use crate::scanned_record::ScannedRecord;
 use crate::spot::Spot;
-use atom_store::{PlainAtoms, Reply, Step, Turn};
+use atom_store::{Reply, Step, Turn};
 use heap_words::{Kind, Word};
 use record_layout::read;
 use space_map::{AreaWord, PAGE_WORDS, Spaces};
@@ -112,52 +114,6 @@ impl Scan {
         match reply {
             Reply::Value(word) => self.has_loaded(word),
             Reply::Done | Reply::Won | Reply::Lost(_) => self.has_stored(reply),
-        }
-    }
-
-    /// Makes its next step on these words, and takes the reply to it. It is the same as `take` of the reply to `want`, but chooses by the
-    /// stage once.
-    #[inline(always)]
-    pub fn step(&mut self, on: &mut PlainAtoms) -> Turn<Scanned>
-        requires going { HasStep self.old.stage }
-        requires word { HasItsWord on.old (wanted self.old) }
-        requires sound { IsSound (after_step (taken self.old) self.old on.old (wanted self.old)) }
-        ensures state { self.new ≡ after_step (taken self.old) self.old on.old (wanted self.old) }
-        ensures told { result ≡ told self.new.stage }
-        ensures words { on.new ≡ words_after_step on.old (wanted self.old) }
-        ensures steps { IsSome (wanted self.old) }
-    {
-        let spaces = self.spaces;
-        match self.stage {
-            ScanStage::LoadsCross => {
-                let word = on.load(spaces.cross_place(self.page));
-                self.goes_to(ScanStage::LoadsFirst(word as u32))
-            }
-            ScanStage::LoadsFirst(at) => {
-                let word = on.load(spaces.word_place(at));
-                self.reads_header(at, ScanStage::LoadsFirst(at), word)
-            }
-            ScanStage::LoadsCount(h) => {
-                let word = on.load(spaces.word_place(h.at + 1));
-                self.reads_count(h, word)
-            }
-            ScanStage::LoadsWord(spot) => {
-                let word = on.load(spaces.word_place(address(spot)));
-                self.reads_word(spot, word)
-            }
-            ScanStage::StoresCopy(asked, to) => {
-                on.store(spaces.word_place(address(asked.spot)), Word::pointer(to).0);
-                self.passes(asked.spot)
-            }
-            ScanStage::LoadsFront(r) => {
-                let word = on.load(spaces.area_place(spaces.to_space(self.epoch)));
-                self.reads_area(r, word)
-            }
-            ScanStage::LoadsNext(r) => {
-                let word = on.load(spaces.word_place(r.next));
-                self.reads_header(r.next, ScanStage::LoadsNext(r), word)
-            }
-            ScanStage::Asks(_) | ScanStage::Ended(_) => unreachable!(),
         }
     }
 

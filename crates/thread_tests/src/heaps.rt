@@ -70,7 +70,7 @@ pub fn open_scanned(alloc: Global) -> Result<(Shared, Seats, Mutator, Scanner), 
 }
 
 /// A heap of four pages that was opened without printing, with a mutator, which has made no step.
-pub fn open_silent(alloc: Global) -> Result<(Shared, Mutator), OpenError>
+pub fn open_without_printing(alloc: Global) -> Result<(Shared, Mutator), OpenError>
     ensures { IfOk result (λ o. o.1.table ≡ o.0.table.shared.table_id) }
 {
     let config = Config {

@@ -3,7 +3,7 @@
 ghost use Rattle.std.specs.Prelude.{◌≡◌};
 
 use crate::asserting::assert_same;
-use crate::heaps::{close_two, open_silent, open_two};
+use crate::heaps::{close_two, open_two, open_without_printing};
 use ael_threads::{Did, Mutator, Refused, Reg, Shared};
 use mutator_asm::{Instr, Operand};
 use plain_state::End;
@@ -28,7 +28,7 @@ const INSTRS: [Instr; 5] = [
 ];
 
 /// Instructions that print nothing.
-const SILENT: [Instr; 6] = [
+const PRINTS_NOTHING: [Instr; 6] = [
     Instr::Li(1, 7),
     Instr::New(0, ONE),
     Instr::St(0, ZERO, 1),
@@ -122,11 +122,11 @@ fn refused_calls_change_nothing(rt: HostRuntime) -> Result<(), Fail> {
 
 #[test]
 fn a_heap_opened_without_printing_refuses_out_alone(rt: HostRuntime) -> Result<(), Fail> {
-    let (h, mut mutator) = open_silent(rt.alloc())?;
+    let (h, mut mutator) = open_without_printing(rt.alloc())?;
     assert!(rt; !mutator.may_print());
     check_refused(&rt, &h, &mut mutator, &[Instr::Out(0)], Refused::Printing);
     check_refused(&rt, &h, &mut mutator, &[Instr::Out(8)], Refused::Operand);
-    check_done(&rt, &h, &mut mutator, &SILENT);
+    check_done(&rt, &h, &mut mutator, &PRINTS_NOTHING);
     assert_same(&rt, &mutator.reg(2), &Reg::Number(7));
     Ok(())
 }

@@ -18,7 +18,7 @@ pub struct Notes {
 }
 
 impl Notes {
-    /// Adds the mark of a step of which this is told, if it has one and marks are kept. That marks of instructions aren't kept is seen in
+    /// Adds the mark of a step of which this is told, if it has one and marks are kept. If none are kept, an instruction is passed over in
     /// the loop of the run.
     #[inline(always)]
     pub fn note(&mut self, told: Stepped) -> Result<(), AllocError>
@@ -31,7 +31,7 @@ impl Notes {
         }
     }
 
-    /// It copies what is told, which the loop would else have to keep in memory.
+    /// Hands on a copy of what is told, which the loop would have to keep in memory otherwise.
     #[inline(always)]
     fn keep(&mut self, told: Stepped) -> Result<(), AllocError>
         ensures kept { self.new.kept ≡ self.old.kept }

@@ -56,10 +56,10 @@ fn is_over(core: &Core, told: Stepped) -> bool
     }
 }
 
-/// Notes a step of which this is told. It tells whether every mutator has its end then. Most steps tell that nothing happened, which is
-/// seen in the loop of the run.
+/// Notes a step of which this is told, and tells whether every mutator has its end then. A step that told nothing is passed over in the
+/// loop of the run.
 #[inline(always)]
-fn noted(core: &Core, notes: &mut Notes, told: Stepped) -> Result<bool, AllocError>
+fn note_step(core: &Core, notes: &mut Notes, told: Stepped) -> Result<bool, AllocError>
     requires { ((m : ℕ) (why : End) → told ≢ Stepped.Ended m why) → all_ended core.now ≡ false }
     ensures over { IfOk result (λ over. over ≡ all_ended core.now) }
     ensures kept { notes.new.kept ≡ notes.old.kept }
@@ -93,7 +93,7 @@ fn run_noting(
             break;
         }
         let stepped = step(core, scheduler.next());
-        over = noted(core, notes, stepped)?;
+        over = note_step(core, notes, stepped)?;
     }
     Ok(())
 }

@@ -88,7 +88,7 @@ MayIf false prints = ⊤
 abbrev pub MayExecute : (prints : Bool) → Instr → Type 0
 MayExecute prints instr = MayIf (is_output instr) prints
 
--- a task of a worker of such a heap: it prints only if mutators may
+-- the task of a worker: it prints only if the heap's mutators may
 abbrev pub MayHave : (prints : Bool) → Option Task → Type 0
 MayHave prints None = ⊤
 MayHave prints (Some (Calls instr)) = MayExecute prints instr
@@ -153,10 +153,10 @@ abbrev pub IsEvacuating : Stage → Type 0
 IsEvacuating (Evacuates v s back) = ⊤
 IsEvacuating _ = ⊥
 
--- its scan asks for the copy
-abbrev pub IsCopying : Stage → Type 0
-IsCopying (Evacuates v s back) = IsAsking s.stage
-IsCopying _ = ⊥
+-- it copies the record that its scan asks for
+abbrev pub IsCopyAsked : Stage → Type 0
+IsCopyAsked (Evacuates v s back) = IsAsking s.stage
+IsCopyAsked _ = ⊥
 
 abbrev pub IsOpening : Stage → Type 0
 IsOpening (Opens o s back) = ⊤
@@ -185,6 +185,14 @@ IsForCheckpoints (Guards g write) = ⊤
 IsForCheckpoints (Checkpoints r goal) = ⊤
 IsForCheckpoints (BeginsCheckpoint s) = ⊤
 IsForCheckpoints _ = ⊥
+
+-- it takes part in the collection: it is not at a look, an access or an allocation, and not gone
+abbrev pub IsCollecting : Stage → Type 0
+IsCollecting Looks = ⊥
+IsCollecting (Accesses a) = ⊥
+IsCollecting (Places p) = ⊥
+IsCollecting Gone = ⊥
+IsCollecting _ = ⊤
 
 -- a register and where it leads
 abbrev pub pointed : ℕ × ℕ → turned.Pointed

@@ -484,17 +484,17 @@ turned_scan x s back More = at_stage x (Scans s back)
 turned_scan x s back (Finished result) = scanned_by x s back result
 
 -- the scan goes on with the address of the copy
-abbrev pub copied_by : Held → scan.Scanning → Back → To → Held
-copied_by x s back to = at_stage x (Scans (scan_taken.answered s to.0) back)
+abbrev pub evacuated_by : Held → scan.Scanning → Back → To → Held
+evacuated_by x s back to = at_stage x (Scans (scan_taken.answered s to.0) back)
 
 -- what the copy that is at hand comes to
-abbrev pub copied_at : Held → Stage → To → Held
-copied_at x (Evacuates v s back) to = copied_by x s back to
-copied_at x stage to = x
+abbrev pub evacuated_at : Held → Stage → To → Held
+evacuated_at x (Evacuates v s back) to = evacuated_by x s back to
+evacuated_at x stage to = x
 
 abbrev pub turned_copy : Held → evac.Evacuation → scan.Scanning → Back → Turn To → Held
 turned_copy x v s back More = at_stage x (Evacuates v s back)
-turned_copy x v s back (Finished to) = copied_by x s back to
+turned_copy x v s back (Finished to) = evacuated_by x s back to
 
 abbrev pub turned_opening : Held → open_page.Opening → scan.Scanning → Back → Turn Opened → Held
 turned_opening x o s back More = at_stage x (Opens o s back)

@@ -177,7 +177,8 @@ impl State {
         }
     }
 
-    /// The allocation goes on, but with a look before its next write, if a checkpoint is in progress.
+    /// The allocation goes on. If a checkpoint is in progress, and a word of the record is written next, it looks first whether the page is
+    /// saved.
     #[inline(always)]
     pub fn go_on_placing(&mut self) -> Stepped
         requires at { IsPlacing self.old.stage }

@@ -1,8 +1,8 @@
 //! A worker's next step, made on the words that all share: one function for each thing that it may be about to do. If a program has one
 //! loop that steps workers, the compiler puts all of them into it, but for the steps for checkpoints.
 //!
-//! Most steps are made by wanting one and taking the reply. An allocation, a round, a scan and a copy make theirs themselves (`step`): so
-//! they choose by their stage once, and not twice.
+//! A machine names its step (`want`) and takes the reply (`take`). An allocation, a round, a scan and a copy for a scan make theirs
+//! themselves (`step`), so they choose by their stage once.
 
 ghost use Rattle.std.specs.Prelude.{◌≡◌};
 ghost use Rattle.gc_worker.specs.Steps.Made.{MayMake, step_made};
@@ -193,7 +193,7 @@ impl State {
             unreachable!()
         };
         if let Turn::Finished(to) = evac.step(on) {
-            self.has_copied(to);
+            self.has_evacuated(to);
         }
     }
 

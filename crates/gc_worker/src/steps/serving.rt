@@ -6,8 +6,8 @@ ghost use Rattle.space_map.specs.declared.spaces.TheConstants.{LAST_WORKER};
 ghost use Rattle.gc_worker.specs.declared.access.access_stage.AccessStage.{AccessStage};
 ghost use Rattle.gc_worker.specs.Workers.Fits.{FitsStage, IsAccessing, Takes};
 ghost use Rattle.gc_worker.specs.Workers.Held.{at_stage};
-ghost use Rattle.gc_worker.specs.Steps.Stepped.{HasNoEffect, IsAtAccess, IsCopying, IsEvacuating, IsOpening, IsAtScan, IsForCheckpoint, IsServing, IsSound, MayBeginAnew, back_at, served_in, stepped_by, uncounted};
-ghost use Rattle.gc_worker.specs.Steps.Turned.{accessed_at, back_from, copied_at, goes_back, scanned_at, scans, serves_target, told, told_access, told_round, traced_by, turned};
+ghost use Rattle.gc_worker.specs.Steps.Stepped.{HasNoEffect, IsAtAccess, IsCopyAsked, IsEvacuating, IsOpening, IsAtScan, IsForCheckpoint, IsServing, IsSound, MayBeginAnew, back_at, served_in, stepped_by, uncounted};
+ghost use Rattle.gc_worker.specs.Steps.Turned.{accessed_at, back_from, evacuated_at, goes_back, scanned_at, scans, serves_target, told, told_access, told_round, traced_by, turned};
 
 use crate::access::Access;
 use crate::access::accessed::Accessed;
@@ -358,16 +358,16 @@ impl State {
             unreachable!()
         };
         if let Turn::Finished(to) = evac.take(reply) {
-            self.has_copied(to);
+            self.has_evacuated(to);
         }
     }
 
-    /// The record is copied: the scan goes on with the address of the copy. It stands apart likewise.
+    /// The record is copied: the scan goes on with the address of the copy. It stands apart as `has_scanned` does.
     #[inline(never)]
-    pub fn has_copied(&mut self, to: To)
-        requires at { IsCopying self.old.stage }
-        requires fits { FitsStage (copied_at self.old self.old.stage to) (copied_at self.old self.old.stage to).stage }
-        ensures { self.new ≡ copied_at self.old self.old.stage to }
+    pub fn has_evacuated(&mut self, to: To)
+        requires at { IsCopyAsked self.old.stage }
+        requires fits { FitsStage (evacuated_at self.old self.old.stage to) (evacuated_at self.old self.old.stage to).stage }
+        ensures { self.new ≡ evacuated_at self.old self.old.stage to }
     {
         let Stage::Evacuates(_, scan, back) = &mut self.stage else {
             unreachable!()

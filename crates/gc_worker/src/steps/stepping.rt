@@ -8,7 +8,7 @@ ghost use Rattle.gc_worker.specs.declared.task.Task.TheVariants.{Calls, Stops};
 ghost use Rattle.gc_worker.specs.Laws.Between.{fresh, fresh_mutator, fresh_scanner, with_task};
 ghost use Rattle.gc_worker.specs.Workers.Fits.{Takes};
 ghost use Rattle.gc_worker.specs.Workers.Held.{at_stage};
-ghost use Rattle.gc_worker.specs.Steps.Stepped.{HasRoomToPrint, MayExecute, IsForCheckpoints, IsSound, stepped_by, uncounted};
+ghost use Rattle.gc_worker.specs.Steps.Stepped.{HasRoomToPrint, MayExecute, IsCollecting, IsForCheckpoints, IsSound, stepped_by, uncounted};
 ghost use Rattle.gc_worker.specs.Steps.Turned.{told, turned};
 ghost use Rattle.gc_worker.specs.Steps.Wanted.{wanted};
 
@@ -143,7 +143,7 @@ impl State {
         }
     }
 
-    /// Takes the reply to it.
+    /// Takes the reply to it. What the collector does stands apart, so that the compiler puts the rest into the act of a thread.
     pub fn take(&mut self, reply: Reply) -> Stepped
         requires wants { IsSome (wanted self.old) }
         requires sound { IsSound self.old }
@@ -154,6 +154,35 @@ impl State {
     {
         match self.stage {
             Stage::Looks => self.look(reply),
+            Stage::Accesses(_) => self.access(reply),
+            Stage::Places(_) => self.place(reply),
+            _ => self.collect(reply),
+        }
+    }
+
+    /// A step of the collector: any but a look, and one of an access or an allocation.
+    #[inline(always)]
+    fn collect(&mut self, reply: Reply) -> Stepped
+        requires at { IsCollecting self.old.stage }
+        requires sound { IsSound self.old }
+        requires takes { Takes self.old reply }
+        requires fits { IsSound (turned self.old reply) }
+        ensures state { self.new ≡ uncounted (turned self.old reply) }
+        ensures tells { result ≡ stepped_by self.old.number (told self.old reply) }
+    {
+        self.collect_apart(reply)
+    }
+
+    #[inline(never)]
+    fn collect_apart(&mut self, reply: Reply) -> Stepped
+        requires at { IsCollecting self.old.stage }
+        requires sound { IsSound self.old }
+        requires takes { Takes self.old reply }
+        requires fits { IsSound (turned self.old reply) }
+        ensures state { self.new ≡ uncounted (turned self.old reply) }
+        ensures tells { result ≡ stepped_by self.old.number (told self.old reply) }
+    {
+        match self.stage {
             Stage::Passes(..) => {
                 self.pass(reply);
                 Stepped::Moved
@@ -163,8 +192,6 @@ impl State {
                 self.forward(reply);
                 Stepped::Moved
             }
-            Stage::Accesses(_) => self.access(reply),
-            Stage::Places(_) => self.place(reply),
             Stage::Serves(..) => self.serve(reply),
             Stage::Scans(..) => {
                 self.scan(reply);
@@ -182,7 +209,7 @@ impl State {
             | Stage::Guards(..)
             | Stage::Checkpoints(..)
             | Stage::BeginsCheckpoint(_) => self.save(reply),
-            Stage::Gone => unreachable!(),
+            Stage::Looks | Stage::Accesses(_) | Stage::Places(_) | Stage::Gone => unreachable!(),
         }
     }
 

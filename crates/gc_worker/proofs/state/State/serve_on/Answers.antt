@@ -1,6 +1,6 @@
 use Rattle.std.proofs.Common.{◌≡◌, Some, refl, sym, ap, ◌∙◌, subst}
 use Rattle.atom_store.specs.Step.{reply_of}
-use Rattle.fault_duty.specs.Duty as duty
+use Rattle.fault_duty.specs.Duty.{duty_machine}
 use Rattle.gc_worker.specs.Workers.Fits.{FitsStage}
 use Rattle.gc_worker.specs.Workers.Held.{Held}
 use Rattle.gc_worker.specs.Steps.Stepped.{uncounted}
@@ -17,7 +17,7 @@ pub has_served-requires-clause-round : goal.has_served-requires-clause-round
 has_served-requires-clause-round c =
     let x = the_view c.self.inside in
     let Fitting : Held → Type 0 = λ y. FitsStage y y.stage in
-    let made = has_stepped (duty.taken c.in-Serves.duty) c.in-Serves.duty c.step.new.self (duty.wanted c.in-Serves.duty) c.args.on.now c.step.ensures.state c.step.ensures.steps in
+    let made = has_stepped duty_machine c.in-Serves.duty c.step.new.self c.args.on.now c.step.ensures.state c.step.ensures.step.has_step in
     taken_anew x c.in-Serves.duty c.step.new.self c.in-Serves.field-1 (reply_of made.step c.args.on.now) c.in-Serves.is made.takes
     (subst Fitting (sym c.self.view_is) c.requires.sound.stage)
 
@@ -25,21 +25,23 @@ pub has_served-requires-clause-fits : goal.has_served-requires-clause-fits
 has_served-requires-clause-fits c =
     let x = the_view c.self.inside in
     let Fitting : Held → Type 0 = λ y. FitsStage y y.stage in
-    let made = has_stepped (duty.taken c.in-Serves.duty) c.in-Serves.duty c.step.new.self (duty.wanted c.in-Serves.duty) c.args.on.now c.step.ensures.state c.step.ensures.steps in
+    let made = has_stepped duty_machine c.in-Serves.duty c.step.new.self c.args.on.now c.step.ensures.state c.step.ensures.step.has_step in
     let reply = reply_of made.step c.args.on.now in
     let wants : wanted c.args.self.now ≡ Some made.step = ap wanted (sym c.self.view_is) ∙ (ap (wanted_at x) c.in-Serves.is ∙ made.is) in
     let after = sound_after c.args.self.now c.args.on.now made.step reply c.requires.may wants refl in
-    let turns = round_turned x c.in-Serves.duty c.step.new.self c.in-Serves.field-1 reply c.in-Finished.end c.in-Serves.is made.takes (sym c.step.ensures.tells ∙ c.in-Finished.is) in
+    let tells = ap duty_machine.told c.step.ensures.state ∙ (c.step.ensures.step.tells ∙ c.in-Finished.is) in
+    let turns = round_turned x c.in-Serves.duty c.step.new.self c.in-Serves.field-1 reply c.in-Finished.end c.in-Serves.is made.takes tells in
     served_fits x (Serves c.step.new.self c.in-Serves.field-1) c.step.new.self _ _ _ c.epoch-epoch.ensures
     (subst Fitting turns (subst (λ (y : Held). Fitting (turned y reply)) (sym c.self.view_is) after.stage))
 
 pub returns-in-Finished-clause-state : goal.returns-in-Finished-clause-state
 returns-in-Finished-clause-state c =
     let x = the_view c.self.inside in
-    let made = has_stepped (duty.taken c.in-Serves.duty) c.in-Serves.duty c.step.new.self (duty.wanted c.in-Serves.duty) c.args.on.now c.step.ensures.state c.step.ensures.steps in
+    let made = has_stepped duty_machine c.in-Serves.duty c.step.new.self c.args.on.now c.step.ensures.state c.step.ensures.step.has_step in
     let reply = reply_of made.step c.args.on.now in
     let wants : wanted c.args.self.now ≡ Some made.step = ap wanted (sym c.self.view_is) ∙ (ap (wanted_at x) c.in-Serves.is ∙ made.is) in
-    let turns = round_turned x c.in-Serves.duty c.step.new.self c.in-Serves.field-1 reply c.in-Finished.end c.in-Serves.is made.takes (sym c.step.ensures.tells ∙ c.in-Finished.is) in
+    let tells = ap duty_machine.told c.step.ensures.state ∙ (c.step.ensures.step.tells ∙ c.in-Finished.is) in
+    let turns = round_turned x c.in-Serves.duty c.step.new.self c.in-Serves.field-1 reply c.in-Finished.end c.in-Serves.is made.takes tells in
     c.has_served.ensures.state
     ∙ served_after x (Serves c.step.new.self c.in-Serves.field-1) c.step.new.self _ _ _ c.epoch-epoch.ensures
     ∙ sym (served_uncounted x c.step.new.self _ _)
