@@ -11,8 +11,8 @@
 //!
 //! Where a checkpoint was begun, a page is marked as new before it is opened: what it has is no part of that checkpoint.
 //!
-//! [`Place`] is a machine: it names its next atomic step, and takes the reply, or makes it on plain words. [`PlaceStage`] lists what it does in turn. After
-//! its result it tells the [`Run`] that the mutator has then.
+//! [`Place`] is a machine: it names its next atomic step and takes the reply, or makes the step itself on plain words.
+//! [`PlaceStage`] lists what it does in turn. After its result it tells the [`Run`] that the mutator has then.
 #![tactic(auto)]
 
 mod allocated;

@@ -7,8 +7,9 @@
 //! the chain of cells, as one worker an epoch can, and marks the epoch as traced. Where another worker has to come on first,
 //! the round ends with the word that shows it, and where the epoch is traced already, it tells that. Nobody waits here.
 //!
-//! [`Duty`] is a machine: it names its next atomic step, and takes the reply, or makes it on plain words. [`DutyStage`] lists what it does in turn, and
-//! [`RoundEnd`] what it comes to. Scanning and opening the page that it has claimed is its caller's next work.
+//! [`Duty`] is a machine: it names its next atomic step and takes the reply, or makes the step itself on plain words.
+//! [`DutyStage`] lists what it does in turn, and [`RoundEnd`] what it comes to. Scanning and opening the page that it has
+//! claimed is its caller's next work.
 #![tactic(auto)]
 
 mod caller;

@@ -10,7 +10,8 @@
 //! last, and WEAK is exchanged for a word that leads to this copy. So a chain leads through all copied cells, and a worker
 //! walks over it once all else of the epoch is traced, to find the targets that nothing else led to.
 //!
-//! [`Evac`] is a machine: it names its next atomic step, and takes the reply, or makes it on plain words. [`EvacStage`] lists what it does in turn.
+//! [`Evac`] is a machine: it names its next atomic step and takes the reply, or makes the step itself on plain words.
+//! [`EvacStage`] lists what it does in turn.
 #![tactic(auto)]
 
 mod evac;

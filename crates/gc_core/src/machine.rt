@@ -16,10 +16,11 @@ use std::marker::Model;
 /// The workers of a program, the mutators first, and the words that they share.
 #[derive(Debug, Drop)]
 pub struct Core<'p> {
+    /// They stand first, so that they have the address of the core: that is kept in a register anyway.
+    pub(crate) atoms: PlainAtoms,
     pub(crate) program: &'p Program,
     pub(crate) turns: u32,
     pub(crate) spaces: Spaces,
-    pub(crate) atoms: PlainAtoms,
     pub(crate) slots: Vec<Slot>,
 }
 

@@ -12,6 +12,8 @@ use std::marker::Model;
 /// What a worker holds between two steps.
 #[derive(Drop)]
 pub(crate) struct State {
+    /// It stands first, so that it has the address of the state: that is kept in a register anyway.
+    pub stage: Stage,
     pub number: u8,
     pub spaces: Spaces,
     pub mutators: u8,
@@ -35,7 +37,6 @@ pub(crate) struct State {
     pub instr: Instr,
     /// The end, where one is due.
     pub stop: End,
-    pub stage: Stage,
 }
 
 impl State {

@@ -107,7 +107,7 @@ impl Worker {
         self.state.take(reply)
     }
 
-    /// Makes the next step on these words, where it has one; it is the same as to take the reply to what it wants.
+    /// Makes the next step on these words, if it has one; it is the same as to take the reply to what it wants.
     #[inline(always)]
     pub fn step(&mut self, on: &mut PlainAtoms) -> Stepped
         requires may { MayMake self.old on.old }
@@ -196,7 +196,7 @@ impl Worker {
         self.state.printed.as_slice()
     }
 
-    /// Its end, where it has one.
+    /// Its end, if it has one.
     pub fn ended(&self) -> Option<End>
         ensures { result ≡ self.now.account.end }
     {

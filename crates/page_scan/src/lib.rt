@@ -8,8 +8,9 @@
 //! page's first word, whose address the page's crossing word says. A page that holds FRONT is scanned as the filling page:
 //! there is no record at FRONT yet, so the scan ends there.
 //!
-//! [`Scan`] is a machine: it names its next atomic step, and takes the reply, or makes it on plain words. It asks for the copy of a record by the result
-//! [`Scanned::Ask`], and goes on when it is answered. [`ScanStage`] lists what it does in turn.
+//! [`Scan`] is a machine: it names its next atomic step and takes the reply, or makes the step itself on plain words. It
+//! asks for the copy of a record by the result [`Scanned::Ask`], and goes on when it is answered. [`ScanStage`] lists what
+//! it does in turn.
 #![tactic(auto)]
 
 mod asked;

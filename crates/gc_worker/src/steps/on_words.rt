@@ -14,7 +14,7 @@ use crate::steps::stepped::Stepped;
 use atom_store::{Atoms, PlainAtoms, Step, Turn};
 
 impl State {
-    /// Makes the next step, where there is one.
+    /// Makes the next step, if there is one.
     #[inline(always)]
     pub fn step(&mut self, on: &mut PlainAtoms) -> Stepped
         requires sound { IsSound self.old }

@@ -143,7 +143,7 @@ impl State {
         }
     }
 
-    /// Takes the reply to it. What the collector does stands apart, so that the compiler puts the rest into the act of a thread.
+    /// Takes the reply to it. `collect_apart` is not inlined, so that the compiler puts the rest into the act of a thread.
     pub fn take(&mut self, reply: Reply) -> Stepped
         requires wants { IsSome (wanted self.old) }
         requires sound { IsSound self.old }
@@ -160,7 +160,7 @@ impl State {
         }
     }
 
-    /// A step of the collector: any but a look, and one of an access or an allocation.
+    /// A step of the collector: any but a look and the steps of an access or an allocation.
     #[inline(always)]
     fn collect(&mut self, reply: Reply) -> Stepped
         requires at { IsCollecting self.old.stage }
@@ -214,20 +214,8 @@ impl State {
     }
 
     /// A step for checkpoints.
-    #[inline(always)]
-    fn save(&mut self, reply: Reply) -> Stepped
-        requires at { IsForCheckpoints self.old.stage }
-        requires sound { IsSound self.old }
-        requires takes { Takes self.old reply }
-        requires fits { IsSound (turned self.old reply) }
-        ensures state { self.new ≡ uncounted (turned self.old reply) }
-        ensures tells { result ≡ stepped_by self.old.number (told self.old reply) }
-    {
-        self.save_apart(reply)
-    }
-
     #[inline(never)]
-    fn save_apart(&mut self, reply: Reply) -> Stepped
+    fn save(&mut self, reply: Reply) -> Stepped
         requires at { IsForCheckpoints self.old.stage }
         requires sound { IsSound self.old }
         requires takes { Takes self.old reply }
