@@ -62,18 +62,23 @@ impl Caller {
         self.worker.begin_end(end);
     }
 
-    /// Makes one atomic step, and waits for nobody.
-    pub fn act(&mut self, h: &Shared) -> Stepped
+    /// Makes one atomic step, and waits for nobody. The look at the gate that begins an instruction, the most frequent step, has a path of
+    /// its own, on which nothing else is asked. `Site` is the place from which the act is made (`site.rt`).
+    pub fn act<Site>(&mut self, h: &Shared) -> Stepped
         requires { self.old.table ≡ h.now.table.shared.table_id }
         ensures table { self.new.table ≡ self.old.table }
         ensures act { Acts self.old result self.new }
     {
         let worker: &mut Worker = &mut self.worker;
+        if let Some(look) = worker.want_look() {
+            let reply = h.step::<Brand>(worker, &mut self.seat, look);
+            return worker.take_look(reply);
+        }
         let Some(step) = worker.want() else {
             return Stepped::Idle;
         };
         let reply = h.step::<Brand>(worker, &mut self.seat, step);
-        worker.take(reply)
+        worker.take::<Site>(reply)
     }
 
     /// Takes in another caller, with its calls.

@@ -12,6 +12,7 @@ ghost use Rattle.ael_threads.specs.Seats.{Seated};
 
 use crate::mutator::Mutator;
 use crate::shared::Shared;
+use crate::site::Apart;
 use crossbeam_utils::Backoff;
 use gc_worker::{Did, Stepped};
 use mutator_asm::Instr;
@@ -35,7 +36,7 @@ impl Mutator {
         ensures table { self.new.table ≡ self.old.table }
         ensures called { CalledBy self.old instr.now result self.new }
     {
-        let did = self.calls(rt, h, instr);
+        let did = self.calls::<R, Apart>(rt, h, instr);
         if let Instr::Snap = instr {
             if let Did::Done = did {
                 self.settles(rt, h);
@@ -45,7 +46,7 @@ impl Mutator {
     }
 
     /// Makes one call, and no act after its effect or end.
-    pub(crate) fn calls<R: Wait>(&mut self, rt: &R, h: &Shared, instr: &Instr) -> Did
+    pub(crate) fn calls<R: Wait, Site>(&mut self, rt: &R, h: &Shared, instr: &Instr) -> Did
         requires table { self.old.table ≡ h.now.table.shared.table_id }
         requires no_end { self.old.worker.account.end ≡ None }
         requires no_task { self.old.worker.task ≡ None }
@@ -55,18 +56,18 @@ impl Mutator {
         ensures called { Called self.old (Calls instr.now) result self.new }
     {
         self.begin(instr);
-        self.comes_to(rt, h)
+        self.comes_to::<R, Site>(rt, h)
     }
 
     /// Makes acts, up to the effect or end of the task that it has begun.
-    pub(crate) fn comes_to<R: Wait>(&mut self, rt: &R, h: &Shared) -> Did
+    pub(crate) fn comes_to<R: Wait, Site>(&mut self, rt: &R, h: &Shared) -> Did
         requires table { self.old.table ≡ h.now.table.shared.table_id }
         ensures table { self.new.table ≡ self.old.table }
         ensures called { (a : Seated) (task : Task) → IsUnderWay a task self.old → Called a task result self.new }
     {
         let backoff = Backoff::new();
         for _ in rt.forever() {
-            if let Some(did) = self.tries(h) {
+            if let Some(did) = self.tries_at::<Site>(h) {
                 return did;
             }
             backoff.snooze();
@@ -81,8 +82,17 @@ impl Mutator {
         ensures table { self.new.table ≡ self.old.table }
         ensures tries { (a : Seated) (task : Task) → IsUnderWay a task self.old → Tries a task result self.new }
     {
+        self.tries_at::<Apart>(h)
+    }
+
+    /// The same, from this place.
+    fn tries_at<Site>(&mut self, h: &Shared) -> Option<Did>
+        requires table { self.old.table ≡ h.now.table.shared.table_id }
+        ensures table { self.new.table ≡ self.old.table }
+        ensures tries { (a : Seated) (task : Task) → IsUnderWay a task self.old → Tries a task result self.new }
+    {
         for _ in 0..ACTS {
-            match self.act(h) {
+            match self.act_at::<Site>(h) {
                 Stepped::Effect(_) => return Some(Did::Done),
                 Stepped::Ended(_, end) => return Some(Did::Trap(end)),
                 _ => {}

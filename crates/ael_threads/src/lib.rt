@@ -20,6 +20,7 @@ mod safepoints;
 mod scanner;
 mod seats;
 mod shared;
+mod site;
 mod view;
 mod words;
 

@@ -15,6 +15,7 @@ ghost use Rattle.ael_threads.specs.Seats.{Absorbs, Acts, ShowsSeen};
 
 use crate::caller::Caller;
 use crate::shared::Shared;
+use crate::site::Apart;
 use gc_worker::Stepped;
 use heap_words::Word;
 use mutator_asm::Instr;
@@ -86,7 +87,16 @@ impl Mutator {
         ensures table { self.new.table ≡ self.old.table }
         ensures act { Acts self.old result self.new }
     {
-        self.caller.act(h)
+        self.act_at::<Apart>(h)
+    }
+
+    /// The same, from this place.
+    pub(crate) fn act_at<Site>(&mut self, h: &Shared) -> Stepped
+        requires { self.old.table ≡ h.now.table.shared.table_id }
+        ensures table { self.new.table ≡ self.old.table }
+        ensures act { Acts self.old result self.new }
+    {
+        self.caller.act::<Site>(h)
     }
 
     /// Takes in another mutator, which has left, with its calls.

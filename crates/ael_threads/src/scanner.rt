@@ -8,6 +8,7 @@ ghost use Rattle.ael_threads.specs.Seats.{Acts};
 
 use crate::caller::Caller;
 use crate::shared::Shared;
+use crate::site::Apart;
 use gc_worker::Stepped;
 use std::marker::Model;
 
@@ -35,7 +36,7 @@ impl Scanner {
         ensures act { Acts self.old.seated result self.new.seated }
         ensures steps { self.new.steps ≡ steps_after self.old.steps result }
     {
-        let stepped = self.caller.act(h);
+        let stepped = self.caller.act::<Apart>(h);
         if stepped != Stepped::Idle {
             self.steps = self.steps.saturating_add(1);
         }

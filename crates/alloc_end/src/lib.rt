@@ -3,13 +3,13 @@
 //! Copied records fill the space from its low end up to FRONT. New records lie apart from them, on pages that are claimed from
 //! the high end down to LOW and are open from the start: they lead to records of the to-space alone, so nobody scans them in
 //! the epoch in which they are made. A mutator has a run of such pages and places its records in it one behind the other.
-//! Where one doesn't fit there, it claims pages for it. While the epoch is not traced, the words between FRONT and LOW have
-//! to suffice for all records that may still be copied, so a claim is made only where that many are left. Where it can't be
+//! If one doesn't fit there, it claims pages for it. While the epoch is not traced, the words between FRONT and LOW have
+//! to suffice for all records that may still be copied, so a claim is made only if that many are left. If it can't be
 //! made, the allocation tells the numbers that it read, with them how many pages of the space are in use.
 //! The store of its header makes a record. If it is mixed, the count of its fields is stored before that; if it is a cell, its
 //! target and its link are, which is 0.
 //!
-//! Where a checkpoint was begun, a page is marked as new before it is opened: what it has is no part of that checkpoint.
+//! If a checkpoint was begun, a page is marked as new before it is opened: what it has is no part of that checkpoint.
 //!
 //! [`Place`] is a machine: it names its next atomic step and takes the reply, or makes the step itself on plain words.
 //! [`PlaceStage`] lists what it does in turn. After its result it tells the [`Run`] that the mutator has then.

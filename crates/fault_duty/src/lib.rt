@@ -4,8 +4,8 @@
 //! scanners without end. A round claims one page: the one that the mutator met, or else the first that nobody has claimed,
 //! the board before the full pages. When all of them are open, the page that holds FRONT is left, which is scanned as far as
 //! it is filled; and when that is open too, and FRONT stands where it stood, nothing is left to copy: the round walks over
-//! the chain of cells, as one worker an epoch can, and marks the epoch as traced. Where another worker has to come on first,
-//! the round ends with the word that shows it, and where the epoch is traced already, it tells that. Nobody waits here.
+//! the chain of cells, as one worker an epoch can, and marks the epoch as traced. If another worker has to come on first,
+//! the round ends with the word that shows it, and if the epoch is traced already, it tells that. Nobody waits here.
 //!
 //! [`Duty`] is a machine: it names its next atomic step and takes the reply, or makes the step itself on plain words.
 //! [`DutyStage`] lists what it does in turn, and [`RoundEnd`] what it comes to. Scanning and opening the page that it has

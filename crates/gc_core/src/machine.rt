@@ -16,7 +16,7 @@ use std::marker::Model;
 /// The workers of a program, the mutators first, and the words that they share.
 #[derive(Debug, Drop)]
 pub struct Core<'p> {
-    /// They stand first, so that they have the address of the core: that is kept in a register anyway.
+    /// The words. First, so that the address of their vector is the core's, which is in a register anyway.
     pub(crate) atoms: PlainAtoms,
     pub(crate) program: &'p Program,
     pub(crate) turns: u32,

@@ -12,7 +12,7 @@ use std::marker::Model;
 /// What a worker holds between two steps.
 #[derive(Drop)]
 pub(crate) struct State {
-    /// It stands first, so that it has the address of the state: that is kept in a register anyway.
+    /// First, so that its address is that of the state, which is in a register anyway.
     pub stage: Stage,
     pub number: u8,
     pub spaces: Spaces,
@@ -33,9 +33,9 @@ pub(crate) struct State {
     pub end: Option<End>,
     pub run: Option<Run>,
     pub due: Due,
-    /// The instruction, where one is due.
+    /// The instruction, if one is due.
     pub instr: Instr,
-    /// The end, where one is due.
+    /// The end, if one is due.
     pub stop: End,
 }
 

@@ -1,4 +1,4 @@
-ghost use Rattle.std.specs.Prelude.{◌≡◌, ◌≤◌, ◌<◌, Some, IfOk, IfSome, IsSome, is_some};
+ghost use Rattle.std.specs.Prelude.{◌≡◌, ◌≢◌, ◌≤◌, ◌<◌, Some, None, IfOk, IfSome, IsSome, is_some};
 ghost use Rattle.atom_store.specs.Step.{place_in};
 ghost use Rattle.space_map.specs.declared.spaces.TheConstants.{LAST_WORKER, MOST_MUTATORS};
 ghost use Rattle.space_map.specs.Table.{whole_length};
@@ -87,7 +87,32 @@ impl Worker {
         Worker { state }
     }
 
+    /// The look at the gate that begins an instruction, if it is about to make one.
+    #[inline(always)]
+    pub fn want_look(&self) -> Option<Step>
+        ensures wanted { IfSome result (λ step. (self.now.stage ≡ Stage.Looks) × (wanted self.now ≡ Some step)) }
+        ensures none { result ≡ None → self.now.stage ≢ Stage.Looks }
+    {
+        match self.state.stage {
+            Stage::Looks => Some(Step::Load(self.state.spaces.gate_place())),
+            _ => None,
+        }
+    }
+
+    /// Takes the reply to it.
+    #[tactic(auto, using(crate::proofs::Workers::Sound::uncounted_are_sound))]
+    #[inline(always)]
+    pub fn take_look(&mut self, reply: Reply) -> Stepped
+        requires looks { self.old.stage ≡ Stage.Looks }
+        requires fits { IsSound (turned self.old reply) }
+        ensures state { self.new ≡ uncounted (turned self.old reply) }
+        ensures tells { result ≡ stepped_by self.old.number (told self.old reply) }
+    {
+        self.state.look(reply)
+    }
+
     /// The next step. A mutator that has left has none, and neither has a scanner that has seen all leave.
+    #[inline(always)]
     pub fn want(&self) -> Option<Step>
         ensures wanted { result ≡ wanted self.now }
         ensures in_table { IfSome result (λ step. place_in step < whole_length self.now.layout) }
@@ -95,19 +120,23 @@ impl Worker {
         self.state.want()
     }
 
-    /// Takes the reply to it.
+    /// Takes the reply to it, if it is another than the look that begins an instruction, for which there is `take_look`.
+    ///
+    /// `Site` is the place of the call. Each has a function of its own, and one that is called at one place alone the compiler puts into
+    /// its caller, however large it is.
     #[tactic(auto, using(crate::proofs::Workers::Sound::uncounted_are_sound))]
-    pub fn take(&mut self, reply: Reply) -> Stepped
+    pub fn take<Site>(&mut self, reply: Reply) -> Stepped
         requires wants { IsSome (wanted self.old) }
+        requires no_look { self.old.stage ≢ Stage.Looks }
         requires takes { Takes self.old reply }
         requires fits { IsSound (turned self.old reply) }
         ensures state { self.new ≡ uncounted (turned self.old reply) }
         ensures tells { result ≡ stepped_by self.old.number (told self.old reply) }
     {
-        self.state.take(reply)
+        self.state.take::<Site>(reply)
     }
 
-    /// Makes the next step on these words, if it has one; it is the same as to take the reply to what it wants.
+    /// Makes the next step on these words, if it has one. This is the same as taking the reply to what it wants.
     #[inline(always)]
     pub fn step(&mut self, on: &mut PlainAtoms) -> Stepped
         requires may { MayMake self.old on.old }

@@ -23,7 +23,7 @@ use mutator_asm::Item;
 use plain_heap::Mark;
 use std::alloc::{AllocError, Global};
 
-/// The step of a worker. If there is no such worker, it is idle.
+/// The step of a worker, or `Idle` if there is no such worker.
 #[inline(always)]
 fn step(core: &mut Core, worker: u8) -> Stepped
     ensures told { result ≡ (event_of core.old worker).told }
@@ -101,7 +101,8 @@ fn run_noting(
 /// Steps the workers that the schedule names until every mutator has its end, or for so many steps.
 /// Each position of the schedule counts as a step. The order is kept only if it is asked for.
 ///
-/// There is one loop for all schedules, with the order noted or not: so the compiler puts all steps of a worker into it, but for those for checkpoints.
+/// There is one loop for all schedules, with the order noted or not: so the compiler puts all steps of a worker into it, but for those
+/// for checkpoints.
 pub fn run_by_schedule(
     alloc: Global,
     core: &mut Core,

@@ -12,6 +12,7 @@ use crate::pace::Pace;
 use crate::programs::job::Job;
 use crate::scanner::Scanner;
 use crate::shared::Shared;
+use crate::site::{Apart, InProgram};
 use gc_worker::{Did, Stepped};
 use plain_state::End;
 use std::sync::Wait;
@@ -39,7 +40,7 @@ impl Mutator {
                 return;
             };
             job.pace.pass(m, u64::from(executed) + 1);
-            if let Did::Trap(_) = self.calls(job.rt, job.heap, &instr) {
+            if let Did::Trap(_) = self.calls::<R, InProgram>(job.rt, job.heap, &instr) {
                 return;
             }
         }
@@ -56,7 +57,7 @@ impl Mutator {
         ensures called { Called self.old (Stops end) (Did.Trap end) self.new }
     {
         self.begin_end(end);
-        self.comes_to(rt, h);
+        self.comes_to::<R, Apart>(rt, h);
     }
 }
 

@@ -1,6 +1,6 @@
 //! A worker's next step, and the reply to it.
 
-ghost use Rattle.std.specs.Prelude.{◌≡◌, ◌<◌, ◌≤◌, [], IfSome, IsSome, vec_capacity};
+ghost use Rattle.std.specs.Prelude.{◌≡◌, ◌≢◌, ◌<◌, ◌≤◌, [], IfSome, IsSome, vec_capacity};
 ghost use Rattle.atom_store.specs.Step.{place_in};
 ghost use Rattle.space_map.specs.declared.spaces.TheConstants.{LAST_WORKER};
 ghost use Rattle.space_map.specs.Table.{whole_length};
@@ -119,6 +119,7 @@ impl State {
     }
 
     /// The next step.
+    #[inline(always)]
     pub fn want(&self) -> Option<Step>
         requires { IsSound self.now }
         ensures wanted { result ≡ wanted self.now }
@@ -126,11 +127,25 @@ impl State {
     {
         match &self.stage {
             Stage::Looks => Some(Step::Load(self.spaces.gate_place())),
+            Stage::Accesses(access) => Some(access.want()),
+            Stage::Places(place) => Some(place.want()),
+            Stage::Gone => None,
+            _ => self.want_apart(),
+        }
+    }
+
+    /// The next step of the collector. It stands apart for its size.
+    #[inline(never)]
+    fn want_apart(&self) -> Option<Step>
+        requires at { IsCollecting self.now.stage }
+        requires sound { IsSound self.now }
+        ensures wanted { result ≡ wanted self.now }
+        ensures in_table { IfSome result (λ step. place_in step < whole_length self.now.layout) }
+    {
+        match &self.stage {
             Stage::Passes(gate, _) => Some(gate.want()),
             Stage::Flips(flip) => Some(flip.want()),
             Stage::Forwards(w) => Some(w.evac.want()),
-            Stage::Accesses(access) => Some(access.want()),
-            Stage::Places(place) => Some(place.want()),
             Stage::Serves(duty, _) => Some(duty.want()),
             Stage::Scans(scan, _) => Some(scan.want()),
             Stage::Evacuates(evac, _, _) => Some(evac.want()),
@@ -139,13 +154,14 @@ impl State {
             Stage::Guards(guard, _) => Some(guard.want()),
             Stage::Checkpoints(round, _) => Some(round.want()),
             Stage::BeginsCheckpoint(snap) => Some(snap.want()),
-            Stage::Gone => None,
+            Stage::Looks | Stage::Accesses(_) | Stage::Places(_) | Stage::Gone => unreachable!(),
         }
     }
 
-    /// Takes the reply to it. `collect_apart` is not inlined, so that the compiler puts the rest into the act of a thread.
-    pub fn take(&mut self, reply: Reply) -> Stepped
+    /// Takes the reply to the step that it wants, if that is no look. `Site` is the place of the call.
+    pub fn take<Site>(&mut self, reply: Reply) -> Stepped
         requires wants { IsSome (wanted self.old) }
+        requires no_look { self.old.stage ≢ Stage.Looks }
         requires sound { IsSound self.old }
         requires takes { Takes self.old reply }
         requires fits { IsSound (turned self.old reply) }
@@ -153,7 +169,6 @@ impl State {
         ensures tells { result ≡ stepped_by self.old.number (told self.old reply) }
     {
         match self.stage {
-            Stage::Looks => self.look(reply),
             Stage::Accesses(_) => self.access(reply),
             Stage::Places(_) => self.place(reply),
             _ => self.collect(reply),
@@ -173,6 +188,7 @@ impl State {
         self.collect_apart(reply)
     }
 
+    /// It is not inlined, so that the rest is small enough to be put into the act of a thread.
     #[inline(never)]
     fn collect_apart(&mut self, reply: Reply) -> Stepped
         requires at { IsCollecting self.old.stage }
@@ -213,7 +229,7 @@ impl State {
         }
     }
 
-    /// A step for checkpoints.
+    /// A step for checkpoints. Few runs make one, so it stands apart.
     #[inline(never)]
     fn save(&mut self, reply: Reply) -> Stepped
         requires at { IsForCheckpoints self.old.stage }

@@ -1,4 +1,4 @@
 use Rattle.ael_threads.proofs.caller.Caller.act.Given as goal
 
 abbrev pub ghosts-step : goal.ghosts-step
-ghosts-step a = record { now = a.worker.now }
+ghosts-step g a = record { now = a.worker.now }

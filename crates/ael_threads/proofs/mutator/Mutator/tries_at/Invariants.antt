@@ -3,7 +3,7 @@ use Rattle.std.proofs.Common.{◌≡◌}
 use Rattle.gc_worker.specs.declared.task.Task.{Task}
 use Rattle.ael_threads.specs.Calls.{IsUnderWay}
 use Rattle.ael_threads.specs.Seats.{Seated}
-use Rattle.ael_threads.proofs.mutator.Mutator.tries.Given as goal
+use Rattle.ael_threads.proofs.mutator.Mutator.tries_at.Given as goal
 
 abbrev pub invariant-loop : goal.invariant-loop
-invariant-loop l = (l.self.table ≡ l.fn.self.table) × ((a : Seated) (task : Task) → IsUnderWay a task l.fn.self → IsUnderWay a task l.self)
+invariant-loop g l = (l.self.table ≡ l.fn.self.table) × ((a : Seated) (task : Task) → IsUnderWay a task l.fn.self → IsUnderWay a task l.self)
