@@ -1,5 +1,2 @@
-pub mod Calls
-pub mod Tasks
-pub mod Runs
-pub mod Arguments
-pub mod Streams
+pub mod Status
+pub mod Sure

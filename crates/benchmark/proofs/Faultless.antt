@@ -4,7 +4,7 @@ use Rattle.std.specs.Prelude.{count_by, not}
 use Rattle.std.specs.Option.{is_some}
 use Rattle.std.proofs.lemmas.Bool.{and_parts}
 use Rattle.std.proofs.lemmas.List.{append-nil, length-append}
-use Rattle.mutator_asm.specs.declared.errors.mistake.Mistake.{Mistake}
+use Rattle.mutator_asm.specs.declared.mistake.Mistake.{Mistake}
 use Rattle.mutator_asm.specs.Instr.{instr_of}
 use Rattle.mutator_asm.specs.Line.{Line, Nothing, lines_of, named_of, unlabelled}
 use Rattle.mutator_asm.specs.Text.{begins_section, code_of, error_of, schedule_of, IsCleanUpTo}

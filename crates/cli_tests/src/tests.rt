@@ -18,8 +18,10 @@ mod words;
 
 use self::rows::{check_long_rows, check_row, check_rows, number_before};
 use ael_commands::{MemSink, MemSource, ael, sure_status};
-use mutator_asm::{Program, assemble};
-use plain_heap::{Mark, PlainState, plain_run, plain_step, print};
+use mutator_asm::Program;
+use plain_heap::Mark;
+use plain_machine::{PlainState, plain_run, plain_step, print};
+use program_text::assemble;
 use std::alloc::Global;
 use std::marker::Sync;
 use std::sync::Wait;

@@ -6,7 +6,6 @@ pub mod OneMutator
 pub mod Full
 pub mod Whole
 pub mod Gathering
-pub mod MayBeFull
 pub mod FirstAndRest
 pub mod Working
 pub mod Making

@@ -10,11 +10,11 @@ ghost use Rattle.ael_threads.specs.Opened.{plan_without_printing};
 ghost use Rattle.ael_threads.specs.Readers.{SeatedScanner};
 ghost use Rattle.ael_threads.specs.Seats.{new_callers};
 ghost use Rattle.concordance_text.specs.declared.part.Part.{Part};
+ghost use Rattle.concordance_text.specs.MayBeFull.{MayBeFull};
 ghost use Rattle.concordance_text.specs.Parts.{AreInLineOrder, IsNumbered, mentions_of_part};
 ghost use Rattle.concordance_text.specs.Rows.{AreRowsOf, IsConcordanceOf, rows_of};
 ghost use Rattle.concordance_text.specs.Words.{HasShortWords, IsFirstTooLong};
 ghost use Rattle.concordance.specs.Making.{AreDealt, HasAllNotes};
-ghost use Rattle.concordance.specs.MayBeFull.{MayBeFull};
 ghost use Rattle.concordance.specs.Working.{AreReady, HaveWorked, MayAllBeTakenIn, SharedHeap, WasFullForOne, shared_heap};
 
 use crate::clerk::{Clerk, Full};

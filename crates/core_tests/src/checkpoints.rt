@@ -1,16 +1,16 @@
-use crate::asserting::assert_same;
-use crate::stepping::{
-    executes, gate, open_for_checkpoints, printed, program, step, until_want, until_word, want,
-    word,
+use crate::acts::Act::{
+    self, Checkpoint, Cycles, Executes, Holds, Printed, TellFirst, TellFirstToTheEnd, ToTheEnd,
+    Until,
 };
+use crate::acts::{perform, play};
+use crate::asserting::assert_same;
+use crate::stepping::{Goal, executes, gate, open, printed, program, step, word};
+use crate::telling::{FIRST, check_text, step_telling_first, tell_first, tell_first_to_the_end};
 use atom_store::Step;
-use checkpoint_text::checkpoint;
-use gc_core::{Core, Stepped};
+use gc_core::{Config, Core, Stepped};
 use plain_heap::End;
-use space_map::Spaces;
 use std::alloc::Global;
 use std::process::Abort;
-use std::test::Fail;
 
 /// A record on the board, whose number changes after the checkpoint.
 const CHANGED: &str = "/.mutator/new r0 1/li r1 5/st r0 0 r1/put 0 r0/snap\
@@ -21,7 +21,7 @@ const CHANGED_BY_TWO: &str = "/.mutator/new r0 1/li r1 5/st r0 0 r1/put 0 r0/sna
     /li r1 6/st r0 0 r1/put 1 r1/halt\
     /.mutator/get r0 0/li r1 7/st r0 0 r1/put 2 r1/halt/";
 
-/// The same, where the other begins the next checkpoint.
+/// The same, but the other begins the next checkpoint.
 const BEGUN_BY_TWO: &str = "/.mutator/new r0 1/li r1 5/st r0 0 r1/put 0 r0/snap\
     /li r1 6/st r0 0 r1/halt\
     /.mutator/snap/halt/";
@@ -35,11 +35,24 @@ const BEGINNING: u32 = 5;
 
 const NONE: &str = "checkpoint 0\n";
 
-const FIRST: &str = "checkpoint 1\nboard 0.1 0 0 0 0 0 0 0 0 0 0 0 0 0 0 0\n0.1 fields 1: 5\n";
-
 const SECOND: &str = "checkpoint 2\nboard 0.1 0 0 0 0 0 0 0 0 0 0 0 0 0 0 0\n0.1 fields 1: 6\n";
 
-const PAGES: u32 = 4;
+/// The smallest heap with room for checkpoints, without scanners and with one.
+const ROOMY: Config = Config {
+    pages: 4,
+    limit: 4,
+    scanners: 0,
+    turns: 1_000_000,
+    snap: true,
+};
+
+const SCANNED: Config = Config {
+    pages: 4,
+    limit: 4,
+    scanners: 1,
+    turns: 1_000_000,
+    snap: true,
+};
 
 /// The number of the last checkpoint that was finished.
 const DONE: usize = 15;
@@ -73,56 +86,19 @@ const LONG: u32 = 250;
 /// More steps than any of these runs has.
 const MOST: u32 = 1_000_000;
 
-/// The words tell the last checkpoint by this text.
-fn check_text(
-    rt: &impl Abort,
-    alloc: Global,
-    core: &Core<'_>,
-    text: &'static str,
-) -> Result<(), Fail> {
-    let lines = checkpoint(alloc, core.words())?;
-    assert_same(rt, &lines.as_slice(), &text.as_bytes());
-    Ok(())
-}
+const HALTED: &[Act] = &[Printed(0, &[], Some(End::Halt))];
 
-/// One step of a worker, after which the words still tell the first checkpoint. A load changes none of them.
-fn step_telling_first(
-    rt: &impl Abort,
-    alloc: Global,
-    core: &mut Core<'_>,
-    worker: u8,
-) -> Result<(), Fail> {
-    let loads = matches!(want(rt, core, worker), Some(Step::Load(_)));
-    step(rt, core, worker);
-    if loads {
-        return Ok(());
-    }
-    check_text(rt, alloc, core, FIRST)
-}
-
-/// All workers go on by turns until each mutator halts, and after each step the words still tell the first checkpoint.
-fn tells_first_to_the_end(rt: &impl Abort, alloc: Global, core: &mut Core<'_>) -> Result<(), Fail> {
-    for _ in 0..MOST {
-        if core.all_ended() {
-            return Ok(());
-        }
-        for worker in 0..core.workers() {
-            step_telling_first(rt, alloc, core, worker)?;
-        }
-    }
-    Err("not all end".into())
-}
-
-fn check_halted(rt: &impl Abort, core: &Core<'_>, m: u8) {
-    assert_same(rt, &printed(rt, core, m), &(&[][..], Some(End::Halt)));
-}
+const BOTH_HALTED: &[Act] = &[
+    Printed(0, &[], Some(End::Halt)),
+    Printed(1, &[], Some(End::Halt)),
+];
 
 /// A run may stop after any step: the words tell the last checkpoint that was begun.
 #[test]
-fn a_run_may_stop_in_a_checkpoint(rt: HostRuntime) -> Result<(), Fail> {
-    let program = program(rt.alloc(), CHANGED)?;
-    let mut core = open_for_checkpoints(rt.alloc(), &program, PAGES, 0)?;
-    check_text(&rt, rt.alloc(), &core, NONE)?;
+fn a_run_may_stop_in_a_checkpoint(rt: HostRuntime) {
+    let program = program(&rt, rt.alloc(), CHANGED);
+    let mut core = open(&rt, rt.alloc(), &program, &ROOMY);
+    check_text(&rt, rt.alloc(), &core, NONE);
     let mut left = BEGINNING;
     for _ in 0..MOST {
         if core.all_ended() {
@@ -132,115 +108,112 @@ fn a_run_may_stop_in_a_checkpoint(rt: HostRuntime) -> Result<(), Fail> {
             left = left.saturating_sub(1);
         }
         let text = if left > 0 { NONE } else { FIRST };
-        check_text(&rt, rt.alloc(), &core, text)?;
+        check_text(&rt, rt.alloc(), &core, text);
     }
-    check_halted(&rt, &core, 0);
-    Ok(())
+    perform(&rt, rt.alloc(), &mut core, HALTED);
 }
 
+/// Two mutators store on the record's page while the scanner sleeps. Then all go on.
+const BOTH_STORE: &[Act] = &[TellFirst(&[0, 1], LONG), TellFirstToTheEnd];
+
+/// The scanner finishes the checkpoint.
+const FINISHES: &[Act] = &[
+    Executes(0, BEGINNING),
+    TellFirst(&[2], MOST_TO_FINISH - 1),
+    Holds(DONE, 1),
+];
+
 /// The scanner saves the board and then the record's page, and falls asleep after so many steps, at last when the checkpoint is
-/// finished. Two mutators store there meanwhile.
+/// finished.
 #[test]
-fn a_saver_may_sleep_after_any_step(rt: HostRuntime) -> Result<(), Fail> {
-    let program = program(rt.alloc(), CHANGED_BY_TWO)?;
-    let mut finished = 0;
+fn a_saver_may_sleep_after_any_step(rt: HostRuntime) {
     for steps in 0..MOST_TO_FINISH {
-        let mut core = open_for_checkpoints(rt.alloc(), &program, PAGES, 1)?;
-        executes(&rt, &mut core, 0, BEGINNING);
-        for _ in 0..steps {
-            step_telling_first(&rt, rt.alloc(), &mut core, 2)?;
-        }
-        finished = word(&core, DONE);
-        for _ in 0..LONG {
-            for m in 0..2 {
-                step_telling_first(&rt, rt.alloc(), &mut core, m)?;
-            }
-        }
-        tells_first_to_the_end(&rt, rt.alloc(), &mut core)?;
-        check_halted(&rt, &core, 0);
-        check_halted(&rt, &core, 1);
+        let saves = [Executes(0, BEGINNING), TellFirst(&[2], steps)];
+        let lists = [saves.as_slice(), BOTH_STORE, BOTH_HALTED];
+        play(&rt, rt.alloc(), CHANGED_BY_TWO, &SCANNED, &lists);
     }
-    assert_same(&rt, &finished, &1);
-    Ok(())
+    play(&rt, rt.alloc(), CHANGED_BY_TWO, &SCANNED, &[FINISHES]);
+}
+
+/// Mutator 1 waits while the request for the checkpoint is set, and while the record's page is said to be saved by mutator 0; else it
+/// goes on up to its end. Then both go on. It tells what was said of the page.
+fn check_other_stores(rt: &impl Abort, alloc: Global, core: &mut Core<'_>) -> u64 {
+    let said = word(core, SAVE_3);
+    let waits = said == SAVED_BY_0 || gate(rt, core).request;
+    tell_first(rt, alloc, core, &[1], 4 * LONG);
+    let left = if waits {
+        (said, None)
+    } else {
+        (SAVED, Some(End::Halt))
+    };
+    let ended = printed(rt, core, 1).1;
+    assert_same(rt, &(word(core, SAVE_3), ended), &left);
+    tell_first_to_the_end(rt, alloc, core);
+    perform(rt, alloc, core, BOTH_HALTED);
+    said
 }
 
 /// Mutator 0 saves the record's page by its look before a store there, and falls asleep after so many steps, at last when the page is
-/// saved. Mutator 1 stores there too. It waits while the request for the checkpoint is set, and while the page is said to be saved by
-/// mutator 0; else it goes on up to its end.
+/// saved. Mutator 1 stores there too.
 #[test]
-fn a_mutator_may_sleep_while_it_saves(rt: HostRuntime) -> Result<(), Fail> {
-    let program = program(rt.alloc(), CHANGED_BY_TWO)?;
-    let spaces = Spaces::new(PAGES)?;
+fn a_mutator_may_sleep_while_it_saves(rt: HostRuntime) {
+    let program = program(&rt, rt.alloc(), CHANGED_BY_TWO);
     let mut said = 0;
     for steps in 0..MOST_TO_SAVE {
-        let mut core = open_for_checkpoints(rt.alloc(), &program, PAGES, 0)?;
+        let mut core = open(&rt, rt.alloc(), &program, &ROOMY);
         executes(&rt, &mut core, 0, BEGINNING);
-        for _ in 0..steps {
-            step_telling_first(&rt, rt.alloc(), &mut core, 0)?;
-        }
-        said = word(&core, SAVE_3);
-        let waits = said == SAVED_BY_0 || gate(&rt, &core, spaces).request;
-        for _ in 0..4 * LONG {
-            step_telling_first(&rt, rt.alloc(), &mut core, 1)?;
-        }
-        let left = if waits {
-            (said, None)
-        } else {
-            (SAVED, Some(End::Halt))
-        };
-        let ended = printed(&rt, &core, 1).1;
-        assert_same(&rt, &(word(&core, SAVE_3), ended), &left);
-        tells_first_to_the_end(&rt, rt.alloc(), &mut core)?;
-        check_halted(&rt, &core, 0);
-        check_halted(&rt, &core, 1);
+        tell_first(&rt, rt.alloc(), &mut core, &[0], steps);
+        said = check_other_stores(&rt, rt.alloc(), &mut core);
     }
     assert_same(&rt, &said, &SAVED);
-    Ok(())
 }
 
 /// Mutator 0 has found its page saved, and sleeps before it stores there. The checkpoint is finished meanwhile, and the next one,
 /// which another mutator wants, can't be begun before mutator 0 has stored.
+const FOUND_SAVED: &[Act] = &[
+    Executes(0, BEGINNING + 1),
+    Until(2, Goal::Word(SAVE_3, SAVED)),
+    Until(0, Goal::Want(Step::Store(NUMBER, SIX))),
+    Until(2, Goal::Word(DONE, 1)),
+    TellFirst(&[1], LONG),
+    TellFirst(&[0], 1),
+    ToTheEnd,
+    Checkpoint(SECOND),
+];
+
 #[test]
-fn who_found_a_page_saved_may_sleep(rt: HostRuntime) -> Result<(), Fail> {
-    let program = program(rt.alloc(), BEGUN_BY_TWO)?;
-    let mut core = open_for_checkpoints(rt.alloc(), &program, PAGES, 1)?;
-    executes(&rt, &mut core, 0, BEGINNING + 1);
-    until_word(&rt, &mut core, 2, SAVE_3, SAVED);
-    until_want(&rt, &mut core, 0, Step::Store(NUMBER, SIX));
-    until_word(&rt, &mut core, 2, DONE, 1);
-    for _ in 0..LONG {
-        step_telling_first(&rt, rt.alloc(), &mut core, 1)?;
-    }
-    step_telling_first(&rt, rt.alloc(), &mut core, 0)?;
-    for _ in 0..MOST {
-        if core.all_ended() {
-            break;
-        }
-        for worker in 0..core.workers() {
-            step(&rt, &mut core, worker);
-        }
-    }
-    check_text(&rt, rt.alloc(), &core, SECOND)?;
-    check_halted(&rt, &core, 0);
-    check_halted(&rt, &core, 1);
-    Ok(())
+fn who_found_a_page_saved_may_sleep(rt: HostRuntime) {
+    play(
+        &rt,
+        rt.alloc(),
+        BEGUN_BY_TWO,
+        &SCANNED,
+        &[FOUND_SAVED, BOTH_HALTED],
+    );
 }
 
-/// The mutator wants a flip while the scanner, which saves the board for a checkpoint, sleeps: it asks for none before that is finished.
+/// The mutator wants a flip while the scanner, which saves the board for a checkpoint, sleeps.
+const WANTS_FLIP: &[Act] = &[
+    Executes(0, BEGINNING + 2),
+    Until(1, Goal::Word(SAVE_BOARD, SAVED_BY_1)),
+];
+
+const NOT_FLIPPED: &[Act] = &[Holds(DONE, 0), Cycles(0)];
+
+const FLIPPED_ONCE: &[Act] = &[Holds(DONE, 1), Cycles(1)];
+
+/// The mutator asks for no flip before the checkpoint is finished.
 #[test]
-fn a_flip_waits_for_the_checkpoint(rt: HostRuntime) -> Result<(), Fail> {
-    let program = program(rt.alloc(), FLIPPED)?;
-    let spaces = Spaces::new(PAGES)?;
-    let mut core = open_for_checkpoints(rt.alloc(), &program, PAGES, 1)?;
-    executes(&rt, &mut core, 0, BEGINNING + 2);
-    until_word(&rt, &mut core, 1, SAVE_BOARD, SAVED_BY_1);
+fn a_flip_waits_for_the_checkpoint(rt: HostRuntime) {
+    let program = program(&rt, rt.alloc(), FLIPPED);
+    let mut core = open(&rt, rt.alloc(), &program, &SCANNED);
+    perform(&rt, rt.alloc(), &mut core, WANTS_FLIP);
     for _ in 0..4 * LONG {
-        step_telling_first(&rt, rt.alloc(), &mut core, 0)?;
-        assert_same(&rt, &gate(&rt, &core, spaces).request, &false);
+        step_telling_first(&rt, rt.alloc(), &mut core, 0);
+        assert_same(&rt, &gate(&rt, &core).request, &false);
     }
-    assert_same(&rt, &(word(&core, DONE), core.cycles()), &(0, 0));
-    tells_first_to_the_end(&rt, rt.alloc(), &mut core)?;
-    check_halted(&rt, &core, 0);
-    assert_same(&rt, &(word(&core, DONE), core.cycles()), &(1, 1));
-    Ok(())
+    perform(&rt, rt.alloc(), &mut core, NOT_FLIPPED);
+    tell_first_to_the_end(&rt, rt.alloc(), &mut core);
+    perform(&rt, rt.alloc(), &mut core, HALTED);
+    perform(&rt, rt.alloc(), &mut core, FLIPPED_ONCE);
 }

@@ -1,11 +1,12 @@
 use crate::asserting::assert_same;
 use crate::rows::{FAN, GARBAGE, Row, check_end};
-use crate::stepping::{open, page_word, program, step, turn, until_all_came, until_cycle};
-use gc_core::Core;
-use space_map::{PageWord, Spaces};
+use crate::stepping::{
+    Goal, SMALLEST, kept, open, page_word, program, step, turns, until, until_all_came,
+};
+use gc_core::{Config, Core};
+use space_map::{PAGE_WORDS, PageWord};
 use std::alloc::Global;
 use std::process::Abort;
-use std::test::Fail;
 
 /// A row with so many scanners, the length of the first record that a scanner copies, and at which step after the record is
 /// busy its copy is published.
@@ -40,30 +41,10 @@ const SLEEPER: u8 = 1;
 /// How many turns the others make meanwhile.
 const TURNS: u32 = 5_000;
 
-/// More steps than the sleeper makes before its first copy.
-const MOST: u32 = 1_000;
-
-/// What the sleeper keeps: a header, and the place reserved for a copy and one more.
-fn kept(rt: &impl Abort, core: &Core<'_>) -> (u64, u64) {
-    assert!(rt; SLEEPER < core.workers());
-    core.kept(SLEEPER)
-}
-
-/// Steps the sleeper until it has made a record busy.
-fn until_busy(rt: &impl Abort, core: &mut Core<'_>) {
-    for _ in 0..MOST {
-        if kept(rt, core).0 != 0 {
-            return;
-        }
-        step(rt, core, SLEEPER);
-    }
-    panic!(rt; "nothing is copied");
-}
-
 /// Nobody but the sleeper itself has claimed the page of this word in epoch 1.
-fn check_page(rt: &impl Abort, core: &Core<'_>, spaces: Spaces, at: u32) {
-    let page = spaces.page_of(at);
-    let claimed = match page_word(core, spaces, page) {
+fn check_page(rt: &impl Abort, core: &Core<'_>, at: u32) {
+    let page = at / PAGE_WORDS;
+    let claimed = match page_word(core, page) {
         Some(PageWord::Open(epoch)) => epoch == 1,
         Some(PageWord::Scanning(epoch, worker)) => epoch == 1 && worker != SLEEPER,
         _ => false,
@@ -72,40 +53,43 @@ fn check_page(rt: &impl Abort, core: &Core<'_>, spaces: Spaces, at: u32) {
 }
 
 /// The sleeper stops so many steps after it has made its first record busy, and the others go on. At last all go on.
-fn check_stop(rt: &impl Abort, core: &mut Core<'_>, spaces: Spaces, stops: &Stops, steps: u32) {
-    until_cycle(rt, core, 0, 1);
-    until_all_came(rt, core, spaces, 1, 1);
-    until_busy(rt, core);
+fn check_stop(rt: &impl Abort, core: &mut Core<'_>, stops: &Stops, steps: u32) {
+    until(rt, core, 0, Goal::Cycle(1));
+    until_all_came(rt, core, 1, 1);
+    until(rt, core, SLEEPER, Goal::Busy);
     for _ in 0..steps {
         step(rt, core, SLEEPER);
     }
-    let place = u32::try_from(kept(rt, core).1).unwrap_or(0);
+    let place = u32::try_from(kept(rt, core, SLEEPER).1).unwrap_or(0);
     assert_same(rt, &(place != 0), &(3 <= steps && steps < stops.published));
     for _ in 0..TURNS {
-        turn(rt, core, Some(SLEEPER));
+        turns(rt, core, Some(SLEEPER), 1);
         if place != 0 {
-            check_page(rt, core, spaces, place - 1);
-            check_page(rt, core, spaces, (place - 1).saturating_add(stops.len));
+            check_page(rt, core, place - 1);
+            check_page(rt, core, (place - 1).saturating_add(stops.len));
         }
     }
     check_end(rt, core, &stops.row);
 }
 
 /// The sleeper stops after each of its steps up to the copy's publishing, in a heap of its own each time.
-fn check_stops(rt: &impl Abort, alloc: Global, stops: &Stops) -> Result<(), Fail> {
-    let spaces = Spaces::new(stops.row.pages)?;
-    let program = program(alloc, stops.row.lines)?;
+fn check_stops(rt: &impl Abort, alloc: Global, stops: &Stops) {
+    let config = Config {
+        pages: stops.row.pages,
+        limit: stops.row.pages,
+        scanners: stops.scanners,
+        ..SMALLEST
+    };
+    let program = program(rt, alloc, stops.row.lines);
     for steps in 0..=stops.published {
-        let mut core = open(alloc, &program, stops.row.pages, stops.scanners)?;
-        check_stop(rt, &mut core, spaces, stops, steps);
+        let mut core = open(rt, alloc, &program, &config);
+        check_stop(rt, &mut core, stops, steps);
     }
-    Ok(())
 }
 
 #[test]
-fn a_page_with_an_unfinished_copy_is_not_claimed(rt: HostRuntime) -> Result<(), Fail> {
+fn a_page_with_an_unfinished_copy_is_not_claimed(rt: HostRuntime) {
     for stops in &ROWS {
-        check_stops(&rt, rt.alloc(), stops)?;
+        check_stops(&rt, rt.alloc(), stops);
     }
-    Ok(())
 }

@@ -3,6 +3,8 @@
 #![tactic(auto)]
 
 #[cfg(test)]
+mod acts;
+#[cfg(test)]
 mod asserting;
 #[cfg(test)]
 mod cells;
@@ -28,3 +30,5 @@ mod rows;
 mod sleeping;
 #[cfg(test)]
 mod stepping;
+#[cfg(test)]
+mod telling;

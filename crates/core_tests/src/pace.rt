@@ -2,11 +2,9 @@
 
 use crate::asserting::assert_same;
 use crate::rows::GARBAGE;
-use crate::stepping::{open, program, step};
-use gc_core::{Core, Stepped};
-use std::alloc::Global;
+use crate::stepping::{SMALLEST, open, program, step};
+use gc_core::{Config, Core, Stepped};
 use std::process::Abort;
-use std::test::Fail;
 
 /// More steps than any of these runs has.
 const MOST: u32 = 2_000_000;
@@ -30,33 +28,34 @@ fn instruction(rt: &impl Abort, core: &mut Core<'_>) -> u32 {
     panic!(rt; "an instruction doesn't end");
 }
 
-/// The steps of the longest instruction of the text's mutator.
-fn longest(rt: &impl Abort, alloc: Global, lines: &str, pages: u8) -> Result<u32, Fail> {
-    let program = program(alloc, lines)?;
-    let mut core = open(alloc, &program, u32::from(pages), 0)?;
+/// The steps of the longest instruction of the core's mutator.
+fn longest(rt: &impl Abort, core: &mut Core<'_>) -> u32 {
     let mut longest = 0;
     for _ in 0..MOST {
         if core.all_ended() {
-            return Ok(longest);
+            return longest;
         }
-        let steps = instruction(rt, &mut core);
-        if steps > longest {
-            longest = steps;
-        }
+        longest = instruction(rt, core).max(longest);
     }
-    Err("it doesn't end".into())
+    panic!(rt; "it doesn't end");
 }
 
 /// Counted by a plain implementation of the same steps too.
 #[test]
-fn the_longest_instruction_is_short_enough(rt: HostRuntime) -> Result<(), Fail> {
+fn the_longest_instruction_is_short_enough(rt: HostRuntime) {
     for (lines, pages, counted) in [(GARBAGE.lines, 4, 502), (LIST, 4, 1934), (LIST, 16, 7742)] {
-        assert_same(&rt, &longest(&rt, rt.alloc(), lines, pages)?, &counted);
+        let config = Config {
+            pages: u32::from(pages),
+            limit: u32::from(pages),
+            ..SMALLEST
+        };
+        let program = program(&rt, rt.alloc(), lines);
+        let mut core = open(&rt, rt.alloc(), &program, &config);
+        assert_same(&rt, &longest(&rt, &mut core), &counted);
         assert_same(
             &rt,
             &(counted, counted <= most_steps(pages)),
             &(counted, true),
         );
     }
-    Ok(())
 }

@@ -1,13 +1,9 @@
-use crate::asserting::assert_same;
-use crate::stepping::{
-    GATE, TRACED, WEAK, alone_to_the_end, executes, open, printed, program, step, want, word,
-};
-use atom_store::Step::{self, Exchange, Load, Store};
-use gc_core::Core;
-use gc_core::Stepped::{self, Flipped, Moved};
+use crate::acts::Act::{self, Cycles, Executes, Pass, Printed, Until};
+use crate::acts::{Passage, play};
+use crate::stepping::{GATE, Goal, SIZE_0, SIZE_1, SMALLEST, TRACED, WEAK};
+use atom_store::Step::{Exchange, Load, Store};
+use gc_core::Stepped::{Flipped, Moved};
 use plain_heap::End;
-use std::process::Abort;
-use std::test::Fail;
 
 /// Each mutator fills half of the space, and then makes a record for which there is no room.
 const LINES: &str = "/.mutator/raw r0 127/li r0 0/raw r0 63/halt\
@@ -17,11 +13,6 @@ const LINES: &str = "/.mutator/raw r0 127/li r0 0/raw r0 63/halt\
 const AREA_0: usize = 4;
 
 const AREA_1: usize = 5;
-
-/// The pages in use of both spaces.
-const SIZE_0: usize = 12;
-
-const SIZE_1: usize = 13;
 
 const ALL_PAGES: u64 = 4;
 
@@ -46,11 +37,8 @@ const BOTH_RUN_ON: u64 = 0x0000_0202_0000_0001;
 /// FRONT is 0, LOW is 256, and 256 words are owed.
 const ALL_OWED: u64 = 0x0000_1000_0400_0000;
 
-/// The mutator that makes a step, the step that it wants, what that tells, and the gate's word after it.
-type Event = (u8, Step, Stepped, u64);
-
 /// Both ask for a flip, and mutator 0 is first.
-const EVENTS: [Event; 37] = [
+const PASSAGES: [Passage; 37] = [
     // The looks that begin the records. No words are free, and nothing is left to copy.
     (0, Load(GATE), Moved, BOTH_RUN),
     (0, Load(TRACED), Moved, BOTH_RUN),
@@ -123,42 +111,24 @@ const EVENTS: [Event; 37] = [
     (1, Load(TRACED), Moved, BOTH_RUN_ON),
 ];
 
-/// The events come to pass, one after another.
-fn check_events(rt: &impl Abort, core: &mut Core<'_>) {
-    for (number, event) in EVENTS.iter().enumerate() {
-        let (worker, wanted, told, gate) = *event;
-        let wants = want(rt, core, worker);
-        let tells = step(rt, core, worker);
-        assert_same(
-            rt,
-            &(number, wants, tells, word(core, GATE)),
-            &(number, Some(wanted), told, gate),
-        );
-    }
-}
-
-/// Both make their records, though no other makes a step meanwhile, and halt. The spaces were exchanged once.
-fn check_both_get_on(rt: &impl Abort, core: &mut Core<'_>) {
-    for m in 0..2 {
-        executes(rt, core, m, 1);
-    }
-    for m in 0..2 {
-        alone_to_the_end(rt, core, m);
-        assert_same(rt, &printed(rt, core, m), &(&[][..], Some(End::Halt)));
-    }
-    assert_same(rt, &core.cycles(), &1);
-}
+/// Both fill half of the space, and ask for a flip by turns. Then each makes its record, though the other makes no step meanwhile,
+/// and halts. The spaces were exchanged once.
+const BOTH_GET_ON: &[Act] = &[
+    Executes(0, 2),
+    Executes(1, 2),
+    Pass(&PASSAGES),
+    Executes(0, 1),
+    Executes(1, 1),
+    Until(0, Goal::Idle),
+    Printed(0, &[], Some(End::Halt)),
+    Until(1, Goal::Idle),
+    Printed(1, &[], Some(End::Halt)),
+    Cycles(1),
+];
 
 /// A mutator whose request is refused, since another was first, parks for that one's flip. Else the two would wait for each
 /// other for ever.
 #[test]
-fn of_two_that_ask_for_a_flip_both_get_on(rt: HostRuntime) -> Result<(), Fail> {
-    let program = program(rt.alloc(), LINES)?;
-    let mut core = open(rt.alloc(), &program, 4, 0)?;
-    for m in 0..2 {
-        executes(&rt, &mut core, m, 2);
-    }
-    check_events(&rt, &mut core);
-    check_both_get_on(&rt, &mut core);
-    Ok(())
+fn of_two_that_ask_for_a_flip_both_get_on(rt: HostRuntime) {
+    play(&rt, rt.alloc(), LINES, &SMALLEST, &[BOTH_GET_ON]);
 }

@@ -4,12 +4,12 @@ use crate::asserting::assert_same;
 use atom_store::Step;
 use gc_core::{Config, Core, Stepped};
 use mmu_model::read;
-use mutator_asm::{Program, assemble};
+use mutator_asm::Program;
 use plain_heap::End;
-use space_map::{GateWord, PageWord, Spaces};
+use program_text::assemble;
+use space_map::{GateWord, PageWord};
 use std::alloc::Global;
 use std::process::Abort;
-use std::test::Fail;
 
 const MOST: u32 = 10_000_000;
 
@@ -20,65 +20,34 @@ pub const TRACED: usize = 2;
 
 pub const WEAK: usize = 6;
 
+/// The places of how many pages of both spaces are in use, and of page 0's word, behind which stand those of the others.
+pub const SIZE_0: usize = 12;
+
+pub const SIZE_1: usize = 13;
+
+const PAGE_0: usize = 16;
+
+/// The smallest heap, without scanners.
+pub const SMALLEST: Config = Config {
+    pages: 4,
+    limit: 4,
+    scanners: 0,
+    turns: 1_000_000,
+    snap: false,
+};
+
 /// The program whose lines are separated by slashes.
-pub fn program(alloc: Global, lines: &str) -> Result<Program, Fail> {
-    let text = lines.replace(alloc, '/', "\n")?;
-    if text.len() >= 1 << 31 {
-        return Err("it is too long".into());
-    }
-    Ok(assemble(alloc, text.as_bytes())?)
+pub fn program(rt: &impl Abort, alloc: Global, lines: &str) -> Program {
+    let text = lines.replace(alloc, '/', "\n").expect(rt, "no text");
+    assert!(rt; text.len() < 1 << 31);
+    assemble(alloc, text.as_bytes()).expect(rt, "no program")
 }
 
-/// The program's mutators and so many scanners, over spaces of so many pages.
-pub fn open<'p>(
-    alloc: Global,
-    program: &'p Program,
-    pages: u32,
-    scanners: u8,
-) -> Result<Core<'p>, Fail> {
-    open_to(alloc, program, pages, pages, scanners)
-}
-
-/// The same with room for checkpoints.
-pub fn open_for_checkpoints<'p>(
-    alloc: Global,
-    program: &'p Program,
-    pages: u32,
-    scanners: u8,
-) -> Result<Core<'p>, Fail> {
-    open_as(alloc, program, pages, pages, scanners, true)
-}
-
-/// The same over spaces with so many pages in use at first, and as many as the limit at most.
-pub fn open_to<'p>(
-    alloc: Global,
-    program: &'p Program,
-    pages: u32,
-    limit: u32,
-    scanners: u8,
-) -> Result<Core<'p>, Fail> {
-    open_as(alloc, program, pages, limit, scanners, false)
-}
-
-fn open_as<'p>(
-    alloc: Global,
-    program: &'p Program,
-    pages: u32,
-    limit: u32,
-    scanners: u8,
-    snap: bool,
-) -> Result<Core<'p>, Fail> {
-    if scanners > 8 {
-        return Err("there are too many scanners".into());
-    }
-    let config = Config {
-        pages,
-        limit,
-        scanners,
-        turns: 1_000_000,
-        snap,
-    };
-    Ok(Core::open(alloc, program, &config)?)
+/// The program's mutators and the scanners before their first steps.
+pub fn open<'p>(rt: &impl Abort, alloc: Global, program: &'p Program, config: &Config) -> Core<'p> {
+    assert!(rt; config.scanners <= 8);
+    assert!(rt; 1 <= config.turns && config.turns <= 10_000_000);
+    Core::open(alloc, program, config).expect(rt, "no core")
 }
 
 /// One step of a worker that the core has.
@@ -93,17 +62,25 @@ pub fn want(rt: &impl Abort, core: &Core<'_>, worker: u8) -> Option<Step> {
     core.want(worker)
 }
 
+/// What the worker keeps of a record that it copies: the header, and the place reserved for the copy and one more.
+pub fn kept(rt: &impl Abort, core: &Core<'_>, worker: u8) -> (u64, u64) {
+    assert!(rt; worker < core.workers());
+    core.kept(worker)
+}
+
 /// The word at a place of the table.
 pub fn word(core: &Core<'_>, place: usize) -> u64 {
     core.words().get(place).copied().unwrap_or(0)
 }
 
 /// What a page's word says.
-pub fn page_word(core: &Core<'_>, spaces: Spaces, page: u32) -> Option<PageWord> {
-    if page > spaces.board_page() {
-        return None;
-    }
-    read(word(core, spaces.page_place(page)))
+pub fn page_word(core: &Core<'_>, page: u32) -> Option<PageWord> {
+    read(word(core, PAGE_0 + page as usize))
+}
+
+/// What the gate says.
+pub fn gate(rt: &impl Abort, core: &Core<'_>) -> GateWord {
+    GateWord::read(word(core, GATE)).expect(rt, "the gate's word says nothing")
 }
 
 /// What mutator m has printed, and its end.
@@ -112,12 +89,57 @@ pub fn printed<'a>(rt: &impl Abort, core: &'a Core<'_>, m: u8) -> (&'a [u64], Op
     (core.outputs(m), core.ended(m))
 }
 
-/// What the gate says.
-pub fn gate(rt: &impl Abort, core: &Core<'_>, spaces: Spaces) -> GateWord {
-    match GateWord::read(word(core, spaces.gate_place())) {
-        Some(gate) => gate,
-        None => panic!(rt; "the gate's word says nothing"),
+/// What a worker is stepped up to.
+#[derive(Clone, Copy, Debug)]
+pub enum Goal {
+    /// A flip is requested.
+    Request,
+    /// The spaces were exchanged so often.
+    Cycle(u32),
+    /// The word at this place is this.
+    Word(usize, u64),
+    /// The worker is about to make this step.
+    Want(Step),
+    /// It has made a record busy.
+    Busy,
+    /// It does nothing any more.
+    Idle,
+}
+
+fn is_reached(rt: &impl Abort, core: &Core<'_>, worker: u8, goal: Goal) -> bool {
+    match goal {
+        Goal::Request => gate(rt, core).request,
+        Goal::Cycle(cycles) => core.cycles() >= cycles,
+        Goal::Word(place, wanted) => word(core, place) == wanted,
+        Goal::Want(wanted) => want(rt, core, worker) == Some(wanted),
+        Goal::Busy => kept(rt, core, worker).0 != 0,
+        Goal::Idle => want(rt, core, worker).is_none(),
     }
+}
+
+/// Steps the worker until this is so.
+pub fn until(rt: &impl Abort, core: &mut Core<'_>, worker: u8, goal: Goal) {
+    for _ in 0..MOST {
+        if is_reached(rt, core, worker, goal) {
+            return;
+        }
+        step(rt, core, worker);
+    }
+    panic!(rt; "worker {worker} never comes to {goal:?}");
+}
+
+/// Steps the worker until it has executed so many more instructions.
+pub fn executes(rt: &impl Abort, core: &mut Core<'_>, worker: u8, count: u32) {
+    let mut left = count;
+    for _ in 0..MOST {
+        if left == 0 {
+            return;
+        }
+        if let Stepped::Effect(_) = step(rt, core, worker) {
+            left -= 1;
+        }
+    }
+    panic!(rt; "mutator {worker} executes too few");
 }
 
 /// Steps the worker up to the next step that isn't a mere move, and tells what that was.
@@ -131,76 +153,6 @@ pub fn next_told(rt: &impl Abort, core: &mut Core<'_>, worker: u8) -> Stepped {
     panic!(rt; "worker {worker} only moves")
 }
 
-/// Steps the worker until it has executed one more instruction.
-fn until_effect(rt: &impl Abort, core: &mut Core<'_>, worker: u8) {
-    for _ in 0..MOST {
-        if let Stepped::Effect(_) = step(rt, core, worker) {
-            return;
-        }
-    }
-    panic!(rt; "mutator {worker} executes nothing");
-}
-
-/// Steps the worker until it has executed so many more instructions.
-pub fn executes(rt: &impl Abort, core: &mut Core<'_>, worker: u8, count: u32) {
-    for _ in 0..count {
-        until_effect(rt, core, worker);
-    }
-}
-
-/// Steps the worker until a flip is requested.
-pub fn until_request(rt: &impl Abort, core: &mut Core<'_>, spaces: Spaces, worker: u8) {
-    for _ in 0..MOST {
-        if gate(rt, core, spaces).request {
-            return;
-        }
-        step(rt, core, worker);
-    }
-    panic!(rt; "worker {worker} requests no flip");
-}
-
-/// Steps the worker until the spaces were exchanged so often.
-pub fn until_cycle(rt: &impl Abort, core: &mut Core<'_>, worker: u8, cycles: u32) {
-    for _ in 0..MOST {
-        if core.cycles() >= cycles {
-            return;
-        }
-        step(rt, core, worker);
-    }
-    panic!(rt; "worker {worker} alone comes to no flip");
-}
-
-/// Steps the first so many mutators by turns until all are of this epoch.
-pub fn until_all_came(
-    rt: &impl Abort,
-    core: &mut Core<'_>,
-    spaces: Spaces,
-    mutators: u8,
-    epoch: u32,
-) {
-    for _ in 0..MOST {
-        for m in 0..mutators {
-            let gate = gate(rt, core, spaces);
-            if gate.epoch == epoch && gate.behind == 0 {
-                return;
-            }
-            step(rt, core, m);
-        }
-    }
-    panic!(rt; "not all come to epoch {epoch}");
-}
-
-/// Steps the worker until the word at this place is this.
-pub fn until_word(rt: &impl Abort, core: &mut Core<'_>, worker: u8, place: usize, wanted: u64) {
-    for _ in 0..MOST {
-        if word(core, place) == wanted {
-            return;
-        }
-        step(rt, core, worker);
-    }
-    panic!(rt; "worker {worker} never makes the word at {place} {wanted}");
-}
-
 /// Steps the worker until it is about to exchange the word at this place, and tells which old word it expects there.
 pub fn until_exchange(rt: &impl Abort, core: &mut Core<'_>, worker: u8, place: usize) -> u64 {
     for _ in 0..MOST {
@@ -210,17 +162,6 @@ pub fn until_exchange(rt: &impl Abort, core: &mut Core<'_>, worker: u8, place: u
         };
     }
     panic!(rt; "worker {worker} never exchanges the word at {place}")
-}
-
-/// Steps the worker until it is about to make this step.
-pub fn until_want(rt: &impl Abort, core: &mut Core<'_>, worker: u8, wanted: Step) {
-    for _ in 0..MOST {
-        if want(rt, core, worker) == Some(wanted) {
-            return;
-        }
-        step(rt, core, worker);
-    }
-    panic!(rt; "worker {worker} never wants {wanted:?}");
 }
 
 /// The worker makes its exchange of the word at this place, which loses.
@@ -234,21 +175,27 @@ pub fn loses(rt: &impl Abort, core: &mut Core<'_>, worker: u8, place: usize) {
     assert_same(rt, &word(core, place), &before);
 }
 
-/// Steps the worker, and no other, until it does nothing any more.
-pub fn alone_to_the_end(rt: &impl Abort, core: &mut Core<'_>, worker: u8) {
+/// Steps the first so many mutators by turns until all are of this epoch.
+pub fn until_all_came(rt: &impl Abort, core: &mut Core<'_>, mutators: u8, epoch: u32) {
     for _ in 0..MOST {
-        if let Stepped::Idle = step(rt, core, worker) {
-            return;
+        for m in 0..mutators {
+            let gate = gate(rt, core);
+            if gate.epoch == epoch && gate.behind == 0 {
+                return;
+            }
+            step(rt, core, m);
         }
     }
-    panic!(rt; "worker {worker} doesn't end");
+    panic!(rt; "not all come to epoch {epoch}");
 }
 
-/// Steps each worker once, but for the one that sleeps.
-pub fn turn(rt: &impl Abort, core: &mut Core<'_>, sleeper: Option<u8>) {
-    for worker in 0..core.workers() {
-        if sleeper != Some(worker) {
-            step(rt, core, worker);
+/// Steps all workers so often by turns, but for the one that sleeps.
+pub fn turns(rt: &impl Abort, core: &mut Core<'_>, sleeper: Option<u8>, count: u32) {
+    for _ in 0..count {
+        for worker in 0..core.workers() {
+            if sleeper != Some(worker) {
+                step(rt, core, worker);
+            }
         }
     }
 }
@@ -259,7 +206,7 @@ pub fn by_turns_to_the_end(rt: &impl Abort, core: &mut Core<'_>) {
         if core.all_ended() {
             return;
         }
-        turn(rt, core, None);
+        turns(rt, core, None, 1);
     }
     panic!(rt; "not all end");
 }

@@ -1,7 +1,6 @@
 pub mod Lowering
 pub mod Copies
 pub mod Scans
-pub mod Accesses
 pub mod Replies
 pub mod Saves
 pub mod Ends

@@ -3,7 +3,6 @@ pub mod Eras
 pub mod Areas
 pub mod Sizes
 pub mod Pointers
-pub mod StoredWords
 pub mod TableRows
 pub mod Rows
 pub mod Read

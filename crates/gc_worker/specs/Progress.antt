@@ -33,7 +33,7 @@ use Rattle.page_saves.specs.SaveRound as save_round
 use Rattle.heap_state.specs.Memory.Table.{word_in}
 use Rattle.page_scan.specs.Left as scan_left
 use Rattle.page_slots.specs.Open as open_page
-use Rattle.gc_worker.specs.Steps.Access as access
+use Rattle.record_access.specs.Access as access
 use Rattle.gc_worker.specs.Workers.Held.{Held}
 use Rattle.gc_worker.specs.Laws.Step.{Heap, WorkersStand, held_at}
 use Rattle.gc_worker.specs.Steps.Turned.{Answers, told, turned}

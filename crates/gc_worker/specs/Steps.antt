@@ -1,7 +1,4 @@
 pub mod Access
-pub mod HeldUp
-pub mod AccessRows
-pub mod StoredWord
 pub mod Turned
 pub mod Wanted
 pub mod Goes

@@ -2,8 +2,6 @@
 
 ghost use Rattle.gc_worker.specs.Laws.Step.{SnapsAreWon, StepsKeep, CheckpointsAreKept, ClearsAreWon, FlipsAreWon, PlacesFit, RegistersLeadBack};
 ghost use Rattle.gc_worker.specs.Laws.Checkpoints.{CheckpointsAreSafe};
-ghost use Rattle.gc_worker.specs.Steps.HeldUp.{AccessesGoOn, LostSwapsLoadAgain, LostExchangesCompareAgain};
-ghost use Rattle.gc_worker.specs.Steps.AccessRows.{LostSwapIsTriedAgain, CountIsNoValue, CountsPageIsLookedAt, NextPageIsLookedAt, NoPointerIsStoredBehindFields, SamePageIsNotLookedAt, ClosedPageIsAFault, NoSuchValueFails, LostExchangeIsComparedAgain, TargetIsAwaited, CellIsNotStoredIn, LinkIsNoValue};
 ghost use Rattle.gc_worker.specs.Laws.Between.{HeapsOpen, ReadyingStands, TasksMayBegin, WorkersGoOn, WorkersWant, WhatStandsIsSo, AnswersLeaveTheOthers};
 ghost use Rattle.gc_worker.specs.Laws.Gone.{ScannersBeginLast, ScannersStayLast, WhoIsGoneSawWhy};
 ghost use Rattle.gc_worker.specs.Progress.{MachinesGoOn};
@@ -102,30 +100,6 @@ pub fn workers_go_on()
 /// A worker wants a step until it is gone.
 pub fn workers_want()
     ensures { WorkersWant }
-{}
-
-/// Nothing but a lost exchange holds an access up, whatever words its steps meet, or a word that can't be there. A lost exchange loads
-/// the word again, and the next one is from what stands there then; if that is no longer what is expected, there is none.
-pub fn accesses_go_on()
-    ensures held_up { AccessesGoOn }
-    ensures lost { LostSwapsLoadAgain }
-    ensures compares_again { LostExchangesCompareAgain }
-{}
-
-/// Accesses, worked out step by step with all words as numbers.
-pub fn accesses_are_worked_out()
-    ensures lost_swap_is_tried_again { LostSwapIsTriedAgain }
-    ensures lost_exchange_is_compared_again { LostExchangeIsComparedAgain }
-    ensures next_page_is_looked_at { NextPageIsLookedAt }
-    ensures counts_page_is_looked_at { CountsPageIsLookedAt }
-    ensures count_is_no_value { CountIsNoValue }
-    ensures no_pointer_is_stored_behind_fields { NoPointerIsStoredBehindFields }
-    ensures same_page_is_not_looked_at { SamePageIsNotLookedAt }
-    ensures closed_page_is_a_fault { ClosedPageIsAFault }
-    ensures target_is_awaited { TargetIsAwaited }
-    ensures cell_is_not_stored_in { CellIsNotStoredIn }
-    ensures link_is_no_value { LinkIsNoValue }
-    ensures no_such_value_fails { NoSuchValueFails }
 {}
 
 /// A step from a heap that stands, after which the same machine is at work, leaves it less to do, by the machine's own count of what is

@@ -8,7 +8,6 @@
 //! stay, and when a heap is full.
 #![tactic(auto)]
 
-mod access;
 mod calls;
 mod config;
 mod history_laws;
@@ -22,13 +21,6 @@ mod steps;
 mod task;
 mod worker;
 
-pub use access::Access;
-pub use access::access_stage::AccessStage;
-pub use access::accessed::Accessed;
-pub use access::board_access::{BoardAccess, BoardSwap, BoardUse};
-pub use access::field_access::{FieldAccess, FieldExchange, FieldUse, Role};
-pub use access::mixed_access::MixedAccess;
-pub use access::record_access::{RecordAccess, RecordUse};
 pub use calls::call::Call;
 pub use calls::did::Did;
 pub use calls::entry::Entry;
@@ -37,14 +29,13 @@ pub use history_laws::{
     histories_keep_the_last_checkpoint, loads_get_the_last_store, records_keep_their_shape,
 };
 pub use laws::{
-    accesses_are_worked_out, accesses_go_on, answers_leave_the_others, beginnings_are_kept,
-    checkpoints_are_begun, checkpoints_are_kept, checkpoints_are_safe, claims_are_for_records,
-    counts_are_apart, exchanges_of_past_epochs_are_lost, flips_are_first, flips_are_won,
-    full_is_told, heaps_open, lost_cells_are_empty, low_falls_by_claims, machines_go_on,
-    pages_are_opened_by_claims, places_fit, readying_stands, registers_lead_back, scanners_go_last,
-    sizes_stay, steps_keep, stories_keep, tasks_may_begin, traced_pages_are_open,
-    what_is_represented_stands, what_stands_is_so, what_was_copied_was_live, who_is_gone_saw_why,
-    workers_go_on, workers_want,
+    answers_leave_the_others, beginnings_are_kept, checkpoints_are_begun, checkpoints_are_kept,
+    checkpoints_are_safe, claims_are_for_records, counts_are_apart,
+    exchanges_of_past_epochs_are_lost, flips_are_first, flips_are_won, full_is_told, heaps_open,
+    lost_cells_are_empty, low_falls_by_claims, machines_go_on, pages_are_opened_by_claims,
+    places_fit, readying_stands, registers_lead_back, scanners_go_last, sizes_stay, steps_keep,
+    stories_keep, tasks_may_begin, traced_pages_are_open, what_is_represented_stands,
+    what_stands_is_so, what_was_copied_was_live, who_is_gone_saw_why, workers_go_on, workers_want,
 };
 pub use open_error::OpenError;
 pub use readers::{epoch_said, live_said};

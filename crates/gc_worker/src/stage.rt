@@ -4,7 +4,6 @@ pub mod forwarding_register;
 pub mod goal;
 pub mod write;
 
-use crate::access::Access;
 use crate::stage::after::After;
 use crate::stage::back::Back;
 use crate::stage::forwarding_register::ForwardingRegister;
@@ -17,6 +16,7 @@ use gate_core::{Flip, Gate, Recall, Snap};
 use page_saves::{Guard, SaveRound};
 use page_scan::Scan;
 use page_slots::Open;
+use record_access::Access;
 
 /// What a worker is about to do.
 #[derive(Clone, Copy)]

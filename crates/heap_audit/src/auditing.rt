@@ -18,7 +18,7 @@ use crate::told_heap::ToldHeap;
 use crate::verdict::{At, Verdict};
 use dump_text::{Dump, Kept};
 use mutator_asm::Program;
-use plain_heap::{PlainState, plain_run};
+use plain_machine::{PlainState, plain_run};
 use plain_state::NoMemory;
 use space_map::Spaces;
 use std::alloc::Global;

@@ -11,7 +11,7 @@ use crate::copied_records::CopiedRecords;
 use crate::told_heap::ToldHeap;
 use crate::walks::{RecordAt, Walks};
 use heap_words::Word;
-use plain_heap::PlainRecord;
+use plain_machine::PlainRecord;
 use plain_state::Value;
 
 /// Whether the walk over the chain of copied cells may have emptied a cell whose plain value this is.

@@ -8,7 +8,8 @@ ghost use Rattle.heap_audit.specs.FirstOther.{TellsFirstOther, lines_told};
 use crate::lines::MutatorLines;
 use dump_text::after;
 use mutator_asm::Program;
-use plain_heap::{Mark, NoMemory, PlainState, plain_run, print, push_lines};
+use plain_heap::{Mark, NoMemory};
+use plain_machine::{PlainState, plain_run, print, push_lines};
 use std::alloc::Global;
 
 /// The number of the line in which a byte stands behind this one of the line.

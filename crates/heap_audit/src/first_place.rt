@@ -15,7 +15,7 @@ use crate::record::wrong_word;
 use crate::showing::{wrong_board_word, wrong_register};
 use crate::told_heap::ToldHeap;
 use crate::walks::{Walks, least};
-use plain_heap::PlainState;
+use plain_machine::PlainState;
 use plain_state::NoMemory;
 use space_map::PAGE_WORDS;
 use std::alloc::Global;

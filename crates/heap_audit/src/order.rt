@@ -57,38 +57,3 @@ pub fn read_order(
     };
     Ok((found, behind))
 }
-
-#[test]
-fn orders_are_read(rt: HostRuntime) -> Result<(), ReadingError> {
-    let bytes = b"order 0 F64 T 255 X3,1,0,4294967295 15\nmore";
-    let (marks, rest) = read_order(rt.alloc(), 0, bytes)?;
-    assert_eq!(rt; marks.len(), 6);
-    assert_eq!(rt; marks[1], Mark::Flip(64));
-    assert_eq!(rt; marks[2], Mark::Traced);
-    let full = Mark::Full {
-        m: 3,
-        asked: 1,
-        room: 0,
-        live: 4294967295,
-    };
-    assert_eq!(rt; marks[4], full);
-    assert_eq!(rt; rest.len(), 4);
-    Ok(())
-}
-
-#[test]
-fn other_lines_are_refused(rt: HostRuntime) {
-    assert!(rt; read_order(rt.alloc(), 0, b"order\n").is_ok());
-    for bad in [
-        &b"order 00\n"[..],
-        b"order 256\n",
-        b"order F4294967296\n",
-        b"order T1\n",
-        b"order 1",
-        b"order  1\n",
-        b"order X1,2,3\n",
-    ] {
-        let error = ReadingError::Bad { line: 3 };
-        assert_eq!(rt; read_order(rt.alloc(), 2, bad).err(), Some(error));
-    }
-}

@@ -20,7 +20,7 @@ use crate::showing::shows;
 use crate::told_heap::{ToldHeap, identity_of};
 use crate::walks::{RecordAt, Walks};
 use heap_words::{Kind as HeaderKind, Word};
-use plain_heap::{PlainRecord, PlainState};
+use plain_machine::{PlainRecord, PlainState};
 use plain_state::{Kind, Value};
 use record_layout::Header;
 

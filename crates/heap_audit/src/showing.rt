@@ -10,7 +10,7 @@ ghost use Rattle.heap_audit.specs.Walks.{AreWalks};
 
 use crate::told_heap::ToldHeap;
 use crate::walks::Walks;
-use plain_heap::PlainState;
+use plain_machine::PlainState;
 use plain_state::Value;
 
 /// Whether a word denotes this value, and leads to a record in the heap if it is a pointer.

@@ -22,8 +22,8 @@ use Rattle.page_saves.specs.declared.save_round_stage.SaveRoundStage.TheVariants
 use Rattle.page_saves.specs.declared.save_stage.SaveStage.{SaveStage}
 use Rattle.page_saves.specs.declared.save_stage.SaveStage.TheVariants as save_stage
 use Rattle.page_saves.specs.Save.{PageSaving}
-use Rattle.gc_worker.specs.declared.access.access_stage.AccessStage.{AccessStage}
-use Rattle.gc_worker.specs.declared.access.access_stage.AccessStage.TheVariants.{LooksAtRecord, LooksAtCount, LooksAtField, ExchangesField, LooksAtBoard, SwapsBoard}
+use Rattle.record_access.specs.declared.access_stage.AccessStage.{AccessStage}
+use Rattle.record_access.specs.declared.access_stage.AccessStage.TheVariants.{LooksAtRecord, LooksAtCount, LooksAtField, ExchangesField, LooksAtBoard, SwapsBoard}
 use Rattle.gc_worker.specs.declared.stage.after.After.{After}
 use Rattle.gc_worker.specs.declared.stage.after.After.TheVariants as afters
 use Rattle.gc_worker.specs.declared.stage.back.Back.{Back}
@@ -34,7 +34,7 @@ use Rattle.gc_worker.specs.declared.stage.write.Write.{Write}
 use Rattle.gc_worker.specs.declared.stage.write.Write.TheVariants.{OfAccess, OfPlace}
 use Rattle.gc_worker.specs.declared.stage.Stage.{Stage}
 use Rattle.gc_worker.specs.declared.stage.Stage.TheVariants.{Looks, Passes, Flips, Forwards, Accesses, Places, Serves, Scans, Evacuates, Opens, Recalls, Guards, Checkpoints, BeginsCheckpoint, Gone}
-use Rattle.gc_worker.specs.Steps.Access.{board_at, field_at}
+use Rattle.record_access.specs.Access.{board_at, field_at}
 use Rattle.gc_worker.specs.Workers.Begun.{IsPastLook}
 use Rattle.gc_worker.specs.Workers.Held.{Held}
 use Rattle.gc_worker.specs.Laws.Step.{Heap, read, held_at, saves_in}

@@ -1,5 +1,4 @@
 pub mod Lines
-pub mod Written
 pub mod Split
 pub mod Tokens
 pub mod RereadTokens
@@ -9,4 +8,3 @@ pub mod Rows
 pub mod Clean
 pub mod Code
 pub mod TextOfProgram
-pub mod Targets

@@ -1,4 +1,3 @@
 pub mod Tests
 pub mod Firsts
-pub mod Views
 pub mod Seams

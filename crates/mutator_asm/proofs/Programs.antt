@@ -1,4 +1,3 @@
 pub mod Instructions
-pub mod Sections
+pub mod Lengths
 pub mod Fetched
-pub mod WellFormed

@@ -1,4 +1,1 @@
-pub mod Operands
-pub mod Options
 pub mod Numerals
-pub mod Names

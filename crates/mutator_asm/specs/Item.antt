@@ -3,7 +3,7 @@ use Rattle.std.specs.Prelude.{â„•, List, Option, Some, None, Result, Ok, Err, â—
 use Rattle.std.specs.List.{list_any, before_first, after_first}
 use Rattle.mutator_asm.specs.declared.item.Item.{Item}
 use Rattle.mutator_asm.specs.declared.item.TheConstants.{LAST_WORKER, TIMES_MAX}
-use Rattle.mutator_asm.specs.declared.errors.mistake.Mistake.{Mistake}
+use Rattle.mutator_asm.specs.declared.mistake.Mistake.{Mistake}
 use Rattle.mutator_asm.specs.Token.{number_of}
 
 -- a star stands between a worker and its count

@@ -1,13 +1,9 @@
-pub mod AsmError
 pub mod Program
 pub mod Mistake
 pub mod Token
 pub mod Item
 pub mod Instr
 pub mod Line
-pub mod Read
 pub mod Text
-pub mod Labels
-pub mod Part
 pub mod Listing
 pub mod Theorems

@@ -5,10 +5,10 @@ use Rattle.std.specs.List.{slice_split, list_all, filter_map}
 use Rattle.std.specs.Str.{bytes_eq}
 use Rattle.mutator_asm.specs.declared.instr.Instr.{Instr}
 use Rattle.mutator_asm.specs.declared.item.Item.{Item}
-use Rattle.mutator_asm.specs.declared.listing.jump.Jump.{Jump}
-use Rattle.mutator_asm.specs.declared.listing.jump.Jump.TheVariants.{Always, IfZero, Link}
-use Rattle.mutator_asm.specs.declared.errors.mistake.Mistake.{Mistake}
-use Rattle.mutator_asm.specs.declared.errors.mistake.Mistake.TheVariants.{BadOperand, BadSchedule}
+use Rattle.mutator_asm.specs.declared.jump.Jump.{Jump}
+use Rattle.mutator_asm.specs.declared.jump.Jump.TheVariants.{Always, IfZero, Link}
+use Rattle.mutator_asm.specs.declared.mistake.Mistake.{Mistake}
+use Rattle.mutator_asm.specs.declared.mistake.Mistake.TheVariants.{BadOperand, BadSchedule}
 use Rattle.mutator_asm.specs.Token.{tokens_of, is_name, label_of, register_of}
 use Rattle.mutator_asm.specs.Item.{item_of}
 use Rattle.mutator_asm.specs.Instr.{instr_of, made}

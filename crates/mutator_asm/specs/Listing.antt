@@ -1,4 +1,4 @@
--- The listing of a program: the one text of it that `list` writes.
+-- The listing of a program: the one text of it that `list` of `program_text` writes.
 use Rattle.std.specs.Prelude.{ℕ, ◌+◌, Bool, false, List, [], ◌∷◌, ◌++◌, length, map, Option, Some, None, ◌==◌, if◌then◌else◌, codes, decimal}
 use Rattle.std.specs.Option.{option_map_or}
 use Rattle.std.specs.List.{flat_map, join_with_byte, list_any}

@@ -1,7 +1,7 @@
 -- What can be wrong with a text.
 use Rattle.std.specs.Prelude.{ℕ}
-use Rattle.mutator_asm.specs.declared.errors.mistake.Mistake.{Mistake}
-use Rattle.mutator_asm.specs.declared.errors.mistake.Mistake.TheVariants.{UnknownInstr, BadOperand, UnknownLabel, LabelTwice, NoMutator, TooManyMutators, CodeTooLong, BadSchedule, NumberTooBig}
+use Rattle.mutator_asm.specs.declared.mistake.Mistake.{Mistake}
+use Rattle.mutator_asm.specs.declared.mistake.Mistake.TheVariants.{UnknownInstr, BadOperand, UnknownLabel, LabelTwice, NoMutator, TooManyMutators, CodeTooLong, BadSchedule, NumberTooBig}
 
 -- the number by which an error is reported; of several on a line the lowest counts
 abbrev pub number_of_mistake : Mistake → ℕ

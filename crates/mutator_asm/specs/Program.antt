@@ -1,5 +1,5 @@
 -- What a program is.
-use Rattle.std.specs.Prelude.{ℕ, ◌≤◌, Bool, true, false, ◌&&◌, List, [], length, Option, slice_get, slice_index_or, nat_lt, nat_le, sum_by, IsTrue}
+use Rattle.std.specs.Prelude.{ℕ, ◌≤◌, Bool, true, ◌&&◌, List, [], length, Option, slice_get, slice_index_or, nat_lt, nat_le, sum_by, IsTrue}
 use Rattle.std.specs.List.{list_all}
 use Rattle.plain_state.specs.declared.sizes.TheConstants.{NUMBERS, REGISTERS}
 use Rattle.mutator_asm.specs.declared.instr.Instr.{Instr}

@@ -1,14 +1,12 @@
 -- What a text is: the program that it means, or its first error.
-use Rattle.std.specs.Prelude.{◌≡◌, ℕ, ◌+◌, ◌<◌, ◌≤◌, ◌⊎◌, Bool, true, false, not, ◌&&◌, ◌||◌, List, [], ◌∷◌, ◌++◌, length, Option, Some, None, nat_lt, nat_le, ◌==◌, if◌then◌else◌, count_by, option_map, drop, map, slice_index_or, ⊤}
+use Rattle.std.specs.Prelude.{◌≡◌, ℕ, ◌+◌, ◌<◌, ◌≤◌, ◌⊎◌, Bool, true, false, not, ◌&&◌, ◌||◌, List, [], ◌∷◌, ◌++◌, length, Option, Some, None, nat_lt, nat_le, ◌==◌, if◌then◌else◌, count_by, option_map, drop, map, slice_index_or}
 use Rattle.std.specs.Option.{is_some}
 use Rattle.std.specs.List.{filter_map, flat_map, list_any, before_first, slice_split}
 use Rattle.std.specs.Str.{bytes_eq}
-use Rattle.mutator_asm.specs.declared.errors.asm_error.AsmError.{AsmError}
-use Rattle.mutator_asm.specs.declared.errors.asm_error.AsmError.TheVariants as errors
 use Rattle.mutator_asm.specs.declared.instr.Instr.{Instr}
 use Rattle.mutator_asm.specs.declared.item.Item.{Item}
-use Rattle.mutator_asm.specs.declared.errors.mistake.Mistake.{Mistake}
-use Rattle.mutator_asm.specs.declared.errors.mistake.Mistake.TheVariants.{UnknownInstr, BadOperand, UnknownLabel, LabelTwice, NoMutator, TooManyMutators, CodeTooLong, BadSchedule, NumberTooBig}
+use Rattle.mutator_asm.specs.declared.mistake.Mistake.{Mistake}
+use Rattle.mutator_asm.specs.declared.mistake.Mistake.TheVariants.{UnknownInstr, BadOperand, UnknownLabel, LabelTwice, NoMutator, TooManyMutators, CodeTooLong, BadSchedule, NumberTooBig}
 use Rattle.mutator_asm.specs.Mistake.{number_of_mistake}
 use Rattle.mutator_asm.specs.Instr.{jump_to}
 use Rattle.mutator_asm.specs.Line.{Word, Begins, Schedules, Does, Jumps, Bad, Line, lines_of}
@@ -182,8 +180,3 @@ IsFaultIn lines number line = IsFirstError lines number line ⊎ IsWithoutSectio
 -- the fault of a text
 abbrev pub IsFault : List ℕ → ℕ → ℕ → Type 0
 IsFault bytes number line = IsFaultIn (lines_of bytes) number line
-
--- an error of the text is its fault; want of memory tells nothing of it
-abbrev pub NamesFault : List ℕ → AsmError → Type 0
-NamesFault bytes (errors.Text number line) = IsFault bytes number line
-NamesFault bytes errors.NoMemory = ⊤

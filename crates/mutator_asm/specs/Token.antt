@@ -3,8 +3,8 @@ use Rattle.std.specs.Prelude.{ℕ, ◌-◌, Bool, not, ◌&&◌, ◌||◌, List,
 use Rattle.std.specs.List.{slice_split, before_first, list_all}
 use Rattle.std.specs.Char.{is_ascii_digit, is_ascii_alphabetic, is_ascii_alphanumeric}
 use Rattle.std.specs.Str.Parse.{digits_value}
-use Rattle.mutator_asm.specs.declared.errors.mistake.Mistake.{Mistake}
-use Rattle.mutator_asm.specs.declared.errors.mistake.Mistake.TheVariants.{BadOperand, NumberTooBig}
+use Rattle.mutator_asm.specs.declared.mistake.Mistake.{Mistake}
+use Rattle.mutator_asm.specs.declared.mistake.Mistake.TheVariants.{BadOperand, NumberTooBig}
 use Rattle.mutator_asm.specs.declared.operand.Operand.{Operand}
 use Rattle.mutator_asm.specs.declared.operand.Operand.TheVariants.{Reg, Number}
 use Rattle.mutator_asm.specs.Program.{is_number}

@@ -1,7 +1,7 @@
 //! The instructions.
 
-use crate::listing::spelling::{five, label, one, one_label, three, two};
 use crate::operand::Operand::{self, Number, Reg};
+use crate::spelling::{five, label, one, one_label, three, two};
 use std::fmt;
 
 /// An instruction, its operands in the order of the text. A register is its number, 0 to 7. A jump's

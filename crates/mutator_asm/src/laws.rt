@@ -1,6 +1,6 @@
 //! What holds of all texts and programs. Each function here does nothing: its contract is what is proved.
 
-ghost use Rattle.mutator_asm.specs.Theorems.{MeansOneProgram, HasOneFault, HasNoFault, EachTextIsRead, FetchesInstrs, FetchesEarly, MeansWellFormed, ListsText, ReadsBack, ListsNoFault};
+ghost use Rattle.mutator_asm.specs.Theorems.{MeansOneProgram, HasOneFault, HasNoFault, EachTextIsRead, FetchesInstrs, FetchesEarly};
 
 /// A text means at most one program.
 pub fn one_program()
@@ -27,14 +27,4 @@ pub fn some_reading()
 pub fn fetched_instr()
     ensures sound { FetchesInstrs }
     ensures early { FetchesEarly }
-{}
-
-/// A program is well formed exactly where some text means it; its listing is such a text. The listing
-/// means the program that was listed and no other, and has no fault: `assemble` gives that program
-/// again, or answers want of memory.
-pub fn listing_is_a_text()
-    ensures well_formed { MeansWellFormed }
-    ensures text { ListsText }
-    ensures reads_back { ReadsBack }
-    ensures no_fault { ListsNoFault }
 {}

@@ -21,7 +21,7 @@ mod first_words;
 #[cfg(test)]
 mod memory;
 #[cfg(test)]
-mod plain_machine;
+mod plain_runs;
 #[cfg(test)]
 mod protection;
 #[cfg(test)]

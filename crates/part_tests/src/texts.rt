@@ -5,7 +5,8 @@ mod concordances;
 mod dumps;
 mod outputs;
 
-use mutator_asm::{Program, assemble};
+use mutator_asm::Program;
+use program_text::assemble;
 use std::alloc::Global;
 use std::process::Abort;
 

@@ -6,4 +6,3 @@ pub mod Checkpoints
 pub mod WorkedCheckpoints
 pub mod Orders
 pub mod Reaching
-pub mod Found

@@ -11,6 +11,7 @@ use Rattle.plain_state.specs.declared.value.Identity.{Identity}
 use Rattle.plain_state.specs.declared.value.Value.{Value}
 use Rattle.plain_state.specs.declared.value.Value.TheVariants.{Number, Reference}
 use Rattle.plain_state.specs.Operation.{one_if, applied}
+pub use Rattle.plain_state.specs.Holding.{in_record}
 use Rattle.plain_state.specs.State.{Mutator}
 use Rattle.mutator_asm.specs.declared.instr.Instr.{Instr}
 use Rattle.mutator_asm.specs.declared.instr.Instr.TheVariants as instrs
@@ -70,10 +71,6 @@ length_of n = if nat_le n LONGEST_RECORD then Ok n else Err OutOfRange
 -- how many values a mixed record has, if the word for their count leaves room for them
 abbrev pub mixed_length : (fields raw : ℕ) → Result ℕ End
 mixed_length fields raw = if nat_lt (fields + raw) LONGEST_RECORD then Ok (fields + raw) else Err OutOfRange
-
--- the number as that of a value in a record with so many of them
-abbrev pub in_record : (len x : ℕ) → Result ℕ End
-in_record len x = if nat_lt x len then Ok x else Err OutOfRange
 
 -- the number as that of a word of the board
 abbrev pub on_board : ℕ → Result ℕ End

@@ -1,15 +1,15 @@
 -- One instruction on the plain heap: its action, as far as the registers tell, and what that does to the heap and its mutator.
-use Rattle.std.specs.Prelude.{ℕ, ◌+◌, List, [], ◌∷◌, ◌++◌, length, Option, Some, None, Result, Ok, Err, nat_lt, if◌then◌else◌, slice_index_or, slice_set}
+use Rattle.std.specs.Prelude.{ℕ, ◌+◌, List, [], ◌∷◌, ◌++◌, length, Option, Some, None, Result, Ok, Err, if◌then◌else◌, slice_index_or, slice_set}
 use Rattle.std.specs.Option.{option_map_or}
 use Rattle.plain_state.specs.declared.end.End.{End}
-use Rattle.plain_state.specs.declared.end.End.TheVariants.{OutOfRange, WeakCell, IntoRaw}
+use Rattle.plain_state.specs.declared.end.End.TheVariants.{OutOfRange}
 use Rattle.plain_state.specs.declared.kind.Kind.{Kind}
-use Rattle.plain_state.specs.declared.kind.Kind.TheVariants.{Fields, Raw, Mixed, Weak}
 use Rattle.plain_state.specs.declared.value.Identity.{Identity}
 use Rattle.plain_state.specs.declared.value.Value.{Value}
 use Rattle.plain_state.specs.declared.value.Value.TheVariants.{Number, Reference}
 use Rattle.plain_state.specs.State.{Record, Heap, Mutator, record_of, serial_of}
 pub use Rattle.plain_state.specs.Cells.{is_cell}
+pub use Rattle.plain_state.specs.Holding.{as_plain, may_hold}
 pub use Rattle.plain_state.specs.Writing.{filled}
 use Rattle.plain_state.specs.Writing.{stored, with_board, gained, took}
 use Rattle.mutator_asm.specs.declared.instr.Instr.{Instr}
@@ -58,18 +58,6 @@ set_register k d v = record k { registers = slice_set k.registers d v }
 -- a register takes a value, and the heap stays
 abbrev pub loads : Heap → Mutator → ℕ → Value → After
 loads heap k d v = record { heap = heap; mutator = went_on (set_register k d v) }
-
--- no reference stands in a plain number
-abbrev pub as_plain : Value → Result Value End
-as_plain (Number n) = Ok (Number n)
-as_plain (Reference i) = Err IntoRaw
-
--- nor where a record of this kind has plain numbers; and nothing is stored in a cell
-abbrev pub may_hold : Kind → (x : ℕ) → Value → Result Value End
-may_hold Fields x v = Ok v
-may_hold Raw x v = as_plain v
-may_hold (Mixed count) x v = if nat_lt x count then Ok v else as_plain v
-may_hold Weak x v = Err WeakCell
 
 -- a value of the record with an identity is replaced, where the record is there and may hold it
 abbrev pub store_in : Heap → Identity → Option Record → ℕ → Value → Result Heap End

@@ -1,6 +1,5 @@
 pub mod Action
 pub mod Call
-pub mod Outcome
 pub mod Step
 pub mod Calls
 pub mod Records
@@ -9,7 +8,6 @@ pub mod Reaching
 pub mod Emptied
 pub mod Order
 pub mod Tracing
-pub mod Search
 pub mod Print
 pub mod Checkpoint
 pub mod WorkedCheckpoint

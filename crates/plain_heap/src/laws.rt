@@ -124,8 +124,8 @@ pub fn only_reached_records_are_printed()
     ensures printed { SameIsPrinted }
 {}
 
-/// Checkpoints worked out by hand: none, one with one record, and one with a record of each kind, beside
-/// a record to which the board doesn't lead.
+/// Checkpoints worked out by hand: none, one with one record, one with a record of each kind but a cell, beside
+/// a record to which the board doesn't lead, and one with a cell.
 pub fn worked_checkpoints_are_printed()
     ensures { ArePrinted }
 {}

@@ -6,3 +6,4 @@ pub mod Writing
 pub mod Consistent
 pub mod Cells
 pub mod Reachable
+pub mod Holding

@@ -2,10 +2,14 @@
 
 use crate::asserting::assert_same;
 use crate::heaps::open_two;
-use crate::roots::{check_filled, fill};
+use crate::roots::{FILL, FILLED};
 use crate::safepoints::comes;
+use crate::steps::Call::{Load, Make, ReadShared, Share, Take};
+use crate::steps::Step::{Done, Fails, Number, Same};
+use crate::steps::check;
+use ael_runtime::Failure::OutOfRange;
+use ael_runtime::Local;
 use ael_runtime::Root::{R0, R1, R2};
-use ael_runtime::{Failure, Local};
 use std::process::Abort;
 use std::sync::Wait;
 use std::sync::atomic::{AtomicBool, Ordering};
@@ -17,28 +21,31 @@ fn what_is_shared_on_sixteen_words_is_read_and_taken(rt: HostRuntime) -> Result<
     let (heap, first, second) = open_two(rt.alloc())?;
     let mut local = Local::new(&heap, first);
     let mut other = Local::new(&heap, second);
-    fill(&rt, &mut local);
-    let out_of_range = Err(Failure::OutOfRange);
-    assert_same(&rt, &local.share(&rt, 16, R0), &out_of_range);
-    assert_same(&rt, &local.read_shared(&rt, R0, 16), &out_of_range);
-    assert_same(&rt, &local.take(&rt, R0, 16), &out_of_range);
-    check_filled(&rt, &mut local);
-    assert_same(&rt, &local.share(&rt, 15, R0), &Ok(()));
-    assert_same(&rt, &other.read_shared(&rt, R1, 15), &Ok(()));
-    assert_same(&rt, &other.take(&rt, R0, 15), &Ok(()));
-    assert_same(&rt, &other.same(&rt, R0, R1), &Ok(true));
-    assert_same(&rt, &other.load(&rt, R2, R0, 1), &Ok(()));
-    assert_same(&rt, &other.number(R2), &Some(7));
-    assert_same(&rt, &local.take(&rt, R1, 15), &Ok(()));
-    assert_same(&rt, &local.number(R1), &Some(0));
+    let refused = [
+        Fails(Share(16, R0), OutOfRange),
+        Fails(ReadShared(R0, 16), OutOfRange),
+        Fails(Take(R0, 16), OutOfRange),
+    ];
+    check(&rt, &mut local, FILL);
+    check(&rt, &mut local, &refused);
+    check(&rt, &mut local, FILLED);
+    check(&rt, &mut local, &[Done(Share(15, R0))]);
+    let taken = [
+        Done(ReadShared(R1, 15)),
+        Done(Take(R0, 15)),
+        Same(R0, R1, Ok(true)),
+        Done(Load(R2, R0, 1)),
+        Number(R2, Some(7)),
+    ];
+    check(&rt, &mut other, &taken);
+    check(&rt, &mut local, &[Done(Take(R1, 15)), Number(R1, Some(0))]);
     Ok(())
 }
 
 /// Shares a list on each word of the board.
 fn share_all<R: Wait + Abort>(rt: &R, local: &mut Local<'_>) {
     for word in 0..16 {
-        assert_same(rt, &local.make(rt, R0, 2, 0), &Ok(()));
-        assert_same(rt, &local.share(rt, word, R0), &Ok(()));
+        check(rt, local, &[Done(Make(R0, 2, 0)), Done(Share(word, R0))]);
     }
 }
 
@@ -50,7 +57,7 @@ fn takes<R: Wait + Abort>(
     other_has_come: &AtomicBool,
 ) -> u64 {
     has_come.store(true, Ordering::SeqCst);
-    assert!(rt; comes(other_has_come));
+    assert_same(rt, &comes(other_has_come), &true);
     let mut got = 0u64;
     for word in 0..16 {
         assert_same(rt, &local.take(rt, R0, word), &Ok(()));

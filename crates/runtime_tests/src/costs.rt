@@ -5,7 +5,7 @@ ghost use Rattle.mutator_asm.specs.Program.{is_valid};
 ghost use Rattle.gc_worker.specs.Steps.Stepped.{is_output};
 
 use crate::asserting::assert_same;
-use crate::heaps::open;
+use crate::heaps::open_one;
 use ael_runtime::Root::{R0, R1, R2};
 use ael_runtime::{Failure, Local, Mutator, Shared};
 use ael_threads::Instr::{Ld, Li, Mov, New, St};
@@ -89,14 +89,14 @@ fn sum_by_runtime<R: Wait>(rt: &R, local: &mut Local<'_>) -> Result<u64, Failure
 
 #[test]
 fn nothing_is_made(rt: HostRuntime) -> Result<(), Fail> {
-    let (_heap, _seats, mutator, _scanner) = open(rt.alloc(), PAGES)?;
+    let (_heap, mutator) = open_one(rt.alloc(), PAGES)?;
     assert_same(&rt, &mutator.serial(), &0);
     Ok(())
 }
 
 #[test]
 fn lists_are_summed_by_calls(rt: HostRuntime) -> Result<(), Fail> {
-    let (heap, _seats, mut mutator, _scanner) = open(rt.alloc(), PAGES)?;
+    let (heap, mut mutator) = open_one(rt.alloc(), PAGES)?;
     let mut sum: u64 = 0;
     for _ in 0..LISTS {
         sum = sum.wrapping_add(sum_by_calls(&rt, &heap, &mut mutator));
@@ -108,7 +108,7 @@ fn lists_are_summed_by_calls(rt: HostRuntime) -> Result<(), Fail> {
 
 #[test]
 fn lists_are_summed_by_the_runtime(rt: HostRuntime) -> Result<(), Fail> {
-    let (heap, _seats, mutator, _scanner) = open(rt.alloc(), PAGES)?;
+    let (heap, mutator) = open_one(rt.alloc(), PAGES)?;
     let mut local = Local::new(&heap, mutator);
     let mut sum: u64 = 0;
     for _ in 0..LISTS {

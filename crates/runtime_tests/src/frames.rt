@@ -2,9 +2,13 @@
 
 use crate::asserting::assert_same;
 use crate::heaps::open_two;
-use crate::roots::{WASTED, check_filled, fill, waste};
+use crate::roots::{FILL, FILLED, WASTED, waste};
+use crate::steps::Call::{Load, Make, PopFrame, PushFrame, Restore, Save, SetNumber, Store};
+use crate::steps::Step::{Done, Fails, Number};
+use crate::steps::{check, check_alone};
+use ael_runtime::Failure::{NotRecord, OutOfRange};
+use ael_runtime::Local;
 use ael_runtime::Root::{R0, R1};
-use ael_runtime::{Failure, Local};
 use std::process::Abort;
 use std::sync::Wait;
 use std::test::Fail;
@@ -14,21 +18,17 @@ const DEPTH: u64 = 12;
 
 #[test]
 fn frames_end_with_their_slots(rt: HostRuntime) -> Result<(), Fail> {
-    let (heap, mutator, _other) = open_two(rt.alloc())?;
-    let mut local = Local::new(&heap, mutator);
-    fill(&rt, &mut local);
-    assert_same(&rt, &local.push_frame(&rt, 2), &Ok(()));
-    let out_of_range = Err(Failure::OutOfRange);
-    assert_same(&rt, &local.save(&rt, 2, R1), &out_of_range);
-    assert_same(&rt, &local.restore(&rt, R0, 2), &out_of_range);
-    assert_same(&rt, &local.restore(&rt, R0, u16::MAX), &out_of_range);
-    assert_same(&rt, &local.pop_frame(&rt), &Ok(()));
-    let not_record = Err(Failure::NotRecord);
-    assert_same(&rt, &local.save(&rt, 0, R1), &not_record);
-    assert_same(&rt, &local.restore(&rt, R0, 0), &not_record);
-    assert_same(&rt, &local.pop_frame(&rt), &not_record);
-    check_filled(&rt, &mut local);
-    Ok(())
+    let steps = [
+        Done(PushFrame(2)),
+        Fails(Save(2, R1), OutOfRange),
+        Fails(Restore(R0, 2), OutOfRange),
+        Fails(Restore(R0, u16::MAX), OutOfRange),
+        Done(PopFrame),
+        Fails(Save(0, R1), NotRecord),
+        Fails(Restore(R0, 0), NotRecord),
+        Fails(PopFrame, NotRecord),
+    ];
+    check_alone(&rt, rt.alloc(), 4, &[FILL, &steps, FILLED])
 }
 
 /// Keeps a record with its depth in a frame while it calls itself. The innermost call makes the heap flip.
@@ -37,18 +37,24 @@ fn nest<R: Wait + Abort>(rt: &R, local: &mut Local<'_>, depth: u64) {
         waste(rt, local);
         return;
     }
-    assert_same(rt, &local.push_frame(rt, 2), &Ok(()));
-    assert_same(rt, &local.make(rt, R0, 0, 1), &Ok(()));
-    assert_same(rt, &local.set_number(rt, R1, depth), &Ok(()));
-    assert_same(rt, &local.store(rt, R0, 0, R1), &Ok(()));
-    assert_same(rt, &local.save(rt, 1, R0), &Ok(()));
+    let keeps = [
+        Done(PushFrame(2)),
+        Done(Make(R0, 0, 1)),
+        Done(SetNumber(R1, depth)),
+        Done(Store(R0, 0, R1)),
+        Done(Save(1, R0)),
+    ];
+    check(rt, local, &keeps);
     nest(rt, local, depth - 1);
-    assert_same(rt, &local.restore(rt, R0, 0), &Ok(()));
-    assert_same(rt, &local.number(R0), &Some(0));
-    assert_same(rt, &local.restore(rt, R0, 1), &Ok(()));
-    assert_same(rt, &local.load(rt, R1, R0, 0), &Ok(()));
-    assert_same(rt, &local.number(R1), &Some(depth));
-    assert_same(rt, &local.pop_frame(rt), &Ok(()));
+    let kept = [
+        Done(Restore(R0, 0)),
+        Number(R0, Some(0)),
+        Done(Restore(R0, 1)),
+        Done(Load(R1, R0, 0)),
+        Number(R1, Some(depth)),
+        Done(PopFrame),
+    ];
+    check(rt, local, &kept);
 }
 
 #[test]
@@ -56,7 +62,7 @@ fn nested_calls_keep_their_records_through_flips(rt: HostRuntime) -> Result<(), 
     let (heap, mutator, _other) = open_two(rt.alloc())?;
     let mut local = Local::new(&heap, mutator);
     nest(&rt, &mut local, DEPTH);
-    assert_same(&rt, &local.pop_frame(&rt), &Err(Failure::NotRecord));
+    check(&rt, &mut local, &[Fails(PopFrame, NotRecord)]);
     let mutator = local.leave(&rt);
     assert!(&rt; mutator.epoch() > 0);
     assert_same(&rt, &mutator.serial(), &(2 * DEPTH + WASTED));

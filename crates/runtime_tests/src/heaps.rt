@@ -28,6 +28,15 @@ pub fn open(alloc: Global, pages: u32) -> Result<(Shared, Seats, Mutator, Scanne
     Ok((heap, seats, mutator, scanner))
 }
 
+/// A heap of so many pages with a mutator, which has made no step.
+pub fn open_one(alloc: Global, pages: u32) -> Result<(Shared, Mutator), OpenError>
+    ensures of_heap { IfOk result (λ o. o.1.table ≡ o.0.table.shared.table_id) }
+    ensures new { IfOk result (λ o. (o.1.worker.task ≡ None) × IsMine o.1.knows) }
+{
+    let (heap, _seats, mutator, _scanner) = open(alloc, pages)?;
+    Ok((heap, mutator))
+}
+
 /// A heap of four pages with two mutators, which have made no step.
 pub fn open_two(alloc: Global) -> Result<(Shared, Mutator, Mutator), OpenError>
     ensures of_heap { IfOk result (λ o. (o.1.table ≡ o.0.table.shared.table_id) × (o.2.table ≡ o.0.table.shared.table_id)) }

@@ -20,3 +20,5 @@ mod records;
 mod roots;
 #[cfg(test)]
 mod safepoints;
+#[cfg(test)]
+mod steps;

@@ -2,7 +2,8 @@
 
 use crate::asserting::assert_same;
 use crate::heaps::open_two;
-use crate::roots::{check_filled, fill, waste};
+use crate::roots::{FILL, FILLED, waste};
+use crate::steps::check;
 use ael_runtime::Local;
 use std::process::Abort;
 use std::sync::Wait;
@@ -52,14 +53,14 @@ fn others_flip_while_one_computes_or_is_away(rt: HostRuntime) -> Result<(), Fail
     let (heap, first, second) = open_two(rt.alloc())?;
     let mut one = Local::new(&heap, first);
     let mut other = Local::new(&heap, second);
-    fill(&rt, &mut one);
+    check(&rt, &mut one, FILL);
     let has_flipped = AtomicBool::new(false);
     join_mut(
         &rt,
         &mut || computes(&rt, &mut one, &has_flipped),
         &mut || flips(&rt, &mut other, &has_flipped),
     );
-    check_filled(&rt, &mut one);
+    check(&rt, &mut one, FILLED);
     has_flipped.store(false, Ordering::SeqCst);
     let (has_come, ()) = join_mut(
         &rt,
@@ -67,7 +68,7 @@ fn others_flip_while_one_computes_or_is_away(rt: HostRuntime) -> Result<(), Fail
         &mut || flips(&rt, &mut other, &has_flipped),
     );
     assert!(&rt; has_come);
-    check_filled(&rt, &mut one);
+    check(&rt, &mut one, FILLED);
     let (one, other) = (one.leave(&rt), other.leave(&rt));
     assert!(&rt; one.epoch() > 0);
     assert_same(&rt, &one.epoch(), &other.epoch());

@@ -3,7 +3,7 @@
 ghost use Rattle.std.specs.Prelude.{◌≡◌, None};
 
 use crate::asserting::assert_same;
-use crate::calling::{make, make_all};
+use crate::calling::{make, make_all, reg};
 use ael_threads::{Mutator, Reg, Shared};
 use mutator_asm::Instr::{Ld, Li, Mov, New, St};
 use mutator_asm::Operand;
@@ -53,9 +53,9 @@ pub fn check_list<R: Wait + Abort>(rt: &R, h: &Shared, mutator: &mut Mutator)
 {
     for k in (0..LINKS).rev() {
         make_all(rt, h, mutator, &[Ld(2, 0, ZERO), Ld(0, 0, ONE)]);
-        assert_same(rt, &mutator.reg(2), &Reg::Number(k));
+        assert_same(rt, &reg(mutator, 2), &Reg::Number(k));
     }
-    assert_same(rt, &mutator.reg(0), &Reg::Number(0));
+    assert_same(rt, &reg(mutator, 0), &Reg::Number(0));
 }
 
 /// Makes records, of which it keeps only the last one, until it is in this epoch.

@@ -3,6 +3,7 @@
 ghost use Rattle.std.specs.Prelude.{◌≡◌, None};
 
 use crate::asserting::assert_same;
+use crate::calling::reg;
 use crate::heaps::{close_two, open_two};
 use crate::keeping::{check_list, flip_until, make_list};
 use crate::signs::comes;
@@ -11,7 +12,6 @@ use std::marker::Sync;
 use std::process::Abort;
 use std::sync::Wait;
 use std::sync::atomic::{AtomicBool, Ordering};
-use std::test::Fail;
 use std::thread::{Threads, join_mut};
 
 /// How often the spaces are exchanged. It is odd, so that the list then lies in the other space.
@@ -73,15 +73,15 @@ fn check_rested<R: Wait + Abort>(rt: &R, h: &Shared, mutator: &mut Mutator, befo
 {
     assert!(rt; mutator.rests() && mutator.passes(h));
     assert_same(rt, &mutator.epoch(), &FLIPS);
-    assert!(rt; mutator.reg(0) != before);
+    assert!(rt; reg(mutator, 0) != before);
     check_list(rt, h, mutator);
 }
 
 #[test]
-fn others_flip_while_one_is_away(rt: HostRuntime) -> Result<(), Fail> {
-    let (h, seats, mut one, mut other) = open_two(rt.alloc(), 4, false)?;
+fn others_flip_while_one_is_away(rt: HostRuntime) {
+    let (h, seats, mut one, mut other) = open_two(&rt, rt.alloc(), 4, false);
     make_list(&rt, &h, &mut one);
-    let before = one.reg(0);
+    let before = reg(&one, 0);
     let has_flipped = AtomicBool::new(false);
     let (has_come, ()) = join_mut(
         &rt,
@@ -91,14 +91,13 @@ fn others_flip_while_one_is_away(rt: HostRuntime) -> Result<(), Fail> {
     assert!(rt; has_come);
     check_rested(&rt, &h, &mut one, before);
     close_two(&rt, h, seats, one, other);
-    Ok(())
 }
 
 #[test]
-fn others_flip_while_one_polls(rt: HostRuntime) -> Result<(), Fail> {
-    let (h, seats, mut one, mut other) = open_two(rt.alloc(), 4, false)?;
+fn others_flip_while_one_polls(rt: HostRuntime) {
+    let (h, seats, mut one, mut other) = open_two(&rt, rt.alloc(), 4, false);
     make_list(&rt, &h, &mut one);
-    let before = one.reg(0);
+    let before = reg(&one, 0);
     let has_flipped = AtomicBool::new(false);
     let (_sum, ()) = join_mut(
         &rt,
@@ -107,5 +106,4 @@ fn others_flip_while_one_polls(rt: HostRuntime) -> Result<(), Fail> {
     );
     check_rested(&rt, &h, &mut one, before);
     close_two(&rt, h, seats, one, other);
-    Ok(())
 }

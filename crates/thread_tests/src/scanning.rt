@@ -2,8 +2,7 @@
 
 ghost use Rattle.std.specs.Prelude.{◌≡◌, None};
 
-use crate::asserting::assert_same;
-use crate::calling::make;
+use crate::calling::{check_rounds, leave, make};
 use crate::heaps::{close_scanned, open_scanned, open_untaken};
 use crate::keeping::{check_list, flip_until, make_list};
 use crate::signs::comes;
@@ -12,14 +11,19 @@ use mutator_asm::Instr;
 use std::process::Abort;
 use std::sync::Wait;
 use std::sync::atomic::{AtomicBool, Ordering};
-use std::test::Fail;
 use std::thread::join_mut;
 
 /// How often the spaces are exchanged in each of three parts.
 const FLIPS: u32 = 20;
 
-/// Rounds with work after `snap`: they save the board and the two pages of the list, and mark the checkpoint as finished.
-const SAVES: u32 = 4;
+/// The rounds after `snap`. Those with work save the board and the two pages of the list, and mark the checkpoint as finished.
+const AFTER_SNAP: [Round; 5] = [
+    Round::Worked,
+    Round::Worked,
+    Round::Worked,
+    Round::Worked,
+    Round::Nothing,
+];
 
 /// What the two tell each other apart from the heap.
 #[derive(Drop)]
@@ -47,7 +51,7 @@ fn works<R: Wait + Abort>(rt: &R, h: &Shared, mutator: &mut Mutator, signs: &Sig
     assert!(rt; comes(&signs.worked));
     flip_until(rt, h, mutator, 3 * FLIPS);
     check_list(rt, h, mutator);
-    mutator.leave(rt, h);
+    leave(rt, h, mutator);
 }
 
 /// Scans until it is told to stop. Then it makes a round, in which there is a page to save, and scans again until the mutator has left.
@@ -59,15 +63,15 @@ fn scans<R: Wait + Abort>(rt: &R, h: &Shared, scanner: &mut Scanner, signs: &Sig
     signs.stop.store(false, Ordering::SeqCst);
     signs.stopped.store(true, Ordering::SeqCst);
     assert!(rt; comes(&signs.again));
-    assert_same(rt, &scanner.round(rt, h), &Round::Worked);
+    check_rounds(rt, h, scanner, &[Round::Worked]);
     signs.worked.store(true, Ordering::SeqCst);
     scanner.scans(rt, h, &signs.stop);
-    assert_same(rt, &scanner.round(rt, h), &Round::Gone);
+    check_rounds(rt, h, scanner, &[Round::Gone]);
 }
 
 #[test]
-fn a_scanner_stops_and_begins_again(rt: HostRuntime) -> Result<(), Fail> {
-    let (h, seats, mut mutator, mut scanner) = open_scanned(rt.alloc())?;
+fn a_scanner_stops_and_begins_again(rt: HostRuntime) {
+    let (h, seats, mut mutator, mut scanner) = open_scanned(&rt, rt.alloc());
     let signs = Signs {
         stop: AtomicBool::new(false),
         stopped: AtomicBool::new(false),
@@ -80,42 +84,35 @@ fn a_scanner_stops_and_begins_again(rt: HostRuntime) -> Result<(), Fail> {
         &mut || scans(&rt, &h, &mut scanner, &signs),
     );
     close_scanned(h, seats, mutator, scanner);
-    Ok(())
 }
 
 #[test]
-fn rounds_tell_whether_there_was_work(rt: HostRuntime) -> Result<(), Fail> {
-    let (h, seats, mut mutator, mut scanner) = open_scanned(rt.alloc())?;
-    assert_same(&rt, &scanner.round(&rt, &h), &Round::Nothing);
+fn rounds_tell_whether_there_was_work(rt: HostRuntime) {
+    let (h, seats, mut mutator, mut scanner) = open_scanned(&rt, rt.alloc());
+    check_rounds(&rt, &h, &mut scanner, &[Round::Nothing]);
     make_list(&rt, &h, &mut mutator);
     make(&rt, &h, &mut mutator, Instr::Snap);
     // An act begins a round, of which `round` makes what is left.
     scanner.act(&h);
     assert!(rt; !scanner.rests());
-    for _ in 0..SAVES {
-        assert_same(&rt, &scanner.round(&rt, &h), &Round::Worked);
-    }
-    assert_same(&rt, &scanner.round(&rt, &h), &Round::Nothing);
-    mutator.leave(&rt, &h);
-    // This one finds that all mutators have left.
-    assert_same(&rt, &scanner.round(&rt, &h), &Round::Nothing);
-    assert_same(&rt, &scanner.round(&rt, &h), &Round::Gone);
+    check_rounds(&rt, &h, &mut scanner, &AFTER_SNAP);
+    leave(&rt, &h, &mut mutator);
+    // The first of these finds that all mutators have left.
+    check_rounds(&rt, &h, &mut scanner, &[Round::Nothing, Round::Gone]);
     close_scanned(h, seats, mutator, scanner);
-    Ok(())
 }
 
 #[test]
-fn a_scanner_ends_though_a_seat_is_not_taken(rt: HostRuntime) -> Result<(), Fail> {
-    let (h, mut seats, mut mutator, mut scanner) = open_untaken(rt.alloc())?;
+fn a_scanner_ends_though_a_seat_is_not_taken(rt: HostRuntime) {
+    let (h, mut seats, mut mutator, mut scanner) = open_untaken(&rt, rt.alloc());
     make_list(&rt, &h, &mut mutator);
-    mutator.leave(&rt, &h);
-    assert_same(&rt, &scanner.round(&rt, &h), &Round::Nothing);
+    leave(&rt, &h, &mut mutator);
+    check_rounds(&rt, &h, &mut scanner, &[Round::Nothing]);
     seats.retire(&rt, &h);
     // Nobody stops it.
     scanner.scans(&rt, &h, &AtomicBool::new(false));
-    assert_same(&rt, &scanner.round(&rt, &h), &Round::Gone);
+    check_rounds(&rt, &h, &mut scanner, &[Round::Gone]);
     seats.mutators.push_reserved(mutator);
     seats.scanners.push_reserved(scanner);
     let _words = h.close(seats);
-    Ok(())
 }

@@ -2,15 +2,15 @@
 
 ghost use Rattle.std.specs.Prelude.{◌≡◌, None, IsTrue, true};
 ghost use Rattle.mutator_asm.specs.Program.{is_valid};
+ghost use Rattle.ael_threads.specs.Histories.{Each};
 
 use crate::asserting::assert_same;
-use crate::calling::begin;
+use crate::calling::{begin, reg};
 use crate::heaps::{close_two, open_two};
 use ael_threads::{Mutator, Reg, Shared};
 use gc_worker::Stepped;
 use mutator_asm::{Instr, Operand};
 use std::process::Abort;
-use std::test::Fail;
 
 /// More acts than an instruction here needs.
 const MOST: u32 = 10_000;
@@ -62,48 +62,48 @@ fn make_both(
 fn check_shared(rt: &impl Abort, one: &Mutator, other: &Mutator) {
     assert_same(
         rt,
-        &(one.reg(3), other.reg(3)),
+        &(reg(one, 3), reg(other, 3)),
         &(Reg::Number(8), Reg::Number(7)),
     );
-    assert_same(rt, &(one.reg(2), other.reg(2)), &(other.reg(0), one.reg(0)));
-    assert!(rt; one.reg(0) != other.reg(0));
-    assert!(rt; matches!(one.reg(0), Reg::Pointer(_)));
+    let (own, others) = (reg(one, 0), reg(other, 0));
+    assert_same(rt, &(reg(one, 2), reg(other, 2)), &(others, own));
+    assert!(rt; own != others);
+    assert!(rt; matches!(own, Reg::Pointer(_)));
 }
 
 /// Each makes a record with a number of its own, puts it on the board, and reads the other's.
-fn share(rt: &impl Abort, h: &Shared, one: &mut Mutator, other: &mut Mutator)
+const SHARE: [(Instr, Instr); 6] = [
+    (Instr::New(0, ONE), Instr::New(0, ONE)),
+    (Instr::Li(1, 7), Instr::Li(1, 8)),
+    (Instr::St(0, ZERO, 1), Instr::St(0, ZERO, 1)),
+    (Instr::Put(ZERO, 0), Instr::Put(ONE, 0)),
+    (Instr::Get(2, ONE), Instr::Get(2, ZERO)),
+    (Instr::Ld(3, 2, ZERO), Instr::Ld(3, 2, ZERO)),
+];
+
+/// Each of two mutators executes its instructions, by acts in turns.
+fn make_all_both(
+    rt: &impl Abort,
+    h: &Shared,
+    one: &mut Mutator,
+    other: &mut Mutator,
+    instrs: &[(Instr, Instr)],
+)
     requires one { (one.old.table ≡ h.now.table.shared.table_id) × (one.old.worker.task ≡ None) }
     requires other { (other.old.table ≡ h.now.table.shared.table_id) × (other.old.worker.task ≡ None) }
+    requires valid { Each (λ p. IsTrue (is_valid p.0) × IsTrue (is_valid p.1)) instrs.now }
     ensures one { (one.new.table ≡ one.old.table) × (one.new.worker.task ≡ None) }
     ensures other { (other.new.table ≡ other.old.table) × (other.new.worker.task ≡ None) }
 {
-    make_both(rt, h, one, other, Instr::New(0, ONE), Instr::New(0, ONE));
-    make_both(rt, h, one, other, Instr::Li(1, 7), Instr::Li(1, 8));
-    make_both(
-        rt,
-        h,
-        one,
-        other,
-        Instr::St(0, ZERO, 1),
-        Instr::St(0, ZERO, 1),
-    );
-    make_both(rt, h, one, other, Instr::Put(ZERO, 0), Instr::Put(ONE, 0));
-    make_both(rt, h, one, other, Instr::Get(2, ONE), Instr::Get(2, ZERO));
-    make_both(
-        rt,
-        h,
-        one,
-        other,
-        Instr::Ld(3, 2, ZERO),
-        Instr::Ld(3, 2, ZERO),
-    );
-    check_shared(rt, one, other);
+    for pair in instrs {
+        make_both(rt, h, one, other, pair.0, pair.1);
+    }
 }
 
 #[test]
-fn two_callers_see_what_the_other_shares(rt: HostRuntime) -> Result<(), Fail> {
-    let (h, seats, mut one, mut other) = open_two(rt.alloc(), 4, false)?;
-    share(&rt, &h, &mut one, &mut other);
+fn two_callers_see_what_the_other_shares(rt: HostRuntime) {
+    let (h, seats, mut one, mut other) = open_two(&rt, rt.alloc(), 4, false);
+    make_all_both(&rt, &h, &mut one, &mut other, &SHARE);
+    check_shared(&rt, &one, &other);
     close_two(&rt, h, seats, one, other);
-    Ok(())
 }

@@ -24,15 +24,15 @@ use Rattle.gate_core.specs.Flip as flip
 use Rattle.gate_core.specs.declared.snap.snapped.Snapped.{Snapped}
 use Rattle.gate_core.specs.declared.snap.snapped.Snapped.TheVariants as snapped
 use Rattle.gate_core.specs.Snap as snap
-use Rattle.gc_worker.specs.declared.access.Access.{Access}
-use Rattle.gc_worker.specs.declared.access.accessed.Accessed.{Accessed}
-use Rattle.gc_worker.specs.declared.access.accessed.Accessed.TheVariants.{Faults, Awaits, Brings, Stored, Fails}
+use Rattle.record_access.specs.declared.access.Access.{Access}
+use Rattle.record_access.specs.declared.accessed.Accessed.{Accessed}
+use Rattle.record_access.specs.declared.accessed.Accessed.TheVariants.{Faults, Awaits, Brings, Stored, Fails}
 use Rattle.gc_worker.specs.declared.stage.after.After.TheVariants as afters
 use Rattle.gc_worker.specs.declared.stage.Stage.{Stage}
 use Rattle.gc_worker.specs.declared.stage.Stage.TheVariants.{Looks, Passes, Flips, Forwards, Accesses, Places, Serves, Scans, Evacuates, Opens, Recalls, Guards, Checkpoints, BeginsCheckpoint, Gone}
 use Rattle.gc_worker.specs.declared.task.Task.{Task}
 use Rattle.gc_worker.specs.declared.task.Task.TheVariants.{Calls, Stops}
-use Rattle.gc_worker.specs.Steps.Access as access
+use Rattle.record_access.specs.Access as access
 use Rattle.gc_worker.specs.Workers.Begun.{IsPastLook}
 use Rattle.gc_worker.specs.Workers.Counted.{counted}
 use Rattle.gc_worker.specs.Workers.Fits.{Fits, FitsTask}

@@ -11,6 +11,7 @@ use Rattle.plain_state.specs.Layout.{size_of}
 use Rattle.plain_state.specs.State.{serial_of}
 use Rattle.ael_threads.specs.declared.view.Plan.{Plan}
 use Rattle.concordance_text.specs.declared.part.Part.{Part}
+use Rattle.concordance_text.specs.MayBeFull.{MayBeFull}
 use Rattle.concordance_text.specs.Parts.{mentions_of_part}
 use Rattle.concordance_text.specs.Rows.{AreRowsOf}
 use Rattle.concordance_text.specs.Words.{Mention, ends_line, is_some_run, lines_of, lower_cased, mention, mentions_from, mentions_in, mentions_of, separates, words_in}
@@ -19,7 +20,6 @@ use Rattle.concordance.specs.declared.error.ConcordError.{ConcordError}
 use Rattle.concordance.specs.declared.error.ConcordError.TheVariants.{HeapFull}
 use Rattle.concordance.specs.Full.{WasFullFor, words_made}
 use Rattle.concordance.specs.Lone.{alone_by, desk_of}
-use Rattle.concordance.specs.MayBeFull.{MayBeFull}
 use Rattle.concordance.specs.OneMutator.{IsWhole}
 use Rattle.concordance.specs.Working.{WasFullForOne, SharedHeap}
 use Rattle.concordance.proofs.LoneHeaps.DoneCalls.{lone_calls_are_done}

@@ -44,9 +44,9 @@ use Rattle.page_slots.specs.Open as open_page
 use Rattle.plain_heap.specs.declared.action.Action.{Action}
 use Rattle.plain_heap.specs.declared.action.Action.TheVariants.{Sets, Jumps, Links, Prints, Makes, Measures, Loads, Stores, Exchanges, Gets, Puts, Swaps, Snaps}
 use Rattle.plain_heap.specs.Action.{action}
-use Rattle.gc_worker.specs.declared.access.Access.{Access}
-use Rattle.gc_worker.specs.declared.access.accessed.Accessed.{Accessed}
-use Rattle.gc_worker.specs.declared.access.accessed.Accessed.TheVariants.{Faults, Awaits, Brings, Stored, Fails}
+use Rattle.record_access.specs.declared.access.Access.{Access}
+use Rattle.record_access.specs.declared.accessed.Accessed.{Accessed}
+use Rattle.record_access.specs.declared.accessed.Accessed.TheVariants.{Faults, Awaits, Brings, Stored, Fails}
 use Rattle.gc_worker.specs.declared.stage.after.After.{After}
 use Rattle.gc_worker.specs.declared.stage.after.After.TheVariants as afters
 use Rattle.gc_worker.specs.declared.stage.back.Back.{Back}
@@ -58,7 +58,7 @@ use Rattle.gc_worker.specs.declared.stage.Stage.{Stage}
 use Rattle.gc_worker.specs.declared.stage.Stage.TheVariants.{Looks, Passes, Flips, Forwards, Accesses, Places, Serves, Scans, Evacuates, Opens, Recalls, Guards, Checkpoints, BeginsCheckpoint, Gone}
 use Rattle.gc_worker.specs.declared.task.Task.{Task}
 use Rattle.gc_worker.specs.declared.task.Task.TheVariants.{Calls, Stops}
-use Rattle.gc_worker.specs.Steps.Access as access
+use Rattle.record_access.specs.Access as access
 use Rattle.gc_worker.specs.Laws.Between.{IsAnswerOf, IsNoAnswer, RestsAt, WorkersGoOn}
 use Rattle.gc_worker.specs.Workers.Fits.{FitsEnd, FitsTask, IsEndBefore, IsMaking}
 use Rattle.gc_worker.specs.Workers.Held.{Held, at_stage, making_for, may_snap}

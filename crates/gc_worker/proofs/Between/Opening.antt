@@ -29,7 +29,7 @@ use Rattle.gc_worker.specs.Workers.Held.{Held}
 use Rattle.gc_worker.specs.Workers.Knows.{knows}
 use Rattle.gc_worker.specs.Workers.Saves.{saver_of}
 use Rattle.gc_worker.specs.Laws.Step.{Heap, StandIf, held_at, nobody, read, saves_in}
-use Rattle.gc_worker.specs.Plain.Seen.{IsValueAs, IsValueWord}
+use Rattle.record_access.specs.Seen.{IsValueAs, IsValueWord}
 use Rattle.gc_worker.proofs.Workers.Parts.{new_worker}
 
 -- ---- one worker

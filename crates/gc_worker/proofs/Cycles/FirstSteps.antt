@@ -52,10 +52,10 @@ use Rattle.plain_heap.specs.Action.{action}
 use Rattle.gc_worker.specs.Laws.Cycles.{IsFirstAt, MayAsk}
 use Rattle.gc_worker.specs.Laws.Step.{read}
 use Rattle.gc_worker.specs.Workers.Fits.{FitsStage, IsOwnPassage, MayRequest}
-use Rattle.gc_worker.specs.declared.access.Access.{Access}
-use Rattle.gc_worker.specs.declared.access.access_stage.AccessStage.{AccessStage}
-use Rattle.gc_worker.specs.declared.access.accessed.Accessed.{Accessed}
-use Rattle.gc_worker.specs.declared.access.accessed.Accessed.TheVariants.{Faults, Awaits, Brings, Stored, Fails}
+use Rattle.record_access.specs.declared.access.Access.{Access}
+use Rattle.record_access.specs.declared.access_stage.AccessStage.{AccessStage}
+use Rattle.record_access.specs.declared.accessed.Accessed.{Accessed}
+use Rattle.record_access.specs.declared.accessed.Accessed.TheVariants.{Faults, Awaits, Brings, Stored, Fails}
 use Rattle.gc_worker.specs.declared.stage.after.After.{After}
 use Rattle.gc_worker.specs.declared.stage.after.After.TheVariants as afters
 use Rattle.gc_worker.specs.declared.stage.back.Back.{Back}
@@ -69,7 +69,8 @@ use Rattle.gc_worker.specs.declared.stage.Stage.{Stage}
 use Rattle.gc_worker.specs.declared.stage.Stage.TheVariants.{Looks, Passes, Flips, Forwards, Accesses, Places, Serves, Scans, Evacuates, Opens, Recalls, Guards, Checkpoints, BeginsCheckpoint, Gone}
 use Rattle.gc_worker.specs.declared.task.Task.{Task}
 use Rattle.gc_worker.specs.declared.task.Task.TheVariants.{Calls, Stops}
-use Rattle.gc_worker.specs.Steps.Access as access
+use Rattle.record_access.specs.Access as access
+use Rattle.gc_worker.specs.Steps.Access as of_action
 use Rattle.gc_worker.specs.Workers.Held.{Held, at_stage, fields_for, has_seen_flip, header_for, making_for, may_snap, run_held, target_for}
 use Rattle.gc_worker.specs.Plain.Seen.{Making, seen}
 use Rattle.gc_worker.specs.Steps.Turned.{Pointed, acted, accesses, acts, after_request, asks_flip, attached, begins, checkpoints, end_by_shortage, ended, epoch_said, first_pointer, forwards_from, forwards_it, full_by, goes_back, goes_on, guards, guards_place, in_epoch, is_full, looked_by, passed_by, passes, places, recalled, rounded, runs_on, served_by, serves_snap, started, traced_by, turned_access, turned_at, turned_copy, turned_flip, turned_gate, turned_guard, turned_look, turned_opening, turned_place, turned_recall, turned_register, turned_round, turned_save_round, turned_scan, turned_snap, went_on, with_copy, with_evac, with_record, writes}
@@ -299,7 +300,7 @@ module _ (n size : ℕ) where
         snaps_first true = tt
         snaps_first false = tt
     by_action (Makes kind d n v) own = placing (acts x (Makes kind d n v)) x (header_for x)
-    by_action act own = access_begins (access.begun act) own
+    by_action act own = access_begins (of_action.begun act) own
 
     by_result : (r : Result Action End) → First x → First (acted x r)
     by_result (Ok act) own = by_action act own

@@ -56,7 +56,7 @@ use Rattle.heap_state.specs.Memory.Table.{word_in}
 use Rattle.heap_state.specs.Worker.{Reset, Worker}
 use Rattle.heap_state.proofs.Table.Places.{word_in-row, word_in-same, word_in-other}
 use Rattle.gc_worker.specs.Laws.Cycles.{words_claimed, claimed_at, claimed_by_placing, low_said, low_at, low_of, size_of as size_in_use, LowGoes, LowFallsByClaims}
-use Rattle.gc_worker.specs.Steps.Access as access
+use Rattle.record_access.specs.Access as access
 use Rattle.gc_worker.specs.declared.stage.Stage.{Stage}
 use Rattle.gc_worker.specs.declared.stage.Stage.TheVariants.{Looks, Passes, Flips, Forwards, Accesses, Places, Serves, Scans, Evacuates, Opens, Recalls, Guards, Checkpoints, BeginsCheckpoint, Gone}
 use Rattle.gc_worker.specs.Steps.Goes.{Is}
@@ -64,7 +64,7 @@ use Rattle.gc_worker.specs.Workers.Held.{Held, at_stage}
 use Rattle.gc_worker.specs.Laws.Step.{Heap, FlipsWhereTold, WorkersStand, read, held_at, epoch_of}
 use Rattle.gc_worker.specs.Steps.Turned.{Told, Silent, Empties, Answers, Marks, epoch_in_gate, told, told_at, told_flip}
 use Rattle.gc_worker.specs.Steps.Wanted.{wanted, wanted_at}
-use Rattle.gc_worker.proofs.Stages.Access.RowsFit as access_rows
+use Rattle.record_access.proofs.RowsFit as access_rows
 use Rattle.gc_worker.proofs.Words.Areas.{area_says, is_space}
 use Rattle.gc_worker.proofs.Between.Pages.Claims.{NoMark, flips_at}
 use Rattle.gc_worker.proofs.Between.Pages.Written.{Elsewhere, IsNoArea, IsNoSize, area_stays, size_stays, whole_area_stays}

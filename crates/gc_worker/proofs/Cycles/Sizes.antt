@@ -46,7 +46,7 @@ use Rattle.heap_state.specs.Worker.{Reset, Worker}
 use Rattle.heap_state.proofs.Puts.{some_same}
 use Rattle.heap_state.proofs.Table.Places.{word_in-other, word_in-same}
 use Rattle.gc_worker.specs.Laws.Cycles.{Grows, SeenFlipsDouble, SizeGoes, SizesAreWithin, SizesHold, SizesHoldAt, SizesStay, size_of}
-use Rattle.gc_worker.specs.Steps.Access as access
+use Rattle.record_access.specs.Access as access
 use Rattle.gc_worker.specs.declared.stage.Stage.{Stage}
 use Rattle.gc_worker.specs.declared.stage.Stage.TheVariants.{Looks, Passes, Flips, Forwards, Accesses, Places, Serves, Scans, Evacuates, Opens, Recalls, Guards, Checkpoints, BeginsCheckpoint, Gone}
 use Rattle.gc_worker.specs.Steps.Goes.{Is}
@@ -54,7 +54,7 @@ use Rattle.gc_worker.specs.Workers.Held.{Held, at_stage, has_seen_flip}
 use Rattle.gc_worker.specs.Laws.Step.{Heap, FlipsOnce, FlipsWhereTold, WorkersStand, read, held_at, epoch_of}
 use Rattle.gc_worker.specs.Steps.Turned.{Told, Silent, Empties, Answers, Marks, told, told_at, told_flip}
 use Rattle.gc_worker.specs.Steps.Wanted.{wanted, wanted_at}
-use Rattle.gc_worker.proofs.Stages.Access.RowsFit as access_rows
+use Rattle.record_access.proofs.RowsFit as access_rows
 use Rattle.gc_worker.proofs.Words.Areas.{is_space}
 use Rattle.gc_worker.proofs.Words.Eras.{old_span_is, span_is}
 use Rattle.gc_worker.proofs.Words.Sizes.{next_grows, size_now, size_within}

@@ -30,7 +30,8 @@ use Rattle.plain_heap.proofs.Calls.Outcomes.{if_ok-bind, if_ok-is}
 use Rattle.gc_worker.specs.Laws.Between.{ShowsRegisters}
 use Rattle.gc_worker.specs.Workers.Fits.{IsMaking}
 use Rattle.gc_worker.specs.Workers.Held.{Held}
-use Rattle.gc_worker.specs.Plain.Seen.{IsValueAs, IsValueWord, seen, seen_as, value_seen}
+use Rattle.record_access.specs.Seen.{IsValueAs, IsValueWord, seen_as, value_seen}
+use Rattle.gc_worker.specs.Plain.Seen.{seen}
 
 -- a record that is made is made there too, of whatever value
 abbrev IsSameRecord : Result Action End → Action → Type 0

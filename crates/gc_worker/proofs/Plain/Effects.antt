@@ -28,7 +28,7 @@ use Rattle.gc_worker.specs.Plain.Full.{FullByEnd}
 use Rattle.gc_worker.specs.Steps.Goes.{Is, Goes}
 use Rattle.gc_worker.specs.Workers.Held.{Held}
 use Rattle.gc_worker.specs.Workers.Knows.{knows, post_in}
-use Rattle.gc_worker.specs.Plain.Seen.{IsValueWord}
+use Rattle.record_access.specs.Seen.{IsValueWord}
 use Rattle.gc_worker.specs.declared.calls.did.Did.TheVariants.{Done, Trap}
 use Rattle.gc_worker.specs.Steps.Turned.{turned, told, won, told_effect, told_end, next_of, loads, went_on, ended}
 use Rattle.gc_worker.proofs.Plain.AnswerSteps.{LawTo, IsIts, answers, may_hold, going, next_as}

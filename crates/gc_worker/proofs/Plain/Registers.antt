@@ -37,10 +37,11 @@ use Rattle.heap_laws.proofs.Fields.Shown.{numbers_are_held}
 use Rattle.gc_worker.specs.Steps.Goes.{Is}
 use Rattle.gc_worker.specs.Workers.Held.{Held}
 use Rattle.gc_worker.specs.Workers.Knows.{post_in}
-use Rattle.gc_worker.specs.Plain.Seen.{IsValueWord, IsValueAs, seen, seen_as, value_seen, word_for}
+use Rattle.record_access.specs.Seen.{IsValueWord, IsValueAs, seen_as, value_seen, word_for}
+use Rattle.gc_worker.specs.Plain.Seen.{seen}
 use Rattle.gc_worker.proofs.Plain.Actions.{plain_value, plain_outcome, AreAlikeBy, acts_alike}
 use Rattle.gc_worker.proofs.Plain.AnswerSteps.{IsIts, holds}
-use Rattle.gc_worker.proofs.Words.Read.{word_of_value_seen}
+use Rattle.record_access.proofs.Read.{word_of_value_seen}
 use Rattle.gc_worker.proofs.Words.RowSteps.{prepared}
 use Rattle.gc_worker.proofs.Plain.Targets.{WritesRegister, writes_register}
 

@@ -26,7 +26,8 @@ use Rattle.gc_worker.specs.declared.stage.after.After.TheVariants as afters
 use Rattle.gc_worker.specs.declared.task.Task.{Task}
 use Rattle.gc_worker.specs.declared.task.Task.TheVariants.{Calls, Stops}
 use Rattle.gc_worker.specs.Workers.Fits.{FitsCall, MayBegin, IsMaking, IsSnapping}
-use Rattle.gc_worker.specs.Plain.Seen.{Making, making_in, mixed_made, seen, seen_as, value_seen}
+use Rattle.record_access.specs.Seen.{seen_as, value_seen}
+use Rattle.gc_worker.specs.Plain.Seen.{Making, making_in, mixed_made, seen}
 
 abbrev TaskAfter : Account → List ℕ → Option Task → After → Type 0
 TaskAfter account registers task afters.Looks = MayBegin account registers task

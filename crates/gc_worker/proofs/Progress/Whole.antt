@@ -51,10 +51,10 @@ use Rattle.page_scan.specs.Taken as scan_taken
 use Rattle.page_slots.specs.declared.opened.Opened.{Opened}
 use Rattle.page_slots.specs.Open as open_page
 use Rattle.heap_state.specs.Configuration.{Configuration, Stands}
-use Rattle.gc_worker.specs.declared.access.Access.{Access}
-use Rattle.gc_worker.specs.declared.access.access_stage.AccessStage.{AccessStage}
-use Rattle.gc_worker.specs.declared.access.access_stage.AccessStage.TheVariants.{LoadsHeader, LoadsCount}
-use Rattle.gc_worker.specs.declared.access.accessed.Accessed.{Accessed}
+use Rattle.record_access.specs.declared.access.Access.{Access}
+use Rattle.record_access.specs.declared.access_stage.AccessStage.{AccessStage}
+use Rattle.record_access.specs.declared.access_stage.AccessStage.TheVariants.{LoadsHeader, LoadsCount}
+use Rattle.record_access.specs.declared.accessed.Accessed.{Accessed}
 use Rattle.gc_worker.specs.declared.stage.after.After.{After}
 use Rattle.gc_worker.specs.declared.stage.back.Back.{Back}
 use Rattle.gc_worker.specs.declared.stage.back.Back.TheVariants.{ToAccess, ToTarget, ToPlace, ToSnap, ToScanner}
@@ -62,13 +62,13 @@ use Rattle.gc_worker.specs.declared.stage.goal.Goal.{Goal}
 use Rattle.gc_worker.specs.declared.stage.write.Write.{Write}
 use Rattle.gc_worker.specs.declared.stage.write.Write.TheVariants.{OfAccess, OfPlace}
 use Rattle.gc_worker.specs.declared.stage.forwarding_register.ForwardingRegister.{ForwardingRegister}
-use Rattle.gc_worker.specs.declared.access.mixed_access.MixedAccess.{MixedAccess}
-use Rattle.gc_worker.specs.declared.access.record_access.RecordAccess.{RecordAccess}
+use Rattle.record_access.specs.declared.mixed_access.MixedAccess.{MixedAccess}
+use Rattle.record_access.specs.declared.record_access.RecordAccess.{RecordAccess}
 use Rattle.gc_worker.specs.declared.stage.Stage.{Stage}
 use Rattle.gc_worker.specs.declared.stage.Stage.TheVariants.{Looks, Passes, Flips, Forwards, Accesses, Places, Serves, Scans, Evacuates, Opens, Recalls, Guards, Checkpoints, BeginsCheckpoint, Gone}
 use Rattle.gc_worker.specs.declared.calls.did.Did.TheVariants.{Done}
 use Rattle.gc_worker.specs.declared.task.Task.{Task}
-use Rattle.gc_worker.specs.Steps.Access as access
+use Rattle.record_access.specs.Access as access
 use Rattle.gc_worker.specs.Workers.Fits.{IsOwnPassage}
 use Rattle.gc_worker.specs.Steps.Goes.{Is}
 use Rattle.gc_worker.specs.Workers.Held.{Held, at_stage}
@@ -84,7 +84,7 @@ use Rattle.gc_worker.proofs.Stages.Copies.Hosts.{Host, ForScan, ForRegister}
 use Rattle.gc_worker.proofs.Stages.Copies.Hosts as hosts
 use Rattle.gc_worker.proofs.Stages.Copies.Words.{heap_word}
 use Rattle.gc_worker.proofs.Workers.Members.{member}
-use Rattle.gc_worker.proofs.Progress.Accesses.{accesses_lower}
+use Rattle.record_access.proofs.Lowering.{accesses_lower}
 use Rattle.gc_worker.proofs.Progress.Replies.{TakesOn, Advances, Loses, Waits, MeetsBusy, On, accessing, copying, flipping, loads_header, opening, passing, placing, says_gate, scanning, serving, IsThere, word_at, word_is}
 use Rattle.gc_worker.proofs.Progress.Copies.{copies_lower}
 use Rattle.gc_worker.proofs.Progress.Ends.{RoundsAgain, accesses_end, allocations_end, flips_end, guards_end, guards_so, openings_end, passages_end, recalls_end, registers_end, rounds_end, scans_end, snaps_end}

@@ -1,5 +1,4 @@
 pub mod Going
-pub mod GoingOn
 pub mod Looking
 pub mod Acting
 pub mod Outcomes
@@ -10,4 +9,3 @@ pub mod Exchanges
 pub mod Counts
 pub mod Board
 pub mod Stages
-pub mod RowsFit

@@ -1,18 +1,14 @@
 -- What the code reads in a word is what the definitions make of it.
 use Rattle.std.proofs.Common.{◌≡◌, ℕ, true, false, ◌+◌, ◌-◌, ◌^◌, ◌<◌, ◌≤◌, arith, Option, zero, suc, List, [], ◌∷◌, map, Some, None, refl, sym, ap, ◌∙◌, subst, slice_get, slice_index, slice_index_or}
 use Rattle.std.proofs.lemmas.Option.{get_or_from_slice_get}
-use Rattle.heap_words.specs.Decoded.{Decoded, NumberWord, PointerWord, HeaderWord, ForwardWord, BusyWord, Malformed, decode, encode, number_in, pointer_in}
-use Rattle.heap_words.proofs.Decoding.{decode-header_word}
-use Rattle.heap_words.proofs.Spelling.{number_word-decode, pointer_word-decode}
+use Rattle.heap_words.specs.Decoded.{Decoded, NumberWord, PointerWord, HeaderWord, ForwardWord, BusyWord, Malformed, decode, number_in, pointer_in}
 use Rattle.record_layout.specs.declared.header.Header.{Header}
 use Rattle.record_layout.specs.Layout.{header_in, header_says, header_with}
 use Rattle.heap_words.specs.declared.kind.Kind.{Kind}
 use Rattle.std.proofs.Math.Decide.{dec_le, dec_lt}
-use Rattle.record_layout.proofs.Rereading.{header_in-said, header_in-header_says}
-use Rattle.gc_worker.specs.declared.access.access_stage.AccessStage.TheVariants.{LoadsHeader}
-use Rattle.gc_worker.specs.declared.access.record_access.RecordAccess.{RecordAccess}
-use Rattle.gc_worker.specs.Steps.Access.{GoesTo, by_kind, read_header}
-use Rattle.gc_worker.specs.Plain.Seen.{IsValueAs, IsValueWord, by_address, making_in, seen, seen_as, value_seen, word_for}
+use Rattle.record_layout.proofs.Rereading.{header_in-header_says}
+use Rattle.record_access.specs.Seen.{by_address, seen_as, value_seen}
+use Rattle.gc_worker.specs.Plain.Seen.{making_in, seen}
 use Rattle.heap_state.specs.Worker.{Account}
 use Rattle.plain_heap.specs.Action.{action, register}
 use Rattle.mutator_asm.specs.declared.instr.Instr.{Instr}
@@ -41,38 +37,6 @@ use Rattle.fault_duty.specs.declared.round_end.RoundEnd.TheVariants.{ScanPage, S
 use Rattle.gc_worker.specs.declared.task.Task.{Task}
 use Rattle.gc_worker.specs.declared.task.Task.TheVariants.{Calls}
 use Rattle.plain_state.specs.declared.value.Value.TheVariants.{Number, Reference}
-
--- ---- values
-
-word_seen : (w : ℕ) (d : Decoded) → decode w ≡ d → IsValueAs d → word_for (seen_as d) ≡ w
-word_seen w (NumberWord n) is value = sym (number_word-decode w n is)
-word_seen w (PointerWord address) is value = sym (pointer_word-decode w address is)
-word_seen w (HeaderWord kind len serial mutator) is value = absurd value
-word_seen w (ForwardWord len address) is value = absurd value
-word_seen w (BusyWord len worker) is value = absurd value
-word_seen w Malformed is value = absurd value
-
--- the word of the value that is seen in a value's word is this word
-pub word_of_value_seen : (w : ℕ) → IsValueWord w → word_for (value_seen w) ≡ w
-word_of_value_seen w value = word_seen w (decode w) refl value
-
--- ---- headers
-
-pub headers_are_read : (r : RecordAccess) (w : ℕ) (h : Header) → w ≡ encode (header_says h)
-    → read_header r (decode w) ≡ by_kind r h.kind h.len
-headers_are_read r w h spelled = ap (read_header r) (ap decode spelled ∙ decode-header_word h.kind h.len h.serial h.mutator h.short h.counted)
-
-no_header : (r : RecordAccess) (w : ℕ) (d : Decoded) → decode w ≡ d → header_in (decode w) ≡ None → read_header r d ≡ GoesTo (LoadsHeader r)
-no_header r w (HeaderWord kind len serial mutator) e none =
-    let h = header_in-said w kind len serial mutator e in absurd (let z : None ≡ Some h.0 = sym none ∙ h.1 in cc)
-no_header r w (NumberWord n) e none = refl
-no_header r w (PointerWord address) e none = refl
-no_header r w (ForwardWord len address) e none = refl
-no_header r w (BusyWord len worker) e none = refl
-no_header r w Malformed e none = refl
-
-pub others_are_not_read : (r : RecordAccess) (w : ℕ) → None ≡ header_in (decode w) → read_header r (decode w) ≡ GoesTo (LoadsHeader r)
-others_are_not_read r w none = no_header r w (decode w) refl (sym none)
 
 -- ---- registers
 

@@ -23,14 +23,14 @@ use Rattle.gate_core.proofs.RowsFit.{flip_rows_fit, passage_rows_fit, recall_row
 use Rattle.page_saves.proofs.RowsFit as save_rows
 use Rattle.page_scan.proofs.RowsFit as scan_rows
 use Rattle.page_slots.proofs.RowsFit.{opening_rows_fit}
-use Rattle.gc_worker.specs.Steps.Access as access
+use Rattle.record_access.specs.Access as access
 use Rattle.gc_worker.specs.declared.stage.Stage.{Stage}
 use Rattle.gc_worker.specs.declared.stage.Stage.TheVariants.{Looks, Passes, Flips, Forwards, Accesses, Places, Serves, Scans, Evacuates, Opens, Recalls, Guards, Checkpoints, BeginsCheckpoint, Gone}
 use Rattle.gc_worker.specs.Workers.Fits.{Fits, FitsCopy, FitsStage}
 use Rattle.gc_worker.specs.Workers.Held.{Held}
 use Rattle.gc_worker.specs.Laws.Step.{PlacesFit}
 use Rattle.gc_worker.specs.Steps.Wanted.{wanted_at}
-use Rattle.gc_worker.proofs.Stages.Access.RowsFit as access_rows
+use Rattle.record_access.proofs.RowsFit as access_rows
 use Rattle.gc_worker.proofs.Words.TableRows.{marks_with_room}
 
 -- there is a step, and its place is in the layout's table

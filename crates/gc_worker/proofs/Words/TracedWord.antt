@@ -42,13 +42,13 @@ use Rattle.heap_state.specs.Configuration.{Configuration}
 use Rattle.heap_state.specs.Memory.Table.{word_in}
 use Rattle.gc_worker.specs.declared.stage.Stage.{Stage}
 use Rattle.gc_worker.specs.declared.stage.Stage.TheVariants.{Looks, Passes, Flips, Forwards, Accesses, Places, Serves, Scans, Evacuates, Opens, Recalls, Guards, Checkpoints, BeginsCheckpoint, Gone}
-use Rattle.gc_worker.specs.Steps.Access as access
+use Rattle.record_access.specs.Access as access
 use Rattle.gc_worker.specs.Steps.Goes.{Is}
 use Rattle.gc_worker.specs.Steps.Turned.{Empties, told, told_at, told_round}
 use Rattle.gc_worker.specs.Steps.Wanted.{wanted, wanted_at}
 use Rattle.gc_worker.specs.Workers.Held.{Held, at_stage}
 use Rattle.gc_worker.proofs.Between.Pages.Written.{Elsewhere, row_stays}
-use Rattle.gc_worker.proofs.Stages.Access.RowsFit as access_rows
+use Rattle.record_access.proofs.RowsFit as access_rows
 
 -- ---- rows
 

@@ -11,7 +11,7 @@ use Rattle.heap_state.proofs.Puts.{put_is}
 use Rattle.gc_worker.specs.declared.stage.Stage.TheVariants.{Looks}
 use Rattle.gc_worker.specs.Workers.Fits.{AreValues, Fits, FitsRun}
 use Rattle.gc_worker.specs.Workers.Held.{Held}
-use Rattle.gc_worker.specs.Plain.Seen.{IsValueWord}
+use Rattle.record_access.specs.Seen.{IsValueWord}
 use Rattle.gc_worker.specs.Steps.Turned.{ended}
 use Rattle.gc_worker.proofs.Workers.Parts.{with_parts, page_count}
 

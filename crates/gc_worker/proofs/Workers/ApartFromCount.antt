@@ -31,7 +31,7 @@ use Rattle.page_saves.specs.SaveRound as save_round
 use Rattle.page_scan.specs.Scanning as scan
 use Rattle.page_scan.specs.Taken as scan_taken
 use Rattle.page_slots.specs.Open as open_page
-use Rattle.gc_worker.specs.declared.access.access_stage.AccessStage.{AccessStage}
+use Rattle.record_access.specs.declared.access_stage.AccessStage.{AccessStage}
 use Rattle.gc_worker.specs.declared.stage.after.After.{After}
 use Rattle.gc_worker.specs.declared.stage.after.After.TheVariants as afters
 use Rattle.gc_worker.specs.declared.stage.back.Back.{Back}
@@ -45,7 +45,7 @@ use Rattle.gc_worker.specs.declared.stage.Stage.TheVariants.{Looks, Passes, Flip
 use Rattle.gc_worker.specs.declared.calls.did.Did.TheVariants.{Done}
 use Rattle.gc_worker.specs.declared.task.Task.{Task}
 use Rattle.gc_worker.specs.declared.task.Task.TheVariants.{Calls, Stops}
-use Rattle.gc_worker.specs.Steps.Access as access
+use Rattle.record_access.specs.Access as access
 use Rattle.gc_worker.specs.Workers.Counted.{counted, count_after, CountsAreApart, CountedFit}
 use Rattle.gc_worker.specs.Workers.Fits.{ExecutesAction, Fits, FitsCall, FitsCopy, FitsPlace, FitsRound, FitsScan, FitsStage, FitsTask, FitsTaskAfter, FitsTaskAsking, FitsTaskBack, FitsTaskBefore, FitsTaskFor, FitsTaskWrite, FitsWrite, IsAccessing, IsMaking, IsRoundFor, IsRoundOfMutator, MayBegin}
 use Rattle.gc_worker.specs.Workers.Held.{Held, at_stage, may_snap}

@@ -11,7 +11,7 @@ use Rattle.alloc_end.specs.Place as place
 use Rattle.alloc_end.specs.Soundness.{RunLiesInSpaces, HoldsFields, HoldsTargetAndLink, IsPlacingGoing, FitsPlaceStage}
 use Rattle.gate_core.specs.Recall as recall
 use Rattle.record_layout.specs.declared.header.Header.{Header}
-use Rattle.gc_worker.specs.declared.access.Access.{Access}
+use Rattle.record_access.specs.declared.access.Access.{Access}
 use Rattle.gc_worker.specs.declared.stage.after.After.{After}
 use Rattle.gc_worker.specs.declared.stage.after.After.TheVariants as afters
 use Rattle.gc_worker.specs.declared.stage.back.Back.TheVariants.{ToTarget}

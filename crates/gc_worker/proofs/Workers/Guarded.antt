@@ -9,15 +9,15 @@ use Rattle.alloc_end.specs.declared.place_stage.PlaceStage.TheVariants as place_
 use Rattle.alloc_end.specs.Place as place
 use Rattle.alloc_end.specs.Soundness.{IsSoundPlacing}
 use Rattle.page_saves.specs.Guard as guard
-use Rattle.gc_worker.specs.declared.access.Access.{Access}
-use Rattle.gc_worker.specs.declared.access.access_stage.AccessStage.{AccessStage}
-use Rattle.gc_worker.specs.declared.access.access_stage.AccessStage.TheVariants.{LooksAtField, LoadsField, StoresField, ExchangesField, StoresBoard, SwapsBoard}
+use Rattle.record_access.specs.declared.access.Access.{Access}
+use Rattle.record_access.specs.declared.access_stage.AccessStage.{AccessStage}
+use Rattle.record_access.specs.declared.access_stage.AccessStage.TheVariants.{LooksAtField, LoadsField, StoresField, ExchangesField, StoresBoard, SwapsBoard}
 use Rattle.gc_worker.specs.declared.stage.write.Write.{Write}
 use Rattle.gc_worker.specs.declared.stage.write.Write.TheVariants.{OfAccess, OfPlace}
 use Rattle.gc_worker.specs.declared.stage.Stage.{Stage}
 use Rattle.gc_worker.specs.declared.stage.Stage.TheVariants.{Accesses, Places, Guards}
-use Rattle.gc_worker.specs.Steps.Access.{FitsStage}
-use Rattle.gc_worker.specs.Steps.Access as access
+use Rattle.record_access.specs.Access.{FitsStage}
+use Rattle.record_access.specs.Access as access
 use Rattle.gc_worker.specs.Steps.Turned.{guards, guards_access, guards_place, writes}
 use Rattle.gc_worker.specs.Workers.Fits.{Fits, FitsEnd, FitsPlace, FitsTask, FitsWrite, IsOnSide}
 use Rattle.gc_worker.specs.Workers.Held.{Held, at_stage}

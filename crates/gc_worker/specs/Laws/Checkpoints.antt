@@ -21,7 +21,7 @@ use Rattle.gc_worker.specs.declared.stage.Stage.TheVariants.{Passes, Flips, Acce
 use Rattle.gc_worker.specs.Laws.Claims.{epoch_of_heap}
 use Rattle.gc_worker.specs.Laws.Copied.{IsTraced}
 use Rattle.gc_worker.specs.Laws.Step.{Heap, WorkersStand, held_at, layout_of, saves_in}
-use Rattle.gc_worker.specs.Steps.Access as access
+use Rattle.record_access.specs.Access as access
 use Rattle.gc_worker.specs.Workers.Saves.{guarded_in, save_in, settled_before, settled_in}
 
 -- The words of a heap are just those of its layout, for as many pages as a space may have, and say what the plain heap has kept at its

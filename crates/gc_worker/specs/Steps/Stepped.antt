@@ -8,8 +8,8 @@ use Rattle.plain_state.specs.State.{Mutator}
 use Rattle.mutator_asm.specs.declared.instr.Instr.{Instr}
 use Rattle.mutator_asm.specs.declared.instr.Instr.TheVariants.{Halt, Out}
 use Rattle.page_scan.specs.Scanning.{IsAsking}
-use Rattle.gc_worker.specs.declared.access.accessed.Accessed.{Accessed}
-use Rattle.gc_worker.specs.declared.access.accessed.Accessed.TheVariants.{Brings, Stored}
+use Rattle.record_access.specs.declared.accessed.Accessed.{Accessed}
+use Rattle.record_access.specs.declared.accessed.Accessed.TheVariants.{Brings, Stored}
 use Rattle.gc_worker.specs.declared.stage.Stage.{Stage}
 use Rattle.gc_worker.specs.declared.stage.Stage.TheVariants.{Looks, Passes, Flips, Forwards, Accesses, Places, Serves, Scans, Evacuates, Opens, Recalls, Guards, Checkpoints, BeginsCheckpoint, Gone}
 use Rattle.gc_worker.specs.declared.calls.did.Did.TheVariants.{Done, Trap}

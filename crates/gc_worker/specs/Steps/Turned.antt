@@ -63,16 +63,18 @@ use Rattle.gc_worker.specs.declared.stage.write.Write.TheVariants.{OfAccess, OfP
 use Rattle.gc_worker.specs.declared.stage.Stage.{Stage}
 use Rattle.gc_worker.specs.declared.stage.Stage.TheVariants.{Looks, Passes, Flips, Forwards, Accesses, Places, Serves, Scans, Evacuates, Opens, Recalls, Guards, Checkpoints, BeginsCheckpoint, Gone}
 use Rattle.gc_worker.specs.declared.task.Task.{Task}
-use Rattle.gc_worker.specs.declared.access.Access.{Access}
-use Rattle.gc_worker.specs.declared.access.access_stage.AccessStage.{AccessStage}
-use Rattle.gc_worker.specs.declared.access.accessed.Accessed.{Accessed}
-use Rattle.gc_worker.specs.declared.access.accessed.Accessed.TheVariants.{Faults, Awaits, Brings, Stored, Fails}
+use Rattle.record_access.specs.declared.access.Access.{Access}
+use Rattle.record_access.specs.declared.access_stage.AccessStage.{AccessStage}
+use Rattle.record_access.specs.declared.accessed.Accessed.{Accessed}
+use Rattle.record_access.specs.declared.accessed.Accessed.TheVariants.{Faults, Awaits, Brings, Stored, Fails}
 use Rattle.gc_worker.specs.declared.calls.did.Did.{Did}
 use Rattle.gc_worker.specs.declared.calls.did.Did.TheVariants.{Done, Trap}
 use Rattle.gc_worker.specs.declared.task.Task.TheVariants.{Calls, Stops}
-use Rattle.gc_worker.specs.Steps.Access as access
+use Rattle.record_access.specs.Access as access
+use Rattle.gc_worker.specs.Steps.Access as of_action
 use Rattle.gc_worker.specs.Workers.Held.{Held, at_stage, has_seen_flip, making_for, header_for, fields_for, pages_needed, run_held, may_snap, target_for}
-use Rattle.gc_worker.specs.Plain.Seen.{Making, seen, word_for}
+use Rattle.record_access.specs.Seen.{word_for}
+use Rattle.gc_worker.specs.Plain.Seen.{Making, seen}
 use Rattle.plain_heap.specs.declared.action.Action.{Action}
 use Rattle.plain_heap.specs.declared.action.Action.TheVariants.{Sets, Jumps, Links, Prints, Makes, Snaps}
 use Rattle.plain_heap.specs.Action.{action}
@@ -283,7 +285,7 @@ acts x (Links d target) = jumped (with_register_word x d (number_word (next_of x
 acts x (Prints n) = prints x n
 acts x Snaps = snaps x
 acts x (Makes kind d n v) = at_stage x (places x (header_for x))
-acts x act = accesses x (access.begun act)
+acts x act = accesses x (of_action.begun act)
 
 abbrev pub acted : Held → Result Action End → Held
 acted x (Ok act) = acts x act

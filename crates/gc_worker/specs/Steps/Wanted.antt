@@ -16,7 +16,7 @@ use Rattle.page_scan.specs.Scanning as scan
 use Rattle.page_slots.specs.Open as open_page
 use Rattle.gc_worker.specs.declared.stage.Stage.{Stage}
 use Rattle.gc_worker.specs.declared.stage.Stage.TheVariants.{Looks, Passes, Flips, Forwards, Accesses, Places, Serves, Scans, Evacuates, Opens, Recalls, Guards, Checkpoints, BeginsCheckpoint, Gone}
-use Rattle.gc_worker.specs.Steps.Access as access
+use Rattle.record_access.specs.Access as access
 use Rattle.gc_worker.specs.Workers.Held.{Held}
 
 abbrev pub wanted_at : Held → Stage → Option Step

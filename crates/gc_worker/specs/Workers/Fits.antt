@@ -38,8 +38,8 @@ use Rattle.page_scan.specs.Taken as scan_taken
 use Rattle.page_scan.specs.Soundness as scan_sound
 use Rattle.page_slots.specs.Open as open_page
 use Rattle.page_slots.specs.Soundness.{IsOpeningGoing, IsSoundOpening}
-use Rattle.gc_worker.specs.declared.access.Access.{Access}
-use Rattle.gc_worker.specs.declared.access.access_stage.AccessStage.{AccessStage}
+use Rattle.record_access.specs.declared.access.Access.{Access}
+use Rattle.record_access.specs.declared.access_stage.AccessStage.{AccessStage}
 use Rattle.heap_state.specs.Worker.{Account}
 use Rattle.gc_worker.specs.declared.stage.back.Back.{Back}
 use Rattle.gc_worker.specs.declared.stage.back.Back.TheVariants.{ToAccess, ToTarget, ToPlace, ToSnap, ToScanner}
@@ -54,9 +54,11 @@ use Rattle.gc_worker.specs.declared.stage.after.After.{After}
 use Rattle.gc_worker.specs.declared.stage.after.After.TheVariants as afters
 use Rattle.gc_worker.specs.declared.task.Task.{Task}
 use Rattle.gc_worker.specs.declared.task.Task.TheVariants.{Calls, Stops}
-use Rattle.gc_worker.specs.Steps.Access.{IsSoundAccess, IsAccessOf}
-use Rattle.gc_worker.specs.Steps.Access as access
-use Rattle.gc_worker.specs.Plain.Seen.{IsValueWord, Making, making_in, seen}
+use Rattle.record_access.specs.Access.{IsSoundAccess}
+use Rattle.gc_worker.specs.Steps.Access.{IsAccessOf}
+use Rattle.record_access.specs.Access as access
+use Rattle.record_access.specs.Seen.{IsValueWord}
+use Rattle.gc_worker.specs.Plain.Seen.{Making, making_in, seen}
 use Rattle.gc_worker.specs.Workers.Held.{Held, may_snap, has_seen_flip, pages_needed, header_for, fields_for, target_for}
 use Rattle.plain_state.specs.declared.end.End.{End}
 use Rattle.plain_state.specs.declared.end.End.TheVariants.{HeapFull}

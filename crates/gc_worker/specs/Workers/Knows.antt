@@ -48,13 +48,13 @@ use Rattle.heap_laws.specs.Copying.{begun}
 use Rattle.heap_state.specs.Worker.{Worker, Post, Outside, Running, Stopped, Flipping, Snapping, Passage, Enter, Park, Request, RequestSnap, Clear, Forwarded, Resume, Leave, GateStep, Reset, Stock, SeenHeader, SeenRecord, UnknownRole, Origin, Register, Scanned, Quest, Copy, Scan, Round, Claim, Look, LastLook, Linking, Visit, Pass, Begins, At, Done}
 use Rattle.heap_state.specs.Worker as workers
 use Rattle.heap_state.specs.Worker.{Access}
-use Rattle.gc_worker.specs.declared.access.access_stage.AccessStage.{AccessStage}
-use Rattle.gc_worker.specs.declared.access.access_stage.AccessStage.TheVariants.{LooksAtRecord, LoadsHeader, LooksAtCount, LoadsCount, LooksAtField, LoadsField, StoresField, LoadsForCas, ExchangesField, LooksAtBoard, LoadsBoard, StoresBoard, LoadsForSwap, SwapsBoard}
+use Rattle.record_access.specs.declared.access_stage.AccessStage.{AccessStage}
+use Rattle.record_access.specs.declared.access_stage.AccessStage.TheVariants.{LooksAtRecord, LoadsHeader, LooksAtCount, LoadsCount, LooksAtField, LoadsField, StoresField, LoadsForCas, ExchangesField, LooksAtBoard, LoadsBoard, StoresBoard, LoadsForSwap, SwapsBoard}
 use Rattle.gc_worker.specs.declared.stage.back.Back.{Back}
 use Rattle.gc_worker.specs.declared.stage.back.Back.TheVariants.{ToAccess, ToTarget, ToPlace, ToSnap, ToScanner}
-use Rattle.gc_worker.specs.declared.access.field_access.FieldAccess.{FieldAccess}
-use Rattle.gc_worker.specs.declared.access.mixed_access.MixedAccess.{MixedAccess}
-use Rattle.gc_worker.specs.Steps.Access.{role_of, is_at_target, count_at, field_at, read_before}
+use Rattle.record_access.specs.declared.field_access.FieldAccess.{FieldAccess}
+use Rattle.record_access.specs.declared.mixed_access.MixedAccess.{MixedAccess}
+use Rattle.record_access.specs.Access.{role_of, is_at_target, count_at, field_at, read_before}
 use Rattle.gc_worker.specs.declared.stage.after.After.{After}
 use Rattle.gc_worker.specs.declared.stage.after.After.TheVariants as afters
 use Rattle.gc_worker.specs.declared.stage.goal.Goal.{Goal}

@@ -2,7 +2,7 @@
 //! mutator 0, whoever made it: so one definition of an action, over values, serves both machines.
 
 ghost use Rattle.std.specs.Prelude.{◌≡◌};
-ghost use Rattle.gc_worker.specs.Plain.Seen.{value_seen, word_for};
+ghost use Rattle.record_access.specs.Seen.{value_seen, word_for};
 ghost use Rattle.gc_worker.specs.Steps.Stepped.{FitsValue};
 
 use heap_words::Word;

@@ -1,4 +1,4 @@
-use crate::access::Access;
+use record_access::Access;
 
 /// What a worker goes back to after a round of the duty.
 #[derive(Clone, Copy)]

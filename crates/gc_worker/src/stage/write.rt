@@ -1,5 +1,5 @@
-use crate::access::Access;
 use alloc_end::Place;
+use record_access::Access;
 
 /// What writes a word on an open page next.
 #[derive(Clone, Copy)]

@@ -6,8 +6,6 @@ ghost use Rattle.heap_words.specs.Word.{number_word};
 ghost use Rattle.gc_worker.specs.Steps.Stepped.{uncounted};
 ghost use Rattle.gc_worker.specs.Steps.Turned.{accesses, ended, jumped, loads, next_of, prints, went_on, with_register_word};
 
-use crate::access::Access;
-use crate::access::access_stage::AccessStage;
 use crate::stage::Stage;
 use crate::stage::after::After;
 use crate::state::State;
@@ -16,6 +14,7 @@ use crate::task::due::Due;
 use gate_core::Gate;
 use heap_words::Word;
 use plain_state::End;
+use record_access::{Access, AccessStage};
 
 impl State {
     /// The mutator goes on at an instruction, and has answered its task. It looks at the gate already.

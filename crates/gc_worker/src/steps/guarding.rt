@@ -10,13 +10,13 @@ ghost use Rattle.gc_worker.specs.Workers.Held.{at_stage};
 ghost use Rattle.gc_worker.specs.Steps.Stepped.{IsAtAccess, IsGuarding, IsPlacing, IsSound, uncounted};
 ghost use Rattle.gc_worker.specs.Steps.Turned.{guarded_at, guards_access, guards_place, turned, writes};
 
-use crate::access::Access;
 use crate::stage::Stage;
 use crate::stage::write::Write;
 use crate::state::State;
 use alloc_end::Place;
 use atom_store::{Reply, Turn};
 use page_saves::Guard;
+use record_access::Access;
 
 impl State {
     /// An access that writes a word next looks first whether the page is saved.

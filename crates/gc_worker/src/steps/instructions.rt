@@ -1,7 +1,7 @@
 //! The instructions, as a mutator executes them on its registers: each has its effect or its end, or begins what it does with
 //! records and the board.
 //!
-//! `plain_heap/src/instructions.rt` has another table of them, which puts an action together first. To take that apart again here
+//! `plain_machine/src/instructions.rt` has another table of them, which puts an action together first. To take that apart again here
 //! took 38 machine instructions more for an instruction on registers (docs/PERFORMANCE.md). Both are proved to do what the one
 //! definition `action` says.
 
@@ -16,10 +16,6 @@ ghost use Rattle.gc_worker.specs.Workers.Fits.{FitsStage};
 ghost use Rattle.gc_worker.specs.Steps.Stepped.{IsCall, instr_due, seen_by, stepped_by, uncounted};
 ghost use Rattle.gc_worker.specs.Steps.Turned.{acted, told_acted};
 
-use crate::access::access_stage::AccessStage;
-use crate::access::board_access::{BoardAccess, BoardUse};
-use crate::access::field_access::FieldExchange;
-use crate::access::record_access::{RecordAccess, RecordUse};
 use crate::registers::seen_value::word_of;
 use crate::stage::Stage;
 use crate::state::State;
@@ -28,6 +24,7 @@ use crate::task::due::Due;
 use heap_words::Word;
 use mutator_asm::{Instr, Operand};
 use plain_state::{End, Identity, MOST_PRINTED, Operation};
+use record_access::{AccessStage, BoardAccess, BoardUse, FieldExchange, RecordAccess, RecordUse};
 
 impl State {
     /// Executes the instruction that is due as far as the registers go. It reads the instruction where it stands: so each arm takes

@@ -3,14 +3,12 @@
 ghost use Rattle.std.specs.Prelude.{◌≡◌, ◌≤◌, true};
 ghost use Rattle.space_map.specs.Spaces.{board_page};
 ghost use Rattle.space_map.specs.declared.spaces.TheConstants.{LAST_WORKER};
-ghost use Rattle.gc_worker.specs.declared.access.access_stage.AccessStage.{AccessStage};
+ghost use Rattle.record_access.specs.declared.access_stage.AccessStage.{AccessStage};
 ghost use Rattle.gc_worker.specs.Workers.Fits.{FitsStage, IsAccessing, Takes};
 ghost use Rattle.gc_worker.specs.Workers.Held.{at_stage};
 ghost use Rattle.gc_worker.specs.Steps.Stepped.{HasNoEffect, IsAtAccess, IsCopyAsked, IsEvacuating, IsOpening, IsAtScan, IsForCheckpoint, IsServing, IsSound, MayBeginAnew, back_at, served_in, stepped_by, uncounted};
 ghost use Rattle.gc_worker.specs.Steps.Turned.{accessed_at, back_from, evacuated_at, goes_back, scanned_at, scans, serves_target, told, told_access, told_round, traced_by, turned};
 
-use crate::access::Access;
-use crate::access::accessed::Accessed;
 use crate::stage::Stage;
 use crate::stage::back::Back;
 use crate::stage::goal::Goal;
@@ -21,6 +19,7 @@ use fault_duty::{Duty, RoundEnd};
 use forwarding::{Evac, To};
 use page_scan::{Scan, Scanned};
 use page_slots::Open;
+use record_access::{Access, Accessed};
 
 impl State {
     /// A step of an access.

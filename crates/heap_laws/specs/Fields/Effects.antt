@@ -2,7 +2,6 @@
 use Rattle.std.specs.Prelude.{◌≡◌, ℕ, ◌+◌, ◌<◌, ⊤, true, length, Option, Some, None, slice_get, false}
 use Rattle.heap_words.specs.declared.kind.Kind.{Kind as HeaderKind}
 use Rattle.heap_words.specs.Decoded.{NumberWord, PointerWord, HeaderWord, decode, number_in}
-use Rattle.heap_words.specs.Word.{number_word}
 use Rattle.plain_state.specs.Layout.{values_at, word_of_value, size_of}
 use Rattle.plain_state.specs.State as plain
 use Rattle.plain_state.specs.declared.kind.Kind.TheVariants.{Mixed}
@@ -12,6 +11,7 @@ use Rattle.space_map.specs.declared.page_word.PageWord.TheVariants.{Open}
 use Rattle.heap_state.specs.Memory.Era.{Era, Memory}
 use Rattle.heap_state.specs.Invariant.Ghost.{Ghost, said_kind}
 use Rattle.heap_state.specs.Invariant.Parts.Knowledge.{HasRole, Accesses}
+pub use Rattle.heap_state.specs.Meaning.Loaded.{word_held, FitsRole}
 use Rattle.heap_state.specs.Meaning.Values.{Shown}
 use Rattle.heap_state.specs.Worker.{Team, Role, FieldRole, NumberRole, TargetRole, UnknownRole, Access, is_mutator, is_late}
 use Rattle.heap_laws.specs.Fields.Words.{IsWordOf, MayStore, StandsFor}
@@ -19,7 +19,6 @@ use Rattle.heap_laws.specs.Fields.Held.{MayHold, HoldsValue}
 use Rattle.heap_laws.specs.Fields.Stores.{IsAs}
 use Rattle.heap_laws.specs.Steps.{Ready}
 use Rattle.space_map.specs.Spaces.{page_of}
-use Rattle.plain_state.specs.declared.sizes.TheConstants.{NUMBERS}
 
 -- ---- mutators
 
@@ -82,26 +81,12 @@ CountsAreRead = (E : Era) (m : Memory) (team : Team) (g : Ghost) (p : plain.Plai
 
 -- ---- words of records
 
--- The word that a mutator holds for one that it has loaded, and the one that it stores for one that it holds, if it may be stored:
--- nothing is in a cell, and as long as the role isn't known.
-abbrev pub word_held : Role → ℕ → ℕ
-word_held FieldRole v = v
-word_held NumberRole v = number_word v
-word_held TargetRole v = v
-word_held UnknownRole v = v
-
+-- The word that a mutator stores for one that it holds, if it may be stored: nothing is in a cell, and as long as the role isn't known.
 abbrev pub word_stored : Role → ℕ → Option ℕ
 word_stored FieldRole w = Some w
 word_stored NumberRole w = number_in (decode w)
 word_stored TargetRole w = None
 word_stored UnknownRole w = None
-
--- a number that is stored by itself is one of 62 bits
-abbrev pub FitsRole : Role → ℕ → Type 0
-FitsRole FieldRole v = ⊤
-FitsRole NumberRole v = v < NUMBERS
-FitsRole TargetRole v = ⊤
-FitsRole UnknownRole v = ⊤
 
 -- a word with this role is loaded as it stands, whether the epoch is traced or not, and may be stored
 abbrev pub IsFieldOrNumber : Role → Type 0

@@ -17,7 +17,7 @@ use Rattle.mutator_asm.specs.Line.{Nothing, Begins, Line, unlabelled}
 use Rattle.mutator_asm.specs.Listing.{leads_to, is_target_in, label_name}
 use Rattle.mutator_asm.specs.Program.{IsWellFormed, is_closed}
 use Rattle.mutator_asm.specs.Text.{begins_section, counts, is_begin, items_in, items_on, instr_by, target_of, section_of, sections_in, code_of, schedule_of}
-use Rattle.mutator_asm.proofs.Programs.WellFormed.{length_section}
+use Rattle.mutator_asm.proofs.Programs.Lengths.{length_section}
 use Rattle.mutator_asm.proofs.Listings.Lines.{instr_word, label_line, instrs_read, end_read, body_read, section_read, schedule_read, listed, body_words}
 use Rattle.mutator_asm.proofs.Listings.Labels.{target_is}
 

@@ -3,7 +3,7 @@ use Rattle.std.proofs.Common.{◌≡◌, ℕ, ◌+◌, ◌<◌, ◌≤◌, ◌�
 use Rattle.std.specs.Prelude.{count_by, option_map}
 use Rattle.std.proofs.lemmas.Bool.{cases_order}
 use Rattle.std.proofs.lemmas.List.{length-append}
-use Rattle.mutator_asm.specs.declared.errors.mistake.Mistake.{Mistake}
+use Rattle.mutator_asm.specs.declared.mistake.Mistake.{Mistake}
 use Rattle.mutator_asm.specs.Mistake.{number_of_mistake}
 use Rattle.mutator_asm.specs.Line.{Line, Nothing, unlabelled, lines_of}
 use Rattle.mutator_asm.specs.Text.{begins_section, error_of, code_of, schedule_of, IsCleanUpTo, IsFirstError, IsFaultIn}

@@ -12,7 +12,7 @@ use Rattle.std.proofs.lemmas.List.Sums.{AllPass-from_list_all, list_all-from_All
 use Rattle.std.proofs.lemmas.Str.{digit_value_digit}
 use Rattle.std.proofs.lemmas.Str.Parse.{digits_value-take-le, digit_at as digit_of}
 use Rattle.std.proofs.lemmas.Int.Digits.{digits_value_more}
-use Rattle.mutator_asm.specs.declared.errors.mistake.Mistake.TheVariants.{NumberTooBig}
+use Rattle.mutator_asm.specs.declared.mistake.Mistake.TheVariants.{NumberTooBig}
 use Rattle.mutator_asm.specs.Token.{number_or}
 
 in_range : (c : ℕ) → is_ascii_digit c ≡ true → IsInRange 48 57 c

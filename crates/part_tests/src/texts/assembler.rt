@@ -1,6 +1,7 @@
 use super::{program, repeated};
 use crate::asserting::assert_same;
-use mutator_asm::{AsmError, Instr, Item, Operand, Program, assemble, list};
+use mutator_asm::{Instr, Item, Operand, Program};
+use program_text::{AsmError, assemble, list};
 use std::alloc::Global;
 use std::process::Abort;
 

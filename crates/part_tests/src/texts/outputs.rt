@@ -2,8 +2,114 @@ use super::{program, repeated};
 use crate::asserting::assert_same;
 use heap_audit::{ReadingError, first_other_line, read_lines, read_order, read_part};
 use mutator_asm::Program;
+use plain_heap::{End, Mark};
 use std::alloc::Global;
 use std::process::Abort;
+
+/// Lines of three mutators, and what stands behind them.
+const THREE_MUTATORS: &str =
+    "0: 7\n0: 0\n0: halt\n1: stopped\n2: heap full asked 1 room 0 live 9\norder\n";
+
+/// The numbers that each of them printed, and its end.
+const THREE_SEEN: [(&[u64], Option<End>); 3] = [
+    (&[7, 0], Some(End::Halt)),
+    (&[], None),
+    (
+        &[],
+        Some(End::HeapFull {
+            asked: 1,
+            room: 0,
+            live: 9,
+        }),
+    ),
+];
+
+#[test]
+fn lines_are_read(rt: HostRuntime) {
+    let read = read_lines(rt.alloc(), 3, THREE_MUTATORS.as_bytes());
+    let (mutators, count, rest) = read.expect(&rt, "no lines");
+    let shape = (mutators.len(), count, rest);
+    assert_same(&rt, &shape, &(3, 5, b"order\n".as_slice()));
+    for (found, wanted) in mutators.iter().zip(&THREE_SEEN) {
+        assert_same(&rt, &(found.printed.as_slice(), found.end), wanted);
+    }
+}
+
+/// Lines that aren't those of one mutator, each with the number of the first wrong one.
+const OTHER_MUTATORS: [(&str, usize); 8] = [
+    ("1: halt\n", 1),
+    ("0: 07\n0: halt\n", 1),
+    ("0: 4611686018427387904\n0: halt\n", 1),
+    ("0: 7\n", 2),
+    ("0: halt", 1),
+    ("0: 7\n0: halted\n", 2),
+    ("0:halt\n", 1),
+    ("0: stop\n", 1),
+];
+
+#[test]
+fn other_mutators_lines_are_refused(rt: HostRuntime) {
+    for (text, line) in OTHER_MUTATORS {
+        let error = read_lines(rt.alloc(), 1, text.as_bytes()).err();
+        let wrong = ReadingError::Bad { line };
+        assert_same(&rt, &(text, error), &(text, Some(wrong)));
+    }
+}
+
+/// The lines of orders, their marks, and what stands behind them.
+const ORDERS: [(&str, &[Mark], &str); 2] = [
+    ("order\n", &[], ""),
+    (
+        "order 0 F64 T 255 X3,1,0,4294967295 15\nmore",
+        &[
+            Mark::Step(0),
+            Mark::Flip(64),
+            Mark::Traced,
+            Mark::Step(255),
+            Mark::Full {
+                m: 3,
+                asked: 1,
+                room: 0,
+                live: 4_294_967_295,
+            },
+            Mark::Step(15),
+        ],
+        "more",
+    ),
+];
+
+#[test]
+fn orders_are_read(rt: HostRuntime) {
+    for (text, wanted, behind) in ORDERS {
+        let read = read_order(rt.alloc(), 0, text.as_bytes());
+        let (marks, rest) = read.expect(&rt, "no order");
+        assert_same(
+            &rt,
+            &(text, marks.as_slice(), rest),
+            &(text, wanted, behind.as_bytes()),
+        );
+    }
+}
+
+/// Lines that aren't those of an order.
+const OTHER_ORDERS: [&str; 7] = [
+    "order 00\n",
+    "order 256\n",
+    "order F4294967296\n",
+    "order T1\n",
+    "order 1",
+    "order  1\n",
+    "order X1,2,3\n",
+];
+
+#[test]
+fn other_orders_are_refused(rt: HostRuntime) {
+    for text in OTHER_ORDERS {
+        let error = read_order(rt.alloc(), 2, text.as_bytes()).err();
+        let wrong = ReadingError::Bad { line: 3 };
+        assert_same(&rt, &(text, error), &(text, Some(wrong)));
+    }
+}
 
 /// A program whose mutator stores 7 in a record, loads it, prints it and halts.
 const PROGRAM: &str = ".mutator\nli r1 7\nnew r0 2\nst r0 1 r1\nld r2 r0 1\nout r2\nhalt\n";

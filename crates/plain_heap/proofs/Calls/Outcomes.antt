@@ -1,12 +1,11 @@
 -- What holds of the outcome of two steps.
-use Rattle.std.proofs.Common.{◌≡◌, ℕ, Bool, true, false, cond, Option, Some, None, Result, Ok, Err, refl, subst}
+use Rattle.std.proofs.Common.{◌≡◌, ℕ, Bool, true, false, cond, Result, Ok, Err, refl, subst}
 use Rattle.std.specs.Result.{IfOk}
 use Rattle.plain_state.specs.declared.end.End.{End}
-use Rattle.plain_state.specs.declared.end.End.TheVariants.{WeakCell}
 use Rattle.plain_state.specs.declared.value.Identity.{Identity}
 use Rattle.plain_state.specs.declared.value.Value.{Value}
 use Rattle.plain_state.specs.declared.value.Value.TheVariants.{Number}
-use Rattle.plain_state.specs.State.{Record, Heap, Mutator, record_of}
+use Rattle.plain_state.specs.State.{Heap, Mutator, record_of}
 use Rattle.plain_heap.specs.declared.action.Action.TheVariants.{Exchanges}
 use Rattle.plain_heap.specs.Action.{◌>>=◌, are_same}
 use Rattle.plain_heap.specs.Call.{After, value_in, store_in, loads, performed}

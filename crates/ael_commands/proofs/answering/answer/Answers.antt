@@ -1,4 +1,4 @@
-use Rattle.ael_commands.proofs.Causes.{failed_counts}
+use Rattle.ael_jobs.proofs.Causes.{failed_counts}
 use Rattle.ael_commands.proofs.answering.answer.Goals as goal
 
 pub returns-in-Err-clause-counted : goal.returns-in-Err-clause-counted

@@ -1,5 +1,5 @@
 use Rattle.std.proofs.lemmas.Result.{IfErr-weaker, IfOk-weaker}
-use Rattle.ael_commands.proofs.Causes.{concords, kept_ok, without_concordance, passed_on, threaded, unfit}
+use Rattle.ael_jobs.proofs.Causes.{concords, kept_ok, without_concordance, passed_on, threaded, unfit}
 use Rattle.ael_commands.proofs.answering.wait_for.Goals as goal
 
 pub returns-in_err-read_program-in-Run-clause-err : goal.returns-in_err-read_program-in-Run-clause-err

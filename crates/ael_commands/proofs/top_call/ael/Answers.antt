@@ -1,8 +1,8 @@
 use Rattle.std.proofs.Common.{map, refl}
 use Rattle.std.specs.Prelude.{string_bytes}
-use Rattle.ael_commands.specs.Calls.Call.{call_of}
-use Rattle.ael_commands.specs.Streams.Ends.{drawn_by_call}
-use Rattle.ael_commands.specs.Calls.Headline.{HeadlineHolds}
+use Rattle.ael_jobs.specs.Calls.Call.{call_of}
+use Rattle.ael_jobs.specs.Streams.Ends.{drawn_by_call}
+use Rattle.ael_jobs.specs.Calls.Headline.{HeadlineHolds}
 use Rattle.ael_commands.proofs.top_call.ael.Given as given
 use Rattle.ael_commands.proofs.top_call.ael.Goals as goal
 

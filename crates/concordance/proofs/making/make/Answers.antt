@@ -3,8 +3,8 @@ use Rattle.ael_threads.specs.Histories.{Each}
 use Rattle.ael_threads.specs.Readers.{SeatedScanner}
 use Rattle.ael_threads.specs.declared.view.Plan.{Plan}
 use Rattle.concordance_text.specs.declared.part.Part.{Part}
+use Rattle.concordance_text.specs.MayBeFull.{MayBeFull}
 use Rattle.concordance.specs.Making.{AreDealt}
-use Rattle.concordance.specs.MayBeFull.{MayBeFull}
 use Rattle.concordance.specs.OneMutator.{IsWhole}
 use Rattle.concordance.specs.Working.{WasFullForOne, SharedHeap, shared_heap}
 use Rattle.concordance.proofs.Working.ShortParts.{parts_short}

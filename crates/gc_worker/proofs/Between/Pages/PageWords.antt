@@ -50,13 +50,13 @@ use Rattle.gc_worker.specs.declared.stage.goal.Goal.{Goal}
 use Rattle.gc_worker.specs.declared.stage.write.Write.{Write}
 use Rattle.gc_worker.specs.declared.stage.Stage.{Stage}
 use Rattle.gc_worker.specs.declared.stage.Stage.TheVariants.{Looks, Passes, Flips, Forwards, Accesses, Places, Serves, Scans, Evacuates, Opens, Recalls, Guards, Checkpoints, BeginsCheckpoint, Gone}
-use Rattle.gc_worker.specs.Steps.Access as access
+use Rattle.record_access.specs.Access as access
 use Rattle.gc_worker.specs.Steps.Goes.{Is}
 use Rattle.gc_worker.specs.Workers.Held.{Held, at_stage}
 use Rattle.gc_worker.specs.Workers.Knows.{opened_to, scan_of}
 use Rattle.gc_worker.specs.Steps.Turned.{PageWon, won, won_at, won_by, won_in}
 use Rattle.gc_worker.specs.Steps.Wanted.{wanted, wanted_at}
-use Rattle.gc_worker.proofs.Stages.Access.RowsFit as access_rows
+use Rattle.record_access.proofs.RowsFit as access_rows
 use Rattle.gc_worker.proofs.Words.Areas.{is_space}
 use Rattle.gc_worker.proofs.Words.Eras.{board_is}
 use Rattle.gc_worker.proofs.Stages.OpenedPage.{of_page}

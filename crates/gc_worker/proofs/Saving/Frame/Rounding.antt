@@ -15,12 +15,12 @@ use Rattle.page_slots.specs.Open as open_page
 use Rattle.heap_state.specs.Saving.Savers.{Saver, NoReads}
 use Rattle.heap_state.specs.Worker.{is_running, is_asking}
 use Rattle.heap_laws.specs.Saving.Rounds.{KnowsNoMore}
-use Rattle.gc_worker.specs.declared.access.Access.{Access}
+use Rattle.record_access.specs.declared.access.Access.{Access}
 use Rattle.gc_worker.specs.declared.stage.back.Back.{Back}
 use Rattle.gc_worker.specs.declared.stage.back.Back.TheVariants.{ToAccess, ToTarget, ToPlace, ToSnap, ToScanner}
 use Rattle.gc_worker.specs.declared.stage.goal.Goal.TheVariants.{ForScanner}
 use Rattle.gc_worker.specs.declared.stage.Stage.TheVariants.{Accesses, Gone}
-use Rattle.gc_worker.specs.Steps.Access.{is_at_target, writes_on}
+use Rattle.record_access.specs.Access.{is_at_target, writes_on}
 use Rattle.gc_worker.specs.Steps.Turned.{back_from, checkpoints, goes_back, of_round, served_by, traced_by, turned_copy, turned_opening, turned_round, turned_scan}
 use Rattle.gc_worker.specs.Workers.Fits.{FitsBack}
 use Rattle.gc_worker.specs.Workers.Held.{Held, header_for}

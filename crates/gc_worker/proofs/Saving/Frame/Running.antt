@@ -12,7 +12,7 @@ use Rattle.page_saves.specs.Guard as guard
 use Rattle.heap_state.specs.Saving.Savers.{Saver, NoReads}
 use Rattle.heap_laws.specs.Saving.Rounds.{KnowsNoMore}
 use Rattle.heap_laws.specs.Saving.Sparing.{MayStoreOn, StoresAtRest, StoresGuarded}
-use Rattle.gc_worker.specs.declared.access.Access.{Access}
+use Rattle.record_access.specs.declared.access.Access.{Access}
 use Rattle.gc_worker.specs.declared.stage.after.After.{After}
 use Rattle.gc_worker.specs.declared.stage.after.After.TheVariants as afters
 use Rattle.gc_worker.specs.declared.stage.back.Back.TheVariants.{ToPlace}

@@ -21,16 +21,17 @@ use Rattle.heap_laws.specs.Saving.Rounds.{KnowsNoMore}
 use Rattle.heap_laws.specs.Saving.Rows.{Spares}
 use Rattle.heap_laws.specs.Saving.Sparing.{MayStoreOn, StoresAtRest, StoresGuarded}
 use Rattle.heap_laws.proofs.Saving.Sparing.{stores_are_spared}
-use Rattle.gc_worker.specs.declared.access.Access.{Access}
-use Rattle.gc_worker.specs.declared.access.access_stage.AccessStage.{AccessStage}
-use Rattle.gc_worker.specs.declared.access.access_stage.AccessStage.TheVariants.{LooksAtRecord, LoadsHeader, LooksAtCount, LoadsCount, LooksAtField, LoadsField, StoresField, LoadsForCas, ExchangesField, LooksAtBoard, LoadsBoard, StoresBoard, LoadsForSwap, SwapsBoard}
-use Rattle.gc_worker.specs.declared.access.accessed.Accessed.TheVariants.{Faults, Awaits, Brings, Stored, Fails}
+use Rattle.record_access.specs.declared.access.Access.{Access}
+use Rattle.record_access.specs.declared.access_stage.AccessStage.{AccessStage}
+use Rattle.record_access.specs.declared.access_stage.AccessStage.TheVariants.{LooksAtRecord, LoadsHeader, LooksAtCount, LoadsCount, LooksAtField, LoadsField, StoresField, LoadsForCas, ExchangesField, LooksAtBoard, LoadsBoard, StoresBoard, LoadsForSwap, SwapsBoard}
+use Rattle.record_access.specs.declared.accessed.Accessed.TheVariants.{Faults, Awaits, Brings, Stored, Fails}
 use Rattle.gc_worker.specs.declared.stage.after.After.TheVariants as afters
 use Rattle.gc_worker.specs.declared.stage.back.Back.TheVariants.{ToAccess, ToTarget}
 use Rattle.gc_worker.specs.declared.stage.Stage.TheVariants.{Accesses, Serves}
 use Rattle.gc_worker.specs.declared.task.Task.{Task}
-use Rattle.gc_worker.specs.Steps.Access.{Answered, GoesTo, WaitsAt, Comes, IsAccessOf, answered, board_at, field_at, goes_by, turn_by, writes_on}
-use Rattle.gc_worker.specs.Steps.Access as access
+use Rattle.record_access.specs.Access.{Answered, GoesTo, WaitsAt, Comes, answered, board_at, field_at, goes_by, turn_by, writes_on}
+use Rattle.gc_worker.specs.Steps.Access.{IsAccessOf}
+use Rattle.record_access.specs.Access as access
 use Rattle.gc_worker.specs.Steps.Turned.{Silent, ended, guards_access, loads, serves_target, told_access, told_effect, told_end, turned_access, went_on}
 use Rattle.gc_worker.specs.Steps.Wanted.{wanted}
 use Rattle.gc_worker.specs.Workers.Held.{Held, at_stage}

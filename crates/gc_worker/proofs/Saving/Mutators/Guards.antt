@@ -37,14 +37,14 @@ use Rattle.page_saves.specs.Save.{PageSaving}
 use Rattle.page_saves.specs.Save as save
 use Rattle.page_saves.specs.SoundSave.{IsOwnSave}
 use Rattle.page_saves.specs.SaveState.{state_of, state_within}
-use Rattle.gc_worker.specs.declared.access.access_stage.AccessStage.{AccessStage}
-use Rattle.gc_worker.specs.declared.access.access_stage.AccessStage.TheVariants.{StoresField, ExchangesField, StoresBoard, SwapsBoard}
-use Rattle.gc_worker.specs.declared.access.field_access.FieldAccess.{FieldAccess}
+use Rattle.record_access.specs.declared.access_stage.AccessStage.{AccessStage}
+use Rattle.record_access.specs.declared.access_stage.AccessStage.TheVariants.{StoresField, ExchangesField, StoresBoard, SwapsBoard}
+use Rattle.record_access.specs.declared.field_access.FieldAccess.{FieldAccess}
 use Rattle.gc_worker.specs.declared.stage.write.Write.{Write}
 use Rattle.gc_worker.specs.declared.stage.write.Write.TheVariants.{OfAccess, OfPlace}
 use Rattle.gc_worker.specs.declared.stage.Stage.TheVariants.{Guards}
-use Rattle.gc_worker.specs.Steps.Access.{field_at}
-use Rattle.gc_worker.specs.Steps.Access as access
+use Rattle.record_access.specs.Access.{field_at}
+use Rattle.record_access.specs.Access as access
 use Rattle.gc_worker.specs.Steps.Turned.{turned, turned_guard, writes}
 use Rattle.gc_worker.specs.Steps.Wanted.{wanted}
 use Rattle.gc_worker.specs.Workers.Fits.{FitsGuard, FitsWrite}

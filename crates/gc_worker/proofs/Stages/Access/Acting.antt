@@ -22,12 +22,13 @@ use Rattle.heap_state.specs.Meaning.Values.{value_of, value_said}
 use Rattle.heap_laws.specs.Fields.Held.{HoldsValue}
 use Rattle.heap_laws.specs.Fields.Words.{IsLedTo}
 use Rattle.heap_laws.proofs.Fields.Shown.{headers_are_read, numbers_are_held}
-use Rattle.gc_worker.specs.declared.access.access_stage.AccessStage.{AccessStage}
-use Rattle.gc_worker.specs.Steps.Access.{IsHeapAddress}
+use Rattle.record_access.specs.declared.access_stage.AccessStage.{AccessStage}
+use Rattle.record_access.specs.Access.{IsHeapAddress}
 use Rattle.gc_worker.specs.Workers.Fits.{ExecutesAction}
 use Rattle.gc_worker.specs.Steps.Goes.{Is}
 use Rattle.gc_worker.specs.Workers.Held.{Held}
-use Rattle.gc_worker.specs.Plain.Seen.{IsValueAs, IsValueWord, seen}
+use Rattle.record_access.specs.Seen.{IsValueAs, IsValueWord}
+use Rattle.gc_worker.specs.Plain.Seen.{seen}
 use Rattle.gc_worker.proofs.Plain.Actions.{plain_action, plain_outcome}
 use Rattle.gc_worker.proofs.Plain.Registers.{alike, held, small_number, Holds}
 use Rattle.gc_worker.proofs.Plain.AnswerSteps.{IsIts, its_mutator}

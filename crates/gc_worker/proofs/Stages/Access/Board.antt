@@ -23,17 +23,18 @@ use Rattle.heap_laws.specs.Fields.Held.{MutatorGoesOn, HoldsValue}
 use Rattle.heap_laws.specs.Fields.Stores.{IsAs}
 use Rattle.heap_laws.proofs.Fields.Effects.{board_words_are_values}
 use Rattle.heap_laws.proofs.Fields.Laws.{mutators_store_on_board}
-use Rattle.gc_worker.specs.declared.access.access_stage.AccessStage.{AccessStage}
-use Rattle.gc_worker.specs.declared.access.access_stage.AccessStage.TheVariants.{LooksAtBoard, LoadsBoard, StoresBoard, LoadsForSwap, SwapsBoard}
-use Rattle.gc_worker.specs.declared.access.board_access.BoardAccess.{BoardAccess}
-use Rattle.gc_worker.specs.declared.access.board_access.BoardSwap.{BoardSwap}
-use Rattle.gc_worker.specs.declared.access.board_access.BoardUse.TheVariants as board_uses
-use Rattle.gc_worker.specs.Steps.Access.{begun, board_at}
+use Rattle.record_access.specs.declared.access_stage.AccessStage.{AccessStage}
+use Rattle.record_access.specs.declared.access_stage.AccessStage.TheVariants.{LooksAtBoard, LoadsBoard, StoresBoard, LoadsForSwap, SwapsBoard}
+use Rattle.record_access.specs.declared.board_access.BoardAccess.{BoardAccess}
+use Rattle.record_access.specs.declared.board_access.BoardSwap.{BoardSwap}
+use Rattle.record_access.specs.declared.board_access.BoardUse.TheVariants as board_uses
+use Rattle.record_access.specs.Access.{board_at}
+use Rattle.gc_worker.specs.Steps.Access.{begun}
 use Rattle.gc_worker.specs.Workers.Fits.{ExecutesAction}
 use Rattle.gc_worker.specs.Steps.Goes.{Is, Goes, StepsSo}
 use Rattle.gc_worker.specs.Workers.Held.{Held}
 use Rattle.gc_worker.specs.Workers.Knows.{knows, opened_at}
-use Rattle.gc_worker.specs.Plain.Seen.{IsValueWord, word_for}
+use Rattle.record_access.specs.Seen.{IsValueWord, word_for}
 use Rattle.gc_worker.specs.Steps.Turned.{loads, went_on}
 use Rattle.gc_worker.proofs.Plain.Actions.{plain_value}
 use Rattle.gc_worker.proofs.Plain.AnswerSteps.{LawTo, IsIts}

@@ -20,21 +20,23 @@ use Rattle.heap_state.specs.Memory.Table.{word_in}
 use Rattle.heap_state.specs.Worker.{Worker}
 use Rattle.heap_laws.specs.Fields.Effects.{CountSays}
 use Rattle.heap_laws.proofs.Fields.Effects.{counts_are_read}
-use Rattle.gc_worker.specs.declared.access.access_stage.AccessStage.{AccessStage}
-use Rattle.gc_worker.specs.declared.access.access_stage.AccessStage.TheVariants.{LooksAtRecord, LoadsCount}
-use Rattle.gc_worker.specs.declared.access.field_access.FieldAccess.{FieldAccess}
-use Rattle.gc_worker.specs.declared.access.field_access.FieldUse.{FieldUse}
-use Rattle.gc_worker.specs.declared.access.field_access.FieldUse.TheVariants as field_uses
-use Rattle.gc_worker.specs.declared.access.field_access.Role.{Role}
-use Rattle.gc_worker.specs.declared.access.mixed_access.MixedAccess.{MixedAccess}
-use Rattle.gc_worker.specs.declared.access.record_access.RecordAccess.{RecordAccess}
-use Rattle.gc_worker.specs.declared.access.record_access.RecordUse.TheVariants as record_uses
-use Rattle.gc_worker.specs.Steps.Access.{answered, before_header, begun, count_at, field_of, kind_of, read_count, record_use, role_by_count, role_of, to_field, valued, word_as, IsFieldOfAction, FitsFieldUse, storing}
+use Rattle.record_access.specs.declared.access_stage.AccessStage.{AccessStage}
+use Rattle.record_access.specs.declared.access_stage.AccessStage.TheVariants.{LooksAtRecord, LoadsCount}
+use Rattle.record_access.specs.declared.field_access.FieldAccess.{FieldAccess}
+use Rattle.record_access.specs.declared.field_access.FieldUse.{FieldUse}
+use Rattle.record_access.specs.declared.field_access.FieldUse.TheVariants as field_uses
+use Rattle.record_access.specs.declared.field_access.Role.{Role}
+use Rattle.record_access.specs.declared.mixed_access.MixedAccess.{MixedAccess}
+use Rattle.record_access.specs.declared.record_access.RecordAccess.{RecordAccess}
+use Rattle.record_access.specs.declared.record_access.RecordUse.TheVariants as record_uses
+use Rattle.record_access.specs.Access.{answered, count_at, field_of, kind_of, read_count, role_by_count, role_of, to_field, valued, word_as, FitsFieldUse, storing}
+use Rattle.gc_worker.specs.Steps.Access.{before_header, begun, record_use, IsFieldOfAction}
 use Rattle.gc_worker.specs.Workers.Fits.{ExecutesAction}
 use Rattle.gc_worker.specs.Steps.Goes.{Is, Goes, StepsSo}
 use Rattle.gc_worker.specs.Workers.Held.{Held}
 use Rattle.gc_worker.specs.Workers.Knows.{uncounted_access}
-use Rattle.gc_worker.specs.Plain.Seen.{seen, value_seen, word_for}
+use Rattle.record_access.specs.Seen.{value_seen, word_for}
+use Rattle.gc_worker.specs.Plain.Seen.{seen}
 use Rattle.gc_worker.proofs.Plain.Actions.{plain_value}
 use Rattle.gc_worker.proofs.Stages.Gate.Words.{wants}
 use Rattle.gc_worker.proofs.Stages.Scan.Headers.{heap_word}

@@ -21,19 +21,20 @@ use Rattle.heap_state.specs.Memory.Entries.{WordIs}
 use Rattle.heap_state.specs.Memory.Table.{word_in}
 use Rattle.heap_laws.specs.Fields.Effects.{word_held}
 use Rattle.heap_laws.proofs.Fields.SameWords.{same_words}
-use Rattle.gc_worker.specs.declared.access.access_stage.AccessStage.{AccessStage}
-use Rattle.gc_worker.specs.declared.access.access_stage.AccessStage.TheVariants.{LoadsForCas, ExchangesField}
-use Rattle.gc_worker.specs.declared.access.field_access.FieldAccess.{FieldAccess}
-use Rattle.gc_worker.specs.declared.access.field_access.FieldExchange.{FieldExchange}
-use Rattle.gc_worker.specs.declared.access.field_access.FieldUse.TheVariants as field_uses
-use Rattle.gc_worker.specs.declared.access.field_access.Role.{Role}
-use Rattle.gc_worker.specs.Steps.Access.{IsFieldOfAction, field_at, field_of, kind_of, role_of, word_as}
+use Rattle.record_access.specs.declared.access_stage.AccessStage.{AccessStage}
+use Rattle.record_access.specs.declared.access_stage.AccessStage.TheVariants.{LoadsForCas, ExchangesField}
+use Rattle.record_access.specs.declared.field_access.FieldAccess.{FieldAccess}
+use Rattle.record_access.specs.declared.field_access.FieldExchange.{FieldExchange}
+use Rattle.record_access.specs.declared.field_access.FieldUse.TheVariants as field_uses
+use Rattle.record_access.specs.declared.field_access.Role.{Role}
+use Rattle.record_access.specs.Access.{field_at, field_of, kind_of, role_of, word_as}
+use Rattle.gc_worker.specs.Steps.Access.{IsFieldOfAction}
 use Rattle.gc_worker.specs.Workers.Fits.{ExecutesAction}
 use Rattle.gc_worker.specs.Steps.Goes.{Is, Goes, StepsSo}
 use Rattle.gc_worker.specs.Steps.Turned as turned
 use Rattle.gc_worker.specs.Workers.Held.{Held}
 use Rattle.gc_worker.specs.Workers.Knows.{access_at, known_access, knows, opened_at}
-use Rattle.gc_worker.specs.Plain.Seen.{IsValueWord, word_for}
+use Rattle.record_access.specs.Seen.{IsValueWord, word_for}
 use Rattle.gc_worker.proofs.Plain.Actions.{plain_value}
 use Rattle.gc_worker.proofs.Plain.Effects.{loaded_goes, loaded_as}
 use Rattle.gc_worker.proofs.Plain.Registers.{are_same-true, same-are}

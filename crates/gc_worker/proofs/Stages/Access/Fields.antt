@@ -37,19 +37,20 @@ use Rattle.heap_laws.specs.Fields.Words.{MayStore, StandsFor}
 use Rattle.heap_laws.proofs.Fields.Effects.{accesses_are_values, targets_are_values}
 use Rattle.heap_laws.proofs.Fields.Laws.{mutators_store}
 use Rattle.heap_laws.proofs.Fields.Stored.{words_are_loaded}
-use Rattle.gc_worker.specs.declared.access.access_stage.AccessStage.{AccessStage}
-use Rattle.gc_worker.specs.declared.access.access_stage.AccessStage.TheVariants.{LoadsField, StoresField}
-use Rattle.gc_worker.specs.declared.access.accessed.Accessed.TheVariants.{Brings}
-use Rattle.gc_worker.specs.declared.access.field_access.FieldAccess.{FieldAccess}
-use Rattle.gc_worker.specs.declared.access.field_access.FieldUse.TheVariants as field_uses
-use Rattle.gc_worker.specs.declared.access.field_access.Role.{Role}
-use Rattle.gc_worker.specs.declared.access.field_access.Role.TheVariants as roles
-use Rattle.gc_worker.specs.Steps.Access.{Comes, IsFieldOfAction, IsHeapAddress, field_at, field_of, is_target, kind_of, role_of, word_as}
+use Rattle.record_access.specs.declared.access_stage.AccessStage.{AccessStage}
+use Rattle.record_access.specs.declared.access_stage.AccessStage.TheVariants.{LoadsField, StoresField}
+use Rattle.record_access.specs.declared.accessed.Accessed.TheVariants.{Brings}
+use Rattle.record_access.specs.declared.field_access.FieldAccess.{FieldAccess}
+use Rattle.record_access.specs.declared.field_access.FieldUse.TheVariants as field_uses
+use Rattle.record_access.specs.declared.field_access.Role.{Role}
+use Rattle.record_access.specs.declared.field_access.Role.TheVariants as roles
+use Rattle.record_access.specs.Access.{Comes, IsHeapAddress, field_at, field_of, is_target, kind_of, role_of, word_as}
+use Rattle.gc_worker.specs.Steps.Access.{IsFieldOfAction}
 use Rattle.gc_worker.specs.Workers.Fits.{ExecutesAction}
 use Rattle.gc_worker.specs.Steps.Goes.{Is, Goes, StepsSo}
 use Rattle.gc_worker.specs.Workers.Held.{Held}
 use Rattle.gc_worker.specs.Workers.Knows.{known_access, access_at, opened_at}
-use Rattle.gc_worker.specs.Plain.Seen.{word_for}
+use Rattle.record_access.specs.Seen.{word_for}
 use Rattle.gc_worker.proofs.Plain.Actions.{plain_value}
 use Rattle.gc_worker.proofs.Plain.AnswerSteps.{LawTo}
 use Rattle.gc_worker.proofs.Plain.Effects.{moved, moved_goes, moved_as}

@@ -24,20 +24,21 @@ use Rattle.heap_laws.specs.Steps.{Ready}
 use Rattle.heap_laws.proofs.Fields.GoingOn.{runs, timely}
 use Rattle.heap_laws.proofs.Fields.Laws.{goes_on_so, mutators_learn}
 use Rattle.heap_laws.proofs.Fields.Shown.{registers_are_held}
-use Rattle.gc_worker.specs.declared.access.Access.{Access}
-use Rattle.gc_worker.specs.declared.access.access_stage.AccessStage.{AccessStage}
-use Rattle.gc_worker.specs.declared.access.access_stage.AccessStage.TheVariants.{LooksAtField, LoadsField, StoresField, LoadsForCas, ExchangesField, StoresBoard, SwapsBoard}
-use Rattle.gc_worker.specs.declared.access.accessed.Accessed.TheVariants.{Faults}
-use Rattle.gc_worker.specs.declared.access.field_access.FieldAccess.{FieldAccess}
-use Rattle.gc_worker.specs.declared.access.field_access.FieldExchange.{FieldExchange}
-use Rattle.gc_worker.specs.declared.access.field_access.FieldUse.{FieldUse}
-use Rattle.gc_worker.specs.declared.access.field_access.FieldUse.TheVariants as field_uses
-use Rattle.gc_worker.specs.declared.access.field_access.Role.{Role}
-use Rattle.gc_worker.specs.declared.access.field_access.Role.TheVariants as roles
+use Rattle.record_access.specs.declared.access.Access.{Access}
+use Rattle.record_access.specs.declared.access_stage.AccessStage.{AccessStage}
+use Rattle.record_access.specs.declared.access_stage.AccessStage.TheVariants.{LooksAtField, LoadsField, StoresField, LoadsForCas, ExchangesField, StoresBoard, SwapsBoard}
+use Rattle.record_access.specs.declared.accessed.Accessed.TheVariants.{Faults}
+use Rattle.record_access.specs.declared.field_access.FieldAccess.{FieldAccess}
+use Rattle.record_access.specs.declared.field_access.FieldExchange.{FieldExchange}
+use Rattle.record_access.specs.declared.field_access.FieldUse.{FieldUse}
+use Rattle.record_access.specs.declared.field_access.FieldUse.TheVariants as field_uses
+use Rattle.record_access.specs.declared.field_access.Role.{Role}
+use Rattle.record_access.specs.declared.field_access.Role.TheVariants as roles
 use Rattle.gc_worker.specs.declared.stage.back.Back.TheVariants.{ToAccess, ToTarget}
 use Rattle.gc_worker.specs.declared.stage.Stage.TheVariants.{Accesses, Serves}
-use Rattle.gc_worker.specs.Steps.Access.{Answered, GoesTo, WaitsAt, Comes, FitsFieldUse, FitsStage, IsFieldOfAction, IsHeapAddress, answered, answered_at, field_at, goes_at, goes_by, goes_to_field, is_at_target, is_target, kind_of, read_before, to_field, turn_by, uses_field, writes_on}
-use Rattle.gc_worker.specs.Steps.Access as access
+use Rattle.record_access.specs.Access.{Answered, GoesTo, WaitsAt, Comes, FitsFieldUse, FitsStage, IsHeapAddress, answered, answered_at, field_at, goes_at, goes_by, goes_to_field, is_at_target, is_target, kind_of, read_before, to_field, turn_by, uses_field, writes_on}
+use Rattle.gc_worker.specs.Steps.Access.{IsFieldOfAction}
+use Rattle.record_access.specs.Access as access
 use Rattle.gc_worker.specs.Workers.Fits.{ExecutesAction, Fits, IsAccessing, IsFaulting}
 use Rattle.gc_worker.specs.Steps.Goes.{Is, Goes}
 use Rattle.gc_worker.specs.Workers.Held.{Held, at_stage}

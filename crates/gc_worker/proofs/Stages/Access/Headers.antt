@@ -39,25 +39,27 @@ use Rattle.heap_laws.specs.Fields.Held.{HoldsValue}
 use Rattle.heap_laws.specs.Fields.Words.{IsLedTo}
 use Rattle.heap_laws.proofs.Fields.Effects.{headers_say}
 use Rattle.heap_laws.proofs.Lifting.Configurations.{below_board}
-use Rattle.gc_worker.specs.declared.access.access_stage.AccessStage.{AccessStage}
-use Rattle.gc_worker.specs.declared.access.access_stage.AccessStage.TheVariants.{LooksAtRecord, LoadsHeader, LooksAtCount, LoadsCount}
-use Rattle.gc_worker.specs.declared.access.accessed.Accessed.TheVariants.{Brings, Fails}
-use Rattle.gc_worker.specs.declared.access.field_access.FieldAccess.{FieldAccess}
-use Rattle.gc_worker.specs.declared.access.field_access.FieldUse.{FieldUse}
-use Rattle.gc_worker.specs.declared.access.field_access.FieldUse.TheVariants as field_uses
-use Rattle.gc_worker.specs.declared.access.field_access.Role.{Role}
-use Rattle.gc_worker.specs.declared.access.field_access.Role.TheVariants as roles
-use Rattle.gc_worker.specs.declared.access.mixed_access.MixedAccess.{MixedAccess}
-use Rattle.gc_worker.specs.declared.access.record_access.RecordAccess.{RecordAccess}
-use Rattle.gc_worker.specs.declared.access.record_access.RecordUse.TheVariants as record_uses
-use Rattle.gc_worker.specs.Steps.Access.{GoesTo, Comes, IsHeapAddress, before_header, begun, by_kind, counted_by, counting, IsFieldOfAction, FitsFieldUse, FitsMixedUse, answered, field_of, kind_of, role_of, read_header, record_use, used_by, to_field, storing, may_store, word_as}
+use Rattle.record_access.specs.declared.access_stage.AccessStage.{AccessStage}
+use Rattle.record_access.specs.declared.access_stage.AccessStage.TheVariants.{LooksAtRecord, LoadsHeader, LooksAtCount, LoadsCount}
+use Rattle.record_access.specs.declared.accessed.Accessed.TheVariants.{Brings, Fails}
+use Rattle.record_access.specs.declared.field_access.FieldAccess.{FieldAccess}
+use Rattle.record_access.specs.declared.field_access.FieldUse.{FieldUse}
+use Rattle.record_access.specs.declared.field_access.FieldUse.TheVariants as field_uses
+use Rattle.record_access.specs.declared.field_access.Role.{Role}
+use Rattle.record_access.specs.declared.field_access.Role.TheVariants as roles
+use Rattle.record_access.specs.declared.mixed_access.MixedAccess.{MixedAccess}
+use Rattle.record_access.specs.declared.record_access.RecordAccess.{RecordAccess}
+use Rattle.record_access.specs.declared.record_access.RecordUse.TheVariants as record_uses
+use Rattle.record_access.specs.Access.{GoesTo, Comes, IsHeapAddress, by_kind, counted_by, counting, FitsFieldUse, FitsMixedUse, answered, field_of, kind_of, role_of, read_header, used_by, to_field, storing, may_store, word_as}
+use Rattle.gc_worker.specs.Steps.Access.{before_header, begun, IsFieldOfAction, record_use}
 use Rattle.gc_worker.specs.Workers.Fits.{ExecutesAction}
 use Rattle.gc_worker.specs.Steps.Goes.{Is, Goes, StepsSo}
 use Rattle.gc_worker.specs.Workers.Held.{Held}
 use Rattle.gc_worker.specs.Workers.Knows.{known_access, uncounted_access}
 use Rattle.gc_worker.specs.Plain.Answer.{MayEnd}
 use Rattle.gc_worker.specs.Plain.Full.{FullByEnd}
-use Rattle.gc_worker.specs.Plain.Seen.{IsValueWord, by_address, seen, seen_as, word_for, value_seen}
+use Rattle.record_access.specs.Seen.{IsValueWord, by_address, seen_as, word_for, value_seen}
+use Rattle.gc_worker.specs.Plain.Seen.{seen}
 use Rattle.gc_worker.proofs.Plain.Actions.{plain_value}
 use Rattle.gc_worker.proofs.Stages.Gate.Words.{wants}
 use Rattle.gc_worker.proofs.Stages.Scan.Headers.{heap_word}

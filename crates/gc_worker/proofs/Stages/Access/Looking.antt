@@ -12,18 +12,18 @@ use Rattle.mmu_model.specs.Access.{access_of}
 use Rattle.heap_state.specs.Configuration.{Configuration, Stands, table, era}
 use Rattle.heap_state.specs.Invariant.Parts.Knowledge as parts
 use Rattle.heap_state.specs.Worker as workers
-use Rattle.gc_worker.specs.declared.access.access_stage.AccessStage.{AccessStage}
-use Rattle.gc_worker.specs.declared.access.access_stage.AccessStage.TheVariants.{LooksAtRecord, LoadsHeader, LooksAtCount, LoadsCount, LooksAtField, LoadsField, StoresField, LoadsForCas, LooksAtBoard, LoadsBoard, StoresBoard, LoadsForSwap}
-use Rattle.gc_worker.specs.declared.access.accessed.Accessed.TheVariants.{Faults}
-use Rattle.gc_worker.specs.declared.access.board_access.BoardUse.{BoardUse}
-use Rattle.gc_worker.specs.declared.access.board_access.BoardUse.TheVariants as board_uses
-use Rattle.gc_worker.specs.declared.access.field_access.FieldAccess.{FieldAccess}
-use Rattle.gc_worker.specs.declared.access.field_access.FieldUse.{FieldUse}
-use Rattle.gc_worker.specs.declared.access.field_access.FieldUse.TheVariants as field_uses
-use Rattle.gc_worker.specs.declared.access.mixed_access.MixedAccess.{MixedAccess}
-use Rattle.gc_worker.specs.declared.access.record_access.RecordAccess.{RecordAccess}
-use Rattle.gc_worker.specs.Steps.Access.{GoesTo, Comes, IsHeapAddress, FitsStage, answered, let_through, looked, is_at_target, page_step, count_at, field_at}
-use Rattle.gc_worker.specs.Steps.Access as access
+use Rattle.record_access.specs.declared.access_stage.AccessStage.{AccessStage}
+use Rattle.record_access.specs.declared.access_stage.AccessStage.TheVariants.{LooksAtRecord, LoadsHeader, LooksAtCount, LoadsCount, LooksAtField, LoadsField, StoresField, LoadsForCas, LooksAtBoard, LoadsBoard, StoresBoard, LoadsForSwap}
+use Rattle.record_access.specs.declared.accessed.Accessed.TheVariants.{Faults}
+use Rattle.record_access.specs.declared.board_access.BoardUse.{BoardUse}
+use Rattle.record_access.specs.declared.board_access.BoardUse.TheVariants as board_uses
+use Rattle.record_access.specs.declared.field_access.FieldAccess.{FieldAccess}
+use Rattle.record_access.specs.declared.field_access.FieldUse.{FieldUse}
+use Rattle.record_access.specs.declared.field_access.FieldUse.TheVariants as field_uses
+use Rattle.record_access.specs.declared.mixed_access.MixedAccess.{MixedAccess}
+use Rattle.record_access.specs.declared.record_access.RecordAccess.{RecordAccess}
+use Rattle.record_access.specs.Access.{GoesTo, Comes, IsHeapAddress, FitsStage, answered, let_through, looked, is_at_target, page_step, count_at, field_at}
+use Rattle.record_access.specs.Access as access
 use Rattle.gc_worker.specs.Workers.Fits.{IsAccessing, IsFaulting}
 use Rattle.gc_worker.specs.Steps.Goes.{Is, Goes, StepsSo}
 use Rattle.gc_worker.specs.Workers.Held.{Held}

@@ -11,17 +11,17 @@ use Rattle.heap_state.specs.Configuration.{Configuration, Stands, era, memory, t
 use Rattle.heap_state.specs.Memory.Entries.{Entry}
 use Rattle.heap_laws.specs.Fields.Held.{HoldsValue}
 use Rattle.heap_laws.proofs.Fields.Laws.{mutators_step}
-use Rattle.gc_worker.specs.declared.access.access_stage.AccessStage.{AccessStage}
-use Rattle.gc_worker.specs.declared.access.accessed.Accessed.TheVariants.{Brings, Stored, Fails}
-use Rattle.gc_worker.specs.Steps.Access.{Answered, Comes, answered, is_at_target, turn_by, goes_by}
-use Rattle.gc_worker.specs.Steps.Access as access
+use Rattle.record_access.specs.declared.access_stage.AccessStage.{AccessStage}
+use Rattle.record_access.specs.declared.accessed.Accessed.TheVariants.{Brings, Stored, Fails}
+use Rattle.record_access.specs.Access.{Answered, Comes, answered, is_at_target, turn_by, goes_by}
+use Rattle.record_access.specs.Access as access
 use Rattle.gc_worker.specs.Plain.Answer.{MayEnd}
 use Rattle.gc_worker.specs.Workers.Fits.{ExecutesAction}
 use Rattle.gc_worker.specs.Plain.Full.{FullByEnd}
 use Rattle.gc_worker.specs.Steps.Goes.{Is, Goes}
 use Rattle.gc_worker.specs.Workers.Held.{Held}
 use Rattle.gc_worker.specs.Workers.Knows.{knows}
-use Rattle.gc_worker.specs.Plain.Seen.{IsValueWord}
+use Rattle.record_access.specs.Seen.{IsValueWord}
 use Rattle.gc_worker.specs.Steps.Turned.{turned_access, told_access, ended, loads, went_on}
 use Rattle.gc_worker.proofs.Plain.Actions.{plain_action}
 use Rattle.gc_worker.proofs.Plain.AnswerSteps.{LawTo}

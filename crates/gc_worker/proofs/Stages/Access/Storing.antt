@@ -11,14 +11,15 @@ use Rattle.plain_heap.specs.declared.action.Action.TheVariants.{Stores, Exchange
 use Rattle.plain_heap.specs.Action.{in_record}
 use Rattle.plain_heap.specs.Call.{may_hold, performed, values_of}
 use Rattle.plain_heap.proofs.Calls.Named.{Names}
-use Rattle.gc_worker.specs.declared.access.access_stage.AccessStage.TheVariants.{LooksAtRecord}
-use Rattle.gc_worker.specs.declared.access.field_access.FieldUse.{FieldUse}
-use Rattle.gc_worker.specs.declared.access.field_access.FieldUse.TheVariants as field_uses
-use Rattle.gc_worker.specs.declared.access.field_access.Role.{Role}
-use Rattle.gc_worker.specs.declared.access.mixed_access.MixedAccess.{MixedAccess}
-use Rattle.gc_worker.specs.declared.access.record_access.RecordAccess.{RecordAccess}
-use Rattle.gc_worker.specs.Steps.Access.{FitsFieldUse, FitsMixedUse, FitsRecordUse, IsFieldOfAction, begun, counted_by, counting, field_of, kind_of, may_store, record_use, storing, used_by, valued, with_new, word_as}
-use Rattle.gc_worker.specs.Plain.Seen.{IsValueWord, value_seen, word_for}
+use Rattle.record_access.specs.declared.access_stage.AccessStage.TheVariants.{LooksAtRecord}
+use Rattle.record_access.specs.declared.field_access.FieldUse.{FieldUse}
+use Rattle.record_access.specs.declared.field_access.FieldUse.TheVariants as field_uses
+use Rattle.record_access.specs.declared.field_access.Role.{Role}
+use Rattle.record_access.specs.declared.mixed_access.MixedAccess.{MixedAccess}
+use Rattle.record_access.specs.declared.record_access.RecordAccess.{RecordAccess}
+use Rattle.record_access.specs.Access.{FitsFieldUse, FitsMixedUse, FitsRecordUse, counted_by, counting, field_of, kind_of, may_store, storing, used_by, valued, with_new, word_as}
+use Rattle.gc_worker.specs.Steps.Access.{IsFieldOfAction, begun, record_use}
+use Rattle.record_access.specs.Seen.{IsValueWord, value_seen, word_for}
 use Rattle.gc_worker.proofs.Plain.Actions.{plain_action, plain_value}
 
 -- nothing of a store; of an exchange the register, and what it expects

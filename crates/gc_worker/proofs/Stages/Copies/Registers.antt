@@ -27,7 +27,7 @@ use Rattle.heap_laws.proofs.Copying.Laws.{announces_are_cleared}
 use Rattle.heap_laws.proofs.Steps.Composites.{registers_find_forwards, registers_are_settled}
 use Rattle.gc_worker.proofs.Workers.Answered.{registers_put, values_set}
 use Rattle.gc_worker.proofs.Plain.Tasks.{task_stays}
-use Rattle.gc_worker.specs.Plain.Seen.{IsValueAs}
+use Rattle.record_access.specs.Seen.{IsValueAs}
 use Rattle.gc_worker.specs.declared.stage.after.After.{After}
 use Rattle.gc_worker.specs.declared.stage.Stage.{Stage}
 use Rattle.gc_worker.specs.declared.stage.Stage.TheVariants.{Forwards}

@@ -14,15 +14,17 @@ use Rattle.plain_heap.specs.Action.{action}
 use Rattle.plain_heap.proofs.Calls.Named.{Names}
 use Rattle.atom_store.specs.declared.reply.Reply.{Reply}
 use Rattle.heap_state.specs.Configuration.{Configuration, Stands, era, memory, team}
-use Rattle.gc_worker.specs.declared.access.access_stage.AccessStage.{AccessStage}
+use Rattle.record_access.specs.declared.access_stage.AccessStage.{AccessStage}
 use Rattle.gc_worker.specs.declared.stage.Stage.TheVariants.{Looks, Accesses}
 use Rattle.gc_worker.specs.declared.task.Task.TheVariants.{Calls}
-use Rattle.gc_worker.specs.Steps.Access.{FitsStage, IsHeapAddress, IsAccessOf}
+use Rattle.record_access.specs.Access.{FitsStage, IsHeapAddress}
+use Rattle.gc_worker.specs.Steps.Access.{IsAccessOf}
 use Rattle.gc_worker.specs.Workers.Fits.{MayBegin, FitsCall, ExecutesAction, IsMaking}
 use Rattle.gc_worker.specs.Steps.Goes.{Is, Goes}
 use Rattle.gc_worker.specs.Workers.Held.{Held, at_stage, header_for, may_snap}
 use Rattle.gc_worker.specs.Workers.Knows.{knows}
-use Rattle.gc_worker.specs.Plain.Seen.{IsValueWord, seen, word_for}
+use Rattle.record_access.specs.Seen.{IsValueWord, word_for}
+use Rattle.gc_worker.specs.Plain.Seen.{seen}
 use Rattle.gc_worker.specs.Steps.Turned.{Silent, acts, begins, places, serves_snap, turned, told}
 use Rattle.heap_laws.proofs.Fields.Shown.{headers_are_read}
 use Rattle.gc_worker.proofs.Plain.Actions.{plain_value}

@@ -30,7 +30,7 @@ use Rattle.gc_worker.specs.Workers.Fits.{AreValues, Fits}
 use Rattle.gc_worker.specs.Steps.Goes.{Is, Goes}
 use Rattle.gc_worker.specs.Workers.Held.{Held, at_stage}
 use Rattle.gc_worker.specs.Workers.Knows.{knows}
-use Rattle.gc_worker.specs.Plain.Seen.{word_for}
+use Rattle.record_access.specs.Seen.{word_for}
 use Rattle.gc_worker.specs.declared.calls.did.Did.TheVariants.{Done}
 use Rattle.gc_worker.specs.Steps.Turned.{Answers, begins, acts, turned, told, told_effect}
 use Rattle.gc_worker.specs.Steps.Turned as turn

@@ -51,7 +51,8 @@ use Rattle.gc_worker.specs.Workers.Fits.{Fits, IsMaking}
 use Rattle.gc_worker.specs.Steps.Goes.{Is, Goes, StepsSo}
 use Rattle.gc_worker.specs.Workers.Held.{Held, target_for, target_in, target_named}
 use Rattle.gc_worker.specs.Workers.Knows.{knows, counted_in, kind_with}
-use Rattle.gc_worker.specs.Plain.Seen.{Making, IsValueAs, seen}
+use Rattle.record_access.specs.Seen.{IsValueAs}
+use Rattle.gc_worker.specs.Plain.Seen.{Making, seen}
 use Rattle.gc_worker.specs.declared.calls.did.Did.TheVariants.{Done}
 use Rattle.gc_worker.specs.Steps.Turned.{Answers, turned, told, told_effect}
 use Rattle.gc_worker.specs.Steps.Turned as turning

@@ -15,7 +15,7 @@ use Rattle.heap_laws.specs.Composing.{ends_round}
 use Rattle.heap_laws.proofs.Gate.Reading.{sees_traced}
 use Rattle.heap_laws.proofs.Steps.Composing.{steps_forget}
 use Rattle.heap_laws.proofs.Steps.Forgotten.{rounds_are_forgotten}
-use Rattle.gc_worker.specs.declared.access.Access.{Access}
+use Rattle.record_access.specs.declared.access.Access.{Access}
 use Rattle.gc_worker.specs.declared.stage.back.Back.{Back}
 use Rattle.gc_worker.specs.declared.stage.back.Back.TheVariants.{ToAccess, ToTarget, ToPlace, ToSnap, ToScanner}
 use Rattle.gc_worker.specs.declared.stage.goal.Goal.TheVariants.{ForSnap, ForScanner}

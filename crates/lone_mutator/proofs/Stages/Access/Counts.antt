@@ -5,14 +5,14 @@ use Rattle.plain_heap.specs.Call.{may_hold}
 use Rattle.atom_store.specs.declared.step.Step.TheVariants.{Load}
 use Rattle.space_map.specs.Table.{HeapWord, place_of}
 use Rattle.heap_state.specs.Configuration.{Configuration, Stands, table}
-use Rattle.gc_worker.specs.declared.access.access_stage.AccessStage.TheVariants.{LoadsCount}
-use Rattle.gc_worker.specs.declared.access.field_access.FieldUse.{FieldUse}
-use Rattle.gc_worker.specs.declared.access.field_access.FieldUse.TheVariants as field_uses
-use Rattle.gc_worker.specs.declared.access.field_access.Role.{Role}
-use Rattle.gc_worker.specs.declared.access.field_access.Role.TheVariants as roles
-use Rattle.gc_worker.specs.declared.access.mixed_access.MixedAccess.{MixedAccess}
-use Rattle.gc_worker.specs.Steps.Access.{Answered, count_at, field_of, kind_of, valued}
-use Rattle.gc_worker.specs.Plain.Seen.{value_seen}
+use Rattle.record_access.specs.declared.access_stage.AccessStage.TheVariants.{LoadsCount}
+use Rattle.record_access.specs.declared.field_access.FieldUse.{FieldUse}
+use Rattle.record_access.specs.declared.field_access.FieldUse.TheVariants as field_uses
+use Rattle.record_access.specs.declared.field_access.Role.{Role}
+use Rattle.record_access.specs.declared.field_access.Role.TheVariants as roles
+use Rattle.record_access.specs.declared.mixed_access.MixedAccess.{MixedAccess}
+use Rattle.record_access.specs.Access.{Answered, count_at, field_of, kind_of, valued}
+use Rattle.record_access.specs.Seen.{value_seen}
 use Rattle.gc_worker.specs.Workers.Held.{Held}
 use Rattle.gc_worker.proofs.Stages.Access.Counts.{reads, says}
 use Rattle.gc_worker.proofs.Stages.Access.Going.{own, at}

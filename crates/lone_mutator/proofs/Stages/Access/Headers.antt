@@ -14,16 +14,16 @@ use Rattle.space_map.specs.Table.{HeapWord, place_of}
 use Rattle.heap_state.specs.Configuration.{Configuration, Stands, table}
 use Rattle.heap_state.specs.Invariant.Ghost.{header_kind}
 use Rattle.heap_state.specs.Memory.Table.{word_in}
-use Rattle.gc_worker.specs.declared.access.access_stage.AccessStage.TheVariants.{LoadsHeader, LooksAtCount, LoadsCount}
-use Rattle.gc_worker.specs.declared.access.field_access.FieldUse.{FieldUse}
-use Rattle.gc_worker.specs.declared.access.field_access.FieldUse.TheVariants as field_uses
-use Rattle.gc_worker.specs.declared.access.field_access.Role.{Role}
-use Rattle.gc_worker.specs.declared.access.field_access.Role.TheVariants as roles
-use Rattle.gc_worker.specs.declared.access.mixed_access.MixedAccess.{MixedAccess}
-use Rattle.gc_worker.specs.declared.access.record_access.RecordAccess.{RecordAccess}
-use Rattle.gc_worker.specs.declared.access.record_access.RecordUse.{RecordUse}
-use Rattle.gc_worker.specs.declared.access.record_access.RecordUse.TheVariants as record_uses
-use Rattle.gc_worker.specs.Steps.Access.{Answered, GoesTo, answered, by_kind, counted_by, counting, field_of, may_store, read_header, used_by}
+use Rattle.record_access.specs.declared.access_stage.AccessStage.TheVariants.{LoadsHeader, LooksAtCount, LoadsCount}
+use Rattle.record_access.specs.declared.field_access.FieldUse.{FieldUse}
+use Rattle.record_access.specs.declared.field_access.FieldUse.TheVariants as field_uses
+use Rattle.record_access.specs.declared.field_access.Role.{Role}
+use Rattle.record_access.specs.declared.field_access.Role.TheVariants as roles
+use Rattle.record_access.specs.declared.mixed_access.MixedAccess.{MixedAccess}
+use Rattle.record_access.specs.declared.record_access.RecordAccess.{RecordAccess}
+use Rattle.record_access.specs.declared.record_access.RecordUse.{RecordUse}
+use Rattle.record_access.specs.declared.record_access.RecordUse.TheVariants as record_uses
+use Rattle.record_access.specs.Access.{Answered, GoesTo, answered, by_kind, counted_by, counting, field_of, may_store, read_header, used_by}
 use Rattle.gc_worker.specs.Workers.Held.{Held}
 use Rattle.gc_worker.proofs.Stages.Access.Going.{own, at}
 use Rattle.gc_worker.proofs.Stages.Scan.Headers.{heap_word}

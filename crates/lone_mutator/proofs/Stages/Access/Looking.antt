@@ -20,21 +20,22 @@ use Rattle.heap_state.specs.Worker.{Worker}
 use Rattle.heap_state.specs.Invariant.Parts.Knowledge as parts
 use Rattle.heap_state.proofs.Table.LaidOut.{laid_out}
 use Rattle.heap_laws.specs.Fields.Words.{IsLedTo}
-use Rattle.gc_worker.specs.declared.access.access_stage.AccessStage.{AccessStage}
-use Rattle.gc_worker.specs.declared.access.access_stage.AccessStage.TheVariants.{LooksAtRecord, LoadsHeader, LooksAtCount, LoadsCount, LooksAtField, LoadsField, StoresField, LoadsForCas, LooksAtBoard, LoadsBoard, StoresBoard, LoadsForSwap}
-use Rattle.gc_worker.specs.declared.access.accessed.Accessed.TheVariants.{Faults}
-use Rattle.gc_worker.specs.declared.access.board_access.BoardUse.{BoardUse}
-use Rattle.gc_worker.specs.declared.access.board_access.BoardUse.TheVariants as board_uses
-use Rattle.gc_worker.specs.declared.access.field_access.FieldAccess.{FieldAccess}
-use Rattle.gc_worker.specs.declared.access.field_access.FieldUse.{FieldUse}
-use Rattle.gc_worker.specs.declared.access.field_access.FieldUse.TheVariants as field_uses
-use Rattle.gc_worker.specs.declared.access.mixed_access.MixedAccess.{MixedAccess}
-use Rattle.gc_worker.specs.declared.access.record_access.RecordAccess.{RecordAccess}
+use Rattle.record_access.specs.declared.access_stage.AccessStage.{AccessStage}
+use Rattle.record_access.specs.declared.access_stage.AccessStage.TheVariants.{LooksAtRecord, LoadsHeader, LooksAtCount, LoadsCount, LooksAtField, LoadsField, StoresField, LoadsForCas, LooksAtBoard, LoadsBoard, StoresBoard, LoadsForSwap}
+use Rattle.record_access.specs.declared.accessed.Accessed.TheVariants.{Faults}
+use Rattle.record_access.specs.declared.board_access.BoardUse.{BoardUse}
+use Rattle.record_access.specs.declared.board_access.BoardUse.TheVariants as board_uses
+use Rattle.record_access.specs.declared.field_access.FieldAccess.{FieldAccess}
+use Rattle.record_access.specs.declared.field_access.FieldUse.{FieldUse}
+use Rattle.record_access.specs.declared.field_access.FieldUse.TheVariants as field_uses
+use Rattle.record_access.specs.declared.mixed_access.MixedAccess.{MixedAccess}
+use Rattle.record_access.specs.declared.record_access.RecordAccess.{RecordAccess}
 use Rattle.gc_worker.specs.declared.stage.back.Back.{Back}
 use Rattle.gc_worker.specs.declared.stage.back.Back.TheVariants.{ToAccess, ToTarget}
 use Rattle.gc_worker.specs.declared.stage.Stage.TheVariants.{Serves}
-use Rattle.gc_worker.specs.Steps.Access.{GoesTo, Comes, IsHeapAddress, answered, begun, count_at, field_at, is_at_target, left_at, let_through, looked, page_step}
-use Rattle.gc_worker.specs.Steps.Access as access
+use Rattle.record_access.specs.Access.{GoesTo, Comes, IsHeapAddress, answered, count_at, field_at, is_at_target, left_at, let_through, looked, page_step}
+use Rattle.gc_worker.specs.Steps.Access.{begun}
+use Rattle.record_access.specs.Access as access
 use Rattle.gc_worker.specs.Workers.Fits.{ExecutesAction}
 use Rattle.gc_worker.specs.Workers.Held.{Held, at_stage}
 use Rattle.gc_worker.specs.Workers.Knows.{known_access, uncounted_access}

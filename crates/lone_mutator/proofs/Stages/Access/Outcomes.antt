@@ -6,19 +6,19 @@ use Rattle.plain_state.specs.declared.value.Value.{Value}
 use Rattle.space_map.specs.Spaces.{page_of}
 use Rattle.heap_state.specs.Configuration.{Configuration, Stands, table}
 use Rattle.heap_state.specs.Memory.Table.{Table}
-use Rattle.gc_worker.specs.declared.access.access_stage.AccessStage.{AccessStage}
-use Rattle.gc_worker.specs.declared.access.access_stage.AccessStage.TheVariants.{LooksAtField, LoadsField, StoresField, LoadsForCas}
-use Rattle.gc_worker.specs.declared.access.accessed.Accessed.TheVariants.{Brings, Stored, Fails}
-use Rattle.gc_worker.specs.declared.access.field_access.FieldAccess.{FieldAccess}
-use Rattle.gc_worker.specs.declared.access.field_access.FieldUse.{FieldUse}
-use Rattle.gc_worker.specs.declared.access.field_access.FieldUse.TheVariants as field_uses
-use Rattle.gc_worker.specs.declared.access.field_access.Role.{Role}
-use Rattle.gc_worker.specs.declared.access.field_access.Role.TheVariants as roles
+use Rattle.record_access.specs.declared.access_stage.AccessStage.{AccessStage}
+use Rattle.record_access.specs.declared.access_stage.AccessStage.TheVariants.{LooksAtField, LoadsField, StoresField, LoadsForCas}
+use Rattle.record_access.specs.declared.accessed.Accessed.TheVariants.{Brings, Stored, Fails}
+use Rattle.record_access.specs.declared.field_access.FieldAccess.{FieldAccess}
+use Rattle.record_access.specs.declared.field_access.FieldUse.{FieldUse}
+use Rattle.record_access.specs.declared.field_access.FieldUse.TheVariants as field_uses
+use Rattle.record_access.specs.declared.field_access.Role.{Role}
+use Rattle.record_access.specs.declared.field_access.Role.TheVariants as roles
 use Rattle.gc_worker.specs.declared.stage.write.Write.TheVariants.{OfAccess}
 use Rattle.gc_worker.specs.declared.stage.Stage.{Stage}
 use Rattle.gc_worker.specs.declared.stage.Stage.TheVariants.{Accesses}
 use Rattle.gc_worker.specs.declared.task.Task.{Task}
-use Rattle.gc_worker.specs.Steps.Access.{Answered, GoesTo, WaitsAt, Comes, field_at, goes_at, goes_by, goes_to_field, left_at, loading, read_before, storing, to_field, turn_by, uses_field, with_new, word_as, writes_on}
+use Rattle.record_access.specs.Access.{Answered, GoesTo, WaitsAt, Comes, field_at, goes_at, goes_by, goes_to_field, left_at, loading, read_before, storing, to_field, turn_by, uses_field, with_new, word_as, writes_on}
 use Rattle.gc_worker.specs.Workers.Held.{Held, at_stage}
 use Rattle.gc_worker.specs.Steps.Turned.{ended, loads, told_access, told_effect, told_end, turned_access, went_on}
 use Rattle.gc_worker.proofs.Stages.Access.Going.{own, at}

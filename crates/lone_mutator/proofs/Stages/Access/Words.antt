@@ -9,12 +9,12 @@ use Rattle.heap_state.specs.Functions.{put}
 use Rattle.heap_state.specs.Memory.Table.{word_in}
 use Rattle.heap_words.specs.Word.{number_word}
 use Rattle.heap_laws.specs.Fields.Effects.{word_held}
-use Rattle.gc_worker.specs.declared.access.access_stage.AccessStage.TheVariants.{LoadsField, StoresField, LoadsForCas, ExchangesField, LoadsBoard, StoresBoard, LoadsForSwap, SwapsBoard}
-use Rattle.gc_worker.specs.declared.access.board_access.BoardSwap.{BoardSwap}
-use Rattle.gc_worker.specs.declared.access.accessed.Accessed.TheVariants.{Brings}
-use Rattle.gc_worker.specs.declared.access.field_access.FieldAccess.{FieldAccess}
-use Rattle.gc_worker.specs.declared.access.field_access.FieldExchange.{FieldExchange}
-use Rattle.gc_worker.specs.Steps.Access.{Comes, GoesTo, board_at, field_at, role_of}
+use Rattle.record_access.specs.declared.access_stage.AccessStage.TheVariants.{LoadsField, StoresField, LoadsForCas, ExchangesField, LoadsBoard, StoresBoard, LoadsForSwap, SwapsBoard}
+use Rattle.record_access.specs.declared.board_access.BoardSwap.{BoardSwap}
+use Rattle.record_access.specs.declared.accessed.Accessed.TheVariants.{Brings}
+use Rattle.record_access.specs.declared.field_access.FieldAccess.{FieldAccess}
+use Rattle.record_access.specs.declared.field_access.FieldExchange.{FieldExchange}
+use Rattle.record_access.specs.Access.{Comes, GoesTo, board_at, field_at, role_of}
 use Rattle.gc_worker.specs.Workers.Held.{Held}
 use Rattle.gc_worker.proofs.Stages.Access.Going.{at}
 use Rattle.gc_worker.proofs.Stages.Scan.Headers.{heap_word}

@@ -13,14 +13,14 @@ use Rattle.fault_duty.specs.Duty.{Round}
 use Rattle.heap_state.specs.Configuration.{Configuration, Stands, table, era, memory}
 use Rattle.heap_state.specs.Memory.Table.{Table}
 use Rattle.page_saves.specs.SaveRound.{begun_by_mutator}
-use Rattle.gc_worker.specs.declared.access.Access.{Access}
-use Rattle.gc_worker.specs.declared.access.access_stage.AccessStage.{AccessStage}
-use Rattle.gc_worker.specs.declared.access.access_stage.AccessStage.TheVariants.{LooksAtField, LoadsField}
+use Rattle.record_access.specs.declared.access.Access.{Access}
+use Rattle.record_access.specs.declared.access_stage.AccessStage.{AccessStage}
+use Rattle.record_access.specs.declared.access_stage.AccessStage.TheVariants.{LooksAtField, LoadsField}
 use Rattle.gc_worker.specs.declared.stage.back.Back.{Back}
 use Rattle.gc_worker.specs.declared.stage.back.Back.TheVariants.{ToAccess, ToTarget, ToPlace, ToSnap, ToScanner}
 use Rattle.gc_worker.specs.declared.stage.goal.Goal.TheVariants.{ForSnap}
 use Rattle.gc_worker.specs.declared.stage.Stage.TheVariants.{Accesses, Checkpoints}
-use Rattle.gc_worker.specs.Steps.Access.{is_at_target}
+use Rattle.record_access.specs.Access.{is_at_target}
 use Rattle.gc_worker.specs.Workers.Held.{Held}
 use Rattle.gc_worker.specs.Steps.Turned.{turned}
 use Rattle.gc_worker.proofs.Plain.Quiet.{rounds_are_quiet}

@@ -1,5 +1,0 @@
-pub mod SoundEnds
-pub mod AuditEnds
-pub mod Plainly
-pub mod ConcordEnds
-pub mod Assured

@@ -1,5 +1,0 @@
-use Rattle.ael_commands.proofs.Rounds.{first_round}
-use Rattle.ael_commands.proofs.runs.scheduler.listing.Listing.new.Goals as goal
-
-pub returns : goal.returns
-returns c = first_round c.args.items.now c.requires.some

@@ -1,6 +1,0 @@
-pub mod Ends
-pub mod Input
-pub mod Memory
-pub mod Standard
-pub mod Stream
-pub mod Sure

@@ -1,0 +1,4 @@
+pub mod SoundEnds
+pub mod AuditEnds
+pub mod Plainly
+pub mod ConcordEnds

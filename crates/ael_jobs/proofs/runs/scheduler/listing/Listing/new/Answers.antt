@@ -1,0 +1,5 @@
+use Rattle.ael_jobs.proofs.Rounds.{first_round}
+use Rattle.ael_jobs.proofs.runs.scheduler.listing.Listing.new.Goals as goal
+
+pub returns : goal.returns
+returns c = first_round c.args.items.now c.requires.some

@@ -1,0 +1,5 @@
+pub mod Ends
+pub mod Input
+pub mod Memory
+pub mod Standard
+pub mod Stream

@@ -1,6 +1,0 @@
-use Rattle.std.proofs.Common.{◌≡◌, fold, take}
-use Rattle.plain_heap.specs.Search.{followed}
-use Rattle.plain_heap.proofs.search.Search.follow_all.Given as goal
-
-abbrev pub invariant-loop-value : goal.invariant-loop-value
-invariant-loop-value l = l.self ≡ fold followed l.initial.self (take l.value-index l.values)

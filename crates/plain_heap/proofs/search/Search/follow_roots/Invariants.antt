@@ -1,8 +1,0 @@
-use Rattle.std.proofs.Common.{◌≡◌, fold, take}
-use Rattle.std.specs.List.{flat_map}
-use Rattle.plain_heap.specs.Reaching.{held_by}
-use Rattle.plain_heap.specs.Search.{followed}
-use Rattle.plain_heap.proofs.search.Search.follow_roots.Given as goal
-
-abbrev pub invariant-loop-mutator : goal.invariant-loop-mutator
-invariant-loop-mutator l = l.self ≡ fold followed l.initial.self (flat_map held_by (take l.mutator-index l.mutators))

@@ -1,0 +1,4 @@
+pub mod Labels
+pub mod Limits
+pub mod Before
+pub mod Sound

@@ -1,0 +1,6 @@
+use Rattle.std.proofs.Common.{rules}
+use Rattle.program_text.proofs.Tokens.Operands.{first}
+use Rattle.program_text.proofs.text.line.jal.Goals as goal
+
+pub returns-in-len1-up : goal.returns-in-len1-up
+returns-in-len1-up c = rw (first c.args.operands.now c.in-len1-up.len_at_least) (search rules)

@@ -1,0 +1,4 @@
+pub mod AsmError
+pub mod Read
+pub mod Labels
+pub mod Part

@@ -1,0 +1,5 @@
+pub mod Read
+pub mod StoredWords
+pub mod RowsFit
+pub mod Lowering
+pub mod GoingOn

@@ -1,0 +1,5 @@
+pub mod Seen
+pub mod Access
+pub mod StoredWord
+pub mod HeldUp
+pub mod Rows
