@@ -7,7 +7,7 @@ use ael_threads::Did;
 use mutator_asm::Instr;
 
 /// A register, and how many words its record has at least.
-#[derive(Clone, Copy, Debug, PartialEq, Eq)]
+#[derive(Clone, Copy)]
 pub(crate) struct Measured {
     pub register: u8,
     pub len: u64,

@@ -29,7 +29,7 @@ use std::sync::Wait;
 const MOST_RECORDS: u64 = (1 << 40) - 1;
 
 /// The heap is full: so many pages are asked for, and there is room for so many words.
-#[derive(Clone, Copy, Debug, PartialEq, Eq)]
+#[derive(Clone, Copy)]
 pub(crate) struct Full {
     pub asked: u32,
     pub room: u32,

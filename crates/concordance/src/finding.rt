@@ -21,7 +21,7 @@ use mutator_asm::Operand;
 use std::sync::Wait;
 
 /// Where the entry of a word is, or is to be.
-#[derive(Clone, Copy, Debug, PartialEq, Eq)]
+#[derive(Clone, Copy)]
 pub(crate) enum Place {
     /// The entry is here.
     Here,

@@ -13,7 +13,7 @@ pub(crate) const HIGHEST: u64 = 1 << 63;
 
 /// The turns on the path to a word's entry, one for each bit of a number that its letters make, the highest first; after these all are
 /// to the left. Most words part early, whatever their order; only cost depends on it.
-#[derive(Debug, Drop)]
+#[derive(Drop)]
 pub(crate) struct Path {
     bits: u64,
 }

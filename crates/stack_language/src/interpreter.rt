@@ -113,11 +113,11 @@ impl<'r, 'j, 'h, R: Wait> Interpreter<'r, 'j, 'h, R> {
                 self.next = self.number(TOP)? as usize;
             }
             Op::Jump(place) => self.next = place,
-            Op::JumpIfZero(place) if top == Ok(0) => self.next = place,
+            Op::JumpIfZero(place) if matches!(top, Ok(0)) => self.next = place,
             Op::Send => self.leave_at(board_word(top?)?)?,
             Op::Receive => self.take_from(board_word(top?)?)?,
             Op::Print => self.printed.push(top?)?,
-            Op::Check if top == Ok(0) => return Err(Mistake::CheckFailed),
+            Op::Check if matches!(top, Ok(0)) => return Err(Mistake::CheckFailed),
             Op::Drop | Op::JumpIfZero(_) | Op::Check => {}
         }
         Ok(())

@@ -5,7 +5,7 @@ use std::alloc::AllocError;
 use thiserror::Error;
 
 /// A mistake in a text, or one that it makes while it runs.
-#[derive(Clone, Copy, Debug, PartialEq, Eq, Error)]
+#[derive(Clone, Copy, Debug, Error)]
 pub(crate) enum Mistake {
     #[error("neither a word of the text before it nor a number below 2^62")]
     UnknownWord,

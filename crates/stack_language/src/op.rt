@@ -3,7 +3,7 @@
 use plain_state::Operation;
 
 /// What an instruction does between what it takes from the stack and what it puts there.
-#[derive(Clone, Copy, Debug, PartialEq, Eq)]
+#[derive(Clone, Copy)]
 pub(crate) enum Op {
     Number(u64),
     Compute(Operation),
