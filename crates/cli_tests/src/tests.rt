@@ -1,22 +1,11 @@
-//! The program's answers, over sources and sinks in memory and over a file.
+//! The program's answers, over sources and sinks in memory.
 
-mod audits;
-mod benches;
-mod checkpoints;
-mod collecting;
-mod concordances;
 mod dumps;
 mod failing;
-mod files;
-mod instructions;
-mod listings;
 mod rows;
-mod schedules;
-mod texts;
-mod threads;
 mod words;
 
-use self::rows::{check_long_rows, check_row, check_rows, number_before};
+use self::rows::{check_row, number_before};
 use ael_commands::{MemSink, MemSource, ael, sure_status};
 use mutator_asm::Program;
 use plain_heap::Mark;
@@ -138,88 +127,6 @@ fn call<R: Threads + Wait + Sync>(
 }
 
 const FIRST: &str = ".mutator\nli r1 7\nnew r0 2\nst r0 1 r1\nld r2 r0 1\nout r2\nhalt\n";
-
-const ROWS: &str = "\
-the first text|sim|.mutator/li r1 7/new r0 2/st r0 1 r1/ld r2 r0 1/out r2/halt/|0: 7/0: halt/||0
-its order|sim --order|.mutator/li r1 7/new r0 2/st r0 1 r1/ld r2 r0 1/out r2/halt/|0: 7/0: halt/order 0 0 0 0 0 0/||0
-an index past the record|sim|.mutator/new r0 2/ld r1 r0 1/out r1/ld r1 r0 2/halt/|0: 0/0: out of range/||3
-a reference printed|sim|.mutator/new r0 0/out r0/|0: not a number/||3
-no instruction|sim|.mutator/|0: jump out/||3
-a line of no form|sim|.mutator/foo/||ael: line 2: error 1: unknown instruction/|1
-no words||.mutator/li r1 7/new r0 2/st r0 1 r1/ld r2 r0 1/out r2/halt/||usage: ael asm, sim, run, concord or bench/|2
-fewer pages than a space may have|sim --pages 3|.mutator/li r1 7/new r0 2/st r0 1 r1/ld r2 r0 1/out r2/halt/||usage: ael asm, sim, run, concord or bench/|2
-an empty input|sim|||ael: line 1: error 5: no mutator/|1";
-
-#[test]
-fn calls_give_what_they_should(rt: HostRuntime) -> Result<(), Fail> {
-    let tables = [
-        ROWS,
-        audits::ROWS,
-        checkpoints::ROWS,
-        collecting::ROWS,
-        concordances::ROWS,
-        instructions::ROWS,
-        schedules::ROWS,
-        texts::ROWS,
-        texts::REFUSED,
-        texts::ADDERS,
-        threads::ROWS,
-    ];
-    for table in tables {
-        check_rows(&rt, rt.alloc(), table)?;
-    }
-    Ok(())
-}
-
-/// Makes the calls of a lone mutator with other words before each row's options.
-fn check_lone<R: Threads + Wait + Sync>(
-    rt: &R,
-    alloc: Global,
-    table: &str,
-    words: &str,
-) -> Result<(), Fail> {
-    check_rows(rt, alloc, &table.replace(alloc, "|sim ", words)?)
-}
-
-#[test]
-fn a_lone_mutator_sees_no_scanners(rt: HostRuntime) -> Result<(), Fail> {
-    for words in ["|sim ", "|sim --scanners 0 ", "|sim --scanners 8 "] {
-        check_lone(&rt, rt.alloc(), collecting::LONE, words)?;
-    }
-    Ok(())
-}
-
-/// Nor on threads, whose order can't be told.
-#[test]
-fn a_lone_mutator_sees_no_threads(rt: HostRuntime) -> Result<(), Fail> {
-    for row in collecting::LONE.split('\n') {
-        if !row.contains("--order") {
-            check_lone(&rt, rt.alloc(), row, "|run ")?;
-            check_lone(&rt, rt.alloc(), row, "|run --scanners 0 ")?;
-            check_lone(&rt, rt.alloc(), row, "|run --scanners 8 ")?;
-        }
-    }
-    Ok(())
-}
-
-/// A text of one instruction, with spaces before its last line end.
-const LENGTHS: &str = "\
-1048562| |the longest input|sim|.mutator/halt@/|0: halt/||0
-1048563| |an input too long|sim|.mutator/halt@/||ael: input too long/|8";
-
-#[test]
-fn long_calls_give_what_they_should(rt: HostRuntime) -> Result<(), Fail> {
-    for table in [
-        LENGTHS,
-        concordances::LONG,
-        schedules::LONG,
-        instructions::FULL,
-        texts::LIMITS,
-    ] {
-        check_long_rows(&rt, rt.alloc(), table)?;
-    }
-    Ok(())
-}
 
 /// The read that fails, or 0, and the rooms of out and of err stand before each row. The first rows
 /// have all statuses from 0 to 6, so a call that always answers the same one is wrong in another row.

@@ -1,6 +1,6 @@
 //! Reads and writes that fail at each place of a call.
 
-use super::dumps::{RUNNING, dump_lines};
+use super::dumps::dump_lines;
 use super::rows::{Row, lines, number_before};
 use super::{AMPLE, Limits, Wanted};
 use std::alloc::Global;
@@ -118,7 +118,7 @@ fn check_line<R: Threads + Wait + Sync>(
 
 #[test]
 fn each_read_and_each_byte_may_fail(rt: HostRuntime) -> Result<(), Fail> {
-    let dump = dump_lines(rt.alloc(), RUNNING)?;
+    let dump = dump_lines(rt.alloc())?;
     let spaces = " ".repeat(rt.alloc(), 8192)?;
     for line in ROWS.split('\n') {
         check_line(&rt, rt.alloc(), line, &dump, &spaces)?;

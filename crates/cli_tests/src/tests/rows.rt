@@ -79,40 +79,8 @@ pub fn check_row<R: Threads + Wait + Sync>(
     Row::read(alloc, &row)?.check(rt, alloc, limits)
 }
 
-/// Makes the call of each row of a table.
-pub fn check_rows<R: Threads + Wait + Sync>(
-    rt: &R,
-    alloc: Global,
-    table: &str,
-) -> Result<(), Fail> {
-    for row in table.split('\n') {
-        check_row(rt, alloc, row, AMPLE)?;
-    }
-    Ok(())
-}
-
 /// The number before a bar, and what stands behind it.
 pub fn number_before(line: &str) -> Result<(u64, &str), Fail> {
     let (number, rest) = line.split_once('|').ok_or("a number is missing")?;
     Ok((number.parse::<u64>()?, rest))
-}
-
-/// The row after a number and a piece, which stands in the place of @ so many times.
-pub fn long_row(alloc: Global, line: &str) -> Result<String, Fail> {
-    let (times, rest) = number_before(line)?;
-    let (piece, row) = rest.split_once('|').ok_or("a piece is missing")?;
-    let pieces = piece.repeat(alloc, times as usize)?;
-    Ok(row.replace(alloc, '@', &pieces)?)
-}
-
-/// Makes the call of each long row of a table.
-pub fn check_long_rows<R: Threads + Wait + Sync>(
-    rt: &R,
-    alloc: Global,
-    table: &str,
-) -> Result<(), Fail> {
-    for line in table.split('\n') {
-        check_rows(rt, alloc, &long_row(alloc, line)?)?;
-    }
-    Ok(())
 }
