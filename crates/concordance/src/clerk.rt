@@ -19,14 +19,11 @@ ghost use Rattle.ael_threads.specs.Seats.{ShowsSeen};
 ghost use Rattle.concordance.specs.Desk.{CanDo, CanMake, desk_after, desk_register};
 ghost use Rattle.concordance.specs.Lone.{FindsFull, IsLone, KeepsSeat, desk_of};
 
-use ael_threads::{Did, Mutator, Reg, Shared};
+use ael_threads::{Did, MOST_RECORDS, Mutator, Reg, Shared};
 use mutator_asm::Instr;
 use plain_state::End;
 use std::marker::Model;
 use std::sync::Wait;
-
-/// The most records that a mutator can make.
-const MOST_RECORDS: u64 = (1 << 40) - 1;
 
 /// The heap is full: so many pages are asked for, and there is room for so many words.
 #[derive(Clone, Copy)]

@@ -5,6 +5,7 @@ ghost use Rattle.std.specs.List.{AllByRecursion};
 ghost use Rattle.std.specs.Thread.{IsSync};
 ghost use Rattle.space_map.specs.declared.spaces.TheConstants.{MOST_MUTATORS, MOST_SCANNERS};
 ghost use Rattle.space_map.specs.Spaces.{is_size};
+ghost use Rattle.gc_worker.specs.declared.stage.Stage.TheVariants.{Gone};
 ghost use Rattle.ael_threads.specs.Histories.{Each};
 ghost use Rattle.ael_threads.specs.Opened.{plan_without_printing};
 ghost use Rattle.ael_threads.specs.Readers.{SeatedScanner};
@@ -154,7 +155,7 @@ fn seat<'h>(
     Ok(clerks)
 }
 
-/// The words of all parts, as the clerks note them while the scanners scan.
+/// The words of all parts, as the clerks note them while the scanners scan, until these find that all clerks have left.
 fn words_of<R: Threads + Wait + Sync>(
     job: &Job<R>,
     alloc: Global,
@@ -164,6 +165,7 @@ fn words_of<R: Threads + Wait + Sync>(
 ) -> Result<WordMap, ConcordError>
     requires dealt { AreDealt job.now parts.now clerks.old.items }
     requires scanners { Each (λ (s : SeatedScanner). s.seated.table ≡ job.now.table) scanners.old }
+    ensures scanned { Each (λ (s : SeatedScanner). (s.seated.table ≡ job.now.table) × (s.seated.worker.stage ≡ Gone)) scanners.new }
     ensures rows { IfOk result (λ words. AreRowsOf (flat_map mentions_of_part parts.now) (rows_of words)) }
     ensures short { (line : ℕ) → IsErrOf result (ConcordError.WordTooLong line) → ⊥ }
     ensures full { (asked room : ℕ) → IsErrOf result (ConcordError.HeapFull asked room) → WasFullForOne job.now 0 parts.now asked room }
@@ -172,6 +174,7 @@ fn words_of<R: Threads + Wait + Sync>(
         job.rt,
         &mut ||
             requires { IsSync R.row × Each (λ (s : SeatedScanner). s.seated.table ≡ job.now.table) scanners.now }
+            ensures { Each (λ (s : SeatedScanner). (s.seated.table ≡ job.entry.now.table) × (s.seated.worker.stage ≡ Gone)) scanners.exit.now }
         { scan_all(job, scanners) },
         &mut ||
             requires { IsSync R.row × AreDealt job.now parts.now clerks.now.items }

@@ -4,6 +4,7 @@ ghost use Rattle.std.specs.Prelude.{◌≡◌, ◌+◌, ◌<◌, ◌≤◌, IfEr
 ghost use Rattle.std.specs.List.{AllByRecursion};
 ghost use Rattle.std.specs.Thread.{IsSync};
 ghost use Rattle.space_map.specs.declared.spaces.TheConstants.{MOST_MUTATORS};
+ghost use Rattle.gc_worker.specs.declared.stage.Stage.TheVariants.{Gone};
 ghost use Rattle.ael_threads.specs.Histories.{Each};
 ghost use Rattle.ael_threads.specs.Readers.{SeatedScanner};
 ghost use Rattle.concordance_text.specs.declared.part.Part.{Part};
@@ -123,7 +124,7 @@ fn reads<R: Wait>(
 /// Lets the scanners scan until all clerks have left.
 pub(crate) fn scan_all<R: Threads + Wait + Sync>(job: &Job<R>, scanners: &mut [Scanner])
     requires table { Each (λ (s : SeatedScanner). s.seated.table ≡ job.now.table) scanners.old }
-    ensures table { Each (λ (s : SeatedScanner). s.seated.table ≡ job.now.table) scanners.new }
+    ensures gone { Each (λ (s : SeatedScanner). (s.seated.table ≡ job.now.table) × (s.seated.worker.stage ≡ Gone)) scanners.new }
 {
     let threads = scanners.len().max(1);
     for_each_mut(
@@ -132,7 +133,7 @@ pub(crate) fn scan_all<R: Threads + Wait + Sync>(job: &Job<R>, scanners: &mut [S
         threads,
         &|_, scanner: &mut Scanner|
             requires { scanner.now.seated.table ≡ job.now.table }
-            ensures { scanner.exit.now.seated.table ≡ job.entry.now.table }
+            ensures { (scanner.exit.now.seated.table ≡ job.entry.now.table) × (scanner.exit.now.seated.worker.stage ≡ Gone) }
         { scans(job, scanner) },
     );
 }
@@ -140,7 +141,7 @@ pub(crate) fn scan_all<R: Threads + Wait + Sync>(job: &Job<R>, scanners: &mut [S
 /// A scanner scans until all clerks have left.
 fn scans<R: Wait>(job: &Job<R>, scanner: &mut Scanner)
     requires { scanner.old.seated.table ≡ job.now.table }
-    ensures { scanner.new.seated.table ≡ job.now.table }
+    ensures gone { (scanner.new.seated.table ≡ job.now.table) × (scanner.new.seated.worker.stage ≡ Gone) }
 {
     for _ in job.rt.forever() {
         if let Stepped::Idle = scanner.act(job.heap) {
