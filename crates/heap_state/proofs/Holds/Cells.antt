@@ -13,6 +13,7 @@ use Rattle.heap_state.specs.Invariant.Inductive.{Invariant}
 use Rattle.heap_state.specs.Invariant.Parts.Pages.{Quiet, IsLastOpen}
 use Rattle.heap_state.specs.Memory.Era.{Era, Memory}
 use Rattle.heap_state.specs.Memory.Table.{IsFormed}
+use Rattle.heap_state.specs.Targets.{IsCell}
 use Rattle.heap_state.specs.Worker.{Linking, Visit, Pass, Begins, At, Done, cell_to_link}
 use Rattle.heap_state.proofs.Holds.Still.{open_scanning, scans_filling}
 use Rattle.heap_state.proofs.Puts.{some_same, none≢some}
@@ -201,25 +202,60 @@ module _ (c : Configuration) (g : Ghost) (formed : IsFormed c.pages c.words) (in
         passes = passes;
       }
 
-  -- ---- traced epochs
+  -- ---- targets
 
-  clean : m.traced ≡ E.epoch + 1 → (x : ℕ) → IsWalkedTarget c x → ¬ (Leads E (m.heap x))
-  clean traced x y =
+  -- the target of a walked cell is that of a copied cell, or of one from LOW up
+  record IsTarget (x : ℕ) : Type 0 where
+    cell : ℕ
+    at : x ≡ cell + 1
+    is : IsCell g cell
+    long : g.size cell ≡ 3
+    inside : (E.start ≤ cell) × (cell < E.start + E.span)
+    lies : (cell + g.size cell ≤ m.front) ⊎ (m.low ≤ cell)
+
+  target : (x : ℕ) → IsWalkedTarget c x → IsTarget x
+  target x y =
       let is = now_sound c g formed inv y.of y.walked in
       let o = owns c g formed inv y.of Weak y.len y.serial y.mutator y.own in
       let z = is.sized in
       let st : 0 < g.size y.of.at = omega (arith, z) in
       let weak : g.kind y.of.at ≡ Weak = sym o.of_kind in
-      rw y.at (⊎_elim
-      (λ (below : y.of.at < m.front). inv.cells.targets.clean traced y.of.at (record { stands = st; written = is.written; weak = weak; inside = (is.inside.0, below) }))
-      (λ (above : m.front ≤ y.of.at). inv.cells.targets.new y.of.at (record { stands = st; written = is.written; weak = weak }) (from_low y.of.at st above is.inside) is.inside.1)
-      (cases_lt y.of.at m.front))
+      record {
+        cell = y.of.at;
+        at = y.at;
+        is = record { stands = st; written = is.written; weak = weak };
+        long = chain.three y.of.at st weak;
+        inside = is.inside;
+        lies = lies y.of.at st is.inside;
+      }
     where
-      from_low : (a : ℕ) → 0 < g.size a → m.front ≤ a → (E.start ≤ a) × (a < E.start + E.span) → m.low ≤ a
-      from_low a st above inside = ⊎_elim
-          (λ p. absurd (omega (arith, p, above, st)))
-          (λ q. ⊎_elim (λ p. p.0) (λ p. absurd (let y = (lay c g formed inv).apart in omega (arith, p, inside, y, st))) q)
+      lies : (a : ℕ) → 0 < g.size a → (E.start ≤ a) × (a < E.start + E.span) → (a + g.size a ≤ m.front) ⊎ (m.low ≤ a)
+      lies a st inside = ⊎_elim
+          (λ p. inl p.1)
+          (λ q. inr (⊎_elim (λ p. p.0) (λ p. absurd (let y = (lay c g formed inv).apart in omega (arith, p, inside, y, st))) q))
           (inv.laid.lies a st)
+
+  above : (x : ℕ) (t : IsTarget x) → m.low ≤ t.cell → ¬ (Leads E (m.heap x))
+  above x t from = rw t.at (inv.cells.targets.new t.cell t.is from t.inside.1)
+
+  clean : m.traced ≡ E.epoch + 1 → (x : ℕ) → IsWalkedTarget c x → ¬ (Leads E (m.heap x))
+  clean traced x y =
+      let t = target x y in
+      ⊎_elim
+      (λ (below : t.cell + g.size t.cell ≤ m.front).
+      let copied : IsCopiedCell E m.front g t.cell =
+      record { stands = t.is.stands; written = t.is.written; weak = t.is.weak; inside = (t.inside.0, let long = t.long in omega (arith, below, long)) } in
+      rw t.at (inv.cells.targets.clean traced t.cell copied))
+      (above x t)
+      t.lies
+
+  new : (x : ℕ) → IsWalkedTarget c x → m.low ≤ x → ¬ (Leads E (m.heap x))
+  new x y from =
+      let t = target x y in
+      ⊎_elim
+      (λ (below : t.cell + g.size t.cell ≤ m.front). absurd (let long = t.long in let at = t.at in let order = inv.laid.order in omega (arith, below, long, at, order, from)))
+      (above x t)
+      t.lies
 
   pub cells_hold : CellsHold c
   cells_hold = record {
@@ -227,4 +263,5 @@ module _ (c : Configuration) (g : Ghost) (formed : IsFormed c.pages c.words) (in
     licensed = λ k l below e. (chain.linking k l below e).licensed;
     chain = λ n. let copying = (still_copying c g formed inv n).0 in ((list copying).cells, is_chain copying, turn_holds copying);
     clean = clean;
+    new = new;
   }

@@ -78,9 +78,11 @@ pub record IsWalkedTarget (c : Configuration) (x : ℕ) : Type 0 where
   pub at : x ≡ of.at + 1
 
 -- WEAKTURN is at most the epoch and one more. While the epoch isn't traced there is the chain; whoever has a cell to link is behind, or scans
--- a page; and if the turn is taken all else is done. Once it is traced no target of a walked cell leads into the old space.
+-- a page; and if the turn is taken all else is done. Once it is traced no target of a walked cell leads into the old space, and no target
+-- of a cell that was made since the flip does, ever.
 pub record CellsHold (c : Configuration) : Type 0 where
   pub top : (table c).weak_turn ≤ (era c).epoch + 1
   pub licensed : (k : ℕ) (l : Linking) → k < (team c).count → ((team c).worker k).linking ≡ Some l → MayCopy (era c) ((team c).worker k)
   pub chain : IsCopying (table c) → (cells : List ℕ) × IsChain c cells × ((table c).weak_turn ≡ (era c).epoch + 1 → TurnHolds c cells)
   pub clean : (memory c).traced ≡ (era c).epoch + 1 → (x : ℕ) → IsWalkedTarget c x → ¬ (Leads (era c) ((memory c).heap x))
+  pub new : (x : ℕ) → IsWalkedTarget c x → (memory c).low ≤ x → ¬ (Leads (era c) ((memory c).heap x))
