@@ -1,5 +1,5 @@
 -- A heap with one mutator and no other worker: what the mutator has read is so still, since nobody else makes a step.
-use Rattle.std.specs.Prelude.{◌≡◌, ◌≢◌, ℕ, ◌+◌, ◌<◌, ◌≤◌, ◌⊎◌, ⊤, Bool, true, false, length, None}
+use Rattle.std.specs.Prelude.{◌≡◌, ◌≢◌, ℕ, ◌+◌, ◌<◌, ◌≤◌, ◌⊎◌, ⊤, Bool, true, false, Option, length, None}
 use Rattle.space_map.specs.declared.spaces.TheConstants.{LAST_WORKER}
 use Rattle.space_map.specs.Spaces.{Layout, to_space}
 use Rattle.alloc_end.specs.declared.place_stage.PlaceStage.{PlaceStage}
@@ -120,8 +120,8 @@ GuardStands s (guard_stage.Saves v) = SaveStands s v v.stage
 GuardStands s stage = ⊤
 
 -- a checkpoint is in progress, and no page was being saved by another worker
-abbrev pub IsRoundFree : Saves → (busy : Bool) → Type 0
-IsRoundFree s busy = (s.done < s.snap) × (busy ≡ false)
+abbrev pub IsRoundFree : Saves → (busy : Option ℕ) → Type 0
+IsRoundFree s busy = (s.done < s.snap) × (busy ≡ None)
 
 abbrev pub SaveRoundStands : Saves → SaveRoundStage → Type 0
 SaveRoundStands s (save_round_stage.LoadsPage page busy) = IsRoundFree s busy

@@ -1,6 +1,6 @@
--- What a save round has found of pages by the time that it marks the checkpoint.
+-- What a save round has found of pages by the time that it marks the checkpoint, or finds that there is nothing to do now.
 use Rattle.std.specs.Prelude.{⊤}
-use Rattle.std.proofs.Common.{◌≡◌, ◌≢◌, ℕ, zero, suc, ◌+◌, ◌<◌, ◌≤◌, ◌⊎◌, inl, inr, Bool, true, false, cond, nat_eq, nat_lt, List, Option, Some, None, arith, refl, sym, ◌∙◌, subst}
+use Rattle.std.proofs.Common.{◌≡◌, ◌≢◌, ℕ, zero, suc, ◌+◌, ◌<◌, ◌≤◌, ◌⊎◌, inl, inr, Bool, true, false, cond, nat_eq, nat_lt, List, Option, Some, None, arith, refl, sym, ap, ◌∙◌, subst}
 use Rattle.std.proofs.lemmas.Bool.Decides.{nat_tests}
 use Rattle.atom_store.specs.declared.reply.Reply.TheVariants.{Won, Lost}
 use Rattle.atom_store.specs.declared.step.Step.{Step}
@@ -10,6 +10,7 @@ use Rattle.atom_store.specs.Runs.{among, after_step}
 use Rattle.space_map.specs.declared.gate_word.GateWord.{GateWord}
 use Rattle.space_map.specs.declared.page_word.PageWord.TheVariants.{Open}
 use Rattle.space_map.specs.declared.save_word.SaveWord.{SaveWord}
+use Rattle.space_map.specs.declared.save_word.SaveWord.TheVariants as save_word
 use Rattle.space_map.specs.PageWord.{encode_page}
 use Rattle.space_map.specs.SaveWord.{decode_save}
 use Rattle.space_map.specs.Spaces.{board_page}
@@ -22,7 +23,7 @@ use Rattle.page_saves.specs.declared.save_round_stage.SaveRoundStage.{SaveRoundS
 use Rattle.page_saves.specs.declared.save_round_stage.SaveRoundStage.TheVariants.{LoadsGate, LoadsSnap, LoadsDone, LoadsGateAgain, LoadsPage, LoadsSave, Saves, ExchangesDone, Ended}
 use Rattle.page_saves.specs.declared.save_state.SaveState.{SaveState}
 use Rattle.page_saves.specs.declared.save_state.SaveState.TheVariants.{Waits, Copying, Kept, Past}
-use Rattle.page_saves.specs.RoundTheorems.{HasLoaded, loaded, FoundKept, WasNotOpen, WasSaved, IsBegun, ByMutator, ByScanner, RoundsMarkWhatIsKept, round_after, word_of_row}
+use Rattle.page_saves.specs.RoundTheorems.{HasLoaded, loaded, FoundKept, FoundSaid, WasNotOpen, WasSaved, IsBegun, ByMutator, ByScanner, RoundsMarkWhatIsKept, round_after, word_of_row}
 use Rattle.page_saves.specs.Save.{PageSaving}
 use Rattle.page_saves.specs.Save as save
 use Rattle.page_saves.specs.SaveRound
@@ -33,6 +34,7 @@ use Rattle.space_map.specs.WholeTable.{Within, Behind}
 use Rattle.page_saves.proofs.Guarding.{kept_is}
 use Rattle.page_saves.proofs.Pages.{IsOrNot, Board, Other, board_or_not}
 use Rattle.page_saves.proofs.Reading.{now, later, then_at}
+use Rattle.page_saves.proofs.RoundEnds.{says_state}
 
 -- ---- the pages that are passed
 
@@ -44,31 +46,34 @@ IsBefore r page other = (page ≢ board_page r.layout.pages) × ((other ≡ boar
 abbrev IsInRound : SavingRound → (page : ℕ) → Type 0
 IsInRound r page = (page ≡ board_page r.layout.pages) ⊎ ((SaveRound.to_page r ≤ page) × (page < SaveRound.to_page r + r.layout.pages))
 
--- K is so of each page that is passed, if none of them was being saved
-abbrev HasFound : (K : ℕ → Type 0) → SavingRound → SaveRoundStage → Type 0
-HasFound K r (LoadsPage page false) = (other : ℕ) → IsBefore r page other → K other
-HasFound K r (LoadsSave page false) = (other : ℕ) → IsBefore r page other → K other
-HasFound K r ExchangesDone = (other : ℕ) → IsInRound r other → K other
-HasFound K r stage = ⊤
+-- K is so of each page that is passed, if none of them was being saved; else B is so of the word by which one was found so
+abbrev HasFound : (K B : ℕ → Type 0) → SavingRound → SaveRoundStage → Type 0
+HasFound K B r (LoadsPage page None) = (other : ℕ) → IsBefore r page other → K other
+HasFound K B r (LoadsPage page (Some word)) = B word
+HasFound K B r (LoadsSave page None) = (other : ℕ) → IsBefore r page other → K other
+HasFound K B r (LoadsSave page (Some word)) = B word
+HasFound K B r ExchangesDone = (other : ℕ) → IsInRound r other → K other
+HasFound K B r stage = ⊤
 
-more_found : (K L : ℕ → Type 0) → ((page : ℕ) → K page → L page) → (r : SavingRound) (stage : SaveRoundStage) → HasFound K r stage → HasFound L r stage
-more_found K L then r (LoadsPage page false) has = λ other before. then other (has other before)
-more_found K L then r (LoadsPage page true) has = tt
-more_found K L then r (LoadsSave page false) has = λ other before. then other (has other before)
-more_found K L then r (LoadsSave page true) has = tt
-more_found K L then r ExchangesDone has = λ other in_round. then other (has other in_round)
-more_found K L then r LoadsGate has = tt
-more_found K L then r LoadsSnap has = tt
-more_found K L then r LoadsDone has = tt
-more_found K L then r LoadsGateAgain has = tt
-more_found K L then r (Saves s) has = tt
-more_found K L then r (Ended result) has = tt
+more_found : (K L B C : ℕ → Type 0) → ((page : ℕ) → K page → L page) → ((word : ℕ) → B word → C word) → (r : SavingRound) (stage : SaveRoundStage)
+    → HasFound K B r stage → HasFound L C r stage
+more_found K L B C then said r (LoadsPage page None) has = λ other before. then other (has other before)
+more_found K L B C then said r (LoadsPage page (Some word)) has = said word has
+more_found K L B C then said r (LoadsSave page None) has = λ other before. then other (has other before)
+more_found K L B C then said r (LoadsSave page (Some word)) has = said word has
+more_found K L B C then said r ExchangesDone has = λ other in_round. then other (has other in_round)
+more_found K L B C then said r LoadsGate has = tt
+more_found K L B C then said r LoadsSnap has = tt
+more_found K L B C then said r LoadsDone has = tt
+more_found K L B C then said r LoadsGateAgain has = tt
+more_found K L B C then said r (Saves s) has = tt
+more_found K L B C then said r (Ended result) has = tt
 
 -- the board comes first
-first_found : (K : ℕ → Type 0) (r : SavingRound) → HasFound K r (SaveRound.first_page r)
-first_found K r = λ other before. absurd (before.0 refl)
+first_found : (K B : ℕ → Type 0) (r : SavingRound) → HasFound K B r (SaveRound.first_page r)
+first_found K B r = λ other before. absurd (before.0 refl)
 
-module _ (K : ℕ → Type 0) (r : SavingRound) (page : ℕ) (is : K page) (has : (other : ℕ) → IsBefore r page other → K other) where
+module _ (K B : ℕ → Type 0) (r : SavingRound) (page : ℕ) (is : K page) (has : (other : ℕ) → IsBefore r page other → K other) where
   -- so the page before the next one is this, or one before it
   next_found : IsOrNot r page → (other : ℕ) → IsBefore r (SaveRound.page_after r page) other → K other
   next_found (Board at next left) other (apart, inl board) = subst K (at ∙ sym board) is
@@ -97,41 +102,41 @@ module _ (K : ℕ → Type 0) (r : SavingRound) (page : ℕ) (is : K page) (has 
           let high = between.1 in
           has other (apart, inr (between.0, omega (arith, high, next, last, differ)))
 
-  passed_found : (word : ℕ) → HasFound K r (SaveRound.passed_page r page false word)
-  passed_found word = by_test (nat_lt (SaveRound.page_after r page) (SaveRound.to_page r + r.layout.pages)) refl
+  passed_found : HasFound K B r (SaveRound.passed_page r page None)
+  passed_found = by_test (nat_lt (SaveRound.page_after r page) (SaveRound.to_page r + r.layout.pages)) refl
     where
       by_test : (b : Bool) → nat_lt (SaveRound.page_after r page) (SaveRound.to_page r + r.layout.pages) ≡ b
-          → HasFound K r (cond b (LoadsPage (SaveRound.page_after r page) false) ExchangesDone)
+          → HasFound K B r (cond b (LoadsPage (SaveRound.page_after r page) None) ExchangesDone)
       by_test true test = next_found (board_or_not r page)
       by_test false test = all_found (board_or_not r page) (grind (arith, nat_tests))
 
--- where one is being saved, nothing is claimed
-busy_found : (K : ℕ → Type 0) (r : SavingRound) (page word : ℕ) → HasFound K r (SaveRound.passed_page r page true word)
-busy_found K r page word = by_test (nat_lt (SaveRound.page_after r page) (SaveRound.to_page r + r.layout.pages))
+-- if one is being saved, only that is kept
+busy_found : (K B : ℕ → Type 0) (r : SavingRound) (page word : ℕ) → B word → HasFound K B r (SaveRound.passed_page r page (Some word))
+busy_found K B r page word is = by_test (nat_lt (SaveRound.page_after r page) (SaveRound.to_page r + r.layout.pages))
   where
-    by_test : (b : Bool) → HasFound K r (cond b (LoadsPage (SaveRound.page_after r page) true) (Ended (NothingNow word)))
-    by_test true = tt
+    by_test : (b : Bool) → HasFound K B r (cond b (LoadsPage (SaveRound.page_after r page) (Some word)) (Ended (NothingNow word)))
+    by_test true = is
     by_test false = tt
 
-passed_by : (K : ℕ → Type 0) (r : SavingRound) (page : ℕ) (busy : Bool) (word : ℕ) → K page → HasFound K r (LoadsPage page busy)
-    → HasFound K r (SaveRound.passed_page r page busy word)
-passed_by K r page true word is has = busy_found K r page word
-passed_by K r page false word is has = passed_found K r page is has word
+passed_by : (K B : ℕ → Type 0) (r : SavingRound) (page : ℕ) (busy : Option ℕ) → K page → HasFound K B r (LoadsPage page busy)
+    → HasFound K B r (SaveRound.passed_page r page busy)
+passed_by K B r page (Some word) is has = busy_found K B r page word has
+passed_by K B r page None is has = passed_found K B r page is has
 
 -- a look at SAVE keeps what a look at the page had
-as_page : (K : ℕ → Type 0) (r : SavingRound) (page : ℕ) (busy : Bool) → HasFound K r (LoadsSave page busy) → HasFound K r (LoadsPage page busy)
-as_page K r page true has = tt
-as_page K r page false has = has
+pub as_page : (K B : ℕ → Type 0) (r : SavingRound) (page : ℕ) (busy : Option ℕ) → HasFound K B r (LoadsSave page busy) → HasFound K B r (LoadsPage page busy)
+as_page K B r page (Some word) has = has
+as_page K B r page None has = has
 
-as_save : (K : ℕ → Type 0) (r : SavingRound) (page : ℕ) (busy : Bool) → HasFound K r (LoadsPage page busy) → HasFound K r (LoadsSave page busy)
-as_save K r page true has = tt
-as_save K r page false has = has
+as_save : (K B : ℕ → Type 0) (r : SavingRound) (page : ℕ) (busy : Option ℕ) → HasFound K B r (LoadsPage page busy) → HasFound K B r (LoadsSave page busy)
+as_save K B r page (Some word) has = has
+as_save K B r page None has = has
 
 -- ---- what was found of a page
 
 module _ (begun : SavingRound) (met : ℕ → List ℕ) where
   -- the page was not open, or its state was that of a saved or new one
-  data Found (n pages epoch number page : ℕ) : Type 0 where
+  pub data Found (n pages epoch number page : ℕ) : Type 0 where
     NotOpen : (load : HasLoaded begun met n pages (Within (Page page))) → loaded load ≢ encode_page (Open epoch) → Found n pages epoch number page
     IsSaved : (load : HasLoaded begun met n pages (Behind (SaveOf page))) (says : SaveWord) → decode_save (loaded load) ≡ Some says → state_of says number ≡ Kept
         → Found n pages epoch number page
@@ -140,16 +145,31 @@ module _ (begun : SavingRound) (met : ℕ → List ℕ) where
   later_found n pages epoch number page (NotOpen load other) = NotOpen (later begun met n pages (Within (Page page)) load) other
   later_found n pages epoch number page (IsSaved load says reads is) = IsSaved (later begun met n pages (Behind (SaveOf page)) load) says reads is
 
-  abbrev FoundAt : ℕ → SavingRound → SaveRoundStage → Type 0
-  FoundAt n r stage = HasFound (Found n r.layout.pages r.epoch r.number) r stage
+  -- the word was loaded as what is said of a page, and says that a worker saves it for the checkpoint
+  abbrev pub FoundBusy : (n pages number word : ℕ) → Type 0
+  FoundBusy n pages number word = (worker : ℕ) × FoundSaid begun met n pages word (save_word.Saving number worker)
 
-  abbrev FoundBy : ℕ → SavingRound → Type 0
+  -- a word that is loaded now, as what is said of the page
+  pub said_now : (n : ℕ) (r : SavingRound) (page : ℕ) (busy : Option ℕ) (word : ℕ) (says : SaveWord) → round_after begun met n ≡ at_stage r (LoadsSave page busy)
+      → word ≡ word_of_row r (Behind (SaveOf page)) (met n) → decode_save word ≡ Some says → FoundSaid begun met (suc n) r.layout.pages word says
+  said_now n r page busy word says is same reads =
+      record { page = page; load = now begun met n (at_stage r (LoadsSave page busy)) r.layout.pages (Behind (SaveOf page)) is refl; same = same; reads = reads }
+
+  pub later_busy : (n pages number word : ℕ) → FoundBusy n pages number word → FoundBusy (suc n) pages number word
+  later_busy n pages number word (worker, said) =
+      (worker, record { page = said.page; load = later begun met n pages (Behind (SaveOf said.page)) said.load; same = said.same; reads = said.reads })
+
+  abbrev pub FoundAt : ℕ → SavingRound → SaveRoundStage → Type 0
+  FoundAt n r stage = HasFound (Found n r.layout.pages r.epoch r.number) (FoundBusy n r.layout.pages r.number) r stage
+
+  abbrev pub FoundBy : ℕ → SavingRound → Type 0
   FoundBy n r = FoundAt n r r.stage
 
   found_later : (n : ℕ) (r : SavingRound) (stage : SaveRoundStage) → FoundAt n r stage → FoundAt (suc n) r stage
   found_later n r stage has =
       more_found (Found n r.layout.pages r.epoch r.number) (Found (suc n) r.layout.pages r.epoch r.number)
-      (later_found n r.layout.pages r.epoch r.number) r stage has
+      (FoundBusy n r.layout.pages r.number) (FoundBusy (suc n) r.layout.pages r.number)
+      (later_found n r.layout.pages r.epoch r.number) (later_busy n r.layout.pages r.number) r stage has
 
   -- ---- the first loads
 
@@ -166,7 +186,7 @@ module _ (begun : SavingRound) (met : ℕ → List ℕ) where
   at_snap n r None = tt
 
   when_runs : (n : ℕ) (r : SavingRound) (caller : SaveCaller) → FoundAt n r (SaveRound.when_one_runs r caller)
-  when_runs n r Mutates = first_found (Found n r.layout.pages r.epoch r.number) r
+  when_runs n r Mutates = first_found (Found n r.layout.pages r.epoch r.number) (FoundBusy n r.layout.pages r.number) r
   when_runs n r (Scans mutators) = tt
 
   at_done : (n : ℕ) (r : SavingRound) (o : Option ℕ) → FoundAt n r (SaveRound.found_done r o)
@@ -181,38 +201,41 @@ module _ (begun : SavingRound) (met : ℕ → List ℕ) where
   at_gate_again n r word (Some gate) = by_test (nat_eq gate.epoch r.epoch)
     where
       by_test : (b : Bool) → FoundAt n r (cond b (SaveRound.first_page r) (Ended (NothingNow word)))
-      by_test true = first_found (Found n r.layout.pages r.epoch r.number) r
+      by_test true = first_found (Found n r.layout.pages r.epoch r.number) (FoundBusy n r.layout.pages r.number) r
       by_test false = tt
   at_gate_again n r word None = tt
 
   -- ---- pages
 
-  at_page : (n : ℕ) (r : SavingRound) (page : ℕ) (busy : Bool) → round_after begun met n ≡ at_stage r (LoadsPage page busy) → FoundAt n r (LoadsPage page busy)
+  at_page : (n : ℕ) (r : SavingRound) (page : ℕ) (busy : Option ℕ) → round_after begun met n ≡ at_stage r (LoadsPage page busy) → FoundAt n r (LoadsPage page busy)
       → FoundAt (suc n) r (SaveRound.looked_at_page r page busy (word_of_row r (Within (Page page)) (met n)))
   at_page n r page busy is has = by_test (nat_eq (word_of_row r (Within (Page page)) (met n)) (encode_page (Open r.epoch))) refl
     where
       by_test : (b : Bool) → nat_eq (word_of_row r (Within (Page page)) (met n)) (encode_page (Open r.epoch)) ≡ b
-          → FoundAt (suc n) r (cond b (LoadsSave page busy) (SaveRound.passed_page r page busy (word_of_row r (Within (Page page)) (met n))))
-      by_test true test = as_save (Found (suc n) r.layout.pages r.epoch r.number) r page busy (found_later n r (LoadsPage page busy) has)
+          → FoundAt (suc n) r (cond b (LoadsSave page busy) (SaveRound.passed_page r page busy))
+      by_test true test = as_save (Found (suc n) r.layout.pages r.epoch r.number) (FoundBusy (suc n) r.layout.pages r.number) r page busy (found_later n r (LoadsPage page busy) has)
       by_test false test =
           let other : word_of_row r (Within (Page page)) (met n) ≢ encode_page (Open r.epoch) = grind (arith, nat_tests) in
           let load = now begun met n (at_stage r (LoadsPage page busy)) r.layout.pages (Within (Page page)) is refl in
-          passed_by (Found (suc n) r.layout.pages r.epoch r.number) r page busy (word_of_row r (Within (Page page)) (met n)) (NotOpen load other)
+          passed_by (Found (suc n) r.layout.pages r.epoch r.number) (FoundBusy (suc n) r.layout.pages r.number) r page busy (NotOpen load other)
           (found_later n r (LoadsPage page busy) has)
 
-  by_state : (n : ℕ) (r : SavingRound) (page : ℕ) (busy : Bool) (says : SaveWord) (state : SaveState) → round_after begun met n ≡ at_stage r (LoadsSave page busy)
+  by_state : (n : ℕ) (r : SavingRound) (page : ℕ) (busy : Option ℕ) (says : SaveWord) (state : SaveState) → round_after begun met n ≡ at_stage r (LoadsSave page busy)
       → decode_save (word_of_row r (Behind (SaveOf page)) (met n)) ≡ Some says → state_of says r.number ≡ state → FoundAt n r (LoadsSave page busy)
       → FoundAt (suc n) r (SaveRound.looked_by r page busy (word_of_row r (Behind (SaveOf page)) (met n)) says state)
   by_state n r page busy says Waits is reads state has = tt
   by_state n r page busy says Copying is reads state has =
-      busy_found (Found (suc n) r.layout.pages r.epoch r.number) r page (word_of_row r (Behind (SaveOf page)) (met n))
+      let by = (says_state says r.number).copying state in
+      let word : ℕ = word_of_row r (Behind (SaveOf page)) (met n) in
+      busy_found (Found (suc n) r.layout.pages r.epoch r.number) (FoundBusy (suc n) r.layout.pages r.number) r page word
+      (by.0, said_now n r page busy word (save_word.Saving r.number by.0) is refl (reads ∙ ap Some by.1))
   by_state n r page busy says Kept is reads state has =
       let load = now begun met n (at_stage r (LoadsSave page busy)) r.layout.pages (Behind (SaveOf page)) is refl in
-      passed_by (Found (suc n) r.layout.pages r.epoch r.number) r page busy (word_of_row r (Behind (SaveOf page)) (met n)) (IsSaved load says reads state)
-      (as_page (Found (suc n) r.layout.pages r.epoch r.number) r page busy (found_later n r (LoadsSave page busy) has))
+      passed_by (Found (suc n) r.layout.pages r.epoch r.number) (FoundBusy (suc n) r.layout.pages r.number) r page busy (IsSaved load says reads state)
+      (as_page (Found (suc n) r.layout.pages r.epoch r.number) (FoundBusy (suc n) r.layout.pages r.number) r page busy (found_later n r (LoadsSave page busy) has))
   by_state n r page busy says Past is reads state has = tt
 
-  at_save : (n : ℕ) (r : SavingRound) (page : ℕ) (busy : Bool) (o : Option SaveWord) → round_after begun met n ≡ at_stage r (LoadsSave page busy)
+  at_save : (n : ℕ) (r : SavingRound) (page : ℕ) (busy : Option ℕ) (o : Option SaveWord) → round_after begun met n ≡ at_stage r (LoadsSave page busy)
       → decode_save (word_of_row r (Behind (SaveOf page)) (met n)) ≡ o → FoundAt n r (LoadsSave page busy)
       → FoundAt (suc n) r (SaveRound.looked_at_save r page busy (word_of_row r (Behind (SaveOf page)) (met n)) o)
   at_save n r page busy (Some says) is reads has = by_state n r page busy says (state_of says r.number) is reads refl has
@@ -248,7 +271,7 @@ module _ (begun : SavingRound) (met : ℕ → List ℕ) where
   begins (ByMutator layout epoch worker is) = subst (FoundBy 0) (sym is) tt
   begins (ByScanner layout mutators worker is) = subst (FoundBy 0) (sym is) tt
 
-  holds : IsBegun begun → (n : ℕ) → FoundBy n (round_after begun met n)
+  pub holds : IsBegun begun → (n : ℕ) → FoundBy n (round_after begun met n)
   unfolding among
   holds new zero = begins new
   holds new (suc n) = let r : SavingRound = round_after begun met n in keeps n r r.stage refl (holds new n)

@@ -9,4 +9,5 @@ pub mod RoundEnds
 pub mod Rounds
 pub mod Reading
 pub mod Finding
+pub mod Hindrances
 pub mod Staying

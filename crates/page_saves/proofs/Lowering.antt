@@ -122,36 +122,36 @@ by_gate_again r word (Some gate) t = by_test (nat_eq gate.epoch r.epoch)
     by_test false = omega arith
 by_gate_again r word None t = cc
 
-after_pages_le : (r : SavingRound) (busy : Bool) (word : ℕ) → left_at r (SaveRound.after_pages busy word) ≤ 1
-after_pages_le r true word = omega arith
-after_pages_le r false word = omega arith
+after_pages_le : (r : SavingRound) (busy : Option ℕ) → left_at r (SaveRound.after_pages busy) ≤ 1
+after_pages_le r (Some word) = omega arith
+after_pages_le r None = omega arith
 
-passed_lt : (r : SavingRound) (page : ℕ) (busy : Bool) (word : ℕ) → IsPageCount r.layout.pages → IsRoundPage r page
-    → left_at r (SaveRound.passed_page r page busy word) < 2 * pages_left r page + 129
-passed_lt r page busy word few fits = by_test (nat_lt (SaveRound.page_after r page) (SaveRound.to_page r + r.layout.pages)) refl
+passed_lt : (r : SavingRound) (page : ℕ) (busy : Option ℕ) → IsPageCount r.layout.pages → IsRoundPage r page
+    → left_at r (SaveRound.passed_page r page busy) < 2 * pages_left r page + 129
+passed_lt r page busy few fits = by_test (nat_lt (SaveRound.page_after r page) (SaveRound.to_page r + r.layout.pages)) refl
   where
     by_test : (more : Bool) → nat_lt (SaveRound.page_after r page) (SaveRound.to_page r + r.layout.pages) ≡ more
-        → left_at r (cond more (LoadsPage (SaveRound.page_after r page) busy) (SaveRound.after_pages busy word)) < 2 * pages_left r page + 129
+        → left_at r (cond more (LoadsPage (SaveRound.page_after r page) busy) (SaveRound.after_pages busy)) < 2 * pages_left r page + 129
     by_test true test =
         let fewer = further r page (let some = few.0 in omega (arith, some)) (grind (arith, nat_tests)) in omega (arith, fewer)
-    by_test false test = let after = after_pages_le r busy word in omega (arith, after)
+    by_test false test = let after = after_pages_le r busy in omega (arith, after)
 
-by_page : (r : SavingRound) (page : ℕ) (busy : Bool) (word : ℕ) → IsPageCount r.layout.pages → IsRoundPage r page
+by_page : (r : SavingRound) (page : ℕ) (busy : Option ℕ) (word : ℕ) → IsPageCount r.layout.pages → IsRoundPage r page
     → left_at r (SaveRound.looked_at_page r page busy word) < 2 * pages_left r page + 130
 by_page r page busy word few fits = by_test (nat_eq word _)
   where
-    by_test : (same : Bool) → left_at r (cond same (LoadsSave page busy) (SaveRound.passed_page r page busy word)) < 2 * pages_left r page + 130
+    by_test : (same : Bool) → left_at r (cond same (LoadsSave page busy) (SaveRound.passed_page r page busy)) < 2 * pages_left r page + 130
     by_test true = omega arith
-    by_test false = let fewer = passed_lt r page busy word few fits in omega (arith, fewer)
+    by_test false = let fewer = passed_lt r page busy few fits in omega (arith, fewer)
 
-by_state : (r : SavingRound) (page : ℕ) (busy : Bool) (word : ℕ) (says : SaveWord) (state : SaveState) → IsPageCount r.layout.pages → IsRoundPage r page
+by_state : (r : SavingRound) (page : ℕ) (busy : Option ℕ) (word : ℕ) (says : SaveWord) (state : SaveState) → IsPageCount r.layout.pages → IsRoundPage r page
     → left_at r (SaveRound.looked_by r page busy word says state) < 2 * pages_left r page + 129
 by_state r page busy word says Waits few fits = let some = pages_left_gt r page fits in omega (arith, some)
-by_state r page busy word says Copying few fits = passed_lt r page true word few fits
-by_state r page busy word says Kept few fits = passed_lt r page busy word few fits
+by_state r page busy word says Copying few fits = passed_lt r page (Some word) few fits
+by_state r page busy word says Kept few fits = passed_lt r page busy few fits
 by_state r page busy word says Past few fits = omega arith
 
-by_save : (r : SavingRound) (page : ℕ) (busy : Bool) (word : ℕ) (o : Option SaveWord) → IsPageCount r.layout.pages → IsRoundPage r page
+by_save : (r : SavingRound) (page : ℕ) (busy : Option ℕ) (word : ℕ) (o : Option SaveWord) → IsPageCount r.layout.pages → IsRoundPage r page
     → IsTrue (is_some o) → left_at r (SaveRound.looked_at_save r page busy word o) < 2 * pages_left r page + 129
 by_save r page busy word (Some says) few fits t = by_state r page busy word says (state_of says r.number) few fits
 by_save r page busy word None few fits t = cc

@@ -149,32 +149,32 @@ module _ (begun : SavingRound) (met : ℕ → List ℕ) where
   abbrev All : ℕ → SavingRound → Type 0
   All n r = HasReadAll begun met n r.layout.pages r.epoch r.number r.caller
 
-  at_after : (n : ℕ) (r : SavingRound) (busy : Bool) (word : ℕ) → All n r → HasReadBy n (at_stage r (SaveRound.after_pages busy word))
-  at_after n r true word has = tt
-  at_after n r false word has = has
+  at_after : (n : ℕ) (r : SavingRound) (busy : Option ℕ) → All n r → HasReadBy n (at_stage r (SaveRound.after_pages busy))
+  at_after n r (Some word) has = tt
+  at_after n r None has = has
 
-  at_passed : (n : ℕ) (r : SavingRound) (page : ℕ) (busy : Bool) (word : ℕ) → All n r → HasReadBy n (at_stage r (SaveRound.passed_page r page busy word))
-  at_passed n r page busy word has = by_test (nat_lt (SaveRound.page_after r page) (SaveRound.to_page r + r.layout.pages))
+  at_passed : (n : ℕ) (r : SavingRound) (page : ℕ) (busy : Option ℕ) → All n r → HasReadBy n (at_stage r (SaveRound.passed_page r page busy))
+  at_passed n r page busy has = by_test (nat_lt (SaveRound.page_after r page) (SaveRound.to_page r + r.layout.pages))
     where
-      by_test : (b : Bool) → HasReadBy n (at_stage r (cond b (LoadsPage (SaveRound.page_after r page) busy) (SaveRound.after_pages busy word)))
+      by_test : (b : Bool) → HasReadBy n (at_stage r (cond b (LoadsPage (SaveRound.page_after r page) busy) (SaveRound.after_pages busy)))
       by_test true = has
-      by_test false = at_after n r busy word has
+      by_test false = at_after n r busy has
 
-  at_page : (n : ℕ) (r : SavingRound) (page : ℕ) (busy : Bool) (word : ℕ) → All n r → HasReadBy n (at_stage r (SaveRound.looked_at_page r page busy word))
+  at_page : (n : ℕ) (r : SavingRound) (page : ℕ) (busy : Option ℕ) (word : ℕ) → All n r → HasReadBy n (at_stage r (SaveRound.looked_at_page r page busy word))
   at_page n r page busy word has = by_test (nat_eq word (encode_page (Open r.epoch)))
     where
-      by_test : (b : Bool) → HasReadBy n (at_stage r (cond b (LoadsSave page busy) (SaveRound.passed_page r page busy word)))
+      by_test : (b : Bool) → HasReadBy n (at_stage r (cond b (LoadsSave page busy) (SaveRound.passed_page r page busy)))
       by_test true = has
-      by_test false = at_passed n r page busy word has
+      by_test false = at_passed n r page busy has
 
-  by_state : (n : ℕ) (r : SavingRound) (page : ℕ) (busy : Bool) (word : ℕ) (says : SaveWord) (state : SaveState) → All n r
+  by_state : (n : ℕ) (r : SavingRound) (page : ℕ) (busy : Option ℕ) (word : ℕ) (says : SaveWord) (state : SaveState) → All n r
       → HasReadBy n (at_stage r (SaveRound.looked_by r page busy word says state))
   by_state n r page busy word says Waits has = has
-  by_state n r page busy word says Copying has = at_passed n r page true word has
-  by_state n r page busy word says Kept has = at_passed n r page busy word has
+  by_state n r page busy word says Copying has = at_passed n r page (Some word) has
+  by_state n r page busy word says Kept has = at_passed n r page busy has
   by_state n r page busy word says Past has = tt
 
-  at_save : (n : ℕ) (r : SavingRound) (page : ℕ) (busy : Bool) (word : ℕ) (o : Option SaveWord) → All n r
+  at_save : (n : ℕ) (r : SavingRound) (page : ℕ) (busy : Option ℕ) (word : ℕ) (o : Option SaveWord) → All n r
       → HasReadBy n (at_stage r (SaveRound.looked_at_save r page busy word o))
   at_save n r page busy word (Some says) has = by_state n r page busy word says (state_of says r.number) has
   at_save n r page busy word None has = has

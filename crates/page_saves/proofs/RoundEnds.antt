@@ -111,35 +111,36 @@ number_is word number is = by_test (nat_lt word (2 ^ 32)) is
 
 -- ---- at the pages
 
--- the word was told behind the last page, since some page is being saved
-pub record PassedEnds (r : SavingRound) (page loaded : ℕ) (busy : Bool) (result : SaveRoundEnd) : Type 0 where
-  pub told_word : result ≡ NothingNow loaded
-  pub busy_page : busy ≡ true
+-- behind the last page the word was told by which a page was found being saved
+pub record PassedEnds (r : SavingRound) (page : ℕ) (busy : Option ℕ) (result : SaveRoundEnd) : Type 0 where
+  pub word : ℕ
+  pub told_word : result ≡ NothingNow word
+  pub busy_page : busy ≡ Some word
   pub last : IsLastPage r page
 
-after_ends : (busy : Bool) (loaded : ℕ) (result : SaveRoundEnd) → told_at (SaveRound.after_pages busy loaded) ≡ Finished result → (result ≡ NothingNow loaded) × (busy ≡ true)
-after_ends true loaded result tells = (cc, refl)
-after_ends false loaded result tells = cc
-
-passed_ends : (r : SavingRound) (page loaded : ℕ) (busy : Bool) (result : SaveRoundEnd) → told_at (SaveRound.passed_page r page busy loaded) ≡ Finished result
-    → PassedEnds r page loaded busy result
-passed_ends r page loaded busy result tells = by_test (nat_lt (SaveRound.page_after r page) (SaveRound.to_page r + r.layout.pages)) refl tells
+passed_ends : (r : SavingRound) (page : ℕ) (busy : Option ℕ) (result : SaveRoundEnd) → told_at (SaveRound.passed_page r page busy) ≡ Finished result
+    → PassedEnds r page busy result
+passed_ends r page busy result tells = by_test (nat_lt (SaveRound.page_after r page) (SaveRound.to_page r + r.layout.pages)) refl tells
   where
+    after : IsLastPage r page → (busy : Option ℕ) → told_at (SaveRound.after_pages busy) ≡ Finished result → PassedEnds r page busy result
+    after last (Some word) e = record { word = word; told_word = cc; busy_page = refl; last = last }
+    after last None e = cc
+
     by_test : (b : Bool) → nat_lt (SaveRound.page_after r page) (SaveRound.to_page r + r.layout.pages) ≡ b
-        → told_at (cond b (LoadsPage (SaveRound.page_after r page) busy) (SaveRound.after_pages busy loaded)) ≡ Finished result → PassedEnds r page loaded busy result
+        → told_at (cond b (LoadsPage (SaveRound.page_after r page) busy) (SaveRound.after_pages busy)) ≡ Finished result → PassedEnds r page busy result
     by_test true test e = cc
-    by_test false test e = let ends = after_ends busy loaded result e in record { told_word = ends.0; busy_page = ends.1; last = grind (arith, nat_tests) }
+    by_test false test e = after (grind (arith, nat_tests)) busy e
 
 -- and the page isn't open
-pub page_ends : (r : SavingRound) (page loaded : ℕ) (busy : Bool) (result : SaveRoundEnd) → told_at (SaveRound.looked_at_page r page busy loaded) ≡ Finished result
-    → PassedEnds r page loaded busy result × (loaded ≢ encode_page (Open r.epoch))
+pub page_ends : (r : SavingRound) (page loaded : ℕ) (busy : Option ℕ) (result : SaveRoundEnd) → told_at (SaveRound.looked_at_page r page busy loaded) ≡ Finished result
+    → PassedEnds r page busy result × (loaded ≢ encode_page (Open r.epoch))
 page_ends r page loaded busy result tells = by_test (nat_eq loaded (encode_page (Open r.epoch))) refl tells
   where
     by_test : (b : Bool) → nat_eq loaded (encode_page (Open r.epoch)) ≡ b
-        → told_at (cond b (LoadsSave page busy) (SaveRound.passed_page r page busy loaded)) ≡ Finished result
-        → PassedEnds r page loaded busy result × (loaded ≢ encode_page (Open r.epoch))
+        → told_at (cond b (LoadsSave page busy) (SaveRound.passed_page r page busy)) ≡ Finished result
+        → PassedEnds r page busy result × (loaded ≢ encode_page (Open r.epoch))
     by_test true test e = cc
-    by_test false test e = (passed_ends r page loaded busy result e, grind (arith, nat_tests))
+    by_test false test e = (passed_ends r page busy result e, grind (arith, nat_tests))
 
 pub within_copying : (says : SaveWord) (number : ℕ) → number_of says ≡ number → state_within says ≡ Copying → (worker : ℕ) × (says ≡ save_word.Saving number worker)
 within_copying (save_word.Saving found worker) number same is = (worker, ap (λ (c : ℕ). save_word.Saving c worker) same)
@@ -154,11 +155,11 @@ within_never_past (save_word.Saved found) is = cc
 within_never_past (save_word.New found) is = cc
 
 -- what a state tells of the word
-record SaysState (says : SaveWord) (number : ℕ) (state : SaveState) : Type 0 where
-  copying : state ≡ Copying → (worker : ℕ) × (says ≡ save_word.Saving number worker)
-  past : state ≡ Past → number < number_of says
+pub record SaysState (says : SaveWord) (number : ℕ) (state : SaveState) : Type 0 where
+  pub copying : state ≡ Copying → (worker : ℕ) × (says ≡ save_word.Saving number worker)
+  pub past : state ≡ Past → number < number_of says
 
-says_state : (says : SaveWord) (number : ℕ) → SaysState says number (state_of says number)
+pub says_state : (says : SaveWord) (number : ℕ) → SaysState says number (state_of says number)
 says_state says number = by_tests (nat_lt (number_of says) number) (nat_eq (number_of says) number) refl refl
   where
     by_tests : (less same : Bool) → nat_lt (number_of says) number ≡ less → nat_eq (number_of says) number ≡ same
@@ -167,24 +168,30 @@ says_state says number = by_tests (nat_lt (number_of says) number) (nat_eq (numb
     by_tests false true a b = record { copying = λ e. within_copying says number (grind (arith, nat_tests)) e; past = λ e. absurd (within_never_past says e) }
     by_tests false false a b = record { copying = λ e. absurd (cc); past = λ e. grind (arith, nat_tests) }
 
--- the word was told by what it says
-pub record SaveEnds (r : SavingRound) (page loaded : ℕ) (busy : Bool) (result : SaveRoundEnd) : Type 0 where
-  pub told_word : result ≡ NothingNow loaded
-  pub shows : ShowsByPage r page busy loaded
+-- a word was told by what is said of the page, or was said of one before it
+pub record SaveEnds (r : SavingRound) (page loaded : ℕ) (busy : Option ℕ) (result : SaveRoundEnd) : Type 0 where
+  pub word : ℕ
+  pub told_word : result ≡ NothingNow word
+  pub shows : ShowsByPage r page busy loaded word
 
-state_ends : (r : SavingRound) (page loaded : ℕ) (busy : Bool) (result : SaveRoundEnd) (says : SaveWord) (state : SaveState) → state_of says r.number ≡ state
+-- the word by which this page was found being saved
+loaded_word : (loaded word : ℕ) → Some loaded ≡ Some word → word ≡ loaded
+loaded_word loaded word same = cc
+
+state_ends : (r : SavingRound) (page loaded : ℕ) (busy : Option ℕ) (result : SaveRoundEnd) (says : SaveWord) (state : SaveState) → state_of says r.number ≡ state
     → decode_save loaded ≡ Some says → told_at (SaveRound.looked_by r page busy loaded says state) ≡ Finished result → SaveEnds r page loaded busy result
 state_ends r page loaded busy result says Waits is reads tells = cc
 state_ends r page loaded busy result says Copying is reads tells =
-    let ends = passed_ends r page loaded true result tells in
+    let ends = passed_ends r page (Some loaded) result tells in
     let by = (says_state says r.number).copying is in
-    record { told_word = ends.told_word; shows = BusyHere by.0 (reads ∙ ap Some by.1) ends.last }
+    let same = loaded_word loaded ends.word ends.busy_page in
+    record { word = ends.word; told_word = ends.told_word; shows = BusyHere same by.0 (ap decode_save same ∙ reads ∙ ap Some by.1) ends.last }
 state_ends r page loaded busy result says Kept is reads tells =
-    let ends = passed_ends r page loaded busy result tells in record { told_word = ends.told_word; shows = BusyBefore ends.busy_page ends.last }
+    let ends = passed_ends r page busy result tells in record { word = ends.word; told_word = ends.told_word; shows = BusyBefore ends.busy_page ends.last }
 state_ends r page loaded busy result says Past is reads tells =
-    record { told_word = cc; shows = OfLater says reads ((says_state says r.number).past is) }
+    record { word = loaded; told_word = cc; shows = OfLater refl says reads ((says_state says r.number).past is) }
 
-pub look_ends : (r : SavingRound) (page loaded : ℕ) (busy : Bool) (result : SaveRoundEnd) (o : Option SaveWord) → decode_save loaded ≡ o
+pub look_ends : (r : SavingRound) (page loaded : ℕ) (busy : Option ℕ) (result : SaveRoundEnd) (o : Option SaveWord) → decode_save loaded ≡ o
     → told_at (SaveRound.looked_at_save r page busy loaded o) ≡ Finished result → SaveEnds r page loaded busy result
 look_ends r page loaded busy result (Some says) reads tells = state_ends r page loaded busy result says (state_of says r.number) refl reads tells
 look_ends r page loaded busy result None reads tells = cc

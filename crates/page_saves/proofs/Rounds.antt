@@ -1,5 +1,5 @@
 -- What a save round's step does to the words, by what it then tells.
-use Rattle.std.proofs.Common.{◌≡◌, ℕ, ◌-◌, List, slice_index, arith, refl, sym, ap, ◌∙◌, subst}
+use Rattle.std.proofs.Common.{◌≡◌, ℕ, ◌-◌, List, Some, slice_index, arith, refl, sym, ap, ◌∙◌, subst}
 use Rattle.std.specs.Prelude.{⊤}
 use Rattle.atom_store.specs.declared.reply.Reply.{Reply}
 use Rattle.atom_store.specs.declared.reply.Reply.TheVariants as reply
@@ -58,13 +58,13 @@ shows_nothing r LoadsGateAgain before after word acts =
 shows_nothing r (LoadsPage page busy) before after word acts =
     let loaded : ℕ = word_of_row r (Within (Page page)) before in
     let ends = RoundEnds.page_ends (at_stage r (LoadsPage page busy)) page loaded busy (NothingNow word) acts.tells in
-    let same = same_word word loaded ends.0.told_word in
-    ((same, (λ e. ends.1 (sym same ∙ e)), ends.0.busy_page, ends.0.last), acts.makes)
+    let same = same_word word ends.0.word ends.0.told_word in
+    ((ends.1, ends.0.busy_page ∙ ap Some (sym same), ends.0.last), acts.makes)
 shows_nothing r (LoadsSave page busy) before after word acts =
     let loaded : ℕ = word_of_row r (Behind (SaveOf page)) before in
     let ends = RoundEnds.look_ends (at_stage r (LoadsSave page busy)) page loaded busy (NothingNow word) (decode_save loaded) refl acts.tells in
-    let same = same_word word loaded ends.told_word in
-    ((same, rw same ends.shows), acts.makes)
+    let same = same_word word ends.word ends.told_word in
+    (rw same ends.shows, acts.makes)
 shows_nothing r (Saves s) before after word acts =
     let ends = RoundEnds.saving_ends r s before after (NothingNow word) acts in
     let tells = ends.is ∙ ap Finished (save_taken ends.outcome word ends.told_end) in
@@ -97,10 +97,10 @@ word_told r LoadsGateAgain before after result at acts =
     let ends = RoundEnds.gate_again_ends (at_stage r LoadsGateAgain) loaded result (decode_gate loaded) acts.tells in (loaded, ends.told_word)
 word_told r (LoadsPage page busy) before after result at acts =
     let loaded : ℕ = word_of_row r (Within (Page page)) before in
-    let ends = RoundEnds.page_ends (at_stage r (LoadsPage page busy)) page loaded busy result acts.tells in (loaded, ends.0.told_word)
+    let ends = RoundEnds.page_ends (at_stage r (LoadsPage page busy)) page loaded busy result acts.tells in (ends.0.word, ends.0.told_word)
 word_told r (LoadsSave page busy) before after result at acts =
     let loaded : ℕ = word_of_row r (Behind (SaveOf page)) before in
-    let ends = RoundEnds.look_ends (at_stage r (LoadsSave page busy)) page loaded busy result (decode_save loaded) refl acts.tells in (loaded, ends.told_word)
+    let ends = RoundEnds.look_ends (at_stage r (LoadsSave page busy)) page loaded busy result (decode_save loaded) refl acts.tells in (ends.word, ends.told_word)
 word_told r (Ended last) before after result at acts = absurd (no_step acts.has_step)
 word_told r _ before after result at acts = elim at [ ]
 

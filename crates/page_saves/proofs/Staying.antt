@@ -194,15 +194,15 @@ next_fits r page fits more = by_board (board_or_not r page)
         let from = fits.low apart in
         record { in_table = omega (arith, low, more); low = λ other. omega (arith, next, from); high = λ other. more }
 
-by_passed : (r : SavingRound) (page : ℕ) (busy : Bool) (word : ℕ) → IsRoundPage r page → FitsSaveRoundStage r (SaveRound.passed_page r page busy word)
-by_passed r page busy word fits = by_test (nat_lt (SaveRound.page_after r page) (SaveRound.to_page r + r.layout.pages)) refl
+by_passed : (r : SavingRound) (page : ℕ) (busy : Option ℕ) → IsRoundPage r page → FitsSaveRoundStage r (SaveRound.passed_page r page busy)
+by_passed r page busy fits = by_test (nat_lt (SaveRound.page_after r page) (SaveRound.to_page r + r.layout.pages)) refl
   where
-    after : (busy : Bool) → FitsSaveRoundStage r (SaveRound.after_pages busy word)
-    after true = tt
-    after false = tt
+    after : (busy : Option ℕ) → FitsSaveRoundStage r (SaveRound.after_pages busy)
+    after (Some word) = tt
+    after None = tt
 
     by_test : (b : Bool) → nat_lt (SaveRound.page_after r page) (SaveRound.to_page r + r.layout.pages) ≡ b
-        → FitsSaveRoundStage r (cond b (LoadsPage (SaveRound.page_after r page) busy) (SaveRound.after_pages busy word))
+        → FitsSaveRoundStage r (cond b (LoadsPage (SaveRound.page_after r page) busy) (SaveRound.after_pages busy))
     by_test true test = next_fits r page fits (grind (arith, nat_tests))
     by_test false test = after busy
 
@@ -258,22 +258,22 @@ by_gate_again r word (Some gate) = by_test (nat_eq gate.epoch r.epoch)
     by_test false = tt
 by_gate_again r word None = tt
 
-by_page : (r : SavingRound) (page : ℕ) (busy : Bool) (word : ℕ) → IsRoundPage r page → FitsSaveRoundStage r (SaveRound.looked_at_page r page busy word)
+by_page : (r : SavingRound) (page : ℕ) (busy : Option ℕ) (word : ℕ) → IsRoundPage r page → FitsSaveRoundStage r (SaveRound.looked_at_page r page busy word)
 by_page r page busy word fits = by_test (nat_eq word (encode_page (Open r.epoch)))
   where
-    by_test : (b : Bool) → FitsSaveRoundStage r (cond b (LoadsSave page busy) (SaveRound.passed_page r page busy word))
+    by_test : (b : Bool) → FitsSaveRoundStage r (cond b (LoadsSave page busy) (SaveRound.passed_page r page busy))
     by_test true = fits
-    by_test false = by_passed r page busy word fits
+    by_test false = by_passed r page busy fits
 
-by_state : (r : SavingRound) (page : ℕ) (busy : Bool) (word : ℕ) (says : SaveWord) (state : SaveState) → IsReady r → IsRoundPage r page → decode_save word ≡ Some says
+by_state : (r : SavingRound) (page : ℕ) (busy : Option ℕ) (word : ℕ) (says : SaveWord) (state : SaveState) → IsReady r → IsRoundPage r page → decode_save word ≡ Some says
     → state_of says r.number ≡ state → FitsSaveRoundStage r (SaveRound.looked_by r page busy word says state)
 by_state r page busy word says Waits ready fits reads is =
     (fits, begun_own r.layout page r.number r.worker word says ready.pages ready.room fits.in_table ready.number ready.worker reads is)
-by_state r page busy word says Copying ready fits reads is = by_passed r page true word fits
-by_state r page busy word says Kept ready fits reads is = by_passed r page busy word fits
+by_state r page busy word says Copying ready fits reads is = by_passed r page (Some word) fits
+by_state r page busy word says Kept ready fits reads is = by_passed r page busy fits
 by_state r page busy word says Past ready fits reads is = tt
 
-by_save : (r : SavingRound) (page : ℕ) (busy : Bool) (word : ℕ) (o : Option SaveWord) → IsReady r → IsRoundPage r page → decode_save word ≡ o
+by_save : (r : SavingRound) (page : ℕ) (busy : Option ℕ) (word : ℕ) (o : Option SaveWord) → IsReady r → IsRoundPage r page → decode_save word ≡ o
     → FitsSaveRoundStage r (SaveRound.looked_at_save r page busy word o)
 by_save r page busy word (Some says) ready fits reads = by_state r page busy word says (state_of says r.number) ready fits reads refl
 by_save r page busy word None ready fits reads = fits

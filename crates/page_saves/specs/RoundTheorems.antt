@@ -1,5 +1,5 @@
 -- What is proved of a save round, by the words on which it makes its steps.
-use Rattle.std.specs.Prelude.{◌≡◌, ◌≢◌, ℕ, ◌+◌, ◌-◌, ◌<◌, ◌≤◌, Bool, true, ⊤, List, Some}
+use Rattle.std.specs.Prelude.{◌≡◌, ◌≢◌, ℕ, ◌+◌, ◌-◌, ◌<◌, ◌≤◌, true, ⊤, List, Option, Some}
 use Rattle.atom_store.specs.declared.step.Step.TheVariants.{Load}
 use Rattle.atom_store.specs.declared.turn.Turn.TheVariants.{Finished}
 use Rattle.atom_store.specs.Acts.{MakesStep}
@@ -77,11 +77,12 @@ pub record ShowsOtherEpoch (r : SavingRound) (words : List ℕ) (word : ℕ) : T
 abbrev pub IsLastPage : SavingRound → (page : ℕ) → Type 0
 IsLastPage r page = to_page r + r.layout.pages ≤ page_after r page
 
--- a page is of a later checkpoint, or it is the last one, and some page is being saved: one before it, or this
-pub data ShowsByPage (r : SavingRound) (page : ℕ) (busy : Bool) (word : ℕ) : Type 0 where
-  OfLater : (says : SaveWord) → decode_save word ≡ Some says → r.number < number_of says → ShowsByPage r page busy word
-  BusyBefore : busy ≡ true → IsLastPage r page → ShowsByPage r page busy word
-  BusyHere : (worker : ℕ) → decode_save word ≡ Some (save_word.Saving r.number worker) → IsLastPage r page → ShowsByPage r page busy word
+-- what is said of a page is of a later checkpoint; or the page is the last one, and some page is being saved: one before it, by the word
+-- that the round has kept, or this
+pub data ShowsByPage (r : SavingRound) (page : ℕ) (busy : Option ℕ) (said word : ℕ) : Type 0 where
+  OfLater : word ≡ said → (says : SaveWord) → decode_save word ≡ Some says → r.number < number_of says → ShowsByPage r page busy said word
+  BusyBefore : busy ≡ Some word → IsLastPage r page → ShowsByPage r page busy said word
+  BusyHere : word ≡ said → (worker : ℕ) → decode_save word ≡ Some (save_word.Saving r.number worker) → IsLastPage r page → ShowsByPage r page busy said word
 
 -- A word shows that there is nothing to do now, by what the round was about to do.
 abbrev pub ShowsNothingToSave : SavingRound → SaveRoundStage → (words : List ℕ) → (word : ℕ) → Type 0
@@ -90,8 +91,8 @@ ShowsNothingToSave r LoadsSnap words word = ⊥
 ShowsNothingToSave r LoadsDone words word = ⊥
 ShowsNothingToSave r LoadsGateAgain words word = ShowsOtherEpoch r words word
 ShowsNothingToSave r (LoadsPage page busy) words word =
-    (word ≡ word_of_row r (Within (Page page)) words) × (word ≢ encode_page (Open r.epoch)) × (busy ≡ true) × IsLastPage r page
-ShowsNothingToSave r (LoadsSave page busy) words word = (word ≡ word_of_row r (Behind (SaveOf page)) words) × ShowsByPage r page busy word
+    (word_of_row r (Within (Page page)) words ≢ encode_page (Open r.epoch)) × (busy ≡ Some word) × IsLastPage r page
+ShowsNothingToSave r (LoadsSave page busy) words word = ShowsByPage r page busy (word_of_row r (Behind (SaveOf page)) words) word
 ShowsNothingToSave r (Saves s) words word = ShowsSaveTaken s words word
 ShowsNothingToSave r ExchangesDone words word = (word ≡ word_of_row r (Within DoneNumber) words) × (word ≢ r.number - 1)
 ShowsNothingToSave r (Ended result) words word = ⊥
@@ -195,3 +196,29 @@ pub data FoundKept (begun : SavingRound) (met : ℕ → List ℕ) (n : ℕ) (pag
 abbrev pub RoundsMarkWhatIsKept : Type 0
 RoundsMarkWhatIsKept = (begun : SavingRound) (met : ℕ → List ℕ) (n : ℕ) (r : SavingRound) → IsBegun begun → round_after begun met n ≡ r → r.stage ≡ ExchangesDone
     → 0 < r.number → (page : ℕ) → IsRoundPage r page → FoundKept begun met n r.layout.pages r.epoch r.number page
+
+-- ---- what a round tells of pages
+
+-- in this round the word was loaded as what is said of a page, and it says this
+pub record FoundSaid (begun : SavingRound) (met : ℕ → List ℕ) (n : ℕ) (pages word : ℕ) (says : SaveWord) : Type 0 where
+  pub page : ℕ
+  pub load : HasLoaded begun met n pages (Behind (SaveOf page))
+  pub same : word ≡ loaded load
+  pub reads : decode_save word ≡ Some says
+
+-- it says that a worker saves the page for the checkpoint, or it is of a later one
+pub data FoundHindrance (begun : SavingRound) (met : ℕ → List ℕ) (n : ℕ) (pages number word : ℕ) : Type 0 where
+  WasBeingSaved : (worker : ℕ) → FoundSaid begun met n pages word (save_word.Saving number worker) → FoundHindrance begun met n pages number word
+  WasOfLater : (says : SaveWord) → FoundSaid begun met n pages word says → number < number_of says → FoundHindrance begun met n pages number word
+
+-- the round looks at a page
+abbrev pub LooksAtPage : SaveRoundStage → Type 0
+LooksAtPage (LoadsPage page busy) = ⊤
+LooksAtPage (LoadsSave page busy) = ⊤
+LooksAtPage stage = ⊥
+
+-- a round that then finds that there is nothing to do now tells such a word, which it has loaded before or loads now
+abbrev pub HindrancesAreFound : Type 0
+HindrancesAreFound = (begun : SavingRound) (met : ℕ → List ℕ) (n : ℕ) (r : SavingRound) (after : List ℕ) (word : ℕ) → IsBegun begun
+    → round_after begun met n ≡ r → LooksAtPage r.stage → MakesStep save_round_machine r (met n) after (Finished (NothingNow word))
+    → FoundHindrance begun met (n + 1) r.layout.pages r.number word

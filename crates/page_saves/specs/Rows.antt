@@ -126,14 +126,14 @@ LostMarkEnds =
 abbrev pub BusyPageForbidsMark : Type 0
 BusyPageForbidsMark =
     MutatorSaves
-    (board_found 0x10005 ++ closed_pages ++ ((Load 18, Value 0) ∷ (Load 19, Value 1) ∷ (Load 636, Value 0x10002) ∷ [])) (NothingNow 0x10002)
+    (board_found 0x10005 ++ closed_pages ++ ((Load 18, Value 0) ∷ (Load 19, Value 1) ∷ (Load 636, Value 0x10002) ∷ [])) (NothingNow 0x10005)
 
 -- it may be saving the last page; or the last is closed
 abbrev pub BusyLastPageForbidsMark : Type 0
 BusyLastPageForbidsMark =
     (MutatorSaves
     (board_found 0x10002 ++ closed_pages ++ ((Load 18, Value 0) ∷ (Load 19, Value 1) ∷ (Load 636, Value 0x10005) ∷ [])) (NothingNow 0x10005))
-    × (MutatorSaves (board_found 0x10005 ++ closed_pages ++ ((Load 18, Value 0) ∷ (Load 19, Value 0) ∷ [])) (NothingNow 0))
+    × (MutatorSaves (board_found 0x10005 ++ closed_pages ++ ((Load 18, Value 0) ∷ (Load 19, Value 0) ∷ [])) (NothingNow 0x10005))
 
 -- a board saved for checkpoint 2 shows that this one is long done
 abbrev pub LaterCheckpointEnds : Type 0

@@ -110,7 +110,7 @@ found_snap r None = at_stage r LoadsSnap
 
 -- the board comes first
 abbrev pub first_page : SavingRound → SaveRoundStage
-first_page r = LoadsPage (board_page r.layout.pages) false
+first_page r = LoadsPage (board_page r.layout.pages) None
 
 -- a checkpoint runs: a scanner looks again whether it runs in the epoch
 abbrev pub when_one_runs : SavingRound → SaveCaller → SaveRoundStage
@@ -125,28 +125,28 @@ abbrev pub looked_at_gate_again : SavingRound → (word : ℕ) → Option GateWo
 looked_at_gate_again r word (Some gate) = if gate.epoch == r.epoch then first_page r else Ended (NothingNow word)
 looked_at_gate_again r word None = LoadsGateAgain
 
--- after the last page, if another worker was found saving one, there is nothing to do now
-abbrev pub after_pages : (busy : Bool) → (word : ℕ) → SaveRoundStage
-after_pages true word = Ended (NothingNow word)
-after_pages false word = ExchangesDone
+-- after the last page, if another worker was found saving one, there is nothing to do now, as the word shows by which it was found
+abbrev pub after_pages : (busy : Option ℕ) → SaveRoundStage
+after_pages (Some word) = Ended (NothingNow word)
+after_pages None = ExchangesDone
 
 -- after a page that isn't to be saved, the next one
-abbrev pub passed_page : SavingRound → (page : ℕ) (busy : Bool) (word : ℕ) → SaveRoundStage
-passed_page r page busy word =
-    if nat_lt (page_after r page) (to_page r + r.layout.pages) then LoadsPage (page_after r page) busy else after_pages busy word
+abbrev pub passed_page : SavingRound → (page : ℕ) (busy : Option ℕ) → SaveRoundStage
+passed_page r page busy =
+    if nat_lt (page_after r page) (to_page r + r.layout.pages) then LoadsPage (page_after r page) busy else after_pages busy
 
 -- a page that isn't open in this epoch was not when the checkpoint began
-abbrev pub looked_at_page : SavingRound → (page : ℕ) (busy : Bool) (word : ℕ) → SaveRoundStage
+abbrev pub looked_at_page : SavingRound → (page : ℕ) (busy : Option ℕ) (word : ℕ) → SaveRoundStage
 looked_at_page r page busy word =
-    if word == encode_page (Open r.epoch) then LoadsSave page busy else passed_page r page busy word
+    if word == encode_page (Open r.epoch) then LoadsSave page busy else passed_page r page busy
 
-abbrev pub looked_by : SavingRound → (page : ℕ) (busy : Bool) (word : ℕ) → SaveWord → SaveState → SaveRoundStage
+abbrev pub looked_by : SavingRound → (page : ℕ) (busy : Option ℕ) (word : ℕ) → SaveWord → SaveState → SaveRoundStage
 looked_by r page busy word says Waits = Saves (save.begun r.layout page says r.number r.worker)
-looked_by r page busy word says Copying = passed_page r page true word
-looked_by r page busy word says Kept = passed_page r page busy word
+looked_by r page busy word says Copying = passed_page r page (Some word)
+looked_by r page busy word says Kept = passed_page r page busy
 looked_by r page busy word says Past = Ended (NothingNow word)
 
-abbrev pub looked_at_save : SavingRound → (page : ℕ) (busy : Bool) (word : ℕ) → Option SaveWord → SaveRoundStage
+abbrev pub looked_at_save : SavingRound → (page : ℕ) (busy : Option ℕ) (word : ℕ) → Option SaveWord → SaveRoundStage
 looked_at_save r page busy word (Some says) = looked_by r page busy word says (state_of says r.number)
 looked_at_save r page busy word None = LoadsSave page busy
 

@@ -13,7 +13,7 @@ ghost use Rattle.page_saves.specs.SoundRound.{IsSoundSaveRound};
 ghost use Rattle.page_saves.specs.SoundSave.{IsSoundSave};
 ghost use Rattle.page_saves.specs.HeldUp.{SavesGoOn, GuardsGoOn, SaveRoundsGoOn};
 ghost use Rattle.page_saves.specs.Theorems.{WonExchangesBegin, TakenSavesShowIt, SavedPagesSaySo, WonSavesCopy, EndedSavesCopied, GuardsEndOnKept};
-ghost use Rattle.page_saves.specs.RoundTheorems.{NoneRunsIsShown, SavedPagesAreOwn, MarkedCheckpointsAreDone, NothingToSaveIsShown, RoundsReadFirst, RoundsMarkWhatIsKept};
+ghost use Rattle.page_saves.specs.RoundTheorems.{NoneRunsIsShown, SavedPagesAreOwn, MarkedCheckpointsAreDone, NothingToSaveIsShown, HindrancesAreFound, RoundsReadFirst, RoundsMarkWhatIsKept};
 
 /// A save exchanges what is said of its page, which was of no checkpoint or an earlier one. If it loses that, the word shows
 /// it. Else it copies each word of the page, and says then that the page is saved. One that ends so has won the exchange.
@@ -30,12 +30,14 @@ pub fn looks_end_on_kept_pages()
     ensures { GuardsEndOnKept }
 {}
 
-/// What a save round tells is so by the word that it has read or exchanged.
+/// What a save round tells is so by the word that it has read or exchanged. If it looks at a page, and finds that there is nothing to do
+/// now, it tells what it has read to be said of a page: that a worker saves it, or that it is of a later checkpoint.
 pub fn save_rounds_show_why()
     ensures none_runs { NoneRunsIsShown }
     ensures saved { SavedPagesAreOwn }
     ensures marked { MarkedCheckpointsAreDone }
     ensures nothing { NothingToSaveIsShown }
+    ensures hindrances { HindrancesAreFound }
 {}
 
 /// A save round comes to its pages only after it has read that a checkpoint runs; a scanner's, between two looks at the gate

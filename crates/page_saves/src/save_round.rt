@@ -206,7 +206,7 @@ impl SaveRound {
     }
 
     #[inline(always)]
-    fn look_at_page(&mut self, page: u32, busy: bool, word: u64) -> Turn<SaveRoundEnd>
+    fn look_at_page(&mut self, page: u32, busy: Option<u64>, word: u64) -> Turn<SaveRoundEnd>
         requires { IsRoundPage self.old page }
         ensures state { self.new ≡ at_stage self.old (round.looked_at_page self.old page busy word) }
         ensures tells { result ≡ told self.new }
@@ -215,12 +215,12 @@ impl SaveRound {
         if word == PageWord::Open(self.epoch).pack() {
             self.go_to(SaveRoundStage::LoadsSave(page, busy))
         } else {
-            self.pass(page, busy, word)
+            self.pass(page, busy)
         }
     }
 
     #[inline(always)]
-    fn look_at_save(&mut self, page: u32, busy: bool, word: u64) -> Turn<SaveRoundEnd>
+    fn look_at_save(&mut self, page: u32, busy: Option<u64>, word: u64) -> Turn<SaveRoundEnd>
         requires { IsRoundPage self.old page }
         ensures state { self.new ≡ at_stage self.old (round.looked_at_save self.old page busy word (decode_save word)) }
         ensures tells { result ≡ told self.new }
@@ -231,8 +231,8 @@ impl SaveRound {
         };
         match SaveState::of(says, self.number) {
             SaveState::Waits => self.save(page, says),
-            SaveState::Copying => self.pass(page, true, word),
-            SaveState::Kept => self.pass(page, busy, word),
+            SaveState::Copying => self.pass(page, Some(word)),
+            SaveState::Kept => self.pass(page, busy),
             SaveState::Past => self.end_for_now(word),
         }
     }
@@ -242,7 +242,7 @@ impl SaveRound {
     fn save(&mut self, page: u32, says: SaveWord) -> Turn<SaveRoundEnd>
         requires page { IsRoundPage self.old page }
         requires earlier { number_of says < self.old.number }
-        ensures state { self.new ≡ at_stage self.old (round.looked_by self.old page true 0 says SaveState.Waits) }
+        ensures state { self.new ≡ at_stage self.old (round.looked_by self.old page None 0 says SaveState.Waits) }
         ensures tells { result ≡ told self.new }
         ensures lowers { left self.new + 1 < 2 * pages_left self.old page + 130 }
     {
@@ -273,26 +273,26 @@ impl SaveRound {
         ensures tells { result ≡ told self.new }
     {
         let board = self.spaces.board_page();
-        self.go_to(SaveRoundStage::LoadsPage(board, false))
+        self.go_to(SaveRoundStage::LoadsPage(board, None))
     }
 
-    /// Goes on behind a page that is not to be saved, as this word showed.
+    /// Goes on behind a page that is not to be saved.
     #[inline(always)]
     #[tactic(auto, using(crate::proofs::Pages::further, crate::proofs::Pages::pages_left_gt))]
-    fn pass(&mut self, page: u32, busy: bool, word: u64) -> Turn<SaveRoundEnd>
+    fn pass(&mut self, page: u32, busy: Option<u64>) -> Turn<SaveRoundEnd>
         requires { IsRoundPage self.old page }
-        ensures state { self.new ≡ at_stage self.old (round.passed_page self.old page busy word) }
+        ensures state { self.new ≡ at_stage self.old (round.passed_page self.old page busy) }
         ensures tells { result ≡ told self.new }
         ensures lowers { left self.new + 1 < 2 * pages_left self.old page + 130 }
     {
         self.spaces.known();
         let next = self.page_after(page);
         if next < self.first_page() + self.spaces.pages() {
-            self.go_to(SaveRoundStage::LoadsPage(next, busy))
-        } else if busy {
-            self.end_for_now(word)
-        } else {
-            self.go_to(SaveRoundStage::ExchangesDone)
+            return self.go_to(SaveRoundStage::LoadsPage(next, busy));
+        }
+        match busy {
+            Some(word) => self.end_for_now(word),
+            None => self.go_to(SaveRoundStage::ExchangesDone),
         }
     }
 

@@ -12,10 +12,10 @@ pub enum SaveRoundStage {
     LoadsDone,
     /// Load the gate again: a scanner's checkpoint must have run in the epoch.
     LoadsGateAgain,
-    /// Load the word of this page. Another worker was found saving a page, or not.
-    LoadsPage(u32, bool),
-    /// Load what is said of this page, which is open. Another worker was found saving a page, or not.
-    LoadsSave(u32, bool),
+    /// Load the word of this page. The word by which another worker was found saving a page, if one was.
+    LoadsPage(u32, Option<u64>),
+    /// Load what is said of this page, which is open. The word by which another worker was found saving a page, if one was.
+    LoadsSave(u32, Option<u64>),
     /// Make the next step of its own save of a page.
     Saves(Save),
     /// Exchange the number of the last checkpoint that was finished: all pages are saved.

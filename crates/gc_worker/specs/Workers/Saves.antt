@@ -1,5 +1,5 @@
 -- What a worker holds of checkpoints, component by component, each by cases on its stage.
-use Rattle.std.specs.Prelude.{ℕ, ◌+◌, ◌*◌, ◌==◌, ◌&&◌, Bool, not, true, false, Option, Some, None, if◌then◌else◌}
+use Rattle.std.specs.Prelude.{ℕ, ◌+◌, ◌*◌, ◌==◌, ◌&&◌, Bool, not, true, false, Option, Some, None, is_some, if◌then◌else◌}
 use Rattle.space_map.specs.declared.gate_word.GateWord.{GateWord}
 use Rattle.space_map.specs.declared.spaces.TheConstants.{PAGE_WORDS}
 use Rattle.space_map.specs.Spaces.{board_page, to_space}
@@ -192,8 +192,8 @@ round_to r page busy =
     if page == board_page r.layout.pages then record (round_begun r.layout.pages r.number r.epoch) { busy = busy } else round_past r.number r.epoch page busy
 
 abbrev pub save_round_at : SavingRound → SaveRoundStage → Option SaveRound
-save_round_at r (save_round_stage.LoadsPage page busy) = Some (round_to r page busy)
-save_round_at r (save_round_stage.LoadsSave page busy) = Some (record (round_to r page busy) { opened = Some page })
+save_round_at r (save_round_stage.LoadsPage page busy) = Some (round_to r page (is_some busy))
+save_round_at r (save_round_stage.LoadsSave page busy) = Some (record (round_to r page (is_some busy)) { opened = Some page })
 save_round_at r (save_round_stage.Saves s) = Some (round_begun r.layout.pages r.number r.epoch)
 save_round_at r save_round_stage.ExchangesDone = Some (round_past r.number r.epoch (r.layout.pages * to_space r.epoch + r.layout.pages) false)
 save_round_at r stage = None

@@ -109,7 +109,7 @@ fn busy_board_forbids_the_mark(rt: HostRuntime) {
     round_goes_on(&rt, &mut round, 18, 0);
     round_goes_on(&rt, &mut round, 19, 1);
     let saved = Reply::Value(0x10002);
-    let end = SaveRoundEnd::NothingNow(0x10002);
+    let end = SaveRoundEnd::NothingNow(0x10005);
     round_ends(&rt, &mut round, Step::Load(636), saved, end);
 }
 

@@ -1,6 +1,6 @@
 -- The pages of a round for the checkpoint in progress: each is found open, or passed; and of an open one, SAVE says whether it is passed
 -- too, or is saved next.
-use Rattle.std.proofs.Common.{◌≡◌, ◌≢◌, ℕ, ◌+◌, ◌*◌, ◌<◌, ◌≤◌, ◌==◌, inl, inr, Bool, true, false, cond, nat_lt, Option, None, Some, refl, sym, ap, subst, ◌∙◌, arith}
+use Rattle.std.proofs.Common.{◌≡◌, ◌≢◌, ℕ, ◌+◌, ◌*◌, ◌<◌, ◌≤◌, ◌==◌, inl, inr, Bool, true, false, cond, nat_lt, Option, None, Some, is_some, refl, sym, ap, subst, ◌∙◌, arith}
 use Rattle.std.proofs.lemmas.Bool.{eqb-false, eqb-true, ltb-false, ltb-true, ne_eqb}
 use Rattle.std.proofs.lemmas.Option.{same_Some}
 use Rattle.plain_state.specs.State.{Plain}
@@ -173,22 +173,22 @@ module _ (c : Configuration) (p : Plain) (z : Frozen) (saver : ℕ → Saver) (k
     then_is : (next : SaveRoundStage) → reads_at r next ≡ NoReads → save_of_round next ≡ None → saver_of (Stage next) ≡ record v { round = save_round_at r next }
     then_is next none empty = follows y r goal stage next first none (empty ∙ sym alone)
 
-    module _ (reply : Reply) (word : ℕ) where
-      last_by : (busy : Bool) → WithRound (passed r page busy) → to_page r + r.layout.pages ≤ page_after r page → save_round.taken (round r stage) reply ≡ round r (after_pages busy word) → Comes reply
-      last_by true stands none taken = ends_by reply word taken
-      last_by false stands none taken =
+    module _ (reply : Reply) where
+      last_by : (busy : Option ℕ) → WithRound (passed r page (is_some busy)) → to_page r + r.layout.pages ≤ page_after r page → save_round.taken (round r stage) reply ≡ round r (after_pages busy) → Comes reply
+      last_by (Some word) stands none taken = ends_by reply word taken
+      last_by None stands none taken =
           goes_by reply ExchangesDone (passed r page false) taken refl
           (then_is ExchangesDone refl refl ∙ ap (λ (q : SaveRound). record v { round = Some q }) (sym (goes_last r page fits some none))) stands
 
-      next_by_test : (busy more : Bool) → nat_lt (page_after r page) (to_page r + r.layout.pages) ≡ more → WithRound (passed r page busy)
-          → save_round.taken (round r stage) reply ≡ round r (cond more (LoadsPage (page_after r page) busy) (after_pages busy word)) → Comes reply
+      next_by_test : (busy : Option ℕ) (more : Bool) → nat_lt (page_after r page) (to_page r + r.layout.pages) ≡ more → WithRound (passed r page (is_some busy))
+          → save_round.taken (round r stage) reply ≡ round r (cond more (LoadsPage (page_after r page) busy) (after_pages busy)) → Comes reply
       next_by_test busy true test stands taken =
-          goes_by reply (LoadsPage (page_after r page) busy) (passed r page busy) taken refl
+          goes_by reply (LoadsPage (page_after r page) busy) (passed r page (is_some busy)) taken refl
           (then_is (LoadsPage (page_after r page) busy) refl refl
-          ∙ ap (λ (q : SaveRound). record v { round = Some q }) (goes_past r page fits some busy (ltb-true (page_after r page) (to_page r + r.layout.pages) test))) stands
+          ∙ ap (λ (q : SaveRound). record v { round = Some q }) (goes_past r page fits some (is_some busy) (ltb-true (page_after r page) (to_page r + r.layout.pages) test))) stands
       next_by_test busy false test stands taken = last_by busy stands (ltb-false (page_after r page) (to_page r + r.layout.pages) test) taken
 
-      passes : (busy : Bool) → WithRound (passed r page busy) → save_round.taken (round r stage) reply ≡ round r (passed_page r page busy word) → Comes reply
+      passes : (busy : Option ℕ) → WithRound (passed r page (is_some busy)) → save_round.taken (round r stage) reply ≡ round r (passed_page r page busy) → Comes reply
       passes busy stands taken = next_by_test busy (nat_lt (page_after r page) (to_page r + r.layout.pages)) refl stands taken
 
     -- what it learns of the page
@@ -208,7 +208,7 @@ module _ (c : Configuration) (p : Plain) (z : Frozen) (saver : ℕ → Saver) (k
 
   -- ---- what PAGE says
 
-  module _ (page : ℕ) (busy : Bool) (b : Before c p z saver k (Stage (LoadsPage page busy))) where
+  module _ (page : ℕ) (busy : Option ℕ) (b : Before c p z saver k (Stage (LoadsPage page busy))) where
     abbrev x : Held
     x = Stage (LoadsPage page busy)
 
@@ -227,32 +227,32 @@ module _ (c : Configuration) (p : Plain) (z : Frozen) (saver : ℕ → Saver) (k
     opened : word ≡ encode_page (Open r.epoch) → (table c).page page ≡ Open r.epoch
     opened same = same_Some ((table c).page page) (Open r.epoch) (sym says ∙ (ap decode_page same ∙ decode_page-encode_page (Open r.epoch) b.is.fits.stage.sound.epoch))
 
-    closed : word ≢ encode_page (Open r.epoch) → (table c).page page ≢ Open (now r page busy).epoch
-    closed other same = other (sym (encode_page-decode_page word (Open r.epoch) (says ∙ ap Some (same ∙ ap Open (epoch_is r page busy)))))
+    closed : word ≢ encode_page (Open r.epoch) → (table c).page page ≢ Open (now r page (is_some busy)).epoch
+    closed other same = other (sym (encode_page-decode_page word (Open r.epoch) (says ∙ ap Some (same ∙ ap Open (epoch_is r page (is_some busy))))))
 
     learns : (w : Saver) → LearnsOfSaves (table c) (saves c) (saver_of x) w → WithIt c p z saver k y (round r (LoadsPage page busy)) goal b w
     learns = learnt c p z saver k y (round r (LoadsPage page busy)) goal b
 
     page_by : (open_now : Bool) → (word == encode_page (Open r.epoch)) ≡ open_now → By c p z saver k y (round r (LoadsPage page busy)) goal b (Value word)
     page_by true test =
-        let q : SaveRound = record (now r page busy) { opened = Some page } in
+        let q : SaveRound = record (now r page (is_some busy)) { opened = Some page } in
         goes_by (LoadsPage page busy) b refl refl page fits some (Value word) (LoadsSave page busy) q
-        (ap (λ (t : Bool). round r (cond t (LoadsSave page busy) (passed_page r page busy word))) test) refl (then_is (LoadsPage page busy) b refl refl page fits some (LoadsSave page busy) refl refl)
+        (ap (λ (t : Bool). round r (cond t (LoadsSave page busy) (passed_page r page busy))) test) refl (then_is (LoadsPage page busy) b refl refl page fits some (LoadsSave page busy) refl refl)
         (learns (record (saver_of x) { round = Some q })
-        (FindsOpen (now r page busy) page refl (of_round (LoadsPage page busy) b refl refl page fits some busy) (opened (eqb-true word (encode_page (Open r.epoch)) test) ∙ ap Open (sym (epoch_is r page busy)))))
+        (FindsOpen (now r page (is_some busy)) page refl (of_round (LoadsPage page busy) b refl refl page fits some (is_some busy)) (opened (eqb-true word (encode_page (Open r.epoch)) test) ∙ ap Open (sym (epoch_is r page (is_some busy))))))
     page_by false test =
-        passes (LoadsPage page busy) b refl refl page fits some (Value word) word busy
-        (passed_so (LoadsPage page busy) b refl refl page fits some (now r page busy) busy (passes_closed r page busy)
-        (learns (record (saver_of x) { round = Some (round_passing (table c).pages (now r page busy) page) })
-        (PassesClosed (now r page busy) page refl (next_page (LoadsPage page busy) b refl refl page fits some busy) (closed (eqb-false word (encode_page (Open r.epoch)) test)))))
-        (ap (λ (t : Bool). round r (cond t (LoadsSave page busy) (passed_page r page busy word))) test)
+        passes (LoadsPage page busy) b refl refl page fits some (Value word) busy
+        (passed_so (LoadsPage page busy) b refl refl page fits some (now r page (is_some busy)) (is_some busy) (passes_closed r page (is_some busy))
+        (learns (record (saver_of x) { round = Some (round_passing (table c).pages (now r page (is_some busy)) page) })
+        (PassesClosed (now r page (is_some busy)) page refl (next_page (LoadsPage page busy) b refl refl page fits some (is_some busy)) (closed (eqb-false word (encode_page (Open r.epoch)) test)))))
+        (ap (λ (t : Bool). round r (cond t (LoadsSave page busy) (passed_page r page busy))) test)
 
     pub loads_page : (q : Step) → wanted x ≡ Some q → SavesStep c p saver k x q
     loads_page = loads_it c p z saver k y (round r (LoadsPage page busy)) goal b (Within (Page page)) fits.in_table refl (page_by (word == encode_page (Open r.epoch)) refl)
 
   -- ---- what SAVE says
 
-  module _ (page : ℕ) (busy : Bool) (b : Before c p z saver k (Stage (LoadsSave page busy))) where
+  module _ (page : ℕ) (busy : Option ℕ) (b : Before c p z saver k (Stage (LoadsSave page busy))) where
     abbrev x_save : Held
     x_save = Stage (LoadsSave page busy)
 
@@ -272,7 +272,7 @@ module _ (c : Configuration) (p : Plain) (z : Frozen) (saver : ℕ → Saver) (k
     reads_it = says_are_found.loaded c.pages c.words page b.formed below
 
     abbrev found : SaveRound
-    found = record (now r page busy) { opened = Some page }
+    found = record (now r page (is_some busy)) { opened = Some page }
 
     knows_it : (w : Saver) → LearnsOfSaves (table c) (saves c) (saver_of x_save) w → WithIt c p z saver k y (round r (LoadsSave page busy)) goal b w
     knows_it = learnt c p z saver k y (round r (LoadsSave page busy)) goal b
@@ -290,14 +290,14 @@ module _ (c : Configuration) (p : Plain) (z : Frozen) (saver : ℕ → Saver) (k
       begins : number_of says < r.number → state_of says r.number ≡ Waits → Looked
       begins earlier test =
           let s = saver_of x_save in
-          let own : found.number ≡ r.number = number_is r page busy in
+          let own : found.number ≡ r.number = number_is r page (is_some busy) in
           let w : Saver = record s { save = Some (save_begun page found.number says); round = Some (round_begun (table c).pages found.number found.epoch) } in
           let next = Saves (save.begun r.layout page says r.number r.worker) in
           let reads = no_reads y (round r next) goal refl ∙ sym (no_reads y (round r (LoadsSave page busy)) goal refl) in
           let as_next : saver_of (Stage next) ≡ w = (λ i. record s {
             save = Some (save_begun page (sym own i) says);
             reads = reads i;
-            round = Some (round_begun (table_is (LoadsSave page busy) b refl refl page fits_save some_save i) (sym own i) (sym (epoch_is r page busy) i));
+            round = Some (round_begun (table_is (LoadsSave page busy) b refl refl page fits_save some_save i) (sym own i) (sym (epoch_is r page (is_some busy)) i));
           }) in
           comes_to c p z saver k y (round r (LoadsSave page busy)) goal b (Value word_save) (round r next) w (taken_by Waits test) as_next
           (knows_it w (BeginsSaving found page says refl refl refl is (subst (λ (m : ℕ). number_of says < m) (sym own) earlier)))
@@ -305,19 +305,19 @@ module _ (c : Configuration) (p : Plain) (z : Frozen) (saver : ℕ → Saver) (k
       -- it is passed
       passes_it : number_of says ≡ r.number → ((worker : ℕ) → says ≢ Saving r.number worker) → state_of says r.number ≡ Kept → Looked
       passes_it same other test =
-          let own : found.number ≡ r.number = number_is r page busy in
-          passes (LoadsSave page busy) b refl refl page fits_save some_save (Value word_save) word_save busy
-          (passed_so (LoadsSave page busy) b refl refl page fits_save some_save found busy (passes_kept r page busy)
+          let own : found.number ≡ r.number = number_is r page (is_some busy) in
+          passes (LoadsSave page busy) b refl refl page fits_save some_save (Value word_save) busy
+          (passed_so (LoadsSave page busy) b refl refl page fits_save some_save found (is_some busy) (passes_kept r page (is_some busy))
           (knows_it (record (saver_of x_save) { round = Some (round_passing (table c).pages found page) })
-          (PassesKept found page says refl (next_page (LoadsSave page busy) b refl refl page fits_save some_save busy) is (same ∙ sym own)
+          (PassesKept found page says refl (next_page (LoadsSave page busy) b refl refl page fits_save some_save (is_some busy)) is (same ∙ sym own)
           (λ worker at. other worker (at ∙ ap (λ (m : ℕ). Saving m worker) own))))) (taken_by Kept test)
 
       passes_busy_one : state_of says r.number ≡ Copying → Looked
       passes_busy_one test =
-          passes (LoadsSave page busy) b refl refl page fits_save some_save (Value word_save) word_save true
-          (passed_so (LoadsSave page busy) b refl refl page fits_save some_save (record found { busy = true }) true (passes_busy r page busy)
+          passes (LoadsSave page busy) b refl refl page fits_save some_save (Value word_save) (Some word_save)
+          (passed_so (LoadsSave page busy) b refl refl page fits_save some_save (record found { busy = true }) true (passes_busy r page (is_some busy))
           (knows_it (record (saver_of x_save) { round = Some (round_passing (table c).pages (record found { busy = true }) page) })
-          (PassesBusy found page refl (next_page (LoadsSave page busy) b refl refl page fits_save some_save busy)))) (taken_by Copying test)
+          (PassesBusy found page refl (next_page (LoadsSave page busy) b refl refl page fits_save some_save (is_some busy))))) (taken_by Copying test)
 
       ends_past : state_of says r.number ≡ Past → Looked
       ends_past test = ends_by (LoadsSave page busy) b refl refl page fits_save some_save (Value word_save) word_save (taken_by Past test)

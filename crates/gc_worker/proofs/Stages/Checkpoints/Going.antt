@@ -93,28 +93,28 @@ module _ (x : Held) (r : SavingRound) where
 
   -- ---- where it goes on
 
-  apart_of_pages : (busy : Bool) (word : ℕ) → IsApart (save_round.after_pages busy word)
-  apart_of_pages true word = tt
-  apart_of_pages false word = tt
+  apart_of_pages : (busy : Option ℕ) → IsApart (save_round.after_pages busy)
+  apart_of_pages (Some word) = tt
+  apart_of_pages None = tt
 
-  apart_by_next : (page : ℕ) (busy more : Bool) (word : ℕ) → IsApart (cond more (LoadsPage page busy) (save_round.after_pages busy word))
-  apart_by_next page busy true word = tt
-  apart_by_next page busy false word = apart_of_pages busy word
+  apart_by_next : (page : ℕ) (busy : Option ℕ) (more : Bool) → IsApart (cond more (LoadsPage page busy) (save_round.after_pages busy))
+  apart_by_next page busy true = tt
+  apart_by_next page busy false = apart_of_pages busy
 
-  apart_passed : (page : ℕ) (busy : Bool) (word : ℕ) → IsApart (save_round.passed_page r page busy word)
-  apart_passed page busy word = apart_by_next (save_round.page_after r page) busy _ word
+  apart_passed : (page : ℕ) (busy : Option ℕ) → IsApart (save_round.passed_page r page busy)
+  apart_passed page busy = apart_by_next (save_round.page_after r page) busy _
 
-  apart_by_open : (page : ℕ) (busy opened : Bool) (word : ℕ) → IsApart (cond opened (LoadsSave page busy) (save_round.passed_page r page busy word))
-  apart_by_open page busy true word = tt
-  apart_by_open page busy false word = apart_passed page busy word
+  apart_by_open : (page : ℕ) (busy : Option ℕ) (opened : Bool) → IsApart (cond opened (LoadsSave page busy) (save_round.passed_page r page busy))
+  apart_by_open page busy true = tt
+  apart_by_open page busy false = apart_passed page busy
 
-  apart_by_state : (page : ℕ) (busy : Bool) (word : ℕ) (says : SaveWord) (state : SaveState) → IsApart (save_round.looked_by r page busy word says state)
+  apart_by_state : (page : ℕ) (busy : Option ℕ) (word : ℕ) (says : SaveWord) (state : SaveState) → IsApart (save_round.looked_by r page busy word says state)
   apart_by_state page busy word says Waits = tt
-  apart_by_state page busy word says Copying = apart_passed page true word
-  apart_by_state page busy word says Kept = apart_passed page busy word
+  apart_by_state page busy word says Copying = apart_passed page (Some word)
+  apart_by_state page busy word says Kept = apart_passed page busy
   apart_by_state page busy word says Past = tt
 
-  apart_at_save : (page : ℕ) (busy : Bool) (word : ℕ) (o : Option SaveWord) → IsApart (save_round.looked_at_save r page busy word o)
+  apart_at_save : (page : ℕ) (busy : Option ℕ) (word : ℕ) (o : Option SaveWord) → IsApart (save_round.looked_at_save r page busy word o)
   apart_at_save page busy word (Some says) = apart_by_state page busy word says (state_of says r.number)
   apart_at_save page busy word None = tt
 
@@ -154,7 +154,7 @@ module _ (x : Held) (r : SavingRound) where
     stays_own LoadsSnap Done number reads = goes_to LoadsSnap tt
     stays_own LoadsSnap (Lost word) number reads = goes_to LoadsSnap tt
     stays_own LoadsDone (Value word) number reads = goes_on number _ (apart_at_done (save_round.number_in word))
-    stays_own (LoadsPage page busy) (Value word) number reads = goes_on number _ (apart_by_open page busy _ word)
+    stays_own (LoadsPage page busy) (Value word) number reads = goes_on number _ (apart_by_open page busy _)
     stays_own (LoadsSave page busy) (Value word) number reads = goes_on number _ (apart_at_save page busy word (decode_save word))
     stays_own (Saves s) reply number reads = goes_on number _ (apart_saving (save.taken s reply) (save.told (save.taken s reply)))
     stays_own ExchangesDone Won number reads = goes_on number (Ended Marked) tt

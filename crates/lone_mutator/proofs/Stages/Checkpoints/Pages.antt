@@ -115,34 +115,34 @@ module _ (c : Configuration) (p : Plain) (s : Stands c p) (y : Held) (r : Saving
 
   -- ---- a page is passed
 
-  module _ (stage : SaveRoundStage) (a : IsAlone c (Stage stage)) (page : ℕ) (busy : Bool) (word : ℕ) (reply : Reply) (unpaid : save_round_left c.pages stage ≡ 0)
+  module _ (stage : SaveRoundStage) (a : IsAlone c (Stage stage)) (page : ℕ) (busy : Option ℕ) (reply : Reply) (unpaid : save_round_left c.pages stage ≡ 0)
       (known : IsRoundFree (saves c) busy) (advances : save_round.advances_at stage reply ≡ true) where
     abbrev Takes : SaveRoundStage → Type 0
     Takes next = save_round.taken (round r stage) reply ≡ round r next
 
     abbrev next : Bool → SaveRoundStage
-    next more = cond more (LoadsPage (page_after r page) busy) (after_pages busy word)
+    next more = cond more (LoadsPage (page_after r page) busy) (after_pages busy)
 
     next_by : (more : Bool) → Takes (next more) → Owes c p s (Stage stage) (table c) reply
     next_by true takes = goes_on c p s y r goal stage a reply (round r (LoadsPage (page_after r page) busy)) takes refl unpaid refl known advances
     next_by false takes =
-        goes_on c p s y r goal stage a reply (round r ExchangesDone) (takes ∙ ap (λ (b : Bool). round r (after_pages b word)) known.1) refl unpaid refl known.0 advances
+        goes_on c p s y r goal stage a reply (round r ExchangesDone) (takes ∙ ap (λ (b : Option ℕ). round r (after_pages b)) known.1) refl unpaid refl known.0 advances
 
-    passes : Takes (passed_page r page busy word) → Owes c p s (Stage stage) (table c) reply
+    passes : Takes (passed_page r page busy) → Owes c p s (Stage stage) (table c) reply
     passes takes = next_by (nat_lt (page_after r page) (to_page r + r.layout.pages)) takes
 
   -- ---- what PAGE says
 
-  module _ (page : ℕ) (busy : Bool) (a : IsAlone c (Stage (LoadsPage page busy))) where
+  module _ (page : ℕ) (busy : Option ℕ) (a : IsAlone c (Stage (LoadsPage page busy))) where
     abbrev word : ℕ
     word = page_now c page
 
     abbrev after_page : Bool → SaveRoundStage
-    after_page opened = cond opened (LoadsSave page busy) (passed_page r page busy word)
+    after_page opened = cond opened (LoadsSave page busy) (passed_page r page busy)
 
     by_page : (opened : Bool) → save_round.taken (round r (LoadsPage page busy)) (Value word) ≡ round r (after_page opened) → Owes c p s (Stage (LoadsPage page busy)) (table c) (Value word)
     by_page true takes = goes_on c p s y r goal (LoadsPage page busy) a (Value word) (round r (LoadsSave page busy)) takes refl refl refl a.remembers.stands.0 refl
-    by_page false takes = passes (LoadsPage page busy) a page busy word (Value word) refl a.remembers.stands.0 refl takes
+    by_page false takes = passes (LoadsPage page busy) a page busy (Value word) refl a.remembers.stands.0 refl takes
 
     pub loads_page : StepsLower c (Stage (LoadsPage page busy))
     loads_page =
@@ -152,7 +152,7 @@ module _ (c : Configuration) (p : Plain) (s : Stands c p) (y : Held) (r : Saving
 
   -- ---- what SAVE says
 
-  module _ (page : ℕ) (busy : Bool) (a : IsAlone c (Stage (LoadsSave page busy))) where
+  module _ (page : ℕ) (busy : Option ℕ) (a : IsAlone c (Stage (LoadsSave page busy))) where
     abbrev z : Held
     z = Stage (LoadsSave page busy)
 
@@ -182,7 +182,7 @@ module _ (c : Configuration) (p : Plain) (s : Stands c p) (y : Held) (r : Saving
 
       -- or it is saved, or new
       kept : state_of says r.number ≡ Kept → Owes c p s z (table c) (Value said)
-      kept test = passes (LoadsSave page busy) a page busy said (Value said) refl a.remembers.stands.0 advances (takes Kept test)
+      kept test = passes (LoadsSave page busy) a page busy (Value said) refl a.remembers.stands.0 advances (takes Kept test)
 
     -- nobody else saves it
     own_by : (says : SaveWord) → (saves c).save page ≡ says → state_of says r.number ≡ state_within says → Owes c p s z (table c) (Value said)

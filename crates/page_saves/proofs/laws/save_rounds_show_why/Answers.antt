@@ -1,3 +1,4 @@
+use Rattle.page_saves.proofs.Hindrances.{hindrances_are_found}
 use Rattle.page_saves.proofs.Reading.{none_runs_is_shown}
 use Rattle.page_saves.proofs.Rounds.{shows_nothing, saves_page, marks_done}
 use Rattle.page_saves.proofs.laws.save_rounds_show_why.Goals as goal
@@ -13,3 +14,6 @@ returns-clause-marked c = λ r before after sound whole acts. marks_done r r.sta
 
 pub returns-clause-nothing : goal.returns-clause-nothing
 returns-clause-nothing c = λ r before after word acts. shows_nothing r r.stage before after word acts
+
+pub returns-clause-hindrances : goal.returns-clause-hindrances
+returns-clause-hindrances c = hindrances_are_found
