@@ -1,5 +1,8 @@
 pub mod Lows
 pub mod Sizes
+pub mod NewFlips
+pub mod FlipReads
+pub mod NextSizes
 pub mod SetAside
 pub mod SizesRead
 pub mod FirstSteps

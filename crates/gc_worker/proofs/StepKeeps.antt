@@ -17,16 +17,16 @@ use Rattle.gate_core.specs.Gate.{Passing}
 use Rattle.heap_state.specs.Configuration.{Configuration, Stands, table, era, memory, team}
 use Rattle.heap_state.specs.Cycles.Cycle.{Cycle}
 use Rattle.heap_state.specs.Memory.Entries.{Entry, GateIs}
+use Rattle.heap_state.specs.Memory.Table.{word_in}
 use Rattle.space_map.specs.PageWord.{age_of}
 use Rattle.space_map.specs.Spaces.{Layout}
-use Rattle.space_map.specs.Table.{whole_length}
+use Rattle.space_map.specs.Table.{Traced, whole_length}
 use Rattle.heap_state.specs.Invariant.Ghost.{Ghost}
 use Rattle.heap_laws.specs.Lifting.{StandsWith, configuration_after, LeavesConfiguration, Flipped}
 use Rattle.heap_laws.specs.Tracing.{FollowsTargets}
 use Rattle.gc_worker.specs.declared.stage.after.After.{After}
 use Rattle.gc_worker.specs.declared.stage.Stage.{Stage}
 use Rattle.gc_worker.specs.declared.stage.Stage.TheVariants.{Looks, Passes, Flips, Forwards, Accesses, Places, Serves, Scans, Evacuates, Opens, Recalls, Guards, Checkpoints, BeginsCheckpoint, Gone}
-use Rattle.gc_worker.specs.Laws.Copied.{IsTraced}
 use Rattle.gc_worker.specs.Laws.Represented.{HasKept}
 use Rattle.gc_worker.specs.Plain.Answer.{after_told, with_emptied}
 use Rattle.gc_worker.specs.Plain.Empty.{empty_cells}
@@ -34,7 +34,7 @@ use Rattle.gc_worker.specs.Workers.Fits.{Fits}
 use Rattle.gc_worker.specs.Steps.Goes.{Is, LeavesToPlain, Settles, StepsInTable, StepsSo, TracesEpoch, Wins, FlipIsOwn}
 use Rattle.gc_worker.specs.Workers.Held.{Held, at_stage, has_seen_flip}
 use Rattle.gc_worker.specs.Workers.Knows.{knows}
-use Rattle.gc_worker.specs.Laws.Step.{Heap, read, nobody, held_at, layout_of, StandIf, WorkersStand, moved, at_flip, epoch_of, age, WinsOne, FlipsOnce, FlipsWhereTold, StepKeeps, StepsKeep}
+use Rattle.gc_worker.specs.Laws.Step.{Heap, read, nobody, held_at, layout_of, StandIf, WorkersStand, moved, at_flip, epoch_of, age, WinsOne, EpochStays, EpochIsTraced, FlipsOnce, FlipsWhereTold, StepKeeps, StepsKeep}
 use Rattle.gc_worker.specs.Steps.Turned.{Told, Silent, Empties, Answers, Marks, PageWon, epoch_in_gate, turned, told, won}
 use Rattle.gc_worker.specs.Steps.Wanted.{wanted}
 use Rattle.gc_worker.proofs.Stages.Gate.Exchanging.{exchanges_gate}
@@ -44,10 +44,10 @@ use Rattle.gc_worker.proofs.Stages.Gate.Words.{gate_says}
 use Rattle.gc_worker.proofs.Stages.Gate.Passing.{loads_gate}
 use Rattle.gc_worker.proofs.Stages.Flip.Resetting as resetting
 use Rattle.gc_worker.proofs.Stages.Flip.Flipping.{flips_gate}
-use Rattle.gc_worker.proofs.Plain.Emptied.{kept_if}
 use Rattle.gc_worker.proofs.Plain.Followed.{follows_empty}
 use Rattle.gc_worker.proofs.Plain.Represented.{kept_by}
 use Rattle.gc_worker.proofs.Saving.Keeping.{saving_kept}
+use Rattle.gc_worker.proofs.Words.TracedWord.{traced_goes}
 use Rattle.gc_worker.proofs.Workers.Members.{member}
 use Rattle.gc_worker.proofs.Stages.OpenedPage.{opens}
 use Rattle.gc_worker.proofs.Stages.Rounds.Whole.{serves}
@@ -130,8 +130,6 @@ module _ (c : Configuration) (p : Plain) (s : Stands c p) (k : ℕ) (x : Held) w
 -- same cycle, if what that one has kept of checkpoints is the same.
 pub record TracesHeap (h : Heap) (p o : Plain) (k : ℕ) (x : Held) (q : Step) (st : WorkersStand h p o) : Type 0 where
   pub settles : Settles (read h) p st.stands.ghost
-  pub before : ¬ (IsTraced h)
-  pub traced : IsTraced (moved h k x q)
   pub stands : (p' : Plain) → FollowsTargets (era (read h)) (memory (read h)) st.stands.ghost p p' → HasKept h.checkpoints p p' → WorkersStand (moved h k x q) p' o
 
 module _ (h : Heap) (p o : Plain) (k : ℕ) (x : Held) (q : Step) (st : WorkersStand h p o) (l : k < length h.workers) (holds : held_at h k ≡ x) where
@@ -259,24 +257,53 @@ module _ (h : Heap) (p o : Plain) (k : ℕ) (x : Held) (q : Step) (st : WorkersS
     same_epoch p' o' w e same g leads =
         epoch_after p' o' w ∙ ((subst (λ (f : Option Entry). LeavesConfiguration (read h) f k (knows y) p' st.stands.ghost g) (sym same) leads).epoch ∙ sym epoch_is)
 
-    next_epoch : (asked : ℕ) (p' o' : Plain) → FlipIsOwn (read h) x (Marks asked) → WorkersStand (moved h k x q) p' o' → (e : Option Entry) → steps.entry ≡ e → (g : Ghost) → LeavesToPlain (read h) p st.stands.ghost k e y g (Marks asked)
-        → FlipsOnce h.pages h.words (words_after q h.words) x asked
-    next_epoch asked p' o' own w (Some (GateIs gate)) same g leads =
+    -- ---- TRACED
+
+    -- it is what it was
+    abbrev Unwritten : Type 0
+    Unwritten = word_in h.pages (words_after q h.words) Traced ≡ word_in h.pages h.words Traced
+
+    -- so an epoch that stays is traced as it was
+    epoch_stays : Unwritten → epoch_of h.pages (words_after q h.words) ≡ epoch_of h.pages h.words → EpochStays h.pages h.words (words_after q h.words)
+    epoch_stays word same = record { epoch = same; traced = (λ is. omega (arith, same, is, word), λ is. omega (arith, same, is, word)) }
+
+    -- and the one that begins at a flip isn't
+    next_epoch : (asked : ℕ) (p' o' : Plain) → Unwritten → FlipIsOwn (read h) x (Marks asked) → WorkersStand (moved h k x q) p' o' → (e : Option Entry) → steps.entry ≡ e → (g : Ghost)
+        → LeavesToPlain (read h) p st.stands.ghost k e y g (Marks asked) → FlipsOnce h.pages h.words (words_after q h.words) x asked
+    next_epoch asked p' o' word own w (Some (GateIs gate)) same g leads =
         let ours : Flipped (read h) gate k (knows y) p g = leads in
         let cfg = ap (λ (f : Option Entry). (table (configuration_after (read h) f k (knows y))).gate.epoch) same in
+        let next = epoch_after p' o' w ∙ (cfg ∙ (ours.epoch ∙ ap (λ (e : ℕ). e + 1) own.1)) in
         record {
           asked_is = own.0;
           epoch = epoch_is ∙ own.1;
-          next = epoch_after p' o' w ∙ (cfg ∙ (ours.epoch ∙ ap (λ (e : ℕ). e + 1) own.1));
+          next = next;
+          untraced = λ is. let top = st.stands.invariant.tracing.top in let before = traced_word (read h) in let epoch = own.1 in omega (arith, is, word, top, before, epoch, next);
         }
-    next_epoch asked p' o' own w _ same g leads = absurd leads
+    next_epoch asked p' o' word own w _ same g leads = absurd leads
 
-    flips_by : (t : Told) → FlipIsOwn (read h) x t → WorkersStand (moved h k x q) (then t) (at_flip p o t) → LeavesToPlain (read h) p st.stands.ghost k steps.entry y steps.goes.ghost_after t
-        → FlipsWhereTold h.pages h.words (words_after q h.words) x t
-    flips_by Silent own w leads = same_epoch p o w steps.entry refl steps.goes.ghost_after leads
-    flips_by Empties own w leads = same_epoch (then Empties) o w steps.entry refl steps.goes.ghost_after (leads.leaves (then Empties) (empties steps.entry refl steps.goes.ghost_after leads))
-    flips_by (Answers task outcome) own w leads = same_epoch (then (Answers task outcome)) o w steps.entry refl steps.goes.ghost_after leads
-    flips_by (Marks asked) own w leads = next_epoch asked p p own w steps.entry refl steps.goes.ghost_after leads
+    -- where it is told
+    epoch_is_traced : WorkersStand (moved h k x q) (then Empties) o → TracesEpoch (read h) p st.stands.ghost k steps.entry y steps.goes.ghost_after
+        → EpochIsTraced h.pages h.words (words_after q h.words)
+    epoch_is_traced w leads =
+        let epoch = same_epoch (then Empties) o w steps.entry refl steps.goes.ghost_after (leads.leaves (then Empties) (empties steps.entry refl steps.goes.ghost_after leads)) in
+        let was = epoch_is in
+        let word = traced_word (read h) in
+        let untraced = leads.before in
+        let later_word = traced_word (read (moved h k x q)) in
+        let same = ap (λ (d : Configuration). (table d).traced) after in
+        let is_traced = leads.traced in
+        record { epoch = epoch; before = λ is. omega (arith, is, was, word, untraced); traced = omega (arith, epoch, later_word, same, is_traced, was) }
+
+    -- ---- the epoch
+
+    flips_by : (t : Told) → told x r ≡ t → (¬ (told x r ≡ Empties) → Unwritten) → FlipIsOwn (read h) x t → WorkersStand (moved h k x q) (then t) (at_flip p o t)
+        → LeavesToPlain (read h) p st.stands.ghost k steps.entry y steps.goes.ghost_after t → FlipsWhereTold h.pages h.words (words_after q h.words) x t
+    flips_by Silent tells stays own w leads = epoch_stays (stays (λ e. let f = sym tells ∙ e in cc)) (same_epoch p o w steps.entry refl steps.goes.ghost_after leads)
+    flips_by Empties tells stays own w leads = epoch_is_traced w leads
+    flips_by (Answers task outcome) tells stays own w leads =
+        epoch_stays (stays (λ e. let f = sym tells ∙ e in cc)) (same_epoch (then (Answers task outcome)) o w steps.entry refl steps.goes.ghost_after leads)
+    flips_by (Marks asked) tells stays own w leads = next_epoch asked p p (stays (λ e. let f = sym tells ∙ e in cc)) own w steps.entry refl steps.goes.ghost_after leads
 
     wins_by : (w : Option PageWon) → Wins (read h) steps.entry k y w → WinsOne h.pages h.words (words_after q h.words) w
     wins_by None wins = tt
@@ -288,8 +315,8 @@ module _ (h : Heap) (p o : Plain) (k : ℕ) (x : Held) (q : Step) (st : WorkersS
     standing : Saved (then (told x r)) → WorkersStand (moved h k x q) (then (told x r)) (at_flip p o (told x r))
     standing = stands_by (told x r) steps.entry refl steps.goes.ghost_after steps.goes.leads
 
-    keeps : Saved (then (told x r)) → StepKeeps h p o k x q
-    keeps saved = record {
+    keeps : (¬ (told x r ≡ Empties) → Unwritten) → Saved (then (told x r)) → StepKeeps h p o k x q
+    keeps stays saved = record {
       place = steps.place;
       takes = steps.goes.takes;
       fits = steps.goes.fits;
@@ -298,7 +325,7 @@ module _ (h : Heap) (p o : Plain) (k : ℕ) (x : Held) (q : Step) (st : WorkersS
       kept = λ w out. record { page = out.page; epoch = (let a = ages w.page in omega (arith, out.epoch, a)) };
       wins = wins_by (won x r) steps.goes.wins;
       full = steps.goes.full;
-      flips = flips_by (told x r) steps.goes.flip (standing saved) steps.goes.leads;
+      flips = flips_by (told x r) refl stays steps.goes.flip (standing saved) steps.goes.leads;
     }
 
     -- ---- where the epoch is traced
@@ -306,23 +333,19 @@ module _ (h : Heap) (p o : Plain) (k : ℕ) (x : Held) (q : Step) (st : WorkersS
     pub traces : TracesEpoch (read h) p st.stands.ghost k steps.entry y steps.goes.ghost_after → Saved p → TracesHeap h p o k x q st
     traces leads saved = record {
       settles = leads.settles;
-      before = λ is. let epoch = epoch_is in let word = traced_word (read h) in let untraced = leads.before in omega (arith, is, epoch, word, untraced);
-      traced =
-          let stands = traced steps.entry refl steps.goes.ghost_after leads (then Empties) (empties steps.entry refl steps.goes.ghost_after leads)
-          (kept_by (moved h k x q) p (then Empties) h.checkpoints saved (kept_if p (empty_cells (read (moved h k x q))) h.checkpoints)) in
-          let leaves = leads.leaves (then Empties) (empties steps.entry refl steps.goes.ghost_after leads) in
-          let epoch = same_epoch (then Empties) o stands steps.entry refl steps.goes.ghost_after leaves in
-          let word = traced_word (read (moved h k x q)) in
-          let same = ap (λ (d : Configuration). (table d).traced) after in
-          let is = leads.traced in
-          let now = epoch_is in
-          omega (arith, epoch, word, same, is, now);
       stands = λ p' follows kept. traced steps.entry refl steps.goes.ghost_after leads p' follows (kept_by (moved h k x q) p p' h.checkpoints saved kept);
     }
 
 module _ (h : Heap) (p o : Plain) (k : ℕ) (x : Held) (q : Step) (st : WorkersStand h p o) (l : k < length h.workers) (holds : held_at h k ≡ x) (asked : wanted x ≡ Some q) where
   goes : StepsInTable (read h) p st.stands k x q
   goes = kinds (read h) p st.stands k x (member h p o k x st l holds) q asked
+
+  -- no step but one that tells so writes TRACED
+  unwritten : ¬ (told x (reply_of q h.words) ≡ Empties) → word_in h.pages (words_after q h.words) Traced ≡ word_in h.pages h.words Traced
+  unwritten other = ⊎_elim
+      (λ (stays : word_in h.pages (words_after q h.words) Traced ≡ word_in h.pages h.words Traced). stays)
+      (λ (tells : told x (reply_of q h.words) ≡ Empties). absurd (other tells))
+      (traced_goes h.pages h.words (read h) k x q (member h p o k x st l holds) asked)
 
   -- a step that tells so
   pub traces_heap : told x (reply_of q h.words) ≡ Empties → TracesHeap h p o k x q st
@@ -332,4 +355,4 @@ module _ (h : Heap) (p o : Plain) (k : ℕ) (x : Held) (q : Step) (st : WorkersS
 
 pub steps_keep : StepsKeep
 steps_keep h p o k x q st l holds asked =
-    keeps h p o k x q st l holds (goes h p o k x q st l holds asked) (saving_kept (empty_cells (read (moved h k x q))) h p o k x q st l holds asked)
+    keeps h p o k x q st l holds (goes h p o k x q st l holds asked) (unwritten h p o k x q st l holds asked) (saving_kept (empty_cells (read (moved h k x q))) h p o k x q st l holds asked)

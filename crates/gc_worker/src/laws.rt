@@ -8,7 +8,7 @@ ghost use Rattle.gc_worker.specs.Progress.{MachinesGoOn};
 ghost use Rattle.gc_worker.specs.Workers.Begun.{BeginningsAreKept, FullIsFoundLater};
 ghost use Rattle.gc_worker.specs.Laws.Claims.{TracedPagesAreOpen, FlipsAreOfTraced, PagesAreOpenedByClaims, LowRisesAtFlips, CopiedPagesAreBelowLow};
 ghost use Rattle.gc_worker.specs.Laws.Copied.{CopiedWasLive, FullTellsLive};
-ghost use Rattle.gc_worker.specs.Laws.Cycles.{LowFallsByClaims, SizesStay, SizesAreWithin, SeenFlipsDouble, SizesHold, ClaimsAreSetAside, SetAsideIsForRecords, FlipsAreFirst, FlipsStayFirst, CallsGoOn};
+ghost use Rattle.gc_worker.specs.Laws.Cycles.{LowFallsByClaims, SizesStay, SizesAreWithin, SeenFlipsDouble, SizesHold, FlipsSetSizes, NextSizesBegin, NextSizesStay, ClaimsAreSetAside, SetAsideIsForRecords, FlipsAreFirst, FlipsStayFirst, CallsGoOn};
 ghost use Rattle.gc_worker.specs.Laws.FullTold.{FullIsTold, SizesReadAreSo, FullIsToldInHeaps};
 ghost use Rattle.gc_worker.specs.Laws.PastEpochs.{PastClaimsAreLost, PastTurnsAreLost, PastMarksAreLost, PagesAreWonNow};
 ghost use Rattle.gc_worker.specs.Workers.Counted.{CountedFit, CountsAreApart};
@@ -103,9 +103,10 @@ pub fn workers_want()
 {}
 
 /// A step from a heap that stands, after which the same machine is at work, leaves it less to do, by the machine's own count of what is
-/// left; or its exchange was lost; or it loaded the first word of a record whose header another worker keeps; or the worker waits for
-/// others: the gate doesn't let it in or run on yet, mutators run or are behind while it is to flip, or it is a scanner, whose round has ended.
-/// A mutator that looks at the gate and then looks again has no task, or one that the look has done.
+/// left; or its exchange was lost; or it loaded the first word of a record whose header another worker keeps, or SAVE of a page that another
+/// worker is saving; or a mutator's round is over, and its next one begins; or the worker waits for others: the gate doesn't let it in or run
+/// on yet, mutators run or are behind while it is to flip or to begin a checkpoint, or it is a scanner, whose round has ended. A mutator that
+/// looks at the gate and then looks again has no task, or one that the look has done.
 pub fn machines_go_on()
     ensures { MachinesGoOn }
 {}
@@ -195,6 +196,15 @@ pub fn sizes_stay()
     ensures within { SizesAreWithin }
     ensures double { SeenFlipsDouble }
     ensures hold { SizesHold }
+{}
+
+/// A flip sets in use as many pages of the next space as follow from those of the one before: twice as many, as far as there are so many, if
+/// its mutator has seen a flip since it began its instruction, or if more than half of their words were copied; else as many. So it is once
+/// the mutator has found this size, from when it has read all on; and all workers begin so, and stay so at each step.
+pub fn flips_set_sizes()
+    ensures set { FlipsSetSizes }
+    ensures begin { NextSizesBegin }
+    ensures stay { NextSizesStay }
 {}
 
 /// What an allocation claims is set aside for the record that its mutator's instruction makes, until the record stands.

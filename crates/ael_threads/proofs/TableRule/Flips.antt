@@ -62,7 +62,7 @@ module _ (n mutators m count : ℕ) (x : Held) (reply : Reply) (fits : Fits n mu
   flips_by Silent e h = h
   flips_by Empties e h = h
   flips_by (Answers task outcome) e h = h
-  flips_by (Marks asked) e h = record { asked_is = h.asked_is ∙ same_asked asked e; epoch = h.epoch; next = h.next }
+  flips_by (Marks asked) e h = record { asked_is = h.asked_is ∙ same_asked asked e; epoch = h.epoch; next = h.next; untraced = h.untraced }
 
 -- ---- an answer
 

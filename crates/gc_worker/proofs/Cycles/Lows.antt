@@ -403,9 +403,9 @@ module _ (h : Heap) (p o : Plain) (k : ℕ) (x : Held) (q : Step) (st : WorkersS
       ap (low_at h.pages later) space ∙ (stay ∙ (whole ∙ ap (λ (size : ℕ). PAGE_WORDS * size) (sym sized ∙ ap (λ (s : ℕ). word_in h.pages later (Size s)) (sym space))))
 
   by_told : (t : Told) → told x reply ≡ t → FlipsWhereTold h.pages h.words later x t → LowGoes h.pages h.words later (words_claimed x reply) t
-  by_told Silent e flips = same_epoch flips
-  by_told Empties e flips = same_epoch flips
-  by_told (Answers task outcome) e flips = same_epoch flips
+  by_told Silent e flips = same_epoch flips.epoch
+  by_told Empties e flips = same_epoch flips.epoch
+  by_told (Answers task outcome) e flips = same_epoch flips.epoch
   by_told (Marks pages) e flips =
       let f = flips_at x reply pages x.stage e in
       let wants : flip.wanted f.0 ≡ Some q = sym (ap (wanted_at x) f.1) ∙ asked in

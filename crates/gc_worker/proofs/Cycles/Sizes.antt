@@ -39,7 +39,8 @@ use Rattle.page_scan.specs.Scanning as scan
 use Rattle.page_scan.proofs.RowsFit as scan_rows
 use Rattle.page_slots.specs.Open as open_page
 use Rattle.page_slots.proofs.RowsFit.{opening_writes}
-use Rattle.heap_state.specs.Configuration.{Configuration, era}
+use Rattle.heap_state.specs.Configuration.{Configuration, era, memory}
+use Rattle.heap_state.specs.Invariant.Parts.Knowledge.{Resets}
 use Rattle.heap_state.specs.Memory.Era.{from_space}
 use Rattle.heap_state.specs.Memory.Table.{word_in}
 use Rattle.heap_state.specs.Worker.{Reset, Worker}
@@ -185,25 +186,33 @@ module _ (h : Heap) (p o : Plain) (k : ℕ) (x : Held) (st : WorkersStand h p o)
 
   -- ---- a flip
 
-  -- the size of the other space follows from this one's by the rule, whatever was copied
+  -- the size that a flip has found follows from this space's by the rule, whatever was copied
   abbrev FollowsFrom : (f : Flipping) (size next : ℕ) → Type 0
   FollowsFrom f size next = (copied : ℕ) × (next ≡ next_size n f.seen size copied)
 
   module _ (f : Flipping) (r : resets.Reset) (is : Is c k (at_stage x (Flips (record f { stage = flip_stage.Exchanges r })))) where
-    pub other_follows : FollowsFrom f (size_now c (to_space (era c).epoch)) (size_now c (from_space (era c).epoch))
-    other_follows =
-        let found : Reset = record { read = r.gate; size = Some r.size; grown = Some r.next; used = Some r.used; sized = true; stored = true; cleared = true } in
-        let reset = (st.stands.invariant.workers k is.below).reset found (ap (λ (w : Worker). w.reset) is.as_known) in
+    abbrev found : Reset
+    found = record { read = r.gate; size = Some r.size; grown = Some r.next; used = Some r.used; sized = true; stored = true; cleared = true }
+
+    reset : Resets (era c) (memory c).gate (memory c).front (memory c).low (memory c).old_front (memory c).old_low (memory c).old_owed found
+    reset = (st.stands.invariant.workers k is.below).reset found (ap (λ (w : Worker). w.reset) is.as_known)
+
+    -- the other space has it
+    pub other_is_next : size_now c (from_space (era c).epoch) ≡ r.next
+    other_is_next =
         let sized = reset.sized refl in
-        let size = reset.size r.size refl in
         let next : r.next ≡ sized.0 = some_same sized.1 in
-        let span = span_is c in
         let old_span = old_span_is c in
+        omega (arith, old_span, sized.2, next)
+
+    pub next_follows : FollowsFrom f (size_now c (to_space (era c).epoch)) r.next
+    next_follows =
+        let size = reset.size r.size refl in
+        let span = span_is c in
         let fits = is.fits.stage.sound.stage in
         let pages : f.layout.pages ≡ n = ap (λ l. l.pages) is.fits.stage.layout ∙ is.fits.pages in
         let here : size_now c (to_space (era c).epoch) ≡ r.size = omega (arith, span, size) in
-        let there : size_now c (from_space (era c).epoch) ≡ r.next = omega (arith, old_span, sized.2, next) in
-        (fits.copied, rw (here, there, ← pages) fits.next)
+        (fits.copied, rw (here, ← pages) fits.next)
 
 -- ---- by what is told
 
@@ -228,7 +237,8 @@ module _ (h : Heap) (p o : Plain) (k : ℕ) (x : Held) (q : Step) (st : WorkersS
   Follows = (copied : ℕ) × (size_of h.pages later ≡ next_size h.pages (has_seen_flip x) (size_of h.pages h.words) copied)
 
   -- the gate's word is written, and no size
-  at_exchange : (f : Flipping) (r : resets.Reset) → x.stage ≡ Flips f → f.stage ≡ flip_stage.Exchanges r → epoch_of h.pages h.words ≡ x.epoch → epoch_of h.pages later ≡ x.epoch + 1 → Follows
+  at_exchange : (f : Flipping) (r : resets.Reset) → x.stage ≡ Flips f → f.stage ≡ flip_stage.Exchanges r → epoch_of h.pages h.words ≡ x.epoch → epoch_of h.pages later ≡ x.epoch + 1
+      → (size_of h.pages later ≡ r.next) × Follows
   at_exchange f r staged flips was next =
       let own : x ≡ at_stage x (Flips (record f { stage = flip_stage.Exchanges r })) = ap (at_stage x) (staged ∙ ap (λ (s : FlipStage). Flips (record f { stage = s })) flips) in
       let is = subst (Is (read h) k) own there in
@@ -236,29 +246,32 @@ module _ (h : Heap) (p o : Plain) (k : ℕ) (x : Held) (q : Step) (st : WorkersS
       let now : e ≡ epoch_of h.pages h.words = of_now h p o k x st in
       let space : to_space (epoch_of h.pages later) ≡ from_space e = ap to_space (next ∙ ap (λ (e : ℕ). e + 1) (sym was ∙ sym now)) in
       let sized = size_beside h.pages h.words (from_space e) (is_space (e + 1)) f.layout.pages (flip.wants_at f (flip_stage.Exchanges r)) q tt (sym (ap wanted own) ∙ asked) in
-      let follows = other_follows h p o k x st f r is in
       let is_now : size_of h.pages h.words ≡ size_now (read h) (to_space e) = ap (λ (e : ℕ). size_now (read h) (to_space e)) (sym now) in
-      let is_later : size_of h.pages later ≡ size_now (read h) (from_space e) = ap (λ (s : ℕ). word_in h.pages later (Size s)) space ∙ sized in
+      let is_next = ap (λ (s : ℕ). word_in h.pages later (Size s)) space ∙ (sized ∙ other_is_next h p o k x st f r is) in
+      let follows = next_follows h p o k x st f r is in
       let seen = ap (λ (b : Bool). next_size h.pages b (size_now (read h) (to_space e)) follows.0) is.fits.stage.seen in
       let from = ap (λ (size : ℕ). next_size h.pages (has_seen_flip x) size follows.0) (sym is_now) in
-      (follows.0, is_later ∙ (follows.1 ∙ (seen ∙ from)))
+      (is_next, (follows.0, is_next ∙ (follows.1 ∙ (seen ∙ from))))
 
-  pub at_flip : (pages : ℕ) → told x reply ≡ Marks pages → FlipsOnce h.pages h.words later x pages → Follows
+  -- the exchange of a flip, after which as many pages are in use as it has found
+  at_flip : (pages : ℕ) → told x reply ≡ Marks pages → FlipsOnce h.pages h.words later x pages
+      → (f : Flipping) × (r : resets.Reset) × (x.stage ≡ Flips f) × (f.stage ≡ flip_stage.Exchanges r) × (size_of h.pages later ≡ r.next) × Follows
   at_flip pages e flips =
       let f = flips_at x reply pages x.stage e in
       let wants : flip.wanted f.0 ≡ Some q = sym (ap (wanted_at x) f.1) ∙ asked in
       let tells : told_flip (flip.told (flip.taken f.0 reply)) ≡ Marks pages = sym (ap (λ (s : Stage). told_at x s reply) f.1) ∙ e in
       let r = exchanges_at f.0 f.0.stage q reply pages wants tells in
-      at_exchange f.0 r.0 f.1 r.1 flips.epoch flips.next
+      let sets = at_exchange f.0 r.0 f.1 r.1 flips.epoch flips.next in
+      (f.0, r.0, f.1, r.1, sets.0, sets.1)
 
   grows : Follows → Grows h.pages (size_of h.pages h.words) (size_of h.pages later)
   grows follows = subst (Grows h.pages (size_of h.pages h.words)) (sym follows.1) (next_grows h.pages (has_seen_flip x) (size_of h.pages h.words) follows.0)
 
   by_told : (t : Told) → told x reply ≡ t → FlipsWhereTold h.pages h.words later x t → SizeGoes h.pages h.words later t
-  by_told Silent e flips = same_epoch flips
-  by_told Empties e flips = same_epoch flips
-  by_told (Answers task outcome) e flips = same_epoch flips
-  by_told (Marks pages) e flips = grows (at_flip pages e flips)
+  by_told Silent e flips = same_epoch flips.epoch
+  by_told Empties e flips = same_epoch flips.epoch
+  by_told (Answers task outcome) e flips = same_epoch flips.epoch
+  by_told (Marks pages) e flips = grows (at_flip pages e flips).5
 
   flips_told : FlipsWhereTold h.pages h.words later x (told x reply)
   flips_told = (steps_keep h p o k x q st l holds asked).flips
@@ -266,10 +279,12 @@ module _ (h : Heap) (p o : Plain) (k : ℕ) (x : Held) (q : Step) (st : WorkersS
   pub size_goes : SizeGoes h.pages h.words later (told x reply)
   size_goes = by_told (told x reply) refl flips_told
 
+  pub flip_sets : (pages : ℕ) → told x reply ≡ Marks pages
+      → (f : Flipping) × (r : resets.Reset) × (x.stage ≡ Flips f) × (f.stage ≡ flip_stage.Exchanges r) × (size_of h.pages later ≡ r.next) × Follows
+  flip_sets pages e = at_flip pages e (subst (FlipsWhereTold h.pages h.words later x) e flips_told)
+
   pub doubles : (pages : ℕ) → told x reply ≡ Marks pages → has_seen_flip x ≡ true → size_of h.pages later ≡ min h.pages (2 * size_of h.pages h.words)
-  doubles pages e seen =
-      let follows = at_flip pages e (subst (FlipsWhereTold h.pages h.words later x) e flips_told) in
-      follows.1 ∙ ap (λ (b : Bool). next_size h.pages b (size_of h.pages h.words) follows.0) seen
+  doubles pages e seen = let follows = (flip_sets pages e).5 in follows.1 ∙ ap (λ (b : Bool). next_size h.pages b (size_of h.pages h.words) follows.0) seen
 
 pub sizes_stay : SizesStay
 sizes_stay h p o k x q st l holds asked = size_goes h p o k x q st l holds asked

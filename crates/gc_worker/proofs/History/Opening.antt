@@ -1,5 +1,5 @@
 -- What is counted at the opening.
-use Rattle.std.proofs.Common.{◌≡◌, ℕ, ◌+◌, ◌*◌, ◌<◌, ◌≤◌, Bool, true, false, cond, nat_lt, [], length, refl, sym, ap, subst, ◌∙◌, arith}
+use Rattle.std.proofs.Common.{◌≡◌, ℕ, ◌+◌, ◌*◌, ◌<◌, ◌≤◌, Bool, true, false, cond, nat_lt, [], length, zero, suc, refl, sym, ap, subst, ◌∙◌, arith}
 use Rattle.plain_state.specs.declared.sizes.TheConstants.{PAGE_WORDS}
 use Rattle.plain_state.specs.State.{Plain}
 use Rattle.space_map.specs.Spaces.{Layout, IsPageCount, to_space}
@@ -10,7 +10,7 @@ use Rattle.space_map.specs.Table.{Size}
 use Rattle.heap_state.specs.Memory.Table.{Table, table_of, word_in}
 use Rattle.heap_laws.specs.Opening.{opening_entries, opening_plain}
 use Rattle.gc_worker.specs.Laws.Between.{fresh_mutator, fresh_scanner, fresh_worker, opening_heap}
-use Rattle.gc_worker.specs.Laws.Cycles.{IsFirst, low_at, low_of, low_said, size_of}
+use Rattle.gc_worker.specs.Laws.Cycles.{IsFirst, low_at, low_of, low_said, size_at, size_of}
 use Rattle.gc_worker.specs.Workers.Held.{Held}
 use Rattle.gc_worker.specs.Laws.Step.{Heap, WorkersStand, epoch_of, held_at, read}
 use Rattle.gc_worker.specs.Steps.Turned.{epoch_in_gate}
@@ -23,9 +23,11 @@ whole_at_first : (n least : ℕ) → ((table_with n (opening_entries n least)).a
 unfolding put
 whole_at_first n least = refl
 
-size_at_first : (n least : ℕ) → (table_with n (opening_entries n least)).in_use 0 ≡ least
+size_at_first : (n least space : ℕ) → space < 2 → (table_with n (opening_entries n least)).in_use space ≡ least
 unfolding put
-size_at_first n least = refl
+size_at_first n least zero small = refl
+size_at_first n least (suc zero) small = refl
+size_at_first n least (suc (suc space)) small = absurd (omega (arith, small))
 
 in_use_now : (h : Heap) (space : ℕ) → (table (read h)).in_use space ≡ word_in h.pages h.words (Size space)
 unfolding table_of
@@ -47,10 +49,12 @@ module _ (prints : Bool) (s : Layout) (least mutators scanners : ℕ) (size : Is
   epoch : epoch_of n h.words ≡ 0
   epoch = ap (epoch_in_gate 0) (gate_says (read h) (opening_plain mutators) stands.stands) ∙ ap (λ (t : Table). t.gate.epoch) says
 
+  -- in each space
+  pub in_use_at : (space : ℕ) → space < 2 → size_at n h.words space ≡ least
+  in_use_at space small = sym (in_use_now h space) ∙ (ap (λ (t : Table). t.in_use space) says ∙ size_at_first n least space small)
+
   pub in_use : size_of n h.words ≡ least
-  in_use =
-      ap (λ (e : ℕ). word_in n h.words (Size (to_space e))) epoch
-      ∙ (sym (in_use_now h 0) ∙ (ap (λ (t : Table). t.in_use 0) says ∙ size_at_first n least))
+  in_use = in_use_at (to_space (epoch_of n h.words)) (is_space (epoch_of n h.words))
 
   pub low : low_of n h.words ≡ PAGE_WORDS * least
   low =

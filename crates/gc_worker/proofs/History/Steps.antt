@@ -190,9 +190,9 @@ module _ (h : Heap) (k : ℕ) (y : Held) (q : Step) (below : k < length h.worker
   -- ---- flips
 
   epoch_after : (u : Told) → FlipsWhereTold n h.words words' y u → epoch_of n words' ≡ (then_by u).flips
-  epoch_after Silent f = f ∙ c.epoch
-  epoch_after Empties f = f ∙ c.epoch
-  epoch_after (Answers task outcome) f = f ∙ c.epoch
+  epoch_after Silent f = f.epoch ∙ c.epoch
+  epoch_after Empties f = f.epoch ∙ c.epoch
+  epoch_after (Answers task outcome) f = f.epoch ∙ c.epoch
   epoch_after (Marks asked) f = let is = f.epoch in let next = f.next in let was = c.epoch in omega (arith, is, next, was)
 
   -- a mutator that looks is of the gate's epoch

@@ -1,17 +1,15 @@
 -- What the collector has copied, once an epoch is traced, and what a mutator that finds the heap full says of it.
-use Rattle.std.specs.Prelude.{◌≡◌, ℕ, ◌+◌}
+use Rattle.std.specs.Prelude.{ℕ}
 use Rattle.plain_state.specs.Reachable.{IsLive}
 use Rattle.plain_state.specs.State.{Plain}
-use Rattle.space_map.specs.Table.{Traced}
 use Rattle.heap_state.specs.Cycles.Copies.{CopiedIsLive}
-use Rattle.heap_state.specs.Memory.Table.{word_in}
 use Rattle.gc_worker.specs.Plain.Full.{FindsNoRoom}
 use Rattle.gc_worker.specs.Workers.Held.{Held}
-use Rattle.gc_worker.specs.Laws.Step.{Heap, read, WorkersStand, epoch_of}
+use Rattle.gc_worker.specs.Laws.Step.{Heap, IsTracedIn, read, WorkersStand}
 
 -- the gate's epoch is traced
 abbrev pub IsTraced : Heap → Type 0
-IsTraced h = word_in h.pages h.words Traced ≡ epoch_of h.pages h.words + 1
+IsTraced h = IsTracedIn h.pages h.words
 
 -- what was copied in it is what was live at its flip, of which o is the plain state
 abbrev pub CopiedWasLive : Type 0

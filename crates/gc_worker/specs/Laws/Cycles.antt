@@ -11,13 +11,17 @@ use Rattle.atom_store.specs.Step.{words_after, reply_of}
 use Rattle.space_map.specs.declared.area_word.AreaWord.{AreaWord}
 use Rattle.space_map.specs.declared.spaces.TheConstants.{FEWEST_PAGES, PAGE_WORDS}
 use Rattle.space_map.specs.AreaWord.{decode_area}
-use Rattle.space_map.specs.Spaces.{to_space}
+use Rattle.space_map.specs.Spaces.{Layout, to_space}
 use Rattle.space_map.specs.Table.{Area, Size}
 use Rattle.alloc_end.specs.declared.place_stage.PlaceStage.{PlaceStage}
 use Rattle.alloc_end.specs.declared.place_stage.PlaceStage.TheVariants.{ExchangesArea, StoresZero, StoresNew, OpensPage, StoresCount, StoresTarget, StoresLink, StoresHeader}
 use Rattle.alloc_end.specs.Place.{Placing, words_for}
+use Rattle.gate_core.specs.declared.flip_stage.FlipStage.{FlipStage}
+use Rattle.gate_core.specs.declared.flip_stage.FlipStage.TheVariants.{StoresSize, StoresArea, ResetsWeak, Exchanges}
 use Rattle.gate_core.specs.declared.passage.Passage.{Passage}
 use Rattle.gate_core.specs.declared.passage.Passage.TheVariants.{Look, Attach, Park, Request, Resume, Forwarded, Leave, Clear}
+use Rattle.gate_core.specs.declared.reset.Reset.{Reset}
+use Rattle.gate_core.specs.Flip.{next_size}
 use Rattle.heap_state.specs.Memory.Table.{word_in}
 use Rattle.gc_worker.specs.declared.stage.after.After.{After}
 use Rattle.gc_worker.specs.declared.stage.after.After.TheVariants as afters
@@ -30,7 +34,7 @@ use Rattle.gc_worker.specs.declared.stage.Stage.{Stage}
 use Rattle.gc_worker.specs.declared.stage.Stage.TheVariants.{Looks, Passes, Flips, Forwards, Accesses, Places, Serves, Scans, Evacuates, Opens, Recalls, Guards, Checkpoints, BeginsCheckpoint, Gone}
 use Rattle.gc_worker.specs.declared.task.Task.TheVariants.{Calls}
 use Rattle.gc_worker.specs.Workers.Begun.{IsPastAfter, IsPastBack, IsPastGoal}
-use Rattle.gc_worker.specs.Laws.Between.{IsNoAnswer}
+use Rattle.gc_worker.specs.Laws.Between.{IsNoAnswer, opening_heap}
 use Rattle.gc_worker.specs.Workers.Fits.{Fits}
 use Rattle.gc_worker.specs.Workers.Held.{Held, has_seen_flip, may_snap, pages_needed}
 use Rattle.gc_worker.specs.Laws.Step.{Heap, WorkersStand, held_at, epoch_of, moved}
@@ -153,6 +157,55 @@ SizesAreWithin = (h : Heap) (p o : Plain) → WorkersStand h p o → (FEWEST_PAG
 abbrev pub SeenFlipsDouble : Type 0
 SeenFlipsDouble = (h : Heap) (p o : Plain) (k : ℕ) (x : Held) (q : Step) (asked : ℕ) → WorkersStand h p o → k < length h.workers → held_at h k ≡ x → wanted x ≡ Some q
     → told x (reply_of q h.words) ≡ Marks asked → has_seen_flip x ≡ true → size_of h.pages (words_after q h.words) ≡ min h.pages (2 * size_of h.pages h.words)
+
+abbrev pub front_said : Option AreaWord → ℕ
+front_said (Some area) = area.front
+front_said None = 0
+
+-- FRONT of the space of the gate's epoch, counted from its first word: so many words were copied into it
+abbrev pub front_of : (n : ℕ) → List ℕ → ℕ
+front_of n words = front_said (decode_area (word_in n words (Area (to_space (epoch_of n words)))))
+
+-- The pages of the other space that are in use once this mutator has flipped: twice as many as of this one, as far as there are so many, if
+-- it has seen a flip since it began its instruction or more than half of this one's words were copied; else as many.
+abbrev pub size_next : (n : ℕ) → List ℕ → Held → ℕ
+size_next n words x = next_size n (has_seen_flip x) (size_of n words) (front_of n words)
+
+-- what a flip goes by, once it has read all
+abbrev pub reset_of : FlipStage → Option Reset
+reset_of (StoresSize r) = Some r
+reset_of (StoresArea r) = Some r
+reset_of (ResetsWeak r) = Some r
+reset_of (Exchanges r) = Some r
+reset_of stage = None
+
+abbrev pub HasFound : (next : ℕ) → Option Reset → Type 0
+HasFound next None = ⊤
+HasFound next (Some r) = r.next ≡ next
+
+abbrev pub HasFoundAt : (next : ℕ) → Stage → Type 0
+HasFoundAt next (Flips f) = HasFound next (reset_of f.stage)
+HasFoundAt next stage = ⊤
+
+-- a flipper that has read all has found that size
+abbrev pub HasNextSize : (n : ℕ) → List ℕ → Held → Type 0
+HasNextSize n words x = HasFoundAt (size_next n words x) x.stage
+
+abbrev pub HaveNextSizes : Heap → Type 0
+HaveNextSizes h = (k : ℕ) → k < length h.workers → HasNextSize h.pages h.words (held_at h k)
+
+-- it is so of all workers at the opening, and each step of a worker keeps it
+abbrev pub NextSizesBegin : Type 0
+NextSizesBegin = (prints : Bool) (layout : Layout) (least mutators scanners : ℕ) → HaveNextSizes (opening_heap prints layout least mutators scanners)
+
+abbrev pub NextSizesStay : Type 0
+NextSizesStay = (h : Heap) (p o : Plain) (k : ℕ) (x : Held) (q : Step) → WorkersStand h p o → k < length h.workers → held_at h k ≡ x → wanted x ≡ Some q
+    → HaveNextSizes h → HaveNextSizes (moved h k x q)
+
+-- and so a flip sets it: the size of the space that is flipped into follows from that of the one before and from FRONT
+abbrev pub FlipsSetSizes : Type 0
+FlipsSetSizes = (h : Heap) (p o : Plain) (k : ℕ) (x : Held) (q : Step) (asked : ℕ) → WorkersStand h p o → k < length h.workers → held_at h k ≡ x → wanted x ≡ Some q
+    → HasNextSize h.pages h.words x → told x (reply_of q h.words) ≡ Marks asked → size_of h.pages (words_after q h.words) ≡ size_next h.pages h.words x
 
 -- the pages in use of a space
 abbrev pub size_at : (n : ℕ) → List ℕ → (space : ℕ) → ℕ

@@ -1,10 +1,10 @@
 -- The law of a step, over the words, what all workers hold, and the plain state: in these alone a caller that steps one worker speaks.
-use Rattle.std.specs.Prelude.{◌≡◌, ℕ, ◌+◌, ◌*◌, ◌<◌, ◌≤◌, ⊤, Bool, true, false, List, [], length, map, Option, Some, None, slice_index_or, slice_set}
+use Rattle.std.specs.Prelude.{◌≡◌, ℕ, ◌+◌, ◌*◌, ◌<◌, ◌≤◌, ◌↔◌, ⊤, Bool, true, false, List, [], length, map, Option, Some, None, slice_index_or, slice_set}
 use Rattle.plain_state.specs.State.{Plain}
 use Rattle.atom_store.specs.declared.step.Step.{Step}
 use Rattle.atom_store.specs.Step.{place_in, words_after, reply_of}
 use Rattle.space_map.specs.PageWord.{age_of}
-use Rattle.space_map.specs.Table.{Gate, Page, whole_length}
+use Rattle.space_map.specs.Table.{Gate, Page, Traced, whole_length}
 use Rattle.atom_store.specs.declared.reply.Reply.TheVariants.{Won}
 use Rattle.gate_core.specs.declared.flip_stage.FlipStage.TheVariants.{Exchanges}
 use Rattle.gate_core.specs.declared.reset.Reset.{Reset}
@@ -118,6 +118,10 @@ at_flip p o (Marks asked) = p
 abbrev pub epoch_of : ℕ → List ℕ → ℕ
 epoch_of n words = epoch_said 0 (word_in n words Gate)
 
+-- the words say that the gate's epoch is traced
+abbrev pub IsTracedIn : ℕ → List ℕ → Type 0
+IsTracedIn n words = word_in n words Traced ≡ epoch_of n words + 1
+
 -- the epoch that a page's word says, and one more, or 0
 abbrev pub age : ℕ → List ℕ → (page : ℕ) → ℕ
 age n words page = age_of (page_word_in (word_in n words (Page page)))
@@ -131,23 +135,37 @@ abbrev pub WinsOne : ℕ → List ℕ → List ℕ → Option PageWon → Type 0
 WinsOne n words later None = ⊤
 WinsOne n words later (Some w) = ¬ (IsOut n words w) × IsOut n later w
 
--- A flip is for the pages that the flipper's task asks for, and is the gate's step into the next epoch.
+-- The epoch stays, and it is traced after the step if and only if it was before.
+pub record EpochStays (n : ℕ) (words later : List ℕ) : Type 0 where
+  pub epoch : epoch_of n later ≡ epoch_of n words
+  pub traced : IsTracedIn n later ↔ IsTracedIn n words
+
+-- The epoch stays. It wasn't traced before the step, and is after it.
+pub record EpochIsTraced (n : ℕ) (words later : List ℕ) : Type 0 where
+  pub epoch : epoch_of n later ≡ epoch_of n words
+  pub before : ¬ (IsTracedIn n words)
+  pub traced : IsTracedIn n later
+
+-- A flip is for the pages that the flipper's task asks for, and is the gate's step into the next epoch, which isn't traced.
 pub record FlipsOnce (n : ℕ) (words later : List ℕ) (x : Held) (asked : ℕ) : Type 0 where
   pub asked_is : asked ≡ pages_needed x
   pub epoch : epoch_of n words ≡ x.epoch
   pub next : epoch_of n later ≡ x.epoch + 1
+  pub untraced : ¬ (IsTracedIn n later)
 
+-- an epoch begins where a flip is told, is traced from where that is told on, and else stays as it is
 abbrev pub FlipsWhereTold : (n : ℕ) → (words later : List ℕ) → Held → Told → Type 0
-FlipsWhereTold n words later x Silent = epoch_of n later ≡ epoch_of n words
-FlipsWhereTold n words later x Empties = epoch_of n later ≡ epoch_of n words
-FlipsWhereTold n words later x (Answers task outcome) = epoch_of n later ≡ epoch_of n words
+FlipsWhereTold n words later x Silent = EpochStays n words later
+FlipsWhereTold n words later x Empties = EpochIsTraced n words later
+FlipsWhereTold n words later x (Answers task outcome) = EpochStays n words later
 FlipsWhereTold n words later x (Marks asked) = FlipsOnce n words later x asked
 
 -- The step is of a word of the table, and the worker may take the reply, after which it is sound. Where it answers the task, the plain
 -- machine's mutator may come to that, and the heap stands for the plain state after it; where it tells that the epoch is traced, for that in
 -- which the cells are empty whose targets are the number 0; else for the same plain state. What a cycle keeps it keeps, and a cycle begins
 -- at a flip. What is out stays out, and a page that is won was not out before and is out after. Where the
--- heap is said to be full, it is; a flip, and nothing else, raises the epoch by one.
+-- heap is said to be full, it is; a flip, and nothing else, raises the epoch by one. An epoch becomes traced at the step that tells so, and
+-- at no other, and stays so until a flip.
 pub record StepKeeps (h : Heap) (p o : Plain) (k : ℕ) (x : Held) (q : Step) : Type 0 where
   pub place : place_in q < length h.words
   pub takes : Takes x (reply_of q h.words)

@@ -27,9 +27,9 @@ use Rattle.gc_worker.proofs.Between.Pages.Leaving.{ByClaim, Same, New, Wins, Lea
 
 -- a step keeps the epoch, or raises it by one
 epoch_goes : (n : ℕ) (words later : List ℕ) (x : Held) (t : Told) → FlipsWhereTold n words later x t → (epoch_of n later ≡ epoch_of n words) ⊎ (epoch_of n later ≡ epoch_of n words + 1)
-epoch_goes n words later x Silent is = inl is
-epoch_goes n words later x Empties is = inl is
-epoch_goes n words later x (Answers task outcome) is = inl is
+epoch_goes n words later x Silent is = inl is.epoch
+epoch_goes n words later x Empties is = inl is.epoch
+epoch_goes n words later x (Answers task outcome) is = inl is.epoch
 epoch_goes n words later x (Marks asked) is = inr (let a = is.epoch in let b = is.next in omega (arith, a, b))
 
 module _ (h : Heap) (p o : Plain) (k : ℕ) (x : Held) (q : Step) (st : WorkersStand h p o) (l : k < length h.workers) (holds : held_at h k ≡ x) (asked : wanted x ≡ Some q) where
