@@ -13,7 +13,7 @@ use Rattle.heap_state.specs.Cycles.Copies.{CopiedIsLive}
 use Rattle.gc_worker.specs.Laws.Copied.{IsTraced}
 use Rattle.gc_worker.specs.Laws.Lost.{AreEmptyIfLost}
 use Rattle.gc_worker.specs.Laws.Claims.{epoch_of_heap}
-use Rattle.gc_worker.specs.Laws.Cycles.{Grows, words_claimed}
+use Rattle.gc_worker.specs.Laws.Cycles.{size_at, size_next, words_claimed}
 use Rattle.gc_worker.specs.Laws.Step.{read}
 use Rattle.gc_worker.specs.Steps.Wanted.{wanted}
 use Rattle.gc_worker.specs.declared.config.Config.{Config}
@@ -58,25 +58,31 @@ CyclesEmptyLostCells = InEveryRun (λ code config schedule n. AreEmptyIfLost (ru
 
 -- ---- the pages in use
 
--- an event that is told as a flip leaves as many, or twice as many as far as the space has them; any other leaves as many
-abbrev pub SizeIsAfter : (limit size next : ℕ) → Stepped → Type 0
-SizeIsAfter limit size next Idle = next ≡ size
-SizeIsAfter limit size next Moved = next ≡ size
-SizeIsAfter limit size next Traced = next ≡ size
-SizeIsAfter limit size next (Effect m) = next ≡ size
-SizeIsAfter limit size next (Ended m why) = next ≡ size
-SizeIsAfter limit size next (Flipped asked) = Grows limit size next
+-- An event of worker w that is told as a flip leaves twice as many, as far as the space has them, if the worker has seen a flip since it began
+-- its instruction, or if more than half of the words of the pages in use were copied; else it leaves as many, as any other event does.
+abbrev pub SizeIsAfter : CoreState → ℕ → (next : ℕ) → Stepped → Type 0
+SizeIsAfter s w next Idle = next ≡ size_in s
+SizeIsAfter s w next Moved = next ≡ size_in s
+SizeIsAfter s w next Traced = next ≡ size_in s
+SizeIsAfter s w next (Effect m) = next ≡ size_in s
+SizeIsAfter s w next (Ended m why) = next ≡ size_in s
+SizeIsAfter s w next (Flipped asked) = next ≡ size_next s.heap.pages s.heap.words (ready s w)
 
 abbrev pub SizesGrowAtFlips : Type 0
-SizesGrowAtFlips = (s : CoreState) (w : ℕ) → IsLawful s → SizeIsAfter s.heap.pages (size_in s) (size_in (core_after s w)) (event_of s w).told
+SizesGrowAtFlips = (s : CoreState) (w : ℕ) → IsLawful s → SizeIsAfter s w (size_in (core_after s w)) (event_of s w).told
 
 -- so they never become fewer
 abbrev pub SizesNeverFall : Type 0
 SizesNeverFall = (s : CoreState) (w : ℕ) → IsLawful s → size_in s ≤ size_in (core_after s w)
 
--- in a run there are those in use at first, and no more than the space may have
+-- so many pages of each space are in use, the one that isn't copied into too
+abbrev pub HasSizesWithin : (least limit : ℕ) → CoreState → Type 0
+HasSizesWithin least limit s = (space : ℕ) → space < 2 → (least ≤ size_at s.heap.pages s.heap.words space) × (size_at s.heap.pages s.heap.words space ≤ limit)
+
+-- in a run there are those in use at first, and no more than a space may have
 abbrev pub SizesAreBetween : Type 0
-SizesAreBetween = InEveryRun (λ code config schedule n. (config.pages ≤ size_in (run_of code config schedule n).last) × (size_in (run_of code config schedule n).last ≤ config.limit))
+SizesAreBetween = InEveryRun (λ code config schedule n. (config.pages ≤ size_in (run_of code config schedule n).last) × (size_in (run_of code config schedule n).last ≤ config.limit)
+    × HasSizesWithin config.pages config.limit (run_of code config schedule n).last)
 
 -- ---- the words claimed for records
 

@@ -1,5 +1,5 @@
 -- The law of an event: it does to the plain state what the mark of it does, and what is told of it is what the plain machine has.
-use Rattle.std.specs.Prelude.{◌≡◌, ◌≢◌, ⊤, ℕ, ◌+◌, ◌<◌, ◌≤◌, length, Some, None, IsTrue}
+use Rattle.std.specs.Prelude.{◌≡◌, ◌≢◌, ◌↔◌, ⊤, ℕ, ◌+◌, ◌<◌, ◌≤◌, length, Some, None, IsTrue}
 use Rattle.std.specs.List.{list_all}
 use Rattle.std.specs.Option.{option_to_list}
 use Rattle.plain_state.specs.declared.end.End.{End}
@@ -18,6 +18,8 @@ use Rattle.gc_worker.specs.Plain.Empty.{empty_cells}
 use Rattle.gc_worker.specs.Plain.Full.{FindsNoRoom}
 use Rattle.gc_worker.specs.Workers.Held as held
 use Rattle.gc_worker.specs.Laws.Claims.{epoch_of_heap}
+use Rattle.gc_worker.specs.Laws.Copied.{IsTraced}
+use Rattle.gc_worker.specs.Laws.Cycles.{HaveNextSizes}
 use Rattle.gc_worker.specs.Laws.Gone.{ScannersAreLast}
 use Rattle.gc_worker.specs.Laws.Represented.{HasKept}
 use Rattle.gc_worker.specs.Laws.Stories.{StoryStands}
@@ -36,14 +38,15 @@ pub record IsOnTask (s : CoreState) (m : ℕ) : Type 0 where
   pub within : (held_at s.heap m).account.executed ≤ s.turns
   pub task : (t : Task) → (held_at s.heap m).task ≡ Some t → t ≡ fetched_task s.code s.turns m (held_at s.heap m)
 
--- There is a mutator for each section of valid code, and each is on its task; once a scanner is gone, all mutators are. The words are just
--- those of the heap's layout.
+-- There is a mutator for each section of valid code, and each is on its task; once a scanner is gone, all mutators are. A flipper that has
+-- read all has found how many pages are to be in use. The words are just those of the heap's layout.
 pub record IsSteady (s : CoreState) : Type 0 where
   pub valid : IsTrue (list_all (list_all is_valid) s.code)
   pub sections : length s.code ≡ s.heap.mutators
   pub turns_fit : s.turns ≤ MOST_TURNS
   pub on_task : (m : ℕ) → m < s.heap.mutators → IsOnTask s m
   pub last : ScannersAreLast s.heap
+  pub found : HaveNextSizes s.heap
   pub whole : length s.heap.words ≡ whole_length (layout_of s.heap)
 
 -- it is steady, and its heap stands for some plain state
@@ -104,19 +107,31 @@ IsScanner h w = (h.mutators ≤ w) × (w < length h.workers)
 abbrev pub AllHaveLeft : Heap → Type 0
 AllHaveLeft h = (m : ℕ) → m < h.mutators → (held_at h m).stage ≡ Gone
 
+-- The epoch stays, and it is traced after the event if and only if it was before.
+pub record KeepsEpoch (was now : Heap) : Type 0 where
+  pub epoch : epoch_of_heap now ≡ epoch_of_heap was
+  pub traced : IsTraced now ↔ IsTraced was
+
+-- The epoch stays. It wasn't traced before the event, and is after it.
+pub record BecomesTraced (was now : Heap) : Type 0 where
+  pub epoch : epoch_of_heap now ≡ epoch_of_heap was
+  pub before : ¬ (IsTraced was)
+  pub traced : IsTraced now
+
 -- What is told of an event of worker w is so: an idle mutator has its end, of an idle scanner all mutators are gone, and nothing
 -- changed. An effect or an end is of mutator w, which had no end, and has just the end that is told. A flip is for the pages that the
--- worker's task asks for, and comes into the next epoch; nothing else changes the epoch.
+-- worker's task asks for, and comes into the next epoch, which isn't traced; nothing else changes the epoch. An epoch becomes traced at the
+-- event that tells so, and at no other.
 abbrev pub IsTold : CoreState → ℕ → Story → Heap → Stepped → Type 0
 IsTold s w story after Idle = (after ≡ s.heap) × (end_of story.now w ≢ Some None) × (IsScanner s.heap w → AllHaveLeft s.heap)
-IsTold s w story after Moved = epoch_of_heap after ≡ epoch_of_heap s.heap
-IsTold s w story after Traced = epoch_of_heap after ≡ epoch_of_heap s.heap
-IsTold s w story after (Flipped asked) = (asked ≡ held.pages_needed (ready s w)) × (epoch_of_heap after ≡ epoch_of_heap s.heap + 1)
+IsTold s w story after Moved = KeepsEpoch s.heap after
+IsTold s w story after Traced = BecomesTraced s.heap after
+IsTold s w story after (Flipped asked) = (asked ≡ held.pages_needed (ready s w)) × (epoch_of_heap after ≡ epoch_of_heap s.heap + 1) × ¬ (IsTraced after)
 IsTold s w story after (Effect m) =
-    (m ≡ w) × (end_of story.now m ≡ Some None) × (end_of (plain_after s story (Effect m)) m ≡ Some None) × (epoch_of_heap after ≡ epoch_of_heap s.heap)
+    (m ≡ w) × (end_of story.now m ≡ Some None) × (end_of (plain_after s story (Effect m)) m ≡ Some None) × KeepsEpoch s.heap after
 IsTold s w story after (Ended m why) =
     (m ≡ w) × (end_of story.now m ≡ Some None) × (end_of (plain_after s story (Ended m why)) m ≡ Some (Some why)) × IsForWant s story.now m why
-    × (epoch_of_heap after ≡ epoch_of_heap s.heap)
+    × KeepsEpoch s.heap after
 
 -- The event of worker w, from a core whose heap stands for a plain state: it stands for the one that the core then represents. What is
 -- told of it is so.

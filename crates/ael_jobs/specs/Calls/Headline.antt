@@ -84,7 +84,7 @@ pub record IsPrintedAsAlone (call : Call) (manner : Manner) (program : List (Lis
   pub prints : Grows call.out.held (lines_seen 0 (seen_in mutators) ++ flag_lines manner program ran checkpoint) call.out.holds
   pub alone : (m : ℕ) (k : Mutator) → slice_get mutators m ≡ Some k → IsAsAlone program (options_by manner).turns m k
 
--- where `sim`, `run` or `bench` succeeds, the mutators of a program without `get`, `put` and `swap` print what they print alone
+-- if `sim`, `run` or `bench` succeeds, the mutators of a program without `get`, `put`, `swap` and `weak` print what they print alone
 abbrev pub IsAlwaysTheSame : Call → Type 0
 IsAlwaysTheSame call = (job : Job) (manner : Manner) (program : List (List Instr)) (items : List Item) → run_by job ≡ Some manner → Succeeds call job program items
     → IsTrue (shares_nothing program) → IsPrintedAsAlone call manner program items

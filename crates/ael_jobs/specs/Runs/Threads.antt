@@ -12,8 +12,8 @@ use Rattle.ael_jobs.specs.Runs.Simulation.{config}
 
 -- The program was run on threads, and this is what the run came to: its order is that of the legal history of all calls, in which every
 -- mutator comes to its end, and its core is the heap that all workers have left. All that is so of a run on threads is so of it: heap
--- full comes only without room, by words that the mutator's own seat read, and fills the pages in use; a flip came since its last call and
--- these are all that the space may have, or there can be no more flips.
+-- full comes only without room, by words with which all workers stood at that call, and fills the pages in use. There is a look by which the
+-- mutator began that instruction; a flip came since, and these are all pages that the space may have, or there can be no more flips.
 pub record IsThreaded (options : RunOptions) (program : List (List Instr)) (ran : Ran) : Type 0 where
   pub outputs : Outputs
   pub runs : Runs program (config options) outputs

@@ -22,12 +22,17 @@ use Rattle.gc_worker.proofs.Between.Pages.Copied.{copied_was_live}
 use Rattle.gc_worker.proofs.Between.Opening.{heaps_open}
 use Rattle.gc_worker.proofs.History.Lone.{flip_before, lone_is_never_full}
 use Rattle.gc_worker.proofs.History.Needs.{large_is_never_full}
-use Rattle.gc_worker.proofs.History.Opening.{in_use, low, opening_tallied}
+use Rattle.gc_worker.proofs.History.Opening.{in_use, in_use_at, low, opening_tallied}
 use Rattle.gc_worker.proofs.Plain.LostCells.{lost_cells_are_empty}
+use Rattle.gc_worker.proofs.Words.Areas.{is_space}
+use Rattle.gc_worker.proofs.Words.Sizes.{size_within}
+use Rattle.gc_worker.specs.Laws.Claims.{epoch_of_heap}
+use Rattle.gc_worker.specs.Laws.Step.{read}
+use Rattle.space_map.specs.Spaces.{to_space}
 use Rattle.gc_core.specs.Core.{CoreState, has_sizes, layout_by, opening_core, size_in}
-use Rattle.gc_core.specs.Cycles.{CyclesEmptyLostCells, CyclesKeepWhatIsLive, FullHeapsAreFilled, InstructionsFlipOnce, SizesAreBetween, FillsTheSpace, HasGrown, claims_next, claims_of, flips_next, story_of}
+use Rattle.gc_core.specs.Cycles.{CyclesEmptyLostCells, CyclesKeepWhatIsLive, FullHeapsAreFilled, InstructionsFlipOnce, SizesAreBetween, FillsTheSpace, HasGrown, HasSizesWithin, claims_next, claims_of, flips_next, story_of}
 use Rattle.gc_core.specs.Event.{core_after, event_of}
-use Rattle.gc_core.specs.Law.{IsSteady, IsTold}
+use Rattle.gc_core.specs.Law.{IsLawful, IsSteady, IsTold}
 use Rattle.gc_core.specs.Needs.{ClaimsAreForRecords, ClaimsAreMadeOrSetAside, LargeHeapsAreNeverFull, LoneFullsFollowTheirFlips, LoneHeapsAreNeverFull, OrdersAreFilledByClaims, OrdersFillTheSpace}
 use Rattle.gc_core.specs.Run.{run_of, Ran}
 use Rattle.gc_core.specs.Whole.{FullsFollowFlips}
@@ -36,7 +41,8 @@ use Rattle.gc_core.proofs.Cycles.Filling.{HasClaimed, event_fills, full_has_grow
 use Rattle.gc_core.proofs.Cycles.Flips.{FlippedOnce, event_once}
 use Rattle.gc_core.proofs.Cycles.Aside.{claims_for_records}
 use Rattle.gc_core.proofs.Cycles.Kept.{keeps_what_is_live}
-use Rattle.gc_core.proofs.Runs.History.{HasHistory, adds, event_history, first, history_fills, history_made, holds_after, log_from, log_order, size_at_least, size_at_most}
+use Rattle.gc_core.proofs.Cycles.Sizes.{HasAtLeast, event_at_least}
+use Rattle.gc_core.proofs.Runs.History.{HasHistory, adds, event_history, first, history_fills, history_made, holds_after, log_from, log_order}
 use Rattle.gc_core.proofs.Runs.Stories.{IsRunOf, run_acts, run_law}
 use Rattle.gc_core.proofs.Runs.EventByEvent.{mark_is_reached}
 use Rattle.gc_core.proofs.Whole.{events_keep}
@@ -88,15 +94,24 @@ module _ (code : List (List Instr)) (items : List Item) (config : Config) (sched
       let u = in_use true (layout_by config) config.pages (length code) config.scanners (limit_fits config size) at.0 at.1 program.few_sections fits in
       record { limit_is = refl; low = omega (arith, l, u) }
 
-  -- a core of this program, its history, and the words that were claimed since the last flip
+  sized : HasAtLeast config.pages s
+  sized space small =
+      let at = sizes_fit config size in
+      let same = in_use_at true (layout_by config) config.pages (length code) config.scanners (limit_fits config size) at.0 at.1 program.few_sections fits space small in
+      omega (arith, same)
+
+  -- a core of this program, its history, the words that were claimed since the last flip, and its sizes
   abbrev Has : CoreState → List Entry → (claims : ℕ) → Type 0
-  Has t log claims = (t.code ≡ code) × (t.turns ≡ config.turns) × HasHistory config.pages t log × HasClaimed config.limit t claims
+  Has t log claims = (t.code ≡ code) × (t.turns ≡ config.turns) × HasHistory config.pages t log × HasClaimed config.limit t claims × HasAtLeast config.pages t
+
+  lawful : (t : CoreState) (log : List Entry) → HasHistory config.pages t log → IsLawful t
+  lawful t log h = record { steady = h.steady; plain = (tally (first t) log).now; flip = (tally (first t) log).flip; stands = h.stands.stands }
 
   has_then : (t : CoreState) (w : ℕ) (log : List Entry) (claims : ℕ) → Has t log claims → Has (core_after t w) (log ++ adds t log w) (claims_next t w claims)
-  has_then t w log claims has = (has.0, has.1, event_history config.pages t w log has.2, event_fills config.pages config.limit t w log claims has.2 has.3)
+  has_then t w log claims has = (has.0, has.1, event_history config.pages t w log has.2, event_fills config.pages config.limit t w log claims has.2 has.3, event_at_least t w (lawful t log has.2) config.pages has.4)
 
   has_last : Has r.last log (claims_of code config schedule n)
-  has_last = holds_after claims_next Has has_then schedule 0 n s [] 0 (refl, refl, begins, fills)
+  has_last = holds_after claims_next Has has_then schedule 0 n s [] 0 (refl, refl, begins, fills, sized)
 
   -- each full heap of it is so
   abbrev Fulls : List Mark → Type 0
@@ -128,11 +143,13 @@ module _ (code : List (List Instr)) (items : List Item) (config : Config) (sched
 
   -- ---- the pages in use
 
-  between : (config.pages ≤ size_in r.last) × (size_in r.last ≤ config.limit)
+  between : (config.pages ≤ size_in r.last) × (size_in r.last ≤ config.limit) × HasSizesWithin config.pages config.limit r.last
   between =
-      let most = size_at_most config.pages r.last log has_last.2 in
       let limit = has_last.3.limit_is in
-      (size_at_least config.pages r.last log has_last.2, omega (arith, most, limit))
+      let within : HasSizesWithin config.pages config.limit r.last = λ space small.
+      (has_last.4 space small, (let most = (size_within (read r.last.heap) _ law.stands.stands.stands space small).1 in omega (arith, most, limit))) in
+      let here = within (to_space (epoch_of_heap r.last.heap)) (is_space (epoch_of_heap r.last.heap)) in
+      (here.0, here.1, within)
 
   -- ---- a full heap at its end
 

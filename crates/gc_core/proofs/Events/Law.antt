@@ -1,5 +1,5 @@
 -- The law of an event, from the law of a worker's step.
-use Rattle.std.proofs.Common.{◌≡◌, ◌≢◌, ℕ, ◌+◌, ◌<◌, ◌≤◌, Bool, true, false, nat_lt, length, Option, Some, None, slice_get, get_or, refl, ap, sym, subst, ◌∙◌, arith, get_or-set_same, get_or-set_other, length-set, lt-ltb, ⊎_elim}
+use Rattle.std.proofs.Common.{◌≡◌, ◌≢◌, ℕ, ◌+◌, ◌<◌, ◌≤◌, Bool, true, false, nat_lt, List, length, Option, Some, None, slice_get, get_or, refl, ap, sym, subst, ◌∙◌, arith, get_or-set_same, get_or-set_other, length-set, lt-ltb, ⊎_elim}
 use Rattle.std.specs.Option.{is_some, option_map}
 use Rattle.std.proofs.lemmas.Bool.{cases_eq, cases_lt}
 use Rattle.std.proofs.lemmas.List.{get_or_past}
@@ -23,10 +23,11 @@ use Rattle.gc_worker.specs.Plain.Answer.{ComesTo, MayCome, IsAnswered, after_out
 use Rattle.gc_worker.specs.Laws.Between.{ReadyingStands, TasksMayBegin, WorkersGoOn, WorkersWant, WhatStandsIsSo, KeepsToTask, IsSo, IsNoAnswer}
 use Rattle.gc_worker.specs.Workers.Fits.{Fits, IsOnSide}
 use Rattle.gc_worker.specs.Plain.Full.{FullByEnd, FullWhereTold}
+use Rattle.gc_worker.specs.Laws.Cycles.{HaveNextSizes}
 use Rattle.gc_worker.specs.Laws.Gone.{ScannersAreLast}
 use Rattle.gc_worker.specs.Laws.Represented.{HasKept}
 use Rattle.gc_worker.specs.Workers.Held.{Held}
-use Rattle.gc_worker.specs.Laws.Step.{Heap, nobody, held_at, layout_of, moved, read, WorkersStand, StepKeeps, StepsKeep, FlipsWhereTold, epoch_of, at_flip}
+use Rattle.gc_worker.specs.Laws.Step.{EpochStays, Heap, IsTracedIn, nobody, held_at, layout_of, moved, read, WorkersStand, StepKeeps, StepsKeep, FlipsWhereTold, epoch_of, at_flip}
 use Rattle.gc_worker.specs.Laws.Copied.{IsTraced}
 use Rattle.gc_worker.specs.Laws.Stories.{StoriesKeep, StoryStands}
 use Rattle.gc_worker.specs.Plain.Empty.{empty_cells}
@@ -41,13 +42,14 @@ use Rattle.gc_core.specs.Core.{CoreState}
 use Rattle.gc_core.specs.Event.{event_of, ready}
 use Rattle.gc_worker.specs.Steps.Stepped.{stepped_by}
 use Rattle.gc_worker.specs.Laws.Claims.{epoch_of_heap}
-use Rattle.gc_core.specs.Law.{AllHaveLeft, IsLawful, IsOnTask, IsScanner, IsSteady, IsForWant, IsTold, KeepsPlain, EventsKeep, EventsMeet, EventsStand, StandsFor, story_by, story_in, story_met}
+use Rattle.gc_core.specs.Law.{AllHaveLeft, IsLawful, IsOnTask, IsScanner, IsSteady, IsForWant, IsTold, KeepsPlain, EventsKeep, EventsMeet, EventsStand, KeepsEpoch, StandsFor, story_by, story_in, story_met}
 use Rattle.gc_core.specs.Whole.{MissingWorkersAreIdle}
 use Rattle.gc_worker.proofs.Between.Last.{scanners_last_with, scanners_stay_last}
+use Rattle.gc_worker.proofs.Cycles.NextSizes.{next_sizes_stay, next_sizes_with}
 use Rattle.gc_worker.proofs.Plain.Emptied.{emptied_is, same_serial}
 use Rattle.gc_worker.proofs.Plain.Represented.{represented_workers}
 use Rattle.gc_worker.proofs.Plain.Outcomes.{comes, end_then, asks_then, counted_then, no_flip, now_marked, was_running}
-use Rattle.gc_core.proofs.Events.Readied.{ReadyToStep, readied_stands, same_task, ready_task, ready_account, ready_stage}
+use Rattle.gc_core.proofs.Events.Readied.{ReadyToStep, readied_stands, same_task, ready_task, ready_account, ready_found, ready_stage}
 
 -- ---- idle
 
@@ -203,8 +205,17 @@ module _ (law : StepsKeep) (goes : WorkersGoOn) (wants : WorkersWant) (so : What
 
     -- ---- what is told
 
-    epoch_same : epoch_of r.heap.pages (words_after q r.heap.words) ≡ epoch_of r.heap.pages r.heap.words → epoch_of_heap after ≡ epoch_of_heap s.heap
-    epoch_same e = e ∙ (λ i. epoch_of (r.pages i) (r.words i))
+    same_epoch : epoch_of r.heap.pages r.heap.words ≡ epoch_of_heap s.heap
+    same_epoch = λ i. epoch_of (r.pages i) (r.words i)
+
+    was_traced : IsTraced s.heap → IsTraced r.heap
+    was_traced is = subst (λ (z : ℕ × List ℕ). IsTracedIn z.0 z.1) (λ i. (sym r.pages i, sym r.words i)) is
+
+    traced_so : IsTraced r.heap → IsTraced s.heap
+    traced_so is = subst (λ (z : ℕ × List ℕ). IsTracedIn z.0 z.1) (λ i. (r.pages i, r.words i)) is
+
+    keeps_epoch : EpochStays r.heap.pages r.heap.words (words_after q r.heap.words) → KeepsEpoch s.heap after
+    keeps_epoch stays = record { epoch = stays.epoch ∙ same_epoch; traced = (λ is. traced_so (stays.traced.0 is), λ is. stays.traced.1 (was_traced is)) }
 
     module _ (task : Task) (outcome : Did) (e : t ≡ Answers task outcome) (answered : ComesTo p w task outcome) where
       abbrev k : Mutator
@@ -226,13 +237,16 @@ module _ (law : StepsKeep) (goes : WorkersGoOn) (wants : WorkersWant) (so : What
 
     told_by : (u : Told) → t ≡ u → IsAnswered p w u → FullWhereTold r.heap.pages r.heap.words y u → FlipsWhereTold r.heap.pages r.heap.words (words_after q r.heap.words) y u
         → IsTold s w story after (stepped_by w u)
-    told_by Silent e answered full flips = epoch_same flips
-    told_by Empties e answered full flips = epoch_same flips
-    told_by (Marks asked) e answered full flips =
-        (flips.asked_is, flips.next ∙ ap (λ n. n + 1) (sym flips.epoch ∙ (λ i. epoch_of (r.pages i) (r.words i))))
+    told_by Silent e answered full stays = keeps_epoch stays
+    told_by Empties e answered full traced = record {
+      epoch = traced.epoch ∙ same_epoch;
+      before = λ is. traced.before (was_traced is);
+      traced = traced.traced;
+    }
+    told_by (Marks asked) e answered full flips = (flips.asked_is, flips.next ∙ ap (λ n. n + 1) (sym flips.epoch ∙ same_epoch), flips.untraced)
     told_by (Answers task Done) e answered full flips =
         let k = answered.mutator in
-        (refl, was task Done e answered, end_then s.code s.turns p w k (has_code k answered.is) answered.is answered.no_end Done (may task Done e answered), epoch_same flips)
+        (refl, was task Done e answered, end_then s.code s.turns p w k (has_code k answered.is) answered.is answered.no_end Done (may task Done e answered), keeps_epoch flips)
     told_by (Answers task (Trap why)) e answered full flips =
         let k = answered.mutator in
         let comes_to = may task (Trap why) e answered in (
@@ -243,7 +257,7 @@ module _ (law : StepsKeep) (goes : WorkersGoOn) (wants : WorkersWant) (so : What
           for_want s p w why
               (full_asks k answered.is answered.no_end why comes_to)
               (rw (r.pages, r.words) at full),
-          epoch_same flips,
+          keeps_epoch flips,
         )
 
     -- ---- what is kept
@@ -314,10 +328,14 @@ module _ (law : StepsKeep) (goes : WorkersGoOn) (wants : WorkersWant) (so : What
     own_on l (Marks asked) e answered = still_task l (Marks asked) e tt
     own_on l (Answers task outcome) e answered = answered_task l task outcome e answered
 
+    below : w < length s.heap.workers
+    below = let n = length-set s.heap.workers w y in let a = ap (λ (h : Heap). length h.workers) r.is in let b = r.below in omega (arith, n, a, b)
+
     ready_last : ScannersAreLast r.heap
-    ready_last =
-        let below : w < length s.heap.workers = (let n = length-set s.heap.workers w y in let a = ap (λ (h : Heap). length h.workers) r.is in let b = r.below in omega (arith, n, a, b)) in
-        subst ScannersAreLast (sym r.is) (scanners_last_with s.heap w y below (ready_stage s w) steady.last)
+    ready_last = subst ScannersAreLast (sym r.is) (scanners_last_with s.heap w y below (ready_stage s w) steady.last)
+
+    ready_next : HaveNextSizes r.heap
+    ready_next = subst HaveNextSizes (sym r.is) (next_sizes_with s.heap y w below (ready_found s.heap.pages s.heap.words s w (steady.found w below)) steady.found)
 
     later_steady : IsSteady later
     later_steady = record {
@@ -329,6 +347,7 @@ module _ (law : StepsKeep) (goes : WorkersGoOn) (wants : WorkersWant) (so : What
           (λ (d : m ≢ w). other_task m (omega (arith, l, c)) d)
           (cases_eq m w);
       last = scanners_stay_last r.heap p story.flip w y q r.stands r.below r.holds asked ready_last;
+      found = next_sizes_stay r.heap p story.flip w y q r.stands r.below r.holds asked ready_next;
       whole = length-words_after q r.heap.words ∙ subst (λ (h : Heap). length h.words ≡ whole_length (layout_of h)) (sym r.is) steady.whole;
     }
 

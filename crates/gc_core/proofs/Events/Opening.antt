@@ -25,6 +25,7 @@ use Rattle.gc_worker.specs.Laws.Stories.{StoryStands}
 use Rattle.gc_worker.specs.Steps.Turned.{epoch_in_gate}
 use Rattle.gc_worker.proofs.Stages.Gate.Words.{gate_says}
 use Rattle.gc_worker.proofs.Between.Last.{scanners_begin_last}
+use Rattle.gc_worker.proofs.Cycles.NextSizes.{next_sizes_begin}
 use Rattle.gc_worker.proofs.Between.Opening.{are_opening, is_there}
 use Rattle.gc_worker.specs.declared.config.Config.{Config}
 use Rattle.gc_worker.proofs.Plain.KeptCells.{opening_cells}
@@ -103,6 +104,7 @@ module _ (opens : HeapsOpen) (code : List (List Instr)) (items : List Item) (con
     turns_fit = turns;
     on_task = λ m l. let e = mutator_there m l in record { counted = rw e (omega arith); within = rw e (omega arith); task = λ task t. none≢some (sym (ap (λ (h : Held). h.task) e) ∙ t) };
     last = scanners_begin_last true (layout_by config) config.pages (length code) config.scanners;
+    found = next_sizes_begin true (layout_by config) config.pages (length code) config.scanners;
     whole = opening_words-length (layout_by config) config.pages;
   }
 

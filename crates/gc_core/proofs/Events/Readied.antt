@@ -19,6 +19,7 @@ use Rattle.gc_worker.specs.declared.stage.Stage.TheVariants.{Looks, Passes, Flip
 use Rattle.gc_worker.specs.declared.task.Task.{Task}
 use Rattle.gc_worker.specs.Laws.Between.{ReadyingStands, TasksMayBegin, IsIdle, with_task, with_worker}
 use Rattle.gc_worker.specs.Laws.Between as between
+use Rattle.gc_worker.specs.Laws.Cycles.{HasNextSize}
 use Rattle.gc_worker.specs.Workers.Fits.{Fits, MayBegin, FitsEnd, IsOnSide}
 use Rattle.gc_worker.specs.Workers.Held.{Held}
 use Rattle.gc_worker.specs.Laws.Step.{Heap, nobody, held_at, moved, WorkersStand}
@@ -143,6 +144,14 @@ module _ (readies : ReadyingStands) (tasks : TasksMayBegin) (s : CoreState) (w :
   readied_stands = ready_by (due s.code s.turns w x)
 
 -- ---- what it holds then
+
+-- what it has found for a flip, which no task changes
+pub ready_found : (n : ℕ) (words : List ℕ) (s : CoreState) (w : ℕ) → HasNextSize n words (held_at s.heap w) → HasNextSize n words (ready s w)
+ready_found n words s w own = by_due (due s.code s.turns w (held_at s.heap w))
+  where
+    by_due : Due s.code s.turns w (held_at s.heap w) → HasNextSize n words (ready s w)
+    by_due (Begins stage none is) = subst (HasNextSize n words) (sym is) own
+    by_due (Rests is) = subst (HasNextSize n words) (sym is) own
 
 -- the next task is that of an account with this counter and so many instructions executed
 pub same_task : (code : List (List Instr)) (turns m : ℕ) (x y : Held) → x.account.counter ≡ y.account.counter → x.account.executed ≡ y.account.executed

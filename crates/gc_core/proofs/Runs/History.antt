@@ -32,7 +32,6 @@ use Rattle.gc_worker.proofs.Between.GoingOn.{workers_go_on}
 use Rattle.gc_worker.proofs.Between.Readying.{readying_stands}
 use Rattle.gc_worker.proofs.Between.Standing.{what_stands_is_so}
 use Rattle.gc_worker.proofs.Between.Wanting.{workers_want}
-use Rattle.gc_worker.proofs.Cycles.Sizes.{sizes_are_within}
 use Rattle.gc_worker.proofs.History.Extensions.{legal_more}
 use Rattle.gc_worker.proofs.History.Needs.{IsNext, order_makes, orders_fill}
 use Rattle.gc_worker.proofs.History.Orders.{fetched_append}
@@ -41,7 +40,7 @@ use Rattle.gc_worker.proofs.History.Tallies.{empties_lost, tally_append, tally_m
 use Rattle.gc_worker.proofs.History.Tasks.{task_tallied}
 use Rattle.gc_worker.proofs.StepKeeps.{steps_keep}
 use Rattle.gc_worker.proofs.StoriesKeep.{stories_keep}
-use Rattle.gc_core.specs.Core.{CoreState, size_in}
+use Rattle.gc_core.specs.Core.{CoreState}
 use Rattle.gc_core.specs.Cycles.{count_from}
 use Rattle.gc_core.specs.Event.{Event, core_after, event_of, readied, ready}
 use Rattle.gc_core.specs.Law.{IsSteady, KeepsStory}
@@ -237,15 +236,6 @@ module _ (least : ℕ) (s : CoreState) (log : List Entry) (h : HasHistory least 
   -- no more pages were made than its order tells
   pub history_made : (tally (first s) log).made ≤ made_since s.code s.turns (order_of log)
   history_made = order_makes s.code s.turns (tasks_held s.heap.workers) (first s) 0 log h.legal lost (plain_count s.code s.turns []) h.fetched (omega arith)
-
-  -- ---- the pages in use
-
-  -- as many as at the opening, or more
-  pub size_at_least : least ≤ size_in s
-  size_at_least = let began = h.tallied.began.0 in let size = h.tallied.counts.size in let fewest = h.tallied.counts.least in omega (arith, began, size, fewest)
-
-  pub size_at_most : size_in s ≤ s.heap.pages
-  size_at_most = (sizes_are_within s.heap (tally (first s) log).now (tally (first s) log).flip h.stands.stands).1
 
 -- ---- a run
 
