@@ -16,7 +16,6 @@ use crate::streams::sink::Sink;
 use crate::streams::source::Source;
 use crate::streams::writing::emit;
 use concordance_text::one_concordance;
-use heap_audit::places_show_what_is_represented;
 use mutator_asm::{never_both, one_program};
 use plain_heap::alone_mutators_are_independent;
 use program_text::listing_is_a_text;
@@ -55,7 +54,6 @@ pub fn finish<O: Sink, E: Sink>(answer: &Answer, out: &mut O, err: &mut E) -> u8
     listing_is_a_text();
     alone_mutators_are_independent();
     one_concordance();
-    places_show_what_is_represented();
 
     emit(answer, out, err).code()
 }

@@ -7,7 +7,7 @@ use Rattle.space_map.specs.Table.{table_length}
 use Rattle.dump_text.specs.Lines.{first_lines, IsFirstWrong}
 use Rattle.dump_text.specs.Pieces.{cell_at, registers_at, kept_read_at, head_at}
 use Rattle.dump_text.specs.Reading.{Reader, ◌>>=◌, or_line, many, nothing_at, dump_at}
-use Rattle.dump_text.specs.Text.{Counts, Dumped, IsDump, IsWord, AreRegisters, AreKept, are_counts, counts_of, dump_text}
+use Rattle.dump_text.specs.Text.{Counts, Dumped, IsDump, IsWord, AreRegisters, AreKept, TellsOneDump, are_counts, counts_of, dump_text}
 use Rattle.dump_text.proofs.Laid.{laid, laid_text, head_text, row_text, kept_text, table_text}
 use Rattle.dump_text.proofs.Exact.{IsExact, IsWrong, one_line, many_lines, both, both_exact, same_front, ok_bind, err_bind, ok_is, err_is, ok_not_err, First, Second}
 use Rattle.dump_text.proofs.FirstLine.{head_piece, head_ends}
@@ -147,6 +147,9 @@ dump_again d h =
     let z = parts_of d in
     let read : parts_at 1 (parts_text z) ≡ Ok (z, []) = ap (parts_at 1) (sym (append-nil (parts_text z))) ∙ parts_exact.again 1 z [] (fits_of d h) in
     dump_is (dump_text d) ∙ ap (λ (r : Result (Parts × List ℕ) ℕ). r >>= finish) (ap (parts_at 1) (laid d h) ∙ read)
+
+pub one_dump : TellsOneDump
+one_dump a b is_a is_b same = ok_is a b (sym (dump_again a is_a) ∙ ap dump_at same ∙ dump_again b is_b)
 
 -- ---- the first wrong line
 

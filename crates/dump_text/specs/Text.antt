@@ -84,3 +84,7 @@ pub record IsDump (d : Dumped) : Type 0 where
   pub kept : AllByRecursion AreKept d.kept
   pub words : AllByRecursion IsWord d.words
   pub length : length d.words ≡ table_length d.pages
+
+-- dumps that have one text are the same
+abbrev pub TellsOneDump : Type 0
+TellsOneDump = (a b : Dumped) → IsDump a → IsDump b → dump_text a ≡ dump_text b → a ≡ b

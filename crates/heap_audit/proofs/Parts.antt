@@ -1,20 +1,22 @@
 -- The whole part, read from its lines, its order and its dump.
-use Rattle.std.proofs.Common.{◌≡◌, ℕ, zero, suc, ◌+◌, ◌-◌, ◌≤◌, List, [], ◌++◌, Result, Ok, Err, refl, sym, ap, subst, ◌∙◌, arith}
+use Rattle.std.proofs.Common.{◌≡◌, ℕ, zero, suc, ◌+◌, ◌-◌, ◌≤◌, true, List, [], ◌++◌, Result, Ok, Err, refl, sym, ap, subst, ◌∙◌, arith}
 use Rattle.std.proofs.lemmas.List.{append_assoc}
 use Rattle.std.specs.List.{AllByRecursion}
 use Rattle.std.specs.Prelude.{IfErr}
+use Rattle.std.proofs.lemmas.Bool.Decides.{nat_tests}
 use Rattle.std.specs.Result.{IsErrAnd}
 use Rattle.plain_heap.specs.declared.mark.Mark.{Mark}
 use Rattle.plain_heap.specs.Print.{Seen, lines_seen, order_line}
 use Rattle.dump_text.specs.Lines.{first_lines}
 use Rattle.dump_text.specs.Reading.{GivesReading}
-use Rattle.dump_text.specs.Text.{Dumped, dump_text}
+use Rattle.dump_text.specs.Text.{Counts, Dumped, are_counts, counts_of, dump_text}
+use Rattle.dump_text.proofs.Whole.{one_dump}
 use Rattle.dump_text.specs.declared.dump_error.DumpError.{DumpError}
 use Rattle.dump_text.specs.declared.dump_error.DumpError.TheVariants as dump_errors
 use Rattle.heap_audit.specs.FirstWrong.{DumpNamesWrong, IsFirstWrongOf, NamesFirstWrongOf, NamesWrong, behind}
 use Rattle.heap_audit.specs.Lines.{AreSeen, line_count}
 use Rattle.heap_audit.specs.Order.{MarkFits, ReadsAs}
-use Rattle.heap_audit.specs.Part.{IsDumpOf, IsPart, Output, part_text}
+use Rattle.heap_audit.specs.Part.{IsDumpOf, IsPart, Output, TellsOneOutput, part_text}
 use Rattle.heap_audit.specs.declared.reading_error.ReadingError.{ReadingError}
 use Rattle.heap_audit.specs.declared.reading_error.ReadingError.TheVariants as errors
 use Rattle.heap_audit.proofs.AllLines.{handed_on, lines_count, same_lines}
@@ -106,6 +108,22 @@ part_found n bytes rest last output seen order dump = (
   record { seen = seen.0; order = order.0; dump = dump.0 },
   seen.1 ∙ ap (λ (xs : List ℕ). lines_seen 0 output.seen ++ xs) (order.1 ∙ ap (λ (xs : List ℕ). order_line output.order ++ xs) dump.1) ∙ sym (lines_first output),
 )
+
+-- ---- no other has its text
+
+-- a part has no more mutators than a heap
+few_mutators : (n : ℕ) (output : Output) → IsPart n output → n ≤ 16
+few_mutators n output is = few (counts_of output.dump) is.dump.as_many is.dump.is_dump.counts
+  where
+    few : (c : Counts) → c.mutators ≡ n → are_counts c ≡ true → n ≤ 16
+    few c many counts = grind (arith, nat_tests)
+
+pub one_output : TellsOneOutput
+one_output n a b is_a is_b same =
+    let few : n ≤ 256 = omega (arith, few_mutators n a is_a) in
+    let seen = same_lines n a.seen b.seen (behind_lines a) (behind_lines b) few is_a.seen is_b.seen (sym (lines_first a) ∙ same ∙ lines_first b) in
+    let order = same_order a.order b.order (dump_text a.dump) (dump_text b.dump) is_a.order is_b.order seen.1 in
+    same_output a.seen b.seen a.order b.order a.dump b.dump seen.0 order.0 (one_dump a.dump b.dump is_a.dump.is_dump is_b.dump.is_dump order.1)
 
 -- ---- the first wrong line
 

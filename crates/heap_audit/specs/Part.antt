@@ -33,3 +33,7 @@ pub record IsPart (mutators : ℕ) (output : Output) : Type 0 where
 -- a part, without where it lies in memory
 abbrev pub part_view : Part → Output
 part_view p = record { seen = map seen_by p.mutators.items; order = p.order.items; dump = dump_view p.dump }
+
+-- outputs with as many mutators that have one text are the same
+abbrev pub TellsOneOutput : Type 0
+TellsOneOutput = (n : ℕ) (a b : Output) → IsPart n a → IsPart n b → part_text a ≡ part_text b → a ≡ b

@@ -1,5 +1,5 @@
 -- What an audit says of an output.
-use Rattle.std.specs.Prelude.{◌≡◌, ℕ, ◌+◌, List, length, Option, Some, None, Result, Ok, Err}
+use Rattle.std.specs.Prelude.{◌≡◌, ◌⊎◌, ℕ, ◌+◌, List, length, Option, Some, None, Result, Ok, Err}
 use Rattle.mutator_asm.specs.declared.instr.Instr.{Instr}
 use Rattle.plain_state.specs.State.{Plain}
 use Rattle.space_map.specs.Spaces.{board_page, first_word}
@@ -66,3 +66,9 @@ abbrev pub TellsVerdict : List (List Instr) → ℕ → List ℕ → Result Verd
 TellsVerdict code turns bytes (Ok verdict) = (output : Output) × IsPart (length code) output × (bytes ≡ part_text output) × IsVerdict code turns output verdict
 TellsVerdict code turns bytes (Err errors.NoMemory) = Unit {0}
 TellsVerdict code turns bytes (Err (errors.Bad line)) = IsFirstWrongOf part_text (IsPart (length code)) bytes line
+
+-- Yes is said of the text of each part whose lines are the plain machine's and whose dump represents its state, unless memory runs out.
+abbrev pub SaysYesIfTrue : List (List Instr) → ℕ → List ℕ → Result Verdict AuditError → Type 0
+SaysYesIfTrue code turns bytes said =
+    (output : Output) → IsPart (length code) output → bytes ≡ part_text output → PrintsLines code turns output → DumpRepresents (dump_said output.dump) (plain_of code turns output)
+    → (said ≡ Ok Yes) ⊎ (said ≡ Err errors.NoMemory)

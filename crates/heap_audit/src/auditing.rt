@@ -7,7 +7,7 @@ ghost use Rattle.dump_text.specs.Reading.{dump_view};
 ghost use Rattle.dump_text.specs.Said.{dump_said};
 ghost use Rattle.dump_text.specs.Text.{IsDump};
 ghost use Rattle.heap_audit.specs.Places.{HasForm, IsShort};
-ghost use Rattle.heap_audit.specs.Verdict.{TellsPlace, TellsVerdict, at_told};
+ghost use Rattle.heap_audit.specs.Verdict.{SaysYesIfTrue, TellsPlace, TellsVerdict, at_told};
 
 use crate::audit_error::{AuditError, from_reading};
 use crate::first_other::first_other;
@@ -71,9 +71,8 @@ fn first_wrong(alloc: Global, dump: &Dump, plain: &PlainState) -> Result<Option<
     }
 }
 
-/// Whether the bytes are what a run of the program may print, each mutator executing at most so many instructions: the lines of the plain
-/// machine that executes the program in their order, and a dump that represents its state. Else where that is first seen.
-pub fn audit(alloc: Global, p: &Program, turns: u32, bytes: &[u8]) -> Result<Verdict, AuditError>
+/// The verdict on the part that the bytes are.
+fn verdict_on(alloc: Global, p: &Program, turns: u32, bytes: &[u8]) -> Result<Verdict, AuditError>
     requires { length bytes.now < 2 ^ 31 }
     ensures { TellsVerdict p.now.code turns bytes.now result }
 {
@@ -89,4 +88,16 @@ pub fn audit(alloc: Global, p: &Program, turns: u32, bytes: &[u8]) -> Result<Ver
         Some(at) => Ok(Verdict::No(at)),
         None => Ok(Verdict::Yes),
     }
+}
+
+/// Whether the bytes are what a run of the program may print, each mutator executing at most so many instructions: the lines of the plain
+/// machine that executes the program in their order, and a dump that represents its state. Else where that is first seen.
+pub fn audit(alloc: Global, p: &Program, turns: u32, bytes: &[u8]) -> Result<Verdict, AuditError>
+    requires { length bytes.now < 2 ^ 31 }
+    // The verdict on the part that the bytes are, or their first wrong line.
+    ensures verdict { TellsVerdict p.now.code turns bytes.now result }
+    // Yes, if this is a true output, unless memory runs out.
+    ensures yes { SaysYesIfTrue p.now.code turns bytes.now result }
+{
+    verdict_on(alloc, p, turns, bytes)
 }

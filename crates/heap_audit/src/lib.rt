@@ -28,7 +28,7 @@ pub use audit_error::AuditError;
 pub use auditing::audit;
 pub use copied_records::CopiedRecords;
 pub use first_other::first_other_line;
-pub use laws::places_show_what_is_represented;
+pub use laws::{places_show_what_is_represented, texts_tell_one_output};
 pub use lines::{MutatorLines, read_lines};
 pub use order::read_order;
 pub use owners::Owners;

@@ -1,8 +1,7 @@
 -- How a call of `audit` ends.
 use Rattle.std.proofs.Common.{◌≡◌, ℕ, List, [], subst, inl, inr}
 use Rattle.std.specs.Prelude.{◌⊎◌, codes}
-use Rattle.mutator_asm.specs.Theorems.{HasNoFault, MeansOneProgram, MeansWellFormed}
-use Rattle.heap_audit.specs.Places.{PlacesShowAll}
+use Rattle.mutator_asm.specs.Theorems.{HasNoFault, MeansOneProgram}
 use Rattle.ael_jobs.specs.declared.arguments.job.Job.TheVariants.{Audit}
 use Rattle.ael_jobs.specs.declared.arguments.options.AuditOptions.{AuditOptions}
 use Rattle.ael_jobs.specs.declared.status.Status.{Status}
@@ -45,13 +44,13 @@ module _ (call : Call) (a : CallIsAnswered call) where
       by (ByRefusal faulty silent) told = fault_told call options input a.status faulty (told_alone call a.output a.status silent told)
       by (ForMemory wanting silent) told = WantOfMemoryTold (subst (λ s. CallTells call [] s) wanting (told_alone call a.output a.status silent told))
 
-module _ (one : MeansOneProgram) (formed : MeansWellFormed) (no_fault : HasNoFault) (places : PlacesShowAll) (call : Call) (a : CallIsAnswered call) where
+module _ (one : MeansOneProgram) (no_fault : HasNoFault) (call : Call) (a : CallIsAnswered call) where
   pub says_yes : SaysYesToTrueOutputs call
   says_yes options input ends true_output = by (audit_ends call a options input ends)
     where
       by : AuditEnd call options input → CallTells call (codes "audit: yes\n") Done ⊎ (call.code ≡ 7)
       by (VerdictTold output status is told) =
-          let yes = says_yes_to_true one formed places options.turns input output status true_output is in
+          let yes = says_yes_to_true one options.turns input output status true_output is in
           inl (subst (λ o. CallTells call o Done) yes.0 (subst (λ s. CallTells call output s) yes.1 told))
       by (TextFaultTold number line fault told) = absurd (never_faulty one no_fault input (Text number line) true_output.has fault)
       by (BadOutputTold line bad told) = absurd (never_bad one input line true_output.has bad)

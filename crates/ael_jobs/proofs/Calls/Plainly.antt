@@ -4,7 +4,6 @@ use Rattle.std.specs.Prelude.{◌⊎◌, Some}
 use Rattle.std.proofs.lemmas.Option.{same_Some}
 use Rattle.benchmark.specs.Text.{bench_text}
 use Rattle.concordance_text.specs.Theorems.{OneListOfRows}
-use Rattle.heap_audit.specs.Places.{PlacesShowAll}
 use Rattle.mutator_asm.specs.declared.instr.Instr.{Instr}
 use Rattle.mutator_asm.specs.declared.item.Item.{Item}
 use Rattle.mutator_asm.specs.Text.{IsText}
@@ -163,8 +162,8 @@ module _ (one : MeansOneProgram) (no_fault : HasNoFault) (call : Call) (a : Call
       }
 
 -- all that holds of a call
-pub holds : MeansOneProgram → HasNoFault → MeansWellFormed → ListsText → AlwaysTheSame → OneListOfRows → PlacesShowAll → (call : Call) → CallIsAnswered call → HeadlineHolds call
-holds one no_fault well_formed lists same rows places call a = record {
+pub holds : MeansOneProgram → HasNoFault → MeansWellFormed → ListsText → AlwaysTheSame → OneListOfRows → (call : Call) → CallIsAnswered call → HeadlineHolds call
+holds one no_fault well_formed lists same rows call a = record {
   answered = a;
   complete = is_complete one no_fault call a;
   prints = prints_plainly one no_fault call a;
@@ -174,5 +173,5 @@ holds one no_fault well_formed lists same rows places call a = record {
   concord_ends = concord_ends call a;
   large_heaps_suffice = large_heaps_suffice call a rows;
   audits = audit_ends call a;
-  says_yes = says_yes one well_formed no_fault places call a;
+  says_yes = says_yes one no_fault call a;
 }

@@ -7,7 +7,7 @@ use Rattle.dump_text.specs.Said.{dump_said}
 use Rattle.heap_state.specs.Meaning.Represents.{DumpRepresents}
 use Rattle.heap_audit.specs.FirstWrong.{IsFirstWrongOf}
 use Rattle.heap_audit.specs.Part.{IsPart, Output, part_text}
-use Rattle.heap_audit.specs.Verdict.{PrintsLines, TellsVerdict, plain_of}
+use Rattle.heap_audit.specs.Verdict.{PrintsLines, SaysYesIfTrue, TellsVerdict, plain_of}
 use Rattle.heap_audit.specs.declared.verdict.At.TheVariants.{Line, Register, Word}
 use Rattle.heap_audit.specs.declared.verdict.Verdict.{Verdict}
 use Rattle.heap_audit.specs.declared.verdict.Verdict.TheVariants as verdicts
@@ -57,11 +57,12 @@ abbrev pub verdict_status : Verdict → Status
 verdict_status verdicts.Yes = Done
 verdict_status (verdicts.No at) = No
 
--- the line of the verdict on the part, if each mutator may execute so many instructions
+-- the line of the verdict on the part, if each mutator may execute so many instructions; this is yes if the part is a true output
 pub record IsAudited (turns : ℕ) (input output : List ℕ) (status : Status) : Type 0 where
   pub has : HasProgram input
   pub verdict : Verdict
   pub tells : TellsVerdict has.program turns (part_in input) (Ok verdict)
+  pub yes : SaysYesIfTrue has.program turns (part_in input) (Ok verdict)
   pub prints : output ≡ verdict_text verdict
   pub went : status ≡ verdict_status verdict
 

@@ -13,11 +13,11 @@ audit-requires c = let few = c.divided.ensures.no_longer in let short = c.requir
 pub returns-in_err-verdict-clause-err : goal.returns-in_err-verdict-clause-err
 returns-in_err-verdict-clause-err c =
     passed_on _ _ _ c.from_residual-in_err-verdict.ensures.1
-    (unaudited c.args.input.now c.divided.result.0.now c.divided.result.1.now _ _ c.args.options.turns c.audit.result c.divided.ensures.parts c.in_ok-program.ensures.text c.audit.ensures _ c.in_err-verdict.was)
+    (unaudited c.args.input.now c.divided.result.0.now c.divided.result.1.now _ _ c.args.options.turns c.audit.result c.divided.ensures.parts c.in_ok-program.ensures.text c.audit.ensures.verdict _ c.in_err-verdict.was)
 
 pub returns-clause-ok : goal.returns-clause-ok
 returns-clause-ok c =
-    audited c.args.input.now c.divided.result.0.now c.divided.result.1.now _ _ c.args.options.turns c.audit.result c.divided.ensures.parts c.in_ok-program.ensures.text c.audit.ensures
-    _ _ _ c.in_ok-verdict.was
+    audited c.args.input.now c.divided.result.0.now c.divided.result.1.now _ _ c.args.options.turns c.audit.result c.divided.ensures.parts c.in_ok-program.ensures.text c.audit.ensures.verdict
+    c.audit.ensures.yes _ _ _ c.in_ok-verdict.was
     (c.in_ok-new.ensures.whole.0 ∙ ap (λ (v : Vec ℕ). v.items) c.into_bytes.ensures.value ∙ c.in_ok-line.ensures)
     (c.in_ok-new.ensures.whole.1 ∙ c.status.ensures)

@@ -13,4 +13,4 @@ returns-clause-holds g c = λ words source is.
       answer = is;
       emitted = record { final = c.emit.result; emitted = c.emit.ensures; code_is = c.code.ensures };
     } in
-    holds c.one_program.ensures c.never_both.ensures c.listing_is_a_text.ensures.well_formed c.listing_is_a_text.ensures.text c.alone_mutators_are_independent.ensures.same c.one_concordance.ensures.rows c.places_show_what_is_represented.ensures call answered
+    holds c.one_program.ensures c.never_both.ensures c.listing_is_a_text.ensures.well_formed c.listing_is_a_text.ensures.text c.alone_mutators_are_independent.ensures.same c.one_concordance.ensures.rows call answered

@@ -1,0 +1,5 @@
+use Rattle.heap_audit.proofs.Parts.{one_output}
+use Rattle.heap_audit.proofs.laws.texts_tell_one_output.Goals as goal
+
+pub returns : goal.returns
+returns c = one_output
