@@ -67,11 +67,11 @@ module _ (input text part : List ℕ) (program : List (List Instr)) (items : Lis
 
   -- and one that did
   pub audited : SaysYesIfTrue program turns part r → (verdict : Verdict) (output : List ℕ) (status : Status) → r ≡ Ok verdict → output ≡ verdict_text verdict → status ≡ verdict_status verdict → IsAudited turns input output status
-  audited yes verdict output status e prints went = record {
+  audited says verdict output status e prints went = record {
     has = has_program;
     verdict = verdict;
     tells = told (Ok verdict) e;
-    yes = of_part (SaysYesIfTrue program turns) yes (Ok verdict) e;
+    yes = of_part (SaysYesIfTrue program turns) says (Ok verdict) e;
     prints = prints;
     went = went;
   }
@@ -114,13 +114,13 @@ missing_part input line none bad = line_one (length bad.has.program) line (subst
 -- ---- true outputs
 
 is_yes : (verdict : Verdict) → ◌≡◌ {A = Result Verdict AuditError} (Ok verdict) (Ok verdicts.Yes) ⊎ ◌≡◌ {A = Result Verdict AuditError} (Ok verdict) (Err audits.NoMemory) → verdict ≡ verdicts.Yes
-is_yes verdict (inl yes) = cc
+is_yes verdict (inl said) = cc
 is_yes verdict (inr none) = absurd cc
 
 -- the verdict on a true output is yes
 pub says_yes_to_true : MeansOneProgram → (turns : ℕ) (input output : List ℕ) (status : Status) → HasTrueOutput turns input → IsAudited turns input output status
     → (output ≡ codes "audit: yes\n") × (status ≡ Done)
-says_yes_to_true one turns input output status is_true is = (is.prints ∙ ap verdict_text yes, is.went ∙ ap verdict_status yes)
+says_yes_to_true one turns input output status is_true is = (is.prints ∙ ap verdict_text same_verdict, is.went ∙ ap verdict_status same_verdict)
   where
     same : is.has.program ≡ is_true.has.has.program
     same = (one (text_in input) is.has.program is_true.has.has.program is.has.items is_true.has.has.items is.has.text is_true.has.has.text).0
@@ -128,5 +128,5 @@ says_yes_to_true one turns input output status is_true is = (is.prints ∙ ap ve
     says : SaysYesIfTrue is_true.has.has.program turns (part_in input) (Ok is.verdict)
     says = subst (λ (p : List (List Instr)). SaysYesIfTrue p turns (part_in input) (Ok is.verdict)) same is.yes
 
-    yes : is.verdict ≡ verdicts.Yes
-    yes = is_yes is.verdict (says is_true.has.output is_true.has.is_part is_true.has.printed is_true.lines is_true.dump)
+    same_verdict : is.verdict ≡ verdicts.Yes
+    same_verdict = is_yes is.verdict (says is_true.has.output is_true.has.is_part is_true.has.printed is_true.lines is_true.dump)
