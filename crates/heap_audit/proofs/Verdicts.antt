@@ -19,7 +19,7 @@ use Rattle.plain_state.specs.Consistent.{IsMutator}
 use Rattle.plain_state.specs.State.{Plain}
 use Rattle.space_map.specs.Spaces.{board_page, first_word}
 use Rattle.space_map.specs.Table.{HeapWord, place_of}
-use Rattle.heap_audit.specs.Part.{IsPart, Output, part_text}
+use Rattle.heap_audit.specs.Part.{Output}
 use Rattle.heap_audit.specs.Places.{AllSeen, HasForm, IsFirstUnseen}
 use Rattle.heap_audit.specs.Verdict.{IsVerdict, PrintsLines, SaysYesIfTrue, TellsPlace, TellsVerdict, plain_of}
 use Rattle.heap_audit.specs.declared.audit_error.AuditError.{AuditError}
