@@ -1,4 +1,4 @@
-use crate::acts::Act::{self, Cycles, Executes, Pass, Printed, Until};
+use crate::acts::Act::{self, Come, Cycles, Executes, Pass, Printed, ToTheEnd, Until};
 use crate::acts::{Passage, play};
 use crate::stepping::{GATE, Goal, SIZE_0, SIZE_1, SMALLEST, TRACED, WEAK};
 use atom_store::Step::{Exchange, Load, Store};
@@ -131,4 +131,37 @@ const BOTH_GET_ON: &[Act] = &[
 #[test]
 fn of_two_that_ask_for_a_flip_both_get_on(rt: HostRuntime) {
     play(&rt, rt.alloc(), LINES, &SMALLEST, &[BOTH_GET_ON]);
+}
+
+/// The first mutator fills three pages, and asks for a flip since two more don't fit. The second one's record takes four pages, all
+/// of a space.
+const LATER: &str = "/.mutator/new r0 0/put 0 r0/raw r1 127/li r1 0/raw r1 127/halt\
+    /.mutator/li r1 1/raw r0 200/halt/";
+
+/// The second mutator parks for that flip before the look that begins its record. There is no room for it in the new epoch either, but no flip
+/// came since the look, so it asks for one of its own. Only after that is the heap full, with the record on the board copied.
+const FULL_AFTER_ITS_OWN: &[Act] = &[
+    Executes(0, 4),
+    Executes(1, 1),
+    Until(0, Goal::Request),
+    Come(2, 1),
+    Until(0, Goal::Idle),
+    Printed(0, &[], Some(End::Halt)),
+    ToTheEnd,
+    Printed(
+        1,
+        &[],
+        Some(End::HeapFull {
+            asked: 4,
+            room: 255,
+            live: 1,
+        }),
+    ),
+    Cycles(2),
+];
+
+/// A flip that came after a mutator's last effect, but before the look that begins its next instruction, is none that it has seen.
+#[test]
+fn a_flip_before_the_look_does_not_count(rt: HostRuntime) {
+    play(&rt, rt.alloc(), LATER, &SMALLEST, &[FULL_AFTER_ITS_OWN]);
 }
