@@ -5,6 +5,7 @@ pub mod Rule
 pub mod Seats
 pub mod Readers
 pub mod Calls
+pub mod CallsByActs
 pub mod Opened
 pub mod Programs
 pub mod Running

@@ -1,6 +1,7 @@
-//! What holds of all histories. Each function here does nothing: its contract is what is proved.
+//! What holds of all histories, and of calls that are made by acts. Each function here does nothing: its contract is what is proved.
 
 ghost use Rattle.ael_threads.specs.Alone.{LoneCallsComeToTheSame};
+ghost use Rattle.ael_threads.specs.CallsByActs.{BegunCallsAreUnderWay, EffectsCompleteCalls, EndsCompleteCalls, UnansweredCallsGoOn};
 ghost use Rattle.ael_threads.specs.Unread.{BoardWordsStay, LastPutStands, UnreadBoardsShareNothing};
 
 /// In a legal history, the calls of a mutator none of whose calls names the board or makes a cell come to the same as alone: made on an
@@ -21,4 +22,13 @@ pub fn unread_boards_share_nothing()
 pub fn board_words_stay()
     ensures stays { BoardWordsStay }
     ensures put { LastPutStands }
+{}
+
+/// Who makes a call by `begin` or `begin_end` and acts is promised as much of it as by `exec`, also if it ends with a full heap. The call is
+/// under way from `begin` on, an act that tells neither an effect nor an end leaves it so, and one that tells it makes it a call.
+pub fn acts_make_calls()
+    ensures begun { BegunCallsAreUnderWay }
+    ensures goes_on { UnansweredCallsGoOn }
+    ensures executed { EffectsCompleteCalls }
+    ensures ended { EndsCompleteCalls }
 {}

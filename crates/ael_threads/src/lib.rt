@@ -28,7 +28,9 @@ pub use gc_worker::{
     Call, Config, Did, Entry, OpenError, Stepped, loads_get_the_last_store,
     records_keep_their_shape, who_is_gone_saw_why,
 };
-pub use laws::{board_words_stay, lone_calls_come_to_the_same, unread_boards_share_nothing};
+pub use laws::{
+    acts_make_calls, board_words_stay, lone_calls_come_to_the_same, unread_boards_share_nothing,
+};
 pub use mutator::{Mutator, Reg};
 pub use mutator_asm::{Instr, Operand, Program};
 pub use opening::Seats;

@@ -79,6 +79,9 @@ impl Mutator {
     /// Makes one atomic step, and waits for nobody. With no instruction begun it is a look at the gate, and what the gate then asks. It is
     /// idle exactly where the mutator has left.
     ///
+    /// From `begin` up to the act that answers, acts make a call of which as much is promised as of one that `exec` makes
+    /// (`acts_make_calls`). So if it ends with a full heap, a flip came since its instruction began, in this very call.
+    ///
     /// At the effect of `snap` all other mutators stand still, and they do until this one has made a few more acts: in one of them it clears
     /// its request. Who makes `snap` by acts and then waits for another thread should make acts first, until it looks at the gate again;
     /// `exec` does so by itself.
@@ -99,7 +102,7 @@ impl Mutator {
         self.caller.act::<Site>(h)
     }
 
-    /// Takes in another mutator, which has left, with its calls.
+    /// Takes in another mutator, which has left, with its calls. What both have seen and heard of are beginnings of one history then.
     pub fn absorb(&mut self, h: &Shared, other: Mutator)
         requires mine { self.old.table ≡ h.now.table.shared.table_id }
         requires other { other.table ≡ h.now.table.shared.table_id }
