@@ -76,6 +76,10 @@ first_own (h ∷ hs) = h.own
 abbrev pub IsMine : View → Type 0
 IsMine v = calls_of (first_number v.hands) v.seen ≡ first_own v.hands
 
+-- what was heard of begins with what was seen
+abbrev pub HasHeardAllSeen : View → Type 0
+HasHeardAllSeen v = IsPrefix v.seen v.heard
+
 -- the plain state after all that was seen
 abbrev pub plain_after_seen : View → Plain
 plain_after_seen v = after_all (first_plain v.plan) v.seen
@@ -265,9 +269,10 @@ new_callers t plan from (suc n) = new_callers t plan from n ++ new_seated t plan
 
 -- ---- how a seat takes in what another knows
 
--- it has heard of what the other has seen
+-- What each had heard of, its own and the other's. What it had seen is the beginning of the one; so nothing of both is lost in the whole
+-- history, which it sees next.
 abbrev pub both_of : View → View → View
-both_of v w = view v.plan (v.hands ++ w.hands) v.seen w.seen (v.claims ++ w.claims)
+both_of v w = view v.plan (v.hands ++ w.hands) v.heard w.heard (v.claims ++ w.claims)
 
 -- Where the history tells that this worker found the heap full, a flip came since the look by which it began that task, in the epoch that
 -- its code keeps, or none can.
@@ -296,8 +301,8 @@ pub record Learned (v w : View) : Type 0 where
 abbrev pub Learns : table.Step ℕ → Me → ℕ → Me → Type 0
 Learns st me found later = (later.1 ≡ me.1) × Learned me.0 later.0
 
--- THE CLAUSE OF ABSORB: one history for both callers, with just the calls that both made; no worker of both, and no page won by both in
--- one epoch. There are tasks, one a worker at most, by which, where the history has no later call of a worker, each full heap of it was
+-- THE CLAUSE OF ABSORB: one history for both callers, of which what each had seen and heard of is a beginning, with just the calls that
+-- both made; no worker of both, and no page won by both in one epoch. There are tasks, one a worker at most, by which, where the history has no later call of a worker, each full heap of it was
 -- filled and each of its flips was asked for, with so many pages in use in each epoch; and if one of these workers found the heap
 -- full, a flip came since the look by which it began that task, in the epoch that its code keeps, or none can; if another did, since
 -- such a look in some epoch.
@@ -307,6 +312,8 @@ pub record Absorbs (v u w : View) : Type 0 where
   pub claims : w.claims ≡ v.claims ++ u.claims
   pub mine : IsPrefix v.seen w.seen
   pub other : IsPrefix u.seen w.seen
+  pub heard : IsPrefix v.heard w.seen
+  pub other_heard : IsPrefix u.heard w.seen
   pub hears : w.heard ≡ w.seen
   pub own : HasOwnCalls w.seen w.hands
   pub apart : IsOnce (map hand_number w.hands)
@@ -336,14 +343,15 @@ pub record Gathers (t : TableId) (all : List Seated) (one : Seated) : Type 0 whe
   pub hands : one.knows.hands ≡ all_hands all
   pub claims : one.knows.claims ≡ all_claims all
   pub seen : Each (λ (s : Seated). IsPrefix s.knows.seen one.knows.seen) all
+  pub heard : Each (λ (s : Seated). IsPrefix s.knows.heard one.knows.heard) all
 
 -- a worker stands among these as its code has it, and its calls are all that the history has of it
 pub record Stays (workers : List Held) (log : List Entry) (h : Hand) : Type 0 where
   pub state : StandsAs workers h.number h.worker
   pub calls : calls_of h.number log ≡ h.own
 
--- THE CLAUSE OF CLOSE: the calls of all these callers stand in one legal history, each once, of which what each has seen is a beginning;
--- with what their codes hold the words stand for the plain state after it; if a scanner is gone, all mutators are; what was copied in an
+-- THE CLAUSE OF CLOSE: the calls of all these callers stand in one legal history, each once, of which what each has seen and heard of is a
+-- beginning; with what their codes hold the words stand for the plain state after it; if a scanner is gone, all mutators are; what was copied in an
 -- epoch that is traced is what was live at the last flip of the history, and exactly those cells of its space are empty that lost their
 -- targets by that flip, or were empty then; if checkpoints can be begun, the words are just those of the layout, and say what was kept at
 -- the last `snap` of the history; the gate's epoch is the number of its flips; each flip was for a record, and if a call told the heap to
@@ -374,6 +382,7 @@ pub record Closes (plan : Plan) (all : List Seated) (words : List ℕ) : Type 0 
   pub flipped : Each (HasFlippedIfFull plan log) (all_hands all)
   pub all_flipped : (m : ℕ) → FlippedIfFull plan m (begun_held workers m) log
   pub seen : Each (λ (s : Seated). IsPrefix s.knows.seen log) all
+  pub heard : Each (λ (s : Seated). IsPrefix s.knows.heard log) all
   pub hands : Each (Stays workers log) (all_hands all)
   pub others : length (all_hands all) ≡ crew plan → AreBy (map hand_number (all_hands all)) log
   pub apart : IsOnce (map hand_number (all_hands all))

@@ -29,13 +29,13 @@ pub(crate) struct Caller {
 impl Model for Caller {
     ghost use Rattle.std.specs.Prelude.{◌≡◌, []};
     ghost use Rattle.crossbeam_utils.specs.Padded.{padded_value};
-    ghost use Rattle.ael_threads.specs.Seats.{Heads, FitsTable, IsMine, Seated, ShowsSeen};
+    ghost use Rattle.ael_threads.specs.Seats.{Heads, FitsTable, HasHeardAllSeen, IsMine, Seated, ShowsSeen};
 
     ghost Value = { Seated };
 
     ghost view = { λ c. record { table = c.seat.table_id; worker = padded_value c.worker; knows = c.seat.me.0 } };
 
-    ghost invariant = { λ c. (c.seat.me.1 ≡ []) × Heads c.seat.me.0.plan (padded_value c.worker) c.seat.me.0.hands × FitsTable c.seat.table_id c.seat.me.0 × IsMine c.seat.me.0 × ShowsSeen (padded_value c.worker) c.seat.me.0 };
+    ghost invariant = { λ c. (c.seat.me.1 ≡ []) × Heads c.seat.me.0.plan (padded_value c.worker) c.seat.me.0.hands × FitsTable c.seat.table_id c.seat.me.0 × IsMine c.seat.me.0 × ShowsSeen (padded_value c.worker) c.seat.me.0 × HasHeardAllSeen c.seat.me.0 };
 }
 
 impl Caller {

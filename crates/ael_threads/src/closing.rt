@@ -14,7 +14,8 @@ use crate::words::Words;
 
 impl Shared {
     /// The words, once all seats are back, at least one mutator's among them. With what the seats know they stand for the plain state
-    /// after one history of all calls, and if checkpoints can be begun they tell the last one of that history.
+    /// after one history of all calls, of which what each seat has seen and heard of is a beginning, and if checkpoints can be begun they
+    /// tell the last one of that history.
     pub fn close(self, seats: Seats) -> Words
         requires some { 0 < vec_len seats.mutators }
         requires mutators { Each (λ (m : Seated). m.table ≡ self.table.shared.table_id) seats.mutators.items }

@@ -29,7 +29,8 @@ impl Model for Scanner {
 
 impl Scanner {
     /// Makes one atomic step, and waits for nobody. It is idle exactly where the scanner is gone. The act after which it is gone found all
-    /// mutators gone (`saw`), at a gate that counts them all as left.
+    /// mutators gone (`saw`), at a gate that counts them all as left. What it tells, as that the epoch is traced, stands in the history that
+    /// `close` gives (`heard` of `Closes`).
     pub fn act(&mut self, h: &Shared) -> Stepped
         requires { self.old.seated.table ≡ h.now.table.shared.table_id }
         ensures table { self.new.seated.table ≡ self.old.seated.table }

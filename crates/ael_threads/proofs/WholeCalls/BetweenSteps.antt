@@ -27,7 +27,8 @@ use Rattle.ael_threads.specs.declared.view.View.{View}
 use Rattle.gc_worker.specs.History.Legal.{after_all, calls_of}
 use Rattle.ael_threads.specs.Histories.{HasOwnCalls, first_held, first_plain, hand}
 use Rattle.ael_threads.specs.Rule.{crew, view}
-use Rattle.ael_threads.specs.Seats.{Follows, Heads, FitsTable, IsMine, IsShown, Learned, Moves, Seated, ShowsSeen, both_of, first_number, first_own}
+use Rattle.ael_threads.specs.Seats.{Absorbs, Follows, HasHeardAllSeen, Heads, FitsTable, IsMine, IsShown, Learned, Moves, Seated, ShowsSeen, both_of, first_number, first_own}
+use Rattle.ael_threads.proofs.Lists.Elements.{prefix_trans}
 use Rattle.ael_threads.proofs.Lists.Reads.{get_of}
 use Rattle.gc_worker.proofs.History.Extensions.{seen_keeps}
 use Rattle.ael_threads.proofs.TableRule.Opening.{uncounted_first, worker_at}
@@ -92,6 +93,10 @@ moved_heads v x now r w h t e =
     let layout : (turned x r).layout ≡ v.plan.spaces = goes.layout ∙ laid_out v.plan x v.hands h in
     let prints : (turned x r).prints ≡ v.plan.prints = goes.prints ∙ may_print v.plan x v.hands h in
     subst (λ (z : Plan × (Held × List Hand)). Heads z.0 z.1.0 z.1.1) (λ i. (sym t.plan i, (sym e i, sym t.hands i))) (stays v.plan m (uncounted (turned x r)) f layout prints)
+
+-- after a step the seat has heard of the history after it
+pub has_heard_all : (v : View) (m : ℕ) (x : Held) (r : Reply) (w : View) → Moves v m x r w → HasHeardAllSeen w
+has_heard_all v m x r w t = subst (IsPrefix w.seen) (sym t.hears) t.stands.begins
 
 pub sound_by : (n mutators k : ℕ) (x : Held) → Fits n mutators k x → IsSound x
 sound_by n mutators k x f = subst (λ (j : ℕ). Fits x.layout.pages x.mutators j x) (sym f.number)
@@ -161,29 +166,49 @@ more_heads : (plan : Plan) (x : Held) (hs gs : List Hand) → Heads plan x hs �
 more_heads plan x [] gs h = absurd h
 more_heads plan x (was ∷ others) gs h = h
 
-pub absorbed_heads : (v u y w : View) (x : Held) → Heads v.plan x v.hands → y ≡ both_of v u → Learned y w → Heads w.plan x w.hands
-absorbed_heads v u y w x h e l =
-    subst (λ (z : Plan × List Hand). Heads z.0 x z.1) (λ i. ((sym (l.plan ∙ ap (λ (b : View). b.plan) e)) i, (sym (l.hands ∙ ap (λ (b : View). b.hands) e)) i))
-    (more_heads v.plan x v.hands u.hands h)
+pub absorbed_heads : (v u w : View) (x : Held) → Heads v.plan x v.hands → Absorbs v u w → Heads w.plan x w.hands
+absorbed_heads v u w x h a = subst (λ (z : Plan × List Hand). Heads z.0 x z.1) (λ i. (sym a.plan i, sym a.hands i)) (more_heads v.plan x v.hands u.hands h)
 
 -- the first worker's calls stand in the whole history
 first_mine : (plan : Plan) (x : Held) (hs gs : List Hand) (log : List Entry) → Heads plan x hs → HasOwnCalls log (hs ++ gs) → (first_number (hs ++ gs) ≡ first_number hs) × (first_own (hs ++ gs) ≡ first_own hs) × (calls_of (first_number hs) log ≡ first_own hs)
 first_mine plan x [] gs log h own = absurd h
 first_mine plan x (was ∷ others) gs log h own = (refl, refl, own.0)
 
+-- the whole history begins with what each had heard of, and so with what each had seen
+pub absorbs : (v u y w : View) → HasHeardAllSeen v → HasHeardAllSeen u → y ≡ both_of v u → Learned y w → Absorbs v u w
+absorbs v u y w before other e l =
+    let heard : IsPrefix v.heard w.seen = subst (λ (b : View). IsPrefix b.seen w.seen) e l.seen in
+    let other_heard : IsPrefix u.heard w.seen = subst (λ (b : View). IsPrefix b.heard w.seen) e l.heard in record {
+      plan = l.plan ∙ ap (λ (b : View). b.plan) e;
+      hands = l.hands ∙ ap (λ (b : View). b.hands) e;
+      claims = l.claims ∙ ap (λ (b : View). b.claims) e;
+      mine = prefix_trans v.seen v.heard w.seen before heard;
+      other = prefix_trans u.seen u.heard w.seen other other_heard;
+      heard = heard;
+      other_heard = other_heard;
+      hears = l.hears;
+      own = l.own;
+      apart = l.apart;
+      once = l.once;
+      legal = l.legal;
+      tasks = l.tasks;
+      sizes = l.sizes;
+      sized = l.sized;
+      entries = l.entries;
+      flipped = l.flipped;
+      all_flipped = l.all_flipped;
+    }
+
 -- what is shown stays so where more was seen
-pub absorbed : (v u y w : View) (x : Held) → Heads v.plan x v.hands → IsMine v → ShowsSeen x v → y ≡ both_of v u → Learned y w → IsMine w × ShowsSeen x w
-absorbed v u y w x h mine shows e l =
-    let hands : w.hands ≡ v.hands ++ u.hands = l.hands ∙ ap (λ (b : View). b.hands) e in
-    let f = first_mine v.plan x v.hands u.hands w.seen h (subst (HasOwnCalls w.seen) hands l.own) in
-    let number_is : first_number w.hands ≡ first_number v.hands = ap first_number hands ∙ f.0 in
-    let own_is : first_own w.hands ≡ first_own v.hands = ap first_own hands ∙ f.1 in
-    let pre : IsPrefix v.seen w.seen = subst (λ (b : View). IsPrefix b.seen w.seen) e l.seen in
-    let plan_is : w.plan ≡ v.plan = l.plan ∙ ap (λ (b : View). b.plan) e in
-    let kept = seen_keeps (first_plain v.plan) v.seen w.seen (first_number v.hands) (first_own v.hands) pre mine f.2 in (
+pub absorbed : (v u w : View) (x : Held) → Heads v.plan x v.hands → IsMine v → ShowsSeen x v → Absorbs v u w → IsMine w × ShowsSeen x w
+absorbed v u w x h mine shows a =
+    let f = first_mine v.plan x v.hands u.hands w.seen h (subst (HasOwnCalls w.seen) a.hands a.own) in
+    let number_is : first_number w.hands ≡ first_number v.hands = ap first_number a.hands ∙ f.0 in
+    let own_is : first_own w.hands ≡ first_own v.hands = ap first_own a.hands ∙ f.1 in
+    let kept = seen_keeps (first_plain v.plan) v.seen w.seen (first_number v.hands) (first_own v.hands) a.mine mine f.2 in (
       (λ i. calls_of (number_is i) w.seen) ∙ (f.2 ∙ sym own_is),
       subst (λ (z : Plan × ℕ). (q : Mutator) → slice_get (after_all (first_plain z.0) w.seen).mutators z.1 ≡ Some q → IsShown (after_all (first_plain z.0) w.seen).heap z.1 x q)
-          (λ i. (sym plan_is i, sym number_is i)) (λ q its. let s = shows q (sym kept.mutator ∙ its) in record {
+          (λ i. (sym a.plan i, sym number_is i)) (λ q its. let s = shows q (sym kept.mutator ∙ its) in record {
             counter = s.counter;
             printed = s.printed;
             end = s.end;

@@ -1,5 +1,5 @@
 -- All callers in one, and what stands at the end.
-use Rattle.std.proofs.Common.{◌≡◌, ℕ, ◌<◌, length, List, [], ◌∷◌, ◌++◌, map, take, ◌-◌, arith, refl, ◌∙◌, ap, subst, append_assoc}
+use Rattle.std.proofs.Common.{◌≡◌, ℕ, ◌<◌, length, List, [], ◌∷◌, ◌++◌, map, take, ◌-◌, arith, refl, sym, ◌∙◌, ap, subst, append_assoc}
 use mathlib.Core.List.{IsPrefix}
 use Rattle.atomic_table.specs.Table as table
 use Rattle.atomic_table.specs.Seated.{TableId}
@@ -32,7 +32,7 @@ use Rattle.ael_threads.proofs.Lists.Reads.{at_inside}
 use Rattle.ael_threads.proofs.TableRule.PagesInUse.{tallied_sizes}
 
 pub gathers_one : (t : TableId) (one : Seated) → one.table ≡ t → Gathers t (one ∷ []) one
-gathers_one t one same = record { table = same; hands = refl; claims = refl; seen = (prefix_self one.knows.seen, tt) }
+gathers_one t one same = record { table = same; hands = refl; claims = refl; seen = (prefix_self one.knows.seen, tt); heard = (prefix_self one.knows.heard, tt) }
 
 pub gathers_more : (t : TableId) (all : List Seated) (one other one' : Seated) → Gathers t all one → one'.table ≡ one.table → Absorbs one.knows other.knows one'.knows → Gathers t (other ∷ all) one'
 gathers_more t all one other one' g same a = record {
@@ -44,7 +44,15 @@ gathers_more t all one other one' g same a = record {
     each_map (λ (s : Seated). IsPrefix s.knows.seen one.knows.seen) (λ (s : Seated). IsPrefix s.knows.seen one'.knows.seen)
         (λ s h. prefix_trans s.knows.seen one.knows.seen one'.knows.seen h a.mine) all g.seen,
   );
+  heard = (
+    hears_too other.knows.heard a.other_heard,
+    each_map (λ (s : Seated). IsPrefix s.knows.heard one.knows.heard) (λ (s : Seated). IsPrefix s.knows.heard one'.knows.heard)
+        (λ s h. prefix_trans s.knows.heard one.knows.heard one'.knows.heard h (hears_too one.knows.heard a.heard)) all g.heard,
+  );
 }
+  where
+    hears_too : (log : List Entry) → IsPrefix log one'.knows.seen → IsPrefix log one'.knows.heard
+    hears_too log h = subst (IsPrefix log) (sym a.hears) h
 
 -- the calls are by these, where all workers are among them
 all_by : (plan : Plan) (workers : List Held) (log : List Entry) (hands : List Hand) → length workers ≡ crew plan → IsLegal (first_plain plan) log → Each (Stays workers log) hands → IsOnce (map hand_number hands)
@@ -89,6 +97,7 @@ closes plan id t all one words xs g fits many end =
           (each_map (HasHand b.workers b.log b.owner id) (HasFlippedIfFull plan b.log) (λ h k. hand_flipped plan b.workers b.log h k.state b.flipped) one.knows.hands f.hands);
       all_flipped = b.flipped;
       seen = each_map (λ (c : Seated). IsPrefix c.knows.seen one.knows.seen) (λ (c : Seated). IsPrefix c.knows.seen b.log) (λ c h. prefix_trans c.knows.seen one.knows.seen b.log h f.seen) all g.seen;
+      heard = each_map (λ (c : Seated). IsPrefix c.knows.heard one.knows.heard) (λ (c : Seated). IsPrefix c.knows.heard b.log) (λ c h. prefix_trans c.knows.heard one.knows.heard b.log h f.heard) all g.heard;
       hands = hands;
       others = λ many. all_by plan b.workers b.log (all_hands all) b.count b.legal hands apart many;
       apart = apart;

@@ -78,8 +78,8 @@ module _ (plan : Plan) (words : List ℕ) (workers : List Held) (log : List Entr
       → FitsView plan words workers log owner' winner' id (both_of v u)
   both_fits v u f g = record {
     same = f.same;
-    seen = f.seen;
-    heard = g.seen;
+    seen = f.heard;
+    heard = g.heard;
     hands = each_append (HasHand workers log owner' id) v.hands u.hands
         (each_map (HasHand workers log owner id) (HasHand workers log owner' id) (has_stays id (λ e. apart (sym e))) v.hands f.hands)
         (each_map (HasHand workers log owner other) (HasHand workers log owner' id) has_comes u.hands g.hands);

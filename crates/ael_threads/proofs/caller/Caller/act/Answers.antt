@@ -3,7 +3,7 @@ use Rattle.gc_worker.specs.Workers.Held.{Held}
 use Rattle.ael_threads.specs.declared.view.View.{View}
 use Rattle.ael_threads.specs.Seats.{Acts, Heads, Seated, ShowsSeen}
 use Rattle.ael_threads.proofs.WholeCalls.Acts.{acts}
-use Rattle.ael_threads.proofs.WholeCalls.BetweenSteps.{moved_heads, still_live}
+use Rattle.ael_threads.proofs.WholeCalls.BetweenSteps.{has_heard_all, moved_heads, still_live}
 use Rattle.ael_threads.proofs.caller.Caller.act.Goals as goal
 
 heads_at : (v : View) (x y : Held) → x ≡ y → Heads v.plan y v.hands → Heads v.plan x v.hands
@@ -23,6 +23,7 @@ invariant_of-self g c =
       still_live _ _ seat.me.0 c.step-reply.new.seat.me.0 c.step-reply.ensures.table.0 c.step-reply.ensures.moved.plan c.self.invariant.2,
       c.step-reply.ensures.moved.mine,
       shows_at c.step-reply.new.seat.me.0 _ _ c.take_look.ensures.state c.step-reply.ensures.moved.shows,
+      has_heard_all _ _ _ _ _ c.step-reply.ensures.moved,
     )
 
 pub returns-in-Some-clause-act : goal.returns-in-Some-clause-act
@@ -39,7 +40,7 @@ pub invariant_of-self-in_default-want : goal.invariant_of-self-in_default-want
 invariant_of-self-in_default-want g c =
     let seat = c.self.inside.seat in
     let value = c.deref_mut-worker.ensures.value in
-    (c.self.invariant.0, heads_at seat.me.0 _ _ value c.self.invariant.1, c.self.invariant.2, c.self.invariant.3, shows_at seat.me.0 _ _ value c.self.invariant.4)
+    (c.self.invariant.0, heads_at seat.me.0 _ _ value c.self.invariant.1, c.self.invariant.2, c.self.invariant.3, shows_at seat.me.0 _ _ value c.self.invariant.4, c.self.invariant.5)
 
 pub step-reply-requires-2-clause-shows : goal.step-reply-requires-2-clause-shows
 step-reply-requires-2-clause-shows g c = shows_at c.self.inside.seat.me.0 _ _ c.deref_mut-worker.ensures.value c.self.invariant.4
@@ -52,6 +53,7 @@ invariant_of-self-2 g c =
       still_live _ _ seat.me.0 c.step-reply-2.new.seat.me.0 c.step-reply-2.ensures.table.0 c.step-reply-2.ensures.moved.plan c.self.invariant.2,
       c.step-reply-2.ensures.moved.mine,
       shows_at c.step-reply-2.new.seat.me.0 _ _ c.take.ensures.state c.step-reply-2.ensures.moved.shows,
+      has_heard_all _ _ _ _ _ c.step-reply-2.ensures.moved,
     )
 
 pub returns-clause-act : goal.returns-clause-act

@@ -18,6 +18,7 @@ invariant_of-self c =
       c.self.invariant.2,
       c.self.invariant.3,
       begun_shows worker c.begin_end.new.self (Stops c.args.end) c.self.inside.seat.me.0 begun c.self.invariant.4,
+      c.self.invariant.5,
     )
 
 pub returns-clause-looks_first : goal.returns-clause-looks_first

@@ -1,10 +1,10 @@
-use Rattle.std.proofs.Common.{◌<◌, ◌≤◌, arith, refl, sym, ◌∙◌, ap, subst}
+use Rattle.std.proofs.Common.{◌<◌, ◌≤◌, [], arith, refl, sym, ◌∙◌, ap, subst}
 use Rattle.crossbeam_utils.specs.Padded.{padded_value}
 use Rattle.gc_worker.specs.Workers.Held.{Held}
 use Rattle.space_map.specs.Spaces.{IsPageCount}
 use Rattle.ael_threads.specs.declared.view.View.{View}
 use Rattle.ael_threads.specs.Rule.{crew}
-use Rattle.ael_threads.specs.Seats.{IsMine, Me, new_seated}
+use Rattle.ael_threads.specs.Seats.{HasHeardAllSeen, IsMine, Me, new_seated}
 use Rattle.ael_threads.proofs.WorkerSeats.Dealt.{deals, gives, leaves}
 use Rattle.ael_threads.proofs.WholeCalls.BetweenSteps.{fresh_heads, fresh_shows, still_live}
 use Rattle.ael_threads.proofs.shared.Shared.seated.Goals as goal
@@ -27,6 +27,7 @@ invariant_of-result c =
       still_live _ _ (new_seated c.args.self.now.table.shared.table_id plan 0).knows c.split_seat-own.result.me.0 (s.3 ∙ c.requires.table) (ap (λ (z : View). z.plan) is) (some, c.requires.live),
       subst IsMine (sym is) refl,
       fresh_shows plan c.args.k worker c.split_seat-own.result.me.0 size c.requires.few.0 c.requires.few.1 c.requires.below fresh is,
+      subst HasHeardAllSeen (sym is) ([], refl),
     )
 
 pub returns-clause-left : goal.returns-clause-left
