@@ -9,5 +9,6 @@ pub mod Alone
 pub mod Unread
 pub mod Refusals
 pub mod ScannerActs
+pub mod ActsInRow
 pub mod RegisterCount
 mod Taken

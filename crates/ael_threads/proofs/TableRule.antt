@@ -6,4 +6,5 @@ pub mod PagesInUse
 pub mod FullCalls
 pub mod StepKeeps
 pub mod AllowedSteps
+pub mod GateLooks
 pub mod Opening

@@ -14,3 +14,5 @@ pub mod Alone
 pub mod Unread
 pub mod Refusals
 pub mod Rounds
+pub mod ActsInRow
+pub mod GateLooks

@@ -301,11 +301,11 @@ pub record Learned (v w : View) : Type 0 where
 abbrev pub Learns : table.Step ℕ → Me → ℕ → Me → Type 0
 Learns st me found later = (later.1 ≡ me.1) × Learned me.0 later.0
 
--- THE CLAUSE OF ABSORB: one history for both callers, of which what each had seen and heard of is a beginning, with just the calls that
--- both made; no worker of both, and no page won by both in one epoch. There are tasks, one a worker at most, by which, where the history has no later call of a worker, each full heap of it was
--- filled and each of its flips was asked for, with so many pages in use in each epoch; and if one of these workers found the heap
--- full, a flip came since the look by which it began that task, in the epoch that its code keeps, or none can; if another did, since
--- such a look in some epoch.
+-- THE CLAUSE OF ABSORB: one history for both callers, of which what each had seen and heard of is a beginning, with just the calls that both
+-- made; no worker of both, and no page won by both in one epoch. There are tasks, one a worker at most, by which, where the history has no
+-- later call of a worker, each full heap of it was filled and each of its flips was asked for, with so many pages in use in each epoch; and if
+-- one of these workers found the heap full, a flip came since the look by which it began that task, in the epoch that its code keeps, or none
+-- can; if another did, since such a look in some epoch.
 pub record Absorbs (v u w : View) : Type 0 where
   pub plan : w.plan ≡ v.plan
   pub hands : w.hands ≡ v.hands ++ u.hands

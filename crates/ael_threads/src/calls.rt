@@ -1,14 +1,15 @@
 //! Whole calls of a mutator, which may wait for other workers.
 
-ghost use Rattle.std.specs.Prelude.{◌≡◌, true, None, Some};
+ghost use Rattle.std.specs.Prelude.{◌≡◌, true, None, Some, is_some};
 ghost use Rattle.plain_state.specs.declared.end.End.{End};
 ghost use Rattle.gc_worker.specs.declared.stage.Stage.TheVariants.{Gone};
 ghost use Rattle.gc_worker.specs.declared.task.Task.{Task};
 ghost use Rattle.gc_worker.specs.declared.task.Task.TheVariants.{Calls};
 ghost use Rattle.gc_worker.specs.Steps.Stepped.{MayExecute, awaits};
 ghost use Rattle.gc_worker.specs.Workers.Fits.{MayBegin};
+ghost use Rattle.ael_threads.specs.ActsInRow.{MakesSome, is_answer, is_idle};
 ghost use Rattle.ael_threads.specs.Calls.{Called, CalledBy, GoesOn, Halts, StaysSilent, IsUnderWay, Tries};
-ghost use Rattle.ael_threads.specs.Seats.{Seated};
+ghost use Rattle.ael_threads.specs.Seats.{Acts, Seated};
 
 use crate::mutator::Mutator;
 use crate::shared::Shared;
@@ -19,7 +20,7 @@ use mutator_asm::Instr;
 use std::sync::Wait;
 
 /// How many acts are made at once. Most instructions need fewer; who needs more waits for another worker, or copies.
-pub(crate) const ACTS: u32 = 64;
+pub const ACTS: u32 = 64;
 
 impl Mutator {
     /// Makes one call: the instruction is begun, and acts are made up to its effect or end. Between two tries it backs off. What `begin`
@@ -75,12 +76,13 @@ impl Mutator {
         unreachable!()
     }
 
-    /// Makes at most 64 acts for the task that it has begun, and waits for nobody. It answers what the task came to, once an act answers it.
-    /// After `snap` all other mutators stand still, until it makes more acts: `comes_to_rest` makes them.
+    /// Makes acts for the task that it has begun, up to the one that answers it, 64 at most, and waits for nobody. It answers what the task
+    /// came to, once an act answers it. After `snap` all other mutators stand still, until it makes more acts: `comes_to_rest` makes them.
     pub fn tries(&mut self, h: &Shared) -> Option<Did>
         requires table { self.old.table ≡ h.now.table.shared.table_id }
         ensures table { self.new.table ≡ self.old.table }
         ensures tries { (a : Seated) (task : Task) → IsUnderWay a task self.old → Tries a task result self.new }
+        ensures acts { MakesSome Acts is_answer (is_some result) self.old self.new }
     {
         self.tries_at::<Apart>(h)
     }
@@ -90,6 +92,7 @@ impl Mutator {
         requires table { self.old.table ≡ h.now.table.shared.table_id }
         ensures table { self.new.table ≡ self.old.table }
         ensures tries { (a : Seated) (task : Task) → IsUnderWay a task self.old → Tries a task result self.new }
+        ensures acts { MakesSome Acts is_answer (is_some result) self.old self.new }
     {
         for _ in 0..ACTS {
             match self.act_at::<Site>(h) {
@@ -154,12 +157,13 @@ impl Mutator {
         }
     }
 
-    /// Makes some acts of a mutator with an end, up to the one that finds that it has left, and waits for nobody.
+    /// Makes acts of a mutator with an end, up to the one that finds that it has left, 64 at most, and waits for nobody.
     pub fn departs(&mut self, h: &Shared) -> bool
         requires table { self.old.table ≡ h.now.table.shared.table_id }
         ensures table { self.new.table ≡ self.old.table }
         ensures left { result ≡ true → self.new.worker.stage ≡ Gone }
         ensures quiet { (a : Seated) → StaysSilent a self.old → StaysSilent a self.new }
+        ensures acts { MakesSome Acts is_idle result self.old self.new }
     {
         for _ in 0..ACTS {
             if let Stepped::Idle = self.act(h) {

@@ -24,6 +24,7 @@ mod site;
 mod view;
 mod words;
 
+pub use calls::ACTS;
 pub use gc_worker::{
     Call, Config, Did, Entry, OpenError, Stepped, loads_get_the_last_store,
     records_keep_their_shape, who_is_gone_saw_why,

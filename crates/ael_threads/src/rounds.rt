@@ -1,9 +1,10 @@
 //! Rounds of a scanner's duty.
 
-ghost use Rattle.std.specs.Prelude.{◌≡◌, true, false, Some, IsSome};
+ghost use Rattle.std.specs.Prelude.{◌≡◌, ◌||◌, true};
 ghost use Rattle.gc_worker.specs.declared.stage.Stage.TheVariants.{Gone};
 ghost use Rattle.gc_worker.specs.Steps.AtRest.{is_at_rest};
 ghost use Rattle.gc_worker.specs.Steps.Wanted.{wanted};
+ghost use Rattle.ael_threads.specs.ActsInRow.{GoesRound, MakesRound, MakesRounds, round_told};
 ghost use Rattle.ael_threads.specs.Calls.{StaysSilent};
 ghost use Rattle.ael_threads.specs.Rounds.{is_write};
 ghost use Rattle.ael_threads.specs.Seats.{Seated};
@@ -15,28 +16,26 @@ use atom_store::Step;
 use crossbeam_utils::Backoff;
 use gc_worker::Stepped;
 use std::sync::Wait;
-use std::sync::atomic::{AtomicBool, Ordering};
 
 /// What a round came to.
 #[derive(Clone, Copy, Debug, PartialEq, Eq)]
 pub enum Round {
-    /// The scanner wrote a word, as to claim a page.
+    /// An act of the round was to write a word, as to claim a page: it stored it, or tried to exchange it.
     Worked,
-    /// There was nothing to do.
+    /// No act of the round was to write a word. So it is too of the round which finds that all mutators have left.
     Nothing,
-    /// The scanner is gone, since all mutators have left.
+    /// The scanner was gone before the round, since all mutators have left.
     Gone,
 }
 
-/// What a round came to, after which the scanner goes on.
-fn round_by(has_written: bool) -> Round
-    ensures nothing { result ≡ Round.Nothing → has_written ≡ false }
-    ensures goes_on { result ≡ Round.Gone → ⊥ }
+/// What a round came to, by its last act.
+fn round_by(last: &Stepped, has_written: bool) -> Round
+    ensures { result ≡ round_told last.now has_written }
 {
-    if has_written {
-        Round::Worked
-    } else {
-        Round::Nothing
+    match last {
+        Stepped::Idle => Round::Gone,
+        _ if has_written => Round::Worked,
+        _ => Round::Nothing,
     }
 }
 
@@ -46,6 +45,7 @@ impl Scanner {
     pub fn round<R: Wait>(&mut self, rt: &R, h: &Shared) -> Round
         requires table { self.old.seated.table ≡ h.now.table.shared.table_id }
         ensures table { self.new.seated.table ≡ self.old.seated.table }
+        ensures acts { MakesRound result self.old self.new }
         ensures rests { is_at_rest self.new.seated.worker ≡ true }
         ensures gone { result ≡ Round.Gone → self.new.seated.worker.stage ≡ Gone }
         ensures nothing { result ≡ Round.Nothing → self.new.seated.knows.claims ≡ self.old.seated.knows.claims }
@@ -66,19 +66,13 @@ impl Scanner {
     fn goes_round(&mut self, h: &Shared, has_written: &mut bool) -> Option<Round>
         requires table { self.old.seated.table ≡ h.now.table.shared.table_id }
         ensures table { self.new.seated.table ≡ self.old.seated.table }
-        ensures rests { IsSome result → is_at_rest self.new.seated.worker ≡ true }
-        ensures gone { result ≡ Some Round.Gone → self.new.seated.worker.stage ≡ Gone }
-        ensures nothing { result ≡ Some Round.Nothing → has_written.new ≡ false }
-        ensures claims { has_written.new ≡ false → (has_written.old ≡ false) × (self.new.seated.knows.claims ≡ self.old.seated.knows.claims) }
-        ensures quiet { (a : Seated) → StaysSilent a self.old.seated → StaysSilent a self.new.seated }
+        ensures acts { GoesRound has_written.old has_written.new result self.old self.new }
     {
         for _ in 0..ACTS {
             *has_written = self.writes(*has_written);
-            if let Stepped::Idle = self.act(h) {
-                return Some(Round::Gone);
-            }
+            let stepped = self.act(h);
             if self.rests() {
-                return Some(round_by(*has_written));
+                return Some(round_by(&stepped, *has_written));
             }
         }
         None
@@ -86,7 +80,7 @@ impl Scanner {
 
     /// Whether a word was written, or its next step is to write one.
     fn writes(&self, has_written: bool) -> bool
-        ensures { result ≡ false → (has_written ≡ false) × (is_write (wanted self.now.seated.worker) ≡ false) }
+        ensures { result ≡ (is_write (wanted self.now.seated.worker) || has_written) }
     {
         match self.caller.worker.want() {
             Some(Step::Load(_)) | None => has_written,
@@ -94,24 +88,31 @@ impl Scanner {
         }
     }
 
-    /// Makes rounds until all mutators have left, or until this is set: it stops between two rounds, and may be begun again. After a round
-    /// with nothing to do it backs off.
-    pub fn scans<R: Wait>(&mut self, rt: &R, h: &Shared, stop: &AtomicBool)
+    /// Makes rounds until all mutators have left, or until it is told to stop: it is asked after each round, and may be begun again. After a
+    /// round with nothing to do it backs off. It answers what the last round came to: if that is not `Gone`, it was told to stop.
+    ///
+    /// The question may be a load, as `|| stop.load(Ordering::SeqCst)`. No clause says what a load of an `AtomicBool` answers.
+    pub fn scans<R: Wait, F: FnMut() -> bool>(&mut self, rt: &R, h: &Shared, mut stop: F) -> Round
         requires table { self.old.seated.table ≡ h.now.table.shared.table_id }
+        requires may_ask { F.IsAlwaysCallable stop }
         ensures table { self.new.seated.table ≡ self.old.seated.table }
+        ensures rounds { MakesRounds (λ f told g. F.step f told g) stop result self.old self.new }
         ensures rests { is_at_rest self.new.seated.worker ≡ true }
+        ensures gone { result ≡ Round.Gone → self.new.seated.worker.stage ≡ Gone }
         ensures quiet { (a : Seated) → StaysSilent a self.old.seated → StaysSilent a self.new.seated }
     {
         let backoff = Backoff::new();
         for _ in rt.forever() {
-            match self.round(rt, h) {
+            let round = self.round(rt, h);
+            match round {
                 Round::Worked => backoff.reset(),
                 Round::Nothing => backoff.snooze(),
-                Round::Gone => return,
+                Round::Gone => return round,
             }
-            if stop.load(Ordering::SeqCst) {
-                return;
+            if stop() {
+                return round;
             }
         }
+        unreachable!()
     }
 }

@@ -3,12 +3,17 @@
 ghost use Rattle.std.specs.Prelude.{◌≡◌, true, None};
 ghost use Rattle.std.specs.Thread.{IsSync};
 ghost use Rattle.gc_worker.specs.Steps.AtRest.{is_at_rest};
+ghost use Rattle.ael_threads.specs.ActsInRow.{MakesSome, is_rest};
 ghost use Rattle.ael_threads.specs.Calls.{RegistersStand, StaysSilent};
-ghost use Rattle.ael_threads.specs.Seats.{Seated, ShowsSeen};
+ghost use Rattle.ael_threads.specs.GateLooks.{FindsGate, Glances, Passes};
+ghost use Rattle.ael_threads.specs.Seats.{Acts, Seated, ShowsSeen, first_number};
 
+use crate::caller::Caller;
 use crate::calls::ACTS;
 use crate::mutator::Mutator;
 use crate::shared::Shared;
+use crate::view::View;
+use atomic_table::Play;
 use crossbeam_utils::Backoff;
 use space_map::GateWord;
 use std::marker::Sync;
@@ -19,11 +24,33 @@ use std::thread::{Threads, join_mut};
 /// The place of the gate's word.
 const GATE: usize = 0;
 
+/// Finds the gate's word.
+pub(crate) struct Glance;
+
+impl Play<u8, View> for Glance {
+    ghost then = { Glances };
+}
+
+impl Caller {
+    /// The gate's word, as it is now.
+    fn glances(&mut self, h: &Shared) -> u64
+        requires { self.old.table ≡ h.now.table.shared.table_id }
+        ensures same { self.new ≡ self.old }
+        ensures finds { FindsGate self.old.knows (first_number self.old.knows.hands) self.old.worker result }
+    {
+        h.table.shared.load::<Glance>(&mut self.seat, GATE)
+    }
+}
+
 impl Mutator {
     /// Whether the gate lets it pass: no flip and no checkpoint is requested, so that nobody waits for one that rests. This is one load, and
     /// the answer may be out of date at once.
-    pub fn passes(&self, h: &Shared) -> bool {
-        match GateWord::read(h.table.shared.peek(GATE)) {
+    pub fn passes(&mut self, h: &Shared) -> bool
+        requires { self.old.table ≡ h.now.table.shared.table_id }
+        ensures same { self.new ≡ self.old }
+        ensures passes { Passes result self.old }
+    {
+        match GateWord::read(self.caller.glances(h)) {
             Some(gate) => !gate.request,
             None => false,
         }
@@ -50,7 +77,7 @@ impl Mutator {
         }
     }
 
-    /// Makes some acts of a mutator without a task, up to the one after which it rests, and waits for nobody.
+    /// Makes acts of a mutator without a task, up to the first after which it rests, 64 at most, and waits for nobody.
     pub fn comes_to_rest(&mut self, h: &Shared) -> bool
         requires table { self.old.table ≡ h.now.table.shared.table_id }
         ensures table { self.new.table ≡ self.old.table }
@@ -58,6 +85,7 @@ impl Mutator {
         ensures quiet { (a : Seated) → StaysSilent a self.old → StaysSilent a self.new }
         ensures shows { result ≡ true → ShowsSeen self.new.worker self.new.knows }
         ensures stand { result ≡ true → self.new.worker.account.end ≡ None → RegistersStand self.new }
+        ensures acts { MakesSome Acts is_rest result self.old self.new }
     {
         for _ in 0..ACTS {
             self.act(h);

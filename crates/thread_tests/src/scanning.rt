@@ -59,13 +59,13 @@ fn scans<R: Wait + Abort>(rt: &R, h: &Shared, scanner: &mut Scanner, signs: &Sig
     requires { scanner.old.seated.table ≡ h.now.table.shared.table_id }
     ensures { scanner.new.seated.table ≡ scanner.old.seated.table }
 {
-    scanner.scans(rt, h, &signs.stop);
+    scanner.scans(rt, h, || signs.stop.load(Ordering::SeqCst));
     signs.stop.store(false, Ordering::SeqCst);
     signs.stopped.store(true, Ordering::SeqCst);
     assert!(rt; comes(&signs.again));
     check_rounds(rt, h, scanner, &[Round::Worked]);
     signs.worked.store(true, Ordering::SeqCst);
-    scanner.scans(rt, h, &signs.stop);
+    scanner.scans(rt, h, || signs.stop.load(Ordering::SeqCst));
     check_rounds(rt, h, scanner, &[Round::Gone]);
 }
 
@@ -110,7 +110,7 @@ fn a_scanner_ends_though_a_seat_is_not_taken(rt: HostRuntime) {
     check_rounds(&rt, &h, &mut scanner, &[Round::Nothing]);
     seats.retire(&rt, &h);
     // Nobody stops it.
-    scanner.scans(&rt, &h, &AtomicBool::new(false));
+    scanner.scans(&rt, &h, || false);
     check_rounds(&rt, &h, &mut scanner, &[Round::Gone]);
     seats.mutators.push_reserved(mutator);
     seats.scanners.push_reserved(scanner);

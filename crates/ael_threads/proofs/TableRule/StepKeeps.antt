@@ -105,7 +105,7 @@ live_seen p o seen log m (Answers task (Trap end)) h = subst (λ (flip : Plain).
 live_seen p o seen log m (Marks asked) h = tt
 
 -- whatever it has counted, it was given a task or not
-begins_counted : (count : ℕ) (was now : Held) → Begins was now → Begins (counted count was) (counted count now)
+pub begins_counted : (count : ℕ) (was now : Held) → Begins was now → Begins (counted count was) (counted count now)
 begins_counted count was now (inl same) = inl (ap (counted count) same)
 begins_counted count was now (inr given) = inr (given.0, given.1, ap (counted count) given.2)
 

@@ -1,37 +1,32 @@
-use Rattle.std.proofs.Common.{◌∙◌, ap}
-use Rattle.gc_worker.specs.declared.steps.stepped.Stepped.TheVariants as stepped
-use Rattle.ael_threads.specs.Seats.{Seated}
-use Rattle.ael_threads.proofs.ScannerActs.{claims_kept}
-use Rattle.ael_threads.proofs.WholeCalls.AtRest.{gone_rests}
-use Rattle.ael_threads.proofs.WholeCalls.FromActs.{quiet_more}
+use Rattle.std.proofs.Common.{[], ◌∷◌, ◌∙◌, arith, refl, sym}
+use Rattle.ael_threads.specs.ActsInRow.{ScannerActs, ends_round, has_written}
+use Rattle.gc_worker.specs.Steps.Wanted.{wanted}
+use Rattle.ael_threads.specs.Rounds.{is_write}
+use Rattle.ael_threads.proofs.ActsInRow.{ends_by, goes_on_by, series_more, written_more}
 use Rattle.ael_threads.proofs.scanner.Scanner.goes_round.Goals as goal
 
+pub loop-init : goal.loop-init
+loop-init c = record { table = refl; before = []; series = refl; count = refl; written = refl }
+
 pub loop-preserved : goal.loop-preserved
-loop-preserved c = (
-  c.act.ensures.table ∙ c.loop.invariant.0,
-  (λ unwritten. let e = c.writes.ensures unwritten in let was = c.loop.invariant.1 e.0 in (was.0, claims_kept c.loop.self.seated c.act.new.self.seated c.act.result c.act.ensures.act e.1 ∙ was.1)),
-  λ a q. quiet_more a c.loop.self.seated c.act.new.self.seated c.act.result (c.loop.invariant.2 a q) c.act.ensures.act,
-)
+loop-preserved c = let i = c.loop.invariant in let count = i.count in record {
+  table = c.act-stepped.ensures.table ∙ i.table;
+  before = c.loop.self ∷ i.before;
+  series = series_more ScannerActs ends_round c.args.self.now i.before c.loop.self c.act-stepped.result c.act-stepped.new.self i.series (record { act = c.act-stepped.ensures.act; steps = c.act-stepped.ensures.steps }) (sym c.rests.ensures ∙ c.if-rests.false);
+  count = omega (arith, count);
+  written = c.writes.ensures ∙ written_more (is_write (wanted c.loop.self.seated.worker)) (has_written i.before) c.loop.has_written c.args.has_written.now i.written;
+}
 
-pub returns-in-Idle-clause-rests : goal.returns-in-Idle-clause-rests
-returns-in-Idle-clause-rests c some =
-    gone_rests c.act.new.self.seated.worker (ap (λ (z : Seated). z.worker.stage) c.in-Idle.ensures.act.0 ∙ c.in-Idle.ensures.act.1)
+pub returns-then-rests-clause-acts : goal.returns-then-rests-clause-acts
+returns-then-rests-clause-acts c =
+    let i = c.loop.invariant in
+    ends_by c.args.self.now i.before c.loop.self c.args.has_written.now c.writes.result c.act-stepped.result c.act-stepped.new.self c.loop.counter c.round_by.result i.series i.count c.loop-test.true
+    (record { act = c.act-stepped.ensures.act; steps = c.act-stepped.ensures.steps }) (sym c.rests.ensures ∙ c.if-rests.true)
+    (c.writes.ensures ∙ written_more (is_write (wanted c.loop.self.seated.worker)) (has_written i.before) c.loop.has_written c.args.has_written.now i.written) c.round_by.ensures
 
-pub returns-in-Idle-clause-gone : goal.returns-in-Idle-clause-gone
-returns-in-Idle-clause-gone c is = ap (λ (z : Seated). z.worker.stage) c.in-Idle.ensures.act.0 ∙ c.in-Idle.ensures.act.1
-
-pub returns-in-Idle-clause-claims : goal.returns-in-Idle-clause-claims
-returns-in-Idle-clause-claims c unwritten =
-    let e = c.writes.ensures unwritten in
-    let was = c.loop.invariant.1 e.0 in (was.0, claims_kept c.loop.self.seated c.act.new.self.seated stepped.Idle c.in-Idle.ensures.act e.1 ∙ was.1)
-
-pub returns-in-Idle-clause-quiet : goal.returns-in-Idle-clause-quiet
-returns-in-Idle-clause-quiet c a q = quiet_more a c.loop.self.seated c.act.new.self.seated stepped.Idle (c.loop.invariant.2 a q) c.in-Idle.ensures.act
-
-pub returns-then-rests-clause-claims : goal.returns-then-rests-clause-claims
-returns-then-rests-clause-claims c unwritten =
-    let e = c.writes.ensures unwritten in
-    let was = c.loop.invariant.1 e.0 in (was.0, claims_kept c.loop.self.seated c.act.new.self.seated c.act.result c.act.ensures.act e.1 ∙ was.1)
-
-pub returns-then-rests-clause-quiet : goal.returns-then-rests-clause-quiet
-returns-then-rests-clause-quiet c a q = quiet_more a c.loop.self.seated c.act.new.self.seated c.act.result (c.loop.invariant.2 a q) c.act.ensures.act
+pub returns-clause-acts : goal.returns-clause-acts
+returns-clause-acts c =
+    let i = c.loop.invariant in
+    let test = c.loop-test.false in
+    let end = c.loop.auto.counter-end in
+    let count = i.count in goes_on_by c.args.self.now i.before c.loop.self c.args.has_written.now c.loop.has_written i.series (omega (arith, test, end, count)) i.written
