@@ -7,7 +7,7 @@
  *  - A handle is null, {0}, before it is given to ael_open. After that only this library reads or writes it, and it isn't copied or moved.
  *  - On one handle one call runs at a time. Another thread may have it next, if a lock, a thread's start or join, or a seq_cst atomic lies
  *    between the two. Calls on different handles may run at once.
- *  - A pointer that is passed leads to what its type says; that of an array without elements isn't NULL either.
+ *  - A pointer that is passed leads to what its type says. Only ael_open takes NULL, for an array without elements.
  *  - No call comes from a signal handler, or in the child of a fork of a process with threads.
  *  - malloc, realloc and free are of one allocator, and align to 16.
  * All else is tested, and told by a code.
@@ -21,8 +21,9 @@
  *  - A mutator makes at most 2^40 - 1 records.
  *  - A trap ends its mutator for good: a load from a number or past a record's end, the sum of a pointer, a division by 0, a pointer stored
  *    among plain numbers, a store in a weak cell, a full heap. That call and each later one answer the end's code; its registers can be read,
- *    but keep nothing alive; the other mutators go on. ael_try_load and ael_try_store test before they trap.
- *  - A mutator that has made a call, and hasn't left, holds up all who want room while it makes none: let it poll, or leave. */
+ *    but keep nothing alive. ael_try_load and ael_try_store test before they trap.
+ *  - A mutator that has made a call, and hasn't left, holds up all who want room while it makes none: let it poll, or leave. One with an end
+ *    leaves by polls too, so it may go on polling as the others do, until it has left. */
 #ifndef AEL_H
 #define AEL_H
 
@@ -42,7 +43,7 @@ extern "C" {
 typedef struct ael_mutator { void *at; } ael_mutator;
 typedef struct ael_scanner { void *at; } ael_scanner;
 
-/* What a function answers. Below 0 the call was not made, or ended the mutator. */
+/* What a function answers. Below 0 the call was not made, or ended the mutator: from AEL_HALTED on it is always the mutator's end. */
 enum {
     AEL_DONE = 0,
     AEL_AGAIN = 1,   /* not done yet: poll, or call again */
@@ -53,10 +54,16 @@ enum {
     AEL_NO_MEMORY = -2,
     AEL_IN_USE = -3,
     AEL_BAD_SIZE = -4,
-    AEL_BAD_INSTRUCTION = -5,
-    AEL_BAD_REGISTER = -6,
+    AEL_BAD_INSTRUCTION = -5, /* no instruction has this opcode */
+    AEL_BAD_REGISTER = -6,    /* it is above 7; so is one that an operand names, as AEL_IN(8) does */
     AEL_UNANSWERED = -7, /* the last call answered AEL_AGAIN, and has not been answered by polls */
-    AEL_RECORDS_OUT = -8,
+    AEL_RECORDS_OUT = -8, /* the mutator has made as many records as it can */
+    /* of functions that test before they trap; the mutator goes on */
+    AEL_IS_NUMBER = -9,     /* the register that should lead to a record holds a number */
+    AEL_NO_SUCH_WORD = -10, /* the record is too short */
+    AEL_IS_POINTER = -11,   /* the register that should hold a number leads to a record */
+    AEL_TOO_LONG = -12,     /* no record is so long */
+    AEL_TOO_BIG = -13,      /* of AEL_OP_LI: the number is 2^62 or more */
     /* the mutator has this end */
     AEL_HALTED = -16, /* it has left, or is about to */
     AEL_NOT_POINTER = -17,
@@ -99,17 +106,18 @@ enum {
 
 /* ---- the library's functions, none of which waits for another thread ---- */
 
-/* Opens a heap, whose spaces begin with this many pages and double up to the limit, 4 <= pages <= limit <= 2048. The heap goes with the last
- * seat that is freed. */
-int32_t ael_open(uint32_t pages, uint32_t limit, ael_mutator *mutators, size_t mutator_count, ael_scanner *scanners, size_t scanner_count);
+/* ael_open, below, if neither array is NULL. */
+int32_t ael_open_seats(uint32_t pages, uint32_t limit, ael_mutator *mutators, size_t mutator_count, ael_scanner *scanners, size_t scanner_count);
 
 /* Makes a call. AEL_AGAIN: poll until it is answered. */
 int32_t ael_call(ael_mutator *m, uint32_t op, uint64_t a, uint64_t b, uint64_t c, uint64_t d, uint64_t e);
 
-/* Goes on with a call. With none under way it is a safepoint: at AEL_DONE nobody waits for this mutator, before that others may. */
+/* Goes on with a call. With none under way it is a safepoint: at AEL_DONE nobody waits for this mutator, before that others may. A mutator
+ * with an end goes on to leave, and answers the end's code. */
 int32_t ael_poll(ael_mutator *m);
 
-/* Leaves the heap, in several calls, up to AEL_LEFT. */
+/* Leaves the heap, in several calls, up to AEL_LEFT. If a call is under way it goes on with that, as a poll does, and answers what it came
+ * to; then the mutator hasn't left yet. */
 int32_t ael_leave(ael_mutator *m);
 
 /* What register i holds. An address is good until the mutator's next call or poll, to be compared with others. */
@@ -124,6 +132,17 @@ int32_t ael_scan(ael_scanner *s);
 /* Frees what a handle, of either kind, leads to, and makes it null: a mutator that has left, or a scanner at which ael_scan has not
  * answered AEL_AGAIN last. */
 int32_t ael_free(void *handle);
+
+/* ---- opening ---- */
+
+/* Opens a heap, whose spaces begin with this many pages and double up to the limit, 4 <= pages <= limit <= 2048. The heap goes with the last
+ * seat that is freed. An array without elements may be NULL. */
+static inline int32_t ael_open(uint32_t pages, uint32_t limit, ael_mutator *mutators, size_t mutator_count, ael_scanner *scanners, size_t scanner_count) {
+    ael_mutator no_mutator = {NULL};
+    ael_scanner no_scanner = {NULL};
+    if ((!mutators && mutator_count > 0) || (!scanners && scanner_count > 0)) return AEL_BAD_SIZE;
+    return ael_open_seats(pages, limit, mutators ? mutators : &no_mutator, mutator_count, scanners ? scanners : &no_scanner, scanner_count);
+}
 
 /* ---- whole calls, which wait for others if they must ---- */
 
@@ -168,6 +187,7 @@ static inline int32_t ael_safepoint(ael_mutator *m) {
     return code;
 }
 
+/* If a call is under way, it answers what that came to, as ael_leave does. */
 static inline int32_t ael_leave_now(ael_mutator *m) {
     int32_t code = ael_leave(m);
     while (code == AEL_AGAIN) {
@@ -192,22 +212,32 @@ static inline void *ael_scanner_main(void *scanner) {
 /* By convention r0 to r5 are the program's, r6 is for what a call needs on the way, and r7 leads to the topmost frame. */
 enum { AEL_SCRATCH = 6, AEL_FRAME = 7 };
 
-/* Whether the record in a has a word x: AEL_DONE, AEL_NOT_POINTER, AEL_NOT_NUMBER of a register x, or AEL_OUT_OF_RANGE. */
+/* AEL_DONE, or the mutator's end. */
+static inline int32_t ael_end(ael_mutator *m) {
+    uint64_t serial = 0;
+    uint32_t epoch = 0;
+    return ael_tell(m, &serial, &epoch);
+}
+
+/* Whether the record in a has a word x: AEL_DONE, AEL_IS_NUMBER of a, AEL_IS_POINTER of a register x, or AEL_NO_SUCH_WORD. */
 static inline int32_t ael_has(ael_mutator *m, uint32_t a, uint64_t x) {
     uint64_t at = x, len = 0;
-    int32_t code = ael_reg(m, a, &len);
-    if (code == AEL_NUMBER) return AEL_NOT_POINTER;
+    int32_t code = ael_end(m);
+    if (code != AEL_DONE) return code;
+    code = ael_reg(m, a, &len);
+    if (code == AEL_NUMBER) return AEL_IS_NUMBER;
     if (code != AEL_POINTER) return code;
     if (x >= AEL_IN(0)) {
+        if (x > AEL_IN(7)) return AEL_BAD_REGISTER;
         code = ael_reg(m, (uint32_t)(x - AEL_IN(0)), &at);
-        if (code == AEL_POINTER) return AEL_NOT_NUMBER;
+        if (code == AEL_POINTER) return AEL_IS_POINTER;
         if (code != AEL_NUMBER) return code;
     }
     code = ael_len(m, AEL_SCRATCH, a);
     if (code != AEL_DONE) return code;
     code = ael_reg(m, AEL_SCRATCH, &len);
     if (code != AEL_NUMBER) return code;
-    return at < len ? AEL_DONE : AEL_OUT_OF_RANGE;
+    return at < len ? AEL_DONE : AEL_NO_SUCH_WORD;
 }
 
 /* A load that doesn't trap. */
@@ -224,7 +254,9 @@ static inline int32_t ael_try_store(ael_mutator *m, uint32_t a, uint64_t x, uint
 
 /* Puts a frame on top, of at most 4,094 locals, which hold 0. A frame is a record; field 0 leads to the one below. */
 static inline int32_t ael_frame_push(ael_mutator *m, uint64_t locals) {
-    int32_t code = locals > 4094 ? (int32_t)AEL_OUT_OF_RANGE : ael_new(m, AEL_SCRATCH, locals + 1);
+    int32_t code = ael_end(m);
+    if (code == AEL_DONE && locals > 4094) return AEL_TOO_LONG;
+    if (code == AEL_DONE) code = ael_new(m, AEL_SCRATCH, locals + 1);
     if (code == AEL_DONE) code = ael_store(m, AEL_SCRATCH, 0, AEL_FRAME);
     if (code == AEL_DONE) code = ael_mov(m, AEL_FRAME, AEL_SCRATCH);
     return code;

@@ -23,6 +23,11 @@ static const char *const names[CODES] = {
     [AEL_BAD_REGISTER - LEAST_CODE] = "AEL_BAD_REGISTER",
     [AEL_UNANSWERED - LEAST_CODE] = "AEL_UNANSWERED",
     [AEL_RECORDS_OUT - LEAST_CODE] = "AEL_RECORDS_OUT",
+    [AEL_IS_NUMBER - LEAST_CODE] = "AEL_IS_NUMBER",
+    [AEL_NO_SUCH_WORD - LEAST_CODE] = "AEL_NO_SUCH_WORD",
+    [AEL_IS_POINTER - LEAST_CODE] = "AEL_IS_POINTER",
+    [AEL_TOO_LONG - LEAST_CODE] = "AEL_TOO_LONG",
+    [AEL_TOO_BIG - LEAST_CODE] = "AEL_TOO_BIG",
     [AEL_HALTED - LEAST_CODE] = "AEL_HALTED",
     [AEL_NOT_POINTER - LEAST_CODE] = "AEL_NOT_POINTER",
     [AEL_NOT_NUMBER - LEAST_CODE] = "AEL_NOT_NUMBER",
@@ -61,12 +66,13 @@ static heap opened(uint32_t pages) {
     return h;
 }
 
-/* All leave, turn by turn, since each may wait for the other. */
+/* All that aren't freed yet leave, turn by turn, since each may wait for the other. */
 static void close_heap(heap *h) {
     int32_t code[2] = {AEL_AGAIN, AEL_AGAIN};
     while (code[0] == AEL_AGAIN || code[1] == AEL_AGAIN)
         for (int i = 0; i < 2; i++) code[i] = ael_leave(&h->m[i]);
-    for (int i = 0; i < 2; i++) must(ael_free(&h->m[i]));
+    for (int i = 0; i < 2; i++)
+        if (code[i] != AEL_BAD_HANDLE) must(ael_free(&h->m[i]));
     while (ael_scan(h->s) != AEL_LEFT) {
     }
     must(ael_free(h->s));
@@ -118,6 +124,12 @@ static void sizes(void) {
     tell("3 pages", ael_open(3, 4, m, 1, s, 0));
     tell("a limit below the pages", ael_open(8, 4, m, 1, s, 0));
     tell("2049 pages", ael_open(4, 2049, m, 1, s, 0));
+    tell("no mutators, by NULL", ael_open(4, 4, NULL, 0, s, 0));
+    tell("NULL for a mutator", ael_open(4, 4, NULL, 1, s, 0));
+    tell("NULL for a scanner", ael_open(4, 4, m, 1, NULL, 1));
+    tell("no scanners, by NULL", ael_open(4, 4, m, 1, NULL, 0));
+    ael_leave_now(&m[0]);
+    must(ael_free(&m[0]));
     must(ael_open(4, 2048, m, 16, s, 8));
     tell("handles that are in use", ael_open(4, 4, m, 16, s, 8));
     for (int i = 0; i < 16; i++) ael_leave_now(&m[i]);
@@ -185,7 +197,10 @@ static void effects(void) {
     tell("no such instruction", ael_call(m, AEL_OP_SWAP + 1, 0, 0, 0, 0, 0));
     tell("no such register", ael_mov(m, 8, 0));
     tell("too large a number", ael_set(m, 0, AEL_IN(0)));
+    tell("a number below 0", ael_set(m, 0, (uint64_t)-1));
+    tell("the largest number", ael_set(m, 7, AEL_IN(0) - 1));
     tell("no such operand", ael_load(m, 6, 0, AEL_IN(8)));
+    tell("a length below 0", ael_new(m, 0, (uint64_t)-1));
     tell("and nothing has happened", ael_reg(m, 0, &value));
     close_heap(&h);
 }
@@ -202,6 +217,7 @@ static void tests_first(void) {
     tell("from no register", ael_try_load(m, 3, 8, 0));
     tell("from a number", ael_try_load(m, 3, 1, 0));
     tell("at no register", ael_try_load(m, 3, 0, AEL_IN(8)));
+    tell("at no register by far", ael_try_load(m, 3, 0, AEL_IN(UINT64_C(1) << 32)));
     tell("at a pointer", ael_try_load(m, 3, 0, AEL_IN(0)));
     tell("at the end", ael_try_load(m, 3, 0, 2));
     tell("at the end, which a register has", ael_try_load(m, 3, 0, AEL_IN(1)));
@@ -255,11 +271,12 @@ static void traps(const char *what, trap *by) {
     tell(what, end);
     uint64_t serial;
     uint32_t epoch;
-    bool stays = ael_set(m, 0, 1) == end && ael_poll(m) == end && ael_tell(m, &serial, &epoch) == end && ael_call(m, 99, 0, 0, 0, 0, 0) == AEL_BAD_INSTRUCTION;
-    printf("and so it stays: %s\n", stays ? "yes" : "no");
+    bool stays = ael_set(m, 0, 1) == end && ael_tell(m, &serial, &epoch) == end && ael_try_load(m, 0, 0, 9) == end && ael_try_store(m, 0, 9, 0) == end
+        && ael_frame_push(m, 4095) == end && ael_call(m, 99, 0, 0, 0, 0, 0) == AEL_BAD_INSTRUCTION;
     int32_t early = ael_free(m);
-    ael_leave_now(m);
-    printf("freed before it has left: %s, and then its end: %s\n", name(early), ael_poll(m) == end ? "yes" : "no");
+    for (int i = 0; i < 100; i++) stays = stays && ael_poll(m) == end;
+    printf("and so it stays: %s\n", stays ? "yes" : "no");
+    printf("freed before it polls: %s, and then: %s\n", name(early), name(ael_free(m)));
     must(ael_new(&h.m[1], 0, 2));
     close_heap(&h);
 }
@@ -300,6 +317,26 @@ static void waits(void) {
     uint32_t epoch;
     tell("it tells of itself", ael_tell(m, &serial, &epoch));
     printf("epoch %" PRIu32 "\n", epoch);
+    close_heap(&h);
+}
+
+/* A mutator that waits as there leaves: its call is answered first. */
+static void leaves_meanwhile(void) {
+    heap h = opened(PAGES);
+    ael_mutator *m = &h.m[0], *other = &h.m[1];
+    must(ael_new(other, 0, 8));
+    int32_t code = AEL_DONE, others = AEL_AGAIN;
+    while (code == AEL_DONE) code = polled(m, ael_call(m, AEL_OP_NEW, 0, 8, 0, 0, 0));
+    tell("it leaves while its call waits", code = ael_leave(m));
+    for (int i = 0; i < 10000 && code == AEL_AGAIN; i++) {
+        if (others == AEL_AGAIN) others = ael_poll(other);
+        code = ael_leave(m);
+    }
+    uint64_t value;
+    tell("the call is answered", code);
+    tell("and it has its record", ael_reg(m, 0, &value));
+    tell("then it leaves", ael_leave_now(m));
+    tell("and has halted", ael_poll(m));
     close_heap(&h);
 }
 
@@ -448,6 +485,7 @@ int main(void) {
     traps("a full heap", heap_full);
     halts();
     waits();
+    leaves_meanwhile();
     scans();
     refused(1, 0);
     refused(3, 2);

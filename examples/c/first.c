@@ -4,8 +4,7 @@
 
 int main(void) {
     ael_mutator m = {0};
-    ael_scanner none;
-    if (ael_open(4, 64, &m, 1, &none, 0) != AEL_DONE) return 1;
+    if (ael_open(4, 64, &m, 1, NULL, 0) != AEL_DONE) return 1;
     ael_set(&m, 1, 7);      /* r1 becomes 7 */
     ael_new(&m, 0, 2);      /* r0 leads to a new record of two fields */
     ael_store(&m, 0, 1, 1); /* its field 1 becomes what r1 holds */

@@ -50,8 +50,7 @@ static uint64_t count(ael_mutator *m) {
 
 int main(void) {
     ael_mutator mutators[2] = {{0}, {0}};
-    ael_scanner none;
-    must(ael_open(PAGES, PAGES, mutators, 2, &none, 0));
+    must(ael_open(PAGES, PAGES, mutators, 2, NULL, 0));
     ael_mutator *m = &mutators[0], *spare = &mutators[1];
     for (int k = 0; k < TREES; k++) make_tree(m, DEPTH);
     must(ael_board_put(m, 0, TREE));

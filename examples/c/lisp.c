@@ -475,8 +475,7 @@ static void run(const char *from) {
 }
 
 int main(void) {
-    ael_scanner none;
-    must(ael_open(PAGES, PAGES, &lisp, 1, &none, 0));
+    must(ael_open(PAGES, PAGES, &lisp, 1, NULL, 0));
     make_symbols();
     run(program);
     uint64_t records;

@@ -15,7 +15,7 @@ use Rattle.ael_threads.specs.Seats.{Seated}
 use Rattle.ael_c.specs.declared.answer.Answer.{Answer}
 use Rattle.ael_c.specs.declared.answer.Answer.TheVariants as answers
 use Rattle.ael_c.specs.declared.seat.Seat.{Seat}
-use Rattle.ael_c.specs.Answers.{answer_by, answer_to, code_of}
+use Rattle.ael_c.specs.Answers.{answer_by, answer_to, code_of, leaving_by}
 use Rattle.ael_c.specs.Calls.{ActsOn, GoesOn, HasLeftOnceTold, Leaves, LeavesWith, MakesActs, MakesCall, MakesUnless, Polls, PollsWith, ReadsIf, ReadsRegister, Rests, TellsRegister}
 use Rattle.ael_c.specs.Handles.{ByHandle, Frees, FreesIf, may_go}
 
@@ -25,7 +25,7 @@ module _ (a b : Seated) (answer : Answer) where
   pub makes_none : (o : Option Instr) → o ≡ None → answer ≡ answers.BadInstruction → b ≡ a → MakesCall o a answer b
   makes_none o none told same = subst (λ (x : Option Instr). MakesCall x a answer b) (sym none) (told, same)
 
-  pub makes_refused : (o : Option Instr) (instr : Instr) (why : Refused) → o ≡ Some instr → refusal a instr ≡ Some why → answer ≡ answer_to why → b ≡ a → MakesCall o a answer b
+  pub makes_refused : (o : Option Instr) (instr : Instr) (why : Refused) → o ≡ Some instr → refusal a instr ≡ Some why → answer ≡ answer_to instr why → b ≡ a → MakesCall o a answer b
   makes_refused o instr why is refused told same =
       subst (λ (x : Option Instr). MakesCall x a answer b) (sym is) (subst (λ (w : Option Refused). MakesUnless w instr a answer b) (sym refused) (told, same))
 
@@ -35,10 +35,10 @@ module _ (a b : Seated) (answer : Answer) where
 
   -- ---- poll
 
-  pub polls_ended : (end : End) → a.worker.account.end ≡ Some end → answer ≡ answers.Ended end → b ≡ a → Polls a answer b
-  polls_ended end is told same = subst (λ (e : Option End). PollsWith e a.worker.task a answer b) (sym is) (told, same)
+  pub polls_ended : (end : End) → a.worker.account.end ≡ Some end → StaysSilent a b → answer ≡ answers.Ended end → Polls a answer b
+  polls_ended end is quiet told = subst (λ (e : Option End). PollsWith e a.worker.task a answer b) (sym is) (quiet, told)
 
-  pub polls_calling : a.worker.account.end ≡ None → is_some a.worker.task ≡ true → GoesOn a answer b → Polls a answer b
+  pub polls_calling : a.worker.account.end ≡ None → is_some a.worker.task ≡ true → GoesOn answer_by a answer b → Polls a answer b
   polls_calling none calls goes = subst (λ (e : Option End). PollsWith e a.worker.task a answer b) (sym none) (by_task a.worker.task calls)
     where
       by_task : (o : Option Task) → is_some o ≡ true → PollsWith None o a answer b
@@ -54,12 +54,12 @@ module _ (a b : Seated) (answer : Answer) where
   pub leaves_ended : (end : End) → a.worker.account.end ≡ Some end → StaysSilent a b → HasLeftOnceTold answer b → Leaves a answer b
   leaves_ended end is quiet left = subst (λ (e : Option End). LeavesWith e a.worker.task a answer b) (sym is) (quiet, left)
 
-  pub leaves_calling : a.worker.account.end ≡ None → is_some a.worker.task ≡ true → ActsOn (λ came. GoesOn a came b) answer → Leaves a answer b
-  leaves_calling none calls acts = subst (λ (e : Option End). LeavesWith e a.worker.task a answer b) (sym none) (by_task a.worker.task calls)
+  pub leaves_calling : a.worker.account.end ≡ None → is_some a.worker.task ≡ true → GoesOn leaving_by a answer b → Leaves a answer b
+  leaves_calling none calls goes = subst (λ (e : Option End). LeavesWith e a.worker.task a answer b) (sym none) (by_task a.worker.task calls)
     where
       by_task : (o : Option Task) → is_some o ≡ true → LeavesWith None o a answer b
       by_task None some = absurd (cc)
-      by_task (Some task) some = acts
+      by_task (Some task) some = goes
 
   pub leaves_halting : a.worker.account.end ≡ None → a.worker.task ≡ None → ActsOn (λ came. MakesActs a (tasks.Calls Halt) came b) answer → Leaves a answer b
   leaves_halting none idle acts =

@@ -109,6 +109,7 @@ opens_by answers.BadInstruction config before after heap plan words never = absu
 opens_by answers.BadRegister config before after heap plan words never = absurd never
 opens_by answers.Unanswered config before after heap plan words never = absurd never
 opens_by answers.RecordsOut config before after heap plan words never = absurd never
+opens_by answers.TooBig config before after heap plan words never = absurd never
 opens_by (answers.Ended end) config before after heap plan words never = absurd never
 
 -- for none of the reasons for which it is refused

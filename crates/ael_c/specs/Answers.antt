@@ -1,7 +1,10 @@
 -- What C is told, and by which codes.
-use Rattle.std.specs.Prelude.{ℕ, ◌-◌, ℤ, pos, negsuc, Option, Some, None}
+use Rattle.std.specs.Prelude.{ℕ, ◌-◌, ℤ, pos, negsuc, Option, Some, None, if◌then◌else◌}
 use Rattle.plain_state.specs.declared.end.End.{End}
 use Rattle.plain_state.specs.declared.end.End.TheVariants as ends
+use Rattle.mutator_asm.specs.declared.instr.Instr.{Instr}
+use Rattle.mutator_asm.specs.declared.instr.Instr.TheVariants.{Li}
+use Rattle.mutator_asm.specs.Program.{is_number}
 use Rattle.gc_worker.specs.declared.calls.did.Did.{Did}
 use Rattle.gc_worker.specs.declared.calls.did.Did.TheVariants as dids
 use Rattle.ael_threads.specs.declared.refused.Refused.{Refused}
@@ -42,6 +45,7 @@ code_of answers.BadInstruction = minus 5
 code_of answers.BadRegister = minus 6
 code_of answers.Unanswered = minus 7
 code_of answers.RecordsOut = minus 8
+code_of answers.TooBig = minus 13
 code_of (answers.Ended end) = end_code end
 
 -- ---- answers
@@ -52,10 +56,20 @@ answer_by None = answers.Again
 answer_by (Some dids.Done) = answers.Done
 answer_by (Some (dids.Trap end)) = answers.Ended end
 
--- why a call is refused
-abbrev pub answer_to : Refused → Answer
-answer_to (reasons.Ended end) = answers.Ended end
-answer_to reasons.Calling = answers.Unanswered
-answer_to reasons.Operand = answers.BadInstruction
-answer_to reasons.Records = answers.RecordsOut
-answer_to reasons.Printing = answers.BadInstruction
+-- the same, as a mutator that leaves tells it: `halt` is its own call, and it goes on
+abbrev pub leaving_by : Option Did → Answer
+leaving_by (Some (dids.Trap ends.Halt)) = answers.Again
+leaving_by did = answer_by did
+
+-- what is wrong with an operand of an instruction that isn't valid: the number is 2^62 or more, or else a register is above 7
+abbrev pub wrong_operand : Instr → Answer
+wrong_operand (Li d k) = if is_number k then answers.BadRegister else answers.TooBig
+wrong_operand instr = answers.BadRegister
+
+-- why a call of this instruction is refused
+abbrev pub answer_to : Instr → Refused → Answer
+answer_to instr (reasons.Ended end) = answers.Ended end
+answer_to instr reasons.Calling = answers.Unanswered
+answer_to instr reasons.Operand = wrong_operand instr
+answer_to instr reasons.Records = answers.RecordsOut
+answer_to instr reasons.Printing = answers.BadInstruction

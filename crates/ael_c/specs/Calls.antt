@@ -18,7 +18,7 @@ use Rattle.ael_threads.specs.Refusals.{refusal}
 use Rattle.ael_threads.specs.Seats.{Seated, ShowsSeen}
 use Rattle.ael_c.specs.declared.answer.Answer.{Answer}
 use Rattle.ael_c.specs.declared.answer.Answer.TheVariants as answers
-use Rattle.ael_c.specs.Answers.{answer_by, answer_to}
+use Rattle.ael_c.specs.Answers.{answer_by, answer_to, leaving_by}
 
 -- it is refused for this reason, and nothing changes
 abbrev pub IsRefused : Answer → Seated → Answer → Seated → Type 0
@@ -33,7 +33,7 @@ pub record MakesActs (a : Seated) (task : Task) (answer : Answer) (b : Seated) :
   pub tries : Tries a task did b
 
 abbrev pub MakesUnless : Option Refused → Instr → Seated → Answer → Seated → Type 0
-MakesUnless (Some why) instr a answer b = IsRefused (answer_to why) a answer b
+MakesUnless (Some why) instr a answer b = IsRefused (answer_to instr why) a answer b
 MakesUnless None instr a answer b = MakesActs a (tasks.Calls instr) answer b
 
 -- THE CLAUSE OF CALL: the instruction is refused, or begun, and some acts are made for it
@@ -44,9 +44,9 @@ MakesCall (Some instr) a answer b = MakesUnless (refusal a instr) instr a answer
 -- ---- poll
 
 -- Some acts were made for the call that is under way, whatever it was before: if they answered it, it is a call that came to this.
-pub record GoesOn (a : Seated) (answer : Answer) (b : Seated) : Type 0 where
+pub record GoesOn (tell : Option Did → Answer) (a : Seated) (answer : Answer) (b : Seated) : Type 0 where
   pub did : Option Did
-  pub told : answer ≡ answer_by did
+  pub told : answer ≡ tell did
   pub tries : (first : Seated) (task : Task) → IsUnderWay first task a → Tries first task did b
 
 -- it rests once that is answered, and its registers may be compared
@@ -61,11 +61,12 @@ pub record Rests (a : Seated) (answer : Answer) (b : Seated) : Type 0 where
   pub done : RestsOnceDone answer b
 
 abbrev pub PollsWith : Option End → Option Task → Seated → Answer → Seated → Type 0
-PollsWith (Some end) task a answer b = IsRefused (answers.Ended end) a answer b
-PollsWith None (Some task) a answer b = GoesOn a answer b
+PollsWith (Some end) task a answer b = StaysSilent a b × (answer ≡ answers.Ended end)
+PollsWith None (Some task) a answer b = GoesOn answer_by a answer b
 PollsWith None None a answer b = Rests a answer b
 
--- THE CLAUSE OF POLL: a mutator with an end is refused; a call goes on; or the mutator looks at the gate, and does what that asks
+-- THE CLAUSE OF POLL: a mutator with an end makes no call, and the end is told; a call goes on; or the mutator looks at the gate, and does
+-- what that asks
 abbrev pub Polls : Seated → Answer → Seated → Type 0
 Polls a answer b = PollsWith a.worker.account.end a.worker.task a answer b
 
@@ -85,10 +86,11 @@ pub record ActsOn (P : Answer → Type 0) (answer : Answer) : Type 0 where
 
 abbrev pub LeavesWith : Option End → Option Task → Seated → Answer → Seated → Type 0
 LeavesWith (Some end) task a answer b = StaysSilent a b × HasLeftOnceTold answer b
-LeavesWith None (Some task) a answer b = ActsOn (λ came. GoesOn a came b) answer
+LeavesWith None (Some task) a answer b = GoesOn leaving_by a answer b
 LeavesWith None None a answer b = ActsOn (λ came. MakesActs a (tasks.Calls Halt) came b) answer
 
--- THE CLAUSE OF LEAVE: a call goes on; then `halt` is made; with its end the mutator leaves, and no call of it is heard of any more
+-- THE CLAUSE OF LEAVE: a call goes on, and what it came to is told; then `halt` is made; with its end the mutator leaves, and no call of it
+-- is heard of any more
 abbrev pub Leaves : Seated → Answer → Seated → Type 0
 Leaves a answer b = LeavesWith a.worker.account.end a.worker.task a answer b
 

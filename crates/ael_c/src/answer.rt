@@ -1,9 +1,10 @@
 //! What C is told.
 
 ghost use Rattle.std.specs.Prelude.{◌≡◌};
-ghost use Rattle.ael_c.specs.Answers.{answer_by, answer_to, code_of, end_code};
+ghost use Rattle.ael_c.specs.Answers.{answer_by, answer_to, code_of, end_code, leaving_by, wrong_operand};
 
-use ael_threads::{Did, End, Refused};
+use ael_threads::{Did, End, Instr, Refused};
+use plain_state::NUMBERS;
 
 /// What an export answers.
 #[derive(Clone, Copy)]
@@ -26,7 +27,7 @@ pub enum Answer {
     InUse,
     /// No heap has this size, or as many seats.
     BadSize,
-    /// There is no such instruction.
+    /// There is no instruction with this number.
     BadInstruction,
     /// There is no such register.
     BadRegister,
@@ -34,6 +35,8 @@ pub enum Answer {
     Unanswered,
     /// The mutator has made as many records as it can.
     RecordsOut,
+    /// A number is 2^62 or more.
+    TooBig,
     /// The mutator has this end.
     Ended(End),
 }
@@ -50,17 +53,37 @@ impl Answer {
         }
     }
 
-    /// Why a call is refused.
-    pub fn to(why: Refused) -> Answer
-        ensures { result ≡ answer_to why }
+    /// The same, as a mutator that leaves tells it: `halt` is its own, and it goes on.
+    pub fn leaving(did: Option<Did>) -> Answer
+        ensures { result ≡ leaving_by did }
+    {
+        match did {
+            Some(Did::Trap(End::Halt)) => Answer::Again,
+            other => Answer::by(other),
+        }
+    }
+
+    /// Why a call of this instruction is refused.
+    pub fn to(why: Refused, instr: &Instr) -> Answer
+        ensures { result ≡ answer_to instr.now why }
     {
         match why {
             Refused::Ended(end) => Answer::Ended(end),
             Refused::Calling => Answer::Unanswered,
-            Refused::Operand => Answer::BadInstruction,
+            Refused::Operand => Answer::of_operand(instr),
             Refused::Records => Answer::RecordsOut,
             // No number names `out`, so this isn't told.
             Refused::Printing => Answer::BadInstruction,
+        }
+    }
+
+    /// What is wrong with an operand of an instruction that isn't valid.
+    fn of_operand(instr: &Instr) -> Answer
+        ensures { result ≡ wrong_operand instr.now }
+    {
+        match *instr {
+            Instr::Li(_, n) if n >= NUMBERS => Answer::TooBig,
+            _ => Answer::BadRegister,
         }
     }
 
@@ -82,6 +105,7 @@ impl Answer {
             Answer::BadRegister => -6,
             Answer::Unanswered => -7,
             Answer::RecordsOut => -8,
+            Answer::TooBig => -13,
             Answer::Ended(end) => code_by_end(end),
         }
     }

@@ -28,7 +28,7 @@ use std::alloc::Global;
 /// Opens a heap, and puts a seat behind each of these handles: one for each mutator, and one for each scanner. The heap goes with the last
 /// seat that is freed.
 #[unsafe(no_mangle)]
-pub extern "C" fn ael_open(
+pub extern "C" fn ael_open_seats(
     alloc: Global,
     pages: u32,
     limit: u32,
@@ -62,7 +62,7 @@ pub extern "C" fn ael_call(
     answer.code()
 }
 
-/// Goes on with the call that is under way. If none is, it is a safepoint.
+/// Goes on with the call that is under way. If none is, it is a safepoint; a mutator with an end leaves.
 #[unsafe(no_mangle)]
 pub extern "C" fn ael_poll(alloc: Global, mutator: &mut Handle) -> i32
     ensures { ByHandle (OnMutator Polls) mutator.old.value result mutator.new.value }
@@ -75,7 +75,7 @@ pub extern "C" fn ael_poll(alloc: Global, mutator: &mut Handle) -> i32
     answer.code()
 }
 
-/// Makes some acts by which the mutator leaves the heap.
+/// Makes some acts by which the mutator leaves the heap, or for a call that is under way, and tells what that came to.
 #[unsafe(no_mangle)]
 pub extern "C" fn ael_leave(alloc: Global, mutator: &mut Handle) -> i32
     ensures { ByHandle (OnMutator Leaves) mutator.old.value result mutator.new.value }

@@ -49,17 +49,18 @@ impl MutatorSeat {
             return Answer::BadInstruction;
         };
         if let Some(why) = self.mutator.refusal(&instr) {
-            return Answer::to(why);
+            return Answer::to(why, &instr);
         }
         self.mutator.begin(&instr);
         Answer::by(self.mutator.tries(&self.heap))
     }
 
-    /// Makes some acts for the call that is under way, or else up to where it rests.
+    /// Makes some acts: up to where it has left, if it has an end, which is told; or for the call that is under way; or up to where it rests.
     pub fn poll(&mut self) -> Answer
         ensures { Polls self.old result self.new }
     {
         if let Some(end) = self.mutator.ended() {
+            self.mutator.departs(&self.heap);
             return Answer::Ended(end);
         }
         if self.mutator.is_calling() {
@@ -72,7 +73,8 @@ impl MutatorSeat {
         }
     }
 
-    /// Makes some acts up to where it has left, if it has an end; or for the call that is under way; or for `halt`.
+    /// Makes some acts: up to where it has left, if it has an end; or for the call that is under way, and what that came to is told; or for
+    /// `halt`.
     pub fn leave(&mut self) -> Answer
         ensures { Leaves self.old result self.new }
     {
@@ -84,8 +86,7 @@ impl MutatorSeat {
             };
         }
         if self.mutator.is_calling() {
-            self.mutator.tries(&self.heap);
-            return Answer::Again;
+            return Answer::leaving(self.mutator.tries(&self.heap));
         }
         self.mutator.begin(&Instr::Halt);
         self.mutator.tries(&self.heap);

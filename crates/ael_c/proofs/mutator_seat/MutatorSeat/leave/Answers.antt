@@ -16,9 +16,9 @@ pub returns-then-is_calling : goal.returns-then-is_calling
 returns-then-is_calling c =
     let m = c.self.inside.mutator in
     let b = c.tries.new.self in
-    subst (λ (a : Seated). Leaves a Again b) c.self.view_is
-    (leaves_calling m b Again (sym c.ended.ensures.ended ∙ c.in_default.is) (sym c.is_calling.ensures ∙ c.if-is_calling.true)
-    (record { told = refl; came = answer_by c.tries.result; acts = record { did = c.tries.result; told = refl; tries = c.tries.ensures.tries } }))
+    subst (λ (a : Seated). Leaves a c.leaving.result b) c.self.view_is
+    (leaves_calling m b c.leaving.result (sym c.ended.ensures.ended ∙ c.in_default.is) (sym c.is_calling.ensures ∙ c.if-is_calling.true)
+    (record { did = c.tries.result; told = c.leaving.ensures; tries = c.tries.ensures.tries }))
 
 pub returns : goal.returns
 returns c =
