@@ -7,10 +7,11 @@ use Rattle.std.specs.Prelude.{codes}
 use Rattle.std.specs.Char.{encode_utf8}
 use Rattle.std.specs.List.{flat_map}
 use Rattle.std.specs.Str.{chars, IsUtf8}
+use Rattle.ael_picture.specs.declared.class.Class.TheVariants as class
 use Rattle.ael_picture.specs.declared.shape.Shape.{Shape}
 use Rattle.ael_picture.specs.declared.shape.Shape.TheVariants as shape
 use Rattle.ael_picture.specs.Markup.{Attribute, Content, Done, Text, Empty, Full, attribute_text, escaped, markup}
-use Rattle.ael_picture.specs.Shapes.{all_drawn, drawn, number, class_attribute}
+use Rattle.ael_picture.specs.Shapes.{all_drawn, box_attributes, class_attribute, curve_path, drawn, label_attributes, switch_attributes, title_element}
 
 -- ---- one more character
 
@@ -46,9 +47,15 @@ full_more name attributes inside more =
     (append_assoc (markup inside) end (markup more) ∙ ap (λ (xs : List ℕ). markup inside ++ 60 ∷ 47 ∷ xs) (append_assoc name (62 ∷ []) (markup more))))))
 
 pub shape_more : (s : Shape) (more : Content) → markup (drawn s more) ≡ markup (drawn s Done) ++ markup more
-shape_more (shape.Box x y width height class) more = empty_more (codes "rect") (number (codes "x") x ∷ number (codes "y") y ∷ number (codes "width") width ∷ number (codes "height") height ∷ class_attribute class ∷ []) more
-shape_more (shape.Line x y to_x to_y class) more = empty_more (codes "line") (number (codes "x1") x ∷ number (codes "y1") y ∷ number (codes "x2") to_x ∷ number (codes "y2") to_y ∷ class_attribute class ∷ []) more
-shape_more (shape.Label x y class text) more = full_more (codes "text") (number (codes "x") x ∷ number (codes "y") y ∷ class_attribute class ∷ []) (Text (chars (string_bytes text)) Done) more
+shape_more (shape.Box x y width height class) more = empty_more (codes "rect") (box_attributes x y width height class) more
+shape_more (shape.TitledBox x y width height class title) more = full_more (codes "rect") (box_attributes x y width height class) (title_element (string_bytes title) Done) more
+shape_more (shape.Curve x y bend_x bend_y to_x to_y class) more =
+    empty_more (codes "path") (record { name = codes "d"; value = curve_path x y bend_x bend_y to_x to_y } ∷ class_attribute class ∷ []) more
+shape_more (shape.Label x y class text) more = full_more (codes "text") (label_attributes x y class) (Text (chars (string_bytes text)) Done) more
+shape_more (shape.TitledLabel x y class text title) more =
+    full_more (codes "text") (label_attributes x y class) (title_element (string_bytes title) (Text (chars (string_bytes text)) Done)) more
+shape_more (shape.Switch x y choice text) more =
+    full_more (codes "a") (switch_attributes choice) (Full (codes "text") (label_attributes x y class.Plain) (Text (chars (string_bytes text)) Done) Done) more
 
 shapes_push : (shapes : List Shape) (s : Shape) → markup (all_drawn (shapes ++ s ∷ [])) ≡ markup (all_drawn shapes) ++ markup (drawn s Done)
 shapes_push [] s = refl

@@ -1,8 +1,8 @@
-//! What a shape stands for, by which it is coloured.
+//! What a shape stands for.
 
 use std::fmt;
 
-/// What a shape stands for.
+/// What a shape stands for, by which it is coloured.
 #[derive(Clone, Copy, PartialEq, Eq)]
 pub enum Class {
     /// A word that no record has.
@@ -19,6 +19,8 @@ pub enum Class {
     New,
     /// What stands in place of a header that was copied.
     Forward,
+    /// The same, once the copying is done.
+    Faded,
     /// What stands in place of a header that is being copied.
     Busy,
     /// A page that is open in this epoch.
@@ -29,14 +31,30 @@ pub enum Class {
     Earlier,
     /// A page that was neither opened nor scanned.
     Unset,
-    /// FRONT.
+    /// FRONT or LOW.
     Mark,
-    /// LOW.
-    Low,
+    /// A line from a field to what it refers to.
+    FieldNew,
+    /// The same into the space that records are copied from.
+    FieldOld,
+    /// A line from a weak cell to its target.
+    Weak,
+    /// A line from a register or the board to what it refers to.
+    RootNew,
+    /// The same into the space that records are copied from.
+    RootOld,
+    /// A line from a record's old place to its copy.
+    Copy,
+    /// The same, once the copying is done.
+    Copied,
     /// Plain text.
     Plain,
-    /// Small text in a word.
+    /// Text beside a page or above a record.
     Small,
+    /// Text in the middle of a word.
+    Inside,
+    /// The same, that ends where it stands.
+    Ending,
 }
 
 impl fmt::Display for Class {
@@ -54,15 +72,24 @@ impl fmt::Display for Class {
             Class::Old => "old",
             Class::New => "new",
             Class::Forward => "forward",
+            Class::Faded => "faded",
             Class::Busy => "busy",
             Class::Open => "open",
             Class::Scanning => "scanning",
             Class::Earlier => "earlier",
             Class::Unset => "unset",
             Class::Mark => "mark",
-            Class::Low => "low",
+            Class::FieldNew => "field to-new",
+            Class::FieldOld => "field to-old",
+            Class::Weak => "field weak",
+            Class::RootNew => "root to-new",
+            Class::RootOld => "root to-old",
+            Class::Copy => "copy",
+            Class::Copied => "copy past",
             Class::Plain => "plain",
             Class::Small => "small",
+            Class::Inside => "inside",
+            Class::Ending => "ending",
         };
         f.write_str(name)
     }

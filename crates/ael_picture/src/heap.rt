@@ -6,9 +6,12 @@ use crate::class::Class;
 use dump_text::Dump;
 use heap_words::{Kind, Tag, Word};
 use plain_state::NoMemory;
-use record_layout::{read, read_busy, read_forward};
+use record_layout::{Header, read, read_busy, read_forward};
 use space_map::{AreaWord, GateWord, PAGE_WORDS, Spaces};
 use std::alloc::Global;
+
+/// The words of the board.
+pub const BOARD_WORDS: u32 = 16;
 
 /// A dump, with the layout of its heap and its epoch.
 #[derive(Drop)]
@@ -16,6 +19,13 @@ pub struct Heap<'a> {
     pub spaces: Spaces,
     pub epoch: u32,
     pub dump: &'a Dump,
+}
+
+/// What a word stands for, and where the record begins that has it.
+#[derive(Clone, Copy)]
+pub struct Meaning {
+    pub class: Class,
+    pub owner: u32,
 }
 
 /// A record, or what stands in its place.
@@ -40,9 +50,28 @@ impl<'a> Heap<'a> {
         self.shared(self.spaces.word_place(0).saturating_add(addr as usize))
     }
 
+    /// The address of the board's first word.
+    pub fn board(&self) -> u32 {
+        PAGE_WORDS * (2 * self.spaces.pages())
+    }
+
     /// The gate.
     pub fn gate(&self) -> Option<GateWord> {
         GateWord::read(self.shared(self.spaces.gate_place()))
+    }
+
+    /// Whether all copying of the epoch is done.
+    pub fn is_traced(&self) -> bool {
+        self.shared(self.spaces.traced_place()) == u64::from(self.epoch) + 1
+    }
+
+    /// The address of a space's first word.
+    pub fn start(&self, space: u8) -> u32 {
+        if space < 2 {
+            self.spaces.space_start(space)
+        } else {
+            0
+        }
     }
 
     /// The room that a space has.
@@ -76,7 +105,11 @@ impl<'a> Heap<'a> {
         }
         if let Some(forward) = read_forward(word) {
             return Some(Found {
-                class: Class::Forward,
+                class: if self.is_traced() {
+                    Class::Faded
+                } else {
+                    Class::Forward
+                },
                 len: u32::from(forward.len),
                 kind: Kind::Fields,
             });
@@ -87,6 +120,21 @@ impl<'a> Heap<'a> {
             len: u32::from(busy.len),
             kind: Kind::Fields,
         })
+    }
+
+    /// The header of the record that begins at an address, or began there before it was copied. While it is being copied, a
+    /// worker keeps the header.
+    pub fn header(&self, addr: u32) -> Option<Header> {
+        let word = self.word(addr);
+        if let Some(header) = read(word) {
+            return Some(header);
+        }
+        if let Some(forward) = read_forward(word) {
+            return read(self.word(forward.addr));
+        }
+        let busy = read_busy(word)?;
+        let kept = self.dump.kept.get(usize::from(busy.worker))?;
+        read(kept.header)
     }
 
     /// What a tagged word stands for: a number, or a pointer into the space that records are copied to or into the other one.
@@ -116,12 +164,12 @@ impl<'a> Heap<'a> {
         }
     }
 
-    /// Marks the words of what begins at an address, and answers how many follow the first.
-    fn mark(&self, classes: &mut Vec<Class>, addr: u32) -> u32 {
+    /// Notes the words of what begins at an address, and answers how many follow the first.
+    fn mark(&self, words: &mut Vec<Meaning>, addr: u32) -> u32 {
         let Some(found) = self.found(addr) else {
             return 0;
         };
-        set(classes, addr, found.class);
+        set(words, addr, found.class, addr);
         if found.class == Class::Header {
             let tagged = self.tagged_words(addr, found.kind);
             for i in 0..found.len {
@@ -131,25 +179,25 @@ impl<'a> Heap<'a> {
                 } else {
                     Class::Raw
                 };
-                set(classes, at, class);
+                set(words, at, class, addr);
             }
         }
         found.len
     }
 
-    /// Marks the words of the records from one address to another.
-    fn walk(&self, classes: &mut Vec<Class>, from: u32, to: u32) {
+    /// Notes the words of the records from one address to another.
+    fn walk(&self, words: &mut Vec<Meaning>, from: u32, to: u32) {
         let mut at = from;
         for _ in from..to {
             if at >= to {
                 return;
             }
-            at = self.mark(classes, at).saturating_add(at).saturating_add(1);
+            at = self.mark(words, at).saturating_add(at).saturating_add(1);
         }
     }
 
-    /// Marks the words of the records that a space has at its two ends.
-    fn mark_space(&self, classes: &mut Vec<Class>, space: u8)
+    /// Notes the words of the records that a space has at its two ends.
+    fn mark_space(&self, words: &mut Vec<Meaning>, space: u8)
         requires { space < 2 }
     {
         let Some(area) = self.area(space) else {
@@ -157,27 +205,37 @@ impl<'a> Heap<'a> {
         };
         let start = self.spaces.space_start(space);
         let end = start.saturating_add(self.in_use(space).saturating_mul(PAGE_WORDS));
-        self.walk(classes, start, start.saturating_add(area.front));
-        self.walk(classes, start.saturating_add(area.low), end);
+        self.walk(words, start, start.saturating_add(area.front));
+        self.walk(words, start.saturating_add(area.low), end);
     }
 
-    /// What each word of the heap stands for.
-    pub fn classes(&self, alloc: Global) -> Result<Vec<Class>, NoMemory> {
-        let board = PAGE_WORDS * (2 * self.spaces.pages());
-        let count = (board + PAGE_WORDS) as usize;
-        let mut classes = vec![in alloc; Class::Free; count]?;
-        self.mark_space(&mut classes, 0);
-        self.mark_space(&mut classes, 1);
-        for i in 0..16 {
-            set(&mut classes, board + i, self.tagged(self.word(board + i)));
-        }
-        Ok(classes)
+    /// What each word of both spaces stands for.
+    pub fn words(&self, alloc: Global) -> Result<Vec<Meaning>, NoMemory> {
+        let free = Meaning {
+            class: Class::Free,
+            owner: 0,
+        };
+        let mut words = vec![in alloc; free; self.board() as usize]?;
+        self.mark_space(&mut words, 0);
+        self.mark_space(&mut words, 1);
+        Ok(words)
     }
 }
 
-/// Writes a class, if the heap has such a word.
-fn set(classes: &mut Vec<Class>, at: u32, class: Class) {
-    if let Some(slot) = classes.get_mut(at as usize) {
-        *slot = class;
+/// Notes what a word stands for, if there is such a word.
+fn set(words: &mut Vec<Meaning>, at: u32, class: Class, owner: u32) {
+    if let Some(slot) = words.get_mut(at as usize) {
+        *slot = Meaning { class, owner };
+    }
+}
+
+/// What the word at an address stands for.
+pub fn meaning_at(words: &[Meaning], addr: u32) -> Meaning {
+    match words.get(addr as usize) {
+        Some(meaning) => *meaning,
+        None => Meaning {
+            class: Class::Free,
+            owner: 0,
+        },
     }
 }

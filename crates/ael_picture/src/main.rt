@@ -1,14 +1,23 @@
 //! The program `ael_picture`: a dump of a heap, drawn.
 #![tactic(auto)]
 
+mod choice;
 mod class;
 mod drawing;
 mod heap;
+mod legend;
+mod links;
+mod naming;
+mod pages;
+mod picture;
+mod roots;
 mod shape;
+mod style;
 mod svg;
 
-use crate::drawing::{WIDTH, draw};
+use crate::drawing::WIDTH;
 use crate::heap::Heap;
+use crate::picture::draw;
 use crate::svg::svg;
 use dump_text::{Dump, DumpError, read};
 use plain_state::NoMemory;
@@ -36,7 +45,7 @@ fn heap_picture(alloc: Global, spaces: Spaces, dump: &Dump) -> Result<String, No
 }
 
 /// The picture of a dump.
-fn picture(alloc: Global, bytes: &[u8]) -> Result<String, DumpError> {
+fn picture_of(alloc: Global, bytes: &[u8]) -> Result<String, DumpError> {
     let dump = read(alloc, bytes)?;
     let Ok(spaces) = Spaces::new(dump.pages) else {
         return Err(DumpError::Bad { line: 1 });
@@ -67,7 +76,7 @@ fn has_words(rt: &HostRuntime) -> Result<bool, NoMemory> {
 
 /// Writes the picture of a dump, or tells why there is none.
 fn show(rt: &HostRuntime, bytes: &[u8]) -> ExitCode {
-    match picture(rt.alloc(), bytes) {
+    match picture_of(rt.alloc(), bytes) {
         Ok(text) => match rt.stdout().write_all(text.as_str().as_bytes()) {
             Ok(()) => ExitCode::from(0),
             Err(_) => failed(rt, "ael_picture: write fault", 6),

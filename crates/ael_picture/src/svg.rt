@@ -4,11 +4,13 @@ ghost use Rattle.std.specs.Prelude.{◌≡◌, ◌++◌, IfOk, OnOk, codes, stri
 ghost use Rattle.std.specs.List.{flat_map};
 ghost use Rattle.std.specs.Str.{chars};
 ghost use Rattle.ael_picture.specs.Markup.{Done, IsMarkup, escaped, markup};
-ghost use Rattle.ael_picture.specs.declared.shape.Shape.TheVariants.{Box, Line, Label};
-ghost use Rattle.ael_picture.specs.Shapes.{all_drawn, drawn, picture};
+ghost use Rattle.ael_picture.specs.declared.shape.Shape.TheVariants.{Box, Curve, Label, Switch, TitledBox, TitledLabel};
+ghost use Rattle.ael_picture.specs.Shapes.{all_drawn, arrow, drawn, picture, title_element};
 
+use crate::choice::Choice;
 use crate::class::Class;
 use crate::shape::Shape;
+use crate::style::STYLE;
 use plain_state::NoMemory;
 use std::alloc::{AllocError, Global};
 
@@ -34,6 +36,15 @@ fn push_text(out: &mut String, text: &str) -> Result<(), AllocError>
     Ok(())
 }
 
+/// Adds a title, for the element that it stands in.
+fn push_title(out: &mut String, title: &String) -> Result<(), AllocError>
+    ensures { OnOk result (string_bytes out.new ≡ string_bytes out.old ++ markup (title_element (string_bytes title.now) Done)) }
+{
+    out.push_str("<title>")?;
+    push_text(out, title)?;
+    out.push_str("</title>")
+}
+
 /// Adds a filled box.
 fn push_box(
     out: &mut String,
@@ -51,20 +62,42 @@ fn push_box(
     )
 }
 
-/// Adds a line.
-fn push_line(
+/// Adds a filled box with its title.
+fn push_titled_box(
     out: &mut String,
     x: u32,
     y: u32,
+    width: u32,
+    height: u32,
+    class: Class,
+    title: &String,
+) -> Result<(), AllocError>
+    ensures { OnOk result (string_bytes out.new ≡ string_bytes out.old ++ markup (drawn (TitledBox x y width height class title.now) Done)) }
+{
+    write!(
+        out,
+        "<rect x=\"{x}\" y=\"{y}\" width=\"{width}\" height=\"{height}\" class=\"{class}\">"
+    )?;
+    push_title(out, title)?;
+    out.push_str("</rect>")
+}
+
+/// Adds a curve.
+fn push_curve(
+    out: &mut String,
+    x: u32,
+    y: u32,
+    bend_x: u32,
+    bend_y: u32,
     to_x: u32,
     to_y: u32,
     class: Class,
 ) -> Result<(), AllocError>
-    ensures { OnOk result (string_bytes out.new ≡ string_bytes out.old ++ markup (drawn (Line x y to_x to_y class) Done)) }
+    ensures { OnOk result (string_bytes out.new ≡ string_bytes out.old ++ markup (drawn (Curve x y bend_x bend_y to_x to_y class) Done)) }
 {
     write!(
         out,
-        "<line x1=\"{x}\" y1=\"{y}\" x2=\"{to_x}\" y2=\"{to_y}\" class=\"{class}\"/>"
+        "<path d=\"M{x} {y}Q{bend_x} {bend_y} {to_x} {to_y}\" class=\"{class}\"/>"
     )
 }
 
@@ -83,6 +116,38 @@ fn push_label(
     out.push_str("</text>")
 }
 
+/// Adds a text at its place, with its title.
+fn push_titled_label(
+    out: &mut String,
+    x: u32,
+    y: u32,
+    class: Class,
+    text: &String,
+    title: &String,
+) -> Result<(), AllocError>
+    ensures { OnOk result (string_bytes out.new ≡ string_bytes out.old ++ markup (drawn (TitledLabel x y class text.now title.now) Done)) }
+{
+    write!(out, "<text x=\"{x}\" y=\"{y}\" class=\"{class}\">")?;
+    push_title(out, title)?;
+    push_text(out, text)?;
+    out.push_str("</text>")
+}
+
+/// Adds a text that chooses lines.
+fn push_switch(
+    out: &mut String,
+    x: u32,
+    y: u32,
+    choice: Choice,
+    text: &String,
+) -> Result<(), AllocError>
+    ensures { OnOk result (string_bytes out.new ≡ string_bytes out.old ++ markup (drawn (Switch x y choice text.now) Done)) }
+{
+    write!(out, "<a id=\"{choice}\" href=\"#{choice}\">")?;
+    push_label(out, x, y, Class::Plain, text)?;
+    out.push_str("</a>")
+}
+
 /// Adds a shape.
 fn push_shape(out: &mut String, shape: &Shape) -> Result<(), AllocError>
     ensures { OnOk result (string_bytes out.new ≡ string_bytes out.old ++ markup (drawn shape.now Done)) }
@@ -95,20 +160,34 @@ fn push_shape(out: &mut String, shape: &Shape) -> Result<(), AllocError>
             height,
             class,
         } => push_box(out, *x, *y, *width, *height, *class),
-        Shape::Line {
+        Shape::TitledBox {
             x,
             y,
+            width,
+            height,
+            class,
+            title,
+        } => push_titled_box(out, *x, *y, *width, *height, *class, title),
+        Shape::Curve {
+            x,
+            y,
+            bend_x,
+            bend_y,
             to_x,
             to_y,
             class,
-        } => push_line(out, *x, *y, *to_x, *to_y, *class),
+        } => push_curve(out, *x, *y, *bend_x, *bend_y, *to_x, *to_y, *class),
         Shape::Label { x, y, class, text } => push_label(out, *x, *y, *class, text),
+        Shape::TitledLabel {
+            x,
+            y,
+            class,
+            text,
+            title,
+        } => push_titled_label(out, *x, *y, *class, text, title),
+        Shape::Switch { x, y, choice, text } => push_switch(out, *x, *y, *choice, text),
     }
 }
-
-/// How the classes are coloured.
-const STYLE: &str =
-    "text{font:11px sans-serif}.small{font-size:8px}rect{stroke:#999;stroke-width:.5}.free{fill:#fff;stroke:#e4e4e4}.header{fill:#9db7de}.number{fill:#e8e8e8}.raw{fill:#d8c9a3}.new{fill:#8fc98f}.old{fill:#e39b9b}.forward{fill:#b79bd6}.busy{fill:#f2a33a}.open{fill:#8fc98f}.scanning{fill:#f2a33a}.earlier{fill:#c8c8c8}.unset{fill:#fff}.mark{fill:#000}.low{fill:#1f4fd8}line.new{stroke:#3d8b3d}line.old{stroke:#b94a4a}line.forward{stroke:#7d55b0}line.mark{stroke:#000;stroke-width:3}line.low{stroke:#1f4fd8;stroke-width:3}text.small{fill:#000}";
 
 /// Adds shapes, the first one lowest.
 fn push_shapes(out: &mut String, shapes: &[Shape]) -> Result<(), AllocError>
@@ -120,15 +199,25 @@ fn push_shapes(out: &mut String, shapes: &[Shape]) -> Result<(), AllocError>
     Ok(())
 }
 
+/// Adds the point of an arrow, which the style puts at the ends of curves.
+fn push_arrow(out: &mut String) -> Result<(), AllocError>
+    ensures { OnOk result (string_bytes out.new ≡ string_bytes out.old ++ markup (arrow Done)) }
+{
+    out.push_str(
+        "<marker id=\"arrow\" markerWidth=\"7\" markerHeight=\"6\" refX=\"6\" refY=\"3\" orient=\"auto\"><path d=\"M0 0L7 3L0 6\"/></marker>",
+    )
+}
+
 /// The colours, and the shapes.
 fn written(alloc: Global, width: u32, height: u32, shapes: &[Shape]) -> Result<String, NoMemory>
     ensures { IfOk result (λ text. string_bytes text ≡ markup (picture width height STYLE.now shapes.now)) }
 {
     let mut out = format!(in alloc;
-        "<svg xmlns=\"http://www.w3.org/2000/svg\" width=\"{width}\" height=\"{height}\"><style>"
+        "<svg xmlns=\"http://www.w3.org/2000/svg\" width=\"{width}\" height=\"{height}\" viewBox=\"0 0 {width} {height}\"><style>"
     )?;
     push_text(&mut out, STYLE)?;
     out.push_str("</style>")?;
+    push_arrow(&mut out)?;
     push_shapes(&mut out, shapes)?;
     out.push_str("</svg>")?;
     Ok(out)

@@ -1,6 +1,6 @@
 use Rattle.std.proofs.Common.{string_bytes}
 use Rattle.std.proofs.lemmas.Result.{IfOk-weaker}
-use Rattle.ael_picture.specs.declared.svg.TheConstants.{STYLE}
+use Rattle.ael_picture.specs.declared.style.TheConstants.{STYLE}
 use Rattle.ael_picture.proofs.Clean.{is_markup}
 use Rattle.ael_picture.proofs.svg.svg.Goals as goal
 
