@@ -5,13 +5,13 @@ import os
 import re
 from typing import List, NamedTuple
 
+from commands import SCANNERS
 from dump import Dump
 from happenings import Workers, collector_between, mutator_did
-from order import machine_of
-from programs import AEL, PICTURE, RUNS, STEPS_OUT
+from order import machine_of, run_to
+from programs import PICTURE, STEPS_OUT
 from schedule import schedule_of
 
-SCANNERS = 1  # if --scanners doesn't say it
 AHEAD = 8  # moments that are begun before they are wanted, for each processor
 # the shapes of a picture: elements without any inside, those with some, and what begins and ends the whole
 SHAPE = re.compile(r"<(?:rect|path)[^>]*/>|<(rect|text|style|marker|a)\b.*?</\1>|<[^>]*>")
@@ -38,11 +38,6 @@ class Picture(NamedTuple):
     lines: List[int]
     written: List[list]
     printed: List[int]
-
-
-def run_to(request, step, *flags):
-    """The status and the output of a run that is stopped after a step."""
-    return AEL.run(["sim", "--steps", str(step), *flags, *request.words("--steps")], request.text, RUNS)
 
 
 def count_steps(request, most):
@@ -83,9 +78,8 @@ class Camera:
     def __init__(self, request, marks, every):
         self.machine, self.marks, self.every = machine_of(request), marks, every
         mutators = len(self.machine.mutators)
-        scanners = request.options.scanners
         self.workers = Workers(mutators)
-        self.schedule = schedule_of(request.text, request.options.seed, mutators + (SCANNERS if scanners is None else int(scanners)))
+        self.schedule = schedule_of(request.text, request.options.seed, mutators + request.number(SCANNERS))
         self.step = self.followed = 0
         self.last = None
 

@@ -2,10 +2,9 @@
 from typing import List, NamedTuple
 
 from assembler import assemble
+from commands import STEPS, TURNS
 from plain_machine import Machine
 from programs import AEL, RUNS
-
-TURNS = 1_000_000  # if --turns doesn't say it
 
 
 class Output(NamedTuple):
@@ -16,10 +15,14 @@ class Output(NamedTuple):
     marks: List[str]
 
 
-def output_of(request, *words):
-    """Runs the request, stopped by these words if there are any, and reads what it printed up to its order."""
-    left_out = [word for word in words if word.startswith("--")]
-    status, printed = AEL.run(["sim", "--order", *words, *request.words(*left_out)], request.text, RUNS)
+def run_to(request, step, *flags):
+    """The status and the output of a run that is stopped after a step."""
+    return AEL.run(["sim", "--steps", str(step), *flags, *request.words(STEPS)], request.text, RUNS)
+
+
+def output_of(request, steps=None):
+    """What the run prints up to its order, or what it has printed after so many steps."""
+    status, printed = run_to(request, steps or request.number(STEPS), "--order")
     lines = printed.decode().splitlines()
     end = next(number for number, line in enumerate(lines) if line.startswith("order"))
     return Output(status, lines[:end], lines[end].split()[1:])
@@ -27,8 +30,7 @@ def output_of(request, *words):
 
 def machine_of(request):
     """The plain machine of a request's text, before its first instruction."""
-    turns = request.options.turns
-    return Machine(assemble(request.text), TURNS if turns is None else int(turns))
+    return Machine(assemble(request.text), request.number(TURNS))
 
 
 def askers_of(machine, pages):

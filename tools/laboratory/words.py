@@ -2,15 +2,13 @@
 import argparse
 from typing import NamedTuple, Optional
 
+from commands import COMMANDS, CYCLES, DUMP, ORDER
 from programs import READ_FAULT, Failed
 
-# the options of sim with a value, and those without one
-VALUES = ("--pages", "--limit", "--scanners", "--turns", "--steps", "--seed")
-FLAGS = ("--order", "--cycles", "--snap", "--dump")
+OPTIONS = COMMANDS["sim"].options
 # what of them only says what is printed
-SHOWN = ("--order", "--cycles", "--dump")
+SHOWN = (ORDER, CYCLES, DUMP)
 MOST_BYTES = 1_048_576  # of a text that ael takes
-MOST_STEPS = 10_000_000  # if --steps doesn't say it
 
 
 class Request(NamedTuple):
@@ -22,15 +20,19 @@ class Request(NamedTuple):
     def words(self, *left_out):
         """The options of sim, but for these and those that only say what is printed."""
         words = []
-        for name in VALUES:
-            value = getattr(self.options, name[2:], None)
-            if value is not None and name not in left_out:
-                words += [name, value]
-        return words + (["--snap"] if self.options.snap and "--snap" not in left_out else [])
+        for option in OPTIONS:
+            value = getattr(self.options, option.name, None)
+            if value and option not in (*SHOWN, *left_out):
+                words += [option.shown(), *([value] if option.letter else [])]
+        return words
 
     def shown(self):
         """The options that only say what is printed."""
-        return [name for name in SHOWN if getattr(self.options, name[2:])]
+        return [it.shown() for it in SHOWN if getattr(self.options, it.name)]
+
+    def number(self, option):
+        """The number that an option has, or what holds if it isn't given."""
+        return int(getattr(self.options, option.name) or option.default.replace(",", ""))
 
 
 def positive(text):
@@ -57,12 +59,12 @@ def parser(name, own_usage, description):
     return result
 
 
-def add_sim_options(parser, left_out=()):
-    for option in VALUES:
+def add_sim_options(parser, *left_out):
+    """Adds the options of sim but these, and the file."""
+    for option in OPTIONS:
+        how = {"metavar": option.letter} if option.letter else {"action": "store_true"}
         if option not in left_out:
-            parser.add_argument(option, metavar="N", help="as of ael sim")
-    for option in FLAGS:
-        parser.add_argument(option, action="store_true", help="as of ael sim")
+            parser.add_argument(option.shown(), help=option.means, **how)
     parser.add_argument("file", nargs="?", help="the program; else standard input has it")
     return parser
 
