@@ -5,7 +5,7 @@ ghost use Rattle.std.specs.List.{flat_map};
 ghost use Rattle.std.specs.Str.{chars};
 ghost use Rattle.ael_picture.specs.Markup.{Done, IsMarkup, escaped, markup};
 ghost use Rattle.ael_picture.specs.declared.shape.Shape.TheVariants.{Box, Curve, Label, Switch, TitledBox, TitledLabel};
-ghost use Rattle.ael_picture.specs.Shapes.{all_drawn, arrow, drawn, picture, title_element};
+ghost use Rattle.ael_picture.specs.Shapes.{all_drawn, drawn, picture, title_element};
 
 use crate::choice::Choice;
 use crate::class::Class;
@@ -199,16 +199,7 @@ fn push_shapes(out: &mut String, shapes: &[Shape]) -> Result<(), AllocError>
     Ok(())
 }
 
-/// Adds the point of an arrow, which the style puts at the ends of curves.
-fn push_arrow(out: &mut String) -> Result<(), AllocError>
-    ensures { OnOk result (string_bytes out.new ≡ string_bytes out.old ++ markup (arrow Done)) }
-{
-    out.push_str(
-        "<marker id=\"arrow\" markerWidth=\"7\" markerHeight=\"6\" refX=\"6\" refY=\"3\" orient=\"auto\"><path d=\"M0 0L7 3L0 6\"/></marker>",
-    )
-}
-
-/// The colours, and the shapes.
+/// The colours, the point of an arrow, which the style puts at the ends of curves, and the shapes.
 fn written(alloc: Global, width: u32, height: u32, shapes: &[Shape]) -> Result<String, NoMemory>
     ensures { IfOk result (λ text. string_bytes text ≡ markup (picture width height STYLE.now shapes.now)) }
 {
@@ -216,8 +207,9 @@ fn written(alloc: Global, width: u32, height: u32, shapes: &[Shape]) -> Result<S
         "<svg xmlns=\"http://www.w3.org/2000/svg\" width=\"{width}\" height=\"{height}\" viewBox=\"0 0 {width} {height}\"><style>"
     )?;
     push_text(&mut out, STYLE)?;
-    out.push_str("</style>")?;
-    push_arrow(&mut out)?;
+    out.push_str(
+        "</style><marker id=\"arrow\" markerWidth=\"7\" markerHeight=\"6\" refX=\"6\" refY=\"3\" orient=\"auto\"><path d=\"M0 0L7 3L0 6\"/></marker>",
+    )?;
     push_shapes(&mut out, shapes)?;
     out.push_str("</svg>")?;
     Ok(out)
