@@ -1,15 +1,16 @@
-//! Acts of a scanner, some at a time, which wait for nobody.
+//! Acts of a scanner, and of a mutator that leaves, some at a time, which wait for nobody.
 
-ghost use Rattle.std.specs.Prelude.{◌≡◌};
+ghost use Rattle.std.specs.Prelude.{◌≡◌, true, None};
+ghost use Rattle.gc_worker.specs.declared.stage.Stage.TheVariants.{Gone};
+ghost use Rattle.ael_threads.specs.ActsInRow.{MakesSome, is_idle};
+ghost use Rattle.ael_threads.specs.Calls.{StaysSilent};
+ghost use Rattle.ael_threads.specs.Seats.{Acts};
 ghost use Rattle.ael_c.specs.Calls.{Scans};
 
 use crate::answer::Answer;
-use ael_threads::{Scanner, Shared, Stepped};
+use ael_threads::{ACTS, Mutator, Scanner, Shared, Stepped};
 
-/// How many acts an export makes at most, as `ael_threads` does of a mutator.
-const ACTS: u32 = 64;
-
-/// Makes acts of a scanner's round, up to its end.
+/// Makes acts of a scanner's round, up to its end, and no more than a mutator's call makes at once.
 pub(crate) fn scans(scanner: &mut Scanner, h: &Shared) -> Answer
     requires table { scanner.old.seated.table ≡ h.now.table.shared.table_id }
     ensures table { scanner.new.seated.table ≡ scanner.old.seated.table }
@@ -24,4 +25,16 @@ pub(crate) fn scans(scanner: &mut Scanner, h: &Shared) -> Answer
         }
     }
     Answer::Again
+}
+
+/// Makes acts of a mutator with an end, by which it leaves, and tells whether it has left.
+pub(crate) fn departs(mutator: &mut Mutator, h: &Shared) -> bool
+    requires table { mutator.old.table ≡ h.now.table.shared.table_id }
+    requires no_task { mutator.old.worker.task ≡ None }
+    ensures table { mutator.new.table ≡ mutator.old.table }
+    ensures left { result ≡ true → mutator.new.worker.stage ≡ Gone }
+    ensures quiet { StaysSilent mutator.old mutator.new }
+    ensures acts { MakesSome Acts is_idle result mutator.old mutator.new }
+{
+    mutator.departs(h)
 }

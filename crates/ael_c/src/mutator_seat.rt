@@ -5,6 +5,7 @@ ghost use Rattle.std.specs.Arc.{arc_value};
 ghost use Rattle.gc_worker.specs.Steps.AtRest.{is_at_rest};
 ghost use Rattle.ael_c.specs.Calls.{Leaves, MakesCall, Polls, ReadsRegister, Tells};
 
+use crate::acts::departs;
 use crate::answer::Answer;
 use ael_threads::{Instr, Mutator, Reg, Shared};
 use std::alloc::Global;
@@ -60,7 +61,7 @@ impl MutatorSeat {
         ensures { Polls self.old result self.new }
     {
         if let Some(end) = self.mutator.ended() {
-            self.mutator.departs(&self.heap);
+            departs(&mut self.mutator, &self.heap);
             return Answer::Ended(end);
         }
         if self.mutator.is_calling() {
@@ -79,7 +80,7 @@ impl MutatorSeat {
         ensures { Leaves self.old result self.new }
     {
         if let Some(_) = self.mutator.ended() {
-            return if self.mutator.departs(&self.heap) {
+            return if departs(&mut self.mutator, &self.heap) {
                 Answer::Left
             } else {
                 Answer::Again

@@ -1,13 +1,21 @@
-use Rattle.std.proofs.Common.{◌∙◌, sym, subst}
-use Rattle.ael_threads.specs.Seats.{Seated}
+use Rattle.std.proofs.Common.{◌∙◌, Bool, refl, sym, subst}
+use Rattle.ael_threads.specs.ActsInRow.{MakesSome, is_rest}
+use Rattle.ael_threads.specs.Seats.{Acts, Seated}
 use Rattle.ael_threads.proofs.WholeCalls.AtRest.{same_end_silent}
 use Rattle.ael_threads.proofs.WholeCalls.FromActs.{quiet_first}
 use Rattle.ael_c.specs.declared.answer.Answer.{Answer}
-use Rattle.ael_c.specs.declared.answer.Answer.TheVariants.{Done, Again}
+use Rattle.ael_c.specs.declared.answer.Answer.TheVariants.{Done, Again, Ended}
 use Rattle.ael_c.specs.Calls.{Polls}
-use Rattle.ael_c.proofs.Cases.{is_idle, polls_calling, polls_resting}
+use Rattle.ael_c.proofs.Cases.{is_idle, polls_calling, polls_ended, polls_resting}
 use Rattle.ael_c.proofs.mutator_seat.MutatorSeat.poll.Goals as goal
 use Rattle.ael_c.proofs.mutator_seat.MutatorSeat.poll.Goals.{then-comes_to_rest, else-comes_to_rest}
+
+pub returns-in-Some : goal.returns-in-Some
+returns-in-Some c =
+    let m = c.self.inside.mutator in
+    let b = c.departs.new.mutator in
+    subst (λ (a : Seated). Polls a (Ended c.in-Some.end) b) c.self.view_is
+    (polls_ended m b (Ended c.in-Some.end) c.in-Some.end (sym c.in-Some.ensures.ended) c.departs.result (record { quiet = c.departs.ensures.quiet; acts = c.departs.ensures.acts }) refl)
 
 pub returns-then-is_calling : goal.returns-then-is_calling
 returns-then-is_calling c =
@@ -15,7 +23,7 @@ returns-then-is_calling c =
     let b = c.tries.new.self in
     subst (λ (a : Seated). Polls a c.by.result b) c.self.view_is
     (polls_calling m b c.by.result (sym c.ended.ensures.ended ∙ c.in_default.is) (sym c.is_calling.ensures ∙ c.if-is_calling.true)
-    (record { did = c.tries.result; told = c.by.ensures; tries = c.tries.ensures.tries }))
+    (record { did = c.tries.result; told = c.by.ensures; tries = c.tries.ensures.tries; acts = c.tries.ensures.acts }))
 
 pub returns : goal.returns
 returns c =
@@ -31,6 +39,11 @@ returns c =
           let shows = c.comes_to_rest.ensures.shows at_rest in
           let no_end = same_end_silent m b c.ended.ensures.there c.ended.ensures.shows shows quiet ∙ none in
           subst (λ (x : Answer). Polls m x b) (sym w.result-is)
-          (polls_resting m b Done none idle (record { quiet = quiet; done = (c.comes_to_rest.ensures.rests at_rest, shows, c.comes_to_rest.ensures.stand at_rest no_end) }))
-      | else-comes_to_rest w ↦ subst (λ (x : Answer). Polls m x b) (sym w.result-is) (polls_resting m b Again none idle (record { quiet = quiet; done = tt }))
+          (polls_resting m b Done none idle (record {
+            quiet = quiet;
+            acts = subst (λ (r : Bool). MakesSome Acts is_rest r m b) at_rest c.comes_to_rest.ensures.acts;
+            done = (c.comes_to_rest.ensures.rests at_rest, shows, c.comes_to_rest.ensures.stand at_rest no_end);
+          }))
+      | else-comes_to_rest w ↦ subst (λ (x : Answer). Polls m x b) (sym w.result-is)
+          (polls_resting m b Again none idle (record { quiet = quiet; acts = subst (λ (r : Bool). MakesSome Acts is_rest r m b) w.if-comes_to_rest.false c.comes_to_rest.ensures.acts; done = tt }))
     ])
