@@ -1,10 +1,10 @@
 //! Acts of a scanner, and of a mutator that leaves, some at a time, which wait for nobody.
 
-ghost use Rattle.std.specs.Prelude.{◌≡◌, true, None};
+ghost use Rattle.std.specs.Prelude.{◌≡◌, true};
 ghost use Rattle.gc_worker.specs.declared.stage.Stage.TheVariants.{Gone};
 ghost use Rattle.ael_threads.specs.ActsInRow.{MakesSome, is_idle};
 ghost use Rattle.ael_threads.specs.Calls.{StaysSilent};
-ghost use Rattle.ael_threads.specs.Seats.{Acts};
+ghost use Rattle.ael_threads.specs.Seats.{Acts, Seated};
 ghost use Rattle.ael_c.specs.Calls.{Scans};
 
 use crate::answer::Answer;
@@ -30,10 +30,9 @@ pub(crate) fn scans(scanner: &mut Scanner, h: &Shared) -> Answer
 /// Makes acts of a mutator with an end, by which it leaves, and tells whether it has left.
 pub(crate) fn departs(mutator: &mut Mutator, h: &Shared) -> bool
     requires table { mutator.old.table ≡ h.now.table.shared.table_id }
-    requires no_task { mutator.old.worker.task ≡ None }
     ensures table { mutator.new.table ≡ mutator.old.table }
     ensures left { result ≡ true → mutator.new.worker.stage ≡ Gone }
-    ensures quiet { StaysSilent mutator.old mutator.new }
+    ensures quiet { (a : Seated) → StaysSilent a mutator.old → StaysSilent a mutator.new }
     ensures acts { MakesSome Acts is_idle result mutator.old mutator.new }
 {
     mutator.departs(h)

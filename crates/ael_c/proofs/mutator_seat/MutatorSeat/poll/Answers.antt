@@ -14,8 +14,9 @@ pub returns-in-Some : goal.returns-in-Some
 returns-in-Some c =
     let m = c.self.inside.mutator in
     let b = c.departs.new.mutator in
+    let none = c.in-Some.ensures.no_task c.in-Some.end refl in
     subst (λ (a : Seated). Polls a (Ended c.in-Some.end) b) c.self.view_is
-    (polls_ended m b (Ended c.in-Some.end) c.in-Some.end (sym c.in-Some.ensures.ended) c.departs.result (record { quiet = c.departs.ensures.quiet; acts = c.departs.ensures.acts }) refl)
+    (polls_ended m b (Ended c.in-Some.end) c.in-Some.end (sym c.in-Some.ensures.ended) c.departs.result (record { quiet = c.departs.ensures.quiet m (quiet_first m none); acts = c.departs.ensures.acts }) refl)
 
 pub returns-then-is_calling : goal.returns-then-is_calling
 returns-then-is_calling c =
