@@ -66,7 +66,7 @@ begun_here plan m x q task words workers log here st gate want is looks call =
     let present : is_present (post_in (held_at h m) (held_at h m).stage) ≡ true = ap (λ (stage : Stage). is_present (post_in (held_at h m) stage)) stage in
     let epoch : flips_of plan log ≡ x.epoch =
     sym gate ∙ (present_now h (after_all (first_plain plan) log) (last_flip (first_plain plan) log) st m (at_inside workers m here.held here.is) present ∙ (ap (λ (y : Held). y.epoch) held ∙ ap (λ (y : Held). y.epoch) here.shown)) in (
-      record { words = words; workers = workers; held = x; here = here; stands = st; task_is = is; looks = looks; epoch = epoch; step = q; wants = want; begins = call },
+      record { there = record { words = words; workers = workers; held = x; here = here; stands = st }; task_is = is; looks = looks; epoch = epoch; step = q; wants = want; begins = call },
       epoch,
     )
 

@@ -12,15 +12,14 @@ use Rattle.gc_worker.specs.declared.stage.Stage.TheVariants.{Looks}
 use Rattle.gc_worker.specs.declared.task.Task.{Task}
 use Rattle.gc_worker.specs.Laws.Cycles.{IsInCall}
 use Rattle.gc_worker.specs.Workers.Held.{Held}
-use Rattle.gc_worker.specs.Laws.Step.{WorkersStand, nobody}
-use Rattle.gc_worker.specs.Steps.Stepped.{uncounted}
+use Rattle.gc_worker.specs.Laws.Step.{nobody}
 use Rattle.gc_worker.specs.Steps.Turned.{turned}
 use Rattle.gc_worker.specs.Steps.Wanted.{wanted}
 use Rattle.ael_threads.specs.declared.view.Plan.{Plan}
-use Rattle.gc_worker.specs.History.Legal.{after_all, calls_of, last_flip, worker_call}
+use Rattle.gc_worker.specs.History.Legal.{calls_of, worker_call}
 use Rattle.gc_worker.specs.History.Tally.{tally}
-use Rattle.ael_threads.specs.Histories.{first_plain, opening_tally}
-use Rattle.ael_threads.specs.Workers.{StandsAs, heap_of}
+use Rattle.ael_threads.specs.Histories.{opening_tally}
+use Rattle.ael_threads.specs.Workers.{StandsAfter}
 
 -- how many flips a history has
 abbrev pub flips_of : Plan → List Entry → ℕ
@@ -38,11 +37,8 @@ pub record HasFlipped (early late : List Entry) : Type 0 where
 -- which m looks, they stand for the plain state after the history, whose number of flips is m's epoch, and by what it finds there m is
 -- in the call.
 pub record BeginsAt (plan : Plan) (m : ℕ) (task : Task) (log : List Entry) : Type 0 where
-  pub words : List ℕ
-  pub workers : List Held
-  pub held : Held
-  pub here : StandsAs workers m (uncounted held)
-  pub stands : WorkersStand (heap_of plan words workers) (after_all (first_plain plan) log) (last_flip (first_plain plan) log)
+  pub there : StandsAfter plan m log
+  pub open there use *
   pub task_is : held.task ≡ Some task
   pub looks : held.stage ≡ Looks
   pub epoch : flips_of plan log ≡ held.epoch

@@ -1,28 +1,23 @@
 -- What a mutator finds at the gate between two acts.
-use Rattle.std.specs.Prelude.{◌≡◌, ℕ, Bool, false, Option, Some, None, List, not}
-use mathlib.Core.List.{IsPrefix}
+use Rattle.std.specs.Prelude.{◌≡◌, ℕ, Bool, false, Option, Some, None, not}
 use Rattle.atomic_table.specs.Table as table
 use Rattle.space_map.specs.declared.gate_word.GateWord.{GateWord}
 use Rattle.space_map.specs.GateWord.{decode_gate}
 use Rattle.space_map.specs.Table.{Gate}
 use Rattle.heap_state.specs.Memory.Table.{word_in}
 use Rattle.gc_worker.specs.Workers.Held.{Held}
-use Rattle.gc_worker.specs.History.Legal.{calls_of}
 use Rattle.ael_threads.specs.declared.view.View.{View}
-use Rattle.ael_threads.specs.Seats.{Heads, Me, Seated, StandWith, first_number, first_own}
+use Rattle.ael_threads.specs.Seats.{FindsWords, Heads, Me, Seated, first_number}
 
 -- the word is a gate's, by which no flip and no checkpoint is requested
 abbrev pub lets_pass : Option GateWord → Bool
 lets_pass (Some gate) = not gate.request
 lets_pass None = false
 
--- This word was the gate's among words with which all workers stood, with worker m, which holds x. The history then begins with all that the
--- seat had seen and heard of, and has just the calls that the worker made.
+-- this word was the gate's among words with which all workers stood, with worker m, which holds x
 pub record FindsGate (v : View) (m : ℕ) (x : Held) (word : ℕ) : Type 0 where
-  pub words : List ℕ
-  pub stands : StandWith v.plan m x v.seen words
-  pub heard : IsPrefix v.heard stands.log
-  pub own : calls_of m stands.log ≡ first_own v.hands
+  pub finds : FindsWords v m x
+  pub open finds use *
   pub gate : word ≡ word_in v.plan.spaces.pages words Gate
 
 -- a load of the gate's word, which changes nothing of what the seat knows

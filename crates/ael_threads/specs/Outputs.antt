@@ -1,12 +1,11 @@
 -- What a run tells of itself at its end.
-use Rattle.std.specs.Prelude.{◌≡◌, ℕ, ◌-◌, ◌^◌, ◌<◌, true, false, List, ◌++◌, Some, IsSome, length, map, slice_get}
+use Rattle.std.specs.Prelude.{◌≡◌, ℕ, ◌-◌, ◌^◌, ◌<◌, false, List, ◌++◌, Some, IsSome, length, map, slice_get}
 use Rattle.plain_state.specs.declared.end.End.{End}
 use Rattle.plain_state.specs.State.{Mutator}
 use Rattle.mutator_asm.specs.declared.instr.Instr.{Instr}
 use Rattle.plain_heap.specs.LastCheckpoint.{IsLastCheckpoint}
 use Rattle.plain_heap.specs.Order.{first_story, opening, plain, story}
 use Rattle.plain_heap.specs.Print.{Seen}
-use Rattle.heap_state.specs.Cycles.Copies.{CopiedIsLive}
 use Rattle.heap_state.specs.Kept.{Kept}
 use Rattle.heap_state.specs.Memory.Table.{word_in}
 use Rattle.space_map.specs.Spaces.{to_space}
@@ -17,32 +16,26 @@ use Rattle.gc_worker.specs.declared.open_error.OpenError.{OpenError}
 use Rattle.gc_worker.specs.declared.open_error.OpenError.TheVariants as opens
 use Rattle.gc_worker.specs.declared.stage.Stage.TheVariants.{Gone}
 use Rattle.gc_worker.specs.Laws.Between.{ShowsRegisters}
-use Rattle.gc_worker.specs.Laws.Checkpoints.{TellsKept}
-use Rattle.gc_worker.specs.Laws.Copied.{IsTraced}
-use Rattle.gc_worker.specs.Laws.Lost.{AreEmptyIfLost}
 use Rattle.gc_worker.specs.Workers.Held.{Held}
-use Rattle.gc_worker.specs.Laws.Step.{Heap, WorkersStand, epoch_of, read}
+use Rattle.gc_worker.specs.Laws.Step.{Heap, epoch_of}
 use Rattle.gc_worker.specs.Plain.Marks.{EachActs}
 use Rattle.gc_worker.specs.Readers.{cycles_in, kept_in, live_in, live_said, registers_in, seen_in}
 use Rattle.gc_worker.specs.Steps.Stepped.{header_kept, place_kept}
-use Rattle.gc_worker.specs.declared.calls.entry.Entry.{Entry}
 use Rattle.ael_threads.specs.declared.view.Plan.{Plan}
 use Rattle.ael_threads.specs.declared.programs.outputs.Outputs.{Outputs}
 use Rattle.ael_threads.specs.declared.programs.outputs.Printed.{Printed}
 use Rattle.ael_threads.specs.declared.programs.outputs.RunError.{RunError}
 use Rattle.ael_threads.specs.declared.programs.outputs.RunError.TheVariants as runs
 use Rattle.gc_worker.specs.History.Needs.{EachFullIs, EachMayCome, HasNoFull, IsEnoughForOne, IsLargeEnough, flips_in}
-use Rattle.gc_worker.specs.History.Tally.{EachEntry, EntryIs, Sizes, size_now, tasks_held, tally}
-use Rattle.gc_worker.specs.Laws.Cycles.{size_of}
-use Rattle.ael_threads.specs.Histories.{AreSizesOf, opening_tally, Each}
-use Rattle.gc_worker.specs.History.Legal.{IsLegal, after_all, last_flip}
+use Rattle.gc_worker.specs.History.Tally.{tally}
+use Rattle.ael_threads.specs.Histories.{opening_tally, Each}
+use Rattle.gc_worker.specs.History.Legal.{after_all, last_flip}
 use Rattle.ael_threads.specs.Opened.{plan_of}
 use Rattle.gc_worker.specs.History.Order.{order_of}
 use Rattle.ael_threads.specs.Readers.{SeatedScanner, seated}
-use Rattle.ael_threads.specs.Began.{FlippedIfFull, begun_held}
-use Rattle.ael_threads.specs.Rule.{crew, heap_of}
+use Rattle.ael_threads.specs.Rule.{heap_of}
 use Rattle.ael_threads.specs.Running.{FullIn}
-use Rattle.ael_threads.specs.Seats.{Closes, Seated}
+use Rattle.ael_threads.specs.Seats.{Closes, Seated, WordsTellHistory}
 
 -- ---- what is read of a worker
 
@@ -102,30 +95,18 @@ pub record TellsRegisters (told : Outputs) (m : ℕ) (q : Mutator) : Type 0 wher
 -- flip came since and all pages of the space were in use, if it is not the last that there can be. So it is by the order alone; and a heap
 -- whose limit is as large as the order needs is never full, but after the last flip that there can be its pages at first have to be enough.
 pub record Runs (code : List (List Instr)) (config : Config) (told : Outputs) : Type 0 where
-  pub log : List Entry
-  pub workers : List Held
-  pub legal : IsLegal (opening code) log
+  pub words_tell : WordsTellHistory (opening code) (plan_of (length code) config) told.words
+  pub open words_tell use *
   pub plain_is : plain code config.turns (order_of log) ≡ after_all (opening code) log
   pub acts : EachActs code config.turns (first_story code) (order_of log)
   pub flip_is : last_flip (opening code) log ≡ (story code config.turns (order_of log)).flip
   pub ended : (m : ℕ) (q : Mutator) → slice_get (after_all (opening code) log).mutators m ≡ Some q → IsSome q.end
-  pub count : length workers ≡ crew (plan_of (length code) config)
-  pub stands : WorkersStand (heap_of (plan_of (length code) config) told.words workers) (after_all (opening code) log) (last_flip (opening code) log)
-  pub copied : IsTraced (heap_of (plan_of (length code) config) told.words workers)
-      → CopiedIsLive (read (heap_of (plan_of (length code) config) told.words workers)) (last_flip (opening code) log)
-  pub lost : AreEmptyIfLost (heap_of (plan_of (length code) config) told.words workers) (after_all (opening code) log) (last_flip (opening code) log)
-  pub kept : config.snap ≡ true → TellsKept (heap_of (plan_of (length code) config) told.words workers) (after_all (opening code) log)
   pub last : IsLastCheckpoint code config.turns (order_of log)
   pub epoch : told.cycles ≡ (tally (opening_tally (plan_of (length code) config)) log).flips
   pub left : Each (λ (x : Held). x.stage ≡ Gone) workers
   pub shows : (m : ℕ) (q : Mutator) → slice_get (after_all (opening code) log).mutators m ≡ Some q → TellsRegisters told m q
-  pub sizes : Sizes
-  pub sized : AreSizesOf (plan_of (length code) config) sizes
-  pub size : size_of config.limit told.words ≡ size_now sizes (tally (opening_tally (plan_of (length code) config)) log)
-  pub entries : EachEntry (EntryIs sizes (tasks_held workers)) (opening_tally (plan_of (length code) config)) log
   pub all_words : length told.words ≡ whole_length (layout_by config)
   pub tells : Tells (heap_of (plan_of (length code) config) told.words workers) told
-  pub flipped : (m : ℕ) → FlippedIfFull (plan_of (length code) config) m (begun_held workers m) log
   pub full : (m : ℕ) (q : Mutator) (end : End) → slice_get (after_all (opening code) log).mutators m ≡ Some q → q.end ≡ Some end → FullIn (plan_of (length code) config) m log end
   pub filled : EachFullIs config.limit config.pages code config.turns (first_story code) 0 0 (order_of log)
   pub follows : EachMayCome (λ m. false) 0 (order_of log)

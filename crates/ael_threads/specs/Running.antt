@@ -8,22 +8,19 @@ use Rattle.plain_state.specs.Reachable.{IsLive}
 use Rattle.mutator_asm.specs.declared.instr.Instr.{Instr}
 use Rattle.gc_worker.specs.declared.stage.Stage.TheVariants.{Gone}
 use Rattle.gc_worker.specs.Plain.Full.{FindsNoRoom}
-use Rattle.gc_worker.specs.Workers.Held.{Held}
-use Rattle.gc_worker.specs.Laws.Step.{WorkersStand}
-use Rattle.gc_worker.specs.Steps.Stepped.{uncounted}
 use Rattle.gc_worker.specs.declared.calls.did.Did.TheVariants.{Trap}
 use Rattle.gc_worker.specs.declared.task.Task.{Task}
 use Rattle.gc_worker.specs.declared.calls.call.Call.{Call}
 use Rattle.gc_worker.specs.declared.calls.entry.Entry.{Entry}
 use Rattle.gc_worker.specs.declared.calls.entry.Entry.TheVariants.{Made}
 use Rattle.ael_threads.specs.declared.view.Plan.{Plan}
-use Rattle.gc_worker.specs.History.Legal.{IsLegal, after_all, worker_call, last_flip}
+use Rattle.gc_worker.specs.History.Legal.{IsLegal, worker_call, last_flip}
 use Rattle.ael_threads.specs.Began.{FlippedSinceBegun}
 use Rattle.ael_threads.specs.Histories.{first_plain, hand}
 use Rattle.ael_threads.specs.Programs.{HasExecuted}
 use Rattle.ael_threads.specs.Readers.{SeatedScanner}
-use Rattle.ael_threads.specs.Rule.{StandsAs, heap_of}
 use Rattle.ael_threads.specs.Seats.{IsMine, Seated, ShowsSeen}
+use Rattle.ael_threads.specs.Workers.{StandsAfter}
 
 -- ---- a full heap
 
@@ -34,11 +31,8 @@ pub record FoundFull (plan : Plan) (m : ℕ) (log : List Entry) (asked room live
   pub before : List Entry
   pub task : Task
   pub is : log ≡ before ++ Made (worker_call m task (Trap (HeapFull asked room live))) ∷ []
-  pub words : List ℕ
-  pub workers : List Held
-  pub held : Held
-  pub here : StandsAs workers m (uncounted held)
-  pub stands : WorkersStand (heap_of plan words workers) (after_all (first_plain plan) before) (last_flip (first_plain plan) before)
+  pub there : StandsAfter plan m before
+  pub open there use *
   pub no_room : FindsNoRoom plan.spaces.pages words held asked room live
   pub was_live : IsLive (last_flip (first_plain plan) log) live
   pub flipped : FlippedSinceBegun plan m task held.begun before

@@ -29,9 +29,8 @@ use Rattle.plain_state.specs.declared.end.End.TheVariants.{HeapFull}
 use Rattle.heap_state.specs.Worker.{is_running}
 use Rattle.gc_worker.specs.Laws.Checkpoints.{TellsKept}
 use Rattle.gc_worker.specs.Laws.Copied.{IsTraced}
-use Rattle.gc_worker.specs.Laws.Lost.{AreEmptyIfLost}
 use Rattle.gc_worker.specs.Laws.Gone.{ScannersAreLast}
-use Rattle.gc_worker.specs.Laws.Step.{FlipsWhereTold, WorkersStand, held_at, read, epoch_of}
+use Rattle.gc_worker.specs.Laws.Step.{FlipsWhereTold, held_at, read, epoch_of}
 use Rattle.heap_state.specs.Cycles.Copies.{CopiedIsLive}
 use Rattle.gc_worker.specs.Steps.Stepped.{IsBeginningCheckpoint, stepped_by, uncounted}
 use Rattle.gc_worker.specs.declared.calls.did.Did.TheVariants.{Done, Trap}
@@ -54,6 +53,7 @@ use Rattle.ael_threads.specs.Histories.{AreBy, AreSizesOf, opening_tally, Each, 
 use Rattle.gc_worker.specs.History.Legal.{IsLegal, after_all, worker_call, calls_of, extra, last_flip, own_after}
 use Rattle.ael_threads.specs.Began.{FlippedIfFull, begun_held}
 use Rattle.ael_threads.specs.Rule.{StandsAs, crew, heap_of, view}
+use Rattle.ael_threads.specs.Workers.{HistoryStands}
 
 -- ---- a step by the word that it finds
 
@@ -155,15 +155,19 @@ BeginsBySnap stage task = IsBeginningCheckpoint stage × (task ≡ Calls Snap)
 -- that begins with this; once the epoch is traced, exactly those cells of its space are empty that lost their targets by its last flip, or
 -- were empty then; and what is counted along it fits them.
 pub record StandWith (plan : Plan) (m : ℕ) (x : Held) (seen : List Entry) (words : List ℕ) : Type 0 where
-  pub log : List Entry
-  pub legal : IsLegal (first_plain plan) log
+  pub history : HistoryStands (first_plain plan) plan words
+  pub open history use *
   pub begins : IsPrefix seen log
-  pub workers : List Held
-  pub count : length workers ≡ crew plan
   pub here : StandsAs workers m (uncounted x)
-  pub stands : WorkersStand (heap_of plan words workers) (after_all (first_plain plan) log) (last_flip (first_plain plan) log)
-  pub lost : AreEmptyIfLost (heap_of plan words workers) (after_all (first_plain plan) log) (last_flip (first_plain plan) log)
   pub tallied : IsTallied plan.least (heap_of plan words workers) (opening_tally plan) log
+
+-- Words with which all workers stood, with worker m, which holds x. The history then begins with all that the seat had seen and heard of,
+-- and has just the calls that the worker made.
+pub record FindsWords (v : View) (m : ℕ) (x : Held) : Type 0 where
+  pub words : List ℕ
+  pub stands : StandWith v.plan m x v.seen words
+  pub heard : IsPrefix v.heard stands.log
+  pub own : calls_of m stands.log ≡ first_own v.hands
 
 -- A step of worker m, whose code holds x and takes r. It is the step that x wants, on the words before it, and r is what that step replies;
 -- with the words before and after it the workers stand for histories of which the latter has what the step tells besides, and no other
@@ -184,15 +188,13 @@ pub record Moves (v : View) (m : ℕ) (x : Held) (r : Reply) (w : View) : Type 0
   pub shows : ShowsSeen (uncounted (turned x r)) w
   pub step : Step
   pub wants : wanted x ≡ Some step
-  pub before : List ℕ
+  pub finds : FindsWords v m x
+  pub open finds use {words as before, stands as found, heard, own}
   pub reply : r ≡ reply_of step before
   pub after : List ℕ
   pub left : after ≡ words_after step before
-  pub found : StandWith v.plan m x v.seen before
   pub stands : StandWith v.plan m (turned x r) w.seen after
   pub grows : stands.log ≡ found.log ++ extra (last_flip (first_plain v.plan) found.log) m (told x r)
-  pub heard : IsPrefix v.heard found.log
-  pub own : calls_of m found.log ≡ first_own v.hands
   pub hears : w.heard ≡ stands.log
   pub sees : w.seen ≡ seen_after v.seen stands.log (told x r)
   pub others : (j : ℕ) → j ≢ m → get_elem? stands.workers j ≡ get_elem? found.workers j
@@ -279,13 +281,12 @@ both_of v w = view v.plan (v.hands ++ w.hands) v.heard w.heard (v.claims ++ w.cl
 abbrev pub HasFlippedIfFull : Plan → List Entry → Hand → Type 0
 HasFlippedIfFull plan log h = FlippedIfFull plan h.number h.worker.begun log
 
--- the whole history was seen and heard of, of which both lists are beginnings, and in which these workers' calls stand, each once
-pub record Learned (v w : View) : Type 0 where
-  pub plan : w.plan ≡ v.plan
-  pub hands : w.hands ≡ v.hands
-  pub claims : w.claims ≡ v.claims
-  pub seen : IsPrefix v.seen w.seen
-  pub heard : IsPrefix v.heard w.seen
+-- The whole history was seen and heard of. It is legal, and the calls of these workers stand in it, each once; no worker is there twice, and
+-- no page was won twice in one epoch. There are tasks, one a worker at most, by which, where the history has no later call of a worker,
+-- each full heap of it was filled and each of its flips was asked for, with so many pages in use in each epoch; and if one of these workers
+-- found the heap full, a flip came since the look by which it began that task, in the epoch that its code keeps, or none can; if another
+-- did, since such a look in some epoch.
+pub record KnowsWholeHistory (w : View) : Type 0 where
   pub hears : w.heard ≡ w.seen
   pub own : HasOwnCalls w.seen w.hands
   pub apart : IsOnce (map hand_number w.hands)
@@ -298,14 +299,22 @@ pub record Learned (v w : View) : Type 0 where
   pub flipped : Each (HasFlippedIfFull w.plan w.seen) w.hands
   pub all_flipped : (m : ℕ) → (begun : ℕ) × FlippedIfFull w.plan m begun w.seen
 
+-- the whole history is known, of which both lists are beginnings
+pub record Learned (v w : View) : Type 0 where
+  pub plan : w.plan ≡ v.plan
+  pub hands : w.hands ≡ v.hands
+  pub claims : w.claims ≡ v.claims
+  pub seen : IsPrefix v.seen w.seen
+  pub heard : IsPrefix v.heard w.seen
+  pub whole : KnowsWholeHistory w
+  pub open whole use *
+
 abbrev pub Learns : table.Step ℕ → Me → ℕ → Me → Type 0
 Learns st me found later = (later.1 ≡ me.1) × Learned me.0 later.0
 
--- THE CLAUSE OF ABSORB: one history for both callers, of which what each had seen and heard of is a beginning, with just the calls that both
--- made; no worker of both, and no page won by both in one epoch. There are tasks, one a worker at most, by which, where the history has no
--- later call of a worker, each full heap of it was filled and each of its flips was asked for, with so many pages in use in each epoch; and if
--- one of these workers found the heap full, a flip came since the look by which it began that task, in the epoch that its code keeps, or none
--- can; if another did, since such a look in some epoch.
+-- THE CLAUSE OF ABSORB: one history for both callers, of which what each had seen and heard of is a beginning, and which has just the calls
+-- that both made; no worker of both, and no page won by both in one epoch; each full heap of it was filled, and each of its flips was asked
+-- for.
 pub record Absorbs (v u w : View) : Type 0 where
   pub plan : w.plan ≡ v.plan
   pub hands : w.hands ≡ v.hands ++ u.hands
@@ -314,17 +323,8 @@ pub record Absorbs (v u w : View) : Type 0 where
   pub other : IsPrefix u.seen w.seen
   pub heard : IsPrefix v.heard w.seen
   pub other_heard : IsPrefix u.heard w.seen
-  pub hears : w.heard ≡ w.seen
-  pub own : HasOwnCalls w.seen w.hands
-  pub apart : IsOnce (map hand_number w.hands)
-  pub once : IsOnce w.claims
-  pub legal : IsLegal (first_plain w.plan) w.seen
-  pub tasks : Tasks
-  pub sizes : Sizes
-  pub sized : AreSizesOf w.plan sizes
-  pub entries : EachEntry (EntryIs sizes tasks) (opening_tally w.plan) w.seen
-  pub flipped : Each (HasFlippedIfFull w.plan w.seen) w.hands
-  pub all_flipped : (m : ℕ) → (begun : ℕ) × FlippedIfFull w.plan m begun w.seen
+  pub whole : KnowsWholeHistory w
+  pub open whole use *
 
 -- ---- the end
 
@@ -350,6 +350,22 @@ pub record Stays (workers : List Held) (log : List Entry) (h : Hand) : Type 0 wh
   pub state : StandsAs workers h.number h.worker
   pub calls : calls_of h.number log ≡ h.own
 
+-- Words of a heap, and a history for which they stand with all workers; what the words tell of it: what was copied in an epoch that is traced
+-- is what was live at the last flip; if checkpoints can be begun, the words are just those of the layout, and say what is kept; as many
+-- pages are in use as the history's flips have brought into use. By the tasks that the workers have begun each full heap of the history was
+-- filled and each of its flips was asked for; where it tells that a worker found the heap full, a flip came since the look by which that one
+-- began its task, in the epoch that it keeps, or none can.
+pub record WordsTellHistory (first : Plain) (plan : Plan) (words : List ℕ) : Type 0 where
+  pub history : HistoryStands first plan words
+  pub open history use *
+  pub copied : IsTraced (heap_of plan words workers) → CopiedIsLive (read (heap_of plan words workers)) (last_flip first log)
+  pub kept : plan.spaces.checkpoints ≡ true → TellsKept (heap_of plan words workers) (after_all first log)
+  pub sizes : Sizes
+  pub sized : AreSizesOf plan sizes
+  pub size : size_of plan.spaces.pages words ≡ size_now sizes (tally (opening_tally plan) log)
+  pub entries : EachEntry (EntryIs sizes (tasks_held workers)) (opening_tally plan) log
+  pub all_flipped : (m : ℕ) → FlippedIfFull plan m (begun_held workers m) log
+
 -- THE CLAUSE OF CLOSE: the calls of all these callers stand in one legal history, each once, of which what each has seen and heard of is a
 -- beginning; with what their codes hold the words stand for the plain state after it; if a scanner is gone, all mutators are; what was copied in an
 -- epoch that is traced is what was live at the last flip of the history, and exactly those cells of its space are empty that lost their
@@ -363,24 +379,13 @@ pub record Stays (workers : List Held) (log : List Entry) (h : Hand) : Type 0 wh
 -- goes; between two of its calls no mutator asked for two flips of a space all of whose pages were in use; if all workers are there the
 -- history has no other calls; no worker stands twice, and no page was won twice in one epoch.
 pub record Closes (plan : Plan) (all : List Seated) (words : List ℕ) : Type 0 where
-  pub log : List Entry
-  pub workers : List Held
-  pub legal : IsLegal (first_plain plan) log
-  pub count : length workers ≡ crew plan
-  pub stands : WorkersStand (heap_of plan words workers) (after_all (first_plain plan) log) (last_flip (first_plain plan) log)
+  pub words_tell : WordsTellHistory (first_plain plan) plan words
+  pub open words_tell use *
   pub last : ScannersAreLast (heap_of plan words workers)
-  pub copied : IsTraced (heap_of plan words workers) → CopiedIsLive (read (heap_of plan words workers)) (last_flip (first_plain plan) log)
-  pub lost : AreEmptyIfLost (heap_of plan words workers) (after_all (first_plain plan) log) (last_flip (first_plain plan) log)
-  pub kept : plan.spaces.checkpoints ≡ true → TellsKept (heap_of plan words workers) (after_all (first_plain plan) log)
   pub last_snap : IsLastOfHistory (first_plain plan) log
   pub epoch : epoch_of plan.spaces.pages words ≡ (tally (opening_tally plan) log).flips
-  pub sizes : Sizes
-  pub sized : AreSizesOf plan sizes
-  pub size : size_of plan.spaces.pages words ≡ size_now sizes (tally (opening_tally plan) log)
-  pub entries : EachEntry (EntryIs sizes (tasks_held workers)) (opening_tally plan) log
   pub large : IsLargeFor plan.spaces.pages plan.least (tasks_held workers) (opening_tally plan) log → HasNoFullCall log
   pub flipped : Each (HasFlippedIfFull plan log) (all_hands all)
-  pub all_flipped : (m : ℕ) → FlippedIfFull plan m (begun_held workers m) log
   pub seen : Each (λ (s : Seated). IsPrefix s.knows.seen log) all
   pub heard : Each (λ (s : Seated). IsPrefix s.knows.heard log) all
   pub hands : Each (Stays workers log) (all_hands all)

@@ -127,11 +127,13 @@ module _ (w : Work) (m count : ℕ) (a : Seated) (h : Executing w m count a) whe
         before = k.found.log;
         task = task;
         is = k.sees ∙ ((λ i. seen_after c.last.knows.seen k.stands.log (c.answers i)) ∙ (k.grows ∙ (λ i. k.found.log ++ extra (last_flip (first_plain c.last.knows.plan) k.found.log) (n i) (c.answers i))));
-        words = k.before;
-        workers = k.found.workers;
-        held = c.last.worker;
-        here = subst (λ (j : ℕ). StandsAs k.found.workers j (uncounted c.last.worker)) n k.found.here;
-        stands = subst (λ (v : Plan). WorkersStand (heap_of v k.before k.found.workers) (after_all (first_plain v) k.found.log) (last_flip (first_plain v) k.found.log)) plan k.found.stands;
+        there = record {
+          words = k.before;
+          workers = k.found.workers;
+          held = c.last.worker;
+          here = subst (λ (j : ℕ). StandsAs k.found.workers j (uncounted c.last.worker)) n k.found.here;
+          stands = subst (λ (v : Plan). WorkersStand (heap_of v k.before k.found.workers) (after_all (first_plain v) k.found.log) (last_flip (first_plain v) k.found.log)) plan k.found.stands;
+        };
         no_room = subst (λ (v : Plan). FindsNoRoom v.spaces.pages k.before c.last.worker asked room live) h.plan c.full;
         was_live = subst (λ (v : Plan). IsLive (last_flip (first_plain v) b.knows.seen) live) h.plan c.live;
         flipped = since;

@@ -317,28 +317,32 @@ module _ (code : List (List Instr)) (config : Config) (t : TableId) (ms : List S
     runs_so told same all regs tells =
         let from : p ≡ opening code = opens_so code in
         record {
-          log = c.log;
-          workers = c.workers;
-          legal = subst (λ (z : Plain). IsLegal z c.log) from c.legal;
+          words_tell = record {
+            history = record {
+              log = c.log;
+              workers = c.workers;
+              legal = subst (λ (z : Plain). IsLegal z c.log) from c.legal;
+              count = c.count;
+              stands = subst (λ (z : Plain × List ℕ). WorkersStand (heap_of plan_here z.1 c.workers) (after_all z.0 c.log) (last_flip z.0 c.log)) (λ i. (from i, sym same i)) c.stands;
+              lost = subst (λ (z : Plain × List ℕ). AreEmptyIfLost (heap_of plan_here z.1 c.workers) (after_all z.0 c.log) (last_flip z.0 c.log)) (λ i. (from i, sym same i)) c.lost;
+            };
+            copied = subst (λ (z : Plain × List ℕ). IsTraced (heap_of plan_here z.1 c.workers) → CopiedIsLive (read (heap_of plan_here z.1 c.workers)) (last_flip z.0 c.log)) (λ i. (from i, sym same i)) c.copied;
+            kept = λ room. subst (λ (z : Plain × List ℕ). TellsKept (heap_of plan_here z.1 c.workers) (after_all z.0 c.log)) (λ i. (from i, sym same i)) (c.kept room);
+            sizes = c.sizes;
+            sized = c.sized;
+            size = subst (λ (z : List ℕ). size_of config.limit z ≡ size_now c.sizes (tally (opening_tally plan_here) c.log)) (sym same) c.size;
+            entries = c.entries;
+            all_flipped = c.all_flipped;
+          };
           plain_is = order.plain ∙ ap (λ (z : Plain). after_all z c.log) from;
           acts = order.acts;
           flip_is = sym (order.flip ∙ ap (λ (z : Plain). last_flip z c.log) from);
           ended = λ m q is. subst IsSome (sym (ended_at m q (ap (λ (z : Plain). slice_get (after_all z c.log).mutators m) from ∙ is)).3) refl;
-          count = c.count;
-          stands = subst (λ (z : Plain × List ℕ). WorkersStand (heap_of plan_here z.1 c.workers) (after_all z.0 c.log) (last_flip z.0 c.log)) (λ i. (from i, sym same i)) c.stands;
-          copied = subst (λ (z : Plain × List ℕ). IsTraced (heap_of plan_here z.1 c.workers) → CopiedIsLive (read (heap_of plan_here z.1 c.workers)) (last_flip z.0 c.log)) (λ i. (from i, sym same i)) c.copied;
-          lost = subst (λ (z : Plain × List ℕ). AreEmptyIfLost (heap_of plan_here z.1 c.workers) (after_all z.0 c.log) (last_flip z.0 c.log)) (λ i. (from i, sym same i)) c.lost;
-          kept = λ room. subst (λ (z : Plain × List ℕ). TellsKept (heap_of plan_here z.1 c.workers) (after_all z.0 c.log)) (λ i. (from i, sym same i)) (c.kept room);
           last = orders_keep_the_last_checkpoint code config.turns (order_of c.log);
           all_words = all;
           epoch = tells.cycles ∙ c.epoch;
           left = workers_left;
           shows = λ m q is. shown_at m q told regs (ap (λ (z : Plain). slice_get (after_all z c.log).mutators m) from ∙ is);
-          sizes = c.sizes;
-          sized = c.sized;
-          size = subst (λ (z : List ℕ). size_of config.limit z ≡ size_now c.sizes (tally (opening_tally plan_here) c.log)) (sym same) c.size;
-          entries = c.entries;
-          flipped = c.all_flipped;
           tells = subst (λ (z : List ℕ). Tells (heap_of plan_here z c.workers) told) (sym same) tells;
           filled = fulls.0;
           follows = fulls.1;

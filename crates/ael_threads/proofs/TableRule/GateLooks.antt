@@ -74,20 +74,22 @@ module _ (plan : Plan) (id : ℕ) (was : Hand) (x : Held) (others : List Hand) (
 
   stands : StandWith plan m x seen s.words
   stands = record {
-    log = b.log;
-    legal = b.legal;
+    history = record {
+      log = b.log;
+      workers = workers1;
+      legal = b.legal;
+      count = length-set b.workers m y ∙ b.count;
+      stands = readied;
+      lost = lost_cells_are_empty (heap_of plan s.words workers1) p o (record { stands = readied; cells = b.story.cells });
+    };
     begins = fits_view.seen;
-    workers = workers1;
-    count = length-set b.workers m y ∙ b.count;
     here = record { held = y; is = set_here b.workers m y inside; shown = refl };
-    stands = readied;
-    lost = lost_cells_are_empty (heap_of plan s.words workers1) p o (record { stands = readied; cells = b.story.cells });
     tallied = task_tallied (heap_of plan s.words b.workers) m y inside (subst (λ (w : Held). Begins w y) (sym old_is) (begins_counted old.account.executed was.worker x follows.begins)) plan.least (opening_tally plan) b.log b.tallied;
   }
 
   pub finds_gate : FindsGate (view plan (was ∷ others) seen heard claims) m x (slice_index s.words 0)
   unfolding stands
-  finds_gate = record { words = s.words; stands = stands; heard = fits_view.heard; own = has.calls; gate = gate_is plan.spaces.pages s.words }
+  finds_gate = record { finds = record { words = s.words; stands = stands; heard = fits_view.heard; own = has.calls }; gate = gate_is plan.spaces.pages s.words }
 
 finds : (plan : Plan) (id : ℕ) (v : View) (x : Held) (hs : List Hand) → v.hands ≡ hs → 0 < v.plan.spaces.pages → Heads v.plan x hs → (s : TableState) → RuleHolds plan s → get_elem? s.views id ≡ some v
     → FindsGate v (first_number v.hands) x (slice_index s.words 0)

@@ -425,27 +425,31 @@ module _ (plan : Plan) (id : ℕ) (was : Hand) (x : Held) (others : List Hand) (
   -- the words that it finds, and those that it leaves
   abbrev found : StandWith plan m x seen s.words
   found = record {
-    log = b.log;
-    legal = b.legal;
+    history = record {
+      log = b.log;
+      workers = workers1;
+      legal = b.legal;
+      count = count1;
+      stands = readied;
+      lost = lost_cells_are_empty (heap_of plan s.words workers1) p o readied_story;
+    };
     begins = fits_view.seen;
-    workers = workers1;
-    count = count1;
     here = record { held = y; is = set_here b.workers m y inside; shown = refl };
-    stands = readied;
-    lost = lost_cells_are_empty (heap_of plan s.words workers1) p o readied_story;
     tallied = readied_tallied;
   }
 
   abbrev stands_after : StandWith plan m z seen' later
   stands_after = record {
-    log = log';
-    legal = legal';
+    history = record {
+      log = log';
+      workers = workers2;
+      legal = legal';
+      count = count2;
+      stands = stands';
+      lost = lost_cells_are_empty heap' p' (last_flip (first_plain plan) log') story';
+    };
     begins = fit.seen;
-    workers = workers2;
-    count = count2;
     here = has'.state;
-    stands = stands';
-    lost = lost_cells_are_empty heap' p' (last_flip (first_plain plan) log') story';
     tallied = tallied';
   }
 
@@ -464,15 +468,12 @@ module _ (plan : Plan) (id : ℕ) (was : Hand) (x : Held) (others : List Hand) (
       shows = shows';
       step = q;
       wants = want;
-      before = s.words;
+      finds = record { words = s.words; stands = found; heard = fits_view.heard; own = has.calls };
       reply = refl;
       after = later;
       left = refl;
-      found = found;
       stands = stands_after;
       grows = refl;
-      heard = fits_view.heard;
-      own = has.calls;
       hears = refl;
       sees = refl;
       others = λ j other. set_else workers1 m j (turned y r) other;

@@ -41,17 +41,7 @@ module _ (b c : Seated) (r : Reply) (s : Stepped) (h : ActsBy b r s c) where
       let there_too : IsPresent z = present_with_count z (subst IsPresent h.worker present) in
       let number : first_number c.knows.hands ≡ first_number b.knows.hands = ap first_number k.hands in
       let there = k.stands in
-      let stands : StandWith b.knows.plan (first_number b.knows.hands) (uncounted z) c.knows.seen k.after = record {
-        log = there.log;
-        legal = there.legal;
-        begins = there.begins;
-        workers = there.workers;
-        count = there.count;
-        here = there.here;
-        stands = there.stands;
-        lost = there.lost;
-        tallied = there.tallied;
-      } in
+      let stands : StandWith b.knows.plan (first_number b.knows.hands) (uncounted z) c.knows.seen k.after = record { history = there.history; begins = there.begins; here = there.here; tallied = there.tallied } in
       record {
         words = k.after;
         stands = subst (λ (y : Plan × ℕ × Held). StandWith y.0 y.1 y.2 c.knows.seen k.after) (λ i. (sym k.plan i, sym number i, sym h.worker i)) stands;

@@ -186,17 +186,7 @@ absorbs v u y w before other e l =
       other = prefix_trans u.seen u.heard w.seen other other_heard;
       heard = heard;
       other_heard = other_heard;
-      hears = l.hears;
-      own = l.own;
-      apart = l.apart;
-      once = l.once;
-      legal = l.legal;
-      tasks = l.tasks;
-      sizes = l.sizes;
-      sized = l.sized;
-      entries = l.entries;
-      flipped = l.flipped;
-      all_flipped = l.all_flipped;
+      whole = l.whole;
     }
 
 -- what is shown stays so where more was seen

@@ -76,26 +76,30 @@ closes plan id t all one words xs g fits many end =
     let sized = tallied_sizes plan s.words b.workers b.log b.tallied in
     let hands = subst (Each (Stays b.workers b.log)) g.hands (each_map (HasHand b.workers b.log b.owner id) (Stays b.workers b.log) (λ h k. record { state = k.state; calls = k.calls }) one.knows.hands f.hands) in
     let apart = subst (λ (hands : List Hand). IsOnce (map hand_number hands)) g.hands f.apart in record {
-      log = b.log;
-      workers = b.workers;
-      legal = b.legal;
-      count = b.count;
-      stands = stands;
+      words_tell = record {
+        history = record {
+          log = b.log;
+          workers = b.workers;
+          legal = b.legal;
+          count = b.count;
+          stands = stands;
+          lost = lost_cells_are_empty (heap_of plan words b.workers) (after_all (first_plain plan) b.log) (last_flip (first_plain plan) b.log) story;
+        };
+        copied = copied_was_live (heap_of plan words b.workers) (after_all (first_plain plan) b.log) (last_flip (first_plain plan) b.log) stands;
+        kept = λ room. record { counted = stands.stands.size; whole = whole; says = checkpoints_are_kept (heap_of plan words b.workers) (after_all (first_plain plan) b.log) (last_flip (first_plain plan) b.log) stands room };
+        sizes = b.tallied.sizes;
+        sized = sized;
+        size = subst (λ (z : List ℕ). size_of plan.spaces.pages z ≡ size_now b.tallied.sizes (tally (opening_tally plan) b.log)) end.2 b.tallied.counts.size;
+        entries = b.tallied.entries;
+        all_flipped = b.flipped;
+      };
       last = b.last;
-      copied = copied_was_live (heap_of plan words b.workers) (after_all (first_plain plan) b.log) (last_flip (first_plain plan) b.log) stands;
-      lost = lost_cells_are_empty (heap_of plan words b.workers) (after_all (first_plain plan) b.log) (last_flip (first_plain plan) b.log) story;
-      kept = λ room. record { counted = stands.stands.size; whole = whole; says = checkpoints_are_kept (heap_of plan words b.workers) (after_all (first_plain plan) b.log) (last_flip (first_plain plan) b.log) stands room };
       last_snap = histories_keep_the_last_checkpoint (first_plain plan) b.log refl;
       epoch = subst (λ (z : List ℕ). epoch_of plan.spaces.pages z ≡ (tally (opening_tally plan) b.log).flips) end.2 b.tallied.counts.epoch;
-      sizes = b.tallied.sizes;
-      sized = sized;
-      size = subst (λ (z : List ℕ). size_of plan.spaces.pages z ≡ size_now b.tallied.sizes (tally (opening_tally plan) b.log)) end.2 b.tallied.counts.size;
-      entries = b.tallied.entries;
       large = subst (λ (pages : ℕ × ℕ). IsLargeFor pages.0 pages.1 (tasks_held b.workers) (opening_tally plan) b.log → HasNoFullCall b.log) (λ i. (sized.limit i, sized.least i))
           (large_has_no_full b.tallied.sizes (tasks_held b.workers) (opening_tally plan) b.log b.tallied.entries);
       flipped = subst (Each (HasFlippedIfFull plan b.log)) g.hands
           (each_map (HasHand b.workers b.log b.owner id) (HasFlippedIfFull plan b.log) (λ h k. hand_flipped plan b.workers b.log h k.state b.flipped) one.knows.hands f.hands);
-      all_flipped = b.flipped;
       seen = each_map (λ (c : Seated). IsPrefix c.knows.seen one.knows.seen) (λ (c : Seated). IsPrefix c.knows.seen b.log) (λ c h. prefix_trans c.knows.seen one.knows.seen b.log h f.seen) all g.seen;
       heard = each_map (λ (c : Seated). IsPrefix c.knows.heard one.knows.heard) (λ (c : Seated). IsPrefix c.knows.heard b.log) (λ c h. prefix_trans c.knows.heard one.knows.heard b.log h f.heard) all g.heard;
       hands = hands;

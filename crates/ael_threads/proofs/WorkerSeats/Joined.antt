@@ -162,18 +162,20 @@ learns plan slots id me st live s b homes at small =
           claims = refl;
           seen = f.seen;
           heard = f.heard;
-          hears = refl;
-          apart = f.apart;
-          own = each_map (HasHand b.workers b.log b.owner id) (λ (h : Hand). calls_of h.number b.log ≡ h.own) (λ h t. t.calls) v.hands f.hands;
-          once = f.once;
-          legal = subst (λ (z : Plan). IsLegal (first_plain z) b.log) (sym (f.same live)) b.legal;
-          tasks = tasks_held b.workers;
-          sizes = b.tallied.sizes;
-          sized = subst (λ (z : Plan). AreSizesOf z b.tallied.sizes) (sym (f.same live)) (tallied_sizes plan s.words b.workers b.log b.tallied);
-          entries = subst (λ (z : Plan). EachEntry (EntryIs b.tallied.sizes (tasks_held b.workers)) (opening_tally z) b.log) (sym (f.same live)) b.tallied.entries;
-          flipped = subst (λ (z : Plan). Each (HasFlippedIfFull z b.log) v.hands) (sym (f.same live))
-              (each_map (HasHand b.workers b.log b.owner id) (HasFlippedIfFull plan b.log) (λ h t. hand_flipped plan b.workers b.log h t.state b.flipped) v.hands f.hands);
-          all_flipped = subst (λ (z : Plan). (m : ℕ) → (begun : ℕ) × FlippedIfFull z m begun b.log) (sym (f.same live)) (λ m. (begun_held b.workers m, b.flipped m));
+          whole = record {
+            hears = refl;
+            apart = f.apart;
+            own = each_map (HasHand b.workers b.log b.owner id) (λ (h : Hand). calls_of h.number b.log ≡ h.own) (λ h t. t.calls) v.hands f.hands;
+            once = f.once;
+            legal = subst (λ (z : Plan). IsLegal (first_plain z) b.log) (sym (f.same live)) b.legal;
+            tasks = tasks_held b.workers;
+            sizes = b.tallied.sizes;
+            sized = subst (λ (z : Plan). AreSizesOf z b.tallied.sizes) (sym (f.same live)) (tallied_sizes plan s.words b.workers b.log b.tallied);
+            entries = subst (λ (z : Plan). EachEntry (EntryIs b.tallied.sizes (tasks_held b.workers)) (opening_tally z) b.log) (sym (f.same live)) b.tallied.entries;
+            flipped = subst (λ (z : Plan). Each (HasFlippedIfFull z b.log) v.hands) (sym (f.same live))
+                (each_map (HasHand b.workers b.log b.owner id) (HasFlippedIfFull plan b.log) (λ h t. hand_flipped plan b.workers b.log h t.state b.flipped) v.hands f.hands);
+            all_flipped = subst (λ (z : Plan). (m : ℕ) → (begun : ℕ) × FlippedIfFull z m begun b.log) (sym (f.same live)) (λ m. (begun_held b.workers m, b.flipped m));
+          };
         },
       ),
     )
