@@ -4,7 +4,6 @@ ghost use Rattle.std.specs.Prelude.{◌≡◌, ◌+◌, ◌-◌, ◌≤◌, ◌<
 ghost use Rattle.space_map.specs.declared.spaces.TheConstants.{MOST_MUTATORS, MOST_SCANNERS};
 ghost use Rattle.space_map.specs.Table.{whole_length};
 ghost use Rattle.gc_worker.specs.Config.{has_sizes, layout_by};
-ghost use Rattle.gc_worker.specs.Laws.Between.{opening_words};
 ghost use Rattle.ael_threads.specs.Histories.{first_held, new_hands};
 ghost use Rattle.ael_threads.specs.Opened.{new_scanners, plan_of, plan_with, plan_without_printing};
 ghost use Rattle.ael_threads.specs.Rule.{crew, first_view, view};
@@ -17,38 +16,14 @@ use crate::shared::{Deal, Shared};
 use crate::view::{Plan, View};
 use atomic_table::{Seat, Table};
 use crossbeam_utils::CachePadded;
-use gc_worker::{Config, OpenError, Worker};
-use mmu_model::unprotect;
-use space_map::{AreaWord, PAGE_WORDS, Spaces};
-use std::alloc::{AllocError, Global};
+use gc_worker::{Config, OpenError, Worker, opening_words};
+use std::alloc::Global;
 
 /// The seats of a heap's workers.
 #[derive(Drop)]
 pub struct Seats {
     pub mutators: Vec<Mutator>,
     pub scanners: Vec<Scanner>,
-}
-
-/// The words before the first step: both spaces are empty with so many pages in use, the epoch is traced and its turn was taken, the board is
-/// open, no cell is linked, and nothing is said of checkpoints.
-fn first_words(alloc: Global, spaces: Spaces, pages: u32) -> Result<Vec<u64>, AllocError>
-    requires { pages ≤ spaces.pages }
-    ensures { IfOk result (λ words. words.items ≡ opening_words spaces pages) }
-{
-    let area = AreaWord {
-        front: 0,
-        low: PAGE_WORDS * pages,
-        owed: 0,
-    };
-    let mut words = Vec::from_elem(alloc, 0u64, spaces.whole_len())?;
-    words[spaces.page_place(spaces.board_page())] = unprotect(0);
-    words[spaces.size_place(1)] = u64::from(pages);
-    words[spaces.size_place(0)] = u64::from(pages);
-    words[spaces.weak_turn_place()] = 1;
-    words[spaces.area_place(1)] = area.pack();
-    words[spaces.area_place(0)] = area.pack();
-    words[spaces.traced_place()] = 1;
-    Ok(words)
 }
 
 impl Shared {
@@ -110,8 +85,8 @@ impl Shared {
             scanners: config.scanners,
             prints,
         };
-        let words = first_words(alloc, spaces, config.pages)?;
-        let (table, seat) = Table::of_words(alloc, words.as_slice(), &plan)?;
+        let atoms = opening_words(alloc, spaces, config.pages)?;
+        let (table, seat) = Table::of_words(alloc, atoms.words(), &plan)?;
         let shared = Shared { table };
         let seats = shared.deal(alloc, seat, &plan)?;
         Ok((shared, seats))

@@ -1,41 +1,18 @@
 //! How a core is opened.
 
 ghost use Rattle.std.specs.Prelude.{◌≡◌, ◌+◌, ◌≤◌, ◌<◌, ◌↔◌, true, length, IfOk, IsErrOf, IsTrue, not};
-ghost use Rattle.gc_worker.specs.Laws.Between.{fresh_worker, fresh_workers, opening_words};
+ghost use Rattle.gc_worker.specs.Laws.Between.{fresh_worker, fresh_workers};
 ghost use Rattle.space_map.specs.declared.spaces.TheConstants.{LAST_WORKER, MOST_MUTATORS, MOST_SCANNERS};
 ghost use Rattle.gc_worker.specs.declared.config.TheConstants.{MOST_TURNS};
 ghost use Rattle.gc_core.specs.Core.{opening_core, workers_of, has_sizes};
 
 use crate::machine::Core;
 use crate::slot::Slot;
-use atom_store::{Atoms, NoMemory, PlainAtoms, Step};
-use gc_worker::{Config, OpenError, Worker};
-use mmu_model::unprotect;
+use atom_store::NoMemory;
+use gc_worker::{Config, OpenError, Worker, opening_words};
 use mutator_asm::Program;
-use space_map::{AreaWord, PAGE_WORDS, Spaces};
+use space_map::Spaces;
 use std::alloc::{AllocError, Global};
-
-/// The words before the first step: both spaces are empty with so many pages in use, the epoch is traced and its turn was taken, the board is
-/// open, no cell is linked, and nothing is said of checkpoints.
-fn words(alloc: Global, spaces: Spaces, pages: u32) -> Result<PlainAtoms, NoMemory>
-    requires { pages ≤ spaces.pages }
-    ensures { IfOk result (λ atoms. atoms ≡ opening_words spaces pages) }
-{
-    let area = AreaWord {
-        front: 0,
-        low: PAGE_WORDS * pages,
-        owed: 0,
-    };
-    let mut atoms = PlainAtoms::new(alloc, spaces.whole_len())?;
-    atoms.act(Step::Store(spaces.page_place(spaces.board_page()), unprotect(0)));
-    atoms.act(Step::Store(spaces.size_place(1), u64::from(pages)));
-    atoms.act(Step::Store(spaces.size_place(0), u64::from(pages)));
-    atoms.act(Step::Store(spaces.weak_turn_place(), 1));
-    atoms.act(Step::Store(spaces.area_place(1), area.pack()));
-    atoms.act(Step::Store(spaces.area_place(0), area.pack()));
-    atoms.act(Step::Store(spaces.traced_place(), 1));
-    Ok(atoms)
-}
 
 /// Worker `k` before its first step.
 fn worker(alloc: Global, spaces: Spaces, k: u8, mutators: u8) -> Result<Slot, NoMemory>
@@ -75,7 +52,7 @@ impl<'p> Core<'p> {
         ensures bad_pages { IsErrOf result OpenError.BadPages ↔ IsTrue (not (has_sizes config.now)) }
     {
         let spaces = config.spaces()?;
-        let atoms = words(alloc, spaces, config.pages)?;
+        let atoms = opening_words(alloc, spaces, config.pages)?;
         let mutators = program.code.len() as u8;
         let slots = slots(alloc, spaces, mutators, mutators + config.scanners)?;
         Ok(Core {

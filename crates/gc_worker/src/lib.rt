@@ -13,6 +13,7 @@ mod config;
 mod history_laws;
 mod laws;
 mod open_error;
+mod opening;
 mod readers;
 mod registers;
 mod stage;
@@ -38,6 +39,7 @@ pub use laws::{
     what_stands_is_so, what_was_copied_was_live, who_is_gone_saw_why, workers_go_on, workers_want,
 };
 pub use open_error::OpenError;
+pub use opening::opening_words;
 pub use readers::{epoch_said, live_said};
 pub use stage::Stage;
 pub use stage::after::After;

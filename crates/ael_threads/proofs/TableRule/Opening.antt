@@ -5,9 +5,6 @@ use lib.ListN.{get_elem?}
 use Rattle.atomic_table.specs.Table as table
 use Rattle.space_map.specs.declared.spaces.TheConstants.{FEWEST_PAGES}
 use Rattle.space_map.specs.Spaces.{Layout, IsPageCount}
-use Rattle.space_map.specs.Table.{whole_length}
-use Rattle.std.proofs.lemmas.List.{length-replicate}
-use Rattle.std.proofs.Math.ListN.{length-set}
 use Rattle.gc_worker.specs.Laws.Between.{fresh_mutator, fresh_scanner, fresh_worker, fresh_workers, opening_words}
 use Rattle.gc_worker.specs.Laws.Cycles.{IsInCall}
 use Rattle.gc_worker.specs.Workers.Held.{Held}
@@ -25,21 +22,6 @@ use Rattle.gc_worker.proofs.History.Opening.{opening_tallied}
 
 abbrev pub first_words : Plan → List ℕ
 first_words plan = opening_words plan.spaces plan.least
-
--- ---- the words
-
--- they are these, by whether there is room for checkpoints
-module _ (n least : ℕ) where
-  abbrev these : Bool → List ℕ
-  these room = opening_words (record { pages = n; checkpoints = room }) least
-
-  length_by : (room : Bool) → length (these room) ≡ whole_length (record { pages = n; checkpoints = room })
-  length_by true = simp (length-set, length-replicate)
-  length_by false = simp (length-set, length-replicate)
-
--- so many
-pub opening_length : (layout : Layout) (least : ℕ) → length (opening_words layout least) ≡ whole_length layout
-opening_length layout least = length_by layout.pages least layout.checkpoints
 
 -- ---- the workers
 

@@ -1,8 +1,6 @@
 -- A core begins lawful, for the plain state in which its program begins.
-use Rattle.std.proofs.Common.{◌≡◌, ℕ, zero, suc, ◌+◌, ◌++◌, ◌<◌, ◌≤◌, ◌&&◌, Bool, true, false, nat_le, List, [], ◌∷◌, length, replicate, refl, ap, sym, subst, ◌∙◌, arith, lt-ltb}
-use Rattle.std.specs.Prelude.{IsTrue, if◌then◌else◌, slice_set}
-use Rattle.std.proofs.lemmas.List.{length-replicate}
-use Rattle.std.proofs.Math.ListN.{length-set}
+use Rattle.std.proofs.Common.{◌≡◌, ℕ, zero, suc, ◌+◌, ◌++◌, ◌<◌, ◌≤◌, ◌&&◌, Bool, true, false, nat_le, List, [], ◌∷◌, length, refl, ap, sym, subst, ◌∙◌, arith, lt-ltb}
+use Rattle.std.specs.Prelude.{IsTrue, if◌then◌else◌}
 use Rattle.std.proofs.lemmas.Bool.{leb-true}
 use Rattle.plain_state.specs.Cells.{CellsFollow}
 use Rattle.plain_state.specs.State.{Plain}
@@ -13,11 +11,8 @@ use Rattle.plain_heap.specs.Order as order
 use Rattle.heap_state.proofs.Puts.{none≢some}
 use Rattle.space_map.specs.Spaces.{Layout, IsPageCount}
 use Rattle.heap_state.specs.Configuration.{table}
-use Rattle.heap_state.specs.Memory.Entries.{Entry, row_of, word_of, whole_place_of}
 use Rattle.heap_state.specs.Memory.Table.{Table}
-use Rattle.heap_laws.specs.Opening.{opening_entries}
-use Rattle.space_map.specs.Table.{whole_length}
-use Rattle.gc_worker.specs.Laws.Between.{HeapsOpen, fresh_worker, fresh_workers, fresh_mutator, fresh_scanner, opening_words}
+use Rattle.gc_worker.specs.Laws.Between.{HeapsOpen, fresh_worker, fresh_workers, fresh_mutator, fresh_scanner}
 use Rattle.gc_worker.specs.Workers.Held.{Held}
 use Rattle.gc_worker.specs.Laws.Step.{WorkersStand, held_at, read}
 use Rattle.gc_worker.specs.Laws.Copied.{IsTraced}
@@ -26,7 +21,7 @@ use Rattle.gc_worker.specs.Steps.Turned.{epoch_in_gate}
 use Rattle.gc_worker.proofs.Stages.Gate.Words.{gate_says}
 use Rattle.gc_worker.proofs.Between.Last.{scanners_begin_last}
 use Rattle.gc_worker.proofs.Cycles.NextSizes.{next_sizes_begin}
-use Rattle.gc_worker.proofs.Between.Opening.{are_opening, is_there}
+use Rattle.gc_worker.proofs.Between.Opening.{are_opening, is_there, opening_words-length}
 use Rattle.gc_worker.specs.declared.config.Config.{Config}
 use Rattle.gc_worker.proofs.Plain.KeptCells.{opening_cells}
 use Rattle.gc_worker.proofs.Plain.Outcomes.{opens_so}
@@ -48,25 +43,6 @@ sizes_fit config e = by_tests (nat_le 4 config.pages) (nat_le config.pages 2048)
 
 pub limit_fits : (config : Config) → IsTrue (has_sizes config) → IsPageCount config.limit
 limit_fits config e = let fit = sizes_fit config e in let a = fit.0 in let b = fit.1 in (omega (arith, a, b), fit.2)
-
--- ---- the words
-
--- the words after these rows were written in some, the last of the list first
-abbrev pub written_in : (n : ℕ) → List ℕ → List Entry → List ℕ
-written_in n words [] = words
-written_in n words (e ∷ entries) = slice_set (written_in n words entries) (whole_place_of n (row_of e)) (word_of e)
-
--- at first the rows of the opening were written in a table whose words are all 0
-pub opening_words_are : (layout : Layout) (least : ℕ) → opening_words layout least ≡ written_in layout.pages (replicate (whole_length layout) 0) (opening_entries layout.pages least)
-opening_words_are layout least = by_room layout.checkpoints refl
-  where
-    by_room : (room : Bool) → layout.checkpoints ≡ room → opening_words layout least ≡ written_in layout.pages (replicate (whole_length layout) 0) (opening_entries layout.pages least)
-    by_room true is = rw is refl
-    by_room false is = rw is refl
-
--- they are just as many as the layout has
-pub opening_words-length : (layout : Layout) (least : ℕ) → length (opening_words layout least) ≡ whole_length layout
-opening_words-length layout least = ap length (opening_words_are layout least) ∙ simp (length-set, length-replicate)
 
 -- ---- the workers
 

@@ -1,14 +1,16 @@
 -- A new heap with its workers stands, and each worker is sound.
-use Rattle.std.proofs.Common.{◌≡◌, ℕ, zero, suc, ◌+◌, ◌<◌, ◌≤◌, Bool, true, false, cond, nat_lt, List, ◌∷◌, ◌++◌, length, map, replicate, get_or, slice_index, refl, sym, ap, subst, ◌∙◌, arith, ⊎_elim, lt-ltb, le-ltb}
+use Rattle.std.proofs.Common.{◌≡◌, ℕ, zero, suc, ◌+◌, ◌<◌, ◌≤◌, Bool, true, false, cond, nat_lt, List, [], ◌∷◌, ◌++◌, length, map, replicate, get_or, slice_index, refl, sym, ap, subst, ◌∙◌, arith, ⊎_elim, lt-ltb, le-ltb}
+use Rattle.std.specs.Prelude.{slice_set}
 use Rattle.std.proofs.lemmas.Bool.{cases_lt}
 use Rattle.std.proofs.lemmas.List.{get_or-replicate, get_or_past, length-replicate}
+use Rattle.std.proofs.Math.ListN.{length-set}
 use Rattle.heap_words.specs.Decoded.{decode}
 use Rattle.plain_state.specs.declared.sizes.TheConstants.{REGISTERS}
 use Rattle.space_map.specs.Spaces.{Layout, IsPageCount}
 use Rattle.space_map.specs.Table.{whole_length}
 use Rattle.heap_state.specs.Configuration.{Configuration, Stands, table, era, memory, team}
 use Rattle.heap_state.specs.Cycles.Cycle.{Cycle}
-use Rattle.heap_state.specs.Memory.Entries.{EachFits, table_with}
+use Rattle.heap_state.specs.Memory.Entries.{EachFits, Entry, row_of, table_with, whole_place_of, word_of}
 use Rattle.heap_state.specs.Memory.Table.{IsFormed, table_of}
 use Rattle.heap_state.specs.Saving.Words.{Saves}
 use Rattle.heap_state.specs.Saving.Written.{blank_saves}
@@ -121,6 +123,23 @@ module _ (prints : Bool) (s : Layout) (mutators : ℕ) where
   is_there from (suc count) (suc j) k l at = is_there (from + 1) count j k (omega (arith, l)) (omega (arith, at))
 
 -- ---- the words
+
+-- the words after these rows were written in some, the last of the list first
+abbrev pub written_in : (n : ℕ) → List ℕ → List Entry → List ℕ
+written_in n words [] = words
+written_in n words (e ∷ entries) = slice_set (written_in n words entries) (whole_place_of n (row_of e)) (word_of e)
+
+-- at first the rows of the opening were written in a table whose words are all 0
+pub opening_words_are : (layout : Layout) (least : ℕ) → opening_words layout least ≡ written_in layout.pages (replicate (whole_length layout) 0) (opening_entries layout.pages least)
+opening_words_are layout least = by_room layout.checkpoints refl
+  where
+    by_room : (room : Bool) → layout.checkpoints ≡ room → opening_words layout least ≡ written_in layout.pages (replicate (whole_length layout) 0) (opening_entries layout.pages least)
+    by_room true is = rw is refl
+    by_room false is = rw is refl
+
+-- they are just as many as the layout has
+pub opening_words-length : (layout : Layout) (least : ℕ) → length (opening_words layout least) ≡ whole_length layout
+opening_words-length layout least = ap length (opening_words_are layout least) ∙ simp (length-set, length-replicate)
 
 entries_fit : (n least : ℕ) → IsPageCount n → 4 ≤ least → least ≤ n → EachFits n (opening_entries n least)
 entries_fit n least size some short = (

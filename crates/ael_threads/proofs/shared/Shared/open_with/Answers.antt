@@ -13,7 +13,8 @@ use Rattle.ael_threads.specs.declared.view.Plan.{Plan}
 use Rattle.ael_threads.specs.Opened.{new_scanners}
 use Rattle.ael_threads.specs.Rule.{RuleHolds, crew, first_view}
 use Rattle.ael_threads.specs.Seats.{new_callers}
-use Rattle.ael_threads.proofs.TableRule.Opening.{opening_length, opens_kept}
+use Rattle.gc_worker.proofs.Between.Opening.{opening_words-length}
+use Rattle.ael_threads.proofs.TableRule.Opening.{opens_kept}
 use Rattle.ael_threads.proofs.shared.Shared.open_with.Goals as goal
 
 -- of sizes that a heap may have only memory may be wanting
@@ -41,7 +42,7 @@ pub of_words-requires : goal.of_words-requires
 of_words-requires c =
     let plan : Plan = record { spaces = c.in_ok-spaces.spaces; least = c.args.config.now.pages; mutators = c.args.mutators; scanners = c.args.config.now.scanners; prints = c.args.prints } in
     let all : crew plan ≤ 24 = (let a = c.requires.mutators.1 in let b = c.requires.scanners in omega (arith, a, b)) in
-    subst (λ (words : List ℕ). RuleHolds plan (table.opening {S = ℕ} words [] (first_view plan))) (sym (c.as_slice.ensures.value ∙ c.in_ok-words.ensures))
+    subst (λ (words : List ℕ). RuleHolds plan (table.opening {S = ℕ} words [] (first_view plan))) (sym (c.words.ensures ∙ c.in_ok-atoms.ensures))
     (opens_kept plan c.known.ensures c.in_ok-spaces.ensures.at_first.0 c.in_ok-spaces.ensures.at_first.1 c.requires.mutators.1 all)
 
 pub deal-requires-clause-few : goal.deal-requires-clause-few
@@ -66,8 +67,8 @@ returns-clause-scanners c =
     let t = c.in_ok-table.table.shared.table_id in
     c.in_ok-seats.ensures.scanners ∙ ap (λ (l : Layout). new_scanners t (opens c.args.prints c.args.mutators c.args.config.now l) c.args.mutators c.args.config.now.scanners) c.in_ok-spaces.ensures.layout
 
-pub returns-in_err-words-clause-bad_pages : goal.returns-in_err-words-clause-bad_pages
-returns-in_err-words-clause-bad_pages c = no_memory c.args.config.now _ c.known.ensures (ap (λ (l : Layout). l.pages) c.in_ok-spaces.ensures.layout) c.in_ok-spaces.ensures.at_first _ c.from_residual-in_err-words.ensures.1
+pub returns-in_err-atoms-clause-bad_pages : goal.returns-in_err-atoms-clause-bad_pages
+returns-in_err-atoms-clause-bad_pages c = no_memory c.args.config.now _ c.known.ensures (ap (λ (l : Layout). l.pages) c.in_ok-spaces.ensures.layout) c.in_ok-spaces.ensures.at_first _ c.from_residual-in_err-atoms.ensures.1
 
 pub returns-in_err-table-clause-bad_pages : goal.returns-in_err-table-clause-bad_pages
 returns-in_err-table-clause-bad_pages c = no_memory c.args.config.now _ c.known.ensures (ap (λ (l : Layout). l.pages) c.in_ok-spaces.ensures.layout) c.in_ok-spaces.ensures.at_first _ c.from_residual-in_err-table.ensures.1
@@ -76,7 +77,7 @@ pub returns-clause-bad_pages : goal.returns-clause-bad_pages
 returns-clause-bad_pages c = is_open c.args.config.now _ c.known.ensures (ap (λ (l : Layout). l.pages) c.in_ok-spaces.ensures.layout) c.in_ok-spaces.ensures.at_first _
 
 pub deal-requires-clause-live : goal.deal-requires-clause-live
-deal-requires-clause-live c = c.in_ok-table.ensures.0 ∙ (ap length (c.as_slice.ensures.value ∙ c.in_ok-words.ensures) ∙ opening_length c.in_ok-spaces.spaces c.args.config.now.pages)
+deal-requires-clause-live c = c.in_ok-table.ensures.0 ∙ (ap length (c.words.ensures ∙ c.in_ok-atoms.ensures) ∙ opening_words-length c.in_ok-spaces.spaces c.args.config.now.pages)
 
 pub returns-clause-words : goal.returns-clause-words
-returns-clause-words c = c.in_ok-table.ensures.0 ∙ (ap length (c.as_slice.ensures.value ∙ c.in_ok-words.ensures) ∙ (opening_length c.in_ok-spaces.spaces c.args.config.now.pages ∙ ap whole_length c.in_ok-spaces.ensures.layout))
+returns-clause-words c = c.in_ok-table.ensures.0 ∙ (ap length (c.words.ensures ∙ c.in_ok-atoms.ensures) ∙ (opening_words-length c.in_ok-spaces.spaces c.args.config.now.pages ∙ ap whole_length c.in_ok-spaces.ensures.layout))

@@ -9,8 +9,8 @@ all_there c =
     ∙ many true c.in_ok-spaces.spaces c.len-mutators.result 0 (c.len-mutators.result + c.args.config.now.scanners)
     ∙ ap (λ n. n + c.args.config.now.scanners) c.len-mutators.ensures
 
-pub words-requires : goal.words-requires
-words-requires c = c.in_ok-spaces.ensures.at_first.1
+pub opening_words-requires : goal.opening_words-requires
+opening_words-requires c = c.in_ok-spaces.ensures.at_first.1
 
 pub returns-clause-workers : goal.returns-clause-workers
 returns-clause-workers c = all_there c
