@@ -69,7 +69,7 @@ abbrev pub are_counts : (mutators scanners : ℕ) → Bool
 are_counts mutators scanners = nat_le 1 mutators && (nat_le mutators MOST_MUTATORS && nat_le scanners MOST_SCANNERS)
 
 abbrev pub config_of : (pages limit scanners : ℕ) → Config
-config_of pages limit scanners = record { pages = pages; limit = limit; scanners = scanners; turns = 1; snap = false }
+config_of pages limit scanners = record { pages = pages; limit = limit; scanners = scanners; snap = false }
 
 abbrev pub mutator_seats : List Seated → List (Option Seat)
 mutator_seats ms = map (λ (m : Seated). Some (Mutator m)) ms

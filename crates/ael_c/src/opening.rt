@@ -35,7 +35,6 @@ pub fn open(
         pages,
         limit,
         scanners: scanners.len() as u8,
-        turns: 1,
         snap: false,
     };
     match Shared::open_without_printing(alloc, count as u8, &config) {

@@ -54,7 +54,7 @@ word_there (x ∷ words) (suc place) word is = word_there words place word is
 
 -- ---- what a run came to
 
-module _ (law : WhatStandsIsTold) (options : RunOptions) (program : List (List Instr)) (items : List Item) (outputs : Outputs) (r : Runs program (config options) outputs) where
+module _ (law : WhatStandsIsTold) (options : RunOptions) (program : List (List Instr)) (items : List Item) (outputs : Outputs) (r : Runs program options.turns (config options) outputs) where
   abbrev heap : Heap
   heap = heap_of (plan_of (length program) (config options)) outputs.words r.workers
 

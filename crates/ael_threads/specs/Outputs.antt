@@ -94,24 +94,24 @@ pub record TellsRegisters (told : Outputs) (m : ℕ) (q : Mutator) : Type 0 wher
 -- than the pages of records made since then, or made next by others; there is a look by which the mutator began that instruction, and that
 -- flip came since and all pages of the space were in use, if it is not the last that there can be. So it is by the order alone; and a heap
 -- whose limit is as large as the order needs is never full, but after the last flip that there can be its pages at first have to be enough.
-pub record Runs (code : List (List Instr)) (config : Config) (told : Outputs) : Type 0 where
+pub record Runs (code : List (List Instr)) (turns : ℕ) (config : Config) (told : Outputs) : Type 0 where
   pub words_tell : WordsTellHistory (opening code) (plan_of (length code) config) told.words
   pub open words_tell use *
-  pub plain_is : plain code config.turns (order_of log) ≡ after_all (opening code) log
-  pub acts : EachActs code config.turns (first_story code) (order_of log)
-  pub flip_is : last_flip (opening code) log ≡ (story code config.turns (order_of log)).flip
+  pub plain_is : plain code turns (order_of log) ≡ after_all (opening code) log
+  pub acts : EachActs code turns (first_story code) (order_of log)
+  pub flip_is : last_flip (opening code) log ≡ (story code turns (order_of log)).flip
   pub ended : (m : ℕ) (q : Mutator) → slice_get (after_all (opening code) log).mutators m ≡ Some q → IsSome q.end
-  pub last : IsLastCheckpoint code config.turns (order_of log)
+  pub last : IsLastCheckpoint code turns (order_of log)
   pub epoch : told.cycles ≡ (tally (opening_tally (plan_of (length code) config)) log).flips
   pub left : Each (λ (x : Held). x.stage ≡ Gone) workers
   pub shows : (m : ℕ) (q : Mutator) → slice_get (after_all (opening code) log).mutators m ≡ Some q → TellsRegisters told m q
   pub all_words : length told.words ≡ whole_length (layout_by config)
   pub tells : Tells (heap_of (plan_of (length code) config) told.words workers) told
   pub full : (m : ℕ) (q : Mutator) (end : End) → slice_get (after_all (opening code) log).mutators m ≡ Some q → q.end ≡ Some end → FullIn (plan_of (length code) config) m log end
-  pub filled : EachFullIs config.limit config.pages code config.turns (first_story code) 0 0 (order_of log)
+  pub filled : EachFullIs config.limit config.pages code turns (first_story code) 0 0 (order_of log)
   pub follows : EachMayCome (λ m. false) 0 (order_of log)
-  pub large : IsLargeEnough config.limit config.pages code config.turns (order_of log) → HasNoFull (order_of log)
-  pub lone : length code ≡ 1 → flips_in 0 (order_of log) < 2 ^ 32 - 1 → IsEnoughForOne config.limit code config.turns (order_of log) → HasNoFull (order_of log)
+  pub large : IsLargeEnough config.limit config.pages code turns (order_of log) → HasNoFull (order_of log)
+  pub lone : length code ≡ 1 → flips_in 0 (order_of log) < 2 ^ 32 - 1 → IsEnoughForOne config.limit code turns (order_of log) → HasNoFull (order_of log)
 
 -- ---- errors
 

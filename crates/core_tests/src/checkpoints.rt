@@ -42,7 +42,6 @@ const ROOMY: Config = Config {
     pages: 4,
     limit: 4,
     scanners: 0,
-    turns: 1_000_000,
     snap: true,
 };
 
@@ -50,7 +49,6 @@ const SCANNED: Config = Config {
     pages: 4,
     limit: 4,
     scanners: 1,
-    turns: 1_000_000,
     snap: true,
 };
 

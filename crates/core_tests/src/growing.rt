@@ -72,7 +72,7 @@ fn other_sizes_are_refused(rt: HostRuntime) {
             limit,
             ..SMALLEST
         };
-        let opened = Core::open(rt.alloc(), &program, &config);
+        let opened = Core::open(rt.alloc(), &program, 1, &config);
         let refused = matches!(opened, Err(OpenError::BadPages));
         assert_same(&rt, &(pages, limit, refused), &(pages, limit, true));
     }

@@ -32,7 +32,6 @@ pub const SMALLEST: Config = Config {
     pages: 4,
     limit: 4,
     scanners: 0,
-    turns: 1_000_000,
     snap: false,
 };
 
@@ -46,8 +45,7 @@ pub fn program(rt: &impl Abort, alloc: Global, lines: &str) -> Program {
 /// The program's mutators and the scanners before their first steps.
 pub fn open<'p>(rt: &impl Abort, alloc: Global, program: &'p Program, config: &Config) -> Core<'p> {
     assert!(rt; config.scanners <= 8);
-    assert!(rt; 1 <= config.turns && config.turns <= 10_000_000);
-    Core::open(alloc, program, config).expect(rt, "no core")
+    Core::open(alloc, program, MOST, config).expect(rt, "no core")
 }
 
 /// One step of a worker that the core has.

@@ -26,7 +26,6 @@ fn main(rt: HostRuntime) -> Result<()> {
         pages: 4,
         limit: 4,
         scanners: 0,
-        turns: 1,
         snap: false,
     };
     let (heap, mut seats) = Shared::open_without_printing(rt.alloc(), 4, &config)?;

@@ -56,10 +56,10 @@ runs_are_plain_runs schedule at n s p lawful for_it cells =
     )
 
 pub runs_follow : RunsFollow
-runs_follow code items config schedule n program size turns few =
-    let s : CoreState = opening_core code config in
-    let story = opening_story heaps_open code items config program size turns few in
-    let steady = opening_steady heaps_open code items config program size turns few in
+runs_follow code items turns config schedule n program size turns_fit few =
+    let s : CoreState = opening_core code turns config in
+    let story = opening_story heaps_open code items turns config program size turns_fit few in
+    let steady = opening_steady heaps_open code items turns config program size turns_fit few in
     (runs_are_plain_runs schedule 0 n s (opening code) (record { steady = steady; plain = opening code; flip = opening code; stands = story.stands })
     (record { represents = (what_stands_is_so s.heap _ _ story.stands).sound.represents; kept = events.kept_itself config.snap (opening code) }) story.cells).0
 
@@ -70,15 +70,15 @@ no_page_is_won_twice schedule at n s l =
     pages_are_won_once steps_keep readying_stands tasks_may_begin events_stand schedule at n s (record { flip = l.flip; now = l.plain }) l.steady l.stands
 
 pub copied_pages_are_won_once : CopiedPagesAreWonOnce
-copied_pages_are_won_once code items config schedule n program size turns few later =
-    let s : CoreState = opening_core code config in
+copied_pages_are_won_once code items turns config schedule n program size turns_fit few later =
+    let s : CoreState = opening_core code turns config in
     let story : Story = record { flip = opening code; now = opening code } in
-    let stands = opening_stands heaps_open code items config program size turns few in
-    let steady = opening_steady heaps_open code items config program size turns few in
-    let law = run_law events_keep schedule 0 n s story steady (opening_story heaps_open code items config program size turns few) in
+    let stands = opening_stands heaps_open code items turns config program size turns_fit few in
+    let steady = opening_steady heaps_open code items turns config program size turns_fit few in
+    let law = run_law events_keep schedule 0 n s story steady (opening_story heaps_open code items turns config program size turns_fit few) in
     let apart = pages_are_won_once steps_keep readying_stands tasks_may_begin events_stand schedule 0 n s story steady stands in
     pages_are_won pages_are_opened_by_claims readying_stands tasks_may_begin events_stand traced_pages_are_open copied_pages_are_below_low schedule n s story steady stands
-    (opening_epoch heaps_open code items config program size turns few) apart later _ _ law.stands.stands
+    (opening_epoch heaps_open code items turns config program size turns_fit few) apart later _ _ law.stands.stands
 
 pub flips_are_of_traced_cores : FlipsAreOfTracedCores
 flips_are_of_traced_cores s w asked l e = flipped_of_traced flips_are_of_traced readying_stands tasks_may_begin s w asked l.plain l.flip l.steady l.stands e

@@ -16,4 +16,4 @@ pub record TellsLastCheckpoint (code : List (List Instr)) (turns : ℕ) (order :
 
 -- so it is wherever a run stops in which checkpoints can be begun
 abbrev pub CheckpointsAreTold : Type 0
-CheckpointsAreTold = InEveryRun (λ code config schedule n. config.snap ≡ true → TellsLastCheckpoint code config.turns (run_of code config schedule n).order (run_of code config schedule n).last)
+CheckpointsAreTold = InEveryRun (λ code turns config schedule n. config.snap ≡ true → TellsLastCheckpoint code turns (run_of code turns config schedule n).order (run_of code turns config schedule n).last)

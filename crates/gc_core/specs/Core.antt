@@ -14,8 +14,8 @@ pub record CoreState : Type 0 where
   pub heap : Heap
 
 -- the core in which a program begins: a mutator for each section, and the scanners
-abbrev pub opening_core : List (List Instr) → Config → CoreState
-opening_core code config = record { code = code; turns = config.turns; heap = opening_heap true (layout_by config) config.pages (length code) config.scanners }
+abbrev pub opening_core : List (List Instr) → (turns : ℕ) → Config → CoreState
+opening_core code turns config = record { code = code; turns = turns; heap = opening_heap true (layout_by config) config.pages (length code) config.scanners }
 
 -- the mutators, then the scanners
 abbrev pub workers_of : CoreState → ℕ

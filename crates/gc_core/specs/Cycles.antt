@@ -28,8 +28,8 @@ use Rattle.gc_core.specs.Run.{InEveryRun, all_ended, run_of}
 -- ---- runs from an opening
 
 -- the plain state at the last flip of its order, and that after all of it
-abbrev pub story_of : List (List Instr) → Config → (ℕ → ℕ) → ℕ → Story
-story_of code config schedule n = story code config.turns (run_of code config schedule n).order
+abbrev pub story_of : List (List Instr) → (turns : ℕ) → Config → (ℕ → ℕ) → ℕ → Story
+story_of code turns config schedule n = story code turns (run_of code turns config schedule n).order
 
 -- What is counted along a run from a position of the schedule on: by the core before each event, and its worker.
 unfoldable pub count_from : (next : CoreState → ℕ → ℕ → ℕ) → (ℕ → ℕ) → ℕ → ℕ → (count : ℕ) → CoreState → ℕ
@@ -37,8 +37,8 @@ count_from next schedule at zero count s = count
 count_from next schedule at (suc n) count s =
     if all_ended s then count else count_from next schedule (at + 1) n (next s (schedule at) count) (core_after s (schedule at))
 
-abbrev pub count_of : (next : CoreState → ℕ → ℕ → ℕ) → List (List Instr) → Config → (ℕ → ℕ) → ℕ → ℕ
-count_of next code config schedule n = count_from next schedule 0 n 0 (opening_core code config)
+abbrev pub count_of : (next : CoreState → ℕ → ℕ → ℕ) → List (List Instr) → (turns : ℕ) → Config → (ℕ → ℕ) → ℕ → ℕ
+count_of next code turns config schedule n = count_from next schedule 0 n 0 (opening_core code turns config)
 
 -- ---- what a cycle copied
 
@@ -50,11 +50,11 @@ pub record KeepsWhatIsLive (s : CoreState) (flip : Plain) : Type 0 where
   pub untraced : ¬ (IsTraced s.heap) → live_of s ≡ None
 
 abbrev pub CyclesKeepWhatIsLive : Type 0
-CyclesKeepWhatIsLive = InEveryRun (λ code config schedule n. KeepsWhatIsLive (run_of code config schedule n).last (story_of code config schedule n).flip)
+CyclesKeepWhatIsLive = InEveryRun (λ code turns config schedule n. KeepsWhatIsLive (run_of code turns config schedule n).last (story_of code turns config schedule n).flip)
 
 -- and exactly those cells of its space are empty that lost their targets by the last flip, or were empty then
 abbrev pub CyclesEmptyLostCells : Type 0
-CyclesEmptyLostCells = InEveryRun (λ code config schedule n. AreEmptyIfLost (run_of code config schedule n).last.heap (story_of code config schedule n).now (story_of code config schedule n).flip)
+CyclesEmptyLostCells = InEveryRun (λ code turns config schedule n. AreEmptyIfLost (run_of code turns config schedule n).last.heap (story_of code turns config schedule n).now (story_of code turns config schedule n).flip)
 
 -- ---- the pages in use
 
@@ -81,8 +81,8 @@ HasSizesWithin least limit s = (space : ℕ) → space < 2 → (least ≤ size_a
 
 -- in a run there are those in use at first, and no more than a space may have
 abbrev pub SizesAreBetween : Type 0
-SizesAreBetween = InEveryRun (λ code config schedule n. (config.pages ≤ size_in (run_of code config schedule n).last) × (size_in (run_of code config schedule n).last ≤ config.limit)
-    × HasSizesWithin config.pages config.limit (run_of code config schedule n).last)
+SizesAreBetween = InEveryRun (λ code turns config schedule n. (config.pages ≤ size_in (run_of code turns config schedule n).last) × (size_in (run_of code turns config schedule n).last ≤ config.limit)
+    × HasSizesWithin config.pages config.limit (run_of code turns config schedule n).last)
 
 -- ---- the words claimed for records
 
@@ -107,8 +107,8 @@ abbrev pub claims_next : CoreState → ℕ → (claims : ℕ) → ℕ
 claims_next s w claims = claims_after claims (claimed_by s w) (event_of s w).told
 
 -- the words claimed since the last flip of a run, in the opening's epoch since the opening
-abbrev pub claims_of : List (List Instr) → Config → (ℕ → ℕ) → ℕ → ℕ
-claims_of code config schedule n = count_of claims_next code config schedule n
+abbrev pub claims_of : List (List Instr) → (turns : ℕ) → Config → (ℕ → ℕ) → ℕ → ℕ
+claims_of code turns config schedule n = count_of claims_next code turns config schedule n
 
 -- ---- a full heap
 
@@ -124,10 +124,10 @@ pub record FillsTheSpace (size : ℕ) (flip : Plain) (claims asked room live : �
   pub short : PAGE_WORDS * size < live + claims + PAGE_WORDS * asked
 
 abbrev pub FullHeapsAreFilled : Type 0
-FullHeapsAreFilled = InEveryRun (λ code config schedule n. (w m asked room live : ℕ)
-    → (event_of (run_of code config schedule n).last w).told ≡ Ended m (ends.HeapFull asked room live)
-    → HasGrown config.limit (run_of code config schedule n).last
-    × FillsTheSpace (size_in (run_of code config schedule n).last) (story_of code config schedule n).flip (claims_of code config schedule n) asked room live)
+FullHeapsAreFilled = InEveryRun (λ code turns config schedule n. (w m asked room live : ℕ)
+    → (event_of (run_of code turns config schedule n).last w).told ≡ Ended m (ends.HeapFull asked room live)
+    → HasGrown config.limit (run_of code turns config schedule n).last
+    × FillsTheSpace (size_in (run_of code turns config schedule n).last) (story_of code turns config schedule n).flip (claims_of code turns config schedule n) asked room live)
 
 -- ---- flips
 
@@ -146,4 +146,4 @@ flips_next m s w flips = flips_after m flips (size_in s == s.heap.pages) w (even
 
 -- with all pages in use a mutator flips at most once for an instruction
 abbrev pub InstructionsFlipOnce : Type 0
-InstructionsFlipOnce = InEveryRun (λ code config schedule n. (m : ℕ) → count_of (flips_next m) code config schedule n ≤ 1)
+InstructionsFlipOnce = InEveryRun (λ code turns config schedule n. (m : ℕ) → count_of (flips_next m) code turns config schedule n ≤ 1)

@@ -51,10 +51,10 @@ EachEvent IsSo schedule at (suc n) s = Unless (all_ended s) (IsSo s (schedule at
 -- ---- runs from an opening
 
 -- so many events of a program by a schedule, from its opening
-abbrev pub run_of : List (List Instr) → Config → (ℕ → ℕ) → ℕ → Ran
-run_of code config schedule n = run_from schedule 0 n (opening_core code config)
+abbrev pub run_of : List (List Instr) → (turns : ℕ) → Config → (ℕ → ℕ) → ℕ → Ran
+run_of code turns config schedule n = run_from schedule 0 n (opening_core code turns config)
 
 -- it is so of every run of every program, by any schedule and for any number of steps
-abbrev pub InEveryRun : (List (List Instr) → Config → (ℕ → ℕ) → ℕ → Type 0) → Type 0
-InEveryRun IsSo = (code : List (List Instr)) (items : List Item) (config : Config) (schedule : ℕ → ℕ) (n : ℕ)
-    → IsWellFormed code items → IsTrue (has_sizes config) → config.turns ≤ MOST_TURNS → config.scanners ≤ MOST_SCANNERS → IsSo code config schedule n
+abbrev pub InEveryRun : (List (List Instr) → (turns : ℕ) → Config → (ℕ → ℕ) → ℕ → Type 0) → Type 0
+InEveryRun IsSo = (code : List (List Instr)) (items : List Item) (turns : ℕ) (config : Config) (schedule : ℕ → ℕ) (n : ℕ)
+    → IsWellFormed code items → IsTrue (has_sizes config) → turns ≤ MOST_TURNS → config.scanners ≤ MOST_SCANNERS → IsSo code turns config schedule n

@@ -14,15 +14,15 @@ use Rattle.gc_core.specs.Run.{InEveryRun, run_of}
 
 -- in the order of every run of every program, a load gets what was stored last in its word before it, or the number 0; or the value of a cell
 abbrev pub LoadsOfRunsGetTheLastStore : Type 0
-LoadsOfRunsGetTheLastStore = InEveryRun (λ code config schedule n. (front rest : List Mark) (m : ℕ) (own : Mutator) (register : ℕ) (identity : Identity) (index : ℕ)
-    → (run_of code config schedule n).order ≡ front ++ Step m ∷ rest
-    → StepDoes code config.turns (plain code config.turns front) m own (Loads register identity index)
-    → slice_get (plain code config.turns (front ++ Step m ∷ [])).mutators m ≡ Some (went_on (set_register own register (loaded_there (plain code config.turns front).heap identity index (last_store code config.turns front identity index)))))
+LoadsOfRunsGetTheLastStore = InEveryRun (λ code turns config schedule n. (front rest : List Mark) (m : ℕ) (own : Mutator) (register : ℕ) (identity : Identity) (index : ℕ)
+    → (run_of code turns config schedule n).order ≡ front ++ Step m ∷ rest
+    → StepDoes code turns (plain code turns front) m own (Loads register identity index)
+    → slice_get (plain code turns (front ++ Step m ∷ [])).mutators m ≡ Some (went_on (set_register own register (loaded_there (plain code turns front).heap identity index (last_store code turns front identity index)))))
 
 -- and an exchange finds that: if it is what it expects, its mutator goes on with 1 in the register, else with 0
 abbrev pub ExchangesOfRunsFindTheLastStore : Type 0
-ExchangesOfRunsFindTheLastStore = InEveryRun (λ code config schedule n. (front rest : List Mark) (m : ℕ) (own : Mutator) (register : ℕ) (identity : Identity) (index : ℕ) (expected new : Value)
-    → (run_of code config schedule n).order ≡ front ++ Step m ∷ rest
-    → StepDoes code config.turns (plain code config.turns front) m own (Exchanges register identity index expected new)
-    → slice_get (plain code config.turns (front ++ Step m ∷ [])).mutators m
-    ≡ Some (went_on (set_register own register (success (last_store code config.turns front identity index) expected))))
+ExchangesOfRunsFindTheLastStore = InEveryRun (λ code turns config schedule n. (front rest : List Mark) (m : ℕ) (own : Mutator) (register : ℕ) (identity : Identity) (index : ℕ) (expected new : Value)
+    → (run_of code turns config schedule n).order ≡ front ++ Step m ∷ rest
+    → StepDoes code turns (plain code turns front) m own (Exchanges register identity index expected new)
+    → slice_get (plain code turns (front ++ Step m ∷ [])).mutators m
+    ≡ Some (went_on (set_register own register (success (last_store code turns front identity index) expected))))

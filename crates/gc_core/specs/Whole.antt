@@ -61,7 +61,7 @@ RunsArePlainRuns = (schedule : ℕ → ℕ) (at n : ℕ) (s : CoreState) (p : Pl
 
 -- and so of each program, from its opening
 abbrev pub RunsFollow : Type 0
-RunsFollow = InEveryRun (λ code config schedule n. IsPlainRun schedule 0 n (opening_core code config) (first_story code))
+RunsFollow = InEveryRun (λ code turns config schedule n. IsPlainRun schedule 0 n (opening_core code turns config) (first_story code))
 
 -- a worker that isn't there is idle, and its step changes nothing
 abbrev pub MissingWorkersAreIdle : Type 0
@@ -72,7 +72,7 @@ MissingWorkersAreIdle = (s : CoreState) (worker : ℕ) → workers_of s ≤ work
 -- in the order of every run of every program, a mutator finds the heap full only where a flip came since its last step, or as many came
 -- as there can be
 abbrev pub FullsFollowFlips : Type 0
-FullsFollowFlips = InEveryRun (λ code config schedule n. EachMayCome (λ m. false) 0 (run_of code config schedule n).order)
+FullsFollowFlips = InEveryRun (λ code turns config schedule n. EachMayCome (λ m. false) 0 (run_of code turns config schedule n).order)
 
 -- in every run no page is won twice in an epoch
 abbrev pub NoPageIsWonTwice : Type 0
@@ -81,8 +81,8 @@ NoPageIsWonTwice = (schedule : ℕ → ℕ) (at n : ℕ) (s : CoreState) → IsL
 -- in every run of every program, in each epoch but the first, which copies nothing, the pages that are open for copies were won,
 -- each exactly once; once the epoch is traced the board and all pages into which records were copied are among them
 abbrev pub CopiedPagesAreWonOnce : Type 0
-CopiedPagesAreWonOnce = InEveryRun (λ code config schedule n. 0 < epoch_of_heap (run_of code config schedule n).last.heap
-    → PagesAreWon (wins_from schedule 0 n (opening_core code config)) (run_of code config schedule n).last.heap)
+CopiedPagesAreWonOnce = InEveryRun (λ code turns config schedule n. 0 < epoch_of_heap (run_of code turns config schedule n).last.heap
+    → PagesAreWon (wins_from schedule 0 n (opening_core code turns config)) (run_of code turns config schedule n).last.heap)
 
 -- and no event flips out of an epoch that isn't traced
 abbrev pub FlipsAreOfTracedCores : Type 0

@@ -42,12 +42,18 @@ fn slots(alloc: Global, spaces: Spaces, mutators: u8, count: u8) -> Result<Vec<S
 }
 
 impl<'p> Core<'p> {
-    /// A core in which nobody has made a step. `BadPages` comes exactly for fewer than 4 pages at first, for fewer in all than at first, or
-    /// for more than 2048. The words and the room for the most numbers of each mutator are taken here; no later call takes memory.
-    pub fn open(alloc: Global, program: &'p Program, config: &Config) -> Result<Core<'p>, OpenError>
+    /// A core in which nobody has made a step, and each mutator may execute so many instructions, 1 to 10,000,000. `BadPages` comes exactly
+    /// for fewer than 4 pages at first, for fewer in all than at first, or for more than 2048. The words and the room for the most numbers
+    /// of each mutator are taken here; no later call takes memory.
+    pub fn open(
+        alloc: Global,
+        program: &'p Program,
+        turns: u32,
+        config: &Config,
+    ) -> Result<Core<'p>, OpenError>
         requires scanners { config.now.scanners ≤ MOST_SCANNERS }
-        requires turns { (1 ≤ config.now.turns) × (config.now.turns ≤ MOST_TURNS) }
-        ensures opened { IfOk result (λ c. c ≡ opening_core program.now.code config.now) }
+        requires turns { (1 ≤ turns) × (turns ≤ MOST_TURNS) }
+        ensures opened { IfOk result (λ c. c ≡ opening_core program.now.code turns config.now) }
         ensures workers { IfOk result (λ c. workers_of c ≡ length program.now.code + config.now.scanners) }
         ensures bad_pages { IsErrOf result OpenError.BadPages ↔ IsTrue (not (has_sizes config.now)) }
     {
@@ -57,7 +63,7 @@ impl<'p> Core<'p> {
         let slots = slots(alloc, spaces, mutators, mutators + config.scanners)?;
         Ok(Core {
             program,
-            turns: config.turns,
+            turns,
             spaces,
             atoms,
             slots,

@@ -4,7 +4,7 @@ ghost use Rattle.gc_worker.specs.Config.{has_sizes, layout_by};
 
 use space_map::{BadPages, FEWEST_PAGES, Spaces};
 
-/// The most instructions that a mutator may execute.
+/// The most instructions that a mutator may execute in a run of a program.
 pub const MOST_TURNS: u32 = 10_000_000;
 
 /// The size of a heap, and who works on it.
@@ -16,8 +16,6 @@ pub struct Config {
     pub limit: u32,
     /// Scanners, at most 8.
     pub scanners: u8,
-    /// How many instructions a mutator may execute, 1 to 10,000,000.
-    pub turns: u32,
     /// Whether checkpoints can be begun. The table is then about twice as long; without, `snap` changes none of its words.
     pub snap: bool,
 }

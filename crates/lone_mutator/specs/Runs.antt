@@ -25,12 +25,12 @@ KeepsPace l steps s = (has_end s 0 ≡ true) ⊎ (steps / most_steps_of l ≤ ex
 
 -- every run of every program of one section, without scanners and for any number of steps
 abbrev pub LoneMutatorsGoOn : Type 0
-LoneMutatorsGoOn = (section : List Instr) (items : List Item) (config : Config) (schedule : ℕ → ℕ) (steps : ℕ)
-    → IsWellFormed (section ∷ []) items → IsTrue (has_sizes config) → config.turns ≤ MOST_TURNS → config.scanners ≡ 0 → ((at : ℕ) → schedule at ≡ 0)
-    → KeepsPace (layout_by config) steps (run_from schedule 0 steps (opening_core (section ∷ []) config)).last
+LoneMutatorsGoOn = (section : List Instr) (items : List Item) (turns : ℕ) (config : Config) (schedule : ℕ → ℕ) (steps : ℕ)
+    → IsWellFormed (section ∷ []) items → IsTrue (has_sizes config) → turns ≤ MOST_TURNS → config.scanners ≡ 0 → ((at : ℕ) → schedule at ≡ 0)
+    → KeepsPace (layout_by config) steps (run_from schedule 0 steps (opening_core (section ∷ []) turns config)).last
 
 -- with turns for so many instructions it has its end after so many steps
 abbrev pub LoneRunsEnd : Type 0
-LoneRunsEnd = (section : List Instr) (items : List Item) (config : Config) (schedule : ℕ → ℕ) (steps : ℕ)
-    → IsWellFormed (section ∷ []) items → IsTrue (has_sizes config) → config.turns ≤ MOST_TURNS → config.scanners ≡ 0 → ((at : ℕ) → schedule at ≡ 0)
-    → (config.turns + 1) * most_steps_of (layout_by config) ≤ steps → has_end (run_from schedule 0 steps (opening_core (section ∷ []) config)).last 0 ≡ true
+LoneRunsEnd = (section : List Instr) (items : List Item) (turns : ℕ) (config : Config) (schedule : ℕ → ℕ) (steps : ℕ)
+    → IsWellFormed (section ∷ []) items → IsTrue (has_sizes config) → turns ≤ MOST_TURNS → config.scanners ≡ 0 → ((at : ℕ) → schedule at ≡ 0)
+    → (turns + 1) * most_steps_of (layout_by config) ≤ steps → has_end (run_from schedule 0 steps (opening_core (section ∷ []) turns config)).last 0 ≡ true

@@ -18,7 +18,6 @@ pub fn open(alloc: Global, pages: u32) -> Result<(Shared, Seats, Mutator, Scanne
         pages,
         limit: pages,
         scanners: 1,
-        turns: 1,
         snap: false,
     };
     let (heap, mut seats) = Shared::open(alloc, 2, &config)?;

@@ -25,7 +25,6 @@ const CONFIG: Config = Config {
     pages: 8,
     limit: 8,
     scanners: 0,
-    turns: 1,
     snap: false,
 };
 

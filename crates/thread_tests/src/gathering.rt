@@ -150,11 +150,10 @@ fn check_crew<R: Threads + Wait + Abort + Sync>(rt: &R, alloc: Global, crew: &Cr
         pages: 4,
         limit: 4,
         scanners: crew.scanners,
-        turns: 10,
         snap: false,
     };
     let pace = Gathering::new(crew);
-    let told = run(rt, alloc, &program, &config, &pace).expect(rt, "no run");
+    let told = run(rt, alloc, &program, 10, &config, &pace).expect(rt, "no run");
     pace.check(rt, crew);
     check_printed(rt, &told, mutators);
 }

@@ -27,7 +27,6 @@ pub fn open_two(
         pages,
         limit: pages,
         scanners: 0,
-        turns: 1,
         snap,
     };
     let (heap, mut seats) = Shared::open(alloc, 2, &config).expect(rt, "no heap");
@@ -61,7 +60,6 @@ pub fn open_scanned(rt: &impl Abort, alloc: Global) -> (Shared, Seats, Mutator, 
         pages: 4,
         limit: 4,
         scanners: 1,
-        turns: 1,
         snap: true,
     };
     let (heap, mut seats) = Shared::open(alloc, 1, &config).expect(rt, "no heap");
@@ -81,7 +79,6 @@ pub fn open_without_printing(rt: &impl Abort, alloc: Global) -> (Shared, Seats, 
         pages: 4,
         limit: 4,
         scanners: 0,
-        turns: 1,
         snap: false,
     };
     let opened = Shared::open_without_printing(alloc, 1, &config);
@@ -104,7 +101,6 @@ pub fn open_untaken(rt: &impl Abort, alloc: Global) -> (Shared, Seats, Mutator, 
         pages: 4,
         limit: 4,
         scanners: 1,
-        turns: 1,
         snap: false,
     };
     let (heap, mut seats) = Shared::open(alloc, 2, &config).expect(rt, "no heap");

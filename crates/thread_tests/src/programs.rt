@@ -38,10 +38,9 @@ fn spaces_of_other_sizes_are_refused(rt: HostRuntime) {
             pages,
             limit,
             scanners: 0,
-            turns: 10,
             snap: false,
         };
-        let told = run(&rt, rt.alloc(), &program, &config, &NoPace);
+        let told = run(&rt, rt.alloc(), &program, 10, &config, &NoPace);
         let refused = (pages, limit, Some(RunError::BadPages));
         assert_same(&rt, &(pages, limit, told.err()), &refused);
     }
@@ -93,10 +92,11 @@ fn one_mutator_with_scanners_does_as_alone(rt: HostRuntime) {
             pages: 4,
             limit: 4,
             scanners: alone.scanners,
-            turns: 1_000_000,
             snap: false,
         };
-        let told = run(&rt, rt.alloc(), &program, &config, &NoPace).expect(&rt, "no run");
+        let told = run(&rt, rt.alloc(), &program, 1_000_000, &config, &NoPace).expect(
+            &rt, "no run",
+        );
         check_alone(&rt, alone, &told);
     }
 }

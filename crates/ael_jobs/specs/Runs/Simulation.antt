@@ -14,11 +14,11 @@ use Rattle.ael_jobs.specs.Runs.Schedule.{scheduled_by}
 
 -- the heap and the workers of a run
 abbrev pub config : RunOptions → Config
-config options = record { pages = options.pages; limit = options.limit; scanners = options.scanners; turns = options.turns; snap = options.snap }
+config options = record { pages = options.pages; limit = options.limit; scanners = options.scanners; snap = options.snap }
 
 -- the core in which the run of a program begins
 abbrev pub core_of : SimOptions → List (List Instr) → CoreState
-core_of options program = opening_core program (config options.run)
+core_of options program = opening_core program options.run.turns (config options.run)
 
 -- the worker that makes each of its steps
 abbrev pub scheduled : SimOptions → List (List Instr) → List Item → ℕ → ℕ
@@ -40,5 +40,5 @@ pub record IsSimulated (options : SimOptions) (program : List (List Instr)) (ite
   pub is : ran ≡ simulated_run options program items
   pub full : IsFullWithoutRoom options program items
   pub filled : EachFullIs options.run.limit options.run.pages program options.run.turns (first_story program) 0 0 ran.order
-  pub claimed : AreFilledByClaims program (config options.run) (scheduled options program items) options.steps ran.order
+  pub claimed : AreFilledByClaims program options.run.turns (config options.run) (scheduled options program items) options.steps ran.order
   pub large : IsLargeEnough options.run.limit options.run.pages program options.run.turns ran.order → HasNoFull ran.order

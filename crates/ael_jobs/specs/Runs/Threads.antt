@@ -16,6 +16,6 @@ use Rattle.ael_jobs.specs.Runs.Simulation.{config}
 -- mutator began that instruction; a flip came since, and these are all pages that the space may have, or there can be no more flips.
 pub record IsThreaded (options : RunOptions) (program : List (List Instr)) (ran : Ran) : Type 0 where
   pub outputs : Outputs
-  pub runs : Runs program (config options) outputs
+  pub runs : Runs program options.turns (config options) outputs
   pub order_is : ran.order ≡ order_of runs.log
   pub last_is : ran.last ≡ record { code = program; turns = options.turns; heap = heap_of (plan_of (length program) (config options)) outputs.words runs.workers }

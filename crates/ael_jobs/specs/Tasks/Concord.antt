@@ -1,7 +1,6 @@
 -- The task `concord`: the concordance of a text is made.
 use Rattle.std.specs.Prelude.{◌≡◌, ℕ, true, false, List, []}
 use Rattle.gc_worker.specs.declared.config.Config.{Config}
-use Rattle.gc_worker.specs.declared.config.TheConstants.{MOST_TURNS}
 use Rattle.concordance_text.specs.MayBeFull.{MayBeFull}
 use Rattle.concordance_text.specs.Rows.{IsConcordanceOf}
 use Rattle.concordance_text.specs.Words.{HasShortWords, IsFirstTooLong}
@@ -10,10 +9,9 @@ use Rattle.ael_jobs.specs.declared.status.Status.{Status}
 use Rattle.ael_jobs.specs.declared.status.Status.TheVariants.{Done, HeapFull, LongWord, NoMemory}
 use Rattle.ael_jobs.specs.Tasks.Task.{Everything, Task}
 
--- The heap, with all its pages in use from the start and one scanner. How many instructions a mutator may execute has no meaning for a
--- concordance.
+-- the heap, with all its pages in use from the start and one scanner
 abbrev pub concord_config : ConcordOptions → Config
-concord_config options = record { pages = options.pages; limit = options.pages; scanners = 1; turns = MOST_TURNS; snap = false }
+concord_config options = record { pages = options.pages; limit = options.pages; scanners = 1; snap = false }
 
 -- a word of the text is too long, and the first line that has one is told
 pub record TellsLongWord (text : List ℕ) (status : Status) : Type 0 where

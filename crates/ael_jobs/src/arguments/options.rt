@@ -173,7 +173,6 @@ impl RunOptions {
             pages: self.pages,
             limit: self.limit,
             scanners: self.scanners as u8,
-            turns: self.turns,
             snap: self.snap,
         }
     }
@@ -245,7 +244,6 @@ impl ConcordOptions {
             pages: self.pages,
             limit: self.pages,
             scanners: 1,
-            turns: MOST_TURNS,
             snap: false,
         }
     }

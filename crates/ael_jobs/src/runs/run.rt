@@ -36,7 +36,7 @@ fn closed<R: Threads + Wait + Sync>(
     let Ok(spaces) = config.spaces() else {
         unreachable!("a space may have so many pages")
     };
-    match ael_threads::run(rt, alloc, program, &config, &NoPace) {
+    match ael_threads::run(rt, alloc, program, options.turns, &config, &NoPace) {
         Ok(outputs) => Ok(ClosedHeap::new(spaces, outputs)),
         Err(RunError::NoMemory) => Err(NoMemory),
         Err(RunError::BadPages) => unreachable!("a space may have so many pages"),

@@ -28,10 +28,10 @@ use std::alloc::Global;
 /// The core of a run.
 fn open<'p>(alloc: Global, program: &'p Program, options: RunOptions) -> Result<Core<'p>, NoMemory>
     requires { AreInRange options }
-    ensures opened { IfOk result (λ core. core ≡ opening_core program.now.code (config options)) }
+    ensures opened { IfOk result (λ core. core ≡ opening_core program.now.code options.turns (config options)) }
     ensures some { IfOk result (λ core. 0 < workers_of core) }
 {
-    match Core::open(alloc, program, &options.config()) {
+    match Core::open(alloc, program, options.turns, &options.config()) {
         Ok(core) => Ok(core),
         Err(OpenError::NoMemory) => Err(NoMemory),
         Err(OpenError::BadPages) => unreachable!("a space may have so many pages"),

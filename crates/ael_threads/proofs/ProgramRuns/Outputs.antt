@@ -161,12 +161,12 @@ all_gone (x ∷ xs) (s ∷ ss) many h =
 
 -- ---- a program that was run
 
-module _ (code : List (List Instr)) (config : Config) (t : TableId) (ms : List Seated) (ss : List SeatedScanner) (words : List ℕ) where
+module _ (code : List (List Instr)) (turns : ℕ) (config : Config) (t : TableId) (ms : List Seated) (ss : List SeatedScanner) (words : List ℕ) where
   abbrev plan_here : Plan
   plan_here = plan_of (length code) config
 
   abbrev work : Work
-  work = record { code = code; turns = config.turns; table = t; plan = plan_here }
+  work = record { code = code; turns = turns; table = t; plan = plan_here }
 
   module _ (many : length ms ≡ length code) (few : length ss ≡ config.scanners) (run : HaveRun work 0 ms) (scanned : HaveScanned work (length code) ss) (c : Closes plan_here (map seated ss ++ ms) words) where
     abbrev h : Heap
@@ -244,7 +244,7 @@ module _ (code : List (List Instr)) (config : Config) (t : TableId) (ms : List S
         let e : 0 + m ≡ m = omega arith in
         (found.0, found.1, subst (λ (k : ℕ). RanHere work c.workers c.log k found.0) e found.2)
 
-    executes : (m : ℕ) → m < length code → (count : ℕ) × Executes code config.turns p m count c.log
+    executes : (m : ℕ) → m < length code → (count : ℕ) × Executes code turns p m count c.log
     executes m below =
         let s : Seated = (ran_at m below).0 in
         let r = (ran_at m below).2.0.executed in
@@ -253,12 +253,12 @@ module _ (code : List (List Instr)) (config : Config) (t : TableId) (ms : List S
         let own : calls_of (first_number s.knows.hands) c.log ≡ first_own s.knows.hands =
         (λ i. calls_of (number i) c.log) ∙ ((alone c.workers c.log s (hand m s.worker r.own) r.hands k).calls ∙ sym (ap first_own r.hands)) in (
           r.count,
-          subst (λ (z : Plan × ℕ). Executes code config.turns (first_plain z.0) z.1 r.count c.log) (λ i. (r.plan i, number i))
-              (executed_all code config.turns r.count s c.log r.mine k.1 own r.executed),
+          subst (λ (z : Plan × ℕ). Executes code turns (first_plain z.0) z.1 r.count c.log) (λ i. (r.plan i, number i))
+              (executed_all code turns r.count s c.log r.mine k.1 own r.executed),
         )
 
-    order : IsProgramOrder code config.turns (length code) c.log
-    order = orders_program code config.turns (length code) c.log refl c.legal (empties_lost c.sizes (tasks_held c.workers) (opening_tally plan_here) c.log c.entries) (λ m below. (executes m below).1.fetched) (λ m below. (executes m below).1.short)
+    order : IsProgramOrder code turns (length code) c.log
+    order = orders_program code turns (length code) c.log refl c.legal (empties_lost c.sizes (tasks_held c.workers) (opening_tally plan_here) c.log c.entries) (λ m below. (executes m below).1.fetched) (λ m below. (executes m below).1.short)
 
     -- ---- ends
 
@@ -302,18 +302,18 @@ module _ (code : List (List Instr)) (config : Config) (t : TableId) (ms : List S
         }
 
     -- each full heap of its order
-    fulls : EachFullIs config.limit config.pages code config.turns (first_story code) 0 0 (order_of c.log) × EachMayCome (λ j. false) 0 (order_of c.log)
+    fulls : EachFullIs config.limit config.pages code turns (first_story code) 0 0 (order_of c.log) × EachMayCome (λ j. false) 0 (order_of c.log)
     fulls =
         let sections : length p.mutators ≡ length code = length-replicate (length code) opening_mutator in
-        subst (λ (z : Plain × ℕ × ℕ). EachFullIs z.1 z.2 code config.turns (record { flip = z.0; now = z.0 }) 0 0 (order_of c.log) × EachMayCome (λ j. false) 0 (order_of c.log))
+        subst (λ (z : Plain × ℕ × ℕ). EachFullIs z.1 z.2 code turns (record { flip = z.0; now = z.0 }) 0 0 (order_of c.log) × EachMayCome (λ j. false) 0 (order_of c.log))
         (λ i. (opens_so code i, c.sized.limit i, c.sized.least i))
-        (orders_fill code config.turns (tasks_held c.workers) c.sizes (opening_tally plan_here) 0 (λ j. false) c.log c.legal sections
-        (fetched_each code config.turns p c.log c.legal (λ m below. (executes m (omega (arith, below, sections))).1.fetched))
+        (orders_fill code turns (tasks_held c.workers) c.sizes (opening_tally plan_here) 0 (λ j. false) c.log c.legal sections
+        (fetched_each code turns p c.log c.legal (λ m below. (executes m (omega (arith, below, sections))).1.fetched))
         (λ j task q e its none. absurd (let ended = (ended_at j q its).3 in let never = sym none ∙ ended in cc))
         c.entries (omega arith) (λ m e. e))
 
     -- THE CLAUSE OF RUN
-    pub runs_so : (told : Outputs) → told.words ≡ words → length told.words ≡ whole_length (layout_by config) → told.regs.items ≡ map seat_registers ms → Tells h told → Runs code config told
+    pub runs_so : (told : Outputs) → told.words ≡ words → length told.words ≡ whole_length (layout_by config) → told.regs.items ≡ map seat_registers ms → Tells h told → Runs code turns config told
     runs_so told same all regs tells =
         let from : p ≡ opening code = opens_so code in
         record {
@@ -338,7 +338,7 @@ module _ (code : List (List Instr)) (config : Config) (t : TableId) (ms : List S
           acts = order.acts;
           flip_is = sym (order.flip ∙ ap (λ (z : Plain). last_flip z c.log) from);
           ended = λ m q is. subst IsSome (sym (ended_at m q (ap (λ (z : Plain). slice_get (after_all z c.log).mutators m) from ∙ is)).3) refl;
-          last = orders_keep_the_last_checkpoint code config.turns (order_of c.log);
+          last = orders_keep_the_last_checkpoint code turns (order_of c.log);
           all_words = all;
           epoch = tells.cycles ∙ c.epoch;
           left = workers_left;
@@ -346,13 +346,13 @@ module _ (code : List (List Instr)) (config : Config) (t : TableId) (ms : List S
           tells = subst (λ (z : List ℕ). Tells (heap_of plan_here z c.workers) told) (sym same) tells;
           filled = fulls.0;
           follows = fulls.1;
-          large = large_is_never_full config.limit config.pages code config.turns (order_of c.log) fulls.0 fulls.1;
-          lone = λ one few enough. lone_is_never_full config.limit config.pages code config.turns one (order_of c.log) order.acts fulls.1 fulls.0 few enough;
+          large = large_is_never_full config.limit config.pages code turns (order_of c.log) fulls.0 fulls.1;
+          lone = λ one few enough. lone_is_never_full config.limit config.pages code turns one (order_of c.log) order.acts fulls.1 fulls.0 few enough;
           full = λ m q end is e. full_at m q end (ap (λ (z : Plain). slice_get (after_all z c.log).mutators m) from ∙ is) e;
         }
 
   -- by what `tell` tells
-  told_here : length ms ≡ length code → length ss ≡ config.scanners → HaveRun work 0 ms → HaveScanned work (length code) ss → (told : Outputs) → told.words ≡ words → IsToldOnClose plan_here ms ss told → Runs code config told
+  told_here : length ms ≡ length code → length ss ≡ config.scanners → HaveRun work 0 ms → HaveScanned work (length code) ss → (told : Outputs) → told.words ≡ words → IsToldOnClose plan_here ms ss told → Runs code turns config told
   told_here many few run scanned told same is =
       let c : Closes plan_here (map seated ss ++ ms) words = subst (Closes plan_here (map seated ss ++ ms)) same is.closes in
       let tells : Tells (heap_of plan_here told.words c.workers) told = record {
@@ -364,12 +364,12 @@ module _ (code : List (List Instr)) (config : Config) (t : TableId) (ms : List S
       } in
       runs_so many few run scanned c told same is.all_words is.registers (subst (λ (z : List ℕ). Tells (heap_of plan_here z c.workers) told) same tells)
 
-pub runs_told : (code : List (List Instr)) (config : Config) (t : TableId) (plan : Plan) (ms : List Seated) (ss : List SeatedScanner) → plan ≡ plan_of (length code) config → length ms ≡ length code → length ss ≡ config.scanners
-    → HaveRun (record { code = code; turns = config.turns; table = t; plan = plan }) 0 ms → HaveScanned (record { code = code; turns = config.turns; table = t; plan = plan }) plan.mutators ss
-    → (told : Outputs) → IsToldOnClose plan ms ss told → Runs code config told
-runs_told code config t plan ms ss is many few =
-    subst (λ (z : Plan). HaveRun (record { code = code; turns = config.turns; table = t; plan = z }) 0 ms → HaveScanned (record { code = code; turns = config.turns; table = t; plan = z }) z.mutators ss
-    → (told : Outputs) → IsToldOnClose z ms ss told → Runs code config told) (sym is) (λ run scanned told it. told_here code config t ms ss told.words many few run scanned told refl it)
+pub runs_told : (code : List (List Instr)) (turns : ℕ) (config : Config) (t : TableId) (plan : Plan) (ms : List Seated) (ss : List SeatedScanner) → plan ≡ plan_of (length code) config → length ms ≡ length code → length ss ≡ config.scanners
+    → HaveRun (record { code = code; turns = turns; table = t; plan = plan }) 0 ms → HaveScanned (record { code = code; turns = turns; table = t; plan = plan }) plan.mutators ss
+    → (told : Outputs) → IsToldOnClose plan ms ss told → Runs code turns config told
+runs_told code turns config t plan ms ss is many few =
+    subst (λ (z : Plan). HaveRun (record { code = code; turns = turns; table = t; plan = z }) 0 ms → HaveScanned (record { code = code; turns = turns; table = t; plan = z }) z.mutators ss
+    → (told : Outputs) → IsToldOnClose z ms ss told → Runs code turns config told) (sym is) (λ run scanned told it. told_here code turns config t ms ss told.words many few run scanned told refl it)
 
 -- ---- words of the table
 

@@ -32,19 +32,20 @@ use std::thread::{Threads, for_each_mut, join_mut};
 ///
 /// `BadPages` comes exactly for fewer than 4 pages at first, for fewer in all than at first, or for more than 2048. `NoMemory` may come
 /// before the first step and after the last one.
-/// A mutator executes at most `config.turns` instructions, which are at most 10,000,000; there are at most 8 scanners. It returns once
+/// A mutator executes at most `turns` instructions, which are at most 10,000,000; there are at most 8 scanners. It returns once
 /// all workers have left, each mutator with its end; that this ever comes is not promised.
 pub fn run<R: Threads + Wait + Sync, P: Pace>(
     rt: &R,
     alloc: Global,
     program: &Program,
+    turns: u32,
     config: &Config,
     pace: &P,
 ) -> Result<Outputs, RunError>
-    requires turns { config.now.turns ≤ MOST_TURNS }
+    requires turns { turns ≤ MOST_TURNS }
     requires scanners { config.now.scanners ≤ MOST_SCANNERS }
     ensures bad_pages { IsErrOf result RunError.BadPages ↔ IsTrue (not (has_sizes config.now)) }
-    ensures runs { IfOk result (λ told. Runs program.now.code config.now told) }
+    ensures runs { IfOk result (λ told. Runs program.now.code turns config.now told) }
 {
     let Ok(spaces) = config.spaces() else {
         return Err(RunError::BadPages);
@@ -53,7 +54,7 @@ pub fn run<R: Threads + Wait + Sync, P: Pace>(
     let job = Job {
         heap: &heap,
         program,
-        turns: config.turns,
+        turns,
         rt,
         pace,
     };

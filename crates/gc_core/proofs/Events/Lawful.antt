@@ -34,8 +34,8 @@ lawful_after s w l =
     let k = events_stand s w story l.steady l.stands in
     record { steady = k.steady; plain = (story_met s story (event_of s w)).now; flip = (story_met s story (event_of s w)).flip; stands = k.stands }
 
-pub lawful_opening : (code : List (List Instr)) (items : List Item) (config : Config) → IsWellFormed code items → IsTrue (has_sizes config) → config.turns ≤ 10000000 → config.scanners ≤ 8
-    → IsLawful (opening_core code config)
+pub lawful_opening : (code : List (List Instr)) (items : List Item) (turns : ℕ) (config : Config) → IsWellFormed code items → IsTrue (has_sizes config) → turns ≤ 10000000 → config.scanners ≤ 8
+    → IsLawful (opening_core code turns config)
 lawful_opening = opening_lawful heaps_open
 
 pub event_none : (s : CoreState) (w : ℕ) → wanted (ready s w) ≡ None → event_of s w ≡ record { told = (event_by s.heap w (ready s w) None).told; after = s.heap }

@@ -55,43 +55,43 @@ fresh_push prints s mutators from (suc count) =
     let f : suc count + 1 ≡ suc (count + 1) = omega arith in
     rw f (ap (λ (ks : List Held). fresh_worker prints s mutators from ∷ ks) (fresh_push prints s mutators (from + 1) count ∙ ap (λ (k : ℕ). fresh_workers prints s mutators (from + 1) count ++ fresh_worker prints s mutators k ∷ []) e))
 
-module _ (opens : HeapsOpen) (code : List (List Instr)) (items : List Item) (config : Config) (program : IsWellFormed code items) (size : IsTrue (has_sizes config)) (turns : config.turns ≤ 10000000) (few : config.scanners ≤ 8) where
-  pub opening_stands : WorkersStand (opening_core code config).heap (order.opening code) (order.opening code)
+module _ (opens : HeapsOpen) (code : List (List Instr)) (items : List Item) (turns : ℕ) (config : Config) (program : IsWellFormed code items) (size : IsTrue (has_sizes config)) (turns_fit : turns ≤ 10000000) (few : config.scanners ≤ 8) where
+  pub opening_stands : WorkersStand (opening_core code turns config).heap (order.opening code) (order.opening code)
   opening_stands =
-      subst (λ (p : Plain). WorkersStand (opening_core code config).heap p p) (opens_so code)
+      subst (λ (p : Plain). WorkersStand (opening_core code turns config).heap p p) (opens_so code)
       (let fit = sizes_fit config size in opens true (layout_by config) config.pages (length code) config.scanners (limit_fits config size) fit.0 fit.1 program.few_sections (let l = program.few_sections in omega (arith, l, few)))
 
   -- and so for a story that begins there
-  pub opening_story : StoryStands (opening_core code config).heap (order.opening code) (order.opening code)
+  pub opening_story : StoryStands (opening_core code turns config).heap (order.opening code) (order.opening code)
   opening_story = record {
     stands = opening_stands;
-    cells = let traced = IsTraced (opening_core code config).heap in subst (λ (p : Plain). CellsFollow traced p p) (opens_so code) (opening_cells traced (length code));
+    cells = let traced = IsTraced (opening_core code turns config).heap in subst (λ (p : Plain). CellsFollow traced p p) (opens_so code) (opening_cells traced (length code));
   }
 
-  mutator_there : (m : ℕ) → m < length code → held_at (opening_core code config).heap m ≡ fresh_mutator true (layout_by config) (length code) m
+  mutator_there : (m : ℕ) → m < length code → held_at (opening_core code turns config).heap m ≡ fresh_mutator true (layout_by config) (length code) m
   mutator_there m l =
       is_there true (layout_by config) (length code) 0 (length code + config.scanners) m m (omega (arith, l)) (omega arith)
       ∙ ap (λ (b : Bool). if b then fresh_mutator true (layout_by config) (length code) m else fresh_scanner true (layout_by config) (length code) m) (lt-ltb m (length code) l)
 
-  pub opening_steady : IsSteady (opening_core code config)
+  pub opening_steady : IsSteady (opening_core code turns config)
   opening_steady = record {
     valid = program.instrs;
     sections = refl;
-    turns_fit = turns;
+    turns_fit = turns_fit;
     on_task = λ m l. let e = mutator_there m l in record { counted = rw e (omega arith); within = rw e (omega arith); task = λ task t. none≢some (sym (ap (λ (h : Held). h.task) e) ∙ t) };
     last = scanners_begin_last true (layout_by config) config.pages (length code) config.scanners;
     found = next_sizes_begin true (layout_by config) config.pages (length code) config.scanners;
     whole = opening_words-length (layout_by config) config.pages;
   }
 
-  pub opening_lawful : IsLawful (opening_core code config)
+  pub opening_lawful : IsLawful (opening_core code turns config)
   opening_lawful = record { steady = opening_steady; plain = order.opening code; flip = order.opening code; stands = opening_stands }
 
   -- it begins in the first epoch
-  pub opening_epoch : epoch_of_heap (opening_core code config).heap ≡ 0
+  pub opening_epoch : epoch_of_heap (opening_core code turns config).heap ≡ 0
   opening_epoch =
       let fit = sizes_fit config size in
-      let c = read (opening_core code config).heap in
+      let c = read (opening_core code turns config).heap in
       let says = (are_opening config.limit config.pages (limit_fits config size) fit.0 fit.1 config.snap).says in
       let e : (table c).gate.epoch ≡ 0 = ap (λ (t : Table). t.gate.epoch) says in
       ap (epoch_in_gate 0) (gate_says c (order.opening code) opening_stands.stands) ∙ e

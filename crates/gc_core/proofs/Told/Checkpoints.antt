@@ -25,7 +25,7 @@ pub run_layout : (schedule : ℕ → ℕ) (at n : ℕ) (s : CoreState) → layou
 run_layout schedule at n s = run_keeps (λ (t : CoreState). layout_of t.heap ≡ layout_of s.heap) (event_layout (layout_of s.heap)) schedule at n s refl
 
 pub checkpoints_are_told : CheckpointsAreTold
-checkpoints_are_told code items config schedule n program size turns few snap = record {
-  told = (runs_follow code items config schedule n program size turns few).tells (ap (λ (l : Layout). l.checkpoints) (run_layout schedule 0 n (opening_core code config)) ∙ snap);
-  last = orders_keep_the_last_checkpoint code config.turns (run_of code config schedule n).order;
+checkpoints_are_told code items turns config schedule n program size turns_fit few snap = record {
+  told = (runs_follow code items turns config schedule n program size turns_fit few).tells (ap (λ (l : Layout). l.checkpoints) (run_layout schedule 0 n (opening_core code turns config)) ∙ snap);
+  last = orders_keep_the_last_checkpoint code turns (run_of code turns config schedule n).order;
 }

@@ -47,10 +47,10 @@ by_pace l turns steps last some many within (inl ended) = ended
 by_pace l turns steps last some many within (inr few) = absurd (too_few (most_steps_of l) turns steps (executed_by last 0) some many within few)
 
 pub lone_runs_end : LoneMutatorsGoOn → LoneRunsEnd
-lone_runs_end go_on section items config schedule steps program size turns none alone many =
-    let first = opening_core (section ∷ []) config in
+lone_runs_end go_on section items turns config schedule steps program size turns_fit none alone many =
+    let first = opening_core (section ∷ []) turns config in
     let last = (run_from schedule 0 steps first).last in
-    let kept = lasts schedule steps 0 first (lawful_opening (section ∷ []) items config program size turns (omega (arith, none))) in
+    let kept = lasts schedule steps 0 first (lawful_opening (section ∷ []) items turns config program size turns_fit (omega (arith, none))) in
     let steady = kept.lawful.steady in
     let one = ap (λ (code : List (List Instr)). length code) kept.code in
     let is = steady.sections in
@@ -59,4 +59,4 @@ lone_runs_end go_on section items config schedule steps program size turns none 
     let most = most_le_most_of (layout_by config) in
     let within = own.within in
     let same = kept.turns in
-    by_pace (layout_by config) config.turns steps last (omega (arith, bound, most)) many (omega (arith, within, same)) (go_on section items config schedule steps program size turns none alone)
+    by_pace (layout_by config) turns steps last (omega (arith, bound, most)) many (omega (arith, within, same)) (go_on section items turns config schedule steps program size turns_fit none alone)

@@ -241,10 +241,10 @@ first_executed : (l : Layout) (least : ℕ) → (held_at (opening_heap true l le
 unfolding fresh_workers
 first_executed l least = refl
 
-module _ (section : List Instr) (items : List Item) (config : Config) (program : IsWellFormed (section ∷ []) items) (size : IsTrue (has_sizes config))
-    (turns : config.turns ≤ MOST_TURNS) (none : config.scanners ≡ 0) where
+module _ (section : List Instr) (items : List Item) (turns : ℕ) (config : Config) (program : IsWellFormed (section ∷ []) items) (size : IsTrue (has_sizes config))
+    (turns_fit : turns ≤ MOST_TURNS) (none : config.scanners ≡ 0) where
   abbrev first : CoreState
-  first = opening_core (section ∷ []) config
+  first = opening_core (section ∷ []) turns config
 
   abbrev l : Layout
   l = layout_by config
@@ -266,8 +266,8 @@ module _ (section : List Instr) (items : List Item) (config : Config) (program :
       inr (pace (most_steps_of l) steps (executed_by last 0) (potential first.heap) some begins.1 (omega (arith, all)))
 
 pub lone_mutators_go_on : LoneMutatorsGoOn
-lone_mutators_go_on section items config schedule steps program size turns none alone =
-    keeps_pace section items config program size turns none steps (run_from schedule 0 steps (opening_core (section ∷ []) config)).last
-    (paces schedule alone steps 0 (opening_core (section ∷ []) config)
-    (lawful_opening (section ∷ []) items config program size turns (omega (arith, none)))
-    (begins section items config program size turns none).0)
+lone_mutators_go_on section items turns config schedule steps program size turns_fit none alone =
+    keeps_pace section items turns config program size turns_fit none steps (run_from schedule 0 steps (opening_core (section ∷ []) turns config)).last
+    (paces schedule alone steps 0 (opening_core (section ∷ []) turns config)
+    (lawful_opening (section ∷ []) items turns config program size turns_fit (omega (arith, none)))
+    (begins section items turns config program size turns_fit none).0)

@@ -21,7 +21,7 @@ run_workers-requires-clause-few g c κs within =
 pub run_workers-requires-clause-mutators : goal.run_workers-requires-clause-mutators
 run_workers-requires-clause-mutators g c κs within =
     let code = c.args.program.now.code in
-    let turns = c.args.config.now.turns in
+    let turns = c.args.turns in
     let t = c.in_ok-heap.heap.table.shared.table_id in
     let plan : Plan = plan_of c.len.result c.args.config.now in
     let is = c.as_mut_slice-mutators.ensures.value ∙ c.in_ok-heap.ensures.mutators in
@@ -30,7 +30,7 @@ run_workers-requires-clause-mutators g c κs within =
 pub run_workers-requires-clause-scanners : goal.run_workers-requires-clause-scanners
 run_workers-requires-clause-scanners g c κs within =
     let code = c.args.program.now.code in
-    let turns = c.args.config.now.turns in
+    let turns = c.args.turns in
     let t = c.in_ok-heap.heap.table.shared.table_id in
     let plan : Plan = plan_of c.len.result c.args.config.now in
     let is = c.as_mut_slice-scanners.ensures.value ∙ c.in_ok-heap.ensures.scanners in
@@ -85,7 +85,7 @@ returns-clause-runs g c =
     let all_ms = all_back c.in_ok-heap.seats.mutators.len c.in_ok-heap.seats.mutators.items ms (sym c.in_ok-heap.seats.mutators.ok.0) mutators in
     let all_ss = all_back c.in_ok-heap.seats.scanners.len c.in_ok-heap.seats.scanners.items ss (sym c.in_ok-heap.seats.scanners.ok.0) scanners in
     of_ok (IsToldOnClose plan (take c.in_ok-heap.seats.mutators.len (ms ++ drop (length ms) c.in_ok-heap.seats.mutators.items)) (take c.in_ok-heap.seats.scanners.len (ss ++ drop (length ss) c.in_ok-heap.seats.scanners.items)))
-    (Runs code config)
-    (λ told h. runs_told code config t plan ms ss is many few c.run_workers.ensures.mutators c.run_workers.ensures.scanners told
+    (Runs code c.args.turns config)
+    (λ told h. runs_told code c.args.turns config t plan ms ss is many few c.run_workers.ensures.mutators c.run_workers.ensures.scanners told
     (subst (λ (z : List Seated × List SeatedScanner). IsToldOnClose plan z.0 z.1 told) (λ i. (all_ms i, all_ss i)) h))
     c.tell.result c.tell.ensures.told

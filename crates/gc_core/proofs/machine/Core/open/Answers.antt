@@ -25,7 +25,7 @@ invariant_of-result c =
     let vec = c.in_ok-slots.slots.ok.0 in
     let program = c.args.program.now.well_formed in
     let few = program.few_sections in
-    let lawful = lawful_opening c.args.program.now.code c.args.program.now.schedule c.args.config.now program (c.in_ok-spaces.ensures.refused_exactly_outside.0 refl) c.requires.turns.1 c.requires.scanners in (
+    let lawful = lawful_opening c.args.program.now.code c.args.program.now.schedule c.args.turns c.args.config.now program (c.in_ok-spaces.ensures.refused_exactly_outside.0 refl) c.requires.turns.1 c.requires.scanners in (
       omega (arith, vec, all, few, c.requires.scanners),
       omega (arith, vec, all),
       rw (words, slots, len, layout) lawful,
