@@ -11,6 +11,7 @@ use Rattle.plain_state.specs.State.{Plain}
 use Rattle.plain_heap.specs.Order.{plain, story}
 use Rattle.plain_heap.specs.Print.{Seen, lines_seen}
 use Rattle.space_map.specs.Spaces.{IsPageCount, Layout}
+use Rattle.space_map.specs.Table.{whole_length}
 use Rattle.heap_state.specs.Kept.{kept_by}
 use Rattle.heap_state.specs.Worker.{Worker}
 use Rattle.gc_worker.specs.Workers.Held.{Held}
@@ -86,10 +87,10 @@ module _ (law : WhatStandsIsTold) (options : RunOptions) (program : List (List I
   threaded : IsThreaded options program ran
   threaded = record { outputs = outputs; runs = r; order_is = refl; last_is = refl }
 
-  tells : told_by options.limit outputs ≡ told_of ran.last
-  tells = rw (r.tells.mutators, r.tells.cycles, r.tells.live, r.tells.registers, r.tells.kept) refl
+  tells : told_by outputs ≡ told_of ran.last
+  tells = rw (r.layout, r.tells.mutators, r.tells.cycles, r.tells.live, r.tells.registers, r.tells.kept) refl
 
-  pub has_closed : HasClosed options program items (told_by options.limit outputs)
+  pub has_closed : HasClosed options program items (told_by outputs)
   has_closed = record {
     ran = ran;
     is = record { made = threaded; acts = r.acts; dump = so.dump; checkpoint = checkpoint; live = so.live; lost = lost };
@@ -116,7 +117,7 @@ module _ (law : WhatStandsIsTold) (options : RunOptions) (program : List (List I
       sym (length-map outputs.kept.items as_kept) ∙ ap length r.tells.kept
       ∙ length-map (map knows r.workers) (λ (w : Worker). kept_by w.copy) ∙ length-map r.workers knows
 
-  pub is_whole : IsWellFormed program items → options.scanners ≤ 8 → IsWholeHeap (layout_by (config options)) outputs
+  pub is_whole : IsWellFormed program items → options.scanners ≤ 8 → IsWholeHeap outputs
   is_whole formed few =
       let sections = formed.few_sections in
       let count : length r.workers ≡ length program + options.scanners = r.count in
@@ -126,7 +127,7 @@ module _ (law : WhatStandsIsTold) (options : RunOptions) (program : List (List I
         registers = registers_many ∙ sym seen_many;
         mutators = omega (arith, seen, sections);
         workers = omega (arith, kept, count, sections, few);
-        words = r.all_words;
+        words = r.all_words ∙ ap whole_length (sym r.layout);
       }
 
 -- ---- what is printed

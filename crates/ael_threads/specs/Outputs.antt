@@ -70,6 +70,7 @@ pub record Tells (h : Heap) (told : Outputs) : Type 0 where
 -- what is told of a heap that was closed, by these mutators and scanners and by its words
 pub record IsToldOnClose (plan : Plan) (mutators : List Seated) (scanners : List SeatedScanner) (told : Outputs) : Type 0 where
   pub closes : Closes plan (map seated scanners ++ mutators) told.words
+  pub layout : told.spaces ≡ plan.spaces
   pub all_words : length told.words ≡ whole_length plan.spaces
   pub printed : map printed_by told.mutators.items ≡ map seat_seen mutators
   pub registers : told.regs.items ≡ map seat_registers mutators
@@ -105,6 +106,7 @@ pub record Runs (code : List (List Instr)) (turns : ℕ) (config : Config) (told
   pub epoch : told.cycles ≡ (tally (opening_tally (plan_of (length code) config)) log).flips
   pub left : Each (λ (x : Held). x.stage ≡ Gone) workers
   pub shows : (m : ℕ) (q : Mutator) → slice_get (after_all (opening code) log).mutators m ≡ Some q → TellsRegisters told m q
+  pub layout : told.spaces ≡ layout_by config
   pub all_words : length told.words ≡ whole_length (layout_by config)
   pub tells : Tells (heap_of (plan_of (length code) config) told.words workers) told
   pub full : (m : ℕ) (q : Mutator) (end : End) → slice_get (after_all (opening code) log).mutators m ≡ Some q → q.end ≡ Some end → FullIn (plan_of (length code) config) m log end

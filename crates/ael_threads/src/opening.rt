@@ -1,7 +1,7 @@
 //! How a heap is opened: its words, and a seat for each of its workers.
 
 ghost use Rattle.std.specs.Prelude.{◌≡◌, ◌+◌, ◌-◌, ◌≤◌, ◌<◌, ◌↔◌, [], IfOk, IsErrOf, IsTrue, not};
-ghost use Rattle.space_map.specs.declared.spaces.TheConstants.{MOST_MUTATORS, MOST_SCANNERS};
+ghost use Rattle.space_map.specs.declared.spaces.TheConstants.{FEWEST_PAGES, MOST_MUTATORS, MOST_SCANNERS};
 ghost use Rattle.space_map.specs.Table.{whole_length};
 ghost use Rattle.gc_worker.specs.Config.{has_sizes, layout_by};
 ghost use Rattle.ael_threads.specs.Histories.{first_held, new_hands};
@@ -76,19 +76,26 @@ impl Shared {
         ensures scanners { IfOk result (λ o. o.1.scanners.items ≡ new_scanners o.0.table.shared.table_id (plan_with prints mutators config.now) mutators config.now.scanners) }
         ensures bad_pages { IsErrOf result OpenError.BadPages ↔ IsTrue (not (has_sizes config.now)) }
     {
-        let spaces = config.spaces()?;
-        spaces.known();
-        let plan = Plan {
-            spaces,
-            least: config.pages,
-            mutators,
-            scanners: config.scanners,
-            prints,
-        };
-        let atoms = opening_words(alloc, spaces, config.pages)?;
-        let (table, seat) = Table::of_words(alloc, atoms.words(), &plan)?;
+        let plan = Plan::new(mutators, config, prints)?;
+        Shared::open_by(alloc, &plan)
+    }
+
+    /// Opens a heap by its plan.
+    pub(crate) fn open_by(alloc: Global, plan: &Plan) -> Result<(Shared, Seats), OpenError>
+        requires mutators { plan.now.mutators ≤ MOST_MUTATORS }
+        requires scanners { plan.now.scanners ≤ MOST_SCANNERS }
+        requires sizes { (FEWEST_PAGES ≤ plan.now.least) × (plan.now.least ≤ plan.now.spaces.pages) }
+        ensures key { IfOk result (λ o. o.0.table.shared.key ≡ plan.now) }
+        ensures words { IfOk result (λ o. o.0.table.shared.table_id.words ≡ whole_length plan.now.spaces) }
+        ensures mutators { IfOk result (λ o. o.1.mutators.items ≡ new_callers o.0.table.shared.table_id plan.now 0 plan.now.mutators) }
+        ensures scanners { IfOk result (λ o. o.1.scanners.items ≡ new_scanners o.0.table.shared.table_id plan.now plan.now.mutators plan.now.scanners) }
+        ensures error { IsErrOf result OpenError.BadPages → ⊥ }
+    {
+        plan.spaces.known();
+        let atoms = opening_words(alloc, plan.spaces, plan.least)?;
+        let (table, seat) = Table::of_words(alloc, atoms.words(), plan)?;
         let shared = Shared { table };
-        let seats = shared.deal(alloc, seat, &plan)?;
+        let seats = shared.deal(alloc, seat, plan)?;
         Ok((shared, seats))
     }
 

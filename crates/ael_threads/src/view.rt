@@ -1,7 +1,7 @@
-//! What a seat knows. No value of these types is made: they are what contracts and the rule of the table speak of.
+//! What a seat knows. Of these types but `Plan` no value is made: they are what contracts and the rule of the table speak of.
 
-use gc_worker::{Call, Entry, Worker};
-use space_map::Spaces;
+use gc_worker::{Call, Config, Entry, Worker};
+use space_map::{BadPages, Spaces};
 use std::collections::LinkedList;
 
 /// How large the heap is, and who works on it.
@@ -15,6 +15,28 @@ pub struct Plan {
     pub scanners: u8,
     /// Whether its mutators may print.
     pub prints: bool,
+}
+
+impl Plan {
+    ghost use Rattle.std.specs.Prelude.{◌≡◌, ◌≤◌, ◌↔◌, IfOk, IsOk, IsTrue};
+    ghost use Rattle.space_map.specs.declared.spaces.TheConstants.{FEWEST_PAGES};
+    ghost use Rattle.gc_worker.specs.Config.{has_sizes};
+    ghost use Rattle.ael_threads.specs.Opened.{plan_with};
+
+    /// The plan of a heap whose mutators may print, or may not.
+    pub(crate) fn new(mutators: u8, config: &Config, prints: bool) -> Result<Plan, BadPages>
+        ensures plan { IfOk result (λ plan. plan ≡ plan_with prints mutators config.now) }
+        ensures sizes { IfOk result (λ plan. (FEWEST_PAGES ≤ plan.least) × (plan.least ≤ plan.spaces.pages)) }
+        ensures refused_exactly_outside { IsOk result ↔ IsTrue (has_sizes config.now) }
+    {
+        Ok(Plan {
+            spaces: config.spaces()?,
+            least: config.pages,
+            mutators,
+            scanners: config.scanners,
+            prints,
+        })
+    }
 }
 
 /// A worker by its number, what it held after its last step, and the calls that it has made.

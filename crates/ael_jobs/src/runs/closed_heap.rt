@@ -5,13 +5,12 @@ use ael_threads::Outputs;
 use checkpoint_text::push_checkpoint;
 use plain_heap::{End, NoMemory};
 use plain_state::REGISTERS;
-use space_map::{MOST_MUTATORS, Spaces};
+use space_map::MOST_MUTATORS;
 use std::marker::Model;
 
-/// How large the heap was, and what is told of it.
+/// What is told of the heap.
 #[derive(Drop)]
 pub struct ClosedHeap {
-    spaces: Spaces,
     outputs: Outputs,
 }
 
@@ -21,20 +20,20 @@ impl Model for ClosedHeap {
 
     ghost Value = { RunReport };
 
-    ghost view = { λ c. told_by c.spaces.pages c.outputs };
+    ghost view = { λ c. told_by c.outputs };
 
-    ghost invariant = { λ c. IsWholeHeap c.spaces c.outputs };
+    ghost invariant = { λ c. IsWholeHeap c.outputs };
 }
 
 impl ClosedHeap {
     ghost use Rattle.std.specs.Prelude.{◌≡◌};
     ghost use Rattle.ael_jobs.specs.Runs.ClosedHeap.{IsWholeHeap, told_by};
 
-    pub fn new(spaces: Spaces, outputs: Outputs) -> ClosedHeap
-        requires { IsWholeHeap spaces outputs }
-        ensures { result ≡ told_by spaces.pages outputs }
+    pub fn new(outputs: Outputs) -> ClosedHeap
+        requires { IsWholeHeap outputs }
+        ensures { result ≡ told_by outputs }
     {
-        ClosedHeap { spaces, outputs }
+        ClosedHeap { outputs }
     }
 }
 
@@ -42,7 +41,7 @@ impl Report for ClosedHeap {
     ghost told = { λ told. told };
 
     fn pages(&self) -> u32 {
-        self.spaces.pages()
+        self.outputs.spaces.pages()
     }
 
     fn mutators(&self) -> u8 {
@@ -54,7 +53,7 @@ impl Report for ClosedHeap {
     }
 
     fn places(&self) -> usize {
-        self.spaces.table_len()
+        self.outputs.spaces.table_len()
     }
 
     fn printed(&self, m: u8) -> &[u64] {

@@ -32,12 +32,15 @@ fn closed<R: Threads + Wait + Sync>(
     // The theorem that the proof takes.
     what_stands_is_told();
 
-    let config = options.config();
-    let Ok(spaces) = config.spaces() else {
-        unreachable!("a space may have so many pages")
-    };
-    match ael_threads::run(rt, alloc, program, options.turns, &config, &NoPace) {
-        Ok(outputs) => Ok(ClosedHeap::new(spaces, outputs)),
+    match ael_threads::run(
+        rt,
+        alloc,
+        program,
+        options.turns,
+        &options.config(),
+        &NoPace,
+    ) {
+        Ok(outputs) => Ok(ClosedHeap::new(outputs)),
         Err(RunError::NoMemory) => Err(NoMemory),
         Err(RunError::BadPages) => unreachable!("a space may have so many pages"),
     }

@@ -313,8 +313,8 @@ module _ (code : List (List Instr)) (turns : ℕ) (config : Config) (t : TableId
         c.entries (omega arith) (λ m e. e))
 
     -- THE CLAUSE OF RUN
-    pub runs_so : (told : Outputs) → told.words ≡ words → length told.words ≡ whole_length (layout_by config) → told.regs.items ≡ map seat_registers ms → Tells h told → Runs code turns config told
-    runs_so told same all regs tells =
+    pub runs_so : (told : Outputs) → told.words ≡ words → told.spaces ≡ layout_by config → length told.words ≡ whole_length (layout_by config) → told.regs.items ≡ map seat_registers ms → Tells h told → Runs code turns config told
+    runs_so told same laid all regs tells =
         let from : p ≡ opening code = opens_so code in
         record {
           words_tell = record {
@@ -339,6 +339,7 @@ module _ (code : List (List Instr)) (turns : ℕ) (config : Config) (t : TableId
           flip_is = sym (order.flip ∙ ap (λ (z : Plain). last_flip z c.log) from);
           ended = λ m q is. subst IsSome (sym (ended_at m q (ap (λ (z : Plain). slice_get (after_all z c.log).mutators m) from ∙ is)).3) refl;
           last = orders_keep_the_last_checkpoint code turns (order_of c.log);
+          layout = laid;
           all_words = all;
           epoch = tells.cycles ∙ c.epoch;
           left = workers_left;
@@ -362,7 +363,7 @@ module _ (code : List (List Instr)) (turns : ℕ) (config : Config) (t : TableId
         registers = is.registers ∙ registers_told many few run scanned c;
         kept = ap (map as_kept) is.kept ∙ kept_told many few run scanned c;
       } in
-      runs_so many few run scanned c told same is.all_words is.registers (subst (λ (z : List ℕ). Tells (heap_of plan_here z c.workers) told) same tells)
+      runs_so many few run scanned c told same is.layout is.all_words is.registers (subst (λ (z : List ℕ). Tells (heap_of plan_here z c.workers) told) same tells)
 
 pub runs_told : (code : List (List Instr)) (turns : ℕ) (config : Config) (t : TableId) (plan : Plan) (ms : List Seated) (ss : List SeatedScanner) → plan ≡ plan_of (length code) config → length ms ≡ length code → length ss ≡ config.scanners
     → HaveRun (record { code = code; turns = turns; table = t; plan = plan }) 0 ms → HaveScanned (record { code = code; turns = turns; table = t; plan = plan }) plan.mutators ss

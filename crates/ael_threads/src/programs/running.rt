@@ -19,6 +19,7 @@ use crate::programs::job::Job;
 use crate::programs::outputs::{Outputs, RunError, all_kept, all_printed, all_registers};
 use crate::scanner::Scanner;
 use crate::shared::Shared;
+use crate::view::Plan;
 use gc_worker::{Config, epoch_said, live_said};
 use mutator_asm::Program;
 use space_map::Spaces;
@@ -47,10 +48,10 @@ pub fn run<R: Threads + Wait + Sync, P: Pace>(
     ensures bad_pages { IsErrOf result RunError.BadPages ↔ IsTrue (not (has_sizes config.now)) }
     ensures runs { IfOk result (λ told. Runs program.now.code turns config.now told) }
 {
-    let Ok(spaces) = config.spaces() else {
+    let Ok(plan) = Plan::new(program.code.len() as u8, config, true) else {
         return Err(RunError::BadPages);
     };
-    let (heap, mut seats) = Shared::open(alloc, program.code.len() as u8, config)?;
+    let (heap, mut seats) = Shared::open_by(alloc, &plan)?;
     let job = Job {
         heap: &heap,
         program,
@@ -61,7 +62,7 @@ pub fn run<R: Threads + Wait + Sync, P: Pace>(
     let scanners = seats.scanners.as_mut_slice();
     let mutators = seats.mutators.as_mut_slice();
     run_workers(&job, 0, scanners, mutators);
-    tell(alloc, spaces, heap, seats)
+    tell(alloc, plan.spaces, heap, seats)
 }
 
 /// Runs these mutators, numbered from this one on, and then the scanners, each on a thread of its own.
@@ -121,7 +122,7 @@ fn tell(alloc: Global, spaces: Spaces, heap: Shared, seats: Seats) -> Result<Out
     requires mutators { Each (λ (m : Seated). m.table ≡ heap.table.shared.table_id) seats.mutators.items }
     requires scanners { Each (λ (s : SeatedScanner). s.seated.table ≡ heap.table.shared.table_id) seats.scanners.items }
     requires ended { Each HasEnd seats.mutators.items }
-    requires pages { spaces.pages ≡ heap.table.shared.key.spaces.pages }
+    requires layout { spaces ≡ heap.table.shared.key.spaces }
     requires words { heap.table.shared.table_id.words ≡ whole_length heap.table.shared.key.spaces }
     ensures told { IfOk result (IsToldOnClose heap.table.shared.key seats.mutators.items seats.scanners.items) }
     ensures no_bad_pages { IsErrOf result RunError.BadPages → ⊥ }
@@ -134,6 +135,7 @@ fn tell(alloc: Global, spaces: Spaces, heap: Shared, seats: Seats) -> Result<Out
     let area = words.word(spaces.area_place(spaces.to_space(cycles)));
     let live = live_said(cycles, words.word(spaces.traced_place()), area);
     Ok(Outputs {
+        spaces,
         mutators,
         cycles,
         live,

@@ -10,4 +10,4 @@ returns c =
     let words = c.self.inside.outputs.words in
     let within = subst (λ (t : RunReport). c.args.place < length t.dump.words) (sym c.self.view_is) c.requires in
     sym (ap (λ (t : RunReport). slice_get t.dump.words c.args.place) c.self.view_is)
-    ∙ word_taken (table_length c.self.inside.spaces.pages) words c.args.place c.word.result within (word_there words c.args.place c.word.result c.word.ensures)
+    ∙ word_taken (table_length c.self.inside.outputs.spaces.pages) words c.args.place c.word.result within (word_there words c.args.place c.word.result c.word.ensures)
