@@ -3,10 +3,9 @@ pub mod Between
 pub mod Gone
 pub mod Copied
 pub mod Claims
-pub mod PastEpochs
 pub mod Cycles
 pub mod Represented
 pub mod Stories
 pub mod Lost
-pub mod FullTold
+pub mod MachineEnds
 pub mod Checkpoints

@@ -2,7 +2,6 @@ pub mod Plain
 pub mod Workers
 pub mod Steps
 pub mod Laws
-pub mod Progress
 pub mod Readers
 pub mod History
 pub mod Config

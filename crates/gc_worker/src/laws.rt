@@ -1,16 +1,14 @@
 //! What holds of a worker's steps. Each function here does nothing: its contract is what is proved.
 
-ghost use Rattle.gc_worker.specs.Laws.Step.{SnapsAreWon, StepsKeep, CheckpointsAreKept, ClearsAreWon, FlipsAreWon, PlacesFit, RegistersLeadBack};
+ghost use Rattle.gc_worker.specs.Laws.Step.{SnapsAreWon, StepsKeep, CheckpointsAreKept, ClearsAreWon, PlacesFit, RegistersLeadBack};
 ghost use Rattle.gc_worker.specs.Laws.Checkpoints.{CheckpointsAreSafe};
 ghost use Rattle.gc_worker.specs.Laws.Between.{HeapsOpen, ReadyingStands, TasksMayBegin, WorkersGoOn, WorkersWant, WhatStandsIsSo, AnswersLeaveTheOthers};
 ghost use Rattle.gc_worker.specs.Laws.Gone.{ScannersBeginLast, ScannersStayLast, WhoIsGoneSawWhy};
-ghost use Rattle.gc_worker.specs.Progress.{MachinesGoOn};
+ghost use Rattle.gc_worker.specs.Laws.MachineEnds.{EndedMachinesMakeWay};
 ghost use Rattle.gc_worker.specs.Workers.Begun.{BeginningsAreKept, FullIsFoundLater};
 ghost use Rattle.gc_worker.specs.Laws.Claims.{TracedPagesAreOpen, FlipsAreOfTraced, PagesAreOpenedByClaims, LowRisesAtFlips, CopiedPagesAreBelowLow};
 ghost use Rattle.gc_worker.specs.Laws.Copied.{CopiedWasLive, FullTellsLive};
 ghost use Rattle.gc_worker.specs.Laws.Cycles.{LowFallsByClaims, SizesStay, SizesAreWithin, SeenFlipsDouble, SizesHold, FlipsSetSizes, NextSizesBegin, NextSizesStay, ClaimsAreSetAside, SetAsideIsForRecords, FlipsAreFirst, FlipsStayFirst, CallsGoOn};
-ghost use Rattle.gc_worker.specs.Laws.FullTold.{FullIsTold, SizesReadAreSo, FullIsToldInHeaps};
-ghost use Rattle.gc_worker.specs.Laws.PastEpochs.{PastClaimsAreLost, PastTurnsAreLost, PastMarksAreLost, PagesAreWonNow};
 ghost use Rattle.gc_worker.specs.Workers.Counted.{CountedFit, CountsAreApart};
 ghost use Rattle.gc_worker.specs.Laws.Represented.{RepresentedWorkersStand};
 ghost use Rattle.gc_worker.specs.Laws.Stories.{StoriesKeep, StoriesOpen};
@@ -37,12 +35,7 @@ pub fn lost_cells_are_empty()
     ensures { LostCellsAreEmpty }
 {}
 
-/// A flipper's exchange of the gate is never lost.
-pub fn flips_are_won()
-    ensures { FlipsAreWon }
-{}
-
-/// Nor is the exchange of SNAP by which a checkpoint is begun, nor that of the gate by which its request is cleared.
+/// The exchange of SNAP by which a checkpoint is begun is never lost, nor is that of the gate by which its request is cleared.
 pub fn checkpoints_are_begun()
     ensures begun { SnapsAreWon }
     ensures cleared { ClearsAreWon }
@@ -102,13 +95,11 @@ pub fn workers_want()
     ensures { WorkersWant }
 {}
 
-/// A step from a heap that stands, after which the same machine is at work, leaves it less to do, by the machine's own count of what is
-/// left; or its exchange was lost; or it loaded the first word of a record whose header another worker keeps, or SAVE of a page that another
-/// worker is saving; or a mutator's round is over, and its next one begins; or the worker waits for others: the gate doesn't let it in or run
-/// on yet, mutators run or are behind while it is to flip or to begin a checkpoint, or it is a scanner, whose round has ended. A mutator that
-/// looks at the gate and then looks again has no task, or one that the look has done.
-pub fn machines_go_on()
-    ensures { MachinesGoOn }
+/// A machine that has come to its end makes way for another one. If it is at work again at once, a round of a mutator is over, and its next
+/// one begins; or the worker waits for others: the gate doesn't let it in or run on yet, mutators run or are behind while it is to flip or to
+/// begin a checkpoint, or it is a scanner, whose round has ended.
+pub fn ended_machines_make_way()
+    ensures { EndedMachinesMakeWay }
 {}
 
 /// The step after which a worker is gone is a mutator's won exchange of the gate that counts it as left, or a scanner's look at a gate that
@@ -140,14 +131,6 @@ pub fn what_was_copied_was_live()
     ensures full { FullTellsLive }
 {}
 
-/// A mutator that found its epoch traced tells that the heap is full if the words have no room for the pages that its task asks for,
-/// and no flip can help. In a heap that stands as many pages of its space are in use as it has read.
-pub fn full_is_told()
-    ensures told { FullIsTold }
-    ensures read { SizesReadAreSo }
-    ensures in_heaps { FullIsToldInHeaps }
-{}
-
 /// Once an epoch is traced, the board and all pages into which records were copied are open in it; and no step flips before that.
 pub fn traced_pages_are_open()
     ensures opened { TracedPagesAreOpen }
@@ -160,15 +143,6 @@ pub fn pages_are_opened_by_claims()
     ensures opened { PagesAreOpenedByClaims }
     ensures low { LowRisesAtFlips }
     ensures copied { CopiedPagesAreBelowLow }
-{}
-
-/// The exchange of a round that slept past a flip is lost, as the round's epoch is past: that of the word of the page that it claims, that
-/// of WEAKTURN, and that of TRACED. No word changes, and the round ends with nothing done. So a page is won in the gate's epoch alone.
-pub fn exchanges_of_past_epochs_are_lost()
-    ensures pages { PastClaimsAreLost }
-    ensures turn { PastTurnsAreLost }
-    ensures traced { PastMarksAreLost }
-    ensures won { PagesAreWonNow }
 {}
 
 /// A worker with another count of its mutator's instructions wants, tells and becomes the same, and is as sound.

@@ -31,12 +31,12 @@ pub use history_laws::{
 };
 pub use laws::{
     answers_leave_the_others, beginnings_are_kept, checkpoints_are_begun, checkpoints_are_kept,
-    checkpoints_are_safe, claims_are_for_records, counts_are_apart,
-    exchanges_of_past_epochs_are_lost, flips_are_first, flips_are_won, full_is_told, heaps_open,
-    lost_cells_are_empty, low_falls_by_claims, machines_go_on, pages_are_opened_by_claims,
-    places_fit, readying_stands, registers_lead_back, scanners_go_last, sizes_stay, steps_keep,
-    stories_keep, tasks_may_begin, traced_pages_are_open, what_is_represented_stands,
-    what_stands_is_so, what_was_copied_was_live, who_is_gone_saw_why, workers_go_on, workers_want,
+    checkpoints_are_safe, claims_are_for_records, counts_are_apart, ended_machines_make_way,
+    flips_are_first, heaps_open, lost_cells_are_empty, low_falls_by_claims,
+    pages_are_opened_by_claims, places_fit, readying_stands, registers_lead_back, scanners_go_last,
+    sizes_stay, steps_keep, stories_keep, tasks_may_begin, traced_pages_are_open,
+    what_is_represented_stands, what_stands_is_so, what_was_copied_was_live, who_is_gone_saw_why,
+    workers_go_on, workers_want,
 };
 pub use open_error::OpenError;
 pub use opening::opening_words;

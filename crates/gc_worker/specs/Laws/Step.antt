@@ -6,9 +6,6 @@ use Rattle.atom_store.specs.Step.{place_in, words_after, reply_of}
 use Rattle.space_map.specs.PageWord.{age_of}
 use Rattle.space_map.specs.Table.{Gate, Page, Traced, whole_length}
 use Rattle.atom_store.specs.declared.reply.Reply.TheVariants.{Won}
-use Rattle.gate_core.specs.declared.flip_stage.FlipStage.TheVariants.{Exchanges}
-use Rattle.gate_core.specs.declared.reset.Reset.{Reset}
-use Rattle.gate_core.specs.Flip.{Flipping}
 use Rattle.heap_state.specs.Configuration.{Configuration, Stands, era, memory, table, team}
 use Rattle.heap_state.specs.Cycles.Cycle.{Cycle}
 use Rattle.heap_state.specs.Memory.Table.{word_in, page_word_in}
@@ -26,7 +23,7 @@ use Rattle.heap_state.specs.Saving.Said.{SaysCheckpoint}
 use Rattle.heap_state.specs.Saving.Words.{Saves, AreFormedSaves, saves_of}
 use Rattle.gc_worker.specs.declared.stage.after.After.{After}
 use Rattle.gc_worker.specs.declared.stage.forwarding_register.ForwardingRegister.{ForwardingRegister}
-use Rattle.gc_worker.specs.declared.stage.Stage.TheVariants.{Passes, Flips, Forwards, BeginsCheckpoint, Gone}
+use Rattle.gc_worker.specs.declared.stage.Stage.TheVariants.{Passes, Forwards, BeginsCheckpoint, Gone}
 use Rattle.gc_worker.specs.Workers.Fits.{Fits, Takes}
 use Rattle.gc_worker.specs.Plain.Answer.{IsAnswered, after_told}
 use Rattle.gc_worker.specs.Plain.Empty.{empty_cells}
@@ -181,12 +178,7 @@ abbrev pub StepsKeep : Type 0
 StepsKeep = (h : Heap) (p o : Plain) (k : ℕ) (x : Held) (q : Step) → WorkersStand h p o → k < length h.workers → held_at h k ≡ x → wanted x ≡ Some q
     → StepKeeps h p o k x q
 
--- the exchange of a flip is never lost
-abbrev pub FlipsAreWon : Type 0
-FlipsAreWon = (h : Heap) (p o : Plain) (k : ℕ) (x : Held) (f : Flipping) (r : Reset) (q : Step) → WorkersStand h p o → k < length h.workers → held_at h k ≡ x
-    → x.stage ≡ Flips (record f { stage = Exchanges r }) → wanted x ≡ Some q → reply_of q h.words ≡ Won
-
--- nor that by which a checkpoint is begun
+-- the exchange by which a checkpoint is begun is never lost
 abbrev pub SnapsAreWon : Type 0
 SnapsAreWon = (h : Heap) (p o : Plain) (k : ℕ) (x : Held) (s : Snapping) (gate : GateWord) (q : Step) → WorkersStand h p o → k < length h.workers → held_at h k ≡ x
     → x.stage ≡ BeginsCheckpoint (record s { stage = ExchangesSnap gate }) → wanted x ≡ Some q → reply_of q h.words ≡ Won

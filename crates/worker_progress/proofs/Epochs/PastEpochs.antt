@@ -34,7 +34,7 @@ use Rattle.gc_worker.specs.Steps.Goes.{Is}
 use Rattle.gc_worker.specs.Workers.Held.{Held, at_stage}
 use Rattle.gc_worker.specs.Workers.Knows.{claim_with, looked_all}
 use Rattle.gc_worker.specs.Laws.Step.{Heap, IsOut, read, WorkersStand, age, held_at}
-use Rattle.gc_worker.specs.Laws.PastEpochs.{LosesPage, LosesTurn, LosesTraced, PastClaimsAreLost, PastTurnsAreLost, PastMarksAreLost, takes_turn_next, PagesAreWonNow, exchanges_next, traces_next}
+use Rattle.worker_progress.specs.PastEpochs.{LosesPage, LosesTurn, LosesTraced, PastClaimsAreLost, PastTurnsAreLost, PastMarksAreLost, takes_turn_next, PagesAreWonNow, exchanges_next, traces_next}
 use Rattle.gc_worker.specs.Steps.Turned.{PageWon, won, won_at, won_by, won_in}
 use Rattle.gc_worker.specs.Steps.Wanted.{wanted}
 use Rattle.gc_worker.proofs.Between.Pages.Claims.{of_now}

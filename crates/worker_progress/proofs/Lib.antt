@@ -3,6 +3,6 @@ pub mod Copies
 pub mod Scans
 pub mod Replies
 pub mod Saves
-pub mod Ends
 pub mod Looks
 pub mod Whole
+pub mod Epochs

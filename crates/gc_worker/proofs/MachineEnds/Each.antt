@@ -51,7 +51,7 @@ use Rattle.gc_worker.specs.declared.stage.Stage.{Stage}
 use Rattle.gc_worker.specs.declared.stage.Stage.TheVariants.{Looks, Passes, Flips, Forwards, Accesses, Places, Serves, Scans, Opens, Recalls, Guards, BeginsCheckpoint}
 use Rattle.gc_worker.specs.Workers.Fits.{IsMaking}
 use Rattle.gc_worker.specs.Workers.Held.{Held, at_stage, fields_for, header_for, making_for, may_snap, run_held, target_for}
-use Rattle.gc_worker.specs.Progress.{IsSameMachine, MayWait}
+use Rattle.gc_worker.specs.Laws.MachineEnds.{IsSameMachine, MayWait}
 use Rattle.gc_worker.specs.Plain.Seen.{Making}
 use Rattle.gc_worker.specs.Steps.Turned.{Pointed, accessed_by, allocated_by, after_request, asks_flip, checkpoints, end_by_shortage, ended, epoch_said, first_pointer, flipped_by, forwarded_to, forwards_it, full_by, goes_back, goes_on, guards, in_epoch, is_full, passed_by, passes, places, runs_on, scanned_by, served_by, serves_snap, snapped_by, traced_by, with_copy, with_record, writes}
 use Rattle.gc_worker.proofs.Plain.NewRecords.{made_is}

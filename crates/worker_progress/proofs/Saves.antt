@@ -44,7 +44,7 @@ use Rattle.gc_worker.specs.declared.stage.Stage.TheVariants.{Guards}
 use Rattle.gc_worker.specs.Steps.Goes.{Is}
 use Rattle.gc_worker.specs.Workers.Held.{Held, at_stage}
 use Rattle.gc_worker.specs.Workers.Saves.{save_of_guard, saver_of}
-use Rattle.gc_worker.proofs.Progress.Replies.{TakesOn, Advances, Loses, Waits, On, either_way, says_gate, won_or_lost, word_at, word_is}
+use Rattle.worker_progress.proofs.Replies.{TakesOn, Advances, Loses, Waits, On, either_way, says_gate, won_or_lost, word_at, word_is}
 
 -- what is kept of checkpoints, where there is room for them, and worker k holds x
 pub record SavesAre (c : Configuration) (k : ℕ) (x : Held) : Type 0 where

@@ -1,13 +1,11 @@
 -- What a step has brought after which the same machine is at work: less is left of it, but for an exchange that was lost, a header that
 -- another worker keeps, a page that another worker is saving, a round that is over, and a worker that waits for others. A look after
 -- which the mutator looks again had nothing to do, or has done it.
-use Rattle.std.specs.Prelude.{◌≡◌, ◌≢◌, ℕ, ◌<◌, ⊤, length, Some, None}
+use Rattle.std.specs.Prelude.{◌≡◌, ◌≢◌, ℕ, ◌<◌, length, Some, None}
 use Rattle.plain_state.specs.State.{Plain}
-use Rattle.atom_store.specs.declared.reply.Reply.{Reply}
 use Rattle.atom_store.specs.declared.reply.Reply.TheVariants.{Lost}
 use Rattle.atom_store.specs.declared.step.Step.{Step}
 use Rattle.atom_store.specs.declared.step.Step.TheVariants.{Load}
-use Rattle.atom_store.specs.declared.turn.Turn.TheVariants.{Finished}
 use Rattle.atom_store.specs.Step.{reply_of}
 use Rattle.heap_words.specs.Decoded.{BusyWord, decode}
 use Rattle.space_map.specs.declared.save_word.SaveWord.TheVariants.{Saving}
@@ -15,19 +13,12 @@ use Rattle.space_map.specs.SaveWord.{decode_save}
 use Rattle.space_map.specs.Table.{HeapWord, SaveOf, place_of, save_place_of}
 use Rattle.heap_state.specs.Saving.Words.{save_word_in}
 use Rattle.alloc_end.specs.Place as place
-use Rattle.fault_duty.specs.declared.round_end.RoundEnd.{RoundEnd}
 use Rattle.fault_duty.specs.Duty as duty
 use Rattle.forwarding.specs.Left as evac_left
-use Rattle.gate_core.specs.declared.flipped.Flipped.TheVariants as flipped
-use Rattle.gate_core.specs.declared.passage.Passage.{Passage}
-use Rattle.gate_core.specs.declared.passage.Passage.TheVariants.{Attach, Resume}
-use Rattle.gate_core.specs.declared.passed.Passed.TheVariants as passed
 use Rattle.gate_core.specs.Flip as flip
 use Rattle.gate_core.specs.Gate as gate
-use Rattle.gate_core.specs.declared.snap.snapped.Snapped.TheVariants as snapped
 use Rattle.gate_core.specs.Recall as recall
 use Rattle.gate_core.specs.Snap as snap
-use Rattle.page_saves.specs.declared.save_round_end.SaveRoundEnd.{SaveRoundEnd}
 use Rattle.page_saves.specs.Guard as guard
 use Rattle.page_saves.specs.SaveRound as save_round
 use Rattle.heap_state.specs.Memory.Table.{word_in}
@@ -35,11 +26,11 @@ use Rattle.page_scan.specs.Left as scan_left
 use Rattle.page_slots.specs.Open as open_page
 use Rattle.record_access.specs.Access as access
 use Rattle.gc_worker.specs.Workers.Held.{Held}
+use Rattle.gc_worker.specs.Laws.MachineEnds.{IsRoundOver, IsSameMachine, IsWaiting}
 use Rattle.gc_worker.specs.Laws.Step.{Heap, WorkersStand, held_at}
 use Rattle.gc_worker.specs.Steps.Turned.{Answers, told, turned}
 use Rattle.gc_worker.specs.Steps.Wanted.{wanted}
 use Rattle.gc_worker.specs.declared.calls.did.Did.TheVariants.{Done}
-use Rattle.gc_worker.specs.declared.stage.back.Back.TheVariants.{ToTarget, ToSnap, ToScanner}
 use Rattle.gc_worker.specs.declared.stage.Stage.{Stage}
 use Rattle.gc_worker.specs.declared.stage.Stage.TheVariants.{Looks, Passes, Flips, Forwards, Accesses, Places, Serves, Scans, Evacuates, Opens, Recalls, Guards, Checkpoints, BeginsCheckpoint, Gone}
 use Rattle.gc_worker.specs.declared.task.Task.{Task}
@@ -62,39 +53,6 @@ left_at (Checkpoints r goal) = save_round.left r
 left_at (BeginsCheckpoint s) = snap.left s
 left_at Gone = 0
 
--- the machine at work at one stage is at work at the other too, or one of its sort that does the same; a look at the gate is one of its own
-abbrev pub IsSameMachine : Stage → Stage → Type 0
-IsSameMachine Looks Looks = ⊤
-IsSameMachine (Passes g after) (Passes next later) = next.passage ≡ g.passage
-IsSameMachine (Flips f) (Flips next) = ⊤
-IsSameMachine (Forwards w) (Forwards next) = next.register ≡ w.register
-IsSameMachine (Accesses a) (Accesses next) = ⊤
-IsSameMachine (Places p) (Places next) = ⊤
-IsSameMachine (Serves d back) (Serves next later) = ⊤
-IsSameMachine (Scans s back) (Scans next later) = ⊤
-IsSameMachine (Evacuates v s back) (Evacuates next t later) = ⊤
-IsSameMachine (Opens o s back) (Opens next t later) = ⊤
-IsSameMachine (Recalls r after) (Recalls next later) = ⊤
-IsSameMachine (Guards g write) (Guards next later) = ⊤
-IsSameMachine (Checkpoints r goal) (Checkpoints next later) = ⊤
-IsSameMachine (BeginsCheckpoint s) (BeginsCheckpoint next) = ⊤
-IsSameMachine stage next = ⊥
-
--- who is about to come in, or to run on, may have to wait at the gate
-abbrev pub MayWait : Passage → Type 0
-MayWait Attach = ⊤
-MayWait (Resume epoch) = ⊤
-MayWait passage = ⊥
-
--- The worker waits for others: the gate doesn't let it in or run on yet, or mutators run or are behind while it is to flip or to begin a
--- checkpoint; or it is a scanner, whose round has come to its end.
-abbrev pub IsWaiting : Stage → Reply → Type 0
-IsWaiting (Passes g after) reply = MayWait g.passage × ((word : ℕ) × (gate.told (gate.taken g reply) ≡ Finished (passed.NotYet word)))
-IsWaiting (Flips f) reply = (word : ℕ) × (flip.told (flip.taken f reply) ≡ Finished (flipped.NotYet word))
-IsWaiting (Serves d ToScanner) reply = (result : RoundEnd) × (duty.told (duty.taken d reply) ≡ Finished result)
-IsWaiting (BeginsCheckpoint s) reply = (word : ℕ) × (snap.told (snap.taken s reply) ≡ Finished (snapped.NotYet word))
-IsWaiting stage reply = ⊥
-
 -- the step of worker k loads the first word of a record whose header another worker keeps
 pub record ReadsAnothers (h : Heap) (k : ℕ) (q : Step) : Type 0 where
   pub at : ℕ
@@ -103,14 +61,6 @@ pub record ReadsAnothers (h : Heap) (k : ℕ) (q : Step) : Type 0 where
   pub worker : ℕ
   pub busy : decode (word_in h.pages h.words (HeapWord at)) ≡ BusyWord len worker
   pub other : worker ≢ k
-
--- A round of a mutator has come to its end, and the next one begins: one of the duty, until the epoch is traced, before the target of a cell
--- is loaded or a checkpoint is begun; or one for a checkpoint that is in progress.
-abbrev pub IsRoundOver : Stage → Reply → Type 0
-IsRoundOver (Serves d (ToTarget a)) reply = (result : RoundEnd) × (duty.told (duty.taken d reply) ≡ Finished result)
-IsRoundOver (Serves d ToSnap) reply = (result : RoundEnd) × (duty.told (duty.taken d reply) ≡ Finished result)
-IsRoundOver (Checkpoints r goal) reply = (result : SaveRoundEnd) × (save_round.told (save_round.taken r reply) ≡ Finished result)
-IsRoundOver stage reply = ⊥
 
 -- the step of worker k loads what is said of a page that another worker is saving
 pub record ReadsSaving (h : Heap) (k : ℕ) (q : Step) : Type 0 where

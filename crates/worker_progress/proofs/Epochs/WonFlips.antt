@@ -16,7 +16,8 @@ use Rattle.heap_state.proofs.Table.Places.{word_in-row}
 use Rattle.gc_worker.specs.declared.stage.Stage.TheVariants.{Flips}
 use Rattle.gc_worker.specs.Steps.Goes.{Is}
 use Rattle.gc_worker.specs.Workers.Held.{Held, at_stage, has_seen_flip}
-use Rattle.gc_worker.specs.Laws.Step.{Heap, read, WorkersStand, FlipsAreWon}
+use Rattle.gc_worker.specs.Laws.Step.{Heap, read, WorkersStand}
+use Rattle.worker_progress.specs.WonFlips.{FlipsAreWon}
 use Rattle.gc_worker.specs.Steps.Wanted.{wanted}
 use Rattle.gc_worker.proofs.Stages.Flip.Flipping.{unmoved}
 use Rattle.gc_worker.proofs.Workers.Members.{member}

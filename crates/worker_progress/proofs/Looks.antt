@@ -22,12 +22,12 @@ use Rattle.gc_worker.specs.declared.stage.write.Write.TheVariants.{OfPlace}
 use Rattle.gc_worker.specs.declared.task.Task.{Task}
 use Rattle.gc_worker.specs.declared.task.Task.TheVariants.{Calls, Stops}
 use Rattle.gc_worker.specs.Plain.Seen.{seen}
-use Rattle.gc_worker.specs.Progress.{IsSameMachine}
+use Rattle.gc_worker.specs.Laws.MachineEnds.{IsSameMachine}
 use Rattle.gc_worker.specs.Steps.Turned.{Told, Silent, Answers, acted, acts, begins, looked_by, passes, places, serves_snap, started, told_acted, told_action, told_gate, told_look, told_start, turned_look, went_on}
 use Rattle.gc_worker.specs.Workers.Fits.{FitsCall, IsMaking, MayBegin}
 use Rattle.gc_worker.specs.Workers.Held.{Held, at_stage, fields_for, header_for, may_snap, run_held, target_for}
 use Rattle.gc_worker.proofs.Plain.NewRecords.{header_is}
-use Rattle.gc_worker.proofs.Progress.Ends.{guards_so}
+use Rattle.gc_worker.proofs.MachineEnds.Each.{guards_so}
 
 -- what there is to do is done: nothing without a task, and else the task has its effect
 abbrev pub IsDone : Option Task → Told → Type 0

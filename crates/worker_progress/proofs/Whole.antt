@@ -74,7 +74,8 @@ use Rattle.gc_worker.specs.Steps.Goes.{Is}
 use Rattle.gc_worker.specs.Workers.Held.{Held, at_stage}
 use Rattle.gc_worker.specs.Workers.Saves.{saver_of}
 use Rattle.gc_worker.specs.Laws.Step.{CheckpointsStand, Heap, StandIf, WorkersStand, held_at, read}
-use Rattle.gc_worker.specs.Progress.{Progress, LessIsLeft, ExchangeWasLost, AnotherCopies, AnotherSaves, RoundIsOver, OthersGoFirst, NothingIsAsked, TaskIsDone, IsRoundOver, IsSameMachine, IsWaiting, MachinesGoOn, left_at}
+use Rattle.gc_worker.specs.Laws.MachineEnds.{IsRoundOver, IsSameMachine, IsWaiting}
+use Rattle.worker_progress.specs.Progress.{Progress, LessIsLeft, ExchangeWasLost, AnotherCopies, AnotherSaves, RoundIsOver, OthersGoFirst, NothingIsAsked, TaskIsDone, MachinesGoOn, left_at}
 use Rattle.gc_worker.specs.Steps.Turned.{Answers, guards_access, guards_place, recalled, told_at, told_look, turned_look, turned_access, turned_at, turned_copy, turned_flip, turned_gate, turned_guard, turned_opening, turned_place, turned_recall, turned_register, turned_round, turned_save_round, turned_scan, turned_snap, with_evac}
 use Rattle.gc_worker.specs.Steps.Wanted.{wanted_at}
 use Rattle.gc_worker.proofs.Stages.Access.Going as accessing_going
@@ -85,13 +86,13 @@ use Rattle.gc_worker.proofs.Stages.Copies.Hosts as hosts
 use Rattle.gc_worker.proofs.Stages.Copies.Words.{heap_word}
 use Rattle.gc_worker.proofs.Workers.Members.{member}
 use Rattle.record_access.proofs.Lowering.{accesses_lower}
-use Rattle.gc_worker.proofs.Progress.Replies.{TakesOn, Advances, Loses, Waits, MeetsBusy, On, accessing, copying, flipping, loads_header, opening, passing, placing, says_gate, scanning, serving, IsThere, word_at, word_is}
-use Rattle.gc_worker.proofs.Progress.Copies.{copies_lower}
-use Rattle.gc_worker.proofs.Progress.Ends.{RoundsAgain, accesses_end, allocations_end, flips_end, guards_end, guards_so, openings_end, passages_end, recalls_end, registers_end, rounds_end, scans_end, snaps_end}
-use Rattle.gc_worker.proofs.Progress.Saves.{MeetsSaving, SavesAre, looking, recalling, rounding, snapping}
-use Rattle.gc_worker.proofs.Progress.Looks.{IsDone, looks_done}
-use Rattle.gc_worker.proofs.Progress.Lowering.{allocations_lower, flips_lower, openings_lower, passages_lower}
-use Rattle.gc_worker.proofs.Progress.Scans.{first-lt, scans_lower}
+use Rattle.worker_progress.proofs.Replies.{TakesOn, Advances, Loses, Waits, MeetsBusy, On, accessing, copying, flipping, loads_header, opening, passing, placing, says_gate, scanning, serving, IsThere, word_at, word_is}
+use Rattle.worker_progress.proofs.Copies.{copies_lower}
+use Rattle.gc_worker.proofs.MachineEnds.Each.{RoundsAgain, accesses_end, allocations_end, flips_end, guards_end, guards_so, openings_end, passages_end, recalls_end, registers_end, rounds_end, scans_end, snaps_end}
+use Rattle.worker_progress.proofs.Saves.{MeetsSaving, SavesAre, looking, recalling, rounding, snapping}
+use Rattle.worker_progress.proofs.Looks.{IsDone, looks_done}
+use Rattle.worker_progress.proofs.Lowering.{allocations_lower, flips_lower, openings_lower, passages_lower}
+use Rattle.worker_progress.proofs.Scans.{first-lt, scans_lower}
 use Rattle.gc_worker.proofs.Stages.Scan.Counts.{count_there}
 use Rattle.gc_worker.proofs.Stages.Scan.Headers.{answer2, first_header}
 

@@ -1,5 +1,5 @@
-use Rattle.gc_worker.proofs.Epochs.FullTold.{full_is_told, full_is_told_in_heaps, sizes_read_are_so}
-use Rattle.gc_worker.proofs.laws.full_is_told.Goals as goal
+use Rattle.worker_progress.proofs.Epochs.FullTold.{full_is_told, full_is_told_in_heaps, sizes_read_are_so}
+use Rattle.worker_progress.proofs.laws.full_is_told.Goals as goal
 
 pub returns-clause-told : goal.returns-clause-told
 returns-clause-told c = full_is_told

@@ -1,5 +1,5 @@
-use Rattle.gc_worker.proofs.Epochs.PastEpochs.{past_claims_are_lost, past_turns_are_lost, past_marks_are_lost, pages_are_won_now}
-use Rattle.gc_worker.proofs.laws.exchanges_of_past_epochs_are_lost.Goals as goal
+use Rattle.worker_progress.proofs.Epochs.PastEpochs.{past_claims_are_lost, past_turns_are_lost, past_marks_are_lost, pages_are_won_now}
+use Rattle.worker_progress.proofs.laws.exchanges_of_past_epochs_are_lost.Goals as goal
 
 pub returns-clause-pages : goal.returns-clause-pages
 returns-clause-pages c = past_claims_are_lost

@@ -21,7 +21,7 @@ use Rattle.gc_worker.specs.declared.task.Task.{Task}
 use Rattle.gc_worker.specs.declared.task.Task.TheVariants.{Calls}
 use Rattle.gc_worker.specs.Workers.Fits.{Fits}
 use Rattle.gc_worker.specs.Plain.Full.{FindsNoRoom}
-use Rattle.gc_worker.specs.Laws.FullTold.{FullIsTold, FullIsToldInHeaps, SizesReadAreSo, TellsFull, found_traced}
+use Rattle.worker_progress.specs.FullTold.{FullIsTold, FullIsToldInHeaps, SizesReadAreSo, TellsFull, found_traced}
 use Rattle.gc_worker.specs.Workers.Held.{Held, at_stage, has_seen_flip, pages_needed, pages_asked}
 use Rattle.gc_worker.specs.declared.calls.did.Did.TheVariants.{Trap}
 use Rattle.gc_worker.specs.Laws.Step.{Heap, WorkersStand, read as as_read}

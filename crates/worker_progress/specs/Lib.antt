@@ -1,0 +1,4 @@
+pub mod Progress
+pub mod WonFlips
+pub mod FullTold
+pub mod PastEpochs
