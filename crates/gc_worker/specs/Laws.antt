@@ -3,6 +3,7 @@ pub mod Between
 pub mod Gone
 pub mod Copied
 pub mod Claims
+pub mod Growth
 pub mod Cycles
 pub mod Represented
 pub mod Stories

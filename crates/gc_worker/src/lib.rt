@@ -10,6 +10,7 @@
 
 mod calls;
 mod config;
+mod cycle_laws;
 mod history_laws;
 mod laws;
 mod open_error;
@@ -26,17 +27,19 @@ pub use calls::call::Call;
 pub use calls::did::Did;
 pub use calls::entry::Entry;
 pub use config::{Config, MOST_TURNS};
+pub use cycle_laws::{
+    claims_are_for_records, flips_are_first, flips_set_sizes, low_falls_by_claims, sizes_stay,
+};
 pub use history_laws::{
     histories_keep_the_last_checkpoint, loads_get_the_last_store, records_keep_their_shape,
 };
 pub use laws::{
     answers_leave_the_others, beginnings_are_kept, checkpoints_are_begun, checkpoints_are_kept,
-    checkpoints_are_safe, claims_are_for_records, counts_are_apart, ended_machines_make_way,
-    flips_are_first, heaps_open, lost_cells_are_empty, low_falls_by_claims,
-    pages_are_opened_by_claims, places_fit, readying_stands, registers_lead_back, scanners_go_last,
-    sizes_stay, steps_keep, stories_keep, tasks_may_begin, traced_pages_are_open,
-    what_is_represented_stands, what_stands_is_so, what_was_copied_was_live, who_is_gone_saw_why,
-    workers_go_on, workers_want,
+    checkpoints_are_safe, counts_are_apart, ended_machines_make_way, heaps_open,
+    lost_cells_are_empty, pages_are_opened_by_claims, places_fit, readying_stands,
+    registers_lead_back, scanners_go_last, steps_keep, stories_keep, tasks_may_begin,
+    traced_pages_are_open, what_is_represented_stands, what_stands_is_so, what_was_copied_was_live,
+    who_is_gone_saw_why, workers_go_on, workers_want,
 };
 pub use open_error::OpenError;
 pub use opening::opening_words;

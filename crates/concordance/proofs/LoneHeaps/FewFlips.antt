@@ -22,7 +22,7 @@ use Rattle.gc_worker.specs.declared.task.Task.{Task}
 use Rattle.gc_worker.specs.declared.task.Task.TheVariants.{Calls, Stops}
 use Rattle.gc_worker.specs.History.Legal.{IsLegal, after_call, worker_call}
 use Rattle.gc_worker.specs.History.Tally.{EachEntry, EntryIs, IsAskedFor, Sizes, Tally, Tasks, after_entry, asked_by_task, asked_for, asked_unless_ended, next_task, size_now, tally}
-use Rattle.gc_worker.specs.Laws.Cycles.{Grows}
+use Rattle.gc_worker.specs.Laws.Growth.{Grows}
 use Rattle.gc_worker.specs.Plain.Answer.{ComesTo, MayCome, after_answer, after_outcome}
 use Rattle.ael_threads.specs.Histories.{opening_tally}
 use Rattle.ael_threads.specs.Unread.{EachCall}

@@ -8,7 +8,8 @@ use Rattle.space_map.specs.Spaces.{to_space}
 use Rattle.gc_worker.specs.declared.calls.did.Did.TheVariants.{Done, Trap}
 use Rattle.gc_worker.specs.declared.steps.stepped.Stepped.{Stepped}
 use Rattle.gc_worker.specs.declared.steps.stepped.Stepped.TheVariants.{Idle, Moved, Effect, Flipped, Traced, Ended}
-use Rattle.gc_worker.specs.Laws.Cycles.{Grows, HasNextSize, SizeGoes, SizesHoldAt, front_of, size_at, size_next, size_of}
+use Rattle.gc_worker.specs.Laws.Cycles.{HasNextSize, SizeGoes, SizesHoldAt, front_of, size_at, size_next, size_of}
+use Rattle.gc_worker.specs.Laws.Growth.{Grows}
 use Rattle.gc_worker.specs.Laws.Claims.{epoch_of_heap}
 use Rattle.gc_worker.specs.Laws.Step.{nobody}
 use Rattle.gc_worker.specs.Steps.Stepped.{stepped_by}

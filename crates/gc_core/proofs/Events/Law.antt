@@ -36,8 +36,7 @@ use Rattle.gc_worker.specs.declared.calls.did.Did.TheVariants.{Done, Trap}
 use Rattle.gc_worker.specs.Steps.Turned.{Told, Silent, Empties, Answers, Marks, turned, told}
 use Rattle.gc_worker.specs.Steps.Wanted.{wanted}
 use Rattle.gc_worker.specs.declared.steps.stepped.Stepped.TheVariants as tells
-use Rattle.gc_worker.specs.History.Order.{mark_by}
-use Rattle.gc_worker.specs.Plain.Marks.{task_of}
+use Rattle.gc_worker.specs.Plain.Marks.{task_of, mark_by}
 use Rattle.gc_core.specs.Core.{CoreState}
 use Rattle.gc_core.specs.Event.{event_of, ready}
 use Rattle.gc_worker.specs.Steps.Stepped.{stepped_by}

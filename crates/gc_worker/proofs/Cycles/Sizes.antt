@@ -46,7 +46,8 @@ use Rattle.heap_state.specs.Memory.Table.{word_in}
 use Rattle.heap_state.specs.Worker.{Reset, Worker}
 use Rattle.heap_state.proofs.Puts.{some_same}
 use Rattle.heap_state.proofs.Table.Places.{word_in-other, word_in-same}
-use Rattle.gc_worker.specs.Laws.Cycles.{Grows, SeenFlipsDouble, SizeGoes, SizesAreWithin, SizesHold, SizesHoldAt, SizesStay, size_of}
+use Rattle.gc_worker.specs.Laws.Cycles.{SeenFlipsDouble, SizeGoes, SizesAreWithin, SizesHold, SizesHoldAt, SizesStay, size_of}
+use Rattle.gc_worker.specs.Laws.Growth.{Grows}
 use Rattle.record_access.specs.Access as access
 use Rattle.gc_worker.specs.declared.stage.Stage.{Stage}
 use Rattle.gc_worker.specs.declared.stage.Stage.TheVariants.{Looks, Passes, Flips, Forwards, Accesses, Places, Serves, Scans, Evacuates, Opens, Recalls, Guards, Checkpoints, BeginsCheckpoint, Gone}

@@ -23,9 +23,9 @@ use Rattle.gc_worker.specs.Plain.Answer.{with_emptied}
 use Rattle.gc_worker.specs.History.Legal.{EmptiesLost, IsLegal, after_all, after_call}
 use Rattle.gc_worker.proofs.History.Large.{least_full}
 use Rattle.gc_worker.specs.History.Needs.{EachFullIs, EachMayCome, HasNoFull, IsFullAt, IsLargeEnough, FullMayCome, being_made, flips_by, flips_in, made_after, made_after_mark, first_story, pages_next, since_by, since_in}
-use Rattle.gc_worker.specs.History.Order.{AreFetched, mark_by, order_of}
+use Rattle.gc_worker.specs.History.Order.{AreFetched, order_of}
 use Rattle.gc_worker.specs.History.Tally.{EachEntry, EntryIs, IsFilled, IsFilledBy, IsFilledByEnd, Sizes, Tally, Tasks, after_entry, asked_by_task, asked_for, asked_unless_ended, made_next, made_if, next_task, pages_by_task, size_now, tally}
-use Rattle.gc_worker.specs.Plain.Marks.{end_mark, task_of}
+use Rattle.gc_worker.specs.Plain.Marks.{end_mark, task_of, mark_by}
 use Rattle.gc_worker.specs.Steps.Turned.{Answers}
 use Rattle.gc_worker.proofs.Between.Others.{answers_leave_the_others}
 use Rattle.gc_worker.proofs.History.Extensions.{as_many}

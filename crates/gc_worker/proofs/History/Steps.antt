@@ -21,7 +21,8 @@ use Rattle.gc_worker.specs.declared.task.Task.{Task}
 use Rattle.gc_worker.specs.Plain.Answer.{ComesTo, IsAnswered}
 use Rattle.gc_worker.specs.Workers.Begun.{IsPastLook}
 use Rattle.gc_worker.specs.Laws.Between.{KeepsToTask, IsAsPlain, IsNoAnswer, IsSo, is_present}
-use Rattle.gc_worker.specs.Laws.Cycles.{BeginsAnew, Grows, IsFirst, IsInCall, LowGoes, SetsAside, SizeGoes, StaysInCall, words_claimed, low_at, low_of, low_said, set_aside, size_of, snaps_at}
+use Rattle.gc_worker.specs.Laws.Cycles.{BeginsAnew, IsFirst, IsInCall, LowGoes, SetsAside, SizeGoes, StaysInCall, words_claimed, low_at, low_of, low_said, set_aside, size_of, snaps_at}
+use Rattle.gc_worker.specs.Laws.Growth.{Grows}
 use Rattle.gc_worker.specs.Workers.Fits.{Fits, FitsEnd, FitsTask, IsMaking, IsOnSide}
 use Rattle.gc_worker.specs.Plain.Full.{FindsNoRoom, FullWhereTold}
 use Rattle.gc_worker.specs.Workers.Held.{Held}

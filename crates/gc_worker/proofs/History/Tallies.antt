@@ -14,7 +14,7 @@ use Rattle.gc_worker.specs.declared.calls.entry.Entry.{Entry}
 use Rattle.gc_worker.specs.declared.calls.entry.Entry.TheVariants.{Made, Exchanged, Emptied}
 use Rattle.gc_worker.proofs.History.Sums.{sum_below-most}
 use Rattle.gc_worker.specs.History.Tally.{EachEntry, EntryIs, IsFilled, IsFilledBy, IsFilledByEnd, Sizes, Tally, Tasks, after_entry, asked_by_task, asked_unless_ended, made_next, next_task, pages_by_task, tally}
-use Rattle.gc_worker.specs.Laws.Cycles.{Grows}
+use Rattle.gc_worker.specs.Laws.Growth.{Grows}
 use Rattle.gc_worker.specs.Plain.Stories.{story_told}
 use Rattle.gc_worker.specs.History.Legal.{EmptiesLost, after_all, extra, flip_from}
 use Rattle.gc_worker.specs.Laws.Step.{at_flip}

@@ -30,8 +30,7 @@ use Rattle.plain_heap.specs.Order as order
 use Rattle.gc_worker.specs.Plain.Answer.{MayEnd, MayCome, after_outcome}
 use Rattle.gc_worker.specs.declared.calls.did.Did.{Did}
 use Rattle.gc_worker.specs.declared.calls.did.Did.TheVariants.{Done, Trap}
-use Rattle.gc_worker.specs.History.Order.{mark_by}
-use Rattle.gc_worker.specs.Plain.Marks.{end_mark, task_of}
+use Rattle.gc_worker.specs.Plain.Marks.{end_mark, task_of, mark_by}
 
 -- ---- the opening
 

@@ -5,7 +5,7 @@ use Rattle.space_map.specs.Table.{Size}
 use Rattle.gate_core.specs.Flip.{next_size}
 use Rattle.heap_state.specs.Configuration.{Configuration, Stands}
 use Rattle.heap_state.specs.Memory.Table.{word_in}
-use Rattle.gc_worker.specs.Laws.Cycles.{Grows}
+use Rattle.gc_worker.specs.Laws.Growth.{Grows}
 
 abbrev pub size_now : Configuration → ℕ → ℕ
 size_now c space = word_in c.pages c.words (Size space)

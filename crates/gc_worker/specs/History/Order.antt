@@ -6,21 +6,17 @@ use Rattle.plain_state.specs.declared.sizes.TheConstants.{PAGE_WORDS}
 use Rattle.plain_state.specs.State.{Mutator, Plain}
 use Rattle.mutator_asm.specs.declared.instr.Instr.{Instr}
 use Rattle.plain_heap.specs.declared.mark.Mark.{Mark}
-use Rattle.plain_heap.specs.declared.mark.Mark.TheVariants.{Step, Flip, Traced}
+use Rattle.plain_heap.specs.declared.mark.Mark.TheVariants.{Flip, Traced}
 use Rattle.plain_heap.specs.Step.{fetch}
 use Rattle.gc_worker.specs.declared.calls.did.Did.{Did}
 use Rattle.gc_worker.specs.declared.calls.did.Did.TheVariants.{Done, Trap}
 use Rattle.gc_worker.specs.declared.calls.entry.Entry.{Entry}
 use Rattle.gc_worker.specs.declared.calls.entry.Entry.TheVariants.{Made, Exchanged, Emptied}
 use Rattle.gc_worker.specs.History.Legal.{after_call}
-use Rattle.gc_worker.specs.Plain.Marks.{end_mark, task_of}
+use Rattle.gc_worker.specs.Plain.Marks.{mark_by, task_of}
 use Rattle.gc_worker.specs.Plain.Answer.{with_emptied}
 
 -- ---- the order of a history
-
-abbrev pub mark_by : ℕ → Did → Mark
-mark_by m Done = Step m
-mark_by m (Trap end) = end_mark m end
 
 abbrev pub entry_mark : Entry → Mark
 entry_mark (Made c) = mark_by c.by c.did

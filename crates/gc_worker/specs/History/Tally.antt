@@ -16,7 +16,8 @@ use Rattle.gc_worker.specs.declared.calls.entry.Entry.TheVariants.{Made, Exchang
 use Rattle.gc_worker.specs.declared.task.Task.{Task}
 use Rattle.gc_worker.specs.declared.task.Task.TheVariants.{Calls, Stops}
 use Rattle.gc_worker.specs.Workers.Begun.{IsPastLook}
-use Rattle.gc_worker.specs.Laws.Cycles.{Grows, IsFirst, IsInCall, low_of, set_aside, size_of, snaps_at}
+use Rattle.gc_worker.specs.Laws.Cycles.{IsFirst, IsInCall, low_of, set_aside, size_of, snaps_at}
+use Rattle.gc_worker.specs.Laws.Growth.{Grows}
 use Rattle.gc_worker.specs.Workers.Held.{Held}
 use Rattle.gc_worker.specs.Plain.Answer.{with_emptied}
 use Rattle.gc_worker.specs.History.Legal.{after_call}

@@ -34,6 +34,7 @@ use Rattle.gc_worker.specs.declared.stage.Stage.{Stage}
 use Rattle.gc_worker.specs.declared.stage.Stage.TheVariants.{Looks, Passes, Flips, Forwards, Accesses, Places, Serves, Scans, Evacuates, Opens, Recalls, Guards, Checkpoints, BeginsCheckpoint, Gone}
 use Rattle.gc_worker.specs.declared.task.Task.TheVariants.{Calls}
 use Rattle.gc_worker.specs.Workers.Begun.{IsPastAfter, IsPastBack, IsPastGoal}
+use Rattle.gc_worker.specs.Laws.Growth.{Grows}
 use Rattle.gc_worker.specs.Laws.Between.{IsNoAnswer, opening_heap}
 use Rattle.gc_worker.specs.Workers.Fits.{Fits}
 use Rattle.gc_worker.specs.Workers.Held.{Held, has_seen_flip, may_snap, pages_needed}
@@ -133,10 +134,6 @@ abbrev pub SetAsideIsForRecords : Type 0
 SetAsideIsForRecords = (h : Heap) (p o : Plain) (k : ℕ) (x : Held) → WorkersStand h p o → k < length h.workers → held_at h k ≡ x → IsForRecord p k x
 
 -- ---- the pages in use
-
--- a space that is flipped into has as many as the one before, or twice as many, as far as there are so many
-abbrev pub Grows : (n size next : ℕ) → Type 0
-Grows n size next = (next ≡ size) ⊎ (next ≡ min n (2 * size))
 
 -- within an epoch the pages in use stay
 abbrev pub SizeGoes : (n : ℕ) → (words later : List ℕ) → Told → Type 0

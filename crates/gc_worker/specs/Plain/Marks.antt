@@ -9,6 +9,8 @@ use Rattle.plain_heap.specs.declared.mark.Mark.{Mark}
 use Rattle.plain_heap.specs.declared.mark.Mark.TheVariants as marks
 use Rattle.plain_heap.specs.Step.{asked_by}
 use Rattle.plain_heap.specs.Order.{Story, end_of, EachMark}
+use Rattle.gc_worker.specs.declared.calls.did.Did.{Did}
+use Rattle.gc_worker.specs.declared.calls.did.Did.TheVariants.{Done, Trap}
 use Rattle.gc_worker.specs.declared.steps.stepped.Stepped.{Stepped}
 use Rattle.gc_worker.specs.declared.steps.stepped.Stepped.TheVariants.{Idle, Moved, Effect, Flipped, Traced, Ended}
 use Rattle.gc_worker.specs.declared.task.Task.{Task}
@@ -34,6 +36,11 @@ end_mark m ends.JumpOut = marks.Step m
 end_mark m ends.TurnsOut = marks.Step m
 end_mark m ends.OutputFull = marks.Step m
 end_mark m (ends.HeapFull asked room live) = marks.Full m asked room live
+
+-- the mark of what mutator m's call comes to
+abbrev pub mark_by : ℕ → Did → Mark
+mark_by m Done = marks.Step m
+mark_by m (Trap end) = end_mark m end
 
 -- the mark of an event, where the plain machine sees it
 abbrev pub mark_of : Stepped → Option Mark

@@ -30,7 +30,7 @@ use Rattle.heap_laws.proofs.Gate.Counts.{fits}
 use Rattle.heap_laws.proofs.Lifting.Laws.{sizes_are_lifted}
 use Rattle.heap_laws.proofs.Steps.Answers.{areas_are_read}
 use Rattle.gc_worker.specs.declared.stage.Stage.TheVariants.{Flips}
-use Rattle.gc_worker.specs.Laws.Cycles.{Grows}
+use Rattle.gc_worker.specs.Laws.Growth.{Grows}
 use Rattle.gc_worker.specs.Workers.Fits.{Fits}
 use Rattle.gc_worker.specs.Steps.Goes.{Is, Goes, StepsSo}
 use Rattle.gc_worker.specs.Workers.Held.{Held, at_stage, has_seen_flip}

@@ -25,7 +25,7 @@ use Rattle.heap_state.specs.Invariant.Parts.Knowledge.{Resets}
 use Rattle.heap_state.specs.Worker.{Reset}
 use Rattle.heap_state.proofs.Puts.{put_other}
 use Rattle.gc_worker.specs.declared.stage.Stage.TheVariants.{Flips}
-use Rattle.gc_worker.specs.Laws.Cycles.{Grows}
+use Rattle.gc_worker.specs.Laws.Growth.{Grows}
 use Rattle.gc_worker.specs.Workers.Held.{Held, at_stage, has_seen_flip}
 use Rattle.gc_worker.specs.Steps.Turned.{told_flip, turned, turned_flip}
 use Rattle.gc_worker.proofs.Words.Areas.{area_says, is_space}

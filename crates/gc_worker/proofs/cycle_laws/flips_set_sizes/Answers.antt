@@ -1,5 +1,5 @@
 use Rattle.gc_worker.proofs.Cycles.NextSizes.{flips_set_sizes, next_sizes_begin, next_sizes_stay}
-use Rattle.gc_worker.proofs.laws.flips_set_sizes.Goals as goal
+use Rattle.gc_worker.proofs.cycle_laws.flips_set_sizes.Goals as goal
 
 pub returns-clause-set : goal.returns-clause-set
 returns-clause-set c = flips_set_sizes
