@@ -6,9 +6,10 @@ ghost use Rattle.concordance_text.specs.Words.{ends_line, mentions_of};
 ghost use Rattle.concordance_text.specs.Parts.{AreCutAtLineEnds, AreInLineOrder, EndsWithLine, IsCut, IsNumbered, bytes_of, mentions_of_part};
 
 use arrayvec::ArrayVec;
+use plain_state::MOST_MUTATORS;
 
-/// The most parts of a text.
-pub const MOST_PARTS: usize = 16;
+/// The most parts of a text: each is a mutator's.
+pub const MOST_PARTS: usize = MOST_MUTATORS;
 
 /// The parts of a text, in order.
 pub type Parts<'t> = ArrayVec<Part<'t>, MOST_PARTS>;

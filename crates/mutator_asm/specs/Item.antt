@@ -1,8 +1,9 @@
 -- The items of a schedule.
 use Rattle.std.specs.Prelude.{ℕ, List, Option, Some, None, Result, Ok, Err, ◌&&◌, nat_le, ◌==◌, Bool, if◌then◌else◌}
 use Rattle.std.specs.List.{list_any, before_first, after_first}
+use Rattle.plain_state.specs.declared.sizes.TheConstants.{LAST_WORKER}
 use Rattle.mutator_asm.specs.declared.item.Item.{Item}
-use Rattle.mutator_asm.specs.declared.item.TheConstants.{LAST_WORKER, TIMES_MAX}
+use Rattle.mutator_asm.specs.declared.item.TheConstants.{TIMES_MAX}
 use Rattle.mutator_asm.specs.declared.mistake.Mistake.{Mistake}
 use Rattle.mutator_asm.specs.Token.{number_of}
 

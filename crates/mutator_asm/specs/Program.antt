@@ -1,11 +1,11 @@
 -- What a program is.
 use Rattle.std.specs.Prelude.{ℕ, ◌≤◌, Bool, true, ◌&&◌, List, [], length, Option, slice_get, slice_index_or, nat_lt, nat_le, sum_by, IsTrue}
 use Rattle.std.specs.List.{list_all}
-use Rattle.plain_state.specs.declared.sizes.TheConstants.{NUMBERS, REGISTERS}
+use Rattle.plain_state.specs.declared.sizes.TheConstants.{LAST_WORKER, MOST_INSTRS, MOST_ITEMS, MOST_MUTATORS, NUMBERS, REGISTERS}
 use Rattle.mutator_asm.specs.declared.instr.Instr.{Instr}
 use Rattle.mutator_asm.specs.declared.instr.Instr.TheVariants.{Li, Mov, Add, Sub, Mul, Div, Rem, Lt, Eq, Jmp, Jz, Jal, Jr, New, Raw, Mix, Weak, Ld, St, Cas, Len, Isp, Get, Put, Swap, Out, Snap, Halt}
 use Rattle.mutator_asm.specs.declared.item.Item.{Item}
-use Rattle.mutator_asm.specs.declared.item.TheConstants.{LAST_WORKER, TIMES_MAX}
+use Rattle.mutator_asm.specs.declared.item.TheConstants.{TIMES_MAX}
 use Rattle.mutator_asm.specs.declared.operand.Operand.{Operand}
 use Rattle.mutator_asm.specs.declared.operand.Operand.TheVariants.{Reg, Number}
 
@@ -26,9 +26,9 @@ abbrev pub is_operand : Operand → Bool
 is_operand (Reg r) = is_register r
 is_operand (Number n) = is_number n
 
--- a jump's target is at most 65,536, the most instructions that a text may have
+-- a jump's target is at most the number of instructions that a text may have
 abbrev pub is_target : ℕ → Bool
-is_target t = nat_le t 65536
+is_target t = nat_le t MOST_INSTRS
 
 -- each operand of an instruction is one that its place allows
 abbrev pub is_valid : Instr → Bool
@@ -80,9 +80,9 @@ is_item i = nat_le i.worker LAST_WORKER && nat_le 1 i.times && nat_le i.times TI
 -- what the program of any text is like
 pub record IsWellFormed (code : List (List Instr)) (schedule : List Item) : Type 0 where
   pub a_section : 1 ≤ length code
-  pub few_sections : length code ≤ 16
-  pub few_instrs : sum_by length code ≤ 65536
+  pub few_sections : length code ≤ MOST_MUTATORS
+  pub few_instrs : sum_by length code ≤ MOST_INSTRS
   pub instrs : IsTrue (list_all (list_all is_valid) code)
   pub targets : IsTrue (list_all is_closed code)
-  pub few_items : length schedule ≤ 65536
+  pub few_items : length schedule ≤ MOST_ITEMS
   pub items : IsTrue (list_all is_item schedule)

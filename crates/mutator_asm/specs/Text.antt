@@ -3,6 +3,7 @@ use Rattle.std.specs.Prelude.{◌≡◌, ℕ, ◌+◌, ◌<◌, ◌≤◌, ◌�
 use Rattle.std.specs.Option.{is_some}
 use Rattle.std.specs.List.{filter_map, flat_map, list_any, before_first, slice_split}
 use Rattle.std.specs.Str.{bytes_eq}
+use Rattle.plain_state.specs.declared.sizes.TheConstants.{MOST_INSTRS, MOST_ITEMS, MOST_MUTATORS}
 use Rattle.mutator_asm.specs.declared.instr.Instr.{Instr}
 use Rattle.mutator_asm.specs.declared.item.Item.{Item}
 use Rattle.mutator_asm.specs.declared.mistake.Mistake.{Mistake}
@@ -92,9 +93,9 @@ is_again earlier (Some label) = earlier label
 abbrev pub is_instr : Word → Bool
 is_instr word = has_instr word || is_bad NumberTooBig word
 
--- a schedule whose items are more than 65,536 with those before it
+-- a schedule whose items are too many with those before it
 abbrev pub is_overlong : ℕ → Word → Bool
-is_overlong before (Schedules items) = nat_lt 65536 (before + length items)
+is_overlong before (Schedules items) = nat_lt MOST_ITEMS (before + length items)
 is_overlong before _ = false
 
 -- the table of errors, by what is around a line: the labels of its section, those before it there, and how
@@ -106,8 +107,8 @@ error_by known earlier sections instrs items line =
     else (if is_lost known line.word then Some UnknownLabel
     else (if is_again earlier line.label then Some LabelTwice
     else (if (sections == 0) && (is_some line.label || is_instr line.word) then Some NoMutator
-    else (if is_begin line.word && nat_le 16 sections then Some TooManyMutators
-    else (if is_instr line.word && nat_le 65536 instrs then Some CodeTooLong
+    else (if is_begin line.word && nat_le MOST_MUTATORS sections then Some TooManyMutators
+    else (if is_instr line.word && nat_le MOST_INSTRS instrs then Some CodeTooLong
     else (if is_bad BadSchedule line.word || is_overlong items line.word then Some BadSchedule
     else (if is_bad NumberTooBig line.word then Some NumberTooBig
     else None))))))))

@@ -1,5 +1,6 @@
 -- What is proved of the grammar itself, and of listings.
 use Rattle.std.specs.Prelude.{◌≡◌, ℕ, ◌<◌, ◌⊎◌, List, Some, IsTrue}
+use Rattle.plain_state.specs.declared.sizes.TheConstants.{MOST_INSTRS}
 use Rattle.mutator_asm.specs.declared.instr.Instr.{Instr}
 use Rattle.mutator_asm.specs.declared.item.Item.{Item}
 use Rattle.mutator_asm.specs.Listing.{listing}
@@ -38,9 +39,9 @@ EachTextIsRead = (bytes : List ℕ) → Means bytes ⊎ TextHasFault bytes
 abbrev pub FetchesInstrs : Type 0
 FetchesInstrs = (code : List (List Instr)) (schedule : List Item) (mutator counter : ℕ) (instr : Instr) → IsWellFormed code schedule → instr_at code mutator counter ≡ Some instr → IsTrue (is_valid instr)
 
--- a well-formed program has no instruction from number 65,536 on
+-- a well-formed program has no instruction whose number is the most instructions of a text, or more
 abbrev pub FetchesEarly : Type 0
-FetchesEarly = (code : List (List Instr)) (schedule : List Item) (mutator counter : ℕ) (instr : Instr) → IsWellFormed code schedule → instr_at code mutator counter ≡ Some instr → counter < 65536
+FetchesEarly = (code : List (List Instr)) (schedule : List Item) (mutator counter : ℕ) (instr : Instr) → IsWellFormed code schedule → instr_at code mutator counter ≡ Some instr → counter < MOST_INSTRS
 
 -- the program of a text is well formed
 abbrev pub MeansWellFormed : Type 0

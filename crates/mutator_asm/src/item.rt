@@ -2,16 +2,13 @@
 
 use std::fmt;
 
-/// The last worker that may be named.
-pub const LAST_WORKER: u64 = 23;
-
 /// The most steps of an item.
 pub const TIMES_MAX: u64 = 1_000_000;
 
 /// So many steps, one after another, of one worker.
 #[derive(Clone, Copy, Debug, PartialEq, Eq)]
 pub struct Item {
-    /// The worker, 0 to 23.
+    /// The worker, at most `LAST_WORKER` of `plain_state`.
     pub worker: u8,
     /// How many steps it makes, 1 to 1,000,000.
     pub times: u32,

@@ -16,7 +16,7 @@ mod validity;
 
 pub use code::Code;
 pub use instr::Instr;
-pub use item::{Item, LAST_WORKER, TIMES_MAX};
+pub use item::{Item, TIMES_MAX};
 pub use jump::Jump;
 pub use laws::{fetched_instr, never_both, one_fault, one_program, some_reading};
 pub use mistake::Mistake;

@@ -5,10 +5,10 @@ ghost use Rattle.mutator_asm.specs.Program as program;
 
 use crate::instr::Instr;
 use crate::operand::Operand;
-use plain_state::{NUMBERS, REGISTERS};
+use plain_state::{MOST_INSTRS, NUMBERS, REGISTERS};
 
 /// The greatest target of a jump: a text has at most so many instructions.
-const LAST_TARGET: u32 = 65_536;
+const LAST_TARGET: u32 = MOST_INSTRS as u32;
 
 impl Instr {
     /// Whether each operand is one that its place allows: registers 0 to 7, numbers below 2^62, a jump's target at most 65,536.

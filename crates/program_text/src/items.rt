@@ -5,7 +5,8 @@ ghost use Rattle.std.specs.List.{position};
 ghost use Rattle.mutator_asm.specs.Item.{is_star, within, worker_item, times_of, item_from, item_of};
 
 use crate::text::token::number;
-use mutator_asm::{Item, LAST_WORKER, TIMES_MAX};
+use mutator_asm::{Item, TIMES_MAX};
+use plain_state::LAST_WORKER;
 
 /// The worker of this number.
 fn worker(token: &[u8]) -> Option<u8>

@@ -3,6 +3,7 @@
 ghost use Rattle.std.specs.Prelude.{◌≡◌, ◌<◌, ◌≤◌, ◌^◌, ◌||◌, ◌++◌, ℕ, IfOk, IfSome, IsTrue, OnOk, codes, length, option_map, slice_get};
 ghost use Rattle.std.specs.List.{flat_map};
 ghost use Rattle.std.specs.String.{string_bytes};
+ghost use Rattle.plain_state.specs.declared.sizes.TheConstants.{MOST_INSTRS};
 ghost use Rattle.program_text.specs.Labels.{KnowsTargets};
 ghost use Rattle.mutator_asm.specs.Listing.{end_if, instr_tokens, jump_target, label_if, leads_to, line_text, listing, schedule_lines, section_lines};
 ghost use Rattle.mutator_asm.specs.Program.{is_closed};
@@ -25,7 +26,7 @@ fn mark(targets: &mut Vec<bool>, instr: Instr)
 
 /// For each number of a section, and the one behind its last instruction, whether a jump leads there.
 fn targets(alloc: Global, section: &[Instr]) -> Result<Vec<bool>, NoMemory>
-    requires few { length section.now ≤ 65536 }
+    requires few { length section.now ≤ MOST_INSTRS }
     requires closed { IsTrue (is_closed section.now) }
     ensures { IfOk result (λ targets. KnowsTargets targets.items section.now) }
 {
@@ -67,7 +68,7 @@ fn push_end(out: &mut String, end: usize, is_target: bool) -> Result<(), NoMemor
 
 /// Adds the lines of a section.
 fn push_section(alloc: Global, out: &mut String, section: &[Instr]) -> Result<(), NoMemory>
-    requires few { length section.now ≤ 65536 }
+    requires few { length section.now ≤ MOST_INSTRS }
     requires closed { IsTrue (is_closed section.now) }
     ensures { OnOk result (string_bytes out.new ≡ string_bytes out.old ++ flat_map line_text (section_lines section.now)) }
 {

@@ -7,6 +7,7 @@ use Rattle.std.proofs.lemmas.Grind.{get_or_after_one}
 use Rattle.std.proofs.lemmas.List.{append-nil, append_assoc, length-append}
 use Rattle.std.proofs.lemmas.List.Elements.{All-head, All-tail}
 use Rattle.std.proofs.lemmas.List.Sums.{sum_by-cons}
+use Rattle.plain_state.specs.declared.sizes.TheConstants.{MOST_INSTRS, MOST_MUTATORS}
 use Rattle.mutator_asm.specs.declared.instr.Instr.{Instr}
 use Rattle.mutator_asm.specs.declared.item.Item.{Item}
 use Rattle.mutator_asm.specs.Line.{Nothing, Begins, Schedules, Line, unlabelled}
@@ -52,21 +53,21 @@ in_section lines front part line rest cut none row clean =
     rw place at (clean_next lines before line rest whole no_error (rw place clean))
 
 -- the lines of a section from one on
-body_clean : (lines front rest : List Line) (section : List Instr) (part todo : List Line) → lines ≡ front ++ (section_read section ++ rest) → is_closed section ≡ true → count_by counts front + length section ≤ 65536
+body_clean : (lines front rest : List Line) (section : List Instr) (part todo : List Line) → lines ≡ front ++ (section_read section ++ rest) → is_closed section ≡ true → count_by counts front + length section ≤ MOST_INSTRS
     → body_read section ≡ part ++ todo → All IsInSection todo → All (IsFound (section_no lines (count_by begins_section front + 1))) todo
     → IsCleanUpTo (length front + 1 + length part) lines → IsCleanUpTo (length front + 1 + length (body_read section)) lines
 body_clean lines front rest section part [] whole closed few cut inner found clean = rw (cut, append-nil part) clean
 body_clean lines front rest section part (line ∷ todo) whole closed few cut inner found clean =
     let section_lines = section_no lines (count_by begins_section front + 1) in
     let none : count_by begins_section part ≡ 0 = omega (arith, body_begins section, ap (count_by begins_section) cut, count_by-append begins_section part (line ∷ todo)) in
-    let room : count_by counts front + count_by counts part + cond (counts line) 1 0 ≤ 65536 = omega (arith, body_counts section closed (omega arith), ap (count_by counts) cut, count_by-append counts part (line ∷ todo), count_by-cons counts line todo) in
+    let room : count_by counts front + count_by counts part + cond (counts line) 1 0 ≤ MOST_INSTRS = omega (arith, body_counts section closed (omega arith), ap (count_by counts) cut, count_by-append counts part (line ∷ todo), count_by-cons counts line todo) in
     let here : lines ≡ front ++ (unlabelled (Begins true) ∷ (part ++ line ∷ (todo ++ rest))) = whole ∙ ap (λ (ls : List Line). front ++ (unlabelled (Begins true) ∷ (ls ++ rest))) cut ∙ ap (λ (ls : List Line). front ++ (unlabelled (Begins true) ∷ ls)) (append_assoc part (line ∷ todo) rest) in
     let row = λ (items : ℕ). section_row (has_label section_lines) (has_label part) (count_by begins_section front + 1) (count_by counts front + count_by counts part) items line.label line.word (All-head IsInSection line todo inner) (omega arith) room (All-head (IsFound section_lines) line todo found) (not_again section part todo line cut (omega arith)) in
     let next = in_section lines front part line (todo ++ rest) here none row clean in
     let place : length front + 1 + length part + 1 ≡ length front + 1 + length (part ++ line ∷ []) = omega (arith, length-append part (line ∷ [])) in
     body_clean lines front rest section (part ++ line ∷ []) todo whole closed few (cut ∙ sym (append_assoc part (line ∷ []) todo)) (All-tail IsInSection line todo inner) (All-tail (IsFound section_lines) line todo found) (rw place at next)
 
-section_clean : (lines front rest : List Line) (section : List Instr) → lines ≡ front ++ (section_read section ++ rest) → is_closed section ≡ true → count_by begins_section front < 16 → count_by counts front + length section ≤ 65536 → IsCleanUpTo (length front) lines → IsCleanUpTo (length (front ++ section_read section)) lines
+section_clean : (lines front rest : List Line) (section : List Instr) → lines ≡ front ++ (section_read section ++ rest) → is_closed section ≡ true → count_by begins_section front < MOST_MUTATORS → count_by counts front + length section ≤ MOST_INSTRS → IsCleanUpTo (length front) lines → IsCleanUpTo (length (front ++ section_read section)) lines
 section_clean lines front rest section whole closed place few clean =
     let begin = clean_next lines front (unlabelled (Begins true)) (body_read section ++ rest) whole (begin_row front (body_read section ++ rest) place) clean in
     let first : length front + 1 ≡ length front + 1 + 0 = omega arith in
@@ -76,7 +77,7 @@ section_clean lines front rest section whole closed place few clean =
 
 -- ---- all lines
 
-sections_clean : (lines front : List Line) (code : List (List Instr)) → lines ≡ front ++ (flat_map section_read code ++ unlabelled Nothing ∷ []) → list_all is_closed code ≡ true → count_by begins_section front + length code ≤ 16 → count_by counts front + sum_by length code ≤ 65536 → IsCleanUpTo (length front) lines → IsCleanUpTo (length lines) lines
+sections_clean : (lines front : List Line) (code : List (List Instr)) → lines ≡ front ++ (flat_map section_read code ++ unlabelled Nothing ∷ []) → list_all is_closed code ≡ true → count_by begins_section front + length code ≤ MOST_MUTATORS → count_by counts front + sum_by length code ≤ MOST_INSTRS → IsCleanUpTo (length front) lines → IsCleanUpTo (length lines) lines
 sections_clean lines front [] whole closed few room clean =
     let end : length front + 1 ≡ length lines = omega (arith, ap length whole, length-append front (unlabelled Nothing ∷ [])) in
     rw end at (clean_next lines front (unlabelled Nothing) [] whole (blank_row front []) clean)

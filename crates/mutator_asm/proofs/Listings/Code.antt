@@ -10,6 +10,7 @@ use Rattle.std.proofs.lemmas.List.Elements.{All-nil, All-cons, All-head, All-tai
 use Rattle.std.proofs.lemmas.List.Folds.{list_any_at}
 use Rattle.std.proofs.lemmas.List.Splits.{length-slice_split, slice_split_at, slice_split_none}
 use Rattle.std.proofs.lemmas.List.Sums.{sum_by-cons}
+use Rattle.plain_state.specs.declared.sizes.TheConstants.{MOST_INSTRS}
 use Rattle.mutator_asm.specs.declared.instr.Instr.{Instr}
 use Rattle.mutator_asm.specs.declared.instr.Instr.TheVariants.{Halt}
 use Rattle.mutator_asm.specs.declared.item.Item.{Item}
@@ -86,7 +87,7 @@ end_back : (target : List ℕ → ℕ) (section : List Instr) → filter_map (λ
 end_back target section = cond_both (is_target_in section (length section)) (label_line (length section) ∷ []) [] (λ ls. filter_map (λ (l : Line). instr_by target l.word) ls ≡ []) (λ e. refl) (λ e. refl)
 
 -- a closed section, of its lines and others that have no instruction
-section_back : (section : List Instr) (more : List Line) → is_closed section ≡ true → length section ≤ 65536 → ((target : List ℕ → ℕ) → filter_map (λ (l : Line). instr_by target l.word) more ≡ []) → section_of (body_read section ++ more) ≡ section
+section_back : (section : List Instr) (more : List Line) → is_closed section ≡ true → length section ≤ MOST_INSTRS → ((target : List ℕ → ℕ) → filter_map (λ (l : Line). instr_by target l.word) more ≡ []) → section_of (body_read section ++ more) ≡ section
 unfolding section_of
 section_back section more closed few none =
     let target = target_of (body_read section ++ more) in
@@ -94,14 +95,14 @@ section_back section more closed few none =
     let instrs = instrs_back target section 0 section (λ k instr lt. instr_back target _ (λ t e. target_is section t more closed few (list_any_at (leads_to t) section k instr lt e))) in
     rw (filter_map-append instr_of (body_read section) more, filter_map-append instr_of (instrs_read section 0 section) (end_read section), instrs, end_back target section, none target, append-nil section, append-nil section) refl
 
-section_whole : (section : List Instr) → is_closed section ≡ true → length section ≤ 65536 → section_of (body_read section) ≡ section
+section_whole : (section : List Instr) → is_closed section ≡ true → length section ≤ MOST_INSTRS → section_of (body_read section) ≡ section
 section_whole section closed few = ap section_of (sym (append-nil (body_read section))) ∙ section_back section [] closed few (λ target. refl)
 
 -- the lines of a closed section have its instructions
-pub body_counts : (section : List Instr) → is_closed section ≡ true → length section ≤ 65536 → count_by counts (body_read section) ≡ length section
+pub body_counts : (section : List Instr) → is_closed section ≡ true → length section ≤ MOST_INSTRS → count_by counts (body_read section) ≡ length section
 body_counts section closed few = sym (length_section (body_read section)) ∙ ap length (section_whole section closed few)
 
-sections_back : (section : List Instr) (code : List (List Instr)) → list_all is_closed (section ∷ code) ≡ true → sum_by length (section ∷ code) ≤ 65536 → map section_of (parts_from (body_read section) code) ≡ section ∷ code
+sections_back : (section : List Instr) (code : List (List Instr)) → list_all is_closed (section ∷ code) ≡ true → sum_by length (section ∷ code) ≤ MOST_INSTRS → map section_of (parts_from (body_read section) code) ≡ section ∷ code
 sections_back section [] closed few =
     let sum = sum_by-cons length section [] in
     ap (λ (s : List Instr). s ∷ []) (section_back section (unlabelled Nothing ∷ []) (and_parts _ _ closed).0 (omega arith) (λ target. refl))
@@ -110,7 +111,7 @@ sections_back section (next ∷ code) closed few =
     let sum = sum_by-cons length section (next ∷ code) in
     rw (section_whole section parts.0 (omega arith), sections_back next code parts.1 (omega arith)) refl
 
-code_back : (front : List Line) (code : List (List Instr)) → list_all is_closed code ≡ true → sum_by length code ≤ 65536 → map section_of (drop 1 (parts_from front code)) ≡ code
+code_back : (front : List Line) (code : List (List Instr)) → list_all is_closed code ≡ true → sum_by length code ≤ MOST_INSTRS → map section_of (drop 1 (parts_from front code)) ≡ code
 code_back front [] closed few = refl
 code_back front (section ∷ code) closed few = sections_back section code closed few
 

@@ -13,6 +13,7 @@ use Rattle.std.proofs.lemmas.List.Elements.{All-take}
 use Rattle.std.proofs.lemmas.List.Folds.{list_any_at, list_any_none, Any-from_list_any}
 use Rattle.std.proofs.lemmas.List.Sums.{AllPass-from_list_all, position_or_len_is}
 use Rattle.std.proofs.lemmas.Slice.Eq.{bytes_eq-Decides}
+use Rattle.plain_state.specs.declared.sizes.TheConstants.{MOST_INSTRS}
 use Rattle.mutator_asm.specs.declared.instr.Instr.{Instr}
 use Rattle.mutator_asm.specs.declared.instr.Instr.TheVariants.{Halt}
 use Rattle.mutator_asm.specs.Line.{Line}
@@ -25,7 +26,7 @@ use Rattle.mutator_asm.proofs.Lists.Tests.{count_by_all}
 -- ---- one label
 
 -- labels of two numbers differ
-names_apart : (j k : ℕ) → j ≤ 65536 → k ≤ 65536 → bytes_eq (label_name j) (label_name k) ≡ eqb j k
+names_apart : (j k : ℕ) → j ≤ MOST_INSTRS → k ≤ MOST_INSTRS → bytes_eq (label_name j) (label_name k) ≡ eqb j k
 names_apart j k few less =
     let same : label_name j ≡ label_name k → j ≡ k = λ e. let digits : decimal j ≡ decimal k = cc in decimal_injective j k (omega arith) (omega arith) digits in
     same_from_decides (bytes_eq (label_name j) (label_name k)) (eqb j k) (Decides-like (bytes_eq (label_name j) (label_name k)) same (ap label_name) (bytes_eq-Decides (label_name j) (label_name k))) (Decides-eqb j k)
@@ -34,14 +35,14 @@ label_if : (b : Bool) (label name : List ℕ) → is_label name (cond b (Some la
 label_if true label name = refl
 label_if false label name = refl
 
-label_is : (section : List Instr) (j k : ℕ) → j ≤ 65536 → k ≤ 65536 → is_label (label_name k) (label_read section j) ≡ (is_target_in section j && eqb j k)
+label_is : (section : List Instr) (j k : ℕ) → j ≤ MOST_INSTRS → k ≤ MOST_INSTRS → is_label (label_name k) (label_read section j) ≡ (is_target_in section j && eqb j k)
 label_is section j k few less = label_if (is_target_in section j) (label_name j) (label_name k) ∙ ap (λ b. is_target_in section j && b) (names_apart j k few less)
 
-label_own : (section : List Instr) (k : ℕ) → k ≤ 65536 → is_target_in section k ≡ true → is_label (label_name k) (label_read section k) ≡ true
+label_own : (section : List Instr) (k : ℕ) → k ≤ MOST_INSTRS → is_target_in section k ≡ true → is_label (label_name k) (label_read section k) ≡ true
 label_own section k few target = label_is section k k few few ∙ and_from (is_target_in section k) (eqb k k) target (eq-eqb k k refl)
 
 -- the label of an earlier number is another
-label_other : (section : List Instr) (j k : ℕ) → j < k → k ≤ 65536 → is_label (label_name k) (label_read section j) ≡ false
+label_other : (section : List Instr) (j k : ℕ) → j < k → k ≤ MOST_INSTRS → is_label (label_name k) (label_read section j) ≡ false
 label_other section j k less few = label_is section j k (omega arith) few ∙ and_right (is_target_in section j) (eqb j k) (ne_eqb j k (λ e. omega arith))
 
 -- ---- the labels of lines
@@ -77,11 +78,11 @@ body_label section i d lt =
     ]
 
 -- which is not that of a later place
-body_other : (section : List Instr) (i k : ℕ) (d : Line) → i < k → k ≤ 65536 → i < length (body_read section) → defines (label_name k) (get_or (body_read section) i d) ≡ false
+body_other : (section : List Instr) (i k : ℕ) (d : Line) → i < k → k ≤ MOST_INSTRS → i < length (body_read section) → defines (label_name k) (get_or (body_read section) i d) ≡ false
 body_other section i k d less few lt = ap (is_label (label_name k)) (body_label section i d lt) ∙ label_other section i k less few
 
 -- no label of a section stands there twice
-pub not_again : (section : List Instr) (part rest : List Line) (line : Line) → body_read section ≡ part ++ line ∷ rest → length section ≤ 65536 → is_again (has_label part) line.label ≡ false
+pub not_again : (section : List Instr) (part rest : List Line) (line : Line) → body_read section ≡ part ++ line ∷ rest → length section ≤ MOST_INSTRS → is_again (has_label part) line.label ≡ false
 not_again section part rest line cut few =
     let n = length part in
     let test = defines (label_name n) in
@@ -122,7 +123,7 @@ target_within n t instrs h e =
     leads_le n t found.1 (rw found.3 at (AllPass-from_list_all (leads_within n) instrs h found.0 found.1 found.2)) found.4
 
 -- the label to which a jump of a closed section leads stands before the instruction of its number
-target_stands : (section : List Instr) (t : ℕ) (more : List Line) → is_closed section ≡ true → length section ≤ 65536 → is_target_in section t ≡ true → StandsBehind (body_read section ++ more) (label_name t) t
+target_stands : (section : List Instr) (t : ℕ) (more : List Line) → is_closed section ≡ true → length section ≤ MOST_INSTRS → is_target_in section t ≡ true → StandsBehind (body_read section ++ more) (label_name t) t
 target_stands section t more closed few target =
     let body = body_read section in
     let instrs = instrs_read section 0 section in
@@ -142,7 +143,7 @@ target_stands section t more closed few target =
       behind = ap (count_by counts) before ∙ count_by_all counts (take t instrs) (All-take (λ l. counts l ≡ true) t instrs all) ∙ length-take-le t instrs (omega arith);
     }
 
-pub target_is : (section : List Instr) (t : ℕ) (more : List Line) → is_closed section ≡ true → length section ≤ 65536 → is_target_in section t ≡ true → target_of (body_read section ++ more) (label_name t) ≡ t
+pub target_is : (section : List Instr) (t : ℕ) (more : List Line) → is_closed section ≡ true → length section ≤ MOST_INSTRS → is_target_in section t ≡ true → target_of (body_read section ++ more) (label_name t) ≡ t
 target_is section t more closed few target =
     let stands = target_stands section t more closed few target in
     cond-true (has_label (body_read section ++ more) (label_name t)) _ 0 stands.there ∙ stands.behind
@@ -158,7 +159,7 @@ abbrev pub IsFound : List Line → Line → Type 0
 IsFound lines line = is_lost (has_label lines) line.word ≡ false
 
 -- each jump of a closed section leads to a label of it
-pub body_found : (section : List Instr) (more : List Line) → is_closed section ≡ true → length section ≤ 65536 → All (IsFound (body_read section ++ more)) (body_read section)
+pub body_found : (section : List Instr) (more : List Line) → is_closed section ≡ true → length section ≤ MOST_INSTRS → All (IsFound (body_read section ++ more)) (body_read section)
 body_found section more closed few =
     let known = has_label (body_read section ++ more) in
     body_words (λ word. is_lost known word ≡ false) section refl (λ k instr lt. known_word known _ (λ t e. (target_stands section t more closed few (list_any_at (leads_to t) section k instr lt e)).there))

@@ -8,6 +8,7 @@ use Rattle.std.proofs.lemmas.List.{length-append, length-map, map-append}
 use Rattle.std.proofs.lemmas.List.Concat.{flat_map-append}
 use Rattle.std.proofs.lemmas.List.Folds.{list_all-append, list_all-map}
 use Rattle.std.proofs.lemmas.List.Sums.{sum_by-cons}
+use Rattle.plain_state.specs.declared.sizes.TheConstants.{MOST_INSTRS}
 use Rattle.mutator_asm.specs.declared.instr.Instr.{Instr}
 use Rattle.mutator_asm.specs.declared.instr.Instr.TheVariants.{Halt}
 use Rattle.mutator_asm.specs.declared.item.Item.{Item}
@@ -72,30 +73,30 @@ more_lines {xs} {ys} p q le = record {
 labelled_reread : (k : ℕ) (rest : List (List ℕ)) → k < 2 ^ 64 → line_from ((label_name k ++ codes ":") ∷ rest) ≡ record { label = Some (label_name k); word = labelled_of rest }
 labelled_reread k rest h = rw (label_reread (label_name k) (label_is_name k h)) refl
 
-instr_listed : (b : Bool) (k : ℕ) (instr : Instr) → k ≤ 65536 → is_valid instr ≡ true → IsListing ((label_if b k ++ instr_tokens instr) ∷ []) (record { label = cond b (Some (label_name k)) None; word = instr_word instr } ∷ []) 176
+instr_listed : (b : Bool) (k : ℕ) (instr : Instr) → k ≤ MOST_INSTRS → is_valid instr ≡ true → IsListing ((label_if b k ++ instr_tokens instr) ∷ []) (record { label = cond b (Some (label_name k)) None; word = instr_word instr } ∷ []) 176
 instr_listed true k instr le valid =
     one_line ((label_name k ++ codes ":") ∷ instr_tokens instr) _ 176 (omega (arith, instr_few instr)) (and_from _ _ (label_is_token k le) (instr_is_tokens instr valid))
     (labelled_reread k (instr_tokens instr) (omega arith) ∙ ap (λ word. record { label = Some (label_name k); word = word }) (instr_reread instr valid))
 instr_listed false k instr le valid = one_line (instr_tokens instr) _ 176 (omega (arith, instr_few instr)) (instr_is_tokens instr valid) (plain_from instr ∙ ap unlabelled (instr_reread instr valid))
 
 -- the lines of a section's instructions from number k on
-instrs_listed : (section : List Instr) (k : ℕ) (instrs : List Instr) → list_all is_valid instrs ≡ true → k + length instrs ≤ 65536 → IsListing (instr_lines section k instrs) (instrs_read section k instrs) (176 * length instrs)
+instrs_listed : (section : List Instr) (k : ℕ) (instrs : List Instr) → list_all is_valid instrs ≡ true → k + length instrs ≤ MOST_INSTRS → IsListing (instr_lines section k instrs) (instrs_read section k instrs) (176 * length instrs)
 instrs_listed section k [] valid few = no_lines (176 * 0)
 instrs_listed section k (instr ∷ instrs) valid few =
     let parts = and_parts (is_valid instr) (list_all is_valid instrs) valid in
     more_lines (instr_listed (is_target_in section k) k instr (omega arith) parts.0) (instrs_listed section (k + 1) instrs parts.1 (omega arith)) (omega arith)
 
-end_listed : (b : Bool) (k : ℕ) → k ≤ 65536 → IsListing (end_if b k) (cond b (label_line k ∷ []) []) 26
+end_listed : (b : Bool) (k : ℕ) → k ≤ MOST_INSTRS → IsListing (end_if b k) (cond b (label_line k ∷ []) []) 26
 end_listed true k le = one_line ((label_name k ++ codes ":") ∷ []) _ 26 (omega arith) (and_from _ true (label_is_token k le) refl) (labelled_reread k [] (omega arith))
 end_listed false k le = no_lines 26
 
-section_listed : (section : List Instr) → list_all is_valid section ≡ true → length section ≤ 65536 → IsListing (section_lines section) (section_read section) (176 * length section + 52)
+section_listed : (section : List Instr) → list_all is_valid section ≡ true → length section ≤ MOST_INSTRS → IsListing (section_lines section) (section_read section) (176 * length section + 52)
 section_listed section valid few =
     let begin : IsListing ((codes ".mutator" ∷ []) ∷ []) (unlabelled (Begins true) ∷ []) 26 = one_line (codes ".mutator" ∷ []) (unlabelled (Begins true)) 26 (omega arith) refl refl in
     let body : IsListing (instr_lines section 0 section ++ end_lines section) (body_read section) (176 * length section + 26) = more_lines (instrs_listed section 0 section valid (omega arith)) (end_listed (is_target_in section (length section)) (length section) few) (omega arith) in
     more_lines begin body (omega arith)
 
-code_listed : (code : List (List Instr)) → list_all (list_all is_valid) code ≡ true → sum_by length code ≤ 65536 → IsListing (flat_map section_lines code) (flat_map section_read code) (176 * sum_by length code + 52 * length code)
+code_listed : (code : List (List Instr)) → list_all (list_all is_valid) code ≡ true → sum_by length code ≤ MOST_INSTRS → IsListing (flat_map section_lines code) (flat_map section_read code) (176 * sum_by length code + 52 * length code)
 code_listed [] valid few = no_lines _
 code_listed (section ∷ code) valid few =
     let parts = and_parts (list_all is_valid section) (list_all (list_all is_valid) code) valid in

@@ -11,6 +11,8 @@ use Rattle.std.proofs.lemmas.List.{length-append}
 use Rattle.std.proofs.lemmas.List.Folds.{list_any-append, list_any_none}
 use Rattle.std.proofs.lemmas.Fmt.{decimal_is_IsNumeral, decimal_nonempty, decimal_digit}
 use Rattle.std.proofs.lemmas.Str.Parse.{digit_at}
+use Rattle.plain_state.specs.declared.sizes.TheConstants.{LAST_WORKER}
+use Rattle.mutator_asm.specs.declared.item.TheConstants.{TIMES_MAX}
 use Rattle.mutator_asm.specs.declared.item.Item.{Item}
 use Rattle.mutator_asm.specs.declared.mistake.Mistake.TheVariants.{BadOperand}
 use Rattle.mutator_asm.specs.declared.operand.Operand.{Operand}
@@ -96,11 +98,11 @@ within_reread : (low high n : ℕ) → low ≤ n → n ≤ high → high < 2 ^ 6
 within_reread low high n le most small =
     rw (number_reread n (lt-ltb n (2 ^ 62) (omega (arith, most, small))), le-leb low n le, le-leb n high most) refl
 
-one_step : (worker times : ℕ) → worker ≤ 23 → times ≡ 1 → item_of (decimal worker) ≡ Some (record { worker = worker; times = times })
+one_step : (worker times : ℕ) → worker ≤ LAST_WORKER → times ≡ 1 → item_of (decimal worker) ≡ Some (record { worker = worker; times = times })
 unfolding item_of
-one_step worker times few one = rw (no_star worker (omega (arith, few)), within_reread 0 23 worker (omega arith) few (omega arith), one) refl
+one_step worker times few one = rw (no_star worker (omega (arith, few)), within_reread 0 LAST_WORKER worker (omega arith) few (omega arith), one) refl
 
-some_steps : (worker times : ℕ) → worker ≤ 23 → 1 ≤ times → times ≤ 1000000 → item_of (decimal worker ++ 42 ∷ decimal times) ≡ Some (record { worker = worker; times = times })
+some_steps : (worker times : ℕ) → worker ≤ LAST_WORKER → 1 ≤ times → times ≤ TIMES_MAX → item_of (decimal worker ++ 42 ∷ decimal times) ≡ Some (record { worker = worker; times = times })
 unfolding item_of
 some_steps worker times few some most =
     let none = no_star worker (omega (arith, few)) in
@@ -109,17 +111,17 @@ some_steps worker times few some most =
       starred,
       before_behind is_star (decimal worker) 42 (decimal times) none refl,
       after_behind is_star (decimal worker) 42 (decimal times) none refl,
-      within_reread 0 23 worker (omega arith) few (omega arith),
-      within_reread 1 1000000 times some most (omega arith),
+      within_reread 0 LAST_WORKER worker (omega arith) few (omega arith),
+      within_reread 1 TIMES_MAX times some most (omega arith),
     ) refl
 
 -- an item's token says the item
 pub item_reread : (item : Item) → is_item item ≡ true → item_of (item_token item) ≡ Some item
 item_reread item h =
-    let parts = three_parts (leb item.worker 23) (leb 1 item.times) (leb item.times 1000000) h in
-    let few = leb-true item.worker 23 parts.0 in
+    let parts = three_parts (leb item.worker LAST_WORKER) (leb 1 item.times) (leb item.times TIMES_MAX) h in
+    let few = leb-true item.worker LAST_WORKER parts.0 in
     let some = leb-true 1 item.times parts.1 in
-    let most = leb-true item.times 1000000 parts.2 in
+    let most = leb-true item.times TIMES_MAX parts.2 in
     cond_both (eqb item.times 1) (decimal item.worker) (decimal item.worker ++ codes "*" ++ decimal item.times) (λ t. item_of t ≡ Some item)
     (λ e. one_step item.worker item.times few (eqb-true item.times 1 e))
     (λ e. ap item_of (append_assoc (decimal item.worker) (codes "*") (decimal item.times)) ∙ some_steps item.worker item.times few some most)

@@ -8,6 +8,8 @@ use Rattle.std.proofs.lemmas.Bool.Decides.{nat_tests}
 use Rattle.std.proofs.lemmas.Fmt.{decimal_nonempty, length-decimal-le}
 use Rattle.std.proofs.lemmas.List.{length-append}
 use Rattle.std.proofs.lemmas.List.Folds.{list_all-append}
+use Rattle.plain_state.specs.declared.sizes.TheConstants.{LAST_WORKER, MOST_INSTRS}
+use Rattle.mutator_asm.specs.declared.item.TheConstants.{TIMES_MAX}
 use Rattle.mutator_asm.specs.declared.instr.Instr.{Instr}
 use Rattle.mutator_asm.specs.declared.instr.Instr.TheVariants.{Halt}
 use Rattle.mutator_asm.specs.declared.item.Item.{Item}
@@ -62,22 +64,22 @@ operand_is_token : (x : Operand) → is_operand x ≡ true → is_token (operand
 operand_is_token (Reg r) h = register_is_token r h
 operand_is_token (Number n) h = number_is_token n h
 
-name_piece : (k : ℕ) → k ≤ 65536 → IsPiece (label_name k) 6
+name_piece : (k : ℕ) → k ≤ MOST_INSTRS → IsPiece (label_name k) 6
 name_piece k le = two_pieces (letter 76 refl) (number_piece k 5 (omega arith) (omega arith) (omega arith))
 
 target_is_token : (t : ℕ) → is_target t ≡ true → is_token (label_name t) ≡ true
-target_is_token t h = token_from (name_piece t (leb-true t 65536 h)) (omega arith)
+target_is_token t h = token_from (name_piece t (leb-true t MOST_INSTRS h)) (omega arith)
 
-pub label_is_token : (k : ℕ) → k ≤ 65536 → is_token (label_name k ++ codes ":") ≡ true
+pub label_is_token : (k : ℕ) → k ≤ MOST_INSTRS → is_token (label_name k ++ codes ":") ≡ true
 label_is_token k le = token_from (two_pieces (name_piece k le) (letter 58 refl)) (omega arith)
 
 -- ---- items and instructions
 
 pub item_is_token : (item : Item) → is_item item ≡ true → is_token (item_token item) ≡ true
 item_is_token item h =
-    let parts = three_parts (leb item.worker 23) (leb 1 item.times) (leb item.times 1000000) h in
-    let few = leb-true item.worker 23 parts.0 in
-    let most = leb-true item.times 1000000 parts.2 in
+    let parts = three_parts (leb item.worker LAST_WORKER) (leb 1 item.times) (leb item.times TIMES_MAX) h in
+    let few = leb-true item.worker LAST_WORKER parts.0 in
+    let most = leb-true item.times TIMES_MAX parts.2 in
     let worker = number_piece item.worker 2 (omega arith) (omega arith) (omega arith) in
     let times = number_piece item.times 7 (omega arith) (omega arith) (omega arith) in
     if_passes is_token (eqb item.times 1) (decimal item.worker) (decimal item.worker ++ codes "*" ++ decimal item.times) (token_from worker (omega arith)) (token_from (two_pieces (two_pieces worker (letter 42 refl)) times) (omega arith))

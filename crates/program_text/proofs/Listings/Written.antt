@@ -5,6 +5,7 @@ use Rattle.std.proofs.lemmas.List.{at_drop_more, at_drop_all}
 use Rattle.std.proofs.lemmas.List.Concat.{flat_map-append}
 use Rattle.std.proofs.lemmas.List.Sums.{AllPass-from_list_all, get_or-le-sum_by}
 use Rattle.std.proofs.lemmas.Option.{get_or_from_slice_get}
+use Rattle.plain_state.specs.declared.sizes.TheConstants.{MOST_INSTRS}
 use Rattle.mutator_asm.specs.declared.instr.Instr.{Instr}
 use Rattle.mutator_asm.specs.declared.item.Item.{Item}
 use Rattle.program_text.specs.Labels.{KnowsTargets}
@@ -65,7 +66,7 @@ schedule_text (item ∷ more) i start first old new some le behind so_far wrote 
 -- ---- all sections
 
 -- a section of a program has few instructions
-pub section_few : (code : List (List Instr)) (k : ℕ) (section d : List Instr) → section ≡ get_or code k d → k < length code → sum_by length code ≤ 65536 → length section ≤ 65536
+pub section_few : (code : List (List Instr)) (k : ℕ) (section d : List Instr) → section ≡ get_or code k d → k < length code → sum_by length code ≤ MOST_INSTRS → length section ≤ MOST_INSTRS
 section_few code k section d is lt few = omega (arith, get_or-le-sum_by length code k d lt, ap length is)
 
 -- and its jumps stay in it

@@ -7,6 +7,7 @@ use Rattle.std.proofs.lemmas.List.{length-map, length-drop, take_all}
 use Rattle.std.proofs.lemmas.List.Folds.{list_all-append}
 use Rattle.std.proofs.lemmas.List.Splits.{length-slice_split}
 use Rattle.std.proofs.lemmas.List.Sums.{sum_by-cons, sum_by-take-le, count_by-le-length}
+use Rattle.plain_state.specs.declared.sizes.TheConstants.{MOST_INSTRS}
 use Rattle.mutator_asm.specs.declared.instr.Instr.{Instr}
 use Rattle.mutator_asm.specs.declared.instr.Instr.TheVariants.{Jmp, Jz, Jal}
 use Rattle.mutator_asm.specs.declared.item.Item.{Item}
@@ -41,19 +42,19 @@ plain_leads n (Jz a t) h = absurd cc
 plain_leads n (Jal d t) h = absurd cc
 plain_leads n _ h = refl
 
-jump_fine : (n t : ℕ) (jump : Jump) → is_jump_valid jump ≡ true → t ≤ n → n ≤ 65536 → is_fine n (jump_to jump t) ≡ true
+jump_fine : (n t : ℕ) (jump : Jump) → is_jump_valid jump ≡ true → t ≤ n → n ≤ MOST_INSTRS → is_fine n (jump_to jump t) ≡ true
 unfolding is_fine
-jump_fine n t Always h le few = and_from _ _ (le-leb t 65536 (omega arith)) (le-leb t n le)
-jump_fine n t (IfZero a) h le few = and_from _ _ (and_from _ _ h (le-leb t 65536 (omega arith))) (le-leb t n le)
-jump_fine n t (Link d) h le few = and_from _ _ (and_from _ _ h (le-leb t 65536 (omega arith))) (le-leb t n le)
+jump_fine n t Always h le few = and_from _ _ (le-leb t MOST_INSTRS (omega arith)) (le-leb t n le)
+jump_fine n t (IfZero a) h le few = and_from _ _ (and_from _ _ h (le-leb t MOST_INSTRS (omega arith))) (le-leb t n le)
+jump_fine n t (Link d) h le few = and_from _ _ (and_from _ _ h (le-leb t MOST_INSTRS (omega arith))) (le-leb t n le)
 
-word_fine : (n : ℕ) (t : List ℕ → ℕ) (w : Word) (instrs : List Instr) → is_sound w ≡ true → ((q : List ℕ) → t q ≤ n) → n ≤ 65536 → list_all (is_fine n) instrs ≡ true → list_all (is_fine n) (cons_option (instr_by t w) instrs) ≡ true
+word_fine : (n : ℕ) (t : List ℕ → ℕ) (w : Word) (instrs : List Instr) → is_sound w ≡ true → ((q : List ℕ) → t q ≤ n) → n ≤ MOST_INSTRS → list_all (is_fine n) instrs ≡ true → list_all (is_fine n) (cons_option (instr_by t w) instrs) ≡ true
 unfolding is_fine
 word_fine n t (Does instr) instrs h le few rest = let parts = and_parts _ _ h in and_from _ _ (and_from _ _ parts.1 (plain_leads n instr parts.0)) rest
 word_fine n t (Jumps jump label) instrs h le few rest = and_from _ _ (jump_fine n (t label) jump h (le label) few) rest
 word_fine n t _ instrs h le few rest = rest
 
-fine_by : (n : ℕ) (t : List ℕ → ℕ) (lines : List Line) → list_all is_sound_line lines ≡ true → ((q : List ℕ) → t q ≤ n) → n ≤ 65536 → list_all (is_fine n) (filter_map (λ l. instr_by t l.word) lines) ≡ true
+fine_by : (n : ℕ) (t : List ℕ → ℕ) (lines : List Line) → list_all is_sound_line lines ≡ true → ((q : List ℕ) → t q ≤ n) → n ≤ MOST_INSTRS → list_all (is_fine n) (filter_map (λ l. instr_by t l.word) lines) ≡ true
 fine_by n t [] h le few = refl
 fine_by n t (line ∷ lines) h le few = let parts = and_parts _ _ h in word_fine n t line.word _ parts.0 le few (fine_by n t lines parts.1 le few)
 
@@ -62,7 +63,7 @@ record IsGood (section : List Instr) : Type 0 where
   valid : list_all is_valid section ≡ true
   closed : is_closed section ≡ true
 
-section_good : (lines : List Line) → list_all is_sound_line lines ≡ true → count_by counts lines ≤ 65536 → IsGood (section_of lines)
+section_good : (lines : List Line) → list_all is_sound_line lines ≡ true → count_by counts lines ≤ MOST_INSTRS → IsGood (section_of lines)
 unfolding section_of is_fine
 section_good lines h few =
     let n = count_by counts lines in
@@ -116,7 +117,7 @@ record AreGood (code : List (List Instr)) : Type 0 where
   valid : list_all (list_all is_valid) code ≡ true
   closed : list_all is_closed code ≡ true
 
-sections_good : (parts : List (List Line)) → list_all (list_all is_sound_line) parts ≡ true → sum_by (count_by counts) parts ≤ 65536 → AreGood (map section_of parts)
+sections_good : (parts : List (List Line)) → list_all (list_all is_sound_line) parts ≡ true → sum_by (count_by counts) parts ≤ MOST_INSTRS → AreGood (map section_of parts)
 sections_good [] h few = record { valid = refl; closed = refl }
 sections_good (part ∷ parts) h few =
     let sound = and_parts _ _ h in
@@ -150,7 +151,7 @@ well_formed text lines e clean begun =
     let parts = slice_split begins_section lines in
     let limits = rw (take_all (length lines) lines (omega arith)) at (within_up_to lines (length lines) (length lines) (omega arith) (omega arith) clean) in
     let sections : length (map section_of (drop 1 parts)) ≡ count_by begins_section lines = omega (arith, length-map (drop 1 parts) section_of, length-drop 1 parts, length-slice_split begins_section lines) in
-    let few : sum_by (count_by counts) (drop 1 parts) ≤ 65536 = omega (arith, rest_sum parts, split_sum lines, limits.instrs) in
+    let few : sum_by (count_by counts) (drop 1 parts) ≤ MOST_INSTRS = omega (arith, rest_sum parts, split_sum lines, limits.instrs) in
     let sound : list_all is_sound_line lines ≡ true = rw e (lines_sound text) in
     let good = sections_good (drop 1 parts) (rest_all (list_all is_sound_line) parts (split_all is_sound_line begins_section lines sound)) few in
     record {

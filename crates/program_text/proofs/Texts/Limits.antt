@@ -3,6 +3,7 @@ use Rattle.std.proofs.Common.{◌≡◌, ℕ, zero, suc, ◌+◌, ◌<◌, ◌�
 use Rattle.std.specs.Option.{is_some}
 use Rattle.std.proofs.lemmas.Bool.{or_parts, leb-false, ltb-false}
 use Rattle.std.proofs.lemmas.List.{get_or_default}
+use Rattle.plain_state.specs.declared.sizes.TheConstants.{MOST_INSTRS, MOST_ITEMS, MOST_MUTATORS}
 use Rattle.program_text.specs.declared.text.before.Before.{Before}
 use Rattle.mutator_asm.specs.declared.mistake.Mistake.{Mistake}
 use Rattle.mutator_asm.specs.declared.mistake.Mistake.TheVariants.{UnknownInstr, BadOperand, UnknownLabel, LabelTwice, NoMutator, TooManyMutators, CodeTooLong, BadSchedule, NumberTooBig}
@@ -20,8 +21,8 @@ row false mistake later e = (refl, e)
 
 -- the rows with a limit don't hold
 record NoneTooMany (before : Before) (line : Line) : Type 0 where
-  sections : (is_begin line.word && leb 16 before.sections) ≡ false
-  instrs : (is_instr line.word && leb 65536 before.instrs) ≡ false
+  sections : (is_begin line.word && leb MOST_MUTATORS before.sections) ≡ false
+  instrs : (is_instr line.word && leb MOST_INSTRS before.instrs) ≡ false
   items : is_overlong before.items line.word ≡ false
 
 none_too_many : (known earlier : List ℕ → Bool) (before : Before) (line : Line) → error_by known earlier before.sections before.instrs before.items line ≡ None → NoneTooMany before line
@@ -31,29 +32,29 @@ none_too_many known earlier before line e =
     let third = row (is_lost known line.word) UnknownLabel _ second.1 in
     let fourth = row (is_again earlier line.label) LabelTwice _ third.1 in
     let fifth = row (eqb before.sections 0 && (is_some line.label || is_instr line.word)) NoMutator _ fourth.1 in
-    let sixth = row (is_begin line.word && leb 16 before.sections) TooManyMutators _ fifth.1 in
-    let seventh = row (is_instr line.word && leb 65536 before.instrs) CodeTooLong _ sixth.1 in
+    let sixth = row (is_begin line.word && leb MOST_MUTATORS before.sections) TooManyMutators _ fifth.1 in
+    let seventh = row (is_instr line.word && leb MOST_INSTRS before.instrs) CodeTooLong _ sixth.1 in
     let eighth = row (is_bad BadSchedule line.word || is_overlong before.items line.word) BadSchedule _ seventh.1 in
     record { sections = sixth.0; instrs = seventh.0; items = (or_parts (is_bad BadSchedule line.word) (is_overlong before.items line.word) eighth.0).1 }
 
-few_sections : (b : Bool) (n : ℕ) → (b && leb 16 n) ≡ false → n ≤ 16 → n + cond b 1 0 ≤ 16
-few_sections true n e h = let less = leb-false 16 n e in omega arith
+few_sections : (b : Bool) (n : ℕ) → (b && leb MOST_MUTATORS n) ≡ false → n ≤ MOST_MUTATORS → n + cond b 1 0 ≤ MOST_MUTATORS
+few_sections true n e h = let less = leb-false MOST_MUTATORS n e in omega arith
 few_sections false n e h = omega arith
 
-few_instrs : (a b : Bool) (n : ℕ) → ((a || b) && leb 65536 n) ≡ false → n ≤ 65536 → n + cond a 1 0 ≤ 65536
-few_instrs true b n e h = let less = leb-false 65536 n e in omega arith
+few_instrs : (a b : Bool) (n : ℕ) → ((a || b) && leb MOST_INSTRS n) ≡ false → n ≤ MOST_INSTRS → n + cond a 1 0 ≤ MOST_INSTRS
+few_instrs true b n e h = let less = leb-false MOST_INSTRS n e in omega arith
 few_instrs false b n e h = omega arith
 
-few_items : (n : ℕ) (w : Word) → is_overlong n w ≡ false → n ≤ 65536 → n + length (items_in w) ≤ 65536
-few_items n (Schedules items) e h = ltb-false 65536 (n + length items) e
+few_items : (n : ℕ) (w : Word) → is_overlong n w ≡ false → n ≤ MOST_ITEMS → n + length (items_in w) ≤ MOST_ITEMS
+few_items n (Schedules items) e h = ltb-false MOST_ITEMS (n + length items) e
 few_items n _ e h = omega arith
 
 -- ---- lines without an error
 
 pub record IsWithinLimits (before : Before) : Type 0 where
-  pub sections : before.sections ≤ 16
-  pub instrs : before.instrs ≤ 65536
-  pub items : before.items ≤ 65536
+  pub sections : before.sections ≤ MOST_MUTATORS
+  pub instrs : before.instrs ≤ MOST_INSTRS
+  pub items : before.items ≤ MOST_ITEMS
 
 pub within_step : (known earlier : List ℕ → Bool) (before : Before) (line : Line) → error_by known earlier before.sections before.instrs before.items line ≡ None → IsWithinLimits before → IsWithinLimits (and_line before line)
 within_step known earlier before line e h =

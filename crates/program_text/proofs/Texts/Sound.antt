@@ -5,6 +5,8 @@ use Rattle.std.specs.Str.{bytes_eq}
 use Rattle.std.specs.Str.Parse.{digits_value}
 use Rattle.std.specs.Prelude.{codes}
 use Rattle.std.proofs.lemmas.Bool.{and_parts, and_from, cond_both, lt-ltb, leb-true}
+use Rattle.plain_state.specs.declared.sizes.TheConstants.{LAST_WORKER}
+use Rattle.mutator_asm.specs.declared.item.TheConstants.{TIMES_MAX}
 use Rattle.mutator_asm.specs.declared.instr.Instr.{Instr}
 use Rattle.mutator_asm.specs.declared.instr.Instr.TheVariants.{Li, Mov, Add, Sub, Mul, Div, Rem, Lt, Eq, Jmp, Jz, Jal, Jr, New, Raw, Mix, Weak, Ld, St, Cas, Len, Isp, Get, Put, Swap, Out, Snap, Halt}
 use Rattle.mutator_asm.specs.declared.jump.Jump.{Jump}
@@ -208,10 +210,10 @@ within_good : (low high : ℕ) (r : Result ℕ Mistake) → good_some (λ n. leb
 within_good low high (Ok n) = cond_both (leb low n && leb n high) (Some n) None (λ o. good_some (λ m. leb low m && leb m high) o ≡ true) (λ e. e) (λ e. refl)
 within_good low high (Err mistake) = refl
 
-item_good : (worker times : Option ℕ) → good_some (λ n. leb 0 n && leb n 23) worker ≡ true → good_some (λ n. leb 1 n && leb n 1000000) times ≡ true → good_some is_item (item_from worker times) ≡ true
+item_good : (worker times : Option ℕ) → good_some (λ n. leb 0 n && leb n LAST_WORKER) worker ≡ true → good_some (λ n. leb 1 n && leb n TIMES_MAX) times ≡ true → good_some is_item (item_from worker times) ≡ true
 item_good (Some worker) (Some times) h k =
-    let few = and_parts (leb 0 worker) (leb worker 23) h in
-    let room = and_parts (leb 1 times) (leb times 1000000) k in
+    let few = and_parts (leb 0 worker) (leb worker LAST_WORKER) h in
+    let room = and_parts (leb 1 times) (leb times TIMES_MAX) k in
     and_from _ _ (and_from _ _ few.1 room.0) room.1
 item_good _ _ h k = refl
 
@@ -219,8 +221,8 @@ item_sound : (t : List ℕ) → good_some is_item (item_of t) ≡ true
 unfolding item_of
 item_sound t =
     if_passes (good_some is_item) (list_any is_star t) _ _
-    (item_good (worker_item (before_first is_star t)) (times_of (after_first is_star t)) (within_good 0 23 (number_of (before_first is_star t))) (within_good 1 1000000 (number_of (after_first is_star t))))
-    (item_good (worker_item t) (Some 1) (within_good 0 23 (number_of t)) refl)
+    (item_good (worker_item (before_first is_star t)) (times_of (after_first is_star t)) (within_good 0 LAST_WORKER (number_of (before_first is_star t))) (within_good 1 TIMES_MAX (number_of (after_first is_star t))))
+    (item_good (worker_item t) (Some 1) (within_good 0 LAST_WORKER (number_of t)) refl)
 
 cons_sound : (o : Option Item) (items : List Item) → good_some is_item o ≡ true → list_all is_item items ≡ true → list_all is_item (cons_option o items) ≡ true
 cons_sound None items h k = k

@@ -10,15 +10,7 @@ use crate::text::before::Before;
 use crate::text::line::{Line, Word};
 use crate::text::part::Part;
 use mutator_asm::Mistake;
-
-/// The sections that a text may have.
-const SECTIONS_MAX: usize = 16;
-
-/// The instructions that a text may have.
-const INSTRS_MAX: usize = 65_536;
-
-/// The items that a schedule may have.
-const ITEMS_MAX: usize = 65_536;
+use plain_state::{MOST_INSTRS, MOST_ITEMS, MOST_MUTATORS};
 
 /// Whether a line has this mistake wherever it stands.
 fn is_bad(line: &Line, mistake: Mistake) -> bool
@@ -83,7 +75,7 @@ fn is_overlong(line: &Line, items: usize) -> bool
     ensures { result ≡ is_overlong items (line_view line.now).word }
 {
     match &line.word {
-        Word::Schedules(more) => items > ITEMS_MAX || more.len() > ITEMS_MAX - items,
+        Word::Schedules(more) => items > MOST_ITEMS || more.len() > MOST_ITEMS - items,
         _ => false,
     }
 }
@@ -114,10 +106,10 @@ pub fn error(line: &Line, part: &Part, before: Before) -> Option<Mistake>
     if before.sections == 0 && needs_section(line) {
         return Some(Mistake::NoMutator);
     }
-    if line.begins() && before.sections >= SECTIONS_MAX {
+    if line.begins() && before.sections >= MOST_MUTATORS {
         return Some(Mistake::TooManyMutators);
     }
-    if is_instr(line) && before.instrs >= INSTRS_MAX {
+    if is_instr(line) && before.instrs >= MOST_INSTRS {
         return Some(Mistake::CodeTooLong);
     }
     if is_bad_schedule(line, before.items) {
