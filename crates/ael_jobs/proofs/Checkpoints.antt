@@ -1,8 +1,9 @@
 -- What is printed of the last checkpoint of a run, by the words of its core.
-use Rattle.std.proofs.Common.{◌≡◌, ℕ, ◌+◌, ◌*◌, Bool, true, false, List, Option, Some, None, length, refl}
+use Rattle.std.proofs.Common.{◌≡◌, ℕ, Bool, true, false, List, Option, Some, None, length, refl}
 use Rattle.mutator_asm.specs.declared.instr.Instr.{Instr}
 use Rattle.plain_heap.specs.declared.mark.Mark.{Mark}
 use Rattle.space_map.specs.Spaces.{Layout, IsPageCount}
+use Rattle.space_map.specs.Table.{saving_length}
 use Rattle.checkpoint_text.specs.Text.{AreLinesOf}
 use Rattle.gc_worker.specs.Laws.Step.{layout_of}
 use Rattle.gc_worker.specs.Steps.Wanted.{wanted}
@@ -33,7 +34,7 @@ run_layout schedule at n s = run_keeps (λ (t : CoreState). layout_of t.heap ≡
 module _ (program : List (List Instr)) (turns : ℕ) (order : List Mark) (s : CoreState) (count : IsPageCount s.heap.pages) (bytes : List ℕ) where
   told : s.heap.checkpoints ≡ true → TellsLastCheckpoint program turns order s → AreLinesOf s.heap.words bytes → TellsLast program turns order bytes
   told room tells lines =
-      let whole : length s.heap.words ≡ 262 * s.heap.pages + 170 = rw room at tells.told.whole in
+      let whole : length s.heap.words ≡ saving_length s.heap.pages = rw room at tells.told.whole in
       record {
         lines = lines.told _ _ (record { pages = s.heap.pages; table = record { count = count; length = whole }; says = tells.told.says });
         last = tells.last;

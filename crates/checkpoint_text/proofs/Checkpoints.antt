@@ -1,5 +1,5 @@
 -- The lines of what is read are those of the checkpoint that is kept.
-use Rattle.std.proofs.Common.{◌≡◌, ◌≢◌, ℕ, zero, suc, ◌+◌, ◌*◌, ◌^◌, ◌<◌, List, [], ◌∷◌, ◌++◌, map, length, slice_index, slice_index_or, unwrap_or, Some, refl, sym, ap, ◌∙◌, subst, arith}
+use Rattle.std.proofs.Common.{◌≡◌, ◌≢◌, ℕ, zero, suc, ◌^◌, ◌<◌, List, [], ◌∷◌, ◌++◌, map, length, slice_index, slice_index_or, unwrap_or, Some, refl, sym, ap, ◌∙◌, subst, arith}
 use Rattle.std.specs.List.{All, Contains, flat_map}
 use Rattle.std.proofs.Math.ListN.{get_or-map}
 use Rattle.std.proofs.lemmas.List.{append_assoc, length-map}
@@ -8,6 +8,7 @@ use Rattle.std.proofs.lemmas.List.Folds.{flat_map-map}
 use Rattle.heap_words.specs.declared.kind.Kind.TheVariants.{Fields}
 use Rattle.plain_state.specs.declared.value.Identity.{Identity}
 use Rattle.plain_state.specs.State.{Snapped}
+use Rattle.space_map.specs.Table.{saving_length}
 use Rattle.space_map.specs.Spaces.{IsPageCount, board_page, first_word}
 use Rattle.plain_heap.specs.Checkpoint.{Checkpoint, IsCheckpoint, IsListedBefore, KeptRecord, ReachedFrom, board_line, checkpoint_lines, identities_of, kept_record, number_line, record_line}
 use Rattle.heap_state.specs.Saving.Words.{saves_of}
@@ -105,7 +106,7 @@ module _ (kept : Snapped) (p : Pictured kept) (records : List SavedRecord) (are 
 some_begun : (snap number : ℕ) → snap ≡ number → (snap ≡ 0 → ⊥) → 0 < number
 some_begun snap number is some = omega (arith, is, some)
 
-module _ (n : ℕ) (words : List ℕ) (count : IsPageCount n) (whole : length words ≡ 262 * n + 170) where
+module _ (n : ℕ) (words : List ℕ) (count : IsPageCount n) (whole : length words ≡ saving_length n) where
   said_here : (number : ℕ) (kept : Snapped) → TellsCheckpoint words number kept → SaysCheckpoint n words number kept
   said_here number kept tells =
       let same : tells.pages ≡ n = omega (arith, whole, tells.table.length) in

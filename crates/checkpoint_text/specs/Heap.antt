@@ -1,9 +1,10 @@
 -- The heap of the last checkpoint, as it is read from the words of a table.
-use Rattle.std.specs.Prelude.{◌≡◌, ℕ, ◌+◌, ◌*◌, List, length, Option, Some, None, unwrap_or}
+use Rattle.std.specs.Prelude.{◌≡◌, ℕ, List, length, Option, Some, None, unwrap_or}
 use Rattle.heap_words.specs.Decoded.{decode, number_in, pointer_in}
 use Rattle.plain_state.specs.declared.value.Identity.{Identity}
 use Rattle.plain_state.specs.declared.value.Value.{Value}
 use Rattle.plain_state.specs.declared.value.Value.TheVariants.{Number, Reference}
+use Rattle.space_map.specs.Table.{saving_length}
 use Rattle.record_layout.specs.declared.header.Header.{Header}
 use Rattle.record_layout.specs.Layout.{header_in}
 use Rattle.space_map.specs.Spaces.{IsPageCount}
@@ -19,7 +20,7 @@ saved_word n words address = word_read (saves_of n words) (table_of n words).hea
 -- the words are a table with room for checkpoints, with n pages a space
 pub record AreWholeTable (n : ℕ) (words : List ℕ) : Type 0 where
   pub count : IsPageCount n
-  pub length : length words ≡ 262 * n + 170
+  pub length : length words ≡ saving_length n
 
 -- ---- values
 

@@ -4,6 +4,7 @@ ghost use Rattle.std.specs.Prelude.{◌≡◌, ◌+◌, ◌*◌, ◌≤◌, ◌<
 ghost use Rattle.heap_words.specs.Decoded.{decode};
 ghost use Rattle.record_layout.specs.Layout.{header_in};
 ghost use Rattle.space_map.specs.Spaces.{IsPageCount, board_page, first_word};
+ghost use Rattle.space_map.specs.Table.{saving_length};
 ghost use Rattle.heap_state.specs.Saving.Words.{is_saved_for, reads_saved, saves_of};
 ghost use Rattle.checkpoint_text.specs.Heap.{AreWholeTable, field_value, identity_there, saved_word};
 ghost use Rattle.checkpoint_text.specs.Records.{fields_by, record_there, record_with, value_read};
@@ -12,7 +13,13 @@ use crate::saved_record::{SavedRecord, words_after, words_before};
 use heap_words::{Kind, Word};
 use plain_state::{Identity, Value};
 use record_layout::Header;
-use space_map::{PAGE_WORDS, SaveWord, Spaces};
+use space_map::{LAST_WORKER, PAGE_WORDS, SaveWord, Spaces};
+
+/// The words of such a table that are there whatever its number of pages.
+const WORDS_BESIDE: usize = 147 + LAST_WORKER as usize;
+
+/// The words of such a table for each page of a space.
+const WORDS_A_PAGE: usize = 262;
 
 /// A table with room for checkpoints, whose words are read as they were when the last one was begun.
 #[derive(Drop)]
@@ -21,7 +28,7 @@ pub struct SavedWords<'t> {
     spaces: Spaces,
     ghost room: { spaces.checkpoints ≡ true },
     ghost counted: { IsPageCount spaces.pages },
-    ghost whole: { length words.now ≡ 262 * spaces.pages + 170 },
+    ghost whole: { length words.now ≡ saving_length spaces.pages },
     ghost fit: { (place : ℕ) → slice_index words.now place < 2 ^ 64 },
 }
 
@@ -33,7 +40,7 @@ impl<'t> SavedWords<'t> {
         ensures found { (n : ℕ) → AreWholeTable n words.now → IsSome result }
         ensures words { IfSome result (λ saved. saved.words.now ≡ words.now) }
     {
-        let pages = u32::try_from(words.len().checked_sub(170)? / 262).ok()?;
+        let pages = u32::try_from(words.len().checked_sub(WORDS_BESIDE)? / WORDS_A_PAGE).ok()?;
         let spaces = Spaces::new(pages).ok()?.with_checkpoints();
         if spaces.whole_len() != words.len() {
             return None;

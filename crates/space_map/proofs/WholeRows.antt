@@ -1,12 +1,12 @@
 -- Where the rows of the whole table stand: the table that each heap has ends no later than the whole one, and no two rows have one
 -- place.
-use Rattle.std.proofs.Common.{◌≡◌, ℕ, ◌+◌, ◌*◌, ◌≤◌, ◌<◌, Bool, true, false, cond, ap, arith}
+use Rattle.std.proofs.Common.{◌≡◌, ℕ, ◌≤◌, ◌<◌, Bool, true, false, cond, ap, arith}
 use Rattle.space_map.specs.Spaces.{Layout}
-use Rattle.space_map.specs.Table.{Row, IsRow, place_of, table_length, whole_length}
+use Rattle.space_map.specs.Table.{Row, IsRow, place_of, saving_length, table_length, whole_length}
 use Rattle.space_map.specs.WholeTable.{WholeRow, Within, Behind, IsWholeRow, whole_place_of}
 use Rattle.space_map.proofs.Rows.{place_of-lt, save_place_of-ge, save_place_of-lt, same_row, same_save_row}
 
-longer : (n : ℕ) (b : Bool) → table_length n ≤ cond b (262 * n + 170) (table_length n)
+longer : (n : ℕ) (b : Bool) → table_length n ≤ cond b (saving_length n) (table_length n)
 longer n true = omega arith
 longer n false = omega arith
 

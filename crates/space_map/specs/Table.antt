@@ -65,7 +65,7 @@ place_of n (Announce worker) = 81 + 132 * n + worker
 
 -- the number of words in the table
 abbrev pub table_length : ℕ → ℕ
-table_length n = 132 * n + 105
+table_length n = 132 * n + (82 + LAST_WORKER)
 
 -- ---- with room for checkpoints
 
@@ -86,9 +86,13 @@ is_save_row n (ImageOf addr) = nat_le addr (128 * n + 63)
 
 -- where the row stands in the table
 unfoldable pub save_place_of : ℕ → SaveRow → ℕ
-save_place_of n (SaveOf page) = 105 + 132 * n + page
-save_place_of n (ImageOf addr) = 106 + 134 * n + addr
+save_place_of n (SaveOf page) = 82 + LAST_WORKER + 132 * n + page
+save_place_of n (ImageOf addr) = 83 + LAST_WORKER + 134 * n + addr
+
+-- the number of words in such a table
+abbrev pub saving_length : ℕ → ℕ
+saving_length n = 262 * n + (147 + LAST_WORKER)
 
 -- the number of words in a layout's table
 abbrev pub whole_length : Layout → ℕ
-whole_length layout = if layout.checkpoints then 262 * layout.pages + 170 else table_length layout.pages
+whole_length layout = if layout.checkpoints then saving_length layout.pages else table_length layout.pages

@@ -21,7 +21,7 @@ pub const MOST_MUTATORS: u32 = 16;
 pub const MOST_SCANNERS: u32 = 8;
 
 /// The last of the workers for which the table has room: they are numbered from 0, the mutators first.
-pub const LAST_WORKER: u8 = 23;
+pub const LAST_WORKER: u8 = (MOST_MUTATORS + MOST_SCANNERS - 1) as u8;
 
 const GATE_PLACE: usize = 0;
 
@@ -325,7 +325,7 @@ impl Spaces {
     }
 
     fn image_start(self) -> usize
-        ensures { result ≡ 106 + 134 * self.pages }
+        ensures { result ≡ 83 + LAST_WORKER + 134 * self.pages }
     {
         self.table_len() + self.board_page() as usize + 1
     }

@@ -1,7 +1,7 @@
 -- Rows of checkpoints: what a load there reads, and what is said of checkpoints after a row is written, or none.
-use Rattle.std.specs.Prelude.{◌≡◌, ℕ, ◌+◌, ◌*◌, ◌≤◌, List, length, Option, Some, None, slice_index}
+use Rattle.std.specs.Prelude.{◌≡◌, ℕ, ◌*◌, ◌≤◌, List, length, Option, Some, None, slice_index}
 use Rattle.space_map.specs.SaveWord.{SaveFits, encode_save}
-use Rattle.space_map.specs.Table.{SnapNumber, DoneNumber, SaveRow, SaveOf, IsSaveRow, save_place_of}
+use Rattle.space_map.specs.Table.{SnapNumber, DoneNumber, SaveRow, SaveOf, IsSaveRow, save_place_of, saving_length}
 use Rattle.heap_state.specs.Memory.Entries.{Entry}
 use Rattle.heap_state.specs.Memory.Table.{word_in}
 use Rattle.heap_state.specs.Saving.Words.{Saves, save_word_in, saves_of, AreFormedSaves}
@@ -21,7 +21,7 @@ pub record SavesAreRead : Type 0 where
 -- the words say that no checkpoint was begun, and can be read if there is room for one
 pub record SaveNothing (n : ℕ) (words : List ℕ) : Type 0 where
   pub none : NoneWasBegun (saves_of n words) nothing_frozen
-  pub formed : 262 * n + 170 ≤ length words → AreFormedSaves n words
+  pub formed : saving_length n ≤ length words → AreFormedSaves n words
 
 -- those in which SNAP, DONE and each SAVE are 0, as in a table without room for checkpoints each SAVE is
 abbrev pub BlankWordsSaveNothing : Type 0

@@ -6,7 +6,7 @@ use Rattle.std.proofs.lemmas.Bool.{cases_Bool, cases_eq}
 use Rattle.std.proofs.lemmas.List.{get_or-replicate, length-replicate}
 use Rattle.space_map.specs.declared.save_word.SaveWord.{SaveWord}
 use Rattle.space_map.specs.SaveWord.{SaveFits, encode_save, decode_save}
-use Rattle.space_map.specs.Table.{Row, Gate, Traced, Area, WeakHead, WeakTurn, Size, SnapNumber, DoneNumber, Page, Cross, HeapWord, Announce, SaveRow, SaveOf, ImageOf, IsRow, is_row, IsSaveRow, is_save_row, place_of, save_place_of}
+use Rattle.space_map.specs.Table.{Row, Gate, Traced, Area, WeakHead, WeakTurn, Size, SnapNumber, DoneNumber, Page, Cross, HeapWord, Announce, SaveRow, SaveOf, ImageOf, IsRow, is_row, IsSaveRow, is_save_row, place_of, save_place_of, saving_length}
 use Rattle.space_map.proofs.Rows.{is_row-decides, is_save_row-decides, place_of-lt, place_of-apart, save_place_of-ge, save_place_of-lt, same_save_row}
 use Rattle.space_map.proofs.SaveWords.{decode_save-encode_save}
 use Rattle.heap_state.specs.Functions.{put}
@@ -91,7 +91,7 @@ same_table n f g same = ap (table_by n) (fun_ext (same_read f g same))
 rows_apart : (n : ℕ) (row : Row) (other : SaveRow) → IsRow n row → save_place_of n other ≢ place_of n row
 rows_apart n row other is same = let before = place_of-lt n row is in let behind = save_place_of-ge n other in omega (arith, before, behind, same)
 
-inside : (n : ℕ) (words : List ℕ) (row : SaveRow) → 262 * n + 170 ≤ length words → IsSaveRow n row → save_place_of n row < length words
+inside : (n : ℕ) (words : List ℕ) (row : SaveRow) → saving_length n ≤ length words → IsSaveRow n row → save_place_of n row < length words
 inside n words row whole is = let short = save_place_of-lt (record { pages = n; checkpoints = true }) row refl is in omega (arith, whole, short)
 
 -- ---- stores in rows of the table
@@ -163,7 +163,7 @@ module _ (n : ℕ) (words : List ℕ) (row : SaveRow) (word : ℕ) (is : IsSaveR
 said : (v : SaveWord) → SaveFits v → save_said_in (encode_save v) ≡ v
 said v fits = rw (decode_save-encode_save v fits) refl
 
-module _ (n : ℕ) (words : List ℕ) (page : ℕ) (v : SaveWord) (whole : 262 * n + 170 ≤ length words) (is : page ≤ 2 * n) (fits : SaveFits v) where
+module _ (n : ℕ) (words : List ℕ) (page : ℕ) (v : SaveWord) (whole : saving_length n ≤ length words) (is : page ≤ 2 * n) (fits : SaveFits v) where
   abbrev marked : List ℕ
   marked = set words (save_place_of n (SaveOf page)) (encode_save v)
 
@@ -191,7 +191,7 @@ module _ (n : ℕ) (words : List ℕ) (page : ℕ) (v : SaveWord) (whole : 262 *
     table = table_stays n words (SaveOf page) (encode_save v) is;
   }
 
-image_stored : (n : ℕ) (words : List ℕ) (addr word : ℕ) → 262 * n + 170 ≤ length words → addr ≤ 128 * n + 63
+image_stored : (n : ℕ) (words : List ℕ) (addr word : ℕ) → saving_length n ≤ length words → addr ≤ 128 * n + 63
     → ChangesSaves n words (save_place_of n (ImageOf addr)) word (record (saves_of n words) { image = put (saves_of n words).image addr word })
 unfolding saves_of
 image_stored n words addr word whole is = record {
@@ -249,7 +249,7 @@ unfolding save_word_in
 blank_save n row = ⊎_elim
     (λ (e : is_save_row n row ≡ true).
     let short = save_place_of-lt (record { pages = n; checkpoints = true }) row refl ((is_save_row-decides n row).0 e) in
-    rw e (get_or-replicate (262 * n + 170) (save_place_of n row) 0 0 (omega (arith, short))))
+    rw e (get_or-replicate (saving_length n) (save_place_of n row) 0 0 (omega (arith, short))))
     (λ (e : is_save_row n row ≡ false). rw e refl)
     (cases_Bool (is_save_row n row))
 
@@ -257,12 +257,12 @@ blank_number : (n : ℕ) (row : Row) → IsRow n row → word_in n (blank_whole 
 unfolding word_in
 blank_number n row is =
     let short = place_of-lt n row is in
-    rw ((is_row-decides n row).1 is) (get_or-replicate (262 * n + 170) (place_of n row) 0 0 (omega (arith, short)))
+    rw ((is_row-decides n row).1 is) (get_or-replicate (saving_length n) (place_of n row) 0 0 (omega (arith, short)))
 
 pub blank_whole_formed : (n : ℕ) → AreFormedSaves n (blank_whole n)
 unfolding decode_save
 blank_whole_formed n = record {
-  whole = rw (length-replicate {A = ℕ} (262 * n + 170) 0) (omega arith);
+  whole = rw (length-replicate {A = ℕ} (saving_length n) 0) (omega arith);
   saves = λ page most. rw (blank_save n (SaveOf page)) refl;
 }
 

@@ -1,5 +1,5 @@
 -- A table written from a list of entries says what they say, also one with room for checkpoints.
-use Rattle.std.proofs.Common.{◌≡◌, ◌≢◌, ◌+◌, ◌*◌, ◌<◌, ◌≤◌, ℕ, zero, suc, List, true, false, [], ◌∷◌, set, replicate, refl, sym, ap, subst, ◌∙◌, arith, ⊎_elim}
+use Rattle.std.proofs.Common.{◌≡◌, ◌≢◌, ◌<◌, ◌≤◌, ℕ, zero, suc, List, true, false, [], ◌∷◌, set, replicate, refl, sym, ap, subst, ◌∙◌, arith, ⊎_elim}
 use Rattle.std.specs.Prelude.{Contains}
 use Rattle.std.proofs.Math.Path.{fun_ext}
 use Rattle.std.proofs.lemmas.Bool.{cases_Bool, cases_eq}
@@ -7,7 +7,7 @@ use Rattle.std.proofs.lemmas.List.{get_or-replicate, length-replicate}
 use Rattle.space_map.specs.AreaWord.{area_in}
 use Rattle.space_map.specs.GateWord.{gate_in}
 use Rattle.space_map.specs.PageWord.{decode_page}
-use Rattle.space_map.specs.Table.{Row, Gate, Area, WeakHead, Size, Page, is_row, place_of, table_length}
+use Rattle.space_map.specs.Table.{Row, Gate, Area, WeakHead, Size, Page, is_row, place_of, table_length, saving_length}
 use Rattle.space_map.proofs.Rows.{place_of-lt}
 use Rattle.heap_state.specs.Memory.Entries.{whole_place_of, Entry, SizeIs, row_of, word_of, with_entry, blank_words, blank_table, written, table_with, EachFits, EntryFits, HasSizes}
 use Rattle.heap_state.specs.Memory.Table.{Table, HasForm, IsFormed, table_by, table_of, word_in}
@@ -125,11 +125,11 @@ saves_said n (e ∷ entries) fits =
 
 pub writes_whole_tables : WritesWholeTables
 writes_whole_tables n entries fits sizes =
-    let whole : table_length n ≤ 262 * n + 170 = omega arith in
+    let whole : table_length n ≤ saving_length n = omega arith in
     let said = saves_said n entries fits in
     record {
-      formed = rw (whole_is n entries) (formed_on n (262 * n + 170) whole entries fits sizes);
-      says = rw (whole_is n entries) (has_said n (262 * n + 170) whole entries fits).says;
+      formed = rw (whole_is n entries) (formed_on n (saving_length n) whole entries fits sizes);
+      says = rw (whole_is n entries) (has_said n (saving_length n) whole entries fits).says;
       saves_formed = said.formed;
       saves = said.says;
     }

@@ -4,7 +4,7 @@ use Rattle.space_map.specs.declared.save_word.SaveWord.{SaveWord}
 use Rattle.space_map.specs.declared.save_word.SaveWord.TheVariants.{Unsaved, Saving, Saved, New}
 use Rattle.space_map.specs.SaveWord.{decode_save}
 use Rattle.space_map.specs.Spaces.{page_of}
-use Rattle.space_map.specs.Table.{SnapNumber, DoneNumber, SaveRow, SaveOf, ImageOf, is_save_row, save_place_of}
+use Rattle.space_map.specs.Table.{SnapNumber, DoneNumber, SaveRow, SaveOf, ImageOf, is_save_row, save_place_of, saving_length}
 use Rattle.heap_state.specs.Memory.Table.{word_in}
 
 -- SNAP, the number of the last checkpoint begun; DONE, that of the last one finished; what each page's SAVE says; and the
@@ -36,7 +36,7 @@ saves_of n words = record {
 
 -- the words hold the whole table with its room for checkpoints, and each SAVE can be read
 pub record AreFormedSaves (n : ℕ) (words : List ℕ) : Type 0 where
-  pub whole : 262 * n + 170 ≤ length words
+  pub whole : saving_length n ≤ length words
   pub saves : (page : ℕ) → page ≤ 2 * n → decode_save (save_word_in n words (SaveOf page)) ≡ Some (save_said_in (save_word_in n words (SaveOf page)))
 
 -- ---- how far a checkpoint is

@@ -1,5 +1,6 @@
 -- Tables with room for checkpoints, written from a list of rows with what they say, and what that is of checkpoints.
-use Rattle.std.specs.Prelude.{ℕ, ◌+◌, ◌*◌, List, [], ◌∷◌, replicate, slice_set}
+use Rattle.std.specs.Prelude.{ℕ, List, [], ◌∷◌, replicate, slice_set}
+use Rattle.space_map.specs.Table.{saving_length}
 use Rattle.space_map.specs.declared.save_word.SaveWord.TheVariants.{Unsaved}
 use Rattle.heap_state.specs.Functions.{put}
 use Rattle.heap_state.specs.Memory.Entries.{Entry, SnapIs, DoneIs, SaveIs, ImageIs, row_of, word_of, whole_place_of}
@@ -19,7 +20,7 @@ blank_saves = record { snap = 0; done = 0; save = λ page. Unsaved; image = λ a
 
 -- the words of a table with room for checkpoints, all 0
 abbrev pub blank_whole : ℕ → List ℕ
-blank_whole n = replicate (262 * n + 170) 0
+blank_whole n = replicate (saving_length n) 0
 
 -- the words after these rows were written there, the last of the list first
 abbrev pub written_whole : ℕ → List Entry → List ℕ

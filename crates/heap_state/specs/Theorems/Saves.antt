@@ -5,7 +5,7 @@ use Rattle.plain_state.specs.State as plain
 use Rattle.space_map.specs.declared.save_word.SaveWord.{SaveWord}
 use Rattle.space_map.specs.SaveWord.{SaveFits, encode_save}
 use Rattle.space_map.specs.Spaces.{page_of}
-use Rattle.space_map.specs.Table.{Row, SnapNumber, DoneNumber, SaveOf, ImageOf, IsRow, place_of, save_place_of, table_length}
+use Rattle.space_map.specs.Table.{Row, SnapNumber, DoneNumber, SaveOf, ImageOf, IsRow, place_of, save_place_of, table_length, saving_length}
 use Rattle.heap_state.specs.Functions.{put}
 use Rattle.heap_state.specs.Memory.Entries.{Entry, EachFits, HasSizes, table_with}
 use Rattle.heap_state.specs.Memory.Table.{Table, table_of, IsFormed}
@@ -45,9 +45,9 @@ pub record NumbersAreStored : Type 0 where
 
 -- a store in a page's SAVE, or in the IMAGE of an address, changes that alone
 pub record SavesAreStored : Type 0 where
-  pub save : (n : ℕ) (words : List ℕ) (page : ℕ) (v : SaveWord) → 262 * n + 170 ≤ length words → page ≤ 2 * n → SaveFits v
+  pub save : (n : ℕ) (words : List ℕ) (page : ℕ) (v : SaveWord) → saving_length n ≤ length words → page ≤ 2 * n → SaveFits v
       → ChangesSaves n words (save_place_of n (SaveOf page)) (encode_save v) (record (saves_of n words) { save = put (saves_of n words).save page v })
-  pub image : (n : ℕ) (words : List ℕ) (addr word : ℕ) → 262 * n + 170 ≤ length words → addr ≤ 128 * n + 63
+  pub image : (n : ℕ) (words : List ℕ) (addr word : ℕ) → saving_length n ≤ length words → addr ≤ 128 * n + 63
       → ChangesSaves n words (save_place_of n (ImageOf addr)) word (record (saves_of n words) { image = put (saves_of n words).image addr word })
 
 -- ---- tables from entries
