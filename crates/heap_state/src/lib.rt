@@ -5,6 +5,7 @@
 #![tactic(auto)]
 
 mod laws;
+mod sizes;
 
 pub use laws::{
     broken_configurations_are_told, checkpoints_are_said, flipped_configuration_stands,
