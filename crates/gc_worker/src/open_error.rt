@@ -6,7 +6,7 @@ use thiserror::Error;
 /// Why a heap was not opened.
 #[derive(Clone, Copy, Debug, PartialEq, Eq, Error)]
 pub enum OpenError {
-    #[error("a space has 4 to 2048 pages")]
+    #[error("{}", WrongPages)]
     BadPages,
     #[error("out of memory")]
     NoMemory,

@@ -1,6 +1,7 @@
+use crate::spaces::{FEWEST_PAGES, MOST_PAGES};
 use thiserror::Error;
 
 /// A space can't have so many pages.
 #[derive(Clone, Copy, Debug, PartialEq, Eq, Error)]
-#[error("a space has 4 to 2048 pages")]
+#[error("a space has {} to {} pages", FEWEST_PAGES, MOST_PAGES)]
 pub struct BadPages;

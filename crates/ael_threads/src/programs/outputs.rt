@@ -38,8 +38,8 @@ pub struct Outputs {
 /// Why nothing was run, or nothing can be told of it.
 #[derive(Clone, Copy, Debug, PartialEq, Eq, Error)]
 pub enum RunError {
-    /// Fewer than 4 pages at first, fewer in all than at first, or more than 2048.
-    #[error("a space has 4 to 2048 pages")]
+    /// Fewer than `FEWEST_PAGES` at first, fewer in all than at first, or more than `MOST_PAGES`.
+    #[error("{}", OpenError::BadPages)]
     BadPages,
     /// Memory was wanting, before the first step or after the last one.
     #[error("out of memory")]
