@@ -1,5 +1,5 @@
 -- What the claim of pages does to the area, and when it doesn't fit.
-use Rattle.std.proofs.Common.{◌≡◌, ◌≢◌, ℕ, ◌+◌, ◌^◌, ◌<◌, Bool, true, false, cond, nat_eq, nat_le, List, slice_index, Option, Some, None, arith, refl, sym, ap, subst, ◌∙◌}
+use Rattle.std.proofs.Common.{◌≡◌, ◌≢◌, ℕ, ◌+◌, ◌<◌, Bool, true, false, cond, nat_eq, nat_le, List, slice_index, Option, Some, None, arith, refl, sym, ap, subst, ◌∙◌}
 use Rattle.std.proofs.lemmas.Bool.Decides.{nat_tests}
 use Rattle.atom_store.specs.declared.reply.Reply.TheVariants as reply
 use Rattle.atom_store.specs.declared.step.Step.TheVariants.{Exchange}
@@ -9,7 +9,7 @@ use Rattle.atom_store.specs.Acts.{MakesStep}
 use Rattle.atom_store.proofs.Acting.{no_step}
 use Rattle.atom_store.proofs.Steps.{slice_index-words_after, slice_index-won, won_exactly}
 use Rattle.space_map.specs.declared.area_word.AreaWord.{AreaWord}
-use Rattle.space_map.specs.AreaWord.{decode_area, encode_area}
+use Rattle.space_map.specs.AreaWord.{decode_area, encode_area, part_end}
 use Rattle.space_map.specs.Spaces.{to_space}
 use Rattle.space_map.specs.Table.{Traced, Area, place_of}
 use Rattle.space_map.specs.TableWords.{row_word, HoldsTable}
@@ -49,7 +49,7 @@ looks_at_size p traced before after turn acts = record { goes = refl; stays = ac
 apart_test : (m n : ℕ) → m ≢ n → nat_eq m n ≡ false
 apart_test m n apart = grind (arith, nat_tests)
 
-kept_room-lt : (traced : Bool) (area : AreaWord) → area.owed < 2 ^ 18 → kept_room traced area < 2 ^ 18
+kept_room-lt : (traced : Bool) (area : AreaWord) → area.owed < part_end → kept_room traced area < part_end
 kept_room-lt true area owed = omega arith
 kept_room-lt false area owed = owed
 

@@ -1,6 +1,7 @@
 -- What an allocation keeps of itself: its places are in the table, its run and the pages that it claimed are in the spaces, no more
 -- pages are in use than a space has, the areas that it writes fit their words, and pages are marked new only for a checkpoint.
 use Rattle.std.specs.Prelude.{◌≡◌, ℕ, ◌+◌, ◌*◌, ◌^◌, ◌<◌, ◌≤◌, ⊤, false}
+use Rattle.space_map.specs.AreaWord.{part_end}
 use Rattle.space_map.specs.Spaces.{Layout, IsPageCount, page_of}
 use Rattle.heap_words.specs.declared.kind.Kind.TheVariants.{Mixed, Weak}
 use Rattle.record_layout.specs.declared.header.Header.{Header}
@@ -27,7 +28,7 @@ HoldsTargetAndLink header = header.kind ≡ Weak → 2 < size_of header
 pub record AreaHoldsClaim (pages words : ℕ) (f : Fitting) : Type 0 where
   pub kept : words + kept_room f.traced f.area + f.area.front ≤ f.area.low
   pub in_space : f.area.low ≤ 64 * pages
-  pub owed : f.area.owed < 2 ^ 18
+  pub owed : f.area.owed < part_end
 
 -- so many words from the first one lie in the spaces
 abbrev pub IsClaimed : (pages words first : ℕ) → Type 0

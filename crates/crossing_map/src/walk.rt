@@ -1,6 +1,6 @@
-ghost use Rattle.std.specs.Prelude.{◌≡◌, ◌+◌, ◌-◌, ◌*◌, ◌/◌, ◌^◌, ◌<◌, ◌≤◌, ◌↔◌, false, max, length, IsTrue};
+ghost use Rattle.std.specs.Prelude.{◌≡◌, ◌+◌, ◌-◌, ◌*◌, ◌/◌, ◌<◌, ◌≤◌, ◌↔◌, false, max, length, IsTrue};
 ghost use Rattle.space_map.specs.Table.{table_length};
-ghost use Rattle.space_map.specs.Spaces.{IsPageCount};
+ghost use Rattle.space_map.specs.Spaces.{IsPageCount, past_heaps};
 ghost use Rattle.heap_state.specs.Kept.{reserved_in};
 ghost use Rattle.heap_state.specs.Memory.Table.{page_word_in, table_of};
 ghost use Rattle.heap_state.specs.Memory.Walk.{is_protected};
@@ -79,7 +79,7 @@ fn next_new(spaces: Spaces, words: &[u64], end: u32, epoch: u32, at: u32) -> Wal
 
 /// The record whose first word stands at this address, if it ends before `end` or there.
 fn item(word: u64, at: u32, end: u32) -> Walked
-    requires { at < 2 ^ 20 }
+    requires { at < 2 * past_heaps }
     ensures { result ≡ item_by word at end }
 {
     match record_size(word) {
@@ -113,7 +113,7 @@ fn is_open(word: u64, epoch: u32) -> bool
 }
 
 fn next_page(at: u32) -> u32
-    requires { at < 2 ^ 20 }
+    requires { at < 2 * past_heaps }
     ensures { result ≡ 64 * (at / 64 + 1) }
 {
     PAGE_WORDS * (at / PAGE_WORDS + 1)

@@ -1,8 +1,8 @@
-ghost use Rattle.std.specs.Prelude.{◌≡◌, ◌≢◌, ℕ, ◌+◌, ◌*◌, ◌^◌, ◌<◌, ◌≤◌, Some, IsTrue};
+ghost use Rattle.std.specs.Prelude.{◌≡◌, ◌≢◌, ℕ, ◌+◌, ◌*◌, ◌<◌, ◌≤◌, Some, IsTrue};
 ghost use Rattle.atom_store.specs.Step.{place_in};
 ghost use Rattle.atom_store.specs.declared.turn.Turn.TheVariants.{More, Finished};
-ghost use Rattle.space_map.specs.declared.spaces.TheConstants.{LAST_WORKER};
-ghost use Rattle.space_map.specs.AreaWord.{decode_area};
+ghost use Rattle.space_map.specs.declared.spaces.TheConstants.{LAST_WORKER, MOST_PAGES};
+ghost use Rattle.space_map.specs.AreaWord.{decode_area, part_end};
 ghost use Rattle.space_map.specs.GateWord.{decode_gate};
 ghost use Rattle.space_map.specs.PageWord.{decode_page, PageFits};
 ghost use Rattle.space_map.specs.Spaces.{board_page, to_space};
@@ -261,7 +261,7 @@ impl Duty {
     fn page_after(&self, page: u32) -> u32
         requires { page ≤ board_page self.now.layout.pages }
         ensures page { result ≡ round.page_after self.now page }
-        ensures in_range { result ≤ 4097 }
+        ensures in_range { result ≤ 2 * MOST_PAGES + 1 }
     {
         let spaces = self.spaces;
         spaces.known();
@@ -274,7 +274,7 @@ impl Duty {
 
     /// The address of FRONT.
     fn front_of(&self, area: AreaWord) -> u32
-        requires { area.front < 2 ^ 18 }
+        requires { area.front < part_end }
         ensures { result ≡ round.front_of self.now area }
     {
         self.spaces.known();
@@ -284,7 +284,7 @@ impl Duty {
 
 /// Whether the page lies wholly below FRONT.
 fn is_full(front: u32, page: u32) -> bool
-    requires { page ≤ 4097 }
+    requires { page ≤ 2 * MOST_PAGES + 1 }
     ensures { result ≡ round.is_full front page }
 {
     PAGE_WORDS * (page + 1) <= front

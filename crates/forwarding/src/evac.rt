@@ -5,6 +5,7 @@ ghost use Rattle.atom_store.specs.declared.reply.Reply.TheVariants.{Value, Done,
 ghost use Rattle.atom_store.specs.Step.{place_in};
 ghost use Rattle.heap_words.specs.Decoded.{decode};
 ghost use Rattle.heap_words.specs.Word.{busy_word, forward_word};
+ghost use Rattle.space_map.specs.Spaces.{past_heaps};
 ghost use Rattle.space_map.specs.declared.spaces.TheConstants.{LAST_WORKER};
 ghost use Rattle.space_map.specs.AreaWord.{AreaFits, decode_area};
 ghost use Rattle.space_map.specs.Table.{table_length};
@@ -339,7 +340,7 @@ impl Evac {
 fn front(spaces: Spaces, epoch: u32, kept: KeptHeader, area: AreaWord) -> u32
     requires { AreaHoldsCopy spaces.pages (size_of kept) area }
     ensures front { result ≡ front_of spaces epoch area }
-    ensures in_range { result < 2 ^ 20 }
+    ensures in_range { result < 2 * past_heaps }
 {
     spaces.known();
     spaces.space_start(spaces.to_space(epoch)) + area.front

@@ -1,5 +1,5 @@
 -- What a flip's step does to the words, by what it then tells, and that what it has read stands.
-use Rattle.std.proofs.Common.{◌≡◌, ◌≢◌, ℕ, ◌+◌, ◌*◌, ◌%◌, ◌^◌, ◌<◌, ◌≤◌, Bool, true, false, cond, ◌&&◌, ◌||◌, nat_eq, nat_lt, min, ◌⊎◌, inl, inr, List, slice_index, Option, Some, None, arith, refl, sym, ap, subst, ◌∙◌}
+use Rattle.std.proofs.Common.{◌≡◌, ◌≢◌, ℕ, ◌+◌, ◌*◌, ◌%◌, ◌<◌, ◌≤◌, Bool, true, false, cond, ◌&&◌, ◌||◌, nat_eq, nat_lt, min, ◌⊎◌, inl, inr, List, slice_index, Option, Some, None, arith, refl, sym, ap, subst, ◌∙◌}
 use Rattle.std.proofs.lemmas.Bool.Decides.{nat_tests}
 use Rattle.atom_store.specs.declared.reply.Reply.{Reply}
 use Rattle.atom_store.specs.declared.reply.Reply.TheVariants as reply
@@ -13,7 +13,7 @@ use Rattle.atom_store.proofs.Acting.{no_step}
 use Rattle.atom_store.proofs.Steps.{slice_index-words_after, slice_index-stored, slice_index-won}
 use Rattle.space_map.specs.declared.area_word.AreaWord.{AreaWord}
 use Rattle.space_map.specs.declared.gate_word.GateWord.{GateWord}
-use Rattle.space_map.specs.AreaWord.{decode_area, encode_area}
+use Rattle.space_map.specs.AreaWord.{decode_area, encode_area, part_end}
 use Rattle.space_map.specs.GateWord.{GateFits, decode_gate, encode_gate}
 use Rattle.space_map.specs.Spaces.{IsPageCount, to_space}
 use Rattle.space_map.specs.Table as row
@@ -177,7 +177,7 @@ reset_stands f reset before after few fits whole counts sized makes =
           }),
     )
   where
-    lit : 0 < 2 ^ 18
+    lit : 0 < part_end
     lit = omega arith
 
 weak_stands : (f : Flipping) (reset : Reset) (before after : List ℕ) → HoldsTable f.layout.pages before → CountsUsed f reset before → IsSized f reset before → IsReset f reset before

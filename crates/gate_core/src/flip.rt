@@ -1,7 +1,8 @@
 ghost use Rattle.std.specs.Prelude.{◌≡◌, ◌+◌, ◌*◌, ◌^◌, ◌<◌, ◌≤◌, Some, IsTrue};
 ghost use Rattle.atom_store.specs.Step.{place_in};
-ghost use Rattle.space_map.specs.AreaWord.{AreaFits, decode_area};
+ghost use Rattle.space_map.specs.AreaWord.{AreaFits, decode_area, part_end};
 ghost use Rattle.space_map.specs.GateWord.{decode_gate};
+ghost use Rattle.space_map.specs.declared.spaces.TheConstants.{MOST_PAGES, PAGE_WORDS};
 ghost use Rattle.gate_core.specs.Flip.{begun, wanted, taken, told, left, advances, is_still, gate_flipped, next_size, used_in, area_reset, looked, read_area};
 ghost use Rattle.gate_core.specs.Soundness.{IsFlippingGoing, IsSoundFlipping, FitsFlipStage, IsSizeWithin, MayFlip};
 ghost use Rattle.space_map.specs.Table.{table_length};
@@ -182,7 +183,7 @@ impl Flip {
 /// a flip wasn't enough.
 fn next_size(spaces: Spaces, seen: bool, size: u32, copied: u32) -> u32
     requires size { IsSizeWithin spaces.pages size }
-    requires copied { copied < 2 ^ 18 }
+    requires copied { copied < part_end }
     ensures { result ≡ next_size spaces.pages seen size copied }
 {
     let pages = spaces.pages();
@@ -195,7 +196,7 @@ fn next_size(spaces: Spaces, seen: bool, size: u32, copied: u32) -> u32
 
 /// The words in use: those that are not between FRONT and LOW.
 fn used(size: u32, area: AreaWord) -> u32
-    requires { size ≤ 2048 }
+    requires { size ≤ MOST_PAGES }
     ensures { result ≡ used_in size area }
 {
     let room = area.low.saturating_sub(area.front);
@@ -204,8 +205,8 @@ fn used(size: u32, area: AreaWord) -> u32
 
 /// The area of the space that is going to be copied into.
 fn empty_area(next: u32, used: u32) -> AreaWord
-    requires next { next ≤ 2048 }
-    requires used { used ≤ 64 * 2048 }
+    requires next { next ≤ MOST_PAGES }
+    requires used { used ≤ PAGE_WORDS * MOST_PAGES }
     ensures area { result ≡ area_reset next used }
     ensures fits { AreaFits result }
 {

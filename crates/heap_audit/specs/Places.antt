@@ -1,6 +1,7 @@
 -- The places of a dump in the order in which they are looked at, and what should be so at each.
-use Rattle.std.specs.Prelude.{◌≡◌, ℕ, ◌+◌, ◌*◌, ◌^◌, ◌<◌, ◌≤◌, ◌↔◌, ⊤, length, Option, Some, None, slice_get}
+use Rattle.std.specs.Prelude.{◌≡◌, ℕ, ◌+◌, ◌*◌, ◌<◌, ◌≤◌, ◌↔◌, ⊤, length, Option, Some, None, slice_get}
 use Rattle.plain_state.specs.State as plain
+use Rattle.space_map.specs.Spaces.{past_heaps}
 use Rattle.space_map.specs.declared.spaces.TheConstants.{PAGE_WORDS}
 use Rattle.heap_state.specs.Meaning.Dump.{Dump}
 use Rattle.heap_state.specs.Meaning.Represents.{BoardWordShows, DumpRepresents, HeadShows, IsInHeap, IsInOrder, IsWalkedSpace, RegisterShows, WordShows}
@@ -34,7 +35,7 @@ IsShort (Size space) = space < 2
 IsShort (Area space) = space < 2
 IsShort (Register m j) = ⊤
 IsShort (Board x) = x < 16
-IsShort (Word address) = address < 2 ^ 20
+IsShort (Word address) = address < 2 * past_heaps
 
 -- ---- what should be so
 

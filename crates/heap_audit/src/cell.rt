@@ -1,6 +1,7 @@
 //! Whether a cell's target shows the value of the plain cell.
 
-ghost use Rattle.std.specs.Prelude.{◌<◌, ◌^◌, ◌↔◌, IsTrue};
+ghost use Rattle.std.specs.Prelude.{◌*◌, ◌<◌, ◌↔◌, IsTrue};
+ghost use Rattle.space_map.specs.Spaces.{past_heaps};
 ghost use Rattle.heap_state.specs.Meaning.Represents.{IsEmptied, IsInHeap};
 ghost use Rattle.heap_audit.specs.Copied.{AreCopied};
 ghost use Rattle.heap_audit.specs.Records.{TargetShows};
@@ -18,7 +19,7 @@ use plain_state::Value;
 fn is_emptied(heap: &ToldHeap, copied: &CopiedRecords, found: RecordAt, value: Value) -> bool
     requires copied { AreCopied (dump_told heap.now) copied.now }
     requires walked { IsInHeap (dump_told heap.now) (walked found) }
-    requires low { found.at < 2 ^ 20 }
+    requires low { found.at < 2 * past_heaps }
     ensures { IsTrue result ↔ IsEmptied (dump_told heap.now) (walked found) value }
 {
     let Value::Reference(identity) = value else {
@@ -39,7 +40,7 @@ pub fn target_shows(
     requires walks { AreWalks (dump_told heap.now) walks.now }
     requires copied { AreCopied (dump_told heap.now) copied.now }
     requires walked { IsInHeap (dump_told heap.now) (walked found) }
-    requires low { found.at < 2 ^ 20 }
+    requires low { found.at < 2 * past_heaps }
     ensures { IsTrue result ↔ TargetShows (dump_told heap.now) wanted.now (walked found) }
 {
     if !wanted.is_cell() {

@@ -1,6 +1,7 @@
 //! The first place of a dump that doesn't show a plain state.
 
-ghost use Rattle.std.specs.Prelude.{◌<◌, ◌^◌, IfOk, IfSome, None};
+ghost use Rattle.std.specs.Prelude.{◌*◌, ◌<◌, IfOk, IfSome, None};
+ghost use Rattle.space_map.specs.Spaces.{past_heaps};
 ghost use Rattle.heap_audit.specs.Copied.{AreCopied};
 ghost use Rattle.heap_audit.specs.Firsts.{TellsFirst};
 ghost use Rattle.heap_audit.specs.Places.{HasForm, IsShort, TellsFirstUnseen, TellsFirstWrongSpace, TellsSpace, WordSeen};
@@ -62,7 +63,7 @@ fn wrong_heap_word(
     requires copied { AreCopied (dump_told heap.now) copied.now }
     requires ordered { TellsFirstWrongSpace (dump_told heap.now) None }
     ensures first { TellsFirst (WordSeen (dump_told heap.now) plain.now) result }
-    ensures short { IfSome result (λ a. a < 2 ^ 20) }
+    ensures short { IfSome result (λ a. a < 2 * past_heaps) }
 {
     let mut first = walks.first_break;
     for (i, found) in walks.records.iter().enumerate() {

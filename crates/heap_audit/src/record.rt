@@ -1,8 +1,9 @@
 //! Whether a record shows the plain record of its identity.
 
-ghost use Rattle.std.specs.Prelude.{◌≡◌, ◌<◌, ◌≤◌, ◌+◌, ◌^◌, ◌↔◌, Contains, IfNone, IfSome, IsTrue, length};
+ghost use Rattle.std.specs.Prelude.{◌*◌, ◌≡◌, ◌<◌, ◌≤◌, ◌+◌, ◌^◌, ◌↔◌, Contains, IfNone, IfSome, IsTrue, length};
 ghost use Rattle.heap_words.specs.Decoded.{HeaderWord};
 ghost use Rattle.plain_state.specs.Layout.{size_of, values_at, word_of_value, words_behind};
+ghost use Rattle.space_map.specs.Spaces.{past_heaps};
 ghost use Rattle.heap_state.specs.Invariant.Ghost.{header_kind};
 ghost use Rattle.heap_state.specs.Meaning.Represents.{HeadShows, IsInHeap, MustOwn, own_header};
 ghost use Rattle.heap_state.specs.Meaning.Values.{CountShows};
@@ -122,7 +123,7 @@ fn shown_by_head<'p>(
 fn wrong_value(heap: &ToldHeap, walks: &Walks, wanted: &PlainRecord, at: u32) -> Option<u32>
     requires walks { AreWalks (dump_told heap.now) walks.now }
     requires short { length wanted.now.values < 2 ^ 16 }
-    requires low { at < 2 ^ 20 }
+    requires low { at < 2 * past_heaps }
     ensures first { TellsFirst (λ x. ValueShows (dump_told heap.now) wanted.now x ((dump_told heap.now).table.heap (at + word_of_value wanted.now.kind x))) result }
     ensures there { IfSome result (λ x. x < length wanted.now.values) }
 {
@@ -158,7 +159,7 @@ pub fn wrong_word(
     requires copied { AreCopied (dump_told heap.now) copied.now }
     requires walked { IsInHeap (dump_told heap.now) (walked found) }
     requires now { IsTrue now ↔ Contains (walk_in (dump_told heap.now).table (dump_told heap.now).kept) (walked found) }
-    requires low { found.at < 2 ^ 20 }
+    requires low { found.at < 2 * past_heaps }
     ensures first { TellsFirst (WordOfRecordShows (dump_told heap.now) plain.now (walked found)) result }
     ensures short { IfSome result (λ i. i ≤ 4096) }
 {

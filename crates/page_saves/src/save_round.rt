@@ -1,6 +1,6 @@
 ghost use Rattle.std.specs.Prelude.{◌≡◌, ◌≢◌, ◌+◌, ◌*◌, ◌^◌, ◌<◌, ◌≤◌, Some, IsSome, IsTrue, true};
 ghost use Rattle.atom_store.specs.Step.{place_in};
-ghost use Rattle.space_map.specs.declared.spaces.TheConstants.{LAST_WORKER};
+ghost use Rattle.space_map.specs.declared.spaces.TheConstants.{LAST_WORKER, MOST_PAGES};
 ghost use Rattle.space_map.specs.GateWord.{decode_gate};
 ghost use Rattle.space_map.specs.SaveWord.{decode_save, number_of};
 ghost use Rattle.space_map.specs.Spaces.{board_page};
@@ -300,7 +300,7 @@ impl SaveRound {
     fn page_after(&self, page: u32) -> u32
         requires { page ≤ board_page self.now.layout.pages }
         ensures page { result ≡ round.page_after self.now page }
-        ensures in_range { result ≤ 4097 }
+        ensures in_range { result ≤ 2 * MOST_PAGES + 1 }
     {
         self.spaces.known();
         if page == self.spaces.board_page() {
@@ -313,7 +313,7 @@ impl SaveRound {
     /// The first page of the space that is copied into.
     fn first_page(&self) -> u32
         ensures page { result ≡ to_page self.now }
-        ensures in_range { result ≤ 4096 }
+        ensures in_range { result ≤ 2 * MOST_PAGES }
     {
         let spaces = self.spaces;
         spaces.known();

@@ -1,6 +1,6 @@
 -- What the scan of a page knows of itself: its steps are in the table, and its words are those of its page.
-use Rattle.std.specs.Prelude.{◌≡◌, ℕ, ◌+◌, ◌*◌, ◌^◌, ◌<◌, ◌≤◌}
-use Rattle.space_map.specs.Spaces.{IsPageCount, first_word, board_page}
+use Rattle.std.specs.Prelude.{◌≡◌, ℕ, ◌+◌, ◌*◌, ◌<◌, ◌≤◌}
+use Rattle.space_map.specs.Spaces.{IsPageCount, first_word, board_page, past_heaps}
 use Rattle.page_scan.specs.declared.headed_record.HeadedRecord.{HeadedRecord}
 use Rattle.page_scan.specs.declared.scan_stage.ScanStage.{ScanStage}
 use Rattle.page_scan.specs.declared.scan_stage.ScanStage.TheVariants.{LoadsCross, LoadsFirst, LoadsCount, LoadsWord, Asks, StoresCopy, LoadsFront, LoadsNext, Ended}
@@ -24,7 +24,7 @@ pub record IsScannedRecord (r : ScannedRecord) : Type 0 where
   pub begins : r.at < r.fields_end
   pub fields : r.fields_end ≤ r.next
   pub short : r.next ≤ r.at + 4096
-  pub inside : r.at < 2 ^ 19
+  pub inside : r.at < past_heaps
 
 -- the spot is a word of the board, or a field on the page of a record
 abbrev pub IsOnPage : (pages page : ℕ) → Spot → Type 0
@@ -45,7 +45,7 @@ FitsStage n p (Asks asked) = IsOnPage n p asked.spot
 FitsStage n p (StoresCopy asked to) = IsOnPage n p asked.spot
 FitsStage n p (LoadsFront r) = NextIsOnPage n p r
 FitsStage n p (LoadsNext r) = NextIsOnPage n p r
-FitsStage n p (Ended ending) = ending.cursor < 2 ^ 20
+FitsStage n p (Ended ending) = ending.cursor < 2 * past_heaps
 
 pub record IsSound (v : Scanning) : Type 0 where
   pub pages : IsPageCount v.layout.pages

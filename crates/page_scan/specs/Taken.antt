@@ -7,6 +7,7 @@ use Rattle.atom_store.specs.declared.turn.Turn.TheVariants.{More, Finished}
 use Rattle.atom_store.specs.Machine.{Machine}
 use Rattle.heap_words.specs.declared.kind.Kind.{Kind as HeaderKind}
 use Rattle.heap_words.specs.declared.kind.Kind.TheVariants as header
+use Rattle.plain_state.specs.declared.sizes.TheConstants.{BOARD_WORDS}
 use Rattle.plain_state.specs.declared.kind.Kind.{Kind}
 use Rattle.plain_state.specs.declared.kind.Kind.TheVariants.{Fields, Raw, Mixed, Weak}
 use Rattle.heap_state.specs.Memory.FieldSpan.{first_field, fields_end}
@@ -28,7 +29,7 @@ use Rattle.page_scan.specs.Scanning.{Scanning, wanted}
 
 -- the number of words used of the board's page
 abbrev pub board_words : ℕ
-board_words = 16
+board_words = BOARD_WORDS
 
 -- the first word behind what is scanned of a page
 abbrev pub scan_end : Layout → ℕ → ℕ

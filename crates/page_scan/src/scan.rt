@@ -1,10 +1,10 @@
 mod on_words;
 
-ghost use Rattle.std.specs.Prelude.{◌≡◌, ◌+◌, ◌^◌, ◌<◌, ◌≤◌, Some, IsTrue, ◌≢◌, ℕ, max};
+ghost use Rattle.std.specs.Prelude.{◌*◌, ◌≡◌, ◌+◌, ◌^◌, ◌<◌, ◌≤◌, Some, IsTrue, ◌≢◌, ℕ, max};
 ghost use Rattle.atom_store.specs.Step.{place_in};
 ghost use Rattle.heap_words.specs.Decoded.{PointerWord, decode};
 ghost use Rattle.space_map.specs.AreaWord.{decode_area};
-ghost use Rattle.space_map.specs.Spaces.{board_page, first_word, to_space};
+ghost use Rattle.space_map.specs.Spaces.{board_page, first_word, past_heaps, to_space};
 ghost use Rattle.space_map.specs.Table.{table_length};
 ghost use Rattle.page_scan.specs.Left.{advances, left};
 ghost use Rattle.page_scan.specs.Scanning.{HasStep, IsAsking, address_of, begun, wanted};
@@ -20,12 +20,10 @@ use crate::scanned_record::ScannedRecord;
 use crate::spot::Spot;
 use atom_store::{Reply, Step, Turn};
 use heap_words::{Kind, Word};
+use plain_state::BOARD_WORDS;
 use record_layout::read;
 use space_map::{AreaWord, PAGE_WORDS, Spaces};
 use std::marker::Model;
-
-/// The number of words used of the board's page.
-const BOARD_WORDS: u32 = 16;
 
 /// The scan of a page in an epoch, by the worker that has claimed it.
 #[derive(Clone, Copy)]
@@ -228,7 +226,7 @@ impl Scan {
     #[inline(always)]
     fn reads_header(&mut self, at: u32, stage: ScanStage, word: u64) -> Turn<Scanned>
         requires going { HasStep stage }
-        requires at { at < 2 ^ 19 }
+        requires at { at < past_heaps }
         requires sound { IsSound (record self.old { stage = by_header self.old.page self.old.in_place at stage (decode word) }) }
         ensures state { self.new ≡ record self.old { stage = by_header self.old.page self.old.in_place at stage (decode word) } }
         ensures told { result ≡ told (by_header self.old.page self.old.in_place at stage (decode word)) }
@@ -241,7 +239,7 @@ impl Scan {
 
     /// By its header a record is entered, but that a mixed one's count is read first.
     fn goes_by_kind(&mut self, at: u32, kind: Kind, len: u16) -> Turn<Scanned>
-        requires at { at < 2 ^ 19 }
+        requires at { at < past_heaps }
         requires sound { IsSound (record self.old { stage = by_kind self.old.page self.old.in_place at kind (len + 1) }) }
         ensures state { self.new ≡ record self.old { stage = by_kind self.old.page self.old.in_place at kind (len + 1) } }
         ensures told { result ≡ told (by_kind self.old.page self.old.in_place at kind (len + 1)) }
@@ -293,7 +291,7 @@ impl Scan {
     /// In place, the scan ends where the next record would be at FRONT.
     #[inline(always)]
     fn reads_area(&mut self, r: ScannedRecord, word: u64) -> Turn<Scanned>
-        requires at { r.next < 2 ^ 20 }
+        requires at { r.next < 2 * past_heaps }
         requires sound { IsSound (record self.old { stage = by_area self.old.layout self.old.epoch r (decode_area word) }) }
         ensures state { self.new ≡ record self.old { stage = by_area self.old.layout self.old.epoch r (decode_area word) } }
         ensures told { result ≡ told (by_area self.old.layout self.old.epoch r (decode_area word)) }
@@ -330,7 +328,7 @@ impl Scan {
         ensures told { result ≡ told (passes_word self.old.page self.old.in_place (Spot.OnBoard x)) }
     {
         self.spaces.known();
-        let end = self.spaces.first_word(self.page) + BOARD_WORDS;
+        let end = self.spaces.first_word(self.page) + BOARD_WORDS as u32;
         let cursor = x + 1;
         if cursor < end {
             self.goes_to(ScanStage::LoadsWord(Spot::OnBoard(cursor)))

@@ -2,11 +2,15 @@
 use Rattle.std.specs.Prelude.{ℕ, ◌+◌, ◌*◌, ◌/◌, ◌%◌, ◌^◌, ◌<◌, Option, Some, None, nat_lt, if◌then◌else◌}
 use Rattle.space_map.specs.declared.area_word.AreaWord.{AreaWord}
 
--- each part is in the range that its 18 bits can say
+-- each part has 18 bits, so it is below this
+abbrev pub part_end : ℕ
+part_end = 2 ^ 18
+
+-- each part is in the range that its bits can say
 pub record AreaFits (area : AreaWord) : Type 0 where
-  pub front_fits : area.front < 2 ^ 18
-  pub low_fits : area.low < 2 ^ 18
-  pub owed_fits : area.owed < 2 ^ 18
+  pub front_fits : area.front < part_end
+  pub low_fits : area.low < part_end
+  pub owed_fits : area.owed < part_end
 
 -- the word that says this
 unfoldable pub encode_area : AreaWord → ℕ

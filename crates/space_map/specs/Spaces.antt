@@ -47,6 +47,10 @@ space_start n space = first_word (n * space)
 abbrev pub IsInSpace : ℕ → ℕ → ℕ → Type 0
 IsInSpace n addr space = (space < 2) × (space_start n space ≤ addr) × (addr < space_start n space + PAGE_WORDS * n)
 
+-- past each address of a heap, however many pages it has, and past the end of a longest record there
+abbrev pub past_heaps : ℕ
+past_heaps = 4 * PAGE_WORDS * MOST_PAGES
+
 -- the board's page, the one after both spaces
 abbrev pub board_page : ℕ → ℕ
 board_page n = 2 * n

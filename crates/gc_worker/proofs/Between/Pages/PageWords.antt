@@ -8,7 +8,7 @@ use Rattle.atom_store.specs.declared.step.Step.TheVariants.{Store, Exchange}
 use Rattle.atom_store.specs.StepOn as on
 use Rattle.space_map.specs.declared.page_word.PageWord.TheVariants.{Open, Scanning}
 use Rattle.space_map.specs.PageWord.{age_of, encode_page}
-use Rattle.space_map.specs.AreaWord.{encode_area}
+use Rattle.space_map.specs.AreaWord.{encode_area, part_end}
 use Rattle.space_map.specs.Spaces.{Layout, to_space}
 use Rattle.space_map.specs.Table.{Gate, Area, Page, place_of}
 use Rattle.heap_state.specs.Configuration.{Configuration, Stands, table, era, team}
@@ -101,7 +101,7 @@ module _ (c : Configuration) (p : Plain) (s : Stands c p) (k : ℕ) (x : Held) w
 
   -- ---- new pages
 
-  room_kept : (traced : Bool) (f : Fitting) → f.area.owed < 2 ^ 18 → place.kept_room traced f.area < 2 ^ 18
+  room_kept : (traced : Bool) (f : Fitting) → f.area.owed < part_end → place.kept_room traced f.area < part_end
   room_kept true f few = omega arith
   room_kept false f few = few
 

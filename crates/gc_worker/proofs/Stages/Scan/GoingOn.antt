@@ -1,5 +1,6 @@
 -- A scan goes on: what the worker then knows of it, and that it fits.
-use Rattle.std.proofs.Common.{◌≡◌, ℕ, ◌<◌, ◌^◌, false, is_some, refl, nat_lt}
+use Rattle.std.proofs.Common.{◌*◌, ◌≡◌, ℕ, ◌<◌, false, is_some, refl, nat_lt}
+use Rattle.space_map.specs.Spaces.{past_heaps}
 use Rattle.page_slots.specs.Open as open_page
 use Rattle.page_scan.specs.Scanning.{Scanning, HasStep}
 use Rattle.page_scan.specs.Soundness as scan_sound
@@ -44,6 +45,6 @@ module _ (x : Held) (v : Scanning) (back : Back) where
     abbrev opening : Ending → Stage
     opening e = Opens (open_page.begun x.layout v.page x.epoch) (at_scan (scan_stage.Ended e)) back
 
-    pub ended_fits : (e : Ending) → e.cursor < 2 ^ 20 → Fits n mutators k (scans_to (scan_stage.Ended e))
+    pub ended_fits : (e : Ending) → e.cursor < 2 * past_heaps → Fits n mutators k (scans_to (scan_stage.Ended e))
     ended_fits e below = refit n mutators k x f (opening e) unended side task
         (record { layout = refl; epoch = refl; page = refl; going = tt; sound = record { pages = page_count n mutators k x f; page = rw (← fits.layout) fits.sound.page; epoch = f.epoch } }, sound_at (opening e) (scan_stage.Ended e) below, tt, still_back x (opening e) back own)

@@ -1,4 +1,5 @@
-use Rattle.std.proofs.Common.{◌<◌, ◌^◌, IfSome, map, take}
+use Rattle.std.proofs.Common.{◌*◌, ◌<◌, IfSome, map, take}
+use Rattle.space_map.specs.Spaces.{past_heaps}
 use Rattle.heap_audit.specs.Firsts.{TellsFirst}
 use Rattle.heap_audit.specs.Told.{dump_told}
 use Rattle.heap_audit.specs.Walks.{walked}
@@ -9,5 +10,5 @@ use Rattle.heap_audit.proofs.first_place.wrong_heap_word.Given as goal
 abbrev pub invariant-loop-i : goal.invariant-loop-i
 invariant-loop-i l = record {
   first : TellsFirst (SeenBy (dump_told l.heap) l.plain (map walked (take l.i l.walks.records.items))) l.first;
-  short : IfSome l.first (λ a. a < 2 ^ 20);
+  short : IfSome l.first (λ a. a < 2 * past_heaps);
 }
