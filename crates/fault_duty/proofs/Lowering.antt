@@ -45,73 +45,73 @@ by_test P false x y then otherwise = otherwise refl
 
 -- ---- by the word that was loaded
 
-by_mutator : (d : Round) (word : ℕ) (gate : GateWord) → left (Duty.mutator_at_gate d word gate) < 2 * d.layout.pages + 32 + Duty.walk_left d
+by_mutator : (d : Round) (word : ℕ) (gate : GateWord) → left (Duty.mutator_at_gate d word gate) < 2 * d.layout.pages + (claim.longest + 6) + Duty.walk_left d
 by_mutator d word gate =
-    by_test (λ (s : DutyStage). left_at d s < 2 * d.layout.pages + 32 + Duty.walk_left d) (nat_eq gate.epoch d.epoch) (LoadsTraced (Duty.hindrance_in word gate)) (Ended _)
+    by_test (λ (s : DutyStage). left_at d s < 2 * d.layout.pages + (claim.longest + 6) + Duty.walk_left d) (nat_eq gate.epoch d.epoch) (LoadsTraced (Duty.hindrance_in word gate)) (Ended _)
     (λ _. omega arith) (λ _. omega arith)
 
-by_scanner : (d : Round) (mutators word : ℕ) (gate : GateWord) → left (Duty.scanner_at_gate d mutators word gate) < 2 * d.layout.pages + 32 + Duty.walk_left d
+by_scanner : (d : Round) (mutators word : ℕ) (gate : GateWord) → left (Duty.scanner_at_gate d mutators word gate) < 2 * d.layout.pages + (claim.longest + 6) + Duty.walk_left d
 by_scanner d mutators word gate =
-    by_test (λ (e : Round). left e < 2 * d.layout.pages + 32 + Duty.walk_left d) (nat_eq gate.left mutators) _ _ (λ _. omega arith) (λ _. omega arith)
+    by_test (λ (e : Round). left e < 2 * d.layout.pages + (claim.longest + 6) + Duty.walk_left d) (nat_eq gate.left mutators) _ _ (λ _. omega arith) (λ _. omega arith)
 
-by_caller : (d : Round) (caller : Caller) (word : ℕ) (gate : GateWord) → left (Duty.looked_by_gate d caller word gate) < 2 * d.layout.pages + 32 + Duty.walk_left d
+by_caller : (d : Round) (caller : Caller) (word : ℕ) (gate : GateWord) → left (Duty.looked_by_gate d caller word gate) < 2 * d.layout.pages + (claim.longest + 6) + Duty.walk_left d
 by_caller d (Faulted page) word gate = by_mutator d word gate
 by_caller d Allocates word gate = by_mutator d word gate
 by_caller d (Scans mutators) word gate = by_scanner d mutators word gate
 
-by_gate : (d : Round) (word : ℕ) (o : Option GateWord) → IsTrue (is_some o) → left (Duty.looked_at_gate d word o) < 2 * d.layout.pages + 32 + Duty.walk_left d
+by_gate : (d : Round) (word : ℕ) (o : Option GateWord) → IsTrue (is_some o) → left (Duty.looked_at_gate d word o) < 2 * d.layout.pages + (claim.longest + 6) + Duty.walk_left d
 by_gate d word (Some gate) t = by_caller d d.caller word gate
 by_gate d word None t = cc
 
-first_look-le : (d : Round) (caller : Caller) (seen : Findings) → left_at d (Duty.first_look caller seen) ≤ 2 * d.layout.pages + 30 + Duty.walk_left d
+first_look-le : (d : Round) (caller : Caller) (seen : Findings) → left_at d (Duty.first_look caller seen) ≤ 2 * d.layout.pages + (claim.longest + 4) + Duty.walk_left d
 first_look-le d (Faulted page) seen = omega arith
 first_look-le d Allocates seen = omega arith
 first_look-le d (Scans mutators) seen = omega arith
 
-by_traced : (d : Round) (hindrance : Option ℕ) (word : ℕ) → left_at d (Duty.looked_at_traced d hindrance word) < 2 * d.layout.pages + 31 + Duty.walk_left d
+by_traced : (d : Round) (hindrance : Option ℕ) (word : ℕ) → left_at d (Duty.looked_at_traced d hindrance word) < 2 * d.layout.pages + (claim.longest + 5) + Duty.walk_left d
 by_traced d hindrance word =
-    by_test (λ (s : DutyStage). left_at d s < 2 * d.layout.pages + 31 + Duty.walk_left d) (nat_eq word (d.epoch + 1)) (Ended _) (Duty.first_look d.caller _) (λ _. omega arith)
+    by_test (λ (s : DutyStage). left_at d s < 2 * d.layout.pages + (claim.longest + 5) + Duty.walk_left d) (nat_eq word (d.epoch + 1)) (Ended _) (Duty.first_look d.caller _) (λ _. omega arith)
     (λ _. let first = first_look-le d d.caller (record { traced = word; hindrance = hindrance }) in omega (arith, first))
 
--- a claim has at most 26 steps
-first_stage-le : (n page : ℕ) (in_place : Bool) → claim.left_at (claim.first_stage n page in_place) ≤ 26
+-- a claim has no more steps than the longest
+first_stage-le : (n page : ℕ) (in_place : Bool) → claim.left_at (claim.first_stage n page in_place) ≤ claim.longest
 first_stage-le n page true = omega arith
-first_stage-le n page false = by_test (λ s. claim.left_at s ≤ 26) (nat_eq page (board_page n)) _ _ (λ _. omega arith) (λ _. omega arith)
+first_stage-le n page false = by_test (λ s. claim.left_at s ≤ claim.longest) (nat_eq page (board_page n)) _ _ (λ _. omega arith) (λ _. omega arith)
 
-claimed_by-le : (d : Round) (page : ℕ) (says : PageWord) (in_place : Bool) (state : PageState) → left_at d (Duty.claim_by_state d page says in_place state) ≤ 26
+claimed_by-le : (d : Round) (page : ℕ) (says : PageWord) (in_place : Bool) (state : PageState) → left_at d (Duty.claim_by_state d page says in_place state) ≤ claim.longest
 claimed_by-le d page says in_place Waits = first_stage-le d.layout.pages page in_place
 claimed_by-le d page says in_place Past = omega arith
 claimed_by-le d page says in_place Opened = omega arith
 claimed_by-le d page says in_place Scanned = omega arith
 
-wanted_one-le : (d : Round) (seen : Findings) (w : WantedPage) → left_at d (Duty.wanted_one d seen w) ≤ 2 * d.layout.pages + 29 + Duty.walk_left d
+wanted_one-le : (d : Round) (seen : Findings) (w : WantedPage) → left_at d (Duty.wanted_one d seen w) ≤ 2 * d.layout.pages + (claim.longest + 3) + Duty.walk_left d
 wanted_one-le d seen w =
-    by_test (λ (s : DutyStage). left_at d s ≤ 2 * d.layout.pages + 29 + Duty.walk_left d) (nat_eq w.page (board_page d.layout.pages)) (Duty.claim_by_state d w.page w.says false _) (LoadsFrontFor seen w)
+    by_test (λ (s : DutyStage). left_at d s ≤ 2 * d.layout.pages + (claim.longest + 3) + Duty.walk_left d) (nat_eq w.page (board_page d.layout.pages)) (Duty.claim_by_state d w.page w.says false _) (LoadsFrontFor seen w)
     (λ _. let claim = claimed_by-le d w.page w.says false (Duty.state_of w.says d.epoch) in omega (arith, claim)) (λ _. omega arith)
 
 by_wanted_state : (d : Round) (seen : Findings) (page word : ℕ) (says : PageWord) (state : PageState)
-    → left_at d (Duty.wanted_by d seen page word says state) < 2 * d.layout.pages + 30 + Duty.walk_left d
+    → left_at d (Duty.wanted_by d seen page word says state) < 2 * d.layout.pages + (claim.longest + 4) + Duty.walk_left d
 by_wanted_state d seen page word says Opened = omega arith
 by_wanted_state d seen page word says Scanned = omega arith
 by_wanted_state d seen page word says Waits = let one = wanted_one-le d seen (record { page = page; says = says }) in omega (arith, one)
 by_wanted_state d seen page word says Past = let one = wanted_one-le d seen (record { page = page; says = says }) in omega (arith, one)
 
 by_wanted : (d : Round) (seen : Findings) (page word : ℕ) (o : Option PageWord) → IsTrue (is_some o)
-    → left_at d (Duty.looked_at_wanted d seen page word o) < 2 * d.layout.pages + 30 + Duty.walk_left d
+    → left_at d (Duty.looked_at_wanted d seen page word o) < 2 * d.layout.pages + (claim.longest + 4) + Duty.walk_left d
 by_wanted d seen page word (Some says) t = by_wanted_state d seen page word says (Duty.state_of says d.epoch)
 by_wanted d seen page word None t = cc
 
 by_front_for : (d : Round) (seen : Findings) (w : WantedPage) (o : Option AreaWord) → IsTrue (is_some o)
-    → left_at d (Duty.found_front_for d seen w o) < 2 * d.layout.pages + 29 + Duty.walk_left d
+    → left_at d (Duty.found_front_for d seen w o) < 2 * d.layout.pages + (claim.longest + 3) + Duty.walk_left d
 by_front_for d seen w (Some area) t =
-    by_test (λ (s : DutyStage). left_at d s < 2 * d.layout.pages + 29 + Duty.walk_left d) (Duty.is_full (Duty.front_of d area) w.page) (Duty.claim_by_state d w.page w.says false _) (LoadsFront seen)
+    by_test (λ (s : DutyStage). left_at d s < 2 * d.layout.pages + (claim.longest + 3) + Duty.walk_left d) (Duty.is_full (Duty.front_of d area) w.page) (Duty.claim_by_state d w.page w.says false _) (LoadsFront seen)
     (λ _. let claim = claimed_by-le d w.page w.says false (Duty.state_of w.says d.epoch) in omega (arith, claim)) (λ _. omega arith)
 by_front_for d seen w None t = cc
 
 board_tested : (n : ℕ) → nat_eq (board_page n) (board_page n) ≡ true
 board_tested n = grind (arith, nat_tests)
 
-by_front : (d : Round) (seen : Findings) (o : Option AreaWord) → IsTrue (is_some o) → left_at d (Duty.found_front d seen o) < 2 * d.layout.pages + 28 + Duty.walk_left d
+by_front : (d : Round) (seen : Findings) (o : Option AreaWord) → IsTrue (is_some o) → left_at d (Duty.found_front d seen o) < 2 * d.layout.pages + (claim.longest + 2) + Duty.walk_left d
 by_front d seen (Some area) t = rw (board_tested d.layout.pages) (omega arith)
 by_front d seen None t = cc
 
@@ -175,15 +175,15 @@ after_choice-le d seen (Some word) = omega arith
 after_choice-le d seen None = omega arith
 
 passed_by-lt : (d : Round) (choice : Choice) (page : ℕ) → IsPageCount d.layout.pages → IsChoice d choice.front page
-    → left_at d (Duty.passed_page d choice page) < Duty.pages_left d page + d.layout.pages + 26 + Duty.walk_left d
+    → left_at d (Duty.passed_page d choice page) < Duty.pages_left d page + d.layout.pages + claim.longest + Duty.walk_left d
 passed_by-lt d choice page few fits =
-    by_test (λ (s : DutyStage). left_at d s < Duty.pages_left d page + d.layout.pages + 26 + Duty.walk_left d) (Duty.is_full choice.front (Duty.page_after d page))
+    by_test (λ (s : DutyStage). left_at d s < Duty.pages_left d page + d.layout.pages + claim.longest + Duty.walk_left d) (Duty.is_full choice.front (Duty.page_after d page))
     (LoadsPage choice (Duty.page_after d page)) (Duty.after_choice choice.seen choice.seen.hindrance)
     (λ full. let fewer = further d choice.front page few fits full in omega (arith, fewer))
     (λ _. let after = after_choice-le d choice.seen choice.seen.hindrance in omega (arith, after))
 
 by_page_state : (d : Round) (choice : Choice) (page word : ℕ) (says : PageWord) (state : PageState) → IsPageCount d.layout.pages
-    → IsChoice d choice.front page → left_at d (Duty.chosen_by d choice page word says state) < Duty.pages_left d page + d.layout.pages + 26 + Duty.walk_left d
+    → IsChoice d choice.front page → left_at d (Duty.chosen_by d choice page word says state) < Duty.pages_left d page + d.layout.pages + claim.longest + Duty.walk_left d
 by_page_state d choice page word says Opened few fits = passed_by-lt d choice page few fits
 by_page_state d choice page word says Scanned few fits = passed_by-lt d (Duty.hindered choice word) page few fits
 by_page_state d choice page word says Waits few fits =
@@ -191,7 +191,7 @@ by_page_state d choice page word says Waits few fits =
 by_page_state d choice page word says Past few fits = omega arith
 
 by_page : (d : Round) (choice : Choice) (page word : ℕ) (o : Option PageWord) → IsPageCount d.layout.pages → IsChoice d choice.front page
-    → IsTrue (is_some o) → left_at d (Duty.looked_at_page d choice page word o) < Duty.pages_left d page + d.layout.pages + 26 + Duty.walk_left d
+    → IsTrue (is_some o) → left_at d (Duty.looked_at_page d choice page word o) < Duty.pages_left d page + d.layout.pages + claim.longest + Duty.walk_left d
 by_page d choice page word (Some says) few fits t = by_page_state d choice page word says (Duty.state_of says d.epoch) few fits
 by_page d choice page word None few fits t = cc
 

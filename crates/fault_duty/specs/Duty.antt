@@ -320,12 +320,12 @@ abbrev pub walk_left : Round → ℕ
 walk_left d = walk_steps.left (walk.begun d.layout d.epoch)
 
 abbrev pub left_at : Round → DutyStage → ℕ
-left_at d LoadsGate = 2 * d.layout.pages + 32 + walk_left d
-left_at d (LoadsTraced hindrance) = 2 * d.layout.pages + 31 + walk_left d
-left_at d (LoadsWanted seen page) = 2 * d.layout.pages + 30 + walk_left d
-left_at d (LoadsFrontFor seen wanted) = 2 * d.layout.pages + 29 + walk_left d
-left_at d (LoadsFront seen) = 2 * d.layout.pages + 28 + walk_left d
-left_at d (LoadsPage choice page) = pages_left d page + d.layout.pages + 26 + walk_left d
+left_at d LoadsGate = 2 * d.layout.pages + (claim.longest + 6) + walk_left d
+left_at d (LoadsTraced hindrance) = 2 * d.layout.pages + (claim.longest + 5) + walk_left d
+left_at d (LoadsWanted seen page) = 2 * d.layout.pages + (claim.longest + 4) + walk_left d
+left_at d (LoadsFrontFor seen wanted) = 2 * d.layout.pages + (claim.longest + 3) + walk_left d
+left_at d (LoadsFront seen) = 2 * d.layout.pages + (claim.longest + 2) + walk_left d
+left_at d (LoadsPage choice page) = pages_left d page + d.layout.pages + claim.longest + walk_left d
 left_at d (Claims c) = claim.left c
 left_at d (EndGate traced) = d.layout.pages + 6 + walk_left d
 left_at d (EndArea traced) = d.layout.pages + 5 + walk_left d

@@ -4,21 +4,22 @@ use Rattle.std.specs.Prelude.{is_some}
 use Rattle.std.proofs.lemmas.Bool.Decides.{nat_tests}
 use Rattle.atom_store.specs.declared.reply.Reply.{Reply}
 use Rattle.atom_store.specs.declared.reply.Reply.TheVariants.{Value, Won, Lost}
+use Rattle.space_map.specs.declared.spaces.TheConstants.{LAST_WORKER}
 use Rattle.space_map.specs.declared.gate_word.GateWord.{GateWord}
 use Rattle.space_map.specs.GateWord.{decode_gate}
 use Rattle.page_slots.specs.declared.claimed.Claimed.TheVariants as claimed
 use Rattle.page_slots.specs.declared.claim_stage.ClaimStage.{ClaimStage}
 use Rattle.page_slots.specs.declared.claim_stage.ClaimStage.TheVariants.{LooksAtPlace, LooksAtGate, Exchanges, Ended}
-use Rattle.page_slots.specs.Claim.{Claiming, next_stage, looked_at_place, looked_at_gate, names_below_end, left_at, advances_at}
+use Rattle.page_slots.specs.Claim.{Claiming, next_stage, looked_at_place, looked_at_gate, names_below_end, longest, left_at, advances_at}
 use Rattle.page_slots.specs.Soundness.{FitsClaimStage}
 
-by_place : (page k announced : ℕ) → k ≤ 23 → left_at (looked_at_place page k announced) < 26 - k
-by_place page k announced few = by_tests (names_below_end page announced) (nat_eq k 23) refl
+by_place : (page k announced : ℕ) → k ≤ LAST_WORKER → left_at (looked_at_place page k announced) < longest - k
+by_place page k announced few = by_tests (names_below_end page announced) (nat_eq k LAST_WORKER) refl
   where
-    by_tests : (below last : Bool) → nat_eq k 23 ≡ last
-        → left_at (cond below (Ended (claimed.Taken announced)) (cond last LooksAtGate (LooksAtPlace (k + 1)))) < 26 - k
+    by_tests : (below last : Bool) → nat_eq k LAST_WORKER ≡ last
+        → left_at (cond below (Ended (claimed.Taken announced)) (cond last LooksAtGate (LooksAtPlace (k + 1)))) < longest - k
     by_tests true last is = omega arith
-    by_tests false true is = let same : k ≡ 23 = grind (arith, nat_tests) in omega arith
+    by_tests false true is = let same : k ≡ LAST_WORKER = grind (arith, nat_tests) in omega arith
     by_tests false false is = omega arith
 
 by_gate : (epoch word : ℕ) (o : Option GateWord) → IsTrue (is_some o) → left_at (looked_at_gate epoch word o) < 2

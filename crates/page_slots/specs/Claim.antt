@@ -105,8 +105,12 @@ claim_machine = record { wanted = wanted; taken = taken; told = told }
 
 -- ---- the steps that are left
 
+-- the most steps of a claim: a look at each announced place, one at the gate, and the exchange
+abbrev pub longest : ℕ
+longest = LAST_WORKER + 3
+
 abbrev pub left_at : ClaimStage → ℕ
-left_at (LooksAtPlace k) = 26 - k
+left_at (LooksAtPlace k) = longest - k
 left_at LooksAtGate = 2
 left_at Exchanges = 1
 left_at (Ended result) = 0

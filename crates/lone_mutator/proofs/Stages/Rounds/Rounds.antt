@@ -2,6 +2,7 @@
 use Rattle.std.proofs.Common.{◌≡◌, ◌≢◌, ℕ, ◌+◌, ◌*◌, ◌<◌, ◌≤◌, Bool, true, false, nat_eq, arith}
 use Rattle.atom_store.specs.declared.reply.Reply.{Reply}
 use Rattle.atom_store.specs.declared.turn.Turn.TheVariants.{More}
+use Rattle.space_map.specs.declared.spaces.TheConstants.{LAST_WORKER}
 use Rattle.space_map.specs.declared.page_word.PageWord.TheVariants.{Open}
 use Rattle.space_map.specs.PageWord.{age_of}
 use Rattle.space_map.specs.Spaces.{board_page}
@@ -25,7 +26,7 @@ pub record RoundIsAlone (E : Era) (m : Memory) (d : Round) : Type 0 where
   pub behind : m.gate.behind ≡ 0
   pub young : (p : ℕ) → age_of (m.page p) ≤ E.epoch + 1
   pub opened : (p : ℕ) → age_of (m.page p) ≡ E.epoch + 1 → m.page p ≡ Open E.epoch
-  pub silent : (k : ℕ) → k ≤ 23 → m.announced k ≡ 0
+  pub silent : (k : ℕ) → k ≤ LAST_WORKER → m.announced k ≡ 0
   pub board : E.board ≡ 64 * (2 * d.layout.pages)
   pub start : E.start ≡ to_start d
 
@@ -40,9 +41,9 @@ pub record RoundGoes (E : Era) (m : Memory) (d : Round) (stage : DutyStage) (rep
   pub steps : left_at (at_stage d next) next < left_at d stage → round_steps (at_stage d next) next < round_steps d stage
 
 -- a claim has at most 26 steps
-pub first_stage-le : (n page : ℕ) (in_place : Bool) → claim.left_at (claim.first_stage n page in_place) ≤ 26
+pub first_stage-le : (n page : ℕ) (in_place : Bool) → claim.left_at (claim.first_stage n page in_place) ≤ LAST_WORKER + 3
 first_stage-le n page true = omega arith
-first_stage-le n page false = by_test (λ s. claim.left_at s ≤ 26) (nat_eq page (board_page n)) _ _ (λ _. omega arith) (λ _. omega arith)
+first_stage-le n page false = by_test (λ s. claim.left_at s ≤ LAST_WORKER + 3) (nat_eq page (board_page n)) _ _ (λ _. omega arith) (λ _. omega arith)
 
 -- in the midst of a round of an epoch that isn't traced, what the tracing costs, and the round after it
 pub left_again : (n left due : ℕ) → due ≡ left + round_cost n → (back : Back) → round_left left due back ≡ left + again_left n back
