@@ -13,7 +13,7 @@ use std::marker::Model;
 use std::sync::Arc;
 
 /// How many registers a mutator has.
-const REGISTERS: u32 = 8;
+const REGISTERS: u32 = plain_state::REGISTERS as u32;
 
 /// A mutator with its heap, which it keeps. Contracts see what they see of the mutator.
 #[derive(Drop)]

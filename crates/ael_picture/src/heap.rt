@@ -11,7 +11,7 @@ use space_map::{AreaWord, GateWord, PAGE_WORDS, Spaces};
 use std::alloc::Global;
 
 /// The words of the board.
-pub const BOARD_WORDS: u32 = 16;
+pub const BOARD_WORDS: u32 = plain_state::BOARD_WORDS as u32;
 
 /// A dump, with the layout of its heap and its epoch.
 #[derive(Drop)]

@@ -1,10 +1,11 @@
 //! Why a call is refused.
 
 use plain_state::End;
+use record_layout::LAST_SERIAL;
 use thiserror::Error;
 
 /// The most records that a mutator makes: it has no more serials.
-pub const MOST_RECORDS: u64 = (1 << 40) - 1;
+pub const MOST_RECORDS: u64 = LAST_SERIAL;
 
 /// Why an instruction can't be begun. If there are several reasons, the first one counts.
 #[derive(Clone, Copy, Debug, PartialEq, Eq, Error)]

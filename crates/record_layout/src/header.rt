@@ -1,6 +1,10 @@
 ghost use Rattle.std.specs.Prelude.{◌^◌, ◌<◌, ◌≤◌};
 
+use crate::bits::SERIAL_MASK;
 use heap_words::Kind;
+
+/// The greatest serial that a header can have.
+pub const LAST_SERIAL: u64 = SERIAL_MASK;
 
 /// The header of a record.
 #[derive(Clone, Copy, Debug, PartialEq, Eq)]

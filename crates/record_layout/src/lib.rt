@@ -12,7 +12,7 @@ mod reading;
 
 pub use busy::Busy;
 pub use forward::Forward;
-pub use header::Header;
+pub use header::{Header, LAST_SERIAL};
 pub use heap_words::Kind;
 pub use laws::first_words_are_distinct;
 pub use packing::{pack, pack_busy, pack_forward};

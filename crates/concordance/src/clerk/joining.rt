@@ -14,15 +14,12 @@ ghost use Rattle.concordance.specs.declared.registers.TheConstants.{LATEST};
 
 use crate::clerk::Clerk;
 use crate::registers::LATEST;
-use ael_threads::Did;
+use ael_threads::{ACTS, Did};
 use crossbeam_utils::Backoff;
 use mutator_asm::Instr::Put;
 use mutator_asm::Operand;
 use std::sync::Wait;
 use std::sync::atomic::{AtomicU64, Ordering};
-
-/// How many acts a clerk makes between two looks at how many have left.
-const ACTS: u32 = 64;
 
 impl<'h> Clerk<'h> {
     /// Its mutator puts what leads to its latest entry on this word of the board.

@@ -25,11 +25,8 @@ use gate_core::Gate;
 use heap_words::{Kind as HeaderKind, Word};
 use mutator_asm::{Instr, Operand};
 use plain_state::{End, Kind, LONGEST_RECORD};
-use record_layout::Header;
+use record_layout::{Header, LAST_SERIAL};
 use space_map::PAGE_WORDS;
-
-/// The greatest serial that a header can have.
-const LAST_SERIAL: u64 = 0xff_ffff_ffff;
 
 /// The record that an instruction makes.
 #[derive(Clone, Copy)]
