@@ -2,6 +2,7 @@
 use Rattle.std.proofs.Common.{◌≡◌, ℕ, suc, ◌+◌, ◌≤◌, ◌&&◌, true, false, Bool, not, List, [], ◌∷◌, ◌++◌, Option, Some, None, length, map, is_none, arith, refl, sym, ap, ◌∙◌, subst}
 use Rattle.std.proofs.lemmas.Bool.{le-leb}
 use Rattle.std.proofs.lemmas.List.{length-map, map_push}
+use Rattle.space_map.specs.declared.spaces.TheConstants.{MOST_MUTATORS, MOST_SCANNERS}
 use Rattle.space_map.specs.Table.{whole_length}
 use Rattle.gc_worker.specs.declared.config.Config.{Config}
 use Rattle.gc_worker.specs.Config.{has_sizes, layout_by}
@@ -90,9 +91,9 @@ sizes_hold true never = refl
 sizes_hold false never = absurd (never refl)
 
 -- numbers of seats that a heap may have
-pub counts_hold : (mutators scanners : ℕ) → 1 ≤ mutators → mutators ≤ 16 → scanners ≤ 8 → are_counts mutators scanners ≡ true
+pub counts_hold : (mutators scanners : ℕ) → 1 ≤ mutators → mutators ≤ MOST_MUTATORS → scanners ≤ MOST_SCANNERS → are_counts mutators scanners ≡ true
 counts_hold mutators scanners some few little =
-    rw (le-leb 1 mutators some, le-leb mutators 16 few, le-leb scanners 8 little) refl
+    rw (le-leb 1 mutators some, le-leb mutators MOST_MUTATORS few, le-leb scanners MOST_SCANNERS little) refl
 
 opens_by : (answer : Answer) (config : Config) (before after : Handles) (heap : Shared) → heap.table.shared.key ≡ plan_without_printing (length before.mutators) config
     → heap.table.shared.table_id.words ≡ whole_length (layout_by config) → DealsBy answer heap before after → OpensBy answer config before after

@@ -2,6 +2,7 @@
 use Rattle.std.proofs.Common.{◌≡◌, ℕ, ◌+◌, ◌≤◌, Bool, true, false, Option, Some, None, length, map, refl, ◌∙◌, arith}
 use Rattle.std.proofs.lemmas.Bool.Decides.{nat_tests}
 use Rattle.std.proofs.lemmas.List.{length-map, length-take-le}
+use Rattle.space_map.specs.declared.spaces.TheConstants.{MOST_MUTATORS, MOST_SCANNERS}
 use Rattle.space_map.specs.Spaces.{IsPageCount}
 use Rattle.space_map.specs.Table.{table_length, whole_length}
 use Rattle.heap_state.specs.Kept.{kept_by}
@@ -24,15 +25,15 @@ table_within : (room : Bool) (n : ℕ) → table_length n ≤ whole_length (reco
 table_within true n = omega arith
 table_within false n = omega arith
 
-counts_pass : (pages mutators workers : ℕ) → IsPageCount pages → 1 ≤ mutators → mutators ≤ 16 → mutators ≤ workers → workers ≤ mutators + 8
+counts_pass : (pages mutators workers : ℕ) → IsPageCount pages → 1 ≤ mutators → mutators ≤ MOST_MUTATORS → mutators ≤ workers → workers ≤ mutators + MOST_SCANNERS
     → are_counts (record { pages = pages; mutators = mutators; workers = workers }) ≡ true
 counts_pass pages mutators workers count some few enough most = let least = count.0 in let greatest = count.1 in grind (arith, nat_tests)
 
 -- so many mutators and scanners, with a whole table
 pub record IsOfSize (s : CoreState) : Type 0 where
   pub count : IsPageCount s.heap.pages
-  pub mutators : (1 ≤ s.heap.mutators) × (s.heap.mutators ≤ 16)
-  pub workers : (s.heap.mutators ≤ workers_of s) × (workers_of s ≤ s.heap.mutators + 8)
+  pub mutators : (1 ≤ s.heap.mutators) × (s.heap.mutators ≤ MOST_MUTATORS)
+  pub workers : (s.heap.mutators ≤ workers_of s) × (workers_of s ≤ s.heap.mutators + MOST_SCANNERS)
   pub whole : whole_length (layout_of s.heap) ≤ length s.heap.words
 
 module _ (s : CoreState) (size : IsOfSize s) where

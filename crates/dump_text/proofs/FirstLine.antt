@@ -1,9 +1,10 @@
 -- The first line: it is read by its text, and its text is a line.
-use Rattle.std.proofs.Common.{◌≡◌, ℕ, suc, ◌^◌, ◌<◌, ◌≤◌, true, cond, decimal, List, [], ◌∷◌, ◌++◌, Some, None, refl, sym, ap, subst, ◌∙◌, arith}
+use Rattle.std.proofs.Common.{◌≡◌, ℕ, suc, ◌+◌, ◌^◌, ◌<◌, ◌≤◌, true, cond, decimal, List, [], ◌∷◌, ◌++◌, Some, None, refl, sym, ap, subst, ◌∙◌, arith}
 use Rattle.std.proofs.lemmas.Bool.Decides.{nat_tests}
 use Rattle.std.proofs.lemmas.List.{append_assoc}
 use Rattle.std.specs.List.{list_all}
 use Rattle.std.specs.Char.{is_ascii_digit}
+use Rattle.space_map.specs.declared.spaces.TheConstants.{MOST_MUTATORS, MOST_PAGES, MOST_SCANNERS}
 use Rattle.dump_text.specs.Lines.{first_lines}
 use Rattle.dump_text.specs.Pieces.{◌>>=◌, byte_at, keyword_at, number_at, head_at}
 use Rattle.dump_text.specs.Text.{Counts, are_counts}
@@ -16,9 +17,9 @@ use Rattle.dump_text.proofs.Pieces.{IsPiece, byte_takes}
 -- ---- the counts of a heap
 
 pub record AreSmall (c : Counts) : Type 0 where
-  pub pages : (0 < c.pages) × (c.pages ≤ 2048)
-  pub mutators : (0 < c.mutators) × (c.mutators ≤ 16)
-  pub workers : (0 < c.workers) × (c.workers ≤ 24)
+  pub pages : (0 < c.pages) × (c.pages ≤ MOST_PAGES)
+  pub mutators : (0 < c.mutators) × (c.mutators ≤ MOST_MUTATORS)
+  pub workers : (0 < c.workers) × (c.workers ≤ MOST_MUTATORS + MOST_SCANNERS)
 
 small_counts : (c : Counts) → are_counts c ≡ true → AreSmall c
 small_counts c h = record {

@@ -4,6 +4,7 @@ use Rattle.std.proofs.lemmas.Bool.Decides.{nat_tests}
 use Rattle.std.proofs.lemmas.List.{append_assoc, length-replicate}
 use Rattle.std.specs.List.{flat_map, AllByRecursion}
 use Rattle.std.specs.Prelude.{IfErr, IfOk}
+use Rattle.space_map.specs.declared.spaces.TheConstants.{MOST_MUTATORS}
 use Rattle.heap_state.specs.Kept.{Kept}
 use Rattle.space_map.specs.Table.{table_length}
 use Rattle.dump_text.specs.Lines.{IsFirstWrong, NamesFirstWrong, first_lines}
@@ -103,14 +104,14 @@ zeros_are (suc n) = let h = zeros_are n in (ap suc h.0, (zero_word, h.1))
 pub some_dump : ℕ → Dumped
 some_dump n = record { pages = 4; registers = replicate n no_registers; kept = replicate n nothing_kept; words = zeros (table_length 4) }
 
-small_counts : (n : ℕ) → 1 ≤ n → n ≤ 16 → are_counts (record { pages = 4; mutators = n; workers = n }) ≡ true
+small_counts : (n : ℕ) → 1 ≤ n → n ≤ MOST_MUTATORS → are_counts (record { pages = 4; mutators = n; workers = n }) ≡ true
 small_counts n some few = grind (arith, nat_tests)
 
 some_counts : (n : ℕ) → counts_of (some_dump n) ≡ record { pages = 4; mutators = n; workers = n }
 unfolding some_dump
 some_counts n = rw (length-replicate n no_registers, length-replicate n nothing_kept) refl
 
-pub some_is_dump : (n : ℕ) → 1 ≤ n → n ≤ 16 → IsDumpOf n (some_dump n)
+pub some_is_dump : (n : ℕ) → 1 ≤ n → n ≤ MOST_MUTATORS → IsDumpOf n (some_dump n)
 unfolding some_dump
 some_is_dump n some few = record {
   is_dump = record {
@@ -125,7 +126,7 @@ some_is_dump n some few = record {
 
 -- ---- the first wrong line
 
-module _ (n : ℕ) (some : 1 ≤ n) (few : n ≤ 16) (bytes : List ℕ) where
+module _ (n : ℕ) (some : 1 ≤ n) (few : n ≤ MOST_MUTATORS) (bytes : List ℕ) where
   -- a first line that is no dump's
   pub first_is_wrong : ((d : Dumped) → IsDumpOf n d → BeginsDump bytes (counts_of d) → ⊥) → IsFirstWrongOf dump_text (IsDumpOf n) bytes 1
   first_is_wrong none = record {

@@ -1,5 +1,5 @@
 -- The first word of the heap that isn't as it should be, over the records that were looked at so far.
-use Rattle.std.proofs.Common.{◌≡◌, ℕ, zero, suc, ◌+◌, ◌-◌, ◌*◌, ◌^◌, ◌<◌, ◌≤◌, Bool, false, List, [], ◌∷◌, ◌++◌, Option, Some, None, get_or, length, map, take, refl, sym, ap, ◌∙◌, subst, arith, ⊎_elim, inl, inr, true}
+use Rattle.std.proofs.Common.{◌≡◌, ℕ, zero, suc, ◌+◌, ◌-◌, ◌*◌, ◌<◌, ◌≤◌, Bool, false, List, [], ◌∷◌, ◌++◌, Option, Some, None, get_or, length, map, take, refl, sym, ap, ◌∙◌, subst, arith, ⊎_elim, inl, inr, true}
 use Rattle.std.specs.Prelude.{IfSome, IsSomeAnd, MatchOption, option_map, nat_lt, IsTrue, ◌↔◌}
 use Rattle.std.specs.List.{Contains}
 use Rattle.std.proofs.lemmas.Bool.{cases_eq, cases_lt, le-leb, lt-leb, lt-ltb, le-ltb}
@@ -7,7 +7,8 @@ use Rattle.std.proofs.lemmas.List.{append-nil, get_or-append_right, get_or-map, 
 use Rattle.std.proofs.lemmas.List.Elements.{Contains-append_left, Contains-get_or, Contains-push, Contains-push_cases}
 use Rattle.plain_state.specs.declared.value.Identity.{Identity}
 use Rattle.plain_state.specs.State as plain
-use Rattle.space_map.specs.Spaces.{space_start, to_space}
+use Rattle.space_map.specs.declared.spaces.TheConstants.{MOST_PAGES}
+use Rattle.space_map.specs.Spaces.{space_start, to_space, past_heaps}
 use Rattle.heap_state.specs.Kept.{reserved_in}
 use Rattle.heap_state.specs.Meaning.Denotes.{named_by}
 use Rattle.heap_state.specs.Meaning.Dump.{Dump}
@@ -143,7 +144,7 @@ module _ (d : Dump) (ordered : (space : ℕ) → IsWalkedSpace d.table space →
       (λ (l : 128 * n ≤ a). absurd (first.0 (λ b. let k = breaks_in_heap a b in omega arith)))
       (cases_lt a (128 * n))
 
-  pub break_short : (o : Option ℕ) → n ≤ 2048 → TellsFirst (λ b. BreaksAt d b → ⊥) o → IfSome o (λ a. a < 2 ^ 20)
+  pub break_short : (o : Option ℕ) → n ≤ MOST_PAGES → TellsFirst (λ b. BreaksAt d b → ⊥) o → IfSome o (λ a. a < 2 * past_heaps)
   break_short None few first = tt
   break_short (Some a) few first = let l = first_break_in_heap a first in omega arith
 

@@ -5,6 +5,7 @@ use Rattle.std.specs.List.{AllByRecursion}
 use Rattle.std.specs.Prelude.{IfErr}
 use Rattle.std.proofs.lemmas.Bool.Decides.{nat_tests}
 use Rattle.std.specs.Result.{IsErrAnd}
+use Rattle.space_map.specs.declared.spaces.TheConstants.{MOST_MUTATORS}
 use Rattle.plain_heap.specs.declared.mark.Mark.{Mark}
 use Rattle.plain_heap.specs.Print.{Seen, lines_seen, order_line}
 use Rattle.dump_text.specs.Lines.{first_lines}
@@ -112,10 +113,10 @@ part_found n bytes rest last output seen order dump = (
 -- ---- no other has its text
 
 -- a part has no more mutators than a heap
-few_mutators : (n : ℕ) (output : Output) → IsPart n output → n ≤ 16
+few_mutators : (n : ℕ) (output : Output) → IsPart n output → n ≤ MOST_MUTATORS
 few_mutators n output is = few (counts_of output.dump) is.dump.as_many is.dump.is_dump.counts
   where
-    few : (c : Counts) → c.mutators ≡ n → are_counts c ≡ true → n ≤ 16
+    few : (c : Counts) → c.mutators ≡ n → are_counts c ≡ true → n ≤ MOST_MUTATORS
     few c many counts = grind (arith, nat_tests)
 
 pub one_output : TellsOneOutput
@@ -127,7 +128,7 @@ one_output n a b is_a is_b same =
 
 -- ---- the first wrong line
 
-module _ (n : ℕ) (some : 1 ≤ n) (few : n ≤ 16) (bytes : List ℕ) where
+module _ (n : ℕ) (some : 1 ≤ n) (few : n ≤ MOST_MUTATORS) (bytes : List ℕ) where
   abbrev Wrong : ReadingError → Type 0
   Wrong why = NamesFirstWrongOf part_text (IsPart n) bytes why
 

@@ -6,6 +6,7 @@ use Rattle.std.specs.List.{Contains}
 use Rattle.std.proofs.lemmas.Bool.{cases_eq, cases_lt, eq-eqb, le-ltb, lt-ltb, ne_eqb}
 use Rattle.std.proofs.lemmas.List.{append-nil, get_or-map, length-map}
 use Rattle.std.proofs.lemmas.List.Elements.{Contains-append_cases, Contains-append_left, Contains-append_right, Contains-get_or}
+use Rattle.space_map.specs.declared.spaces.TheConstants.{MOST_PAGES}
 use Rattle.space_map.specs.declared.page_word.PageWord.{PageWord}
 use Rattle.space_map.specs.declared.page_word.PageWord.TheVariants.{Unset, Open, Scanning}
 use Rattle.space_map.specs.Spaces.{space_start, to_space}
@@ -69,9 +70,9 @@ starts n (suc zero) few = inr (refl, omega arith)
 starts n (suc (suc space)) few = absurd (omega arith)
 
 -- the parts of a space that is in order follow one another, and end in the heap
-pub extent_fits : (t : Table) (n space : ℕ) → t.pages ≡ n → n ≤ 2048 → space < 2 → IsInOrder t space
+pub extent_fits : (t : Table) (n space : ℕ) → t.pages ≡ n → n ≤ MOST_PAGES → space < 2 → IsInOrder t space
     → ((t.area space).front ≤ (t.area space).low) × ((t.area space).low ≤ 64 * t.in_use space) × (space_start n space + 64 * t.in_use space ≤ 128 * n)
-    × (t.in_use space ≤ 2048) × (128 * n ≤ 262144)
+    × (t.in_use space ≤ MOST_PAGES) × (128 * n ≤ 128 * MOST_PAGES)
 extent_fits t n space pages few one ordered =
     let s = starts n space one in
     (ordered.area.0, ordered.area.1, omega (arith, s, ordered.size, pages), omega (arith, ordered.size, pages), omega arith)

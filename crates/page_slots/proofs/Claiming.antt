@@ -9,6 +9,7 @@ use Rattle.atom_store.specs.Acts.{MakesStep}
 use Rattle.atom_store.specs.Step.{reply_of}
 use Rattle.atom_store.proofs.Acting.{no_step}
 use Rattle.atom_store.proofs.Steps.{slice_index-words_after, slice_index-won, won_exactly, lost_tells_another, words_after-lost}
+use Rattle.space_map.specs.declared.spaces.TheConstants.{LAST_WORKER}
 use Rattle.space_map.specs.declared.gate_word.GateWord.{GateWord}
 use Rattle.space_map.specs.declared.page_word.PageWord.TheVariants.{Scanning}
 use Rattle.space_map.specs.GateWord.{decode_gate}
@@ -108,7 +109,7 @@ pub takes : (c : Claiming) (stage : ClaimStage) (before after : List ℕ) (word 
     → MakesStep claim_machine (at c stage) before after (Finished (Taken word)) → ShowsTaken c before word × (after ≡ before)
 takes c (LooksAtPlace k) before after word sound acts =
     let announced : ℕ = row_word c.layout.pages (Announce k) before in
-    let shows = place_shows k announced word (names_below_end c.page announced) (nat_eq k 23) acts.tells in
+    let shows = place_shows k announced word (names_below_end c.page announced) (nat_eq k LAST_WORKER) acts.tells in
     let below = names_below c.page announced shows.0 in
     (Announced k sound.stage.0 shows.1 (rw shows.1 below.0) (rw shows.1 below.1), acts.makes)
   where

@@ -3,7 +3,7 @@ use Rattle.std.proofs.Common.{◌≡◌, ◌≢◌, ℕ, zero, suc, ◌+◌, ◌
 use mathlib.Core.Option.{some, some-injective, some-ne-none}
 use lib.ListN.{get_elem?}
 use Rattle.atomic_table.specs.Table as table
-use Rattle.space_map.specs.declared.spaces.TheConstants.{FEWEST_PAGES}
+use Rattle.space_map.specs.declared.spaces.TheConstants.{FEWEST_PAGES, MOST_MUTATORS, MOST_SCANNERS}
 use Rattle.space_map.specs.Spaces.{Layout, IsPageCount}
 use Rattle.gc_worker.specs.Laws.Between.{fresh_mutator, fresh_scanner, fresh_worker, fresh_workers, opening_words}
 use Rattle.gc_worker.specs.Laws.Cycles.{IsInCall}
@@ -79,7 +79,7 @@ fresh_looks prints s mutators from zero m x is call = absurd (some-ne-none x (sy
 fresh_looks prints s mutators from (suc count) zero x is call = new_looks prints s mutators from (subst (λ (y : Held). IsInCall y.stage) (sym (some-injective (fresh_worker prints s mutators from) x is)) call)
 fresh_looks prints s mutators from (suc count) (suc m) x is call = fresh_looks prints s mutators (from + 1) count m x is call
 
-pub opens_kept : (plan : Plan) → IsPageCount plan.spaces.pages → FEWEST_PAGES ≤ plan.least → plan.least ≤ plan.spaces.pages → plan.mutators ≤ 16 → crew plan ≤ 24 → RuleHolds plan (table.opening {S = ℕ} (first_words plan) [] (first_view plan))
+pub opens_kept : (plan : Plan) → IsPageCount plan.spaces.pages → FEWEST_PAGES ≤ plan.least → plan.least ≤ plan.spaces.pages → plan.mutators ≤ MOST_MUTATORS → crew plan ≤ MOST_MUTATORS + MOST_SCANNERS → RuleHolds plan (table.opening {S = ℕ} (first_words plan) [] (first_view plan))
 opens_kept plan size fewest most few all = record {
   log = [];
   workers = first_workers plan;

@@ -1,6 +1,7 @@
 -- A caller between two steps.
 use Rattle.std.proofs.Common.{None, inl, inr, ◌≡◌, ℕ, ◌+◌, ◌<◌, ◌≤◌, Bool, true, false, nat_lt, List, [], ◌∷◌, ◌++◌, Some, refl, sym, ap, subst, ◌∙◌, slice_get, arith}
 use Rattle.std.specs.Prelude.{if◌then◌else◌}
+use Rattle.space_map.specs.declared.spaces.TheConstants.{LAST_WORKER, MOST_MUTATORS, MOST_SCANNERS}
 use mathlib.Core.List.{IsPrefix}
 use Rattle.atomic_table.specs.Seated.{TableId}
 use Rattle.atom_store.specs.declared.reply.Reply.{Reply}
@@ -107,7 +108,7 @@ still_live t u v w e f live = subst (λ (z : TableId × Plan). (0 < z.1.spaces.p
 
 -- ---- a new caller
 
-first_fits : (plan : Plan) (k : ℕ) → IsPageCount plan.spaces.pages → k ≤ 23 → Fits plan.spaces.pages plan.mutators k (first_held plan k)
+first_fits : (plan : Plan) (k : ℕ) → IsPageCount plan.spaces.pages → k ≤ LAST_WORKER → Fits plan.spaces.pages plan.mutators k (first_held plan k)
 first_fits plan k size few = by_side (nat_lt k plan.mutators) refl
   where
     by_side : (b : Bool) → nat_lt k plan.mutators ≡ b → Fits plan.spaces.pages plan.mutators k (if b then fresh_mutator plan.prints plan.spaces plan.mutators k else fresh_scanner plan.prints plan.spaces plan.mutators k)
@@ -128,7 +129,7 @@ first_prints plan k = by_side (nat_lt k plan.mutators)
     by_side true = refl
     by_side false = refl
 
-pub fresh_heads : (plan : Plan) (k : ℕ) (x : Held) (v : View) → IsPageCount plan.spaces.pages → k ≤ 23 → x ≡ first_held plan k → v ≡ view plan (hand k (first_held plan k) [] ∷ []) [] [] [] → Heads v.plan x v.hands
+pub fresh_heads : (plan : Plan) (k : ℕ) (x : Held) (v : View) → IsPageCount plan.spaces.pages → k ≤ LAST_WORKER → x ≡ first_held plan k → v ≡ view plan (hand k (first_held plan k) [] ∷ []) [] [] [] → Heads v.plan x v.hands
 fresh_heads plan k x v size few e is =
     subst (λ (z : Held × View). Heads z.1.plan z.0 z.1.hands) (λ i. (sym e i, sym is i)) (stays plan k (first_held plan k) (first_fits plan k size few) (first_layout plan k) (first_prints plan k))
 
@@ -140,7 +141,7 @@ first_end prints l mutators k = by_side (nat_lt k mutators)
     by_side false = refl
 
 -- what it shows is the opening's plain mutator
-fresh_shown : (plan : Plan) (k : ℕ) → IsPageCount plan.spaces.pages → plan.mutators ≤ 16 → crew plan ≤ 24 → k < crew plan → (q : Mutator) → slice_get (first_plain plan).mutators k ≡ Some q
+fresh_shown : (plan : Plan) (k : ℕ) → IsPageCount plan.spaces.pages → plan.mutators ≤ MOST_MUTATORS → crew plan ≤ MOST_MUTATORS + MOST_SCANNERS → k < crew plan → (q : Mutator) → slice_get (first_plain plan).mutators k ≡ Some q
     → IsShown (first_plain plan).heap k (first_held plan k) q
 fresh_shown plan k size few all below q its =
     let n = plan.spaces.pages in
@@ -154,7 +155,7 @@ fresh_shown plan k size few all below q its =
     let shown = shown_by h (first_plain plan) k 0 (first k) q a (a.shows (sym a.account.end ∙ first_end plan.prints l plan.mutators k)) in
     subst (λ (x : Held). IsShown (first_plain plan).heap k x q) (uncounted_first plan.prints l plan.mutators k) shown
 
-pub fresh_shows : (plan : Plan) (k : ℕ) (x : Held) (v : View) → IsPageCount plan.spaces.pages → plan.mutators ≤ 16 → crew plan ≤ 24 → k < crew plan → x ≡ first_held plan k
+pub fresh_shows : (plan : Plan) (k : ℕ) (x : Held) (v : View) → IsPageCount plan.spaces.pages → plan.mutators ≤ MOST_MUTATORS → crew plan ≤ MOST_MUTATORS + MOST_SCANNERS → k < crew plan → x ≡ first_held plan k
     → v ≡ view plan (hand k (first_held plan k) [] ∷ []) [] [] [] → ShowsSeen x v
 fresh_shows plan k x v size few all below e is =
     subst (λ (z : Held × View). ShowsSeen z.0 z.1) (λ i. (sym e i, sym is i)) (fresh_shown plan k size few all below)

@@ -3,6 +3,7 @@ use Rattle.std.proofs.Common.{◌≡◌, ℕ, ◌+◌, ◌*◌, ◌≤◌, true,
 use Rattle.std.specs.Prelude.{IsTrue}
 use Rattle.plain_state.specs.declared.end.End.TheVariants as ends
 use Rattle.plain_state.specs.declared.sizes.TheConstants.{PAGE_WORDS}
+use Rattle.space_map.specs.declared.spaces.TheConstants.{MOST_MUTATORS, MOST_SCANNERS}
 use Rattle.mutator_asm.specs.declared.instr.Instr.{Instr}
 use Rattle.mutator_asm.specs.declared.item.Item.{Item}
 use Rattle.mutator_asm.specs.Program.{IsWellFormed}
@@ -75,7 +76,7 @@ module _ (code : List (List Instr)) (items : List Item) (turns : ℕ) (config : 
 
   -- ---- its history
 
-  fits : length code + config.scanners ≤ 24
+  fits : length code + config.scanners ≤ MOST_MUTATORS + MOST_SCANNERS
   fits = let most = program.few_sections in omega (arith, most, few)
 
   begins : HasHistory config.pages s []

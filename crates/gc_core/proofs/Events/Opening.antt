@@ -4,6 +4,7 @@ use Rattle.std.specs.Prelude.{IsTrue, if◌then◌else◌}
 use Rattle.std.proofs.lemmas.Bool.{leb-true}
 use Rattle.plain_state.specs.Cells.{CellsFollow}
 use Rattle.plain_state.specs.State.{Plain}
+use Rattle.space_map.specs.declared.spaces.TheConstants.{MOST_PAGES}
 use Rattle.mutator_asm.specs.declared.instr.Instr.{Instr}
 use Rattle.mutator_asm.specs.declared.item.Item.{Item}
 use Rattle.mutator_asm.specs.Program.{IsWellFormed}
@@ -30,12 +31,12 @@ use Rattle.gc_worker.specs.Laws.Claims.{epoch_of_heap}
 use Rattle.gc_core.specs.Law.{IsLawful, IsSteady}
 
 -- the pages that may be in use of a space whose heap can be opened
-pub sizes_fit : (config : Config) → IsTrue (has_sizes config) → (4 ≤ config.pages) × (config.pages ≤ config.limit) × (config.limit ≤ 2048)
-sizes_fit config e = by_tests (nat_le 4 config.pages) (nat_le config.pages 2048) (nat_le config.pages config.limit) (nat_le config.limit 2048) refl refl refl refl e
+pub sizes_fit : (config : Config) → IsTrue (has_sizes config) → (4 ≤ config.pages) × (config.pages ≤ config.limit) × (config.limit ≤ MOST_PAGES)
+sizes_fit config e = by_tests (nat_le 4 config.pages) (nat_le config.pages MOST_PAGES) (nat_le config.pages config.limit) (nat_le config.limit MOST_PAGES) refl refl refl refl e
   where
-    by_tests : (a b c d : Bool) → nat_le 4 config.pages ≡ a → nat_le config.pages 2048 ≡ b → nat_le config.pages config.limit ≡ c → nat_le config.limit 2048 ≡ d
-        → ((a && b) && (c && d)) ≡ true → (4 ≤ config.pages) × (config.pages ≤ config.limit) × (config.limit ≤ 2048)
-    by_tests true true true true x y z w e = (leb-true 4 config.pages x, leb-true config.pages config.limit z, leb-true config.limit 2048 w)
+    by_tests : (a b c d : Bool) → nat_le 4 config.pages ≡ a → nat_le config.pages MOST_PAGES ≡ b → nat_le config.pages config.limit ≡ c → nat_le config.limit MOST_PAGES ≡ d
+        → ((a && b) && (c && d)) ≡ true → (4 ≤ config.pages) × (config.pages ≤ config.limit) × (config.limit ≤ MOST_PAGES)
+    by_tests true true true true x y z w e = (leb-true 4 config.pages x, leb-true config.pages config.limit z, leb-true config.limit MOST_PAGES w)
     by_tests true true true false x y z w e = absurd (cc)
     by_tests true true false d x y z w e = absurd (cc)
     by_tests true false c d x y z w e = absurd (cc)

@@ -6,6 +6,7 @@ use Rattle.std.proofs.lemmas.List.{get_or-replicate, get_or_past, length-replica
 use Rattle.std.proofs.Math.ListN.{length-set}
 use Rattle.heap_words.specs.Decoded.{decode}
 use Rattle.plain_state.specs.declared.sizes.TheConstants.{REGISTERS}
+use Rattle.space_map.specs.declared.spaces.TheConstants.{LAST_WORKER, MOST_MUTATORS, MOST_SCANNERS}
 use Rattle.space_map.specs.Spaces.{Layout, IsPageCount}
 use Rattle.space_map.specs.Table.{whole_length}
 use Rattle.heap_state.specs.Configuration.{Configuration, Stands, table, era, memory, team}
@@ -52,7 +53,7 @@ module _ (prints : Bool) (s : Layout) (mutators k : ℕ) where
   is_value : (r : ℕ) → r < REGISTERS → IsValueWord (slice_index (replicate REGISTERS 0) r)
   is_value r l = subst IsValueAs (sym (ap decode (no_word r) ∙ zero_word)) tt
 
-  module _ (size : IsPageCount s.pages) (few : k ≤ 23) where
+  module _ (size : IsPageCount s.pages) (few : k ≤ LAST_WORKER) where
     pub mutator_fits : nat_lt k mutators ≡ true → Fits s.pages mutators k (fresh_mutator prints s mutators k)
     mutator_fits side = record {
       worker = new_worker s mutators k size few is_value;
@@ -173,7 +174,7 @@ module _ (n least : ℕ) (size : IsPageCount n) (some : 4 ≤ least) (short : le
 
 -- ---- the heap
 
-module _ (prints : Bool) (n : ℕ) (room : Bool) (least mutators scanners : ℕ) (size : IsPageCount n) (fewest : 4 ≤ least) (most : least ≤ n) (all : mutators + scanners ≤ 24) where
+module _ (prints : Bool) (n : ℕ) (room : Bool) (least mutators scanners : ℕ) (size : IsPageCount n) (fewest : 4 ≤ least) (most : least ≤ n) (all : mutators + scanners ≤ MOST_MUTATORS + MOST_SCANNERS) where
   abbrev s : Layout
   s = layout n room
 
@@ -212,7 +213,7 @@ module _ (prints : Bool) (n : ℕ) (room : Bool) (least mutators scanners : ℕ)
   abbrev Begins : Configuration → Type 0
   Begins c = (st : Stands c (opening_plain mutators)) × Cycle (era c) (memory c) (team c) st.ghost (opening_plain mutators)
 
-  begins : mutators ≤ 16 → Begins (read h)
+  begins : mutators ≤ MOST_MUTATORS → Begins (read h)
   begins few =
       let o = opening_stands n least mutators scanners size fewest most few all in
       let same = words.says ∙ sym (opened n least size fewest most).says in
@@ -222,7 +223,7 @@ module _ (prints : Bool) (n : ℕ) (room : Bool) (least mutators scanners : ℕ)
 
 -- ---- checkpoints
 
-module _ (prints : Bool) (n least mutators scanners : ℕ) (size : IsPageCount n) (fewest : 4 ≤ least) (most : least ≤ n) (all : mutators + scanners ≤ 24) where
+module _ (prints : Bool) (n least mutators scanners : ℕ) (size : IsPageCount n) (fewest : 4 ≤ least) (most : least ≤ n) (all : mutators + scanners ≤ MOST_MUTATORS + MOST_SCANNERS) where
   abbrev whole : Heap
   whole = opening_heap prints (layout n true) least mutators scanners
 

@@ -2,6 +2,7 @@
 use Rattle.std.proofs.Common.{◌≡◌, ℕ, ◌+◌, ◌*◌, ◌<◌, ◌≤◌, Bool, true, false, cond, nat_lt, [], length, zero, suc, refl, sym, ap, subst, ◌∙◌, arith}
 use Rattle.plain_state.specs.declared.sizes.TheConstants.{PAGE_WORDS}
 use Rattle.plain_state.specs.State.{Plain}
+use Rattle.space_map.specs.declared.spaces.TheConstants.{MOST_MUTATORS, MOST_SCANNERS}
 use Rattle.space_map.specs.Spaces.{Layout, IsPageCount, to_space}
 use Rattle.heap_state.specs.Configuration.{table}
 use Rattle.heap_state.specs.Memory.Entries.{table_with}
@@ -33,7 +34,7 @@ in_use_now : (h : Heap) (space : ℕ) → (table (read h)).in_use space ≡ word
 unfolding table_of
 in_use_now h space = refl
 
-module _ (prints : Bool) (s : Layout) (least mutators scanners : ℕ) (size : IsPageCount s.pages) (fewest : 4 ≤ least) (most : least ≤ s.pages) (few : mutators ≤ 16) (all : mutators + scanners ≤ 24) where
+module _ (prints : Bool) (s : Layout) (least mutators scanners : ℕ) (size : IsPageCount s.pages) (fewest : 4 ≤ least) (most : least ≤ s.pages) (few : mutators ≤ MOST_MUTATORS) (all : mutators + scanners ≤ MOST_MUTATORS + MOST_SCANNERS) where
   abbrev n : ℕ
   n = s.pages
 

@@ -6,6 +6,7 @@ use Rattle.atom_store.specs.declared.step.Step.{Step}
 use Rattle.atom_store.specs.Step.{place_in}
 use Rattle.atom_store.specs.StepOn.{StepOn, Load, IsOn, step_at, touched}
 use Rattle.atom_store.proofs.Steps.{place_in-step_at}
+use Rattle.space_map.specs.declared.spaces.TheConstants.{LAST_WORKER}
 use Rattle.space_map.specs.Spaces.{Layout}
 use Rattle.space_map.specs.Table.{Row, Gate, IsRow, place_of, whole_length}
 use Rattle.space_map.specs.WholeTable.{WholeRow, Within, Behind, IsWholeRow, whole_place_of}
@@ -83,7 +84,7 @@ module _ (n mutators k : ℕ) (x : Held) (f : Fits n mutators k x) where
 
   copy : (e : ℕ) (v : Evacuation) → FitsCopy x e v → IsOnRow x.layout (wanted v)
   copy e v fits =
-      let few : v.worker ≤ 23 = let a = f.number in let b = f.few in let same = fits.worker in omega (arith, same, a, b) in
+      let few : v.worker ≤ LAST_WORKER = let a = f.number in let b = f.few in let same = fits.worker in omega (arith, same, a, b) in
       own v.layout fits.layout _ (copy_rows.rows_fit v.layout v.addr v.epoch v.worker few fits.sound.addr v.stage fits.sound.fits fits.going)
 
   pub rows_fit : (stage : Stage) → FitsStage x stage → (stage ≡ Gone) ⊎ IsOnRow x.layout (wanted_at x stage)

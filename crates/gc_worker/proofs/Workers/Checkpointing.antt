@@ -1,6 +1,7 @@
 -- A worker begins a round for the checkpoint in progress.
 use Rattle.std.proofs.Common.{◌≡◌, ℕ, ◌+◌, ◌^◌, ◌<◌, ◌≤◌, Bool, true, false, None, is_some, nat_lt, refl, arith}
 use Rattle.std.specs.Prelude.{◌&&◌}
+use Rattle.space_map.specs.declared.spaces.TheConstants.{LAST_WORKER}
 use Rattle.page_saves.specs.SaveRound as save_round
 use Rattle.page_saves.specs.SoundRound.{IsSoundSaveRound}
 use Rattle.gc_worker.specs.declared.stage.goal.Goal.TheVariants.{ForFlip, ForSnap, ForScanner}
@@ -18,7 +19,7 @@ pub has_room : (x : Held) → may_snap x ≡ true → x.layout.checkpoints ≡ t
 has_room x may = first_by x.layout.checkpoints (nat_lt (x.snap + 1) (2 ^ 32)) may
 
 module _ (n mutators k : ℕ) (x : Held) (f : Fits n mutators k x) (unended : is_some x.account.end ≡ false) (room : x.layout.checkpoints ≡ true) where
-  few : x.number ≤ 23
+  few : x.number ≤ LAST_WORKER
   few = let a = f.few in let b = f.number in omega (arith, a, b)
 
   by_mutator : IsSoundSaveRound (save_round.begun_by_mutator x.layout x.epoch x.number)

@@ -1,6 +1,7 @@
 -- Workers that begin, that are given a task, or that took a reply are sound.
 use Rattle.std.proofs.Common.{◌≡◌, ℕ, ◌<◌, ◌≤◌, Bool, List, Option, Some, None, sym, subst, arith, lt-ltb}
 use Rattle.std.proofs.lemmas.Bool.{le-ltb}
+use Rattle.space_map.specs.declared.spaces.TheConstants.{LAST_WORKER, MOST_MUTATORS}
 use Rattle.space_map.specs.Spaces.{Layout, IsPageCount}
 use Rattle.atom_store.specs.declared.step.Step.{Step}
 use Rattle.gc_worker.specs.declared.task.Task.{Task}
@@ -14,11 +15,11 @@ use Rattle.gc_worker.proofs.Between.Beginning.{tasks_may_begin}
 use Rattle.gc_worker.proofs.Between.Opening.{mutator_fits, scanner_fits}
 use Rattle.gc_worker.proofs.Workers.ApartFromCount.{counted_fit}
 
-pub mutators_are_sound : (prints : Bool) (s : Layout) (mutators k : ℕ) (y : Held) → y ≡ fresh_mutator prints s mutators k → IsPageCount s.pages → k < mutators → mutators ≤ 16 → IsSound y
+pub mutators_are_sound : (prints : Bool) (s : Layout) (mutators k : ℕ) (y : Held) → y ≡ fresh_mutator prints s mutators k → IsPageCount s.pages → k < mutators → mutators ≤ MOST_MUTATORS → IsSound y
 mutators_are_sound prints s mutators k y is size below few =
     subst IsSound (sym is) (mutator_fits prints s mutators k size (omega arith) (lt-ltb k mutators below))
 
-pub scanners_are_sound : (prints : Bool) (s : Layout) (mutators k : ℕ) (y : Held) → y ≡ fresh_scanner prints s mutators k → IsPageCount s.pages → mutators ≤ k → k ≤ 23 → IsSound y
+pub scanners_are_sound : (prints : Bool) (s : Layout) (mutators k : ℕ) (y : Held) → y ≡ fresh_scanner prints s mutators k → IsPageCount s.pages → mutators ≤ k → k ≤ LAST_WORKER → IsSound y
 scanners_are_sound prints s mutators k y is size past few = subst IsSound (sym is) (scanner_fits prints s mutators k size few (le-ltb k mutators past))
 
 pub begun_are_sound : (x y : Held) (task : Task) → y ≡ with_task x task → IsSound x → IsIdle x → MayBegin x.account x.registers (Some task) → IsSound y

@@ -6,6 +6,7 @@ use Rattle.plain_state.specs.declared.kind.Kind.TheVariants.{Fields}
 use Rattle.plain_state.specs.declared.value.Value.TheVariants.{Number, Reference}
 use Rattle.plain_state.specs.declared.value.Identity.{Identity}
 use Rattle.plain_state.specs.State as plain
+use Rattle.space_map.specs.declared.spaces.TheConstants.{MOST_MUTATORS, MOST_SCANNERS}
 use Rattle.space_map.specs.declared.page_word.PageWord.TheVariants.{Unset, Open, Scanning}
 use Rattle.space_map.specs.PageWord.{age_of}
 use Rattle.space_map.specs.Spaces.{IsPageCount}
@@ -134,7 +135,7 @@ module _ (n least : ℕ) where
     cells : Cells E m (opening_team mutators scanners) nothing
     cells = no_cells E m (opening_team mutators scanners) nothing (omega arith, omega arith) refl refl (λ k _. each_fresh mutators scanners k (λ w. (w.linking ≡ None) × (w.pass ≡ None)) (refl, refl) (refl, refl)) (λ a st. absurd (omega (arith, st)))
 
-    keeps : least ≤ n → mutators ≤ 16 → mutators + scanners ≤ 24 → Invariant E m (opening_team mutators scanners) nothing
+    keeps : least ≤ n → mutators ≤ MOST_MUTATORS → mutators + scanners ≤ MOST_MUTATORS + MOST_SCANNERS → Invariant E m (opening_team mutators scanners) nothing
     keeps short few all =
         let f = front in
         let l = low in

@@ -4,6 +4,7 @@ use Rattle.std.proofs.lemmas.Bool.{cases_lt}
 use Rattle.std.proofs.lemmas.List.{get_or-replicate, length-replicate, get_or-append_right, get_or_past, length-append}
 use Rattle.std.proofs.Math.ListN.{get_or-append}
 use Rattle.std.specs.Prelude.{nat_lt}
+use Rattle.space_map.specs.declared.spaces.TheConstants.{MOST_MUTATORS, MOST_SCANNERS}
 use Rattle.space_map.specs.declared.gate_word.GateWord.{GateWord}
 use Rattle.heap_state.specs.Configuration.{team_of}
 use Rattle.heap_state.specs.Functions.{sum_below, count_one}
@@ -71,7 +72,7 @@ counted mutators scanners gate e = rw e (record {
   epoch_fits = omega arith;
 })
 
-pub staffed : (mutators scanners : ℕ) → mutators ≤ 16 → mutators + scanners ≤ 24 → Staffed mutators (opening_team mutators scanners).count (opening_team mutators scanners).worker
+pub staffed : (mutators scanners : ℕ) → mutators ≤ MOST_MUTATORS → mutators + scanners ≤ MOST_MUTATORS + MOST_SCANNERS → Staffed mutators (opening_team mutators scanners).count (opening_team mutators scanners).worker
 staffed mutators scanners few all = let m = many mutators scanners in record { few = (few, omega arith, omega arith); posts = λ k l. by_kind k (who mutators scanners k) }
   where
     by_kind : (k : ℕ) {w : Worker} → IsFresh mutators k w → is_mutator w.post ≡ nat_lt k mutators

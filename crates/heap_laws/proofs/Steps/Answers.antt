@@ -6,6 +6,7 @@ use Rattle.heap_words.specs.Decoded.{decode}
 use Rattle.plain_state.specs.declared.kind.Kind.{Kind}
 use Rattle.plain_state.specs.declared.kind.Kind.TheVariants.{Fields, Raw, Mixed, Weak}
 use Rattle.plain_state.specs.State.{Plain}
+use Rattle.space_map.specs.declared.spaces.TheConstants.{MOST_MUTATORS, MOST_SCANNERS}
 use Rattle.space_map.specs.GateWord.{GateFits}
 use Rattle.space_map.specs.Spaces.{to_space}
 use Rattle.space_map.specs.AreaWord.{AreaFits}
@@ -142,7 +143,7 @@ module _ (E : Era) (m : Memory) (team : Team) (g : Ghost) (k : ℕ) (ready : Rea
   behind_some e = let t = sum_below-term team.count (λ j. count_one (is_late m.gate.epoch (team.worker j))) k ready.member in let o = one_of (is_late m.gate.epoch (team.worker k)) e in let c = counted.behind in omega (arith, t, o, c)
 
   -- no count is above 24
-  few : (m.gate.live ≤ 24) × (m.gate.running ≤ 24) × (m.gate.left ≤ 24)
+  few : (m.gate.live ≤ MOST_MUTATORS + MOST_SCANNERS) × (m.gate.running ≤ MOST_MUTATORS + MOST_SCANNERS) × (m.gate.left ≤ MOST_MUTATORS + MOST_SCANNERS)
   few =
       let f = ready.invariant.staffed.few in
       let a = ones team.count (λ j. is_live (team.worker j).post) in

@@ -2,6 +2,7 @@
 use Rattle.std.proofs.Common.{◌≡◌, ℕ, ◌+◌, ◌-◌, ◌*◌, ◌^◌, ◌<◌, ◌≤◌, true, false, min, nat_lt, refl, sym, ap, ◌∙◌, arith, ⊎_elim}
 use Rattle.std.proofs.lemmas.Bool.{cases_Bool, cases_lt, lt-ltb, le-ltb}
 use Rattle.std.proofs.Math.Nat.{mul-le-mul_left, mul-le-mul_right}
+use Rattle.space_map.specs.declared.spaces.TheConstants.{MOST_PAGES}
 use Rattle.heap_state.specs.Functions.{sum_below}
 use Rattle.lone_mutator.specs.Bound.{flip_cost, flips_cost, grows, growths, most_flips}
 use Rattle.lone_mutator.proofs.Epochs.Cost.{sum_below-few, sum_below-le}
@@ -70,7 +71,7 @@ growths-below n p below =
 twice : (n p k m : ℕ) → 2 * p * k ≡ p * m → grows n (2 * p * k) ≡ grows n (p * m)
 twice n p k m same = ap (grows n) same
 
-doubled : (n p : ℕ) → 4 ≤ p → n ≤ 2048 → p < n → growths n (2 * p) + 1 ≡ growths n p
+doubled : (n p : ℕ) → 4 ≤ p → n ≤ MOST_PAGES → p < n → growths n (2 * p) + 1 ≡ growths n p
 doubled n p least most below =
     let before = nine n p in
     let now = nine n (2 * p) in
@@ -87,7 +88,7 @@ doubled n p least most below =
     omega (arith, before, now, one, none, a, b, c, d, e, f, g, h)
 
 -- as far as there are so many pages
-module _ (n p : ℕ) (least : 4 ≤ p) (most : n ≤ 2048) (below : p < n) where
+module _ (n p : ℕ) (least : 4 ≤ p) (most : n ≤ MOST_PAGES) (below : p < n) where
   whole : 2 * p < n → growths n (min n (2 * p)) + 1 ≤ growths n p
   whole room =
       let is : min n (2 * p) ≡ 2 * p = omega (arith, room) in
@@ -105,7 +106,7 @@ module _ (n p : ℕ) (least : 4 ≤ p) (most : n ≤ 2048) (below : p < n) where
   grown = ⊎_elim whole part (cases_lt (2 * p) n)
 
 -- it may then do so once less, if it could
-pub growths-once : (n p : ℕ) → 4 ≤ p → n ≤ 2048 → growths n (min n (2 * p)) ≤ growths n p - 1
+pub growths-once : (n p : ℕ) → 4 ≤ p → n ≤ MOST_PAGES → growths n (min n (2 * p)) ≤ growths n p - 1
 growths-once n p least most = ⊎_elim
     (λ (below : p < n). let once = grown n p least most below in omega (arith, once))
     (λ (full : n ≤ p). let none = growths-full n (min n (2 * p)) (omega (arith, full)) in omega (arith, none))

@@ -3,6 +3,7 @@ use Rattle.std.proofs.Common.{◌≡◌, ◌≢◌, ℕ, ◌+◌, ◌/◌, ◌�
 use Rattle.std.proofs.lemmas.Bool.Decides.{nat_tests}
 use Rattle.plain_state.specs.State.{Plain}
 use Rattle.atom_store.specs.declared.reply.Reply.{Reply}
+use Rattle.space_map.specs.declared.spaces.TheConstants.{LAST_WORKER}
 use Rattle.space_map.specs.declared.page_word.PageWord.{PageWord}
 use Rattle.space_map.specs.declared.page_word.PageWord.TheVariants as page_word
 use Rattle.space_map.specs.PageWord.{PageFits, age_of}
@@ -72,7 +73,7 @@ module _ (c : Configuration) (p : Plain) (s : Stands c p) (k : ℕ) (y : Held) (
         none : ℕ
         none = 0
 
-        looked : none ≡ cond (nat_eq page (board_page d.layout.pages)) none 24
+        looked : none ≡ cond (nat_eq page (board_page d.layout.pages)) none (LAST_WORKER + 1)
         looked = rw test refl
     claim_same false test = refl
 

@@ -4,6 +4,7 @@ use Rattle.std.proofs.lemmas.Bool.Decides.{nat_tests}
 use Rattle.plain_state.specs.State.{Plain}
 use Rattle.atom_store.specs.declared.step.Step.TheVariants.{Load}
 use Rattle.atom_store.specs.declared.reply.Reply.TheVariants.{Value}
+use Rattle.space_map.specs.declared.spaces.TheConstants.{LAST_WORKER}
 use Rattle.space_map.specs.declared.gate_word.GateWord.{GateWord}
 use Rattle.space_map.specs.Spaces.{Layout, board_page}
 use Rattle.space_map.specs.Table.{Gate, Announce, place_of}
@@ -79,7 +80,7 @@ module _ (c : Configuration) (p : Plain) (s : Stands c p) (k : ℕ) (y : Held) (
     fits : FitsClaimStage (record q { stage = LooksAtPlace n }) (LooksAtPlace n)
     fits = (own (LooksAtPlace n) is).sound.stage
 
-    all_looked : looked_all q ≡ 24
+    all_looked : looked_all q ≡ LAST_WORKER + 1
     all_looked = rw (fits.1, apart_tested q.page (board_page q.layout.pages) fits.2) refl
 
     learnt : claim.names_below_end q.page w ≡ false → Law c p s k x None (claiming (knows x) (claim_with q (n + 1) false)) s.ghost
@@ -88,27 +89,27 @@ module _ (c : Configuration) (p : Plain) (s : Stands c p) (k : ℕ) (y : Held) (
         (looks_at_place (era c) (memory c) (team c) s.ghost k (claim_with q n false) (prepared c p s k x is)
         (record { claims = ap (λ (v : Worker). v.claim) is.as_known; free = rw (announced_word c n) (free_of q.page w free) }))
 
-    last_by : (b : Bool) → nat_eq n 23 ≡ b → claim.names_below_end q.page w ≡ false
+    last_by : (b : Bool) → nat_eq n LAST_WORKER ≡ b → claim.names_below_end q.page w ≡ false
         → duty.taken_at (round c p s k y d back (claims (LooksAtPlace n))) (claims (LooksAtPlace n)) (Value w)
         ≡ round c p s k y d back (duty.claim_went (record q { stage = cond b LooksAtGate (LooksAtPlace (n + 1)) }) (claim.told_at (cond b LooksAtGate (LooksAtPlace (n + 1)))))
         → Goes c p s k None x (Value w)
     last_by true test free taken =
-        let all : n + 1 ≡ looked_all q = (let e = same_of n 23 test in let f = all_looked in omega (arith, e, f)) in
+        let all : n + 1 ≡ looked_all q = (let e = same_of n LAST_WORKER test in let f = all_looked in omega (arith, e, f)) in
         goes_on c p s k y d back (claims (LooksAtPlace n)) is None (Value w) (claims LooksAtGate) s.ghost taken refl refl
         (own_at (LooksAtPlace n) is LooksAtGate tt tt)
         (subst (λ (m : ℕ). Law c p s k x None (claiming (knows x) (claim_with q m false)) s.ghost) all (learnt free))
     last_by false test free taken =
         goes_on c p s k y d back (claims (LooksAtPlace n)) is None (Value w) (claims (LooksAtPlace (n + 1))) s.ghost taken refl refl
-        (own_at (LooksAtPlace n) is (LooksAtPlace (n + 1)) tt ((let o = other_of n 23 test in let l = fits.0 in omega (arith, o, l)), fits.1, fits.2))
+        (own_at (LooksAtPlace n) is (LooksAtPlace (n + 1)) tt ((let o = other_of n LAST_WORKER test in let l = fits.0 in omega (arith, o, l)), fits.1, fits.2))
         (learnt free)
 
     named_by : (b : Bool) → claim.names_below_end q.page w ≡ b
         → duty.taken_at (round c p s k y d back (claims (LooksAtPlace n))) (claims (LooksAtPlace n)) (Value w)
-        ≡ round c p s k y d back (duty.claim_went (record q { stage = cond b (Ended (claimed.Taken w)) (cond (nat_eq n 23) LooksAtGate (LooksAtPlace (n + 1))) })
-        (claim.told_at (cond b (Ended (claimed.Taken w)) (cond (nat_eq n 23) LooksAtGate (LooksAtPlace (n + 1))))))
+        ≡ round c p s k y d back (duty.claim_went (record q { stage = cond b (Ended (claimed.Taken w)) (cond (nat_eq n LAST_WORKER) LooksAtGate (LooksAtPlace (n + 1))) })
+        (claim.told_at (cond b (Ended (claimed.Taken w)) (cond (nat_eq n LAST_WORKER) LooksAtGate (LooksAtPlace (n + 1))))))
         → Goes c p s k None x (Value w)
     named_by true names taken = ends c p s k y d back (claims (LooksAtPlace n)) is (Value w) w taken refl refl refl
-    named_by false names taken = last_by (nat_eq n 23) refl names taken
+    named_by false names taken = last_by (nat_eq n LAST_WORKER) refl names taken
 
     pub looks_at_announced : StepsSo c p s k x
     looks_at_announced = loads_it c p s k y d back (claims (LooksAtPlace n)) is (Announce n) (let l = fits.0 in omega (arith, l))

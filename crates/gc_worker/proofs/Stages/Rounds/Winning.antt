@@ -5,6 +5,7 @@ use Rattle.std.proofs.lemmas.Option.{same_Some}
 use Rattle.plain_state.specs.State.{Plain}
 use Rattle.atom_store.specs.declared.step.Step.TheVariants.{Exchange}
 use Rattle.atom_store.specs.declared.reply.Reply.TheVariants.{Won, Lost}
+use Rattle.space_map.specs.declared.spaces.TheConstants.{LAST_WORKER}
 use Rattle.space_map.specs.declared.page_word.PageWord.TheVariants.{Scanning}
 use Rattle.space_map.specs.PageWord.{encode_page, decode_page, age_of}
 use Rattle.space_map.specs.Spaces.{Layout, IsPageCount, board_page, first_word}
@@ -97,7 +98,7 @@ module _ (c : Configuration) (p : Plain) (s : Stands c p) (k : ℕ) (y : Held) (
       → ((team c).count ≤ looked_all q) ⊎ ((q.in_place ≡ true) ⊎ (q.page ≡ (era c).board / 64))
   looked_by true board here test = inr (inl here)
   looked_by false true here test = inr (inr (let e : q.page ≡ board_page q.layout.pages = grind (arith, nat_tests) in let n = pages in let b = board_is c in omega (arith, e, n, b)))
-  looked_by false false here test = inl (let all : looked_all q ≡ 24 = rw (here, test) refl in let f = s.invariant.staffed.few in omega (arith, all, f))
+  looked_by false false here test = inl (let all : looked_all q ≡ LAST_WORKER + 1 = rw (here, test) refl in let f = s.invariant.staffed.few in omega (arith, all, f))
 
   pub wins_page : page_now c q.page ≡ encode_page q.found → WinsPage (era c) (memory c) (team c) k (claim_with q (looked_all q) true)
   wins_page same = record {

@@ -1,5 +1,7 @@
-use Rattle.std.proofs.Common.{◌≡◌, ◌<◌, ◌≤◌, ◌+◌, ◌^◌, ◌∙◌, ℕ, List, Option, Some, get_or, length, map, take, sym, ap, subst, arith}
+use Rattle.std.proofs.Common.{◌*◌, ◌≡◌, ◌<◌, ◌≤◌, ◌+◌, ◌∙◌, ℕ, List, Option, Some, get_or, length, map, take, sym, ap, subst, arith}
 use Rattle.std.specs.Prelude.{IfSome}
+use Rattle.space_map.specs.Spaces.{past_heaps}
+use Rattle.space_map.specs.declared.spaces.TheConstants.{MOST_PAGES}
 use Rattle.heap_audit.specs.Firsts.{TellsFirst, least}
 use Rattle.heap_audit.specs.Told.{dump_told}
 use Rattle.heap_audit.specs.Walks.{walked}
@@ -12,7 +14,7 @@ use Rattle.heap_audit.proofs.first_place.wrong_heap_word.Goals.{in-Some, in_defa
 pub loop-i-init : goal.loop-i-init
 loop-i-init c =
     let d = dump_told c.args.heap.now in
-    let few : d.table.pages ≤ 2048 = omega (arith, c.args.heap.now.counted, pages_is c.args.heap.now.spaces.pages c.args.heap.now.words.now) in
+    let few : d.table.pages ≤ MOST_PAGES = omega (arith, c.args.heap.now.counted, pages_is c.args.heap.now.spaces.pages c.args.heap.now.words.now) in
     record {
       first = none_yet d c.args.plain.now c.args.walks.now.first_break c.requires.walks.breaks;
       short = break_short d c.requires.ordered c.args.walks.now.first_break few c.requires.walks.breaks;
@@ -34,17 +36,17 @@ loop-i-preserved c =
       | in-Some w ↦
           (let x = w.in-Some.x in
           let told : c.match-wrong_word.first ≡ least c.loop-i.first (Some (r.at + x)) = w.first-is ∙ w.least-first.ensures in
-          let below : r.at + x < 2 ^ 20 = omega (arith, low, w.in-Some.ensures.short, c.args.heap.now.counted) in
+          let below : r.at + x < 2 * past_heaps = omega (arith, low, w.in-Some.ensures.short, c.args.heap.now.counted) in
           record {
             first = subst (TellsFirst (SeenBy d p (map walked (take (i + 1) ws.records.items)))) (sym told)
                 (wrong_record d p ws.records.items i z r within here c.loop-i.first x w.in-Some.ensures.first c.loop-i.invariant.first);
-            short = subst (λ (o : Option ℕ). IfSome o (λ a. a < 2 ^ 20)) (sym told) (least_below c.loop-i.first (r.at + x) (2 ^ 20) c.loop-i.invariant.short below);
+            short = subst (λ (o : Option ℕ). IfSome o (λ a. a < 2 * past_heaps)) (sym told) (least_below c.loop-i.first (r.at + x) (2 * past_heaps) c.loop-i.invariant.short below);
           })
       | in_default w ↦
           record {
             first = subst (TellsFirst (SeenBy d p (map walked (take (i + 1) ws.records.items)))) (sym w.first-is)
                 (right_record d p ws.records.items i z r within here c.loop-i.first w.in_default.ensures.first c.loop-i.invariant.first);
-            short = subst (λ (o : Option ℕ). IfSome o (λ a. a < 2 ^ 20)) (sym w.first-is) c.loop-i.invariant.short;
+            short = subst (λ (o : Option ℕ). IfSome o (λ a. a < 2 * past_heaps)) (sym w.first-is) c.loop-i.invariant.short;
           }
     ]
 

@@ -3,6 +3,7 @@ use Rattle.std.proofs.Common.{◌≡◌, ℕ, ◌+◌, Bool, true, false, nat_eq
 use Rattle.std.specs.Prelude.{is_some}
 use Rattle.std.proofs.lemmas.Bool.{eq-eqb}
 use Rattle.atom_store.specs.declared.reply.Reply.TheVariants.{Value}
+use Rattle.space_map.specs.declared.spaces.TheConstants.{LAST_WORKER}
 use Rattle.space_map.specs.GateWord.{decode_gate}
 use Rattle.page_slots.specs.declared.claim_stage.ClaimStage.{ClaimStage}
 use Rattle.page_slots.specs.declared.claim_stage.ClaimStage.TheVariants.{LooksAtPlace, LooksAtGate, Exchanges}
@@ -19,12 +20,12 @@ module _ (E : Era) (m : Memory) (d : Round) (a : RoundIsAlone E m d) (q : Claimi
   abbrev pub at : ClaimStage → Claiming
   at stage = record q { stage = stage }
 
-  by_last : (k : ℕ) (b : Bool) → nat_eq k 23 ≡ b → RoundGoes E m d (Claims (at (LooksAtPlace k))) (Value 0)
+  by_last : (k : ℕ) (b : Bool) → nat_eq k LAST_WORKER ≡ b → RoundGoes E m d (Claims (at (LooksAtPlace k))) (Value 0)
   by_last k true test = record { next = Claims (at LooksAtGate); same = rw test refl; more = refl; found = same; untraced = λ back is. is; advances = refl; steps = λ less. omega (arith, less) }
   by_last k false test = record { next = Claims (at (LooksAtPlace (k + 1))); same = rw test refl; more = refl; found = same; untraced = λ back is. is; advances = refl; steps = λ less. omega (arith, less) }
 
   pub at_place : (k word : ℕ) → word ≡ 0 → RoundGoes E m d (Claims (at (LooksAtPlace k))) (Value word)
-  at_place k word none = rw none (by_last k (nat_eq k 23) refl)
+  at_place k word none = rw none (by_last k (nat_eq k LAST_WORKER) refl)
 
   pub at_gate : (word : ℕ) → decode_gate word ≡ Some m.gate → RoundGoes E m d (Claims (at LooksAtGate)) (Value word)
   at_gate word read =

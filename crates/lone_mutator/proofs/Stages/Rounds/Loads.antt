@@ -3,6 +3,7 @@ use Rattle.std.proofs.Common.{◌≡◌, ◌≢◌, ℕ, ◌+◌, ◌*◌, ◌�
 use Rattle.std.proofs.lemmas.Bool.{cases_eq}
 use Rattle.plain_state.specs.State.{Plain}
 use Rattle.atom_store.specs.declared.reply.Reply.TheVariants.{Value}
+use Rattle.space_map.specs.declared.spaces.TheConstants.{LAST_WORKER}
 use Rattle.space_map.specs.declared.area_word.AreaWord.{AreaWord}
 use Rattle.space_map.specs.PageWord.{decode_page}
 use Rattle.atom_store.specs.declared.step.Step.TheVariants.{Load}
@@ -133,7 +134,7 @@ module _ (c : Configuration) (p : Plain) (s : Stands c p) (y : Held) (d : Round)
   looks_at_place q k a =
       let z = Claims (record q { stage = LooksAtPlace k }) in
       let own = a.is.fits.stage.0.sound.stage in
-      let few : k ≤ 23 = own.sound.stage.0 in
+      let few : k ≤ LAST_WORKER = own.sound.stage.0 in
       loads_it c p s y d back z a (Announce k) few (ap (λ (l : Layout). Some (Load (place_of l.pages (Announce k)))) own.layout)
       (at_place (era c) (memory c) (round_at z) (alone c p s y d back z a) q a.remembers.stands.0.found own.epoch k (announced_now c k)
       (sym (announced_word c k) ∙ (alone c p s y d back z a).silent k few))

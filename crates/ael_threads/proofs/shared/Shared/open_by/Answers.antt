@@ -1,5 +1,6 @@
-use Rattle.std.proofs.Common.{◌≡◌, ◌≤◌, ℕ, List, [], length, sym, subst, ap, ◌∙◌, arith}
+use Rattle.std.proofs.Common.{◌≡◌, ◌+◌, ◌≤◌, ℕ, List, [], length, sym, subst, ap, ◌∙◌, arith}
 use Rattle.atomic_table.specs.Table as table
+use Rattle.space_map.specs.declared.spaces.TheConstants.{MOST_MUTATORS, MOST_SCANNERS}
 use Rattle.gc_worker.proofs.Between.Opening.{opening_words-length}
 use Rattle.ael_threads.specs.declared.view.Plan.{Plan}
 use Rattle.ael_threads.specs.Rule.{RuleHolds, crew, first_view}
@@ -9,7 +10,7 @@ use Rattle.ael_threads.proofs.shared.Shared.open_by.Goals as goal
 pub of_words-requires : goal.of_words-requires
 of_words-requires c =
     let plan : Plan = c.args.plan.now in
-    let all : crew plan ≤ 24 = (let a = c.requires.mutators in let b = c.requires.scanners in omega (arith, a, b)) in
+    let all : crew plan ≤ MOST_MUTATORS + MOST_SCANNERS = (let a = c.requires.mutators in let b = c.requires.scanners in omega (arith, a, b)) in
     subst (λ (words : List ℕ). RuleHolds plan (table.opening {S = ℕ} words [] (first_view plan))) (sym (c.words.ensures ∙ c.in_ok-atoms.ensures))
     (opens_kept plan c.known.ensures c.requires.sizes.0 c.requires.sizes.1 c.requires.mutators all)
 

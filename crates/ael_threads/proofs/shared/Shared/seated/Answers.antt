@@ -1,5 +1,6 @@
 use Rattle.std.proofs.Common.{◌<◌, ◌≤◌, [], arith, refl, sym, ◌∙◌, ap, subst}
 use Rattle.crossbeam_utils.specs.Padded.{padded_value}
+use Rattle.space_map.specs.declared.spaces.TheConstants.{LAST_WORKER}
 use Rattle.gc_worker.specs.Workers.Held.{Held}
 use Rattle.space_map.specs.Spaces.{IsPageCount}
 use Rattle.ael_threads.specs.declared.view.View.{View}
@@ -19,7 +20,7 @@ invariant_of-result c =
     let worker : Held = padded_value c.new.result in
     let fresh = c.new.ensures ∙ c.requires.worker in
     let size : IsPageCount plan.spaces.pages = c.known.ensures in
-    let few : c.args.k ≤ 23 = (let a = c.requires.below in let b = c.requires.few.1 in omega (arith, a, b)) in
+    let few : c.args.k ≤ LAST_WORKER = (let a = c.requires.below in let b = c.requires.few.1 in omega (arith, a, b)) in
     let some : 0 < plan.spaces.pages = (let a = size.0 in omega (arith, a)) in
     let is = ap (λ (z : Me). z.0) s.4 ∙ gives _ plan c.args.k (crew plan) c.requires.below (ap (λ (z : Me). z.0) c.requires.seat) in (
       ap (λ (z : Me). z.1) s.4,
