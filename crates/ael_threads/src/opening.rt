@@ -27,10 +27,11 @@ pub struct Seats {
 }
 
 impl Shared {
-    /// A heap in which nobody has made a step, and a seat for each of its workers: 1 to 16 mutators, and at most 8 scanners. `BadPages`
-    /// comes exactly for fewer than 4 pages at first, for fewer in all than at first, or for more than 2048, else `NoMemory` if memory is
-    /// wanting. The words and the room for the most numbers of each mutator are taken here; no later call takes memory. With
-    /// `config.snap` the table has room for checkpoints, and `snap` begins one; else `snap` changes none of its words.
+    /// A heap in which nobody has made a step, and a seat for each of its workers: 1 to `MOST_MUTATORS` mutators, and at most
+    /// `MOST_SCANNERS` scanners. `BadPages` comes exactly for fewer than `FEWEST_PAGES` at first, for fewer in all than at first, or for
+    /// more than `MOST_PAGES`, else `NoMemory` if memory is wanting. The words and the room for the most numbers of each mutator are
+    /// taken here; no later call takes memory. With `config.snap` the table has room for checkpoints, and `snap` begins one; else `snap`
+    /// changes none of its words.
     pub fn open(alloc: Global, mutators: u8, config: &Config) -> Result<(Shared, Seats), OpenError>
         requires mutators { (1 ≤ mutators) × (mutators ≤ MOST_MUTATORS) }
         requires scanners { config.now.scanners ≤ MOST_SCANNERS }

@@ -27,7 +27,7 @@ most_steps_of l = if l.checkpoints then 2 * most_steps l.pages else most_steps l
 abbrev pub grows : (n pages : ℕ) → ℕ
 grows n pages = if nat_lt pages n then 1 else 0
 
--- how often a space of so many pages may still double: nine times at most, since it has four or more, and no more than 2048
+-- how often a space of so many pages may still double: nine times at most, from the fewest pages to the most
 unfoldable pub growths : (n pages : ℕ) → ℕ
 growths n pages = sum_below 9 (λ i. grows n (pages * 2 ^ i))
 

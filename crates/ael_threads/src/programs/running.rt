@@ -31,9 +31,9 @@ use std::thread::{Threads, for_each_mut, join_mut};
 /// Runs a program on a heap of its own: each mutator executes its section on a thread of its own, and so do the scanners. The mutators
 /// are started in order, and then the scanners; workers for which no thread is to be had are run after others, on a thread of theirs.
 ///
-/// `BadPages` comes exactly for fewer than 4 pages at first, for fewer in all than at first, or for more than 2048. `NoMemory` may come
-/// before the first step and after the last one.
-/// A mutator executes at most `turns` instructions, which are at most 10,000,000; there are at most 8 scanners. It returns once
+/// `BadPages` comes exactly for fewer than `FEWEST_PAGES` at first, for fewer in all than at first, or for more than `MOST_PAGES`.
+/// `NoMemory` may come before the first step and after the last one.
+/// A mutator executes at most `turns` instructions, which are at most 10,000,000; there are at most `MOST_SCANNERS` scanners. It returns once
 /// all workers have left, each mutator with its end; that this ever comes is not promised.
 pub fn run<R: Threads + Wait + Sync, P: Pace>(
     rt: &R,
