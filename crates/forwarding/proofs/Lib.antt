@@ -4,5 +4,4 @@ pub mod Finding
 pub mod CellLinks
 pub mod Ordering
 pub mod WorkedOut
-pub mod GoingOn
 pub mod RowsFit
