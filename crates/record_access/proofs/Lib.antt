@@ -2,4 +2,3 @@ pub mod Read
 pub mod StoredWords
 pub mod RowsFit
 pub mod Lowering
-pub mod GoingOn
