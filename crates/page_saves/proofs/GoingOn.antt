@@ -1,6 +1,5 @@
--- The machines go on, but for what holds them up.
-use Rattle.std.proofs.Common.{◌≡◌, ℕ, ◌^◌, ◌≤◌, Bool, true, false, cond, List, Option, Some, None, refl, sym, ap, ◌∙◌, subst, if◌then◌else◌, nat_eq, nat_lt, arith}
-use Rattle.std.specs.Prelude.{is_some}
+-- A save goes on, and a look before a write but for what holds it up.
+use Rattle.std.proofs.Common.{◌≡◌, ℕ, Bool, true, false, cond, List, Option, Some, None, refl, sym, ap, ◌∙◌, subst, if◌then◌else◌, nat_eq, nat_lt, arith}
 use Rattle.std.proofs.lemmas.Bool.Decides.{nat_tests}
 use Rattle.std.proofs.lemmas.Option.{same_Some}
 use Rattle.atom_store.specs.Step.{reply_of}
@@ -11,8 +10,6 @@ use Rattle.space_map.specs.declared.save_word.SaveWord.TheVariants as save_word
 use Rattle.space_map.specs.SaveWord.{decode_save, number_of}
 use Rattle.page_saves.specs.declared.guard_stage.GuardStage.{GuardStage}
 use Rattle.page_saves.specs.declared.guard_stage.GuardStage.TheVariants as guard_stage
-use Rattle.page_saves.specs.declared.save_round_stage.SaveRoundStage.{SaveRoundStage}
-use Rattle.page_saves.specs.declared.save_round_stage.SaveRoundStage.TheVariants as round_stage
 use Rattle.page_saves.specs.declared.save_stage.SaveStage.{SaveStage}
 use Rattle.page_saves.specs.declared.save_stage.SaveStage.TheVariants as save_stage
 use Rattle.page_saves.specs.declared.save_state.SaveState.{SaveState}
@@ -21,15 +18,9 @@ use Rattle.page_saves.specs.Guard.{Guarding}
 use Rattle.page_saves.specs.Guard as guard
 use Rattle.page_saves.specs.Save.{PageSaving}
 use Rattle.page_saves.specs.Save as save
-use Rattle.page_saves.specs.SaveRound.{SavingRound}
-use Rattle.page_saves.specs.SaveRound as round
 use Rattle.page_saves.specs.SaveState.{state_of, state_within}
-use Rattle.page_saves.specs.HeldUp.{MakesLookAgain, AnotherSaves, SaysNothing, IsOfLater, IsOwn, IsGuardHeldUp, IsSaveRoundHeldUp, SavesGoOn, GuardsGoOn, SaveRoundsGoOn}
+use Rattle.page_saves.specs.HeldUp.{MakesLookAgain, AnotherSaves, SaysNothing, IsOfLater, IsOwn, IsGuardHeldUp, SavesGoOn, GuardsGoOn}
 use Rattle.page_saves.proofs.RoundEnds.{within_copying, within_never_past}
-
-none : {A : Type 0} (o : Option A) → is_some o ≡ false → o ≡ None
-none None is = refl
-none (Some x) is = absurd (cc)
 
 -- ---- the save
 
@@ -111,31 +102,3 @@ module _ (step : Step) (met : List ℕ) (g : Guarding) where
 
 pub guards_go_on : GuardsGoOn
 guards_go_on g step met wants = held_guard step met g g.stage wants
-
--- ---- the round
-
-long_word : (word : ℕ) → nat_lt word (2 ^ 32) ≡ false → 2 ^ 32 ≤ word
-long_word word test = grind (arith, nat_tests)
-
-done_exchanged : (won : Bool) (word : ℕ) → round.advances_at round_stage.ExchangesDone (if won then Won else Lost word) ≡ true
-done_exchanged true word = refl
-done_exchanged false word = refl
-
-module _ (step : Step) (met : List ℕ) where
-  abbrev Holds : SaveRoundStage → Step → Type 0
-  Holds x s = round.advances_at x (reply_of s met) ≡ false → IsSaveRoundHeldUp x (reply_of s met)
-
-  held_round : (r : SavingRound) (x : SaveRoundStage) → round.wanted_at r x ≡ Some step → Holds x step
-  held_round r round_stage.LoadsGate wants = subst (Holds round_stage.LoadsGate) (same_Some _ _ wants) (λ stays. none _ stays)
-  held_round r round_stage.LoadsSnap wants = subst (Holds round_stage.LoadsSnap) (same_Some _ _ wants) (λ stays. long_word _ stays)
-  held_round r round_stage.LoadsDone wants = subst (Holds round_stage.LoadsDone) (same_Some _ _ wants) (λ stays. long_word _ stays)
-  held_round r round_stage.LoadsGateAgain wants = subst (Holds round_stage.LoadsGateAgain) (same_Some _ _ wants) (λ stays. none _ stays)
-  held_round r (round_stage.LoadsPage page busy) wants = subst (Holds (round_stage.LoadsPage page busy)) (same_Some _ _ wants) (λ stays. absurd (cc))
-  held_round r (round_stage.LoadsSave page busy) wants = subst (Holds (round_stage.LoadsSave page busy)) (same_Some _ _ wants) (λ stays. none _ stays)
-  held_round r (round_stage.Saves s) wants = λ stays. absurd (let e : true ≡ false = sym (saves_go_on s step met wants) ∙ stays in cc)
-  held_round r round_stage.ExchangesDone wants =
-      subst (Holds round_stage.ExchangesDone) (same_Some _ _ wants) (λ stays. absurd (let e : true ≡ false = sym (done_exchanged _ _) ∙ stays in cc))
-  held_round r (round_stage.Ended result) wants = absurd (cc)
-
-pub rounds_go_on : SaveRoundsGoOn
-rounds_go_on r step met wants = held_round step met r r.stage wants
