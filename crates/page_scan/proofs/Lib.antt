@@ -8,5 +8,4 @@ pub mod Pages
 pub mod Boards
 pub mod WorkedOut
 pub mod WorkedPacked
-pub mod GoingOn
 pub mod RowsFit
