@@ -1,6 +1,5 @@
 pub mod Lowering
 pub mod Copies
-pub mod Scans
 pub mod Replies
 pub mod Saves
 pub mod Looks

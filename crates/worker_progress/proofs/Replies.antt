@@ -277,23 +277,23 @@ module _ (c : Configuration) (p : Plain) (s : Stands c p) (k : ℕ) where
         swapped b old true more = absurd (cc)
         swapped b old false more = Loses _ refl
 
-  -- ---- scans, but for the first header
+  -- ---- scans
 
   -- the word of a record that a scan is about to read is the one that has to be there
   abbrev pub IsThere : (v : scan.Scanning) → ScanStage → Type 0
+  IsThere v (scan_stage.LoadsFirst at) = is_header (decode (word_at v.layout.pages (HeapWord at))) ≡ true
   IsThere v (scan_stage.LoadsNext r) = is_header (decode (word_at v.layout.pages (HeapWord r.next))) ≡ true
   IsThere v (scan_stage.LoadsCount h) = is_count h.size (decode (word_at v.layout.pages (HeapWord (h.at + 1)))) ≡ true
   IsThere v stage = ⊤
 
   module _ (v : scan.Scanning) (q : Step) (same : v.layout.pages ≡ c.pages) where
-    pub scanning : (stage : ScanStage) → scan.wanted_at v.layout v.page v.epoch stage ≡ Some q → ((at : ℕ) → stage ≢ scan_stage.LoadsFirst at)
-        → IsThere v stage → On (scan_left.advances stage) q
-    scanning scan_stage.LoadsCross asked other there = subst (On (scan_left.advances scan_stage.LoadsCross)) (same_Some _ q asked) (Advances refl)
-    scanning (scan_stage.LoadsFirst at) asked other there = absurd (other at refl)
-    scanning (scan_stage.LoadsCount h) asked other there = subst (On (scan_left.advances (scan_stage.LoadsCount h))) (same_Some _ q asked) (Advances there)
-    scanning (scan_stage.LoadsWord spot) asked other there = subst (On (scan_left.advances (scan_stage.LoadsWord spot))) (same_Some _ q asked) (Advances refl)
-    scanning (scan_stage.Asks ask) asked other there = absurd (cc)
-    scanning (scan_stage.StoresCopy ask to) asked other there = subst (On (scan_left.advances (scan_stage.StoresCopy ask to))) (same_Some _ q asked) (Advances refl)
-    scanning (scan_stage.LoadsFront r) asked other there = subst (On (scan_left.advances (scan_stage.LoadsFront r))) (same_Some _ q asked) (Advances (says_area v.layout.pages same v.epoch))
-    scanning (scan_stage.LoadsNext r) asked other there = subst (On (scan_left.advances (scan_stage.LoadsNext r))) (same_Some _ q asked) (Advances there)
-    scanning (scan_stage.Ended ending) asked other there = absurd (cc)
+    pub scanning : (stage : ScanStage) → scan.wanted_at v.layout v.page v.epoch stage ≡ Some q → IsThere v stage → On (scan_left.advances stage) q
+    scanning scan_stage.LoadsCross asked there = subst (On (scan_left.advances scan_stage.LoadsCross)) (same_Some _ q asked) (Advances refl)
+    scanning (scan_stage.LoadsFirst at) asked there = subst (On (scan_left.advances (scan_stage.LoadsFirst at))) (same_Some _ q asked) (Advances there)
+    scanning (scan_stage.LoadsCount h) asked there = subst (On (scan_left.advances (scan_stage.LoadsCount h))) (same_Some _ q asked) (Advances there)
+    scanning (scan_stage.LoadsWord spot) asked there = subst (On (scan_left.advances (scan_stage.LoadsWord spot))) (same_Some _ q asked) (Advances refl)
+    scanning (scan_stage.Asks ask) asked there = absurd (cc)
+    scanning (scan_stage.StoresCopy ask to) asked there = subst (On (scan_left.advances (scan_stage.StoresCopy ask to))) (same_Some _ q asked) (Advances refl)
+    scanning (scan_stage.LoadsFront r) asked there = subst (On (scan_left.advances (scan_stage.LoadsFront r))) (same_Some _ q asked) (Advances (says_area v.layout.pages same v.epoch))
+    scanning (scan_stage.LoadsNext r) asked there = subst (On (scan_left.advances (scan_stage.LoadsNext r))) (same_Some _ q asked) (Advances there)
+    scanning (scan_stage.Ended ending) asked there = absurd (cc)

@@ -1,5 +1,5 @@
 -- What a step has brought after which the same machine is at work, from what each stage may read and what that leaves it to do.
-use Rattle.std.proofs.Common.{◌≡◌, ◌≢◌, ℕ, ◌+◌, ◌<◌, Bool, true, length, Option, Some, None, is_some, refl, sym, ap, subst, ◌∙◌, arith}
+use Rattle.std.proofs.Common.{◌≡◌, ℕ, ◌+◌, ◌<◌, Bool, true, length, Option, Some, None, is_some, refl, sym, ap, subst, ◌∙◌, arith}
 use Rattle.std.proofs.lemmas.Bool.{le-leb}
 use Rattle.std.proofs.lemmas.Option.{same_Some}
 use Rattle.plain_state.specs.State.{Plain}
@@ -10,7 +10,7 @@ use Rattle.atom_store.specs.declared.step.Step.TheVariants.{Load}
 use Rattle.atom_store.specs.declared.turn.Turn.{Turn}
 use Rattle.atom_store.specs.declared.turn.Turn.TheVariants.{More, Finished}
 use Rattle.atom_store.specs.Step.{reply_of}
-use Rattle.heap_words.specs.Decoded.{Decoded, HeaderWord, decode, number_in}
+use Rattle.heap_words.specs.Decoded.{decode, number_in}
 use Rattle.heap_words.specs.FirstWords.{is_header}
 use Rattle.space_map.specs.Spaces.{Layout}
 use Rattle.space_map.specs.Table.{Gate, HeapWord, place_of}
@@ -85,6 +85,7 @@ use Rattle.gc_worker.proofs.Stages.Copies.Hosts.{Host, ForScan, ForRegister}
 use Rattle.gc_worker.proofs.Stages.Copies.Hosts as hosts
 use Rattle.gc_worker.proofs.Stages.Copies.Words.{heap_word}
 use Rattle.gc_worker.proofs.Workers.Members.{member}
+use Rattle.page_scan.proofs.Lowering.{lowers as scans_lower}
 use Rattle.record_access.proofs.Lowering.{accesses_lower}
 use Rattle.worker_progress.proofs.Replies.{TakesOn, Advances, Loses, Waits, MeetsBusy, On, accessing, copying, flipping, loads_header, opening, passing, placing, says_gate, scanning, serving, IsThere, word_at, word_is}
 use Rattle.worker_progress.proofs.Copies.{copies_lower}
@@ -92,9 +93,9 @@ use Rattle.gc_worker.proofs.MachineEnds.Each.{RoundsAgain, accesses_end, allocat
 use Rattle.worker_progress.proofs.Saves.{MeetsSaving, SavesAre, looking, recalling, rounding, snapping}
 use Rattle.worker_progress.proofs.Looks.{IsDone, looks_done}
 use Rattle.worker_progress.proofs.Lowering.{allocations_lower, flips_lower, openings_lower, passages_lower}
-use Rattle.worker_progress.proofs.Scans.{first-lt, scans_lower}
 use Rattle.gc_worker.proofs.Stages.Scan.Counts.{count_there}
 use Rattle.gc_worker.proofs.Stages.Scan.Headers.{answer2, first_header}
+use Rattle.gc_worker.proofs.Stages.Scan.Stages.{scans}
 
 module _ (c : Configuration) (p : Plain) (s : Stands c p) (k : ℕ) (x : Held) (q : Step) where
   abbrev r : Reply
@@ -154,28 +155,22 @@ module _ (c : Configuration) (p : Plain) (s : Stands c p) (k : ℕ) (x : Held) (
     scan_falls stage more fewer =
         subst (λ (turn : Turn Scanned). left_at (turned_scan (at_stage x (at_scan stage)) (scan_taken.taken (record v { stage = stage }) r) back turn).stage < left_at (at_scan stage)) (sym more) fewer
 
-    first_scan : (at : ℕ) → Is c k (at_stage x (at_scan (scan_stage.LoadsFirst at))) → scan.wanted (record v { stage = scan_stage.LoadsFirst at }) ≡ Some q
-        → scan_taken.told (scan_then (scan_stage.LoadsFirst at)) ≡ More → Result (at_scan (scan_stage.LoadsFirst at))
-    first_scan at is asked more =
-        let f = first_header c p s k x v back at is in
+    by_scan : (stage : ScanStage) → Is c k (at_stage x (at_scan stage)) → scan.wanted (record v { stage = stage }) ≡ Some q → scan_taken.told (scan_then stage) ≡ More
+        → IsThere c p s k v stage → Result (at_scan stage)
+    by_scan stage is asked more there =
+        by_answer (at_scan stage) (scan_left.advances stage)
+        (scanning c p s k v q (pages_of v.layout is.fits.stage.0.layout is.fits.pages) stage asked there)
+        (λ t. scan_falls stage more
+        (let fits = (scans c p s k x (record v { stage = stage }) back is q asked).goes.takes.fits in
+        let fewer = scans_lower v.layout v.page v.epoch v.in_place stage r is.fits.stage.0.sound.fits fits t in
+        omega (arith, fewer)))
+
+    first_there : (at : ℕ) → Is c k (at_stage x (at_scan (scan_stage.LoadsFirst at))) → IsThere c p s k v (scan_stage.LoadsFirst at)
+    first_there at is =
         let pages = pages_of v.layout is.fits.stage.0.layout is.fits.pages in
         let inside = is.fits.stage.0.sound.fits.1 in
         let there = word_is c p s k v.layout.pages pages (HeapWord at) (omega (arith, inside, pages)) in
-        let says : decode (word_at c p s k v.layout.pages (HeapWord at)) ≡ HeaderWord f.0.kind f.0.len f.0.serial f.0.mutator = ap decode (there ∙ sym (heap_word c at)) ∙ f.0.header in
-        let fewer = first-lt v.layout v.page v.in_place at f.0.kind (f.0.len + 1) f.1 in
-        let entered : scan_left.left_at (scan_taken.scan_end v.layout v.page) (scan_taken.by_header v.page v.in_place at (scan_stage.LoadsFirst at) (decode (word_at c p s k v.layout.pages (HeapWord at)))) < 450 =
-        subst (λ (d : Decoded). scan_left.left_at (scan_taken.scan_end v.layout v.page) (scan_taken.by_header v.page v.in_place at (scan_stage.LoadsFirst at) d) < 450) (sym says) fewer in
-        Less (scan_falls (scan_stage.LoadsFirst at) more
-        (subst (λ (z : Step). scan_left.left_at (scan_taken.scan_end v.layout v.page) (scan_taken.stage_after v.layout v.page v.epoch v.in_place (scan_stage.LoadsFirst at) (reply_of z c.words)) < 450)
-        (same_Some (Load (place_of v.layout.pages (HeapWord at))) q asked) entered))
-
-    other_scan : (stage : ScanStage) → ((at : ℕ) → stage ≢ scan_stage.LoadsFirst at) → Is c k (at_stage x (at_scan stage)) → scan.wanted (record v { stage = stage }) ≡ Some q
-        → scan_taken.told (scan_then stage) ≡ More
-        → IsThere c p s k v stage → Result (at_scan stage)
-    other_scan stage other is asked more there =
-        by_answer (at_scan stage) (scan_left.advances stage)
-        (scanning c p s k v q (pages_of v.layout is.fits.stage.0.layout is.fits.pages) stage asked other there)
-        (λ t. scan_falls stage more (scans_lower v.layout v.page v.in_place v.epoch stage r other is.fits.stage.0.sound.fits t))
+        ap (λ (w : ℕ). is_header (decode w)) (there ∙ sym (heap_word c at)) ∙ ap is_header (first_header c p s k x v back at is).0.header
 
     next_there : (z : ScannedRecord) → Is c k (at_stage x (at_scan (scan_stage.LoadsNext z))) → IsThere c p s k v (scan_stage.LoadsNext z)
     next_there z is =
@@ -196,17 +191,14 @@ module _ (c : Configuration) (p : Plain) (s : Stands c p) (k : ℕ) (x : Held) (
         let t = count_there c p s k x v back h is in
         ap (λ (w : ℕ). is_count h.size (decode w)) (there ∙ sym (heap_word c (h.at + 1))) ∙ ap (is_count h.size) t.1 ∙ le-leb (t.0 + 2) h.size t.2
 
+    word_there : (stage : ScanStage) → Is c k (at_stage x (at_scan stage)) → IsThere c p s k v stage
+    word_there (scan_stage.LoadsFirst at) is = first_there at is
+    word_there (scan_stage.LoadsCount h) is = count_is_there h is
+    word_there (scan_stage.LoadsNext z) is = next_there z is
+    word_there stage is = tt
+
     scans_on : (stage : ScanStage) → Is c k (at_stage x (at_scan stage)) → scan.wanted (record v { stage = stage }) ≡ Some q → scan_taken.told (scan_then stage) ≡ More → Result (at_scan stage)
-    scans_on (scan_stage.LoadsFirst at) is asked more = first_scan at is asked more
-    scans_on scan_stage.LoadsCross is asked more = other_scan scan_stage.LoadsCross (λ at e. cc) is asked more tt
-    scans_on (scan_stage.LoadsCount h) is asked more = other_scan (scan_stage.LoadsCount h) (λ at e. cc) is asked more (count_is_there h is)
-    scans_on (scan_stage.LoadsWord spot) is asked more = other_scan (scan_stage.LoadsWord spot) (λ at e. cc) is asked more tt
-    scans_on (scan_stage.Asks ask) is asked more = other_scan (scan_stage.Asks ask) (λ at e. cc) is asked more tt
-    scans_on (scan_stage.StoresCopy ask to) is asked more = other_scan (scan_stage.StoresCopy ask to) (λ at e. cc) is asked more tt
-    scans_on (scan_stage.LoadsFront z) is asked more = other_scan (scan_stage.LoadsFront z) (λ at e. cc) is asked more tt
-    scans_on (scan_stage.LoadsNext z) is asked more =
-        other_scan (scan_stage.LoadsNext z) (λ at e. cc) is asked more (next_there z is)
-    scans_on (scan_stage.Ended ending) is asked more = other_scan (scan_stage.Ended ending) (λ at e. cc) is asked more tt
+    scans_on stage is asked more = by_scan stage is asked more (word_there stage is)
 
   -- ---- accesses
 

@@ -21,7 +21,7 @@ use Rattle.gc_worker.proofs.Stages.Scan.Stages.{scans}
 use Rattle.lone_mutator.specs.Law.{Lowers, IsAlone, StepsLower, saves}
 use Rattle.lone_mutator.specs.Lone.{NobodyElseAnnounces}
 use Rattle.lone_mutator.specs.Potential.{back_left, left_in, size_in}
-use Rattle.lone_mutator.proofs.Stages.Scan.Lowering.{cost, lowers}
+use Rattle.page_scan.proofs.Lowering.{cost, lowers}
 use Rattle.lone_mutator.proofs.Steps.Rows.{HoldsBy}
 use Rattle.lone_mutator.proofs.Steps.Owed.{OwesAll, pays}
 
