@@ -1,33 +1,14 @@
 -- What is printed of the last checkpoint of a run, by the words of its core.
-use Rattle.std.proofs.Common.{◌≡◌, ℕ, Bool, true, false, List, Option, Some, None, length, refl}
+use Rattle.std.proofs.Common.{◌≡◌, ℕ, Bool, true, false, List, length, refl}
 use Rattle.mutator_asm.specs.declared.instr.Instr.{Instr}
 use Rattle.plain_heap.specs.declared.mark.Mark.{Mark}
-use Rattle.space_map.specs.Spaces.{Layout, IsPageCount}
+use Rattle.space_map.specs.Spaces.{IsPageCount}
 use Rattle.space_map.specs.Table.{saving_length}
 use Rattle.checkpoint_text.specs.Text.{AreLinesOf}
-use Rattle.gc_worker.specs.Laws.Step.{layout_of}
-use Rattle.gc_worker.specs.Steps.Wanted.{wanted}
 use Rattle.gc_core.specs.Checkpoints.{TellsLastCheckpoint}
 use Rattle.gc_core.specs.Core.{CoreState}
-use Rattle.gc_core.specs.Event.{core_after, event_of, ready}
-use Rattle.gc_core.specs.Run.{run_from}
-use Rattle.gc_core.proofs.Runs.EventByEvent.{run_keeps}
 use Rattle.ael_jobs.specs.Runs.Checkpoint.{TellsLast, TellsLastIf}
 use Rattle.ael_jobs.specs.Runs.Told.{AreLinesIf}
-
--- ---- the layout
-
-event_layout : (layout : Layout) (s : CoreState) (w : ℕ) → layout_of s.heap ≡ layout → layout_of (core_after s w).heap ≡ layout
-unfolding event_of
-event_layout layout s w is = by_want (wanted (ready s w)) refl
-  where
-    by_want : (o : Option _) → wanted (ready s w) ≡ o → layout_of (core_after s w).heap ≡ layout
-    by_want None e = rw e is
-    by_want (Some q) e = rw e is
-
--- a run leaves the layout of its heap
-pub run_layout : (schedule : ℕ → ℕ) (at n : ℕ) (s : CoreState) → layout_of (run_from schedule at n s).last.heap ≡ layout_of s.heap
-run_layout schedule at n s = run_keeps (λ (t : CoreState). layout_of t.heap ≡ layout_of s.heap) (event_layout (layout_of s.heap)) schedule at n s refl
 
 -- ---- the lines
 

@@ -1,5 +1,5 @@
 -- What is told of the elements of a list, one after another.
-use Rattle.std.proofs.Common.{◌≡◌, ℕ, ◌+◌, ◌≤◌, ◌<◌, ◌^◌, zero, suc, true, false, List, [], ◌∷◌, ◌++◌, length, Option, Some, None, drop, get_or, slice_get, refl, ap, subst, sym, ◌∙◌, add-one, append_assoc, append-nil, arith}
+use Rattle.std.proofs.Common.{◌≡◌, ℕ, ◌+◌, ◌<◌, ◌^◌, zero, suc, true, false, List, [], ◌∷◌, ◌++◌, Option, Some, None, drop, get_or, slice_get, refl, ap, subst, sym, ◌∙◌, add-one, append_assoc}
 use Rattle.std.specs.List.{AllByRecursion, flat_map, list_all}
 use Rattle.std.specs.Option.{option_map}
 use Rattle.std.proofs.lemmas.Option.{same_Some}
@@ -14,13 +14,6 @@ pub found-next : {A : Type 0} (xs : List A) (m : ℕ) (x : A) → slice_get xs m
 found-next [] m x is = cc
 found-next (y ∷ xs) zero x is = ap (λ z. z ∷ xs) (same_Some y x is)
 found-next (y ∷ xs) (suc m) x is = rw add-one (found-next xs m x is ∙ (rw add-one refl))
-
--- past the last there is none
-pub found-end : {A : Type 0} (xs : List A) (m : ℕ) → length xs ≤ m → drop m xs ≡ []
-found-end [] zero h = refl
-found-end [] (suc m) h = refl
-found-end (x ∷ xs) zero h = absurd (omega (arith, h))
-found-end (x ∷ xs) (suc m) h = found-end xs m (omega (arith, h))
 
 -- ---- a text for each
 
@@ -46,9 +39,6 @@ pub tells_more : (told all : List ℕ) (m : ℕ) (ks : List Seen) (printed : Lis
     → option_map (λ k. k.end) (slice_get ks m) ≡ Some end → LinesToldSoFar told m ks all → LinesToldSoFar (told ++ printed_lines m printed end) (m + 1) ks all
 tells_more told all m ks printed end is_printed is_end h =
     record { rest = rw append_assoc (rw (found-next ks m (record { printed = printed; end = end }) (seen_is (slice_get ks m) printed end is_printed is_end)) at h.rest) }
-
-pub tells_all : (told all : List ℕ) (m : ℕ) (ks : List Seen) → length ks ≤ m → LinesToldSoFar told m ks all → told ≡ all
-tells_all told all m ks past h = sym (append-nil told) ∙ (rw (found-end ks m past) at h.rest)
 
 end_is : (o : Option Seen) (end : Option End) → option_map (λ k. k.end) o ≡ Some end → (k : Seen) × (o ≡ Some k) × (k.end ≡ end)
 end_is None end is = cc
@@ -85,14 +75,8 @@ went_otherwise ks over halts = rw (over, halts)
 pub record IsSoBefore {A : Type 0} (IsSo : A → Type 0) (m : ℕ) (xs : List A) : Type 0 where
   pub all : AllByRecursion IsSo (drop m xs) → AllByRecursion IsSo xs
 
-pub so_at_first : {A : Type 0} (IsSo : A → Type 0) (xs : List A) → IsSoBefore IsSo 0 xs
-so_at_first IsSo xs = record { all = λ rest. rest }
-
 pub so_more : {A : Type 0} (IsSo : A → Type 0) (m : ℕ) (xs : List A) (x : A) → slice_get xs m ≡ Some x → IsSo x → IsSoBefore IsSo m xs → IsSoBefore IsSo (m + 1) xs
 so_more IsSo m xs x is so h = record { all = λ rest. h.all (subst (AllByRecursion IsSo) (sym (found-next xs m x is)) (so, rest)) }
-
-pub so_of_all : {A : Type 0} (IsSo : A → Type 0) (m : ℕ) (xs : List A) → length xs ≤ m → IsSoBefore IsSo m xs → AllByRecursion IsSo xs
-so_of_all IsSo m xs past h = h.all (subst (AllByRecursion IsSo) (sym (found-end xs m past)) tt)
 
 -- each item that fits is a word
 pub fit_words : (words : List ℕ) → ((i : ℕ) → get_or words i 0 < 2 ^ 64) → AllByRecursion IsWord words

@@ -17,6 +17,7 @@ use Rattle.gc_core.specs.Dumped.{dumped}
 use Rattle.gc_core.specs.Law.{IsLawful}
 use Rattle.gc_core.specs.Readers.{seen_of}
 use Rattle.gc_core.specs.Run.{Ran}
+use Rattle.gc_core.proofs.Told.Checkpoints.{run_layout}
 use Rattle.ael_jobs.specs.declared.arguments.options.SimOptions.{SimOptions}
 use Rattle.ael_jobs.specs.declared.status.Status.{Status}
 use Rattle.ael_jobs.specs.Runs.Orders.{AreNoted, shown_order}
@@ -26,7 +27,7 @@ use Rattle.ael_jobs.specs.Runs.Verdict.{status_seen}
 use Rattle.ael_jobs.specs.Runs.Simulation.{config, core_of, scheduled, simulated_run}
 use Rattle.ael_jobs.specs.Runs.Told.{AreLinesIf, TellsWords, heap_lines, told_of}
 use Rattle.ael_jobs.proofs.Dumps.{IsOfSize, dump_is, run_many}
-use Rattle.ael_jobs.proofs.Checkpoints.{run_layout, told_if}
+use Rattle.ael_jobs.proofs.Checkpoints.{told_if}
 
 -- the layout of the heap is that of the options
 layout_is : (options : SimOptions) (program : List (List Instr)) (items : List Item) → layout_of (simulated_run options program items).last.heap ≡ layout_by (config options.run)

@@ -7,6 +7,7 @@ use Rattle.plain_state.specs.Writing.{with_board}
 use Rattle.mutator_asm.specs.declared.instr.Instr.TheVariants as instrs
 use Rattle.mutator_asm.specs.declared.operand.Operand.TheVariants as operands
 use Rattle.plain_heap.specs.Call.{board_word}
+use Rattle.plain_heap.proofs.Calls.Single.{call-get, call-put, call-swap}
 use Rattle.gc_worker.proofs.Plain.RecordsMade.{made_of}
 use Rattle.ael_threads.specs.Seats.{Seated}
 use Rattle.ael_runtime.specs.declared.root.Root.{Root}
@@ -15,7 +16,7 @@ use Rattle.ael_runtime.specs.Calling.{HadEffect, IsSure, HadEffects, done}
 use Rattle.ael_runtime.specs.Reading.{heap_before, held, number, root_register, seen_heap, seen_mutator}
 use Rattle.ael_runtime.proofs.Effects.{sets, writes}
 use Rattle.ael_runtime.proofs.NumberCalls.{leaves_one, li_sets, root_within}
-use Rattle.ael_runtime.proofs.PlainCalls.{call-get, call-put, call-swap, is_done}
+use Rattle.ael_runtime.proofs.PlainCalls.{is_done}
 
 -- ---- put
 

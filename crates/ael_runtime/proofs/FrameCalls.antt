@@ -20,6 +20,7 @@ use Rattle.mutator_asm.specs.declared.operand.Operand.TheVariants as operands
 use Rattle.mutator_asm.specs.Program.{is_valid}
 use Rattle.plain_heap.specs.Call.{may_hold, values_of}
 use Rattle.plain_heap.specs.Records.{RecordShape, shape}
+use Rattle.plain_heap.proofs.Calls.Single.{call-new, call-st}
 use Rattle.gc_worker.proofs.Plain.RecordsMade.{made_of}
 use Rattle.gc_worker.specs.Workers.Fits.{FitsCall}
 use Rattle.ael_threads.specs.declared.refused.TheConstants.{MOST_RECORDS}
@@ -35,7 +36,7 @@ use Rattle.ael_runtime.proofs.Effects.{Sets, writes}
 use Rattle.ael_runtime.proofs.Lengths.{there_later}
 use Rattle.ael_runtime.proofs.NewRecords.{full, made, made_sets, makes_begin}
 use Rattle.ael_runtime.proofs.NumberCalls.{mov_sets, root_below}
-use Rattle.ael_runtime.proofs.PlainCalls.{call-new, call-st, is_done}
+use Rattle.ael_runtime.proofs.PlainCalls.{is_done}
 use Rattle.ael_runtime.proofs.RecordCalls.{seen_others}
 
 fields_hold : (kind : Kind) (v : Value) → kind ≡ Fields → may_hold kind 0 v ≡ Ok v

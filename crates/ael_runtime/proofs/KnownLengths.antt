@@ -12,6 +12,7 @@ use Rattle.plain_heap.specs.declared.action.Action.TheVariants.{Loads, Stores}
 use Rattle.plain_heap.specs.Action.{action, operand, reference_in, register}
 use Rattle.plain_heap.specs.Call.{After, call, loads, performed, store_in, value_in}
 use Rattle.plain_heap.proofs.Calls.Outcomes.{if_ok-bind, if_ok-is, if_ok-then}
+use Rattle.plain_heap.proofs.Calls.Single.{call-li, call-mov}
 use Rattle.gc_worker.specs.declared.calls.did.Did.{Did}
 use Rattle.gc_worker.specs.declared.calls.did.Did.TheVariants.{Done}
 use Rattle.ael_threads.specs.Seats.{Seated}
@@ -21,7 +22,6 @@ use Rattle.ael_runtime.specs.Known.{StaysKnown, IsKnown, SparesRegister}
 use Rattle.ael_runtime.specs.Reading.{SeesSame, held, len_of, seen_heap, seen_mutator}
 use Rattle.ael_runtime.proofs.Effects.{after_same}
 use Rattle.ael_runtime.proofs.Lengths.{len_stays}
-use Rattle.ael_runtime.proofs.PlainCalls.{call-li, call-mov}
 
 -- ---- instructions that leave a register
 

@@ -19,6 +19,7 @@ use Rattle.mutator_asm.specs.declared.operand.Operand.TheVariants as operands
 use Rattle.mutator_asm.specs.Program.{is_valid}
 use Rattle.plain_heap.specs.Alone.{is_heap_full}
 use Rattle.plain_heap.specs.Call.{allocated, call}
+use Rattle.plain_heap.proofs.Calls.Single.{call-mix, call-new, call-raw}
 use Rattle.heap_state.specs.Worker.{Account}
 use Rattle.gc_worker.specs.Workers.Fits.{FitsCall}
 use Rattle.ael_threads.specs.declared.refused.TheConstants.{MOST_RECORDS}
@@ -31,7 +32,7 @@ use Rattle.ael_runtime.specs.Reading.{held, len_of, number, root_register, seen_
 use Rattle.ael_runtime.proofs.Effects.{Sets, sets}
 use Rattle.ael_runtime.proofs.Lengths.{len_by_record}
 use Rattle.ael_runtime.proofs.NumberCalls.{leaves_one, root_within}
-use Rattle.ael_runtime.proofs.PlainCalls.{call-mix, call-new, call-raw, ends_full, is_done}
+use Rattle.ael_runtime.proofs.PlainCalls.{ends_full, is_done}
 
 -- no record has the serial after the last
 past_last : (xs : List Record) → at_serial xs (length xs + 1) ≡ None

@@ -10,6 +10,7 @@ use Rattle.plain_state.specs.State.{Heap}
 use Rattle.mutator_asm.specs.declared.instr.Instr.{Instr}
 use Rattle.mutator_asm.specs.declared.instr.Instr.TheVariants as instrs
 use Rattle.plain_heap.specs.Action.{are_same}
+use Rattle.plain_heap.proofs.Calls.Single.{call-eq, call-li, call-mov}
 use Rattle.gc_worker.proofs.Plain.RecordsMade.{made_of}
 use Rattle.ael_threads.specs.Seats.{Seated}
 use Rattle.ael_runtime.specs.declared.root.Root.{Root}
@@ -18,7 +19,7 @@ use Rattle.ael_runtime.specs.declared.root.TheConstants.{SCRATCH}
 use Rattle.ael_runtime.specs.Calling.{HadEffect, IsSure, HadEffects, done}
 use Rattle.ael_runtime.specs.Reading.{held, number, root_register, seen_mutator}
 use Rattle.ael_runtime.proofs.Effects.{Sets, sets}
-use Rattle.ael_runtime.proofs.PlainCalls.{call-eq, call-li, call-mov, is_done}
+use Rattle.ael_runtime.proofs.PlainCalls.{is_done}
 
 -- a root is none of the registers that the runtime keeps
 pub root_below : (r : Root) → root_register r < 5

@@ -1,5 +1,5 @@
 -- Calls that look at a record, read a word of it or write one.
-use Rattle.std.proofs.Common.{◌≡◌, ◌≢◌, ℕ, ◌<◌, inl, inr, Bool, true, false, List, [], ◌∷◌, ◌++◌, length, Option, Some, None, Result, Ok, Err, slice_index_or, slice_set, refl, ap, sym, ◌∙◌, subst, arith, get_or-set_same, length-set}
+use Rattle.std.proofs.Common.{◌≡◌, ◌≢◌, ℕ, ◌<◌, inl, inr, Bool, false, List, [], ◌∷◌, ◌++◌, length, Option, Some, None, Result, Ok, Err, slice_index_or, slice_set, refl, ap, sym, ◌∙◌, subst, arith, get_or-set_same, length-set}
 use Rattle.std.specs.Prelude.{IsTrue, is_some}
 use Rattle.std.specs.Option.{option_map_or}
 use Rattle.std.proofs.lemmas.Bool.{lt-ltb}
@@ -15,29 +15,23 @@ use Rattle.mutator_asm.specs.declared.instr.Instr.{Instr}
 use Rattle.mutator_asm.specs.declared.instr.Instr.TheVariants as instrs
 use Rattle.mutator_asm.specs.declared.operand.Operand.TheVariants as operands
 use Rattle.mutator_asm.specs.Program.{is_valid}
-use Rattle.plain_heap.specs.Action.{is_reference}
 use Rattle.plain_heap.specs.Call.{After, call, may_hold, values_of}
 use Rattle.plain_heap.proofs.Calls.Records.{held_same}
+use Rattle.plain_heap.proofs.Calls.Single.{call-ld, call-len, call-st, call-st_not}
 use Rattle.gc_worker.proofs.Plain.RecordsMade.{made_of}
 use Rattle.heap_state.specs.Worker.{Account}
 use Rattle.gc_worker.specs.Plain.Seen.{seen}
 use Rattle.gc_worker.specs.Workers.Fits.{FitsCall}
 use Rattle.ael_threads.specs.Seats.{Seated}
-use Rattle.ael_runtime.specs.declared.failure.Failure.{Failure}
-use Rattle.ael_runtime.specs.declared.failure.Failure.TheVariants.{Ended, NotRecord, OutOfRange, RecordsOut, TooLarge}
 use Rattle.ael_runtime.specs.declared.root.TheConstants.{SCRATCH}
 use Rattle.ael_runtime.specs.Calling.{AtCall, CalledAll, EndedByOnceSeen, HadEffect, IsSure, HadEffects, HadEffectsOnceSeen, WasTrapped, OneCall, done, trapped}
-use Rattle.ael_runtime.specs.Failing.{CantHold, RecordFails, StoreFails, WordFails}
+use Rattle.ael_runtime.specs.Failing.{CantHold}
 use Rattle.ael_runtime.specs.Reading.{held, len_of, number, value_number, seen_heap, seen_mutator, record_word}
 use Rattle.ael_runtime.proofs.Effects.{sets, writes}
 use Rattle.ael_runtime.proofs.Lengths.{len_by_record, len_stays, there_by_len}
-use Rattle.ael_runtime.proofs.PlainCalls.{call-ld, call-len, call-st, call-st_not, is_done, own_end}
+use Rattle.ael_runtime.proofs.PlainCalls.{is_done, own_end}
 
 -- ---- values
-
-pub no_reference : (v : Value) → is_some (value_number v) ≡ true → is_reference v ≡ false
-no_reference (Number n) is = refl
-no_reference (Reference i) is = cc
 
 pub leads_by : (v : Value) → is_some (value_number v) ≡ false → (i : Identity) × (v ≡ Reference i)
 leads_by (Number n) is = absurd (cc)
@@ -53,24 +47,6 @@ same_end o x y is other = cc
 
 pub leads_tested : (v : Value) (o : Option ℕ) (told : Bool) → o ≡ value_number v → told ≡ is_some o → told ≡ false → (i : Identity) × (v ≡ Reference i)
 leads_tested v o told is told_is none = leads_by v (ap is_some (sym is) ∙ (sym told_is ∙ none))
-
--- ---- failures
-
--- what fails for want of a record fails for want of a word
-pub word_fails : (a : Seated) (of at : ℕ) (why : Failure) (b : Seated) → RecordFails a of why b → WordFails a of at why b
-word_fails a of at OutOfRange b fails = absurd fails
-word_fails a of at NotRecord b fails = fails
-word_fails a of at (Ended end) b fails = fails
-word_fails a of at RecordsOut b fails = fails
-word_fails a of at TooLarge b fails = fails
-
--- and so does a store
-pub store_fails : (a : Seated) (of at what : ℕ) (why : Failure) (b : Seated) → WordFails a of at why b → StoreFails a of at what why b
-store_fails a of at what OutOfRange b fails = fails
-store_fails a of at what NotRecord b fails = fails
-store_fails a of at what (Ended end) b fails = inl fails
-store_fails a of at what RecordsOut b fails = fails
-store_fails a of at what TooLarge b fails = fails
 
 -- ---- calls one after another
 
@@ -133,10 +109,6 @@ ends_more a of then i end b (inr l) t = inr (record {
   heap = t.heap_is ∙ sym t.before;
   others = λ j scratch. t.registers j ∙ l.others j scratch scratch;
 })
-
--- none at all
-pub leaves_none : (a : Seated) (r : ℕ) → a.worker.account.end ≡ None → HadEffects a [] r a
-leaves_none a r none = record { called = refl; had_no_end = none; no_end = none; others = λ j other scratch. refl }
 
 -- ---- a word of it
 

@@ -1,5 +1,5 @@
 -- What a call does to what its mutator sees: since it saw the history before the call, others may have made calls, but it hasn't.
-use Rattle.std.proofs.Common.{◌≡◌, ◌≢◌, ℕ, ◌-◌, ◌<◌, List, [], ◌∷◌, ◌++◌, length, take, None, Some, Result, Ok, Err, slice_get, slice_index_or, refl, ap, sym, ◌∙◌, subst, append_assoc, arith, get_or-set_same}
+use Rattle.std.proofs.Common.{◌≡◌, ℕ, ◌-◌, ◌<◌, List, [], ◌∷◌, ◌++◌, length, take, None, Some, Result, Ok, Err, slice_get, slice_index_or, refl, ap, sym, ◌∙◌, subst, append_assoc, arith, get_or-set_same}
 use Rattle.std.specs.Prelude.{IsOk}
 use Rattle.std.proofs.Math.Seq.{take-append_seam}
 use Rattle.std.proofs.lemmas.List.{append_cancel_right, length-append, length-replicate}
@@ -9,7 +9,6 @@ use Rattle.plain_state.specs.State.{Mutator, Plain, Record}
 use Rattle.plain_heap.specs.Action.{register}
 use Rattle.plain_state.proofs.Lists.{slice_get-set_same}
 use Rattle.mutator_asm.specs.declared.instr.Instr.{Instr}
-use Rattle.mutator_asm.specs.declared.instr.Instr.TheVariants as instrs
 use Rattle.plain_heap.specs.Call.{After, call}
 use Rattle.plain_heap.specs.Order.{fresh}
 use Rattle.plain_heap.specs.Records.{shape_of}
@@ -27,8 +26,7 @@ use Rattle.gc_worker.specs.Plain.Answer.{MayEnd, after_answer}
 use Rattle.gc_worker.specs.Steps.Turned.{Answers}
 use Rattle.gc_worker.proofs.History.Extensions.{Agrees, after_append, as_many, calls_more, seen_keeps}
 use Rattle.gc_worker.proofs.History.Loads.{records_keep_their_shape}
-use Rattle.ael_threads.specs.declared.view.Hand.{Hand}
-use Rattle.ael_threads.specs.Calls.{Called, CalledBy, call_by}
+use Rattle.ael_threads.specs.Calls.{Called, call_by}
 use Rattle.ael_threads.specs.Histories.{HasOwnCalls, first_plain}
 use Rattle.ael_threads.specs.Seats.{IsMine, Seated, first_number, first_own, plain_after_seen}
 use Rattle.ael_threads.proofs.WholeCalls.OneMore.{makers}
@@ -36,20 +34,11 @@ use Rattle.ael_runtime.specs.Calling.{AtCall, HadEffect, KeepsShapes, WasTrapped
 use Rattle.ael_runtime.specs.Reading.{heap_before, number, seen_heap, seen_mutator}
 use Rattle.ael_threads.proofs.RegisterCount.{have_registers}
 
--- nothing comes after a call but after one of `snap`
-pub called : (a b : Seated) (i : Instr) (did : Did) → i ≢ instrs.Snap → CalledBy a i did b → Called a (Calls i) did b
-called a b instrs.Snap did other by = absurd (other refl)
-called a b _ did other by = by
-
 -- the beginning of a list with one more element behind it
 pub take_front : {A : Type 0} (xs : List A) (x : A) → take (length (xs ++ x ∷ []) - 1) (xs ++ x ∷ []) ≡ xs
 take_front {A} xs x =
     let e : length (xs ++ x ∷ []) - 1 ≡ length xs = omega (arith, length-append xs (x ∷ [])) in
     ap (λ (n : ℕ). take n (xs ++ x ∷ [])) e ∙ take-append_seam xs (x ∷ [])
-
--- all its calls were seen
-pub mine_more : (a b : Seated) (task : Task) (did : Did) → Called a task did b → IsMine b.knows
-mine_more a b task did h = subst (λ (hs : List Hand). HasOwnCalls b.knows.seen hs → calls_of (first_number hs) b.knows.seen ≡ first_own hs) (sym h.hands) (λ own. own.0) h.history.own
 
 module _ (a b : Seated) (task : Task) (did : Did) (mine : IsMine a.knows) (h : Called a task did b) where
   abbrev n : ℕ

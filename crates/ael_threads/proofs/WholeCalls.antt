@@ -7,3 +7,4 @@ pub mod FromActs
 pub mod OneMore
 pub mod AfterSnap
 pub mod AtRest
+pub mod Seen

@@ -1,9 +1,8 @@
 -- What the walk keeps of itself.
-use Rattle.std.proofs.Common.{◌≡◌, ℕ, ◌+◌, ◌-◌, ◌*◌, ◌^◌, ◌<◌, inl, inr, refl, arith, ⊎_elim}
+use Rattle.std.proofs.Common.{◌≡◌, ℕ, ◌+◌, ◌-◌, ◌*◌, ◌<◌, inl, inr, refl, arith}
 use Rattle.atom_store.specs.declared.reply.Reply.{Reply}
 use Rattle.atom_store.specs.declared.reply.Reply.TheVariants.{Value, Done, Won, Lost}
 use Rattle.heap_words.specs.Decoded.{Decoded, NumberWord, PointerWord, HeaderWord, ForwardWord, BusyWord, Malformed, decode}
-use Rattle.heap_words.specs.Word.{number_word, pointer_word}
 use Rattle.heap_words.proofs.Ranges.{forward_bounds}
 use Rattle.space_map.specs.Spaces.{Layout}
 use Rattle.cell_walk.specs.declared.linked_cell.LinkedCell.{LinkedCell}
@@ -22,14 +21,6 @@ replaced_so w (PointerWord address) is = inl refl
 replaced_so w (HeaderWord kind len serial mutator) is = inl refl
 replaced_so w (BusyWord len worker) is = inl refl
 replaced_so w Malformed is = inl refl
-
--- what replaces a target is no header
-pub IsReplacement-lt : (w : ℕ) → IsReplacement w → w < 2 ^ 62
-unfolding number_word pointer_word
-IsReplacement-lt w is = ⊎_elim
-    (λ (e : w ≡ number_word 0). omega arith)
-    (λ (e : (address : ℕ) × (address < 2 ^ 32) × (w ≡ pointer_word address)). let low = e.1 in let same = e.2 in omega arith)
-    is
 
 module _ (l : Layout) (epoch : ℕ) where
   -- it fits, where it is at no cell but one in the heap

@@ -1,7 +1,6 @@
 pub mod Seats
 pub mod Instructions
 pub mod AtEntry
-pub mod NewWord
 pub mod Noting
 pub mod FreshRecord
 pub mod MadeEntry

@@ -1,5 +1,5 @@
 -- What the instructions of a clerk do to its records and registers, if their operands are what they ask for.
-use Rattle.std.proofs.Common.{◌≡◌, ℕ, ◌+◌, ◌-◌, ◌^◌, ◌<◌, ◌≤◌, false, List, [], ◌∷◌, ◌++◌, length, Some, None, Result, Ok, Err, slice_index_or, slice_set, refl, ap, sym, ◌∙◌, arith}
+use Rattle.std.proofs.Common.{◌≡◌, ℕ, ◌+◌, ◌-◌, ◌^◌, ◌<◌, false, List, [], ◌∷◌, ◌++◌, length, Some, None, Result, Ok, Err, slice_index_or, slice_set, refl, ap, sym, ◌∙◌}
 use Rattle.std.specs.Prelude.{IsOk, IsTrue}
 use Rattle.std.specs.Option.{option_map}
 use Rattle.std.proofs.lemmas.Bool.{le-leb, lt-ltb}
@@ -17,18 +17,18 @@ use Rattle.mutator_asm.specs.declared.instr.Instr.{Instr}
 use Rattle.mutator_asm.specs.declared.instr.Instr.TheVariants as instrs
 use Rattle.mutator_asm.specs.declared.operand.Operand.TheVariants as operands
 use Rattle.mutator_asm.specs.Program.{is_valid}
-use Rattle.plain_heap.specs.declared.action.Action.{Action}
-use Rattle.plain_heap.specs.declared.action.Action.TheVariants.{Makes}
 use Rattle.plain_heap.specs.Action.{action, register}
 use Rattle.plain_heap.specs.Alone.{leaves_board}
 use Rattle.plain_heap.specs.Call.{After, allocated, call, is_cell, loads, may_hold, set_register, went_on}
-use Rattle.plain_heap.specs.Step.{new_record, pages_for, pages_of, record_made}
+use Rattle.plain_heap.specs.Step.{new_record, pages_for, pages_of}
 use Rattle.heap_state.specs.Worker.{Account}
 use Rattle.gc_worker.specs.Plain.Seen.{making_in, seen}
 use Rattle.gc_worker.specs.Workers.Fits.{FitsCall}
 use Rattle.gc_worker.proofs.Plain.RecordsMade.{made_of}
 use Rattle.plain_heap.proofs.Calls.Records.{held_same}
+use Rattle.plain_heap.proofs.Calls.Single.{call-li, call-mov, call-new, call-raw}
 use Rattle.concordance.specs.Desk.{CanDo, CanMake, Desk, HasWord, LeadsTo, MayTake, desk_after, desk_at, desk_size_made, desk_values, desk_with_record, desk_with_word, desk_word, own}
+use Rattle.concordance.proofs.Gathered.Reads.{record_none}
 
 -- ---- the record to which a value leads
 
@@ -49,24 +49,11 @@ held_is kind x w is = by_outcome (may_hold kind x w) refl is
     by_outcome (Ok v) e is = e ∙ ap Ok (sym (held_same kind x w v e))
     by_outcome (Err why) e is = cc
 
--- a cell holds nothing that is stored
-holds_no_cell : (kind : Kind) (x : ℕ) (w : Value) → IsOk (may_hold kind x w) → is_cell kind ≡ false
-holds_no_cell Weak x w is = cc
-holds_no_cell _ x w is = refl
-
 -- ---- the plain machine's call
 
 module _ (m : ℕ) (heap : Heap) (k : Mutator) where
   abbrev here : Desk
   here = desk_at m heap k
-
-  pub call-li : (d n : ℕ) → call m heap k (instrs.Li d n) ≡ Ok (loads heap k d (Number n))
-  unfolding call action
-  call-li d n = refl
-
-  pub call-mov : (d a : ℕ) → call m heap k (instrs.Mov d a) ≡ Ok (loads heap k d (register k a))
-  unfolding call action
-  call-mov d a = refl
 
   pub call-ld : (d a x : ℕ) (r : Record) → LeadsTo here (register k a) r → x < length r.values → is_cell r.kind ≡ false
       → call m heap k (instrs.Ld d a (operands.Number x)) ≡ Ok (loads heap k d (slice_index_or r.values x (Number 0)))
@@ -81,14 +68,6 @@ module _ (m : ℕ) (heap : Heap) (k : Mutator) where
       → call m heap k (instrs.St a (operands.Number x) b) ≡ Ok (record { heap = stored heap (record { mutator = m; serial = leads.serial }) r x (register k b); mutator = went_on k })
   unfolding call action
   call-st a x b r leads within holds = rw (leads.is, leads.found, lt-ltb x (length r.values) within, held_is r.kind x (register k b) holds) refl
-
-  pub call-new : (d n : ℕ) → n ≤ LONGEST_RECORD → call m heap k (instrs.New d (operands.Number n)) ≡ Ok (allocated m heap k Fields d n (Number 0))
-  unfolding call action
-  call-new d n short = rw (le-leb n LONGEST_RECORD short) refl
-
-  pub call-raw : (d n : ℕ) → n ≤ LONGEST_RECORD → call m heap k (instrs.Raw d (operands.Number n)) ≡ Ok (allocated m heap k Raw d n (Number 0))
-  unfolding call action
-  call-raw d n short = rw (le-leb n LONGEST_RECORD short) refl
 
   -- ---- on the desk
 
@@ -134,16 +113,16 @@ module _ (m : ℕ) (heap : Heap) (k : Mutator) where
         (made_there (made_by heap m ++ zeros kind n ∷ []))
 
     pub does : (i : Instr) → CanDo here i → IsDone i
-    does (instrs.Li d n) can = record { after = loads heap k d (Number n); ok = call-li d n; desk_is = refl }
-    does (instrs.Mov d a) can = record { after = loads heap k d (register k a); ok = call-mov d a; desk_is = refl }
+    does (instrs.Li d n) can = record { after = loads heap k d (Number n); ok = call-li m heap k d n; desk_is = refl }
+    does (instrs.Mov d a) can = record { after = loads heap k d (register k a); ok = call-mov m heap k d a; desk_is = refl }
     does (instrs.Ld d a (operands.Number x)) can = done-ld d a x can
     does (instrs.St a (operands.Number x) b) can = done-st a x b can
     does (instrs.Len d a) can = done-len d a can.0 can.1
     does _ can = absurd can
 
     pub makes : (i : Instr) → CanMake here i → IsDone i
-    makes (instrs.New d (operands.Number n)) can = record { after = allocated m heap k Fields d n (Number 0); ok = call-new d n can.0; desk_is = done-made Fields d n }
-    makes (instrs.Raw d (operands.Number n)) can = record { after = allocated m heap k Raw d n (Number 0); ok = call-raw d n can.0; desk_is = done-made Raw d n }
+    makes (instrs.New d (operands.Number n)) can = record { after = allocated m heap k Fields d n (Number 0); ok = call-new m heap k d n can.0; desk_is = done-made Fields d n }
+    makes (instrs.Raw d (operands.Number n)) can = record { after = allocated m heap k Raw d n (Number 0); ok = call-raw m heap k d n can.0; desk_is = done-made Raw d n }
     makes _ can = absurd can
 
 -- ---- the board and new records
@@ -163,10 +142,6 @@ makes_leave_board desk (instrs.Swap d x) can = absurd can
 makes_leave_board desk (instrs.Weak d a) can = absurd can
 makes_leave_board desk (instrs.Li d n) can = absurd can
 makes_leave_board desk _ can = refl
-
-record_none : (o : Result Action End) → making_in o ≡ None → record_made o ≡ None
-record_none (Ok (Makes kind d n v)) none = cc
-record_none _ none = refl
 
 pub does_none : (k : Mutator) (desk : Desk) (i : Instr) → CanDo desk i → making_in (action k i) ≡ None
 does_none k desk (instrs.New d x) can = absurd can
@@ -198,6 +173,3 @@ makes_serial desk _ can = absurd can
 
 pub does_begins : (account : Account) (registers : List ℕ) (desk : Desk) (i : Instr) → IsTrue (is_valid i) → CanDo desk i → FitsCall account registers i
 does_begins account registers desk i valid can = record { valid = valid; serial = λ m makes. let no : None ≡ Some m = sym (does_none (seen account registers) desk i can) ∙ makes in absurd cc }
-
-pub makes_begins : (account : Account) (registers : List ℕ) (desk : Desk) (i : Instr) → IsTrue (is_valid i) → account.serial ≡ length desk.records → CanMake desk i → FitsCall account registers i
-makes_begins account registers desk i valid is can = record { valid = valid; serial = λ m makes. let few = makes_serial desk i can in omega (arith, few, is) }

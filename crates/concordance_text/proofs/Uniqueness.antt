@@ -65,7 +65,7 @@ told_there : (s : WordRow) (ss : List WordRow) (m : Mention) → IsBelow s.word 
 told_there s ss m less (inl h) = absurd (never_below_itself nat_list_cmp_total s.word (subst (IsBelow s.word) h.0 less))
 told_there s ss m less (inr h) = h
 
-some_line : (lines : List ℕ) → 0 < length lines → (n : ℕ) × IsElementOf n lines
+pub some_line : (lines : List ℕ) → 0 < length lines → (n : ℕ) × IsElementOf n lines
 some_line [] some = absurd (omega arith)
 some_line (n ∷ ns) some = (n, inl refl)
 

@@ -82,7 +82,7 @@ head_piece = record { takes = head_takes; again = head_again }
 
 -- ---- the first line is a line
 
-digit_inside : (b : ℕ) → is_ascii_digit b ≡ true → is_inside b ≡ true
+pub digit_inside : (b : ℕ) → is_ascii_digit b ≡ true → is_inside b ≡ true
 digit_inside b h = grind (arith, nat_tests)
 
 all_inside : (bytes : List ℕ) → list_all is_ascii_digit bytes ≡ true → list_all is_inside bytes ≡ true

@@ -3,6 +3,7 @@ use Rattle.std.proofs.Common.{◌≡◌, ◌≢◌, ℕ, ◌+◌, ◌-◌, ◌*�
 use Rattle.std.specs.Prelude.{is_some}
 use Rattle.std.proofs.Math.Nat.{mul-le-mul_left}
 use Rattle.std.proofs.lemmas.Bool.Decides.{nat_tests}
+use Rattle.std.proofs.lemmas.Bool.{ne_eqb}
 use Rattle.atom_store.specs.declared.reply.Reply.{Reply}
 use Rattle.atom_store.specs.declared.reply.Reply.TheVariants.{Value, Won, Lost}
 use Rattle.atom_store.specs.declared.turn.Turn.{Turn}
@@ -74,7 +75,7 @@ by_traced d hindrance word =
     (λ _. let first = first_look-le d d.caller (record { traced = word; hindrance = hindrance }) in omega (arith, first))
 
 -- a claim has no more steps than the longest
-first_stage-le : (n page : ℕ) (in_place : Bool) → claim.left_at (claim.first_stage n page in_place) ≤ claim.longest
+pub first_stage-le : (n page : ℕ) (in_place : Bool) → claim.left_at (claim.first_stage n page in_place) ≤ claim.longest
 first_stage-le n page true = omega arith
 first_stage-le n page false = by_test (λ s. claim.left_at s ≤ claim.longest) (nat_eq page (board_page n)) _ _ (λ _. omega arith) (λ _. omega arith)
 
@@ -126,11 +127,8 @@ to_start-le d =
 pub to_start-to_page : (d : Round) → Duty.to_start d ≡ 64 * Duty.to_page d
 to_start-to_page d = omega arith
 
-apart_tested : (m n : ℕ) → m ≢ n → nat_eq m n ≡ false
-apart_tested m n apart = grind (arith, nat_tests)
-
 pages_left-other : (d : Round) (page : ℕ) → page ≢ board_page d.layout.pages → Duty.pages_left d page ≡ Duty.to_page d + d.layout.pages - page
-pages_left-other d page apart = rw (apart_tested page (board_page d.layout.pages) apart) refl
+pages_left-other d page apart = rw (ne_eqb page (board_page d.layout.pages) apart) refl
 
 full_le : (front page : ℕ) → Duty.is_full front page ≡ true → 64 * (page + 1) ≤ front
 full_le front page full = grind (arith, nat_tests)

@@ -2,6 +2,7 @@
 use Rattle.std.proofs.Common.{◌≡◌, ◌≢◌, ℕ, Bool, true, false, cond, ◌&&◌, nat_eq, ◌⊎◌, inl, inr, List, slice_index, Option, Some, None, arith, refl, sym, ap, ◌∙◌}
 use Rattle.std.specs.Prelude.{not}
 use Rattle.std.proofs.lemmas.Bool.Decides.{nat_tests}
+use Rattle.std.proofs.lemmas.Bool.{not-true}
 use Rattle.atom_store.specs.declared.reply.Reply.{Reply}
 use Rattle.atom_store.specs.declared.reply.Reply.TheVariants as reply
 use Rattle.atom_store.specs.declared.step.Step.TheVariants.{Exchange}
@@ -45,10 +46,6 @@ not_clear_says g is = by_request g.request refl is
     by_request true same e = inl same
     by_request false same e = inr (let other : g.behind ≢ 0 = grind (arith, nat_tests) in other)
 
-not_true : (b : Bool) → not b ≡ true → b ≡ false
-not_true true is = cc
-not_true false is = refl
-
 not_false : (b : Bool) → not b ≡ false → b ≡ true
 not_false true is = refl
 not_false false is = cc
@@ -63,10 +60,10 @@ fails true b is = inr is
 fails false b is = inl refl
 
 pub is_allowed : (passage : Passage) (g : GateWord) → allows passage g ≡ true → IsAllowed passage g
-is_allowed Look g is = not_true g.request is
+is_allowed Look g is = not-true g.request is
 is_allowed Attach g is = clear_says g is
 is_allowed Park g is = is
-is_allowed Request g is = not_true g.request is
+is_allowed Request g is = not-true g.request is
 is_allowed (Resume epoch) g is =
     let parts = both (is_clear g) (nat_eq g.epoch epoch) is in
     let clear = clear_says g parts.0 in

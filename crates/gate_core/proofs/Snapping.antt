@@ -14,20 +14,17 @@ use Rattle.atom_store.proofs.Acting.{no_step}
 use Rattle.atom_store.proofs.Steps.{slice_index-words_after, slice_index-won, won_exactly}
 use Rattle.space_map.specs.declared.gate_word.GateWord.{GateWord}
 use Rattle.space_map.specs.GateWord.{decode_gate}
-use Rattle.space_map.specs.Spaces.{Layout, IsPageCount}
 use Rattle.space_map.specs.Table as row
 use Rattle.space_map.specs.Table.{place_of}
 use Rattle.space_map.specs.TableWords.{row_word, HoldsTable}
-use Rattle.space_map.proofs.GateWords.{GateFits-decode_gate}
 use Rattle.space_map.proofs.Rows.{place_of-apart, place_of-lt}
 use Rattle.gate_core.specs.declared.snap.snapped.Snapped.{Snapped}
 use Rattle.gate_core.specs.declared.snap.snapped.Snapped.TheVariants.{Begun, NotYet}
 use Rattle.gate_core.specs.declared.snap.snap_stage.SnapStage.{SnapStage}
 use Rattle.gate_core.specs.declared.snap.snap_stage.SnapStage.TheVariants.{LoadsGate, ExchangesSnap, Ended}
 use Rattle.gate_core.specs.Checkpoints.{GateStandsAt, BeginsCheckpoint, ForbidsCheckpoint}
-use Rattle.gate_core.specs.Gate.{clear_begun}
-use Rattle.gate_core.specs.Snap.{Snapping, snap_machine, wanted, told_at, next_stage, looked, taken, left_at, advances_at}
-use Rattle.gate_core.specs.Soundness.{IsSoundPassing, IsSoundSnapping, FitsSnapStage, IsStopped}
+use Rattle.gate_core.specs.Snap.{Snapping, snap_machine, wanted, told_at, next_stage, looked, left_at, advances_at}
+use Rattle.gate_core.specs.Soundness.{IsSoundSnapping}
 
 abbrev at : Snapping → SnapStage → Snapping
 at s stage = record s { stage = stage }
@@ -52,42 +49,6 @@ gate_stays : (s : Snapping) (before after : List ℕ) (gate : GateWord) → afte
     → decode_gate (gate_of s before) ≡ Some gate → decode_gate (gate_of s after) ≡ Some gate
 gate_stays s before after gate makes stood =
     ap decode_gate (others_stay s before after makes (place_of s.layout.pages row.Gate) (gate_apart s.layout.pages)) ∙ stood
-
--- ---- what it keeps of itself
-
-sound_gate : (word : ℕ) (o : Option GateWord) → decode_gate word ≡ o → FitsSnapStage (looked word o)
-sound_gate word (Some g) is = by_test (nat_eq g.running 0) refl
-  where
-    by_test : (b : Bool) → nat_eq g.running 0 ≡ b → FitsSnapStage (cond b (ExchangesSnap g) (Ended (NotYet word)))
-    by_test true test = record { fits = GateFits-decode_gate word g is; none_runs = grind (arith, nat_tests) }
-    by_test false test = tt
-sound_gate word None is = tt
-
-stage_stays_sound : (stage : SnapStage) (answer : Reply) → FitsSnapStage stage → FitsSnapStage (next_stage stage answer)
-stage_stays_sound LoadsGate (reply.Value word) fits = sound_gate word (decode_gate word) refl
-stage_stays_sound LoadsGate reply.Done fits = tt
-stage_stays_sound LoadsGate reply.Won fits = tt
-stage_stays_sound LoadsGate (reply.Lost word) fits = tt
-stage_stays_sound (ExchangesSnap g) reply.Won fits = fits
-stage_stays_sound (ExchangesSnap g) (reply.Lost word) fits = fits
-stage_stays_sound (ExchangesSnap g) (reply.Value word) fits = fits
-stage_stays_sound (ExchangesSnap g) reply.Done fits = fits
-stage_stays_sound (Ended result) answer fits = fits
-
--- whatever word is read
-pub snap_stays_sound : (s : Snapping) (answer : Reply) → IsSoundSnapping s → IsSoundSnapping (taken s answer)
-snap_stays_sound s answer sound = record { pages = sound.pages; number = sound.number; stage = stage_stays_sound s.stage answer sound.stage }
-
--- the gate of a checkpoint that is begun
-pub begun_stopped : (s : Snapping) (stage : SnapStage) (gate : GateWord) → IsSoundSnapping (at s stage) → told_at stage ≡ Finished (Begun gate) → IsStopped gate
-begun_stopped s (Ended (Begun g)) gate sound tells = let same : g ≡ gate = cc in subst IsStopped same sound.stage
-begun_stopped s (Ended (NotYet word)) gate sound tells = absurd (cc)
-begun_stopped s LoadsGate gate sound tells = absurd (cc)
-begun_stopped s (ExchangesSnap g) gate sound tells = absurd (cc)
-
--- its request may be cleared from there
-pub clear_sound : (layout : Layout) (gate : GateWord) → IsPageCount layout.pages → IsStopped gate → IsSoundPassing (clear_begun layout gate)
-clear_sound layout gate few stopped = record { pages = few; stage = record { fits = stopped.fits; allowed = refl; counts = tt } }
 
 -- ---- what is left
 

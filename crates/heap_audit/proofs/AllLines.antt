@@ -33,9 +33,6 @@ pub record AllSoFar (n : ℕ) (bytes : List ℕ) (found : List Seen) (m : ℕ) (
   pub fit : AllByRecursion SeenFits found
   pub only : (all : List Seen) (tail : List ℕ) → AreSeen n all → bytes ≡ lines_seen 0 all ++ tail → AllLeft found all m rest tail
 
-pub starts : (n : ℕ) (bytes : List ℕ) → AllSoFar n bytes [] 0 bytes
-starts n bytes = record { taken = refl; number = refl; fit = tt; only = λ all tail h e. record { more = all; split = refl; fit = h.1; text = e } }
-
 fits_one_more : (found : List Seen) (k : Seen) → AllByRecursion SeenFits found → SeenFits k → AllByRecursion SeenFits (found ++ k ∷ [])
 fits_one_more [] k h one = (one, tt)
 fits_one_more (j ∷ found) k h one = (h.0, fits_one_more found k h.1 one)
@@ -116,10 +113,6 @@ module _ (n : ℕ) (bytes : List ℕ) (all : List MutatorLines) (m : ℕ) (rest 
       let b = left lt ks tail h e in
       let behind = lines_seen (m + 1) b.others ++ tail in
       handed_on line_view w r why (b.first, behind) (ks, tail) is (only b.first behind b.fits b.text)
-
-  -- each mutator is read
-  pub all_found : m ≡ n → AreSeen n (map seen_by all) × (bytes ≡ lines_seen 0 (map seen_by all) ++ rest)
-  all_found e = ((s.number ∙ e, s.fit), s.taken)
 
   pub all_only : m ≡ n → (ks : List Seen) (tail : List ℕ) → AreSeen n ks → bytes ≡ lines_seen 0 ks ++ tail → ◌≡◌ {A = List Seen × List ℕ} (map seen_by all, rest) (ks, tail)
   all_only is ks tail h e =

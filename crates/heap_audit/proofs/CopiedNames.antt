@@ -125,9 +125,6 @@ pub among_all : (d : Dump) (space : Extent) (rs : List RecordAt) (k : ℕ) (i : 
 among_all d space rs k i all =
     subst (λ (xs : List RecordAt). IsCopyAmong d space (map walked (take k rs)) i ↔ IsCopyAmong d space (map walked xs) i) (take_all k rs all) (λ y. y, λ y. y)
 
-pub among_none : (d : Dump) (space : Extent) (i : Identity) → IsCopyAmong d space [] i → ⊥
-among_none d space i y = omega (arith, y.among.1)
-
 -- ---- all that are in the heap
 
 module _ (d : Dump) (ordered : (space : ℕ) → IsWalkedSpace d.table space → IsInOrder d.table space) where

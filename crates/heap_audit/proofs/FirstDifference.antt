@@ -20,9 +20,6 @@ pub record Alike (wanted told rest more : List ℕ) (line : ℕ) : Type 0 where
   pub is_told : told ≡ front ++ more
   pub is_line : line ≡ ends front + 1
 
-pub starts : (wanted told : List ℕ) → Alike wanted told wanted told 1
-starts wanted told = record { front = []; is_wanted = refl; is_told = refl; is_line = refl }
-
 next_line : (t : Bool) (line k : ℕ) → line ≡ k + 1 → cond t (line + 1) line ≡ cond t (k + 1) k + 1
 next_line true line k e = omega (arith, e)
 next_line false line k e = e

@@ -1,15 +1,14 @@
 -- The first place at which a dump doesn't show what it should, by what was looked at before.
-use Rattle.std.proofs.Common.{◌≡◌, ℕ, zero, suc, ◌+◌, ◌*◌, ◌<◌, ◌≤◌, Option, Some, None, refl, ap, subst, arith, ⊎_elim, inl, inr, List}
+use Rattle.std.proofs.Common.{◌≡◌, ℕ, ◌+◌, ◌*◌, ◌<◌, Option, Some, None, refl, ap, arith, List}
 use Rattle.std.specs.Prelude.{option_map, ◌↔◌}
 use Rattle.std.specs.List.{Contains}
-use Rattle.std.proofs.lemmas.Bool.{cases_lt}
 use Rattle.plain_state.specs.State as plain
 use Rattle.heap_state.specs.Meaning.Dump.{Dump}
 use Rattle.heap_state.specs.Meaning.Represents.{BoardWordShows, IsInHeap, IsInOrder, IsWalkedSpace}
 use Rattle.heap_state.specs.Memory.Walk.{Walked}
 use Rattle.heap_audit.specs.Breaks.{BreaksAt}
 use Rattle.heap_audit.specs.Firsts.{TellsFirst}
-use Rattle.heap_audit.specs.Places.{AllSeen, IsFirstUnseen, IsPlace, SeenAt, SpaceArea, SpaceSize, TellsFirstWrongSpace, TellsSpace, WordSeen, places_before}
+use Rattle.heap_audit.specs.Places.{AllSeen, IsFirstUnseen, IsPlace, SeenAt, SpaceArea, SpaceSize, TellsFirstWrongSpace, WordSeen, places_before}
 use Rattle.heap_audit.specs.Records.{WordOfRecordShows}
 use Rattle.heap_audit.specs.Showing.{TellsFirstRegister}
 use Rattle.heap_audit.specs.declared.place.Place.{Place}
@@ -17,37 +16,6 @@ use Rattle.heap_audit.specs.declared.place.Place.TheVariants.{Size, Area, Regist
 use Rattle.heap_audit.proofs.Leasts.{first_same}
 
 -- ---- spaces
-
--- the first of both by that of each
-pub first_space : (d : Dump) (place : Place) → TellsSpace d 0 (Some place) → TellsFirstWrongSpace d (Some place)
-first_space d (Size space) tells = (omega (arith, tells.0), tells.1, λ other l. absurd (omega (arith, tells.0, l)))
-first_space d (Area space) tells = (omega (arith, tells.0), tells.1, tells.2, λ other l. absurd (omega (arith, tells.0, l)))
-first_space d (Register m j) tells = tells
-first_space d (Board x) tells = tells
-first_space d (Word a) tells = tells
-
-zero_before : (d : Dump) → TellsSpace d 0 None → (space : ℕ) → space < 1 → IsWalkedSpace d.table space → IsInOrder d.table space
-zero_before d first zero l = first
-zero_before d first (suc space) l = absurd (omega arith)
-
-pub second_space : (d : Dump) (place : Place) → TellsSpace d 0 None → TellsSpace d 1 (Some place) → TellsFirstWrongSpace d (Some place)
-second_space d (Size space) first tells = (omega (arith, tells.0), tells.1, λ other l. zero_before d first other (omega (arith, tells.0, l)))
-second_space d (Area space) first tells = (omega (arith, tells.0), tells.1, tells.2, λ other l. zero_before d first other (omega (arith, tells.0, l)))
-second_space d (Register m j) first tells = tells
-second_space d (Board x) first tells = tells
-second_space d (Word a) first tells = tells
-
-both_spaces_by : (d : Dump) → TellsSpace d 0 None → TellsSpace d 1 None → (space : ℕ) → IsWalkedSpace d.table space → IsInOrder d.table space
-both_spaces_by d first second zero walked = first walked
-both_spaces_by d first second (suc zero) walked = second walked
-both_spaces_by d first second (suc (suc space)) walked = absurd (few space walked)
-  where
-    few : (space : ℕ) → IsWalkedSpace d.table (suc (suc space)) → ⊥
-    few space (inl e) = omega arith
-    few space (inr e) = let s = e.1 in omega arith
-
-pub both_spaces : (d : Dump) → TellsSpace d 0 None → TellsSpace d 1 None → TellsFirstWrongSpace d None
-both_spaces d first second = both_spaces_by d first second
 
 module _ (d : Dump) (p : plain.Plain) where
   -- ---- the place of a space
@@ -58,43 +26,9 @@ module _ (d : Dump) (p : plain.Plain) where
   ordered_area : (space : ℕ) → (IsWalkedSpace d.table space → IsInOrder d.table space) → SpaceArea d space
   ordered_area space ordered = λ walked. (ordered walked).area
 
-  pub space_unseen : (place : Place) → TellsFirstWrongSpace d (Some place) → IsFirstUnseen d p place
-  space_unseen (Size space) tells = record { is_place = tells.0; before = λ other is l. before other l; unseen = tells.1 }
-    where
-      before : (other : Place) → places_before d other < 2 * space → SeenAt d p other
-      before (Size t) l = ordered_size t (tells.2 t (omega arith))
-      before (Area t) l = ordered_area t (tells.2 t (omega arith))
-      before (Register m j) l = absurd (let few = tells.0 in omega arith)
-      before (Board x) l = absurd (let few = tells.0 in omega arith)
-      before (Word a) l = absurd (let few = tells.0 in omega arith)
-  space_unseen (Area space) tells = record { is_place = tells.0; before = λ other is l. before other l; unseen = tells.2 }
-    where
-      before : (other : Place) → places_before d other < 2 * space + 1 → SeenAt d p other
-      before (Size t) l = ⊎_elim
-          (λ (e : t < space). ordered_size t (tells.3 t e))
-          (λ (e : space ≤ t). let same : space ≡ t = omega arith in subst (SpaceSize d) same tells.1)
-          (cases_lt t space)
-      before (Area t) l = ordered_area t (tells.3 t (omega arith))
-      before (Register m j) l = absurd (let few = tells.0 in omega arith)
-      before (Board x) l = absurd (let few = tells.0 in omega arith)
-      before (Word a) l = absurd (let few = tells.0 in omega arith)
-  space_unseen (Register m j) tells = absurd tells
-  space_unseen (Board x) tells = absurd tells
-  space_unseen (Word a) tells = absurd tells
-
   -- ---- behind the spaces
 
   module _ (ordered : TellsFirstWrongSpace d None) where
-    pub register_unseen : (m j : ℕ) → TellsFirstRegister d p (Some (m, j)) → IsFirstUnseen d p (Register m j)
-    register_unseen m j tells = record { is_place = (tells.0, tells.1); before = before; unseen = tells.2 }
-      where
-        before : (other : Place) → IsPlace d other → places_before d other < 4 + 8 * m + j → SeenAt d p other
-        before (Size t) is l = ordered_size t (ordered t)
-        before (Area t) is l = ordered_area t (ordered t)
-        before (Register k i) is l = tells.3 k i is.0 is.1 (omega arith)
-        before (Board x) is l = absurd (omega (arith, tells.0, tells.1, l))
-        before (Word a) is l = absurd (omega (arith, tells.0, tells.1, l))
-
     module _ (registers : TellsFirstRegister d p None) where
       pub board_unseen : (x : ℕ) → x < 16 → TellsFirst (λ y. y < 16 → BoardWordShows d p y) (Some x) → IsFirstUnseen d p (Board x)
       board_unseen x few tells = record { is_place = few; before = before; unseen = λ shows. tells.0 (λ l. shows) }

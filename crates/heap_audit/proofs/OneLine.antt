@@ -1,6 +1,5 @@
 -- Texts that are one line.
 use Rattle.std.proofs.Common.{◌≡◌, ℕ, ◌+◌, ◌^◌, ◌<◌, Bool, true, false, cond, eqb, decimal, List, [], ◌∷◌, ◌++◌, codes, Option, Some, None, refl, sym, ap, ◌∙◌, arith}
-use Rattle.std.proofs.lemmas.Bool.Decides.{nat_tests}
 use Rattle.std.proofs.lemmas.List.{append_assoc}
 use Rattle.std.proofs.lemmas.List.Folds.{list_all-append}
 use Rattle.std.proofs.lemmas.List.Concat.{flat_map-cons}
@@ -10,6 +9,7 @@ use Rattle.dump_text.specs.Lines.{first_lines}
 use Rattle.dump_text.proofs.FirstLines.{front_and_rest, inside_line, is_inside}
 use Rattle.dump_text.proofs.Numerals.{decimal_digits}
 use Rattle.dump_text.proofs.Options.{both_true}
+use Rattle.dump_text.proofs.FirstLine.{digit_inside}
 use Rattle.plain_heap.specs.declared.mark.Mark.{Mark}
 use Rattle.plain_heap.specs.declared.mark.Mark.TheVariants.{Step, Flip, Full, Traced}
 use Rattle.plain_heap.specs.Print.{end_text, mark_text, order_line, printed_line}
@@ -24,9 +24,6 @@ use Rattle.heap_audit.proofs.Fronts.{ends, ends_append}
 -- no line ends in a text
 abbrev pub IsInside : List ℕ → Type 0
 IsInside text = list_all is_inside text ≡ true
-
-digit_inside : (b : ℕ) → is_ascii_digit b ≡ true → is_inside b ≡ true
-digit_inside b h = grind (arith, nat_tests)
 
 digits_inside : (digits : List ℕ) → list_all is_ascii_digit digits ≡ true → IsInside digits
 digits_inside [] h = refl

@@ -47,9 +47,6 @@ pub record SoFar (bytes : List ℕ) (found : List Mark) (rest : List ℕ) : Type
   pub fit : AllByRecursion MarkFits found
   pub only : (marks : List Mark) (tail : List ℕ) → AllByRecursion MarkFits marks → bytes ≡ Line marks tail → Left found marks rest tail
 
-pub starts : (bytes : List ℕ) → SoFar bytes [] bytes
-starts bytes = record { taken = refl; fit = tt; only = λ marks tail h e. record { more = marks; split = refl; fit = h; text = e } }
-
 fits_one_more : (found : List Mark) (mark : Mark) → AllByRecursion MarkFits found → MarkFits mark → AllByRecursion MarkFits (found ++ mark ∷ [])
 fits_one_more [] mark h one = (one, tt)
 fits_one_more (m ∷ found) mark h one = (h.0, fits_one_more found mark h.1 one)
@@ -181,9 +178,6 @@ order_is_less rest text mark after space read = omega (arith, less text mark aft
 module _ (bytes body : List ℕ) (found : List Mark) (rest : List ℕ) (name : name_at bytes ≡ Some body) (s : SoFar body found rest) where
   body_is : (marks : List Mark) (tail : List ℕ) → bytes ≡ order_line marks ++ tail → body ≡ Line marks tail
   body_is marks tail e = same_body body (Line marks tail) (sym (name_takes bytes body name) ∙ e ∙ line_is marks tail)
-
-  pub order_found : (after : List ℕ) → byte_at 10 rest ≡ Some after → AllByRecursion MarkFits found × (bytes ≡ order_line found ++ after)
-  order_found after end = (s.fit, name_takes bytes body name ∙ ap Begun (s.taken ∙ ap (λ (xs : List ℕ). marks_text found ++ xs) (byte_takes 10 rest after end)) ∙ sym (line_is found after))
 
   pub order_only : (after : List ℕ) → byte_at 10 rest ≡ Some after → (marks : List Mark) (tail : List ℕ) → AllByRecursion MarkFits marks → bytes ≡ order_line marks ++ tail → ◌≡◌ {A = List Mark × List ℕ} (found, after) (marks, tail)
   order_only after end marks tail h is = ends body found after (subst (SoFar body found) (byte_takes 10 rest after end) s) marks tail h (body_is marks tail is)

@@ -102,14 +102,6 @@ module _ (n : ℕ) (bytes : List ℕ) {X Z : Type 0} (v : X → List Seen × Lis
               (ap (λ (q : List Seen × List ℕ). q.0) (lines_are output is e)) (ap (λ (q : List Mark × List ℕ). q.0) (order_is output is e))
               (sym (ok_is output.dump (t d) (only output.dump is.dump (last_is output is e))))
 
--- what was read one after the other is the part
-pub part_found : (n : ℕ) (bytes rest last : List ℕ) (output : Output) → AreSeen n output.seen × (bytes ≡ lines_seen 0 output.seen ++ rest) → AllByRecursion MarkFits output.order × (rest ≡ order_line output.order ++ last) → IsDumpOf n output.dump × (last ≡ dump_text output.dump)
-    → IsPart n output × (bytes ≡ part_text output)
-part_found n bytes rest last output seen order dump = (
-  record { seen = seen.0; order = order.0; dump = dump.0 },
-  seen.1 ∙ ap (λ (xs : List ℕ). lines_seen 0 output.seen ++ xs) (order.1 ∙ ap (λ (xs : List ℕ). order_line output.order ++ xs) dump.1) ∙ sym (lines_first output),
-)
-
 -- ---- no other has its text
 
 -- a part has no more mutators than a heap

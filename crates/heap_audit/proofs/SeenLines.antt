@@ -123,9 +123,6 @@ pub record SoFar (m : ℕ) (bytes found rest : List ℕ) : Type 0 where
   pub fit : AllByRecursion IsPrinted found
   pub only : (numbers : List ℕ) (end : Option End) (tail : List ℕ) → AllByRecursion IsPrinted numbers → bytes ≡ Lines m numbers end tail → Left m found numbers end rest tail
 
-pub starts : (m : ℕ) (bytes : List ℕ) → SoFar m bytes [] bytes
-starts m bytes = record { taken = refl; few = omega arith; fit = tt; only = λ numbers end tail h e. record { more = numbers; split = refl; fit = h; text = e } }
-
 fits_one_more : (found : List ℕ) (n : ℕ) → AllByRecursion IsPrinted found → IsPrinted n → AllByRecursion IsPrinted (found ++ n ∷ [])
 fits_one_more [] n h one = (one, tt)
 fits_one_more (k ∷ found) n h one = (h.0, fits_one_more found n h.1 one)

@@ -92,9 +92,6 @@ module _ (d : Dump) where
 
   -- ---- the lists
 
-  pub walked_now : space_walked d (Some epoch) (to_space epoch) ≡ walk_in d.table d.kept
-  walked_now = refl
-
   pub walked_old : space_walked d (epoch_before epoch) (from_space epoch) ≡ old_walk_in d.table d.kept
   walked_old =
       ap (λ (passes : ℕ → Bool). walk_space passes (reserved_in d.kept) d.table.heap (era_of d.table).old_start (memory_of d.table).old_front

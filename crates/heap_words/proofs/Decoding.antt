@@ -55,6 +55,3 @@ decode-busy_word len worker short in_range =
     let len_is : w / 2 ^ 4 % 2 ^ 12 ≡ len = omega arith in
     let worker_is : w / 2 ^ 16 ≡ worker = omega arith in
     rw (tag_of-busy_word len worker, form, fits, len_is, worker_is) refl
-
--- for `simp`, `grind` and `search`, which look for the ranges of the parts among the facts that they know
-pub ruleset reading = (decode-number_word, decode-pointer_word, decode-header_word, decode-forward_word, decode-busy_word)

@@ -4,4 +4,3 @@ pub mod Decoding
 pub mod Spelling
 pub mod Ranges
 pub mod Reading
-pub mod Apart

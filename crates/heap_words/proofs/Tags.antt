@@ -26,8 +26,6 @@ pub tag_of-busy_word : (len worker : ℕ) → tag_of (busy_word len worker) ≡ 
 unfolding tag_of busy_word
 tag_of-busy_word len worker = let bits : (3 + 4 + 2 ^ 4 * len + 2 ^ 16 * worker) % 4 ≡ 3 = omega arith in rw bits
 
-pub ruleset tags = (tag_of-number_word, tag_of-pointer_word, tag_of-header_word, tag_of-forward_word, tag_of-busy_word)
-
 -- the two bits of a tag
 abbrev pub tag_bits : Tag → ℕ
 tag_bits Number = 0

@@ -109,10 +109,6 @@ module _ (l : Layout) (page epoch : ℕ) (in_place : Bool) (words : List ℕ) (f
   Knows (LoadsNext r) now = (k : ℕ) × StandsBehind k r now × (r.next < front)
   Knows (Ended ending) now = Below ending.cursor now × ((64 * (page + 1) ≤ ending.cursor) ⊎ (ending.cursor ≡ front))
 
-  -- what is known of the record of a number
-  at-IsNumber : (k : ℕ) (r : ScannedRecord) → IsNumber k r → r.at ≡ at k
-  at-IsNumber k r n = ap (λ (z : ScannedRecord). z.at) n.is
-
   next-IsNumber : (k : ℕ) (r : ScannedRecord) → IsNumber k r → r.next ≡ at (k + 1)
   next-IsNumber k r n = ap (λ (z : ScannedRecord). z.next) n.is ∙ sym (begins-next heap from front k ∙ ap (λ d. at k + size_said d) n.says)
 

@@ -1,4 +1,5 @@
 pub mod Outcomes
+pub mod Single
 pub mod Rest
 pub mod Records
 pub mod Cells

@@ -5,13 +5,12 @@ use Rattle.plain_state.specs.declared.end.End.TheVariants.{IntoRaw}
 use Rattle.plain_state.specs.declared.value.Value.{Value}
 use Rattle.plain_state.specs.declared.value.Value.TheVariants.{Number, Reference}
 use Rattle.plain_state.specs.Holding.{may_hold}
-use Rattle.record_access.specs.declared.access_stage.AccessStage.{AccessStage}
 use Rattle.record_access.specs.declared.accessed.Accessed.TheVariants.{Fails}
 use Rattle.record_access.specs.declared.field_access.FieldAccess.{FieldAccess}
 use Rattle.record_access.specs.declared.field_access.FieldUse.{FieldUse}
 use Rattle.record_access.specs.declared.field_access.Role.{Role}
 use Rattle.record_access.specs.declared.field_access.Role.TheVariants as roles
-use Rattle.record_access.specs.Access.{Comes, GoesTo, goes_at, is_target, kind_of, storing, to_field, with_new}
+use Rattle.record_access.specs.Access.{Comes, is_target, kind_of, storing, to_field, with_new}
 use Rattle.record_access.specs.StoredWord.{word_if_held}
 
 pub stores_held : (f : FieldAccess) (usage : FieldUse) (made : Result Value End) (word : ℕ) → Some word ≡ word_if_held f.role made
@@ -24,12 +23,6 @@ not_held roles.Field x v other none = cc
 not_held roles.Number x (Number n) other none = cc
 not_held roles.Number x (Reference i) other none = refl
 not_held roles.Target x v other none = absurd (cc)
-
--- a word that may be stored is no target, so the access goes on at once
-pub goes_held : (role : Role) (stage : AccessStage) → is_target role ≡ false → goes_at role stage ≡ GoesTo stage
-goes_held roles.Field stage other = refl
-goes_held roles.Number stage other = refl
-goes_held roles.Target stage other = absurd (cc)
 
 pub fails_unheld : (f : FieldAccess) (usage : FieldUse) (x : ℕ) (v : Value) → is_target f.role ≡ false → None ≡ word_if_held f.role (may_hold (kind_of f.role) x v)
     → storing f usage (may_hold (kind_of f.role) x v) ≡ Comes (Fails IntoRaw)

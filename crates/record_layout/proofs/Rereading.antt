@@ -110,6 +110,3 @@ no_busy w d is other = refl
 pub busy_in-none : (w : ℕ)
     → ((len worker : ℕ) → len ≤ 4095 → worker < 2 ^ 8 → w ≡ busy_word len worker → ⊥) → busy_in (decode w) ≡ None
 busy_in-none w other = no_busy w (decode w) refl other
-
--- for `grind`, which then knows what a word reads as from what it says
-pub ruleset rereading = (header_in-said, forward_in-said, busy_in-said)

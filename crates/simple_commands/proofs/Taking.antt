@@ -22,16 +22,8 @@ use Rattle.simple_commands.specs.declared.options.Numbers.{Numbers}
 use Rattle.simple_commands.specs.Parsing.{error_for}
 use Rattle.simple_commands.specs.declared.parsing.WordsError.{WordsError}
 use Rattle.simple_commands.specs.declared.parsing.WordsError.TheVariants.{NoMemory, Refused}
-use Rattle.simple_commands.proofs.NoFault.{taken_without_fault}
+use Rattle.simple_commands.proofs.NoFault.{taken_without_fault, left, right}
 use Rattle.simple_commands.proofs.Values.{Each, RuleFits, level_fits, one_fits}
-
-left : (a b : Bool) → (a && b) ≡ true → a ≡ true
-left true b e = refl
-left false b e = e
-
-right : (a b : Bool) → (a && b) ≡ true → b ≡ true
-right true b e = e
-right false b e = absurd (true≢false (sym e))
 
 exact_of : (a : App) → IsTrue (is_exact a) → is_exact a ≡ true
 exact_of a exact = exact

@@ -55,11 +55,3 @@ unfolding decode_area
 AreaFits-decode_area w area is =
     let parts = decoded_if (nat_lt w (2 ^ 54)) (area_in w) area is in
     rw (← parts.1) (AreaFits-area_in w (ltb-true w (2 ^ 54) parts.0))
-
--- two areas that fit are one where their words are one
-pub same_area : (a b : AreaWord) → AreaFits a → AreaFits b → encode_area a ≡ encode_area b → a ≡ b
-same_area a b a_fits b_fits same =
-    let from_a = area_in-encode_area a a_fits in
-    let from_b = area_in-encode_area b b_fits in
-    let at_a : area_in (encode_area a) ≡ b = rw same from_b in
-    cc

@@ -62,7 +62,7 @@ use Rattle.record_access.specs.declared.mixed_access.MixedAccess.{MixedAccess}
 use Rattle.record_access.specs.declared.record_access.RecordAccess.{RecordAccess}
 use Rattle.record_access.specs.Access as access
 use Rattle.gc_worker.proofs.Words.Areas.{area_says, is_space}
-use Rattle.gc_worker.proofs.Stages.Copies.Words.{heap_word}
+use Rattle.gc_worker.proofs.Stages.Scan.Headers.{heap_word}
 use Rattle.gc_worker.proofs.Stages.Gate.Words.{gate_says}
 use Rattle.gc_worker.proofs.Stages.Rounds.Words.{page_says}
 

@@ -83,7 +83,6 @@ use Rattle.gc_worker.proofs.Stages.Access.Stages.{header_there, number_there}
 use Rattle.gc_worker.proofs.Stages.Copies.Finding.{answers}
 use Rattle.gc_worker.proofs.Stages.Copies.Hosts.{Host, ForScan, ForRegister}
 use Rattle.gc_worker.proofs.Stages.Copies.Hosts as hosts
-use Rattle.gc_worker.proofs.Stages.Copies.Words.{heap_word}
 use Rattle.gc_worker.proofs.Workers.Members.{member}
 use Rattle.page_scan.proofs.Lowering.{lowers as scans_lower}
 use Rattle.record_access.proofs.Lowering.{accesses_lower}
@@ -94,7 +93,7 @@ use Rattle.worker_progress.proofs.Saves.{MeetsSaving, SavesAre, looking, recalli
 use Rattle.worker_progress.proofs.Looks.{IsDone, looks_done}
 use Rattle.worker_progress.proofs.Lowering.{allocations_lower, flips_lower, openings_lower, passages_lower}
 use Rattle.gc_worker.proofs.Stages.Scan.Counts.{count_there}
-use Rattle.gc_worker.proofs.Stages.Scan.Headers.{answer2, first_header}
+use Rattle.gc_worker.proofs.Stages.Scan.Headers.{answer2, first_header, heap_word}
 use Rattle.gc_worker.proofs.Stages.Scan.Stages.{scans}
 
 module _ (c : Configuration) (p : Plain) (s : Stands c p) (k : ℕ) (x : Held) (q : Step) where

@@ -24,7 +24,7 @@ use Rattle.plain_heap.specs.declared.action.Action.TheVariants.{Sets, Jumps, Lin
 use Rattle.plain_heap.specs.Action.{◌>>=◌, action, in_record, next_of, register}
 use Rattle.plain_heap.specs.Call.{After, board_word, call, jumped, may_hold, performed, set_register, store_in, value_in, values_of, went_on, filled}
 use Rattle.plain_heap.proofs.Calls.Named.{FillsKind, Names, Spells, named}
-use Rattle.plain_heap.proofs.Calls.Outcomes.{if_ok-bind, if_ok-then, performed_exchange}
+use Rattle.plain_heap.proofs.Calls.Outcomes.{if_ok-bind, if_ok-then, performed_exchange, computed}
 use Rattle.plain_heap.proofs.Alone.Owned.{found_serial, read_all}
 use Rattle.plain_heap.proofs.Calls.Records.{held_same}
 
@@ -59,10 +59,6 @@ held_else m kind x v is = by_outcome (may_hold kind x v) refl
     by_outcome : (o : Result Value End) → may_hold kind x v ≡ o → IfOk o (IsElse m)
     by_outcome (Ok w) e = subst (IsElse m) (held_same kind x v w e) is
     by_outcome (Err why) e = tt
-
-computed : (o : Result ℕ End) → IfOk o (λ n. ⊤)
-computed (Ok n) = tt
-computed (Err why) = tt
 
 -- what fills a new record leads to a record of another, if it leads to one
 fills_else : (m : ℕ) (kind : Kind) (v : Value) → FillsKind (IsElse m) kind v → IsElse m v

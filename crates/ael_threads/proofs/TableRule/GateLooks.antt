@@ -11,10 +11,8 @@ use Rattle.gc_worker.specs.Workers.Counted.{counted}
 use Rattle.gc_worker.specs.Workers.Held.{Held}
 use Rattle.gc_worker.specs.Laws.Between.{Begins, Readies}
 use Rattle.gc_worker.specs.Laws.Step.{WorkersStand, held_at, nobody}
-use Rattle.gc_worker.specs.Laws.Stories.{StoryStands}
 use Rattle.gc_worker.specs.declared.calls.entry.Entry.{Entry}
 use Rattle.gc_worker.specs.History.Legal.{after_all, last_flip}
-use Rattle.gc_worker.specs.History.Tally.{IsTallied}
 use Rattle.gc_worker.proofs.Between.Readying.{readying_stands}
 use Rattle.gc_worker.proofs.History.Tasks.{task_tallied}
 use Rattle.gc_worker.proofs.Plain.LostCells.{lost_cells_are_empty}
@@ -100,28 +98,27 @@ finds plan id v x (was ∷ others) e live heads s b at =
     subst (λ (z : View). FindsGate z (first_number z.hands) x (slice_index s.words 0)) (sym same)
     (finds_gate plan id was x others v.seen v.heard v.claims s b (at ∙ ap some same) (subst (λ (z : Plan). Follows z was.number was.worker x) fixed heads))
 
--- a load of word 0, which leaves all as it was
+-- a load of word 0 leaves all as it was, and keeps the rule, if what its seat's view then says is so
+pub keeps_rule : (plan : Plan) (id : ℕ) (s : TableState) (b : RuleHolds plan s) (mine : List (ℕ × ℕ)) (w : View) → FitsView plan s.words b.workers b.log b.owner b.winner id w
+    → RuleHolds plan (table.stepped s 0 (slice_index s.words 0) id mine w table.keeps)
+keeps_rule plan id s b mine w fit = subst (λ (z : List ℕ). RuleHolds plan (record { words = z; homes = s.homes; views = set s.views id w })) (sym (set-get_or s.words 0 0)) (record {
+  log = b.log;
+  workers = b.workers;
+  count = b.count;
+  owner = b.owner;
+  winner = b.winner;
+  legal = b.legal;
+  story = b.story;
+  last = b.last;
+  tallied = b.tallied;
+  begun = b.begun;
+  flipped = b.flipped;
+  seats = λ j u at'. ⊎_elim (λ (t : (j ≡ id) × (w ≡ u)). subst (λ (z : ℕ × View). FitsView plan s.words b.workers b.log b.owner b.winner z.0 z.1) (λ i. (sym t.0 i, t.1 i)) fit)
+      (λ (t : (j ≢ id) × (get_elem? s.views j ≡ some u)). b.seats j u t.1)
+      (at_set s.views id j w u at');
+})
+
+-- a look at the gate
 pub glances : (plan : Plan) (slots id : ℕ) (me : Me) (st : table.Step ℕ) → 0 < me.0.plan.spaces.pages → table.Allows (RuleHolds plan) slots id me 0 (λ n. n) (Glances st me)
-glances plan slots id me st live s b homes at small = (
-  me.0,
-  table.keeps,
-  tt,
-  record {
-    log = b.log;
-    workers = b.workers;
-    count = b.count;
-    owner = b.owner;
-    winner = b.winner;
-    legal = b.legal;
-    story = subst (λ (z : List ℕ). StoryStands (heap_of plan z b.workers) (after_all (first_plain plan) b.log) (last_flip (first_plain plan) b.log)) (sym (set-get_or s.words 0 0)) b.story;
-    last = b.last;
-    tallied = subst (λ (z : List ℕ). IsTallied plan.least (heap_of plan z b.workers) (opening_tally plan) b.log) (sym (set-get_or s.words 0 0)) b.tallied;
-    begun = b.begun;
-    flipped = b.flipped;
-    seats = λ j u at'. subst (λ (z : List ℕ). FitsView plan z b.workers b.log b.owner b.winner j u) (sym (set-get_or s.words 0 0))
-        (⊎_elim (λ (t : (j ≡ id) × (me.0 ≡ u)). subst (λ (z : ℕ × View). FitsView plan s.words b.workers b.log b.owner b.winner z.0 z.1) (λ i. (sym t.0 i, t.1 i)) (b.seats id me.0 at))
-        (λ (t : (j ≢ id) × (get_elem? s.views j ≡ some u)). b.seats j u t.1)
-        (at_set s.views id j me.0 u at'));
-  },
-  (refl, λ x heads. finds plan id me.0 x me.0.hands refl live heads s b at),
-)
+glances plan slots id me st live s b homes at small =
+    (me.0, table.keeps, tt, keeps_rule plan id s b me.1 me.0 (b.seats id me.0 at), (refl, λ x heads. finds plan id me.0 x me.0.hands refl live heads s b at))

@@ -18,6 +18,7 @@ use Rattle.plain_heap.specs.Alone.{leaves_board}
 use Rattle.plain_heap.specs.Call.{After, call, loads, may_hold, performed, store_in, value_in, went_on}
 use Rattle.plain_heap.proofs.Alone.Alike.{Same, same-bind}
 use Rattle.plain_heap.proofs.Calls.Named.{Names, Spells, named}
+use Rattle.plain_heap.proofs.Calls.Outcomes.{computed}
 
 -- the heap there with the records of this one
 abbrev pub with_records_of : Heap → (there : Heap) → Heap
@@ -81,10 +82,6 @@ module _ (m : ℕ) (heap there : Heap) (k : Mutator) where
   spells (instrs.Swap d x) leaves = cc
   spells (instrs.Li d n) leaves = tt
   spells _ leaves = tt
-
-  computed : (o : Result ℕ End) → IfOk o (λ n. ⊤)
-  computed (Ok n) = tt
-  computed (Err why) = tt
 
   acts_as : (o : Result Action End) → IfOk o (Names (λ v. ⊤) ⊥ k) → DoTheSame (o >>= performed m heap k) (o >>= performed m other k)
   acts_as (Ok act) is = performed-same act is

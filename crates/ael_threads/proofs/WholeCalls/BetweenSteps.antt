@@ -14,7 +14,7 @@ use Rattle.gc_worker.specs.Workers.Counted.{counted}
 use Rattle.gc_worker.specs.Workers.Fits.{Fits, MayBegin}
 use Rattle.gc_worker.specs.Workers.Held.{Held}
 use Rattle.gc_worker.specs.Laws.Step.{Heap, held_at, nobody}
-use Rattle.gc_worker.specs.Steps.Stepped.{IsSound, uncounted}
+use Rattle.gc_worker.specs.Steps.Stepped.{uncounted}
 use Rattle.gc_worker.specs.Steps.Turned.{turned}
 use Rattle.gc_worker.proofs.Between.Beginning.{tasks_may_begin}
 use Rattle.gc_worker.proofs.Between.GoingOn.{workers_go_on}
@@ -98,10 +98,6 @@ moved_heads v x now r w h t e =
 -- after a step the seat has heard of the history after it
 pub has_heard_all : (v : View) (m : ℕ) (x : Held) (r : Reply) (w : View) → Moves v m x r w → HasHeardAllSeen w
 has_heard_all v m x r w t = subst (IsPrefix w.seen) (sym t.hears) t.stands.begins
-
-pub sound_by : (n mutators k : ℕ) (x : Held) → Fits n mutators k x → IsSound x
-sound_by n mutators k x f = subst (λ (j : ℕ). Fits x.layout.pages x.mutators j x) (sym f.number)
-    (subst (λ (m : ℕ). Fits x.layout.pages m k x) (sym f.beside) (subst (λ (pages : ℕ). Fits pages mutators k x) (sym f.pages) f))
 
 pub still_live : (t u : TableId) (v w : View) → t ≡ u → w.plan ≡ v.plan → FitsTable u v → FitsTable t w
 still_live t u v w e f live = subst (λ (z : TableId × Plan). (0 < z.1.spaces.pages) × (z.0.words ≡ whole_length z.1.spaces)) (λ i. (sym e i, sym f i)) live

@@ -1,5 +1,5 @@
 -- All callers in one, and what stands at the end.
-use Rattle.std.proofs.Common.{◌≡◌, ℕ, ◌<◌, length, List, [], ◌∷◌, ◌++◌, map, take, ◌-◌, arith, refl, sym, ◌∙◌, ap, subst, append_assoc}
+use Rattle.std.proofs.Common.{◌≡◌, ℕ, ◌<◌, length, List, [], ◌∷◌, ◌++◌, map, arith, refl, sym, ◌∙◌, ap, subst, append_assoc}
 use mathlib.Core.List.{IsPrefix}
 use Rattle.atomic_table.specs.Table as table
 use Rattle.atomic_table.specs.Seated.{TableId}
@@ -114,13 +114,6 @@ module _ {A : Type 0} where
   -- the last of what was left goes in front of what was done
   pub shifts : (all old new done : List A) (x : A) → all ≡ old ++ done → old ≡ new ++ x ∷ [] → all ≡ new ++ x ∷ done
   shifts all old new done x is e = is ∙ (ap (λ z. z ++ done) e ∙ append_assoc new (x ∷ []) done)
-
-  -- all that were left were done
-  pub ends : (all old new done : List A) (n : ℕ) → all ≡ old ++ done → old ≡ new ++ [] → new ≡ take (n - 1) old → n ≡ 0 → all ≡ done
-  ends all old new done n is e rest none =
-      let none' : n - 1 ≡ 0 = omega arith in
-      let empty : new ≡ [] = rest ∙ ap (λ (k : ℕ). take k old) none' in
-      is ∙ (ap (λ z. z ++ done) e ∙ ap (λ z. (z ++ []) ++ done) empty)
 
   -- a fact of all is one of the next
   pub next_has : (P : A → Type 0) (all new done : List A) (x : A) → all ≡ new ++ x ∷ done → Each P all → P x

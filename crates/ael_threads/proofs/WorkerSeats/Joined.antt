@@ -2,26 +2,25 @@
 use Rattle.std.proofs.Common.{◌≡◌, ◌≢◌, ℕ, ◌<◌, ◌==◌, Bool, cond, List, [], ◌∷◌, ◌++◌, map, set, refl, sym, ◌∙◌, ap, subst, ⊎_elim, arith, eq-eqb, ne_eqb}
 use mathlib.Core.Option.{some}
 use mathlib.Core.List.{map-append}
-use Rattle.std.proofs.lemmas.List.{set-get_or}
 use lib.ListN.{get_elem?}
 use Rattle.atomic_table.specs.Table as table
 use Rattle.gc_worker.specs.Workers.Held.{Held}
-use Rattle.gc_worker.specs.Laws.Stories.{StoryStands}
 use Rattle.ael_threads.specs.declared.view.WonClaim.{WonClaim}
 use Rattle.gc_worker.specs.declared.calls.entry.Entry.{Entry}
 use Rattle.ael_threads.specs.declared.view.Hand.{Hand}
 use Rattle.ael_threads.specs.declared.view.Plan.{Plan}
 use Rattle.ael_threads.specs.declared.view.View.{View}
-use Rattle.gc_worker.specs.History.Tally.{EachEntry, EntryIs, IsTallied, tasks_held}
+use Rattle.gc_worker.specs.History.Tally.{EachEntry, EntryIs, tasks_held}
 use Rattle.ael_threads.specs.Began.{FlippedIfFull, begun_held}
 use Rattle.ael_threads.specs.Histories.{AreSizesOf, opening_tally, Each, IsOnce, first_plain, hand_number}
-use Rattle.gc_worker.specs.History.Legal.{IsLegal, after_all, calls_of, last_flip}
-use Rattle.ael_threads.specs.Rule.{FitsView, HasHand, RuleHolds, Won, heap_of, spent_view, view}
+use Rattle.gc_worker.specs.History.Legal.{IsLegal, calls_of}
+use Rattle.ael_threads.specs.Rule.{FitsView, HasHand, RuleHolds, Won, spent_view, view}
 use Rattle.ael_threads.specs.Seats.{HasFlippedIfFull, Learns, Me, both_of}
 use Rattle.ael_threads.proofs.Looks.{hand_flipped}
 use Rattle.ael_threads.proofs.TableRule.PagesInUse.{tallied_sizes}
 use Rattle.ael_threads.proofs.Lists.Reads.{at_set, set_else}
 use Rattle.ael_threads.proofs.Lists.Elements.{each_append, each_map, each_to_map, prefix_self}
+use Rattle.ael_threads.proofs.TableRule.GateLooks.{keeps_rule}
 
 -- whose a thing is once what was the seat other's is the seat id's
 abbrev moved_to : {A : Type 0} → (A → ℕ) → ℕ → ℕ → A → ℕ
@@ -137,23 +136,7 @@ learns plan slots id me st live s b homes at small =
       w,
       table.keeps,
       tt,
-      record {
-        log = b.log;
-        workers = b.workers;
-        count = b.count;
-        owner = b.owner;
-        winner = b.winner;
-        legal = b.legal;
-        story = subst (λ (z : List ℕ). StoryStands (heap_of plan z b.workers) (after_all (first_plain plan) b.log) (last_flip (first_plain plan) b.log)) (sym (set-get_or s.words 0 0)) b.story;
-        last = b.last;
-        tallied = subst (λ (z : List ℕ). IsTallied plan.least (heap_of plan z b.workers) (opening_tally plan) b.log) (sym (set-get_or s.words 0 0)) b.tallied;
-        begun = b.begun;
-        flipped = b.flipped;
-        seats = λ j u at'. subst (λ (z : List ℕ). FitsView plan z b.workers b.log b.owner b.winner j u) (sym (set-get_or s.words 0 0))
-            (⊎_elim (λ (t : (j ≡ id) × (w ≡ u)). subst (λ (z : ℕ × View). FitsView plan s.words b.workers b.log b.owner b.winner z.0 z.1) (λ i. (sym t.0 i, t.1 i)) fit)
-            (λ (t : (j ≢ id) × (get_elem? s.views j ≡ some u)). b.seats j u t.1)
-            (at_set s.views id j w u at'));
-      },
+      keeps_rule plan id s b me.1 w fit,
       (
         refl,
         record {

@@ -8,7 +8,7 @@ use Rattle.mutator_asm.specs.declared.instr.Instr.TheVariants.{Ld, Len}
 use Rattle.mutator_asm.specs.declared.operand.Operand.TheVariants as operands
 use Rattle.plain_heap.specs.Call.{is_cell}
 use Rattle.concordance.specs.Desk.{CanDo, Desk, LeadsTo, desk_after, desk_register, desk_word, own}
-use Rattle.concordance.specs.Notes.Records.{IsEntry, IsLetters, IsLine, Note, entry_record, letters_record, line_record}
+use Rattle.concordance.specs.Notes.Records.{IsEntry, IsLetters, Note, entry_record, letters_record}
 use Rattle.concordance.proofs.Doing.{values_there, word_there}
 use Rattle.concordance.proofs.Desks.Instructions.{Loads, loads}
 
@@ -33,9 +33,6 @@ module _ (a : Desk) (count : length a.registers ≡ REGISTERS) (from : ℕ) (r :
 
 pub to_letters : (desk : Desk) (v : Value) (word : List ℕ) → IsLetters desk.number desk.records v word → LeadsTo desk v (letters_record word)
 to_letters desk v word is = record { serial = is.serial; is = is.is; found = is.letters }
-
-pub to_line : (desk : Desk) (v : Value) (number : ℕ) (before : Value) → IsLine desk.number desk.records v number before → LeadsTo desk v (line_record (Number number) before)
-to_line desk v number before is = record { serial = is.serial; is = is.is; found = is.line }
 
 pub to_entry : (desk : Desk) (v : Value) (note : Note) (before : Value) (is : IsEntry desk.number desk.records v note before) → LeadsTo desk v (entry_record is.letters is.line is.left is.right before)
 to_entry desk v note before is = record { serial = note.serial; is = is.is; found = is.entry }

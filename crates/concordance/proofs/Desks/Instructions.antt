@@ -71,9 +71,6 @@ makes_change test a kind d n b on l = record { number = l.number; registers = λ
 pub stores_change : (test : ℕ → Bool) (a : Desk) (serial x : ℕ) (v : Value) (b : Desk) → Stores a serial x v b → ChangesAtMost test a b
 stores_change test a serial x v b s = record { number = s.number; registers = λ r off. s.registers r }
 
-pub changes_none : (test : ℕ → Bool) (a : Desk) → ChangesAtMost test a a
-changes_none test a = record { number = refl; registers = λ r off. refl }
-
 pub changes_then : (test : ℕ → Bool) (a b c : Desk) → ChangesAtMost test a b → ChangesAtMost test b c → ChangesAtMost test a c
 changes_then test a b c first second = record { number = second.number ∙ first.number; registers = λ r off. second.registers r off ∙ first.registers r off }
 

@@ -1,5 +1,5 @@
 -- The parts of a text, of which the first so many are gathered.
-use Rattle.std.proofs.Common.{add-one, ◌≡◌, ⊎_elim, inl, ℕ, zero, suc, ◌+◌, ◌^◌, ◌<◌, List, [], ◌∷◌, ◌++◌, flat_map, length, Some, slice_get, take, refl, sym, ap, ◌∙◌, subst, arith, append_assoc, append-nil}
+use Rattle.std.proofs.Common.{add-one, ◌≡◌, ⊎_elim, ℕ, zero, suc, ◌+◌, ◌^◌, ◌<◌, List, [], ◌∷◌, ◌++◌, flat_map, length, Some, slice_get, take, refl, sym, ap, ◌∙◌, subst, arith, append_assoc, append-nil}
 use Rattle.std.specs.List.{AllByRecursion}
 use Rattle.std.specs.List.Sorted.{IsStrictlySortedBy}
 use Rattle.std.proofs.lemmas.List.Splits.{length-slice_split}
@@ -14,7 +14,7 @@ use Rattle.concordance_text.specs.Parts.{AreInEarlierLines, AreInLineOrder, IsNu
 use Rattle.concordance_text.specs.Rows.{AreRowsOf, IsElementOf, WordRow}
 use Rattle.concordance_text.specs.Words.{Mention, ends_line, lines_of, mention}
 use Rattle.concordance_text.proofs.LineNumbers.{letters_are_bytes, line_within, word_within}
-use Rattle.concordance_text.proofs.Uniqueness.{all_in}
+use Rattle.concordance_text.proofs.Uniqueness.{all_in, some_line}
 use Rattle.concordance_text.proofs.WordRuns.{in_either, in_left, in_right}
 use Rattle.concordance.specs.Gathering.{AllAreNoted, HasGot, BoardLeadsToNotes, HasSmallNumbers, LeadsToEntries, whole_desk_of, whole_register, with_notes}
 use Rattle.concordance.specs.Notes.Invariant.{HasLines}
@@ -48,10 +48,6 @@ all_at P (y ∷ ys) zero x all is = subst P (same_Some y x is) all.0
 all_at P (y ∷ ys) (suc k) x all is = all_at P ys k x all.1 is
 
 -- ---- its numbers are small
-
-some_line : (lines : List ℕ) → 0 < length lines → (n : ℕ) × IsElementOf n lines
-some_line [] some = absurd (omega arith)
-some_line (n ∷ ns) some = (n, inl refl)
 
 module _ (heap : Heap) (k : ℕ) (part : Part) (numbered : IsNumbered part) (has : BoardLeadsToNotes heap k (mentions_of_part part)) where
   small_line : (m : Mention) → IsElementOf m (mentions_of_part part) → m.line < 2 ^ 32

@@ -1,7 +1,7 @@
 -- What is read at the entries, letters and lines of a clerk's notes.
 use Rattle.std.proofs.Common.{◌≡◌, ℕ, ◌<◌, List, [], ◌∷◌, length, Option, Some, slice_index_or, refl, ap, sym, ◌∙◌, subst}
 use Rattle.std.specs.Option.{option_map_or}
-use Rattle.std.proofs.lemmas.List.{get_or-map, length-map}
+use Rattle.std.proofs.lemmas.List.{get_or-map}
 use Rattle.plain_state.specs.declared.value.Value.{Value}
 use Rattle.plain_state.specs.declared.value.Value.TheVariants.{Number}
 use Rattle.plain_state.specs.State.{Heap, Record, made_by}
@@ -32,12 +32,6 @@ module _ (heap : Heap) where
       pub entry_has : (x : ℕ) → x < 5 → HasValueAt heap v x
       entry_has x within = record { found = entry_record e.letters e.line e.left e.right before; is = entry_at; within = within; no_cell = refl }
 
-      pub letters_got : slice_index_or (values_at heap v) 0 (Number 0) ≡ e.letters
-      letters_got = value_of_record v _ 0 entry_at
-
-      pub line_got : slice_index_or (values_at heap v) 1 (Number 0) ≡ e.line
-      line_got = value_of_record v _ 1 entry_at
-
       pub before_got : slice_index_or (values_at heap v) 4 (Number 0) ≡ before
       before_got = value_of_record v _ 4 entry_at
 
@@ -47,14 +41,8 @@ module _ (heap : Heap) where
       pub letters_at : record_at heap v ≡ Some (letters_record word)
       letters_at = ap (record_at heap) l.is ∙ l.letters
 
-      pub letter_there : (x : ℕ) → x < length word → HasValueAt heap v x
-      letter_there x within = record { found = letters_record word; is = letters_at; within = subst (λ (n : ℕ). x < n) (sym (length-map word Number)) within; no_cell = refl }
-
       pub letter_got : (x : ℕ) → x < length word → slice_index_or (values_at heap v) x (Number 0) ≡ Number (slice_index_or word x 0)
       letter_got x within = value_of_record v (letters_record word) x letters_at ∙ get_or-map Number word x 0 (Number 0) within
-
-      pub length_got : length (values_at heap v) ≡ length word
-      length_got = ap (λ (vs : List Value). length vs) (values_of_record v (letters_record word) letters_at) ∙ length-map word Number
 
     -- ---- a line
 

@@ -9,7 +9,7 @@ use Rattle.heap_words.specs.Decoded.{NumberWord, PointerWord, decode}
 use Rattle.heap_state.specs.Worker.{Account}
 use Rattle.plain_state.specs.declared.end.End.{End}
 use Rattle.plain_state.specs.declared.end.End.TheVariants.{HeapFull}
-use Rattle.plain_state.specs.declared.sizes.TheConstants.{BOARD_WORDS, REGISTERS}
+use Rattle.plain_state.specs.declared.sizes.TheConstants.{REGISTERS}
 use Rattle.plain_state.specs.declared.value.Identity.{Identity}
 use Rattle.plain_state.specs.declared.value.Value.{Value}
 use Rattle.plain_state.specs.declared.value.Value.TheVariants.{Number, Reference}
@@ -21,10 +21,11 @@ use Rattle.mutator_asm.specs.Program.{is_operand, is_register, is_valid}
 use Rattle.plain_heap.specs.declared.action.Action.{Action}
 use Rattle.plain_heap.specs.declared.action.Action.TheVariants.{Makes}
 use Rattle.plain_heap.specs.Action.{action, register}
-use Rattle.plain_heap.specs.Call.{After, board_word, call, loads}
+use Rattle.plain_heap.specs.Call.{After, call, loads}
 use Rattle.plain_heap.specs.Order.{fresh}
 use Rattle.plain_heap.specs.Step.{new_record, pages_of, record_made, settled}
 use Rattle.plain_heap.specs.Tracing.{is_weak}
+use Rattle.plain_heap.proofs.Calls.Single.{call-get}
 use Rattle.gc_worker.specs.declared.calls.did.Did.{Did}
 use Rattle.gc_worker.specs.declared.calls.did.Did.TheVariants.{Done, Trap}
 use Rattle.gc_worker.specs.declared.task.Task.TheVariants.{Calls}
@@ -52,10 +53,6 @@ reference_there heap (Number n) r is = cc
 reference_there heap (Reference i) r is = (i, refl, is)
 
 module _ (m : ℕ) (heap : Heap) (k : Mutator) where
-  call-get : (d x : ℕ) → x < BOARD_WORDS → call m heap k (instrs.Get d (operands.Number x)) ≡ Ok (loads heap k d (board_word heap x))
-  unfolding call action
-  call-get d x within = rw (lt-ltb x BOARD_WORDS within) refl
-
   call-ld : (d a x : ℕ) (has : HasValueAt heap (register k a) x) → call m heap k (instrs.Ld d a (operands.Number x)) ≡ Ok (loads heap k d (slice_index_or has.found.values x (Number 0)))
   unfolding call action
   call-ld d a x has =
@@ -68,7 +65,7 @@ module _ (m : ℕ) (heap : Heap) (k : Mutator) where
 
   -- it is executed, and a register takes what is read
   gets_by : (i : Instr) → CanGet (desk_by heap k) i → call m heap k i ≡ Ok (loads heap k (register_set i) (value_got (desk_by heap k) i))
-  gets_by (instrs.Get d (operands.Number x)) can = call-get d x can
+  gets_by (instrs.Get d (operands.Number x)) can = call-get m heap k d x can
   gets_by (instrs.Ld d a (operands.Number x)) can = call-ld d a x can ∙ rw can.is refl
   gets_by (instrs.Len d a) can = call-len d a can.0 can.1 ∙ rw can.1 refl
   gets_by _ can = absurd can

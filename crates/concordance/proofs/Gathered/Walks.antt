@@ -10,7 +10,7 @@ use Rattle.ael_threads.specs.Seats.{Seated}
 use Rattle.concordance_text.specs.Rows.{WordRow, with_lines}
 use Rattle.concordance.specs.Gathering.{HasGot, HasRead, HasSmallNumbers, HasValueAt, LeadsToEntries, LeadsToEntry, values_at, whole_desk_of, whole_register, with_notes}
 use Rattle.concordance.specs.Notes.Records.{AreEntries, AreLines, IsEntry, IsLetters, IsLine, Note}
-use Rattle.concordance.proofs.Gathered.Places.{FirstEntry, FirstLine, before_got, carried, entry_has, first_entry, first_line, letter_got, length_got, letters_got, line_before_got, line_got, line_has, line_number_got, no_entry, no_line}
+use Rattle.concordance.proofs.Gathered.Places.{FirstEntry, FirstLine, before_got, carried, entry_has, first_entry, first_line, letter_got, line_before_got, line_has, line_number_got, no_entry, no_line}
 
 abbrev reg : Seated → ℕ → Value
 reg s r = whole_register (whole_desk_of s) r
@@ -31,18 +31,9 @@ same_number n k e = cc
 abbrev pub SeesLetters : Seated → (r k : ℕ) → List ℕ → Type 0
 SeesLetters s r k word = IsLetters k (made_by (heap_of s) k) (reg s r) word
 
--- from the entry a register got them
-pub letters_then : (a b : Seated) (d r : ℕ) (led : LeadsToEntry (whole_desk_of a) r) → HasGot a d (value_in a r 0) b → SeesLetters b d led.clerk led.note.word
-letters_then a b d r led got =
-    carried (λ (heap : Heap) (v : Value). IsLetters led.clerk (made_by heap led.clerk) v led.note.word) a b led.entry.letters (reg b d) got.read
-    (got.taken ∙ letters_got (heap_of a) led.clerk (reg a r) led.note led.before led.entry) led.entry.word
-
 -- and has them still if another one gets something
 pub letters_kept : (a b : Seated) (r d k : ℕ) (word : List ℕ) (v : Value) → HasGot a d v b → r ≢ d → SeesLetters a r k word → SeesLetters b r k word
 letters_kept a b r d k word v got other sees = carried (λ (heap : Heap) (u : Value). IsLetters k (made_by heap k) u word) a b (reg a r) (reg b r) got.read (got.others r other) sees
-
-pub length_read : (a b : Seated) (r d k n : ℕ) (word : List ℕ) → SeesLetters a r k word → HasGot a d (Number (length (values_at (heap_of a) (reg a r)))) b → reg b d ≡ Number n → n ≡ length word
-length_read a b r d k n word sees got is = same_number n (length word) (sym is ∙ got.taken ∙ ap Number (length_got (heap_of a) k (reg a r) word sees))
 
 pub letter_taken : (a b : Seated) (r d k x : ℕ) (word : List ℕ) → SeesLetters a r k word → x < length word → HasGot a d (value_in a r x) b → reg b d ≡ Number (slice_index_or word x 0)
 letter_taken a b r d k x word sees within got = got.taken ∙ letter_got (heap_of a) k (reg a r) word sees x within
@@ -73,15 +64,6 @@ pub record LinesLeft (s : Seated) (r k : ℕ) (all taken : List ℕ) : Type 0 wh
   pub are : AreLines k (made_by (heap_of s) k) (reg s r) left
   pub is : all ≡ taken ++ left
   pub small : AllByRecursion (λ n. n < 2 ^ 32) left
-
-pub lines_then : (a b : Seated) (d r : ℕ) (led : LeadsToEntry (whole_desk_of a) r) → HasGot a d (value_in a r 1) b → LinesLeft b d led.clerk led.note.lines []
-lines_then a b d r led got = record {
-  left = led.note.lines;
-  are = carried (λ (heap : Heap) (v : Value). AreLines led.clerk (made_by heap led.clerk) v led.note.lines) a b led.entry.line (reg b d) got.read
-      (got.taken ∙ line_got (heap_of a) led.clerk (reg a r) led.note led.before led.entry) led.entry.lines;
-  is = refl;
-  small = led.small.lines;
-}
 
 -- the first of those that are left
 pub record NextLine (s : Seated) (r k : ℕ) (all taken : List ℕ) : Type 0 where

@@ -1,5 +1,5 @@
 -- The invariant with a word more that had no entry, or that was noted in its line.
-use Rattle.std.proofs.Common.{◌≡◌, ◌≢◌, inl, ℕ, ◌+◌, ◌-◌, ◌≤◌, Bool, true, false, List, [], ◌∷◌, ◌++◌, map, length, Some, slice_set, refl, sym, ap, ◌∙◌, subst, arith}
+use Rattle.std.proofs.Common.{◌≡◌, ◌≢◌, ℕ, ◌+◌, ◌-◌, ◌≤◌, Bool, true, false, List, [], ◌∷◌, ◌++◌, map, length, Some, slice_set, refl, sym, ap, ◌∙◌, subst, arith}
 use Rattle.std.specs.List.{AllByRecursion, sum_by}
 use Rattle.std.proofs.lemmas.List.{length-append, length-map}
 use Rattle.std.proofs.lemmas.List.Sums.{sum_by-append}
@@ -27,15 +27,6 @@ use Rattle.concordance.proofs.Notes.NewEntry.{IsNewEntry, kept_with_first, kept_
 use Rattle.concordance.proofs.Lists.Serials.{at_behind, stored_sizes}
 use Rattle.concordance.proofs.Notes.Telling.{told_again, told_with_new, words_with_new}
 use Rattle.concordance.proofs.Notes.Turns.{still_there}
-
--- ---- before the first word
-
-pub holds_at_first : (m : ℕ) → HoldsNotes m [] (Number 0) (Number 0) [] []
-holds_at_first m = record {
-  kept = record { entries = refl; apart = tt; lines = tt; begins = inl refl; turns = tt; found = tt; ends = λ turns. refl };
-  told = record { all = λ n at. at; only = λ n tells. tells };
-  filled = record { words = refl; few_words = omega arith; few_records = omega arith };
-}
 
 -- ---- a word that was noted in this line
 

@@ -7,7 +7,7 @@ use Rattle.concordance_text.specs.Rows.{IsElementOf}
 use Rattle.concordance.specs.Desk.{own}
 use Rattle.concordance.specs.Notes.Invariant.{AreKept, LeadsToNote}
 use Rattle.concordance.specs.Notes.Paths.{bits_after, bits_of, doubled, is_high, reached, turn_from, turns_of}
-use Rattle.concordance.specs.Notes.Places.{PathEndsAt, HasNone, IsEntryOf, PassesOthers}
+use Rattle.concordance.specs.Notes.Places.{PathEndsAt, HasNone, PassesOthers}
 use Rattle.concordance.specs.Notes.Records.{Note}
 use Rattle.concordance.proofs.Notes.Finding.{none_behind, passes_none, passes_one}
 use Rattle.concordance.proofs.Notes.Turns.{reaches_notes}
@@ -78,7 +78,3 @@ module _ (m : ℕ) (records : List Record) (first latest : Value) (notes : List 
     -- or to the next entry
     pub goes_on : next ≢ Number 0 → IsOnPath m records first notes word next (doubled bits)
     goes_on some = goes_on_to leads_next some
-
-  -- the entry is of the word
-  pub is_entry_of : (here : Value) (bits : ℕ) (on : IsOnPath m records first notes word here bits) → on.note.word ≡ word → IsEntryOf m notes word here
-  is_entry_of here bits on same = record { note = on.note; noted = on.noted; word_is = same; is = on.is }

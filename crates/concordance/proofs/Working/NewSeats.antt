@@ -102,9 +102,6 @@ module _ (w : SharedHeap) (many room : ℕ) (old new clerks : List Seated) (s : 
   pub next_new : IsNew w (length new) s
   next_new = subst (λ (k : ℕ). IsNew w k s) (omega arith) both.1
 
-  pub next_fits : length clerks < room
-  next_fits = let m = h.many_is in let f = h.fits in let o = one_fewer in omega (arith, m, f, o)
-
   pub seats_more : SeatsSoFar w many room new (clerks ++ s ∷ [])
   seats_more = record {
     left = both.0;

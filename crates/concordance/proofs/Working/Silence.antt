@@ -15,7 +15,7 @@ use Rattle.gc_worker.proofs.History.Extensions.{as_many}
 use Rattle.ael_threads.specs.declared.view.Hand.{Hand}
 use Rattle.ael_threads.specs.declared.view.Plan.{Plan}
 use Rattle.ael_threads.specs.Calls.{Called, KnowsWorker, StaysSilent}
-use Rattle.ael_threads.specs.Histories.{HasOwnCalls, first_plain, hand}
+use Rattle.ael_threads.specs.Histories.{first_plain, hand}
 use Rattle.ael_threads.specs.Seats.{Acts, ActsBy, IsMine, Seated, ShowsSeen, first_number, first_own, plain_after_seen}
 use Rattle.ael_threads.proofs.WholeCalls.FromActs.{quiet_first, quiet_more}
 
@@ -72,10 +72,6 @@ made_silent n own a b made q =
     let calls : first_own b.knows.hands ≡ own = q.rests.own ∙ ap first_own made in
     let others : drop 1 b.knows.hands ≡ [] = q.rests.others ∙ ap (drop 1) made in
     knows ∙ (λ i. hand (number i) b.worker (calls i) ∷ others i)
-
--- all its calls were seen
-pub mine_more : (a b : Seated) (task : Task) (did : Did) → Called a task did b → IsMine b.knows
-mine_more a b task did h = subst (λ (hs : List Hand). HasOwnCalls b.knows.seen hs → calls_of (first_number hs) b.knows.seen ≡ first_own hs) (sym h.hands) (λ own. own.0) h.history.own
 
 pub mine_silent : (a b : Seated) → IsMine a.knows → StaysSilent a b → IsMine b.knows
 mine_silent a b mine q = (λ i. calls_of (q.rests.number i) (q.rests.seen i)) ∙ (mine ∙ sym q.rests.own)

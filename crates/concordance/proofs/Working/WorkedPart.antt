@@ -12,13 +12,14 @@ use Rattle.ael_threads.specs.declared.view.Plan.{Plan}
 use Rattle.ael_threads.specs.Calls.{Called, Halts, StaysSilent, call_by}
 use Rattle.ael_threads.specs.Histories.{Each, first_plain, hand}
 use Rattle.ael_threads.specs.Seats.{IsMine, Seated, ShowsSeen, first_number, first_own}
+use Rattle.ael_threads.proofs.WholeCalls.Seen.{mine_more}
 use Rattle.concordance_text.specs.declared.part.Part.{Part}
 use Rattle.concordance_text.specs.Parts.{mentions_of_part}
 use Rattle.concordance.specs.declared.registers.TheConstants.{LATEST}
 use Rattle.concordance.specs.Lone.{IsLone, KeepsSeat, desk_of}
 use Rattle.concordance.specs.Notes.Desks.{HasNotedJust}
 use Rattle.concordance.specs.Working.{HasWorked, IsHalt, IsReady, SharedHeap}
-use Rattle.concordance.proofs.Working.Silence.{HasMade, made_more, made_silent, mine_more, mine_silent, stays_without_end}
+use Rattle.concordance.proofs.Working.Silence.{HasMade, made_more, made_silent, mine_silent, stays_without_end}
 
 -- it has read its part
 pub record HasReadPart (w : SharedHeap) (k : ℕ) (part : Part) (a : Seated) : Type 0 where

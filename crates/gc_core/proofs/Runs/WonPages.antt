@@ -72,9 +72,6 @@ module _ (law : StepsKeep) (readies : ReadyingStands) (tasks : TasksMayBegin) wh
     keeps : KeepsPlain s w story
     keeps = events s w story steady stands
 
-    abbrev after : Story
-    after = story_met s story (event_of s w)
-
     claims : Wins s w
     claims = event_wins s w story steady stands
 

@@ -36,7 +36,7 @@ use Rattle.gc_worker.specs.Workers.Held.{Held}
 use Rattle.gc_worker.specs.Workers.Knows.{knows, post_in, epoch_at, epoch_in}
 use Rattle.gc_worker.specs.Laws.Step.{Heap, read, held_at, WorkersStand, epoch_of}
 use Rattle.gc_worker.specs.Steps.Turned.{epoch_in_gate}
-use Rattle.gc_worker.proofs.Stages.Copies.Words.{heap_word}
+use Rattle.gc_worker.proofs.Stages.Scan.Headers.{heap_word}
 use Rattle.gc_worker.proofs.Words.Eras.{start_is, span_within}
 use Rattle.gc_worker.proofs.Stages.Gate.Words.{gate_says}
 use Rattle.gc_worker.proofs.Workers.Members.{member}

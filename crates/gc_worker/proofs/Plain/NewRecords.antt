@@ -1,5 +1,5 @@
 -- A worker that executes an instruction which makes a record: the record's header, and the pages that it needs.
-use Rattle.std.proofs.Common.{◌≡◌, ℕ, ◌+◌, ◌<◌, ◌≤◌, refl, Some, None, Result, Ok, Err, ap, subst, ◌∙◌, arith}
+use Rattle.std.proofs.Common.{◌≡◌, ℕ, ◌+◌, ◌<◌, ◌≤◌, refl, Some, None, Result, Ok, ap, subst, ◌∙◌, arith}
 use Rattle.std.proofs.lemmas.List.{length-replicate}
 use Rattle.std.specs.Bool.{⊤}
 use Rattle.std.specs.Option.{option_and_then, option_map}
@@ -20,6 +20,7 @@ use Rattle.plain_heap.specs.declared.action.Action.TheVariants.{Makes}
 use Rattle.plain_heap.specs.Action.{action}
 use Rattle.plain_heap.specs.Step.{new_record, record_made, pages_of}
 use Rattle.plain_heap.proofs.Calls.Named.{FitsKind, FillsKind, Spells, Names, named}
+use Rattle.plain_heap.proofs.Calls.Outcomes.{computed}
 use Rattle.record_layout.specs.declared.header.Header.{Header}
 use Rattle.record_layout.proofs.Rereading.{header_in-header_says}
 use Rattle.alloc_end.specs.Place.{size_of, pages_for}
@@ -33,10 +34,6 @@ use Rattle.gc_worker.specs.Workers.Knows.{kind_with}
 use Rattle.gc_worker.specs.Plain.Seen.{Making, making_in, seen}
 
 -- ---- no record is too long
-
-computed : (o : Result ℕ End) → IfOk o (λ n. ⊤)
-computed (Ok n) = tt
-computed (Err why) = tt
 
 -- what holds of all values holds of those that an instruction spells
 spelled : (i : Instr) → Spells (λ v. ⊤) ⊤ i

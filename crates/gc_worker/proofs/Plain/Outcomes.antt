@@ -183,11 +183,6 @@ module _ (code : List (List Instr)) (turns : ℕ) (p : Plain) (m : ℕ) (q : Mut
   pub comes : (outcome : Did) → MayCome m p.heap q (task_of (fetch code turns m q)) outcome → Then outcome ≡ after_outcome p m q (task_of (fetch code turns m q)) outcome
   comes = comes_by (fetch code turns m q) refl
 
-  -- so it is in a story
-  pub story_comes : (o : Plain) (outcome : Did) → MayCome m p.heap q (task_of (fetch code turns m q)) outcome
-      → story_marked code turns (record { flip = o; now = p }) (mark_by m outcome) ≡ record { flip = o; now = after_outcome p m q (task_of (fetch code turns m q)) outcome }
-  story_comes o outcome may = no_flip code turns p o m outcome ∙ (λ i. record { flip = o; now = comes outcome may i })
-
   -- ---- the mutator then
 
   abbrev end_in : Did → Option End

@@ -5,7 +5,6 @@ use Rattle.atom_store.specs.declared.turn.Turn.{Turn}
 use Rattle.atom_store.specs.declared.turn.Turn.TheVariants.{More, Finished}
 use Rattle.fault_duty.specs.declared.round_end.RoundEnd.{RoundEnd}
 use Rattle.fault_duty.specs.declared.round_end.RoundEnd.TheVariants.{ScanPage, ScanInPlace, Marked, Traced, AllLeft, NothingNow}
-use Rattle.gc_worker.specs.Laws.Between.{IsNoAnswer}
 use Rattle.gc_worker.specs.Steps.Turned.{Told, Silent, Empties, Answers, Marks, told_round}
 use Rattle.gc_worker.specs.Workers.Counted.{count_after}
 
@@ -24,12 +23,6 @@ rounds_are_quiet (Finished Traced) = tt
 rounds_are_quiet (Finished (NothingNow word)) = tt
 rounds_are_quiet (Finished (AllLeft word)) = tt
 rounds_are_quiet More = tt
-
-pub quiet_no_answer : (t : Told) → IsQuiet t → IsNoAnswer t
-quiet_no_answer Silent quiet = tt
-quiet_no_answer Empties quiet = tt
-quiet_no_answer (Answers task outcome) quiet = absurd quiet
-quiet_no_answer (Marks asked) quiet = tt
 
 -- nor is an instruction executed
 pub quiet_counts : (count : ℕ) (t : Told) → IsQuiet t → count_after count t ≡ count

@@ -16,7 +16,7 @@ use Rattle.gc_worker.specs.Workers.Fits.{FitsStage, IsMaking}
 use Rattle.gc_worker.specs.Workers.Held.{Held, at_stage}
 use Rattle.gc_worker.specs.declared.stage.Stage.{Stage}
 use Rattle.gc_worker.specs.declared.stage.Stage.TheVariants.{Forwards, Recalls, Serves}
-use Rattle.gc_worker.specs.Steps.Turned.{Pointed, Silent, back_from, begins, first_pointer, forwarded_to, forwards_from, forwards_it, goes_on, recalled, scans, served_by, told, told_acted, told_at, told_round, told_start, traced_by, turned, turned_at, turned_recall, turned_register, turned_round, with_evac}
+use Rattle.gc_worker.specs.Steps.Turned.{Pointed, back_from, begins, first_pointer, forwarded_to, forwards_from, forwards_it, goes_on, recalled, scans, served_by, told, told_acted, told_at, told_round, told_start, traced_by, turned, turned_at, turned_recall, turned_register, turned_round, with_evac}
 use Rattle.gc_worker.specs.Steps.Stepped.{instr_due, seen_by, served_in, uncounted}
 use Rattle.gc_worker.specs.declared.stage.after.After.{After}
 use Rattle.gc_worker.specs.declared.stage.after.After.TheVariants as afters
@@ -31,7 +31,7 @@ use Rattle.fault_duty.specs.Duty as duty
 use Rattle.forwarding.specs.declared.to.To.{To}
 use Rattle.forwarding.specs.Taken as evac_taken
 use Rattle.atom_store.specs.declared.reply.Reply.{Reply}
-use Rattle.atom_store.specs.declared.turn.Turn.TheVariants.{Finished, More}
+use Rattle.atom_store.specs.declared.turn.Turn.TheVariants.{Finished}
 use Rattle.fault_duty.specs.declared.round_end.RoundEnd.{RoundEnd}
 use Rattle.fault_duty.specs.declared.round_end.RoundEnd.TheVariants.{ScanPage, ScanInPlace, Marked, Traced, AllLeft, NothingNow}
 use Rattle.gc_worker.specs.declared.task.Task.{Task}
@@ -272,10 +272,3 @@ round_told x d done back reply end at steps ends =
     ap (λ (s : Stage). told_at x s reply) at
     ∙ ap (λ (r : Round). told_round (duty.told r)) (sym steps)
     ∙ ap told_round ends
-
--- one that goes on tells nothing
-pub round_silent : (x : Held) (d done : Round) (back : Back) (reply : Reply) → x.stage ≡ Serves d back → done ≡ duty.taken d reply → duty.told done ≡ More → told x reply ≡ Silent
-round_silent x d done back reply at steps more =
-    ap (λ (s : Stage). told_at x s reply) at
-    ∙ ap (λ (r : Round). told_round (duty.told r)) (sym steps)
-    ∙ ap told_round more

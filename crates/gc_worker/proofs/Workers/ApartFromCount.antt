@@ -28,7 +28,6 @@ use Rattle.gate_core.specs.Recall as recall
 use Rattle.gate_core.specs.Snap as snap
 use Rattle.page_saves.specs.Guard as guard
 use Rattle.page_saves.specs.SaveRound as save_round
-use Rattle.page_scan.specs.Scanning as scan
 use Rattle.page_scan.specs.Taken as scan_taken
 use Rattle.page_slots.specs.Open as open_page
 use Rattle.record_access.specs.declared.access_stage.AccessStage.{AccessStage}
@@ -47,13 +46,14 @@ use Rattle.gc_worker.specs.declared.task.Task.{Task}
 use Rattle.gc_worker.specs.declared.task.Task.TheVariants.{Calls, Stops}
 use Rattle.record_access.specs.Access as access
 use Rattle.gc_worker.specs.Workers.Counted.{counted, count_after, CountsAreApart, CountedFit}
-use Rattle.gc_worker.specs.Workers.Fits.{ExecutesAction, Fits, FitsCall, FitsCopy, FitsPlace, FitsRound, FitsScan, FitsStage, FitsTask, FitsTaskAfter, FitsTaskAsking, FitsTaskBack, FitsTaskBefore, FitsTaskFor, FitsTaskWrite, FitsWrite, IsAccessing, IsMaking, IsRoundFor, IsRoundOfMutator, MayBegin}
+use Rattle.gc_worker.specs.Workers.Fits.{ExecutesAction, Fits, FitsCall, FitsTask, FitsTaskAfter, FitsTaskAsking, FitsTaskBack, FitsTaskBefore, FitsTaskFor, FitsTaskWrite, IsAccessing, IsMaking, MayBegin}
 use Rattle.gc_worker.specs.Workers.Held.{Held, at_stage, may_snap}
 use Rattle.gc_worker.specs.Plain.Seen.{making_in, seen}
 use Rattle.gc_worker.specs.Steps.Turned.{Answers, Silent, Told, acted, begins, looked_by, passes, serves_snap, started, told_acted, told_at, told_full, told_gate, told_place, told_start, turned_at, turned_flip, turned_register, went_on, with_evac, told_round, turned_round}
 use Rattle.gc_worker.specs.Steps.Wanted.{wanted_at}
-use Rattle.gc_worker.proofs.Workers.CountedTurns.{accessing, copying, flip_count, flipping, gating, guarding, opening, placed, placing, recalling, same_acts, same_asked, same_fields, same_header, saving_round, scanning, serving, snapping}
+use Rattle.gc_worker.proofs.Workers.CountedTurns.{accessing, copying, flip_count, flipping, gating, guarding, opening, placed, placing, recalling, same_acts, same_asked, same_header, saving_round, scanning, serving, snapping, same_fields}
 use Rattle.gc_worker.proofs.Plain.Quiet.{quiet_counts, rounds_are_quiet}
+use Rattle.gc_worker.proofs.Workers.Fitting.{fits_stage}
 use Rattle.fault_duty.specs.declared.round_end.RoundEnd.{RoundEnd}
 
 -- ---- a look
@@ -273,54 +273,13 @@ module _ (count : ℕ) (x : Held) where
   fits_task (BeginsCheckpoint s) task = executing _ task
   fits_task Gone task = task
 
-  fits_copy : (epoch : ℕ) (v : evac.Evacuation) → FitsCopy x epoch v → FitsCopy z epoch v
-  fits_copy epoch v f = record { layout = f.layout; of_epoch = f.of_epoch; worker = f.worker; going = f.going; sound = f.sound }
-
-  fits_round : (d : duty.Round) (back : Back) → FitsRound x d back → FitsRound z d back
-  fits_round d back f = record { layout = f.layout; worker = f.worker; caller = f.caller; epoch = f.epoch; going = f.going; sound = f.sound }
-
-  fits_scan : (s : scan.Scanning) → FitsScan x s → FitsScan z s
-  fits_scan s f = record { layout = f.layout; epoch = f.epoch; sound = f.sound }
-
-  fits_place : (p : place.Placing) → FitsPlace x p → FitsPlace z p
-  fits_place p f = record { layout = f.layout; epoch = f.epoch; fields = f.fields ∙ sym (same_fields count x); snap = f.snap; target = f.target; going = f.going; rest = f.rest; sound = f.sound }
-
-  fits_write : (write : Write) (page : ℕ) → FitsWrite x write page → FitsWrite z write page
-  fits_write (OfAccess a) page f = f
-  fits_write (OfPlace p) page f = (fits_place p f.0, f.1)
-
-  round_of_mutator : (r : save_round.SavingRound) → IsRoundOfMutator x r → IsRoundOfMutator z r
-  round_of_mutator r f = record { caller = f.caller; epoch = f.epoch; number = f.number }
-
-  round_for : (goal : Goal) (r : save_round.SavingRound) → IsRoundFor x goal r → IsRoundFor z goal r
-  round_for ForFlip r f = (round_of_mutator r f.0, f.1)
-  round_for ForSnap r f = (round_of_mutator r f.0, f.1)
-  round_for ForScanner r f = record { caller = f.caller; no_run = f.no_run }
-
-  fits_stage : (stage : Stage) → FitsStage x stage → FitsStage z stage
-  fits_stage Looks f = tt
-  fits_stage (Passes g after) f = record { layout = f.layout; passage = f.passage; going = f.going; sound = f.sound }
-  fits_stage (Flips g) f = record { layout = f.layout; epoch = f.epoch; seen = f.seen; going = f.going; sound = f.sound }
-  fits_stage (Forwards w) f = record { register = f.register; copy = fits_copy (x.epoch + 1) w.evac f.copy }
-  fits_stage (Accesses a) f = f
-  fits_stage (Places p) f = fits_place p f
-  fits_stage (Serves d back) f = (fits_round d back f.0, f.1)
-  fits_stage (Scans s back) f = (fits_scan s f.0, f.1, f.2)
-  fits_stage (Evacuates v s back) f = (fits_copy x.epoch v f.0, fits_scan s f.1, f.2, f.3)
-  fits_stage (Opens o s back) f = (record { layout = f.0.layout; epoch = f.0.epoch; page = f.0.page; going = f.0.going; sound = f.0.sound }, fits_scan s f.1, f.2, f.3)
-  fits_stage (Recalls r after) f = record { room = f.room; layout = f.layout; going = f.going; sound = f.sound }
-  fits_stage (Guards g write) f = record { room = f.room; layout = f.layout; worker = f.worker; number = f.number; runs = f.runs; going = f.going; sound = f.sound; write = fits_write write g.page f.write }
-  fits_stage (Checkpoints r goal) f = record { room = f.room; layout = f.layout; worker = f.worker; caller = round_for goal r f.caller; going = f.going; sound = f.sound }
-  fits_stage (BeginsCheckpoint s) f = record { layout = f.layout; number = f.number; may = f.may; going = f.going; sound = f.sound }
-  fits_stage Gone f = tt
-
   fits_so : (n mutators k : ℕ) → Fits n mutators k x → Fits n mutators k z
   fits_so n mutators k f = record {
     worker = f.worker;
     end = f.end;
     side = f.side;
     task = fits_task x.stage f.task;
-    stage = fits_stage x.stage f.stage;
+    stage = fits_stage x (record { account = z.account; registers = x.registers; task = x.task; stage = x.stage }) (same_fields count x) refl x.stage f.stage;
   }
 
 pub counted_fit : CountedFit

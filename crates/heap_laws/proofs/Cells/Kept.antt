@@ -153,10 +153,6 @@ field_is_unread E m team g k x ready (inl u) =
 
 -- ---- who has nothing to link
 
--- who asks for nothing knows no copy, and who has found nothing
-pub asks_nothing : (w : Worker) → w.quest ≡ None → ¬ (KnowsCopy w)
-asks_nothing w none knows = none≢some (sym none ∙ knows.1)
-
 pub finds_nothing : (w : Worker) (q : Quest) → w.quest ≡ Some q → q.found ≡ None → ¬ (KnowsCopy w)
 finds_nothing w q asks none knows =
     let same : knows.0 ≡ q = some_same (sym knows.1 ∙ asks) in

@@ -51,9 +51,6 @@ module _ {E : Era} {front low : ℕ} {g : Ghost} {k a f z : ℕ} (reservation : 
   pub is : (b : ℕ) → 0 < g.size b → 0 < g'.size b
   is b st = rw (put_other g.size f z b (not_new b st)) st
 
-  pub sized : (b : ℕ) → b ≢ f → g'.size b ≡ g.size b
-  sized b n = put_other g.size f z b n
-
   pub beside : (b : ℕ) → 0 < g.size b → b < f + z → b + g.size b ≤ f
   beside b st l = omega (arith, laid.lies b st, laid_out.apart, laid.order, here, room)
 

@@ -45,9 +45,6 @@ passes_on post epoch done then_done ended seen read Resume l q = q
 passes_on post epoch done then_done ended seen read Leave l q = q
 
 module _ (E : Era) (m : Memory) (team : Team) (g : Ghost) (k : ℕ) (inv : Invariant E m team g) (below : k < team.count) (has : HasRegister E team k) where
-  abbrev word : ℕ
-  word = (team.worker k).registers (team.worker k).done
-
   me : Knows E m.gate m.traced m.front m.low m.old_front m.old_low m.old_owed g m.page m.cross m.announced m.heap k (team.worker k)
   me = inv.workers k below
 

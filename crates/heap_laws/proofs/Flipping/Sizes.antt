@@ -20,7 +20,7 @@ use Rattle.heap_state.specs.Invariant.Parts.Records.{Laid, NewWritten}
 use Rattle.heap_state.specs.Invariant.Parts.Scanning.{Rounds, Claims, Looks, LastLooks}
 use Rattle.heap_state.specs.Invariant.Parts.Stocks.{Stocks, Stocked}
 use Rattle.heap_state.specs.Meaning.Values.{MayBeEmptied, Shown, TargetsShow, value_of}
-use Rattle.heap_state.specs.Worker.{Worker, Team, Origin, Register, Scanned, Quest, Stock, Round, Claim, Look, LastLook, Access, Reset, is_mutator, is_running, is_flipper, is_late, is_sized, is_asking}
+use Rattle.heap_state.specs.Worker.{Worker, Team, Origin, Register, Scanned, Quest, Stock, Round, Claim, Look, LastLook, Access, Reset, is_mutator, is_flipper, is_late, is_sized, is_asking}
 use Rattle.heap_state.proofs.Workers.Frames.{counted_put, staffed_put, scanned_put, stocks_put, numbered_put, rooted_put}
 use Rattle.heap_state.proofs.Puts.{team_put, some_same, true_false}
 use Rattle.heap_laws.specs.Flipping.Sizes.{sized_era, after_size, SizeKeeps, SizesAreStored}
@@ -65,9 +65,6 @@ module _ (E : Era) (m : Memory) (team : Team) (g : Ghost) (k : ℕ) (r : Reset) 
   larger : E.old_span ≤ E1.old_span
   larger = let a = me.unsized (flips_ask (team.worker k).post flips) (ap is_sized has ∙ loose) in let b = told.grown q grown in omega (arith, a, b)
 
-  still : m.gate.running ≡ 0
-  still = ap (λ (w : GateWord). w.running) told.unmoved ∙ told.stopped.0
-
   none_behind : m.gate.behind ≡ 0
   none_behind = ap (λ (w : GateWord). w.behind) told.unmoved ∙ told.stopped.1
 
@@ -77,12 +74,6 @@ module _ (E : Era) (m : Memory) (team : Team) (g : Ghost) (k : ℕ) (r : Reset) 
       let a = one_of (is_asking (team.worker k).post) (flips_ask (team.worker k).post flips) in
       let b : count_one m.gate.request ≡ 0 = rw e refl in
       absurd (omega (arith, t, a, b, inv.counted.request))
-
-  idle : (j : ℕ) → j < team.count → is_running (team.worker j).post ≡ true → ⊥
-  idle j l e =
-      let t = sum_below-term team.count (λ i. count_one (is_running (team.worker i).post)) j l in
-      let a = one_of (is_running (team.worker j).post) e in
-      omega (arith, t, a, inv.counted.running, still)
 
   none_late : (j : ℕ) → j < team.count → is_late E.epoch (team.worker j) ≡ true → ⊥
   none_late j l e = let a = (knows j l).licensed.counted e in omega (arith, a, none_behind)

@@ -366,7 +366,7 @@ module _ (E : Era) (m : Memory) (team : Team) (g : Ghost) (k : ℕ) (s : GateSte
   by_passage Leave y = leaves y.0 y.1
 
 -- a passage stays in the epoch
-same_epoch : (p : Passage) (gate : GateWord) → (gate_after p gate).epoch ≡ gate.epoch
+pub same_epoch : (p : Passage) (gate : GateWord) → (gate_after p gate).epoch ≡ gate.epoch
 same_epoch Enter gate = refl
 same_epoch Park gate = refl
 same_epoch (Request asked) gate = refl

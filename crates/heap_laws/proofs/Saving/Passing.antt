@@ -31,6 +31,7 @@ use Rattle.heap_laws.proofs.Saving.Forgotten.{runs_keep_saving}
 use Rattle.heap_laws.proofs.Saving.Requests.{runners_are_counted, askers_are_alone, requests_are_spared, runners_are_spared, clears_are_spared}
 use Rattle.heap_laws.proofs.Saving.Workers.{none_if, steps_are_spared, settled_may_flip, flips_are_spared}
 use Rattle.heap_laws.proofs.Steps.Answers.{passages_fit}
+use Rattle.heap_laws.proofs.Gate.Passages.{same_epoch}
 
 -- ---- nobody is still
 
@@ -77,16 +78,6 @@ passes_astir post epoch done ended traced_seen gate Clear may some other = absur
 passes_astir post epoch done ended traced_seen gate Forwarded may some other = SomeoneIsBehind some
 passes_astir post epoch done ended traced_seen gate Resume may some other = NobodyAsks may.2
 passes_astir post epoch done ended traced_seen gate Leave may some other = SomeoneRuns some.1
-
-same_epoch : (p : Passage) (gate : GateWord) → (gate_after p gate).epoch ≡ gate.epoch
-same_epoch Enter gate = refl
-same_epoch Park gate = refl
-same_epoch (Request asked) gate = refl
-same_epoch RequestSnap gate = refl
-same_epoch Clear gate = refl
-same_epoch Forwarded gate = refl
-same_epoch Resume gate = refl
-same_epoch Leave gate = refl
 
 pub passages_are_spared : PassagesAreSpared
 passages_are_spared t s z team g saver k step stands ready follow wins other =

@@ -26,7 +26,7 @@ use Rattle.heap_state.specs.Invariant.Parts.Records.{Laid, Headed, NewArea, NewW
 use Rattle.heap_state.specs.Invariant.Parts.Stocks.{Stocks, Stocked, Numbered}
 use Rattle.heap_state.specs.Memory.Table.{Table}
 use Rattle.heap_state.specs.Examples.Worked.{made}
-use Rattle.heap_state.specs.Worker.{Team, Stock, Scan, is_mutator}
+use Rattle.heap_state.specs.Worker.{Team, Stock, Scan, is_mutator, Worker}
 use Rattle.heap_state.proofs.Puts.{none≢some}
 
 abbrev pub flipped_table : Table
@@ -241,12 +241,16 @@ pub counted : Counted flipped_table.gate 1 workers.worker
 unfolding sum_below
 counted = record { live = refl; running = refl; behind = refl; left = refl; request = refl; still = λ b. (refl, refl); epoch_fits = omega arith }
 
-pub staffed : Staffed 1 1 workers.worker
-staffed = record { few = (omega arith, omega arith, omega arith); posts = by_number }
+-- one worker, which is a mutator
+pub staffed_alone : (worker : ℕ → Worker) → is_mutator (worker 0).post ≡ true → Staffed 1 1 worker
+staffed_alone worker is = record { few = (omega arith, omega arith, omega arith); posts = by_number }
   where
-    by_number : (k : ℕ) → k < 1 → is_mutator (workers.worker k).post ≡ nat_lt k 1
-    by_number zero l = refl
+    by_number : (k : ℕ) → k < 1 → is_mutator (worker k).post ≡ nat_lt k 1
+    by_number zero l = is
     by_number (suc k) l = absurd (omega arith)
+
+pub staffed : Staffed 1 1 workers.worker
+staffed = staffed_alone workers.worker refl
 
 pub stocks : Stocks flipped_era 512 1 size heap page workers.worker
 stocks = record { stocked = by_number; apart = λ j k l m n p q e f d o. absurd (omega arith) }

@@ -1,7 +1,6 @@
 -- The configuration in which a mutator has begun a checkpoint keeps the parts of the invariant. Its words and pages are those before
 -- the flip.
 use Rattle.std.proofs.Common.{◌≡◌, ◌≢◌, ℕ, ◌+◌, ◌*◌, ◌<◌, ◌≤◌, Some, true, false, zero, suc, refl, sym, ◌∙◌, arith, ⊎_elim, inl, inr}
-use Rattle.std.specs.Prelude.{nat_lt}
 use Rattle.std.proofs.lemmas.Bool.{cases_eq, ne_eqb}
 use Rattle.plain_state.specs.declared.kind.Kind.TheVariants.{Raw}
 use Rattle.heap_words.specs.Decoded.{PointerWord, NumberWord, decode}
@@ -25,9 +24,9 @@ use Rattle.heap_state.specs.Invariant.Parts.OldSpace.{OldSpace, OldArea}
 use Rattle.heap_state.specs.Invariant.Parts.Pages.{Shut, Filling, Tracing, Aged, OldPages, Sizes, ScannedBy}
 use Rattle.heap_state.specs.Invariant.Parts.Records.{Laid, NewWritten}
 use Rattle.heap_state.specs.Invariant.Parts.Stocks.{Stocks, Stocked, Numbered}
-use Rattle.heap_state.specs.Worker.{Worker, Team, Stock, Scan, is_mutator}
+use Rattle.heap_state.specs.Worker.{Worker, Team, Stock, Scan}
 use Rattle.heap_state.proofs.Puts.{none≢some, some_same, true_false}
-use Rattle.heap_state.proofs.Flipped.Parts.{flipped_ghost, heap, page, size, none, identity, only, blank_word, zero_word, first_register, number_lands, pointer_lands, each_page, before}
+use Rattle.heap_state.proofs.Flipped.Parts.{flipped_ghost, heap, page, size, none, identity, only, blank_word, zero_word, first_register, number_lands, pointer_lands, each_page, before, staffed_alone}
 
 abbrev pub requested_table : Table
 requested_table = table_with 4 requested_entries
@@ -144,11 +143,7 @@ unfolding sum_below
 counted = record { live = refl; running = refl; behind = refl; left = refl; request = refl; still = λ b. absurd (omega (arith, b)); epoch_fits = omega arith }
 
 pub staffed : Staffed 1 1 workers.worker
-staffed = record { few = (omega arith, omega arith, omega arith); posts = by_number }
-  where
-    by_number : (k : ℕ) → k < 1 → is_mutator (workers.worker k).post ≡ nat_lt k 1
-    by_number zero l = refl
-    by_number (suc k) l = absurd (omega arith)
+staffed = staffed_alone workers.worker refl
 
 pub stocks : Stocks requested_era 192 1 size heap page workers.worker
 stocks = record { stocked = by_number; apart = λ j k l m n p q e f d o. absurd (omega arith) }

@@ -1,6 +1,5 @@
 -- A store in a row of the table changes what that row says and nothing else, one behind the table nothing.
 use Rattle.std.proofs.Common.{◌≡◌, ◌≢◌, ℕ, ◌<◌, ◌≤◌, true, false, cond, List, length, refl, ap, ◌∙◌, arith, get_or, set, get_or-set_other, get_or-set_same, ⊎_elim}
-use Rattle.std.proofs.Math.ListN.{length-set}
 use Rattle.std.proofs.Math.Path.{fun_ext}
 use Rattle.std.proofs.lemmas.Bool.{cases_Bool}
 use Rattle.std.proofs.lemmas.Bool.Decides.{not_from_Decides}
@@ -34,9 +33,6 @@ module _ (n : ℕ) (words : List ℕ) (row : Row) (word : ℕ) (is : IsRow n row
       (λ (e : is_row n other ≡ true). rw e (get_or-set_other words (place_of n row) (place_of n other) word 0 (place_of-apart n other row (row_is n other e) is apart)))
       (λ (e : is_row n other ≡ false). rw e refl)
       (cases_Bool (is_row n other))
-
-  pub length-after : length after ≡ length words
-  length-after = length-set words (place_of n row) word
 
 -- ---- the words of all rows
 

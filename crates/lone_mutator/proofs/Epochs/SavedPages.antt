@@ -1,6 +1,6 @@
 -- What a page's SAVE says to a lone mutator, and what its other rows leave of what is still to be paid for a checkpoint.
 use Rattle.std.proofs.Common.{◌≡◌, ◌≢◌, ℕ, ◌<◌, ◌==◌, Bool, true, false, cond, None, nat_lt, refl, sym, ◌∙◌, arith}
-use Rattle.std.proofs.lemmas.Bool.{eqb-true, eqb-false, ltb-false, ltb-true}
+use Rattle.std.proofs.lemmas.Bool.{eqb-true, eqb-false, ltb-false}
 use Rattle.space_map.specs.declared.save_word.SaveWord.{SaveWord}
 use Rattle.space_map.specs.declared.save_word.SaveWord.TheVariants.{Unsaved, Saving, Saved, New}
 use Rattle.space_map.specs.SaveWord.{number_of}
@@ -33,24 +33,9 @@ within_last (Saving c worker) is = cc
 within_last (Saved c) is = cc
 within_last (New c) is = cc
 
-within_begun : (says : SaveWord) → state_within says ≢ Waits
-within_begun Unsaved is = cc
-within_begun (Saving c worker) is = cc
-within_begun (Saved c) is = cc
-within_begun (New c) is = cc
-
 module _ (says : SaveWord) (number : ℕ) where
   abbrev State : Bool → Bool → SaveState
   State earlier same = cond earlier Waits (cond same (state_within says) Past)
-
-  earlier_by : (earlier same : Bool) → nat_lt (number_of says) number ≡ earlier → State earlier same ≡ Waits → number_of says < number
-  earlier_by true same test is = ltb-true (number_of says) number test
-  earlier_by false true test is = absurd (within_begun says is)
-  earlier_by false false test is = absurd (cc)
-
-  -- one that waits is of an earlier checkpoint
-  pub is_earlier : state_of says number ≡ Waits → number_of says < number
-  is_earlier is = earlier_by (nat_lt (number_of says) number) (number_of says == number) refl is
 
   saving_by : (earlier same : Bool) → (number_of says == number) ≡ same → State earlier same ≡ Copying → (number_of says ≡ number) × IsSaving says
   saving_by true same test is = absurd (cc)

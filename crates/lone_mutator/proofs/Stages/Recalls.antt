@@ -7,7 +7,7 @@ use Rattle.space_map.specs.Spaces.{Layout}
 use Rattle.space_map.specs.Table.{SnapNumber, DoneNumber, place_of}
 use Rattle.gate_core.specs.declared.recall.recall_stage.RecallStage.{RecallStage}
 use Rattle.gate_core.specs.declared.recall.recall_stage.RecallStage.TheVariants.{LoadsSnap, LoadsDone, Ended}
-use Rattle.gate_core.specs.Recall.{Recalling, number_in, read_done, read_snap, running_of, told_at}
+use Rattle.gate_core.specs.Recall.{Recalling, read_done, read_snap, running_of, told_at}
 use Rattle.heap_state.specs.Configuration.{Configuration, Stands, table}
 use Rattle.heap_state.specs.Memory.Table.{word_in}
 use Rattle.heap_state.specs.Saving.Words.{saves_of}
@@ -24,9 +24,7 @@ use Rattle.lone_mutator.specs.Potential.{after_left, due_in, flips_left, growing
 use Rattle.lone_mutator.proofs.Stages.Gate.Counts.{present}
 use Rattle.lone_mutator.proofs.Steps.GoingOn.{GoesAt, goes_placing}
 use Rattle.lone_mutator.proofs.Steps.Owed.{loads, wants}
-
-is_number : (word : ℕ) → word < 2 ^ 32 → number_in word ≡ Some word
-is_number word fits = rw (lt-ltb word (2 ^ 32) fits) refl
+use Rattle.lone_mutator.proofs.Stages.Checkpoints.Pages.{is_number}
 
 module _ (c : Configuration) (p : Plain) (s : Stands c p) (y : Held) (l : Layout) (after : After) where
   abbrev reading : RecallStage → Recalling

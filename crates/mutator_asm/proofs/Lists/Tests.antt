@@ -1,7 +1,7 @@
 -- What passes a test: what an `if` gives, three at once, and the elements of a list.
 use Rattle.std.proofs.Common.{◌≡◌, ◌+◌, Bool, true, cond, ◌&&◌, List, [], ◌∷◌, ◌++◌, length, count_by, refl, ◌∙◌, arith}
 use Rattle.std.specs.List.{AllPass, list_all}
-use Rattle.std.proofs.lemmas.Bool.{and_from, and_parts, cond_both}
+use Rattle.std.proofs.lemmas.Bool.{and_parts, cond_both}
 use Rattle.std.proofs.lemmas.List.Elements.{All-head, All-tail}
 use Rattle.std.proofs.lemmas.List.Sums.{sum_by-append, sum_by-cons, AllPass-from_list_all, list_all-from_AllPass}
 
@@ -30,11 +30,3 @@ count_by-append p xs ys = sum_by-append (λ y. cond (p y) 1 0) xs ys
 pub count_by_all : {A : Type 0} (p : A → Bool) (xs : List A) → AllPass p xs → count_by p xs ≡ length xs
 count_by_all p [] all = refl
 count_by_all p (x ∷ xs) all = count_by-cons p x xs ∙ rw (All-head (λ y. p y ≡ true) x xs all, count_by_all p xs (All-tail (λ y. p y ≡ true) x xs all)) (omega arith)
-
--- what passes two tests passes both
-pub all_both : {A : Type 0} (p q : A → Bool) (xs : List A) → list_all p xs ≡ true → list_all q xs ≡ true → list_all (λ x. p x && q x) xs ≡ true
-all_both p q [] h k = refl
-all_both p q (x ∷ xs) h k =
-    let first = and_parts (p x) (list_all p xs) h in
-    let second = and_parts (q x) (list_all q xs) k in
-    and_from _ _ (and_from _ _ first.0 second.0) (all_both p q xs first.1 second.1)

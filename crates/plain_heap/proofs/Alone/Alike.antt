@@ -1,7 +1,6 @@
 -- An instruction that leaves the board alone does the same on any two heaps in which its mutator has
 -- the same records, and leads it to no record of another.
 use Rattle.std.proofs.Common.{◌≡◌, ℕ, ◌+◌, ◌-◌, Bool, true, false, cond, List, [], ◌∷◌, ◌++◌, length, Option, Some, None, Result, Ok, Err, slice_set, refl, sym, subst}
-use Rattle.std.specs.Bool.{⊤}
 use Rattle.std.specs.Result.{IfOk}
 use Rattle.std.proofs.lemmas.List.{set-get_or}
 use Rattle.plain_state.specs.declared.end.End.{End}
@@ -21,6 +20,7 @@ use Rattle.plain_heap.specs.Call.{After, value_in, values_of, may_hold, store_in
 use Rattle.plain_heap.specs.Alone.{leaves_board}
 use Rattle.plain_heap.proofs.Calls.Named.{Spells, Names, named}
 use Rattle.plain_heap.proofs.Alone.Owned.{LeadsToOwn, OwnsRecords, register-own, word-own, held-own, loads-own, jumps-own, stores-own, fills-own, gains-own}
+use Rattle.plain_heap.proofs.Calls.Outcomes.{computed}
 
 -- two outcomes with the same end, or both with none
 abbrev pub Same : (After → After → Type 0) → Result After End → Result After End → Type 0
@@ -184,10 +184,6 @@ module _ (m : ℕ) (heap other : Heap) (k : Mutator) (same : made_by other m ≡
   spells (instrs.Put x a) leaves = cc
   spells (instrs.Swap d x) leaves = cc
   spells _ leaves = tt
-
-  computed : (o : Result ℕ End) → IfOk o (λ n. ⊤)
-  computed (Ok n) = tt
-  computed (Err why) = tt
 
   action-own : (i : Instr) → leaves_board i ≡ true → IfOk (action k i) (Names (LeadsToOwn m) ⊥ k)
   action-own i leaves = named (LeadsToOwn m) ⊥ k (λ r. register-own m k r own.registers) tt (λ b. tt) (λ operation a b is_a is_b. computed (applied operation a b)) i (spells i leaves)

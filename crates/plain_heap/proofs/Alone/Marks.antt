@@ -26,7 +26,8 @@ state_after code turns s (mark ∷ marks) = state_after code turns (marked code 
 
 -- ---- what shares nothing makes no cells
 
-leaves-no_weak : (i : Instr) → leaves_board i ≡ true → is_weak i ≡ false
+-- an instruction that leaves the board alone makes no cell
+pub leaves-no_weak : (i : Instr) → leaves_board i ≡ true → is_weak i ≡ false
 leaves-no_weak (instrs.Weak d a) leaves = absurd (cc)
 leaves-no_weak _ leaves = refl
 

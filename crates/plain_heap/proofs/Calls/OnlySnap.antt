@@ -40,9 +40,6 @@ module _ (m : Mutator) where
   allocated : (kind : Kind) (d : ℕ) (x : Operand) → IfOk (allocates m kind d x) Other
   allocated kind d x = if_ok-bind Other (operand m x) _ (λ n. if_ok-bind Other (length_of n) _ (λ l. refl))
 
-  by_reference : (a : ℕ) (x : Operand) (f : _ → ℕ → Action) → ((i : _) (n : ℕ) → Other (f i n)) → IfOk (reference_in (register m a) >>= (λ i. operand m x >>= (λ n. Ok (f i n)))) Other
-  by_reference a x f next = if_ok-bind Other (reference_in (register m a)) _ (λ i. if_ok-bind Other (operand m x) _ (λ n. next i n))
-
   printed : (n : ℕ) (few : Bool) → IfOk (cond few (Ok (Prints n)) (Err OutputFull)) Other
   printed n true = refl
   printed n false = tt

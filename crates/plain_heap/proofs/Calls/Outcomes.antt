@@ -1,5 +1,6 @@
 -- What holds of the outcome of two steps.
 use Rattle.std.proofs.Common.{◌≡◌, ℕ, Bool, true, false, cond, Result, Ok, Err, refl, subst}
+use Rattle.std.specs.Prelude.{⊤}
 use Rattle.std.specs.Result.{IfOk}
 use Rattle.plain_state.specs.declared.end.End.{End}
 use Rattle.plain_state.specs.declared.value.Identity.{Identity}
@@ -19,6 +20,11 @@ if_ok-bind P (Err why) f next = tt
 pub if_ok-then : {A B : Type 0} (Q : A → Type 0) (P : B → Type 0) (o : Result A End) (f : A → Result B End) → IfOk o Q → ((a : A) → Q a → IfOk (f a) P) → IfOk (o >>= f) P
 if_ok-then Q P (Ok a) f is next = next a is
 if_ok-then Q P (Err why) f is next = tt
+
+-- what is computed is a number, or an end
+pub computed : (o : Result ℕ End) → IfOk o (λ n. ⊤)
+computed (Ok n) = tt
+computed (Err why) = tt
 
 -- a result has one value
 pub ok_same : {A : Type 0} (o : Result A End) (a b : A) → o ≡ Ok a → o ≡ Ok b → a ≡ b

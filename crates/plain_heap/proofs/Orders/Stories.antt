@@ -8,13 +8,6 @@ use Rattle.plain_heap.specs.declared.mark.Mark.TheVariants.{Step, Flip, Full, Tr
 use Rattle.plain_heap.specs.Order.{opening, plain, Story, first_story, story_marked, story_after, story, is_flip}
 
 module _ (code : List (List Instr)) (turns : ℕ) where
-  -- without a flip the state at the last flip stays
-  pub marked-flip : (s : Story) (mark : Mark) → is_flip mark ≡ false → (story_marked code turns s mark).flip ≡ s.flip
-  marked-flip s (Step m) none = refl
-  marked-flip s (Flip asked) none = absurd (cc)
-  marked-flip s (Full m asked room live) none = refl
-  marked-flip s Traced none = refl
-
   pub story_after-flip : (s : Story) (order : List Mark) → list_any is_flip order ≡ false → (story_after code turns s order).flip ≡ s.flip
   story_after-flip s [] none = refl
   story_after-flip s (Step m ∷ marks) none = story_after-flip (story_marked code turns s (Step m)) marks none

@@ -1,16 +1,15 @@
 -- What a step keeps of checkpoints by what it loads: the worker's saver stays as it is, or learns.
-use Rattle.std.proofs.Common.{◌≡◌, ℕ, Some, None, slice_index, refl, sym, subst, ◌∙◌}
-use Rattle.std.proofs.lemmas.Bool.{eq-eqb}
+use Rattle.std.proofs.Common.{◌≡◌, ℕ, Some, None, refl, sym, subst, ◌∙◌}
 use Rattle.std.proofs.lemmas.Option.{same_Some}
 use Rattle.plain_state.specs.State.{Plain}
 use Rattle.atom_store.specs.declared.reply.Reply.{Reply}
-use Rattle.atom_store.specs.declared.reply.Reply.TheVariants.{Value, Won}
+use Rattle.atom_store.specs.declared.reply.Reply.TheVariants.{Value}
 use Rattle.atom_store.specs.declared.step.Step.{Step}
-use Rattle.atom_store.specs.declared.step.Step.TheVariants.{Load, Exchange}
+use Rattle.atom_store.specs.declared.step.Step.TheVariants.{Load}
 use Rattle.space_map.specs.Table.{SnapNumber, DoneNumber}
 use Rattle.heap_state.specs.Configuration.{Configuration, table, team}
 use Rattle.heap_state.specs.Functions.{put}
-use Rattle.heap_state.specs.Memory.Entries.{WholeRow, IsWholeRow, Entry, row_of, word_of, word_in_whole, whole_place_of}
+use Rattle.heap_state.specs.Memory.Entries.{WholeRow, IsWholeRow, word_in_whole, whole_place_of}
 use Rattle.heap_state.specs.Memory.Table.{word_in}
 use Rattle.heap_state.specs.Saving.Frozen.{Frozen}
 use Rattle.heap_state.specs.Saving.Parts.{SavingStands}
@@ -62,10 +61,3 @@ module _ (c : Configuration) (p : Plain) (z : Frozen) (saver : ℕ → Saver) (k
   pub loads_row : (row : WholeRow) → IsWholeRow c.pages row → SavedBy c p saver k x None (Value (word_in_whole c.pages c.words row))
       → SavesStep c p saver k x (Load (whole_place_of c.pages row))
   loads_row row is g = loads_so c p z saver k x b (whole_place_of c.pages row) (rw (reads_any c row is) g)
-
-  -- an exchange that finds the word that it expects
-  pub exchanges_won : (e : Entry) (old : ℕ) → IsWholeRow c.pages (row_of e) → word_in_whole c.pages c.words (row_of e) ≡ old → SavedBy c p saver k x (Some e) Won
-      → SavesStep c p saver k x (Exchange (whole_place_of c.pages (row_of e)) old (word_of e))
-  exchanges_won e old is same g =
-      let test = eq-eqb (slice_index c.words (whole_place_of c.pages (row_of e))) old (reads_any c (row_of e) is ∙ same) in
-      record { entry = Some e; writes = rw test refl; fits = g.fits; frozen = g.frozen; stands = rw test g.stands; shows = rw test g.shows }

@@ -32,7 +32,7 @@ use Rattle.alloc_end.specs.declared.run.Run.{Run}
 use Rattle.alloc_end.specs.declared.shortage.Shortage.{Shortage}
 use Rattle.alloc_end.specs.Place.{Placing, area_after, kept_room, looked_at_area, pages_for, readies, size_of, stores_first, taken, told, words_for, writes_on}
 use Rattle.alloc_end.specs.Place as place
-use Rattle.alloc_end.specs.Soundness.{IsAtPage, IsSoundPlacing}
+use Rattle.alloc_end.specs.Soundness.{IsAtPage}
 use Rattle.fault_duty.specs.declared.caller.Caller.TheVariants as callers
 use Rattle.fault_duty.specs.Duty as duty
 use Rattle.gate_core.specs.declared.passage.Passage.TheVariants.{Request}
@@ -172,9 +172,6 @@ module _ (c : Configuration) (p : Plain) (z : Frozen) (saver : ℕ → Saver) (k
 
     own_snap : (saver k).snap ≡ y.snap
     own_snap = ap (λ (w : Saver). w.snap) b.own
-
-    sound : IsSoundPlacing (placing stage)
-    sound = b.is.fits.stage.sound
 
     less : (v : Placing) → IsUnmarked v → KnowsNoMore (saver_of (turned_place x v (told v))) (saver_of x)
     less v unmarked =

@@ -37,7 +37,7 @@ use Rattle.gc_worker.specs.Workers.Knows.{knows, opened_at}
 use Rattle.record_access.specs.Seen.{IsValueWord, word_for}
 use Rattle.gc_worker.specs.Steps.Turned.{loads, went_on}
 use Rattle.gc_worker.proofs.Plain.Actions.{plain_value}
-use Rattle.gc_worker.proofs.Plain.AnswerSteps.{LawTo, IsIts}
+use Rattle.gc_worker.proofs.Plain.AnswerSteps.{LawTo}
 use Rattle.gc_worker.proofs.Plain.Effects.{moved_goes, moved_as, loaded_goes, loaded_as}
 use Rattle.gc_worker.proofs.Words.Eras.{board_is}
 use Rattle.gc_worker.proofs.Stages.Gate.Words.{wants}
@@ -127,9 +127,6 @@ module _ (c : Configuration) (p : Plain) (s : Stands c p) (k : ℕ) (y : Held) (
   -- the mutator of the plain machine
   abbrev own : Mutator
   own = q c p s k y stage is
-
-  abbrev it_is : IsIts c p s k x own
-  it_is = its c p s k y stage is
 
   module _ (word : ℕ) (small : word < 16) (opened : opened_at y.layout stage ≡ Some (board_page y.layout.pages)) where
     abbrev addr : ℕ

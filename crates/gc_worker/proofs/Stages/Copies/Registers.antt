@@ -38,7 +38,7 @@ use Rattle.gc_worker.specs.Workers.Knows.{knows, found_in, linking_at}
 use Rattle.gc_worker.specs.Steps.Turned.{Pointed, first_pointer, passes, forwards_it, turned_register}
 use Rattle.gc_worker.proofs.Stages.Copies.Finding.{loads_header}
 use Rattle.gc_worker.proofs.Stages.Copies.Hosts.{Host, ForRegister, at, machine_at, wants_its, is_sound, has_pages, is_worker, takes, with_sound, tells_nothing, wins_nothing, quest_with, quest_is}
-use Rattle.gc_worker.proofs.Stages.Copies.Words.{heap_word}
+use Rattle.gc_worker.proofs.Stages.Scan.Headers.{heap_word}
 use Rattle.gc_worker.proofs.Words.Eras.{board_is}
 use Rattle.gc_worker.proofs.Workers.Parts.{with_parts, page_count}
 use Rattle.gc_worker.proofs.Stages.Gate.Resuming.{end_none}

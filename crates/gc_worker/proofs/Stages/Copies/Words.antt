@@ -18,7 +18,7 @@ use Rattle.forwarding.specs.Taken.{copied, crossed, first_page, told}
 use Rattle.heap_state.specs.Configuration.{Configuration, Stands, era, memory, team}
 use Rattle.heap_state.specs.Memory.Entries.{Entry, WordIs, CrossIs}
 use Rattle.heap_state.specs.Worker.{Worker, Copy}
-use Rattle.heap_state.specs.Memory.Table.{table_of, word_in}
+use Rattle.heap_state.specs.Memory.Table.{word_in}
 use Rattle.heap_laws.specs.Copying.{IsNextWord, copying}
 use Rattle.heap_laws.proofs.Copying.Laws.{words_are_copied, old_words_are_loaded, crossings_are_stored}
 use Rattle.gc_worker.specs.Steps.Goes.{Is, Goes, StepsSo}
@@ -28,6 +28,7 @@ use Rattle.gc_worker.specs.Steps.Wanted.{wanted}
 use Rattle.gc_worker.proofs.Stages.Copies.Hosts.{Host, at, machine_at, wants_its, tells_nothing, wins_nothing, turns, takes, is_sound, has_pages, with_sound, refits, copy_is, quest_with, quest_is, linking_is, nothing_to_link, becomes_known}
 use Rattle.gc_worker.proofs.Stages.Gate.Words.{wants}
 use Rattle.gc_worker.proofs.Words.RowSteps.{Law, becomes, loads, stores, row_fits, prepared}
+use Rattle.gc_worker.proofs.Stages.Scan.Headers.{heap_word}
 
 -- ---- where a copy goes on
 
@@ -77,11 +78,6 @@ crossed-fits n a r page has from = of_crossed (λ z. FitsStage n a z) r page (λ
 copied-fits : (n a : ℕ) (r : Reserved) (m : ℕ) → HasReserved n a r → 0 < m → FitsStage n a (copied r m)
 copied-fits n a r m has some =
     of_copied (λ z. FitsStage n a z) r m (λ b. (has, some, b)) (λ b. crossed-fits n a r (first_page r) has (omega arith))
-
--- the heap word that the decoded table has
-pub heap_word : (c : Configuration) (a : ℕ) → (memory c).heap a ≡ word_in c.pages c.words (HeapWord a)
-unfolding table_of
-heap_word c a = refl
 
 module _ (c : Configuration) (p : Plain) (s : Stands c p) (k : ℕ) (y : Held) (o : Host) (v : Evacuation) where
   abbrev pub here : EvacStage → Held

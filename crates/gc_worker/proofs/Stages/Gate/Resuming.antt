@@ -8,7 +8,7 @@ use Rattle.forwarding.specs.Evacuation as evac
 use Rattle.gate_core.specs.declared.passage.Passage.TheVariants.{Resume, Forwarded}
 use Rattle.heap_state.specs.Configuration.{Configuration, Stands, era, memory, team}
 use Rattle.heap_state.specs.Worker.{Worker, Register, Quest, is_late}
-use Rattle.heap_laws.specs.Composites.{AsksAt, AllDone, AsksNext, LeadNowhere, come_to}
+use Rattle.heap_laws.specs.Composites.{AsksAt, AllDone, AsksNext, come_to}
 use Rattle.heap_laws.proofs.Steps.Composites.{registers_are_passed}
 use Rattle.gc_worker.specs.declared.stage.after.After.{After}
 use Rattle.gc_worker.specs.declared.stage.Stage.TheVariants.{Forwards}
@@ -50,9 +50,6 @@ module _ (c : Configuration) (p : Plain) (s : Stands c p) (k : ℕ) (x : Held) (
 
     registers : (j : ℕ) → w.registers j ≡ slice_index x.registers j
     registers j = ap (λ (v : Worker). v.registers j) as_stopped
-
-    nowhere : (from to : ℕ) → ((i : ℕ) → from ≤ i → i < to → word_at x.registers i ≡ None) → LeadNowhere (era c) w.registers from to
-    nowhere from to none = λ r l u. leads_nowhere (era c) (w.registers r) (rw (registers r) (none r l u))
 
     -- what the registers before this one are, the worker has passed
     come : (j : ℕ) (q : Option Quest) → j ≤ 8 → ((i : ℕ) → 0 ≤ i → i < j → word_at x.registers i ≡ None) → AsksAt w.registers j q

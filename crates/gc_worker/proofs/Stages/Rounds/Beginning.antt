@@ -1,7 +1,7 @@
 -- A round begins: it loads the gate and TRACED.
 use Rattle.std.proofs.Common.{◌≡◌, ◌≢◌, ℕ, ◌+◌, ◌≤◌, Bool, true, false, cond, nat_eq, Option, Some, None, refl, sym, ap, subst, ◌∙◌, arith}
+use Rattle.std.proofs.lemmas.Bool.{eqb-true, eqb-false}
 use Rattle.std.specs.Prelude.{nat_lt}
-use Rattle.std.proofs.lemmas.Bool.Decides.{nat_tests}
 use Rattle.plain_state.specs.State.{Plain}
 use Rattle.atom_store.specs.declared.reply.Reply.TheVariants.{Value}
 use Rattle.space_map.specs.declared.gate_word.GateWord.{GateWord}
@@ -36,12 +36,6 @@ use Rattle.gc_worker.proofs.Stages.Rounds.Traced.{finds_traced}
 use Rattle.gc_worker.proofs.Stages.Rounds.Words.{traced_now, traced_word}
 use Rattle.gc_worker.proofs.Words.RowSteps.{Law, becomes, nothing, prepared}
 
-same_of : (m n : ℕ) → nat_eq m n ≡ true → m ≡ n
-same_of m n test = grind (arith, nat_tests)
-
-other_of : (m n : ℕ) → nat_eq m n ≡ false → m ≢ n
-other_of m n test = grind (arith, nat_tests)
-
 module _ (c : Configuration) (p : Plain) (s : Stands c p) (k : ℕ) (y : Held) where
   abbrev gate : GateWord
   gate = (table c).gate
@@ -49,7 +43,7 @@ module _ (c : Configuration) (p : Plain) (s : Stands c p) (k : ℕ) (y : Held) w
   -- a gate with a mutator behind forbids to end the tracing
   hinders : (epoch : ℕ) (b : Bool) → nat_eq gate.behind 0 ≡ b → IsHindrance epoch (cond b None (Some (gate_now c)))
   hinders epoch true test = tt
-  hinders epoch false test = BehindGate gate (gate_says c p s) (other_of gate.behind 0 test)
+  hinders epoch false test = BehindGate gate (gate_says c p s) (eqb-false gate.behind 0 test)
 
   -- ---- the gate, for a mutator
 
@@ -199,8 +193,8 @@ module _ (c : Configuration) (p : Plain) (s : Stands c p) (k : ℕ) (y : Held) w
     traced_by : (b : Bool) → nat_eq (traced_now c) (d.epoch + 1) ≡ b
         → duty.taken_at (round c p s k y d back (LoadsTraced hindrance)) (LoadsTraced hindrance) (Value (traced_now c))
         ≡ round c p s k y d back (cond b (Ended round_end.Traced) (duty.first_look d.caller found)) → Goes c p s k None before (Value (traced_now c))
-    traced_by true test taken = finds_traced c p s k y d (LoadsTraced hindrance) (Value (traced_now c)) taken refl refl refl back is (same_of (traced_now c) (d.epoch + 1) test)
-    traced_by false test taken = first_by d.caller refl (other_of (traced_now c) (d.epoch + 1) test) taken
+    traced_by true test taken = finds_traced c p s k y d (LoadsTraced hindrance) (Value (traced_now c)) taken refl refl refl back is (eqb-true (traced_now c) (d.epoch + 1) test)
+    traced_by false test taken = first_by d.caller refl (eqb-false (traced_now c) (d.epoch + 1) test) taken
 
     pub loads_traced : StepsSo c p s k before
     loads_traced = loads_it c p s k y d back (LoadsTraced hindrance) is Traced tt refl (traced_by (nat_eq (traced_now c) (d.epoch + 1)) refl refl)

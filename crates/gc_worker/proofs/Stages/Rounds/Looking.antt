@@ -1,6 +1,7 @@
 -- A round's claim looks at the announced places, and at the gate.
-use Rattle.std.proofs.Common.{◌≡◌, ◌≢◌, ℕ, ◌+◌, ◌*◌, ◌<◌, ◌⊎◌, inl, inr, Bool, true, false, cond, nat_eq, nat_lt, nat_le, ◌&&◌, Some, None, refl, sym, ap, subst, ◌∙◌, arith}
+use Rattle.std.proofs.Common.{◌≡◌, ℕ, ◌+◌, ◌*◌, ◌<◌, ◌⊎◌, inl, inr, Bool, true, false, cond, nat_eq, nat_lt, nat_le, ◌&&◌, Some, None, refl, sym, ap, subst, ◌∙◌, arith}
 use Rattle.std.proofs.lemmas.Bool.Decides.{nat_tests}
+use Rattle.std.proofs.lemmas.Bool.{eqb-true, eqb-false, ne_eqb}
 use Rattle.plain_state.specs.State.{Plain}
 use Rattle.atom_store.specs.declared.step.Step.TheVariants.{Load}
 use Rattle.atom_store.specs.declared.reply.Reply.TheVariants.{Value}
@@ -42,15 +43,6 @@ free_by page w false b some low e = inl (grind (arith, nat_tests))
 free_of : (page w : ℕ) → claim.names_below_end page w ≡ false → (w ≡ 0) ⊎ (64 * page + 64 < w)
 free_of page w e = free_by page w (nat_lt 0 w) (nat_le w (64 * (page + 1))) refl refl e
 
-same_of : (m n : ℕ) → nat_eq m n ≡ true → m ≡ n
-same_of m n test = grind (arith, nat_tests)
-
-other_of : (m n : ℕ) → nat_eq m n ≡ false → m ≢ n
-other_of m n test = grind (arith, nat_tests)
-
-apart_tested : (m n : ℕ) → m ≢ n → nat_eq m n ≡ false
-apart_tested m n apart = grind (arith, nat_tests)
-
 module _ (c : Configuration) (p : Plain) (s : Stands c p) (k : ℕ) (y : Held) (d : Round) (back : Back) (q : Claiming) where
   abbrev claims : ClaimStage → DutyStage
   claims stage = Claims (record q { stage = stage })
@@ -81,7 +73,7 @@ module _ (c : Configuration) (p : Plain) (s : Stands c p) (k : ℕ) (y : Held) (
     fits = (own (LooksAtPlace n) is).sound.stage
 
     all_looked : looked_all q ≡ LAST_WORKER + 1
-    all_looked = rw (fits.1, apart_tested q.page (board_page q.layout.pages) fits.2) refl
+    all_looked = rw (fits.1, ne_eqb q.page (board_page q.layout.pages) fits.2) refl
 
     learnt : claim.names_below_end q.page w ≡ false → Law c p s k x None (claiming (knows x) (claim_with q (n + 1) false)) s.ghost
     learnt free =
@@ -94,13 +86,13 @@ module _ (c : Configuration) (p : Plain) (s : Stands c p) (k : ℕ) (y : Held) (
         ≡ round c p s k y d back (duty.claim_went (record q { stage = cond b LooksAtGate (LooksAtPlace (n + 1)) }) (claim.told_at (cond b LooksAtGate (LooksAtPlace (n + 1)))))
         → Goes c p s k None x (Value w)
     last_by true test free taken =
-        let all : n + 1 ≡ looked_all q = (let e = same_of n LAST_WORKER test in let f = all_looked in omega (arith, e, f)) in
+        let all : n + 1 ≡ looked_all q = (let e = eqb-true n LAST_WORKER test in let f = all_looked in omega (arith, e, f)) in
         goes_on c p s k y d back (claims (LooksAtPlace n)) is None (Value w) (claims LooksAtGate) s.ghost taken refl refl
         (own_at (LooksAtPlace n) is LooksAtGate tt tt)
         (subst (λ (m : ℕ). Law c p s k x None (claiming (knows x) (claim_with q m false)) s.ghost) all (learnt free))
     last_by false test free taken =
         goes_on c p s k y d back (claims (LooksAtPlace n)) is None (Value w) (claims (LooksAtPlace (n + 1))) s.ghost taken refl refl
-        (own_at (LooksAtPlace n) is (LooksAtPlace (n + 1)) tt ((let o = other_of n LAST_WORKER test in let l = fits.0 in omega (arith, o, l)), fits.1, fits.2))
+        (own_at (LooksAtPlace n) is (LooksAtPlace (n + 1)) tt ((let o = eqb-false n LAST_WORKER test in let l = fits.0 in omega (arith, o, l)), fits.1, fits.2))
         (learnt free)
 
     named_by : (b : Bool) → claim.names_below_end q.page w ≡ b
@@ -138,7 +130,7 @@ module _ (c : Configuration) (p : Plain) (s : Stands c p) (k : ℕ) (y : Held) (
         → Goes c p s k None z (Value (gate_now c))
     epoch_by true test taken =
         goes_on c p s k y d back (claims LooksAtGate) is None (Value (gate_now c)) (claims Exchanges) s.ghost taken refl refl
-        (own_at LooksAtGate is Exchanges tt tt) (sure (same_of gate.epoch q.epoch test))
+        (own_at LooksAtGate is Exchanges tt tt) (sure (eqb-true gate.epoch q.epoch test))
     epoch_by false test taken = ends c p s k y d back (claims LooksAtGate) is (Value (gate_now c)) (gate_now c) taken refl refl refl
 
     pub looks_at_gate_again : StepsSo c p s k z

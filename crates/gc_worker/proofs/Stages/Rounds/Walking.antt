@@ -45,7 +45,7 @@ use Rattle.gc_worker.specs.declared.stage.back.Back.{Back}
 use Rattle.gc_worker.specs.Steps.Goes.{Is, Goes, StepsSo}
 use Rattle.gc_worker.specs.Workers.Held.{Held}
 use Rattle.gc_worker.specs.Workers.Knows.{knows, pass_of, visited}
-use Rattle.gc_worker.proofs.Stages.Copies.Words.{heap_word}
+use Rattle.gc_worker.proofs.Stages.Scan.Headers.{heap_word}
 use Rattle.gc_worker.proofs.Stages.Gate.Words.{wants}
 use Rattle.gc_worker.proofs.Stages.Rounds.Going.{round, at, goes_on, ends, same_pages}
 use Rattle.gc_worker.proofs.Words.Eras.{board_is, start_is, old_start_is, spaces_apart, span_within, old_span_within}

@@ -1,6 +1,7 @@
 -- A round looks at the page that a mutator wants.
 use Rattle.std.proofs.Common.{◌≡◌, ℕ, ◌+◌, ◌*◌, ◌≤◌, ◌⊎◌, inl, inr, Bool, true, false, cond, nat_eq, Some, None, refl, sym, ap, subst, ◌∙◌, arith}
 use Rattle.std.proofs.lemmas.Bool.Decides.{nat_tests}
+use Rattle.std.proofs.lemmas.Bool.{eqb-true}
 use Rattle.plain_state.specs.State.{Plain}
 use Rattle.atom_store.specs.declared.reply.Reply.TheVariants.{Value}
 use Rattle.space_map.specs.declared.area_word.AreaWord.{AreaWord}
@@ -34,9 +35,6 @@ use Rattle.gc_worker.proofs.Stages.Rounds.Claiming.{begins, earlier_now, start_n
 use Rattle.gc_worker.proofs.Stages.Rounds.Going.{round, at, goes_on, ends, loads_it, same_pages}
 use Rattle.gc_worker.proofs.Stages.Rounds.Words.{page_now, page_says}
 use Rattle.gc_worker.proofs.Words.RowSteps.{nothing}
-
-same_of : (m n : ℕ) → nat_eq m n ≡ true → m ≡ n
-same_of m n test = grind (arith, nat_tests)
 
 module _ (c : Configuration) (p : Plain) (s : Stands c p) (k : ℕ) (y : Held) (d : Round) (back : Back) where
   -- ---- its word
@@ -76,7 +74,7 @@ module _ (c : Configuration) (p : Plain) (s : Stands c p) (k : ℕ) (y : Held) (
         ≡ round c p s k y d back (cond b (duty.claim_by_state (round c p s k y d back (LoadsWanted found page)) page says false state) (LoadsFrontFor found (record { page = page; says = says })))
         → Goes c p s k None x (Value loaded)
     one_by true test Waits waits taken =
-        begins c p s k y d back (LoadsWanted found page) is page says refl refl (Value loaded) (board (same_of page (board_page d.layout.pages) test) waits) waits fits_says inside taken refl
+        begins c p s k y d back (LoadsWanted found page) is page says refl refl (Value loaded) (board (eqb-true page (board_page d.layout.pages) test) waits) waits fits_says inside taken refl
     one_by true test Past past taken = ends c p s k y d back (LoadsWanted found page) is (Value loaded) (encode_page says) taken refl refl refl
     one_by true test Opened opened taken = ends c p s k y d back (LoadsWanted found page) is (Value loaded) (encode_page says) taken refl refl refl
     one_by true test Scanned scanned taken = ends c p s k y d back (LoadsWanted found page) is (Value loaded) (encode_page says) taken refl refl refl

@@ -41,15 +41,12 @@ use Rattle.lone_mutator.proofs.Steps.Owed.{Owes}
 use Rattle.lone_mutator.proofs.Stages.Checkpoints.Going.{asks_so, goes_on, loads_it, mutates, of_mutator, own_snap, pages, past_goal, stands}
 
 -- a word that is a checkpoint's number
-is_number : (word : ℕ) → word < 2 ^ 32 → number_in word ≡ Some word
+pub is_number : (word : ℕ) → word < 2 ^ 32 → number_in word ≡ Some word
 is_number word fits = rw (lt-ltb word (2 ^ 32) fits) refl
 
 module _ (c : Configuration) (p : Plain) (s : Stands c p) (y : Held) (r : SavingRound) (goal : Goal) where
   abbrev Stage : SaveRoundStage → Held
   Stage stage = at y (round r stage) goal
-
-  abbrev Owing : SaveRoundStage → Type 0
-  Owing stage = IsAlone c (Stage stage) → StepsLower c (Stage stage)
 
   -- ---- SNAP
 

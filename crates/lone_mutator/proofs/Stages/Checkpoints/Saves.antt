@@ -59,9 +59,6 @@ module _ (c : Configuration) (p : Plain) (s : Stands c p) (y : Held) (r : Saving
   -- ---- the exchange
 
   module _ (a : IsAlone c (on Exchanges)) where
-    abbrev x : Held
-    x = on Exchanges
-
     abbrev word : SaveWord
     word = save_word.Saving v.number v.worker
 

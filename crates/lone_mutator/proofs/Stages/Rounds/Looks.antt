@@ -22,9 +22,10 @@ use Rattle.fault_duty.specs.declared.duty_stage.DutyStage.TheVariants.{LoadsGate
 use Rattle.fault_duty.specs.Duty
 use Rattle.fault_duty.specs.Duty.{Round, at_stage, front_of, page_after, is_full}
 use Rattle.fault_duty.specs.Soundness.{IsChoice}
+use Rattle.fault_duty.proofs.Lowering.{first_stage-le}
 use Rattle.heap_state.specs.Memory.Era.{Era, Memory}
 use Rattle.lone_mutator.specs.Rounds.{IsForClosed, Found, Wanted, Chosen, OpenBelow, IsQuiet}
-use Rattle.lone_mutator.proofs.Stages.Rounds.Rounds.{RoundIsAlone, RoundGoes, first_stage-le}
+use Rattle.lone_mutator.proofs.Stages.Rounds.Rounds.{RoundIsAlone, RoundGoes}
 
 -- ---- what a page's word says
 

@@ -1,16 +1,13 @@
 -- What a mutator without company finds in a round, and what a round owes that goes on.
-use Rattle.std.proofs.Common.{◌≡◌, ◌≢◌, ℕ, ◌+◌, ◌*◌, ◌<◌, ◌≤◌, Bool, true, false, nat_eq, arith}
+use Rattle.std.proofs.Common.{◌≡◌, ◌≢◌, ℕ, ◌+◌, ◌*◌, ◌<◌, ◌≤◌, true, arith}
 use Rattle.atom_store.specs.declared.reply.Reply.{Reply}
 use Rattle.atom_store.specs.declared.turn.Turn.TheVariants.{More}
 use Rattle.space_map.specs.declared.spaces.TheConstants.{LAST_WORKER}
 use Rattle.space_map.specs.declared.page_word.PageWord.TheVariants.{Open}
 use Rattle.space_map.specs.PageWord.{age_of}
-use Rattle.space_map.specs.Spaces.{board_page}
-use Rattle.page_slots.specs.Claim as claim
 use Rattle.fault_duty.specs.declared.caller.Caller.TheVariants.{Scans}
 use Rattle.fault_duty.specs.declared.duty_stage.DutyStage.{DutyStage}
 use Rattle.fault_duty.specs.Duty.{Round, at_stage, taken_at, told_at, left_at, advances_at, to_start}
-use Rattle.fault_duty.proofs.Lowering.{by_test}
 use Rattle.heap_state.specs.Memory.Era.{Era, Memory}
 use Rattle.gc_worker.specs.declared.stage.back.Back.{Back}
 use Rattle.gc_worker.specs.declared.stage.back.Back.TheVariants.{ToAccess, ToTarget, ToPlace, ToSnap, ToScanner}
@@ -39,11 +36,6 @@ pub record RoundGoes (E : Era) (m : Memory) (d : Round) (stage : DutyStage) (rep
   pub untraced : (back : Back) → IsUntraced m.traced E.epoch back stage → IsUntraced m.traced E.epoch back next
   pub advances : advances_at stage reply ≡ true
   pub steps : left_at (at_stage d next) next < left_at d stage → round_steps (at_stage d next) next < round_steps d stage
-
--- a claim has at most 26 steps
-pub first_stage-le : (n page : ℕ) (in_place : Bool) → claim.left_at (claim.first_stage n page in_place) ≤ LAST_WORKER + 3
-first_stage-le n page true = omega arith
-first_stage-le n page false = by_test (λ s. claim.left_at s ≤ LAST_WORKER + 3) (nat_eq page (board_page n)) _ _ (λ _. omega arith) (λ _. omega arith)
 
 -- in the midst of a round of an epoch that isn't traced, what the tracing costs, and the round after it
 pub left_again : (n left due : ℕ) → due ≡ left + round_cost n → (back : Back) → round_left left due back ≡ left + again_left n back

@@ -6,10 +6,6 @@ use Rattle.plain_heap.specs.Tracing.{has_weak, is_traced, untraced}
 use Rattle.plain_heap.proofs.Orders.Cells.{tracing_needs_cells}
 use Rattle.ael_jobs.proofs.runs.orders.shown_order.Goals as goal
 
-not_true : (b : Bool) → not b ≡ true → b ≡ false
-not_true true is = cc
-not_true false is = refl
-
 -- in a program without `weak` this order is shown
 none_shown : (without : Bool) (order : List Mark) → without ≡ false → cond without order (untraced order) ≡ untraced order
 none_shown true order is = cc

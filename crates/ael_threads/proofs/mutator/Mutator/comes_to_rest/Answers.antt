@@ -1,4 +1,4 @@
-use Rattle.std.proofs.Common.{[], ◌∷◌, ◌∙◌, arith, length, refl, sym}
+use Rattle.std.proofs.Common.{[], ◌∷◌, ◌∙◌, arith, refl, sym}
 use Rattle.ael_threads.specs.ActsInRow.{is_rest}
 use Rattle.ael_threads.specs.Seats.{Acts}
 use Rattle.ael_threads.proofs.ActsInRow.{series_more, some_made, some_stopped}

@@ -1,4 +1,4 @@
-use Rattle.std.proofs.Common.{[], ◌∷◌, ◌∙◌, arith, length, refl}
+use Rattle.std.proofs.Common.{[], ◌∷◌, ◌∙◌, arith, refl}
 use Rattle.gc_worker.specs.declared.steps.stepped.Stepped.TheVariants as stepped
 use Rattle.ael_threads.specs.ActsInRow.{is_idle}
 use Rattle.ael_threads.specs.Seats.{Acts}

@@ -2,7 +2,7 @@ use Rattle.std.proofs.Common.{subst}
 use Rattle.gc_worker.proofs.Workers.Printing.{may_execute_silent}
 use Rattle.ael_threads.specs.Calls.{CalledBy}
 use Rattle.ael_threads.specs.Seats.{Seated}
-use Rattle.concordance.proofs.Calls.{called}
+use Rattle.ael_threads.proofs.WholeCalls.Seen.{called}
 use Rattle.concordance.proofs.clerk.Clerk.call.Goals as goal
 
 pub returns-clause-called : goal.returns-clause-called
