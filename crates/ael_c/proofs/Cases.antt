@@ -75,11 +75,7 @@ is_idle (Some task) none = absurd (cc)
 -- an act that isn't idle ends a round
 pub round_done : (told : Stepped) → (told ≡ stepped.Idle → ⊥) → answers.Done ≡ answer_of_round true told
 round_done stepped.Idle idle = absurd (idle refl)
-round_done stepped.Moved idle = refl
-round_done stepped.Traced idle = refl
-round_done (stepped.Flipped n) idle = refl
-round_done (stepped.Effect m) idle = refl
-round_done (stepped.Ended m end) idle = refl
+round_done _ idle = refl
 
 module _ (a b : SeatedScanner) (quiet : (first : Seated) → StaysSilent first a.seated → StaysSilent first b.seated) where
   -- an act ended the round, before which fewer than ACTS were made

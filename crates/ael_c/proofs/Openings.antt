@@ -99,19 +99,7 @@ opens_by : (answer : Answer) (config : Config) (before after : Handles) (heap : 
     → heap.table.shared.table_id.words ≡ whole_length (layout_by config) → DealsBy answer heap before after → OpensBy answer config before after
 opens_by answers.Done config before after heap plan words dealt = record { heap = heap; plan = plan; words = words; dealt = dealt }
 opens_by answers.NoMemory config before after heap plan words same = same
-opens_by answers.Again config before after heap plan words never = absurd never
-opens_by answers.Number config before after heap plan words never = absurd never
-opens_by answers.Pointer config before after heap plan words never = absurd never
-opens_by answers.Left config before after heap plan words never = absurd never
-opens_by answers.BadHandle config before after heap plan words never = absurd never
-opens_by answers.InUse config before after heap plan words never = absurd never
-opens_by answers.BadSize config before after heap plan words never = absurd never
-opens_by answers.BadInstruction config before after heap plan words never = absurd never
-opens_by answers.BadRegister config before after heap plan words never = absurd never
-opens_by answers.Unanswered config before after heap plan words never = absurd never
-opens_by answers.RecordsOut config before after heap plan words never = absurd never
-opens_by answers.TooBig config before after heap plan words never = absurd never
-opens_by (answers.Ended end) config before after heap plan words never = absurd never
+opens_by _ config before after heap plan words never = absurd never
 
 -- for none of the reasons for which it is refused
 pub opened : (pages limit : ℕ) (answer : Answer) (before after : Handles) (heap : Shared) → are_counts (length before.mutators) (length before.scanners) ≡ true

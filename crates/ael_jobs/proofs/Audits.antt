@@ -16,7 +16,7 @@ use Rattle.heap_audit.specs.declared.audit_error.AuditError.TheVariants as audit
 use Rattle.heap_audit.specs.declared.verdict.Verdict.{Verdict}
 use Rattle.heap_audit.specs.declared.verdict.Verdict.TheVariants as verdicts
 use Rattle.ael_jobs.specs.declared.status.Status.{Status}
-use Rattle.ael_jobs.specs.declared.status.Status.TheVariants.{BadOutput, Done, No, Text, LongWord, Usage, Ended, HeapFull, StepsOut, ReadFault, WriteFault, NoMemory, TooLong}
+use Rattle.ael_jobs.specs.declared.status.Status.TheVariants.{BadOutput, Done, Text, NoMemory}
 use Rattle.ael_jobs.specs.Calls.Audits.{MissingPartsAreWrongInLineOne}
 use Rattle.ael_jobs.specs.Calls.Status.{audit_status}
 use Rattle.ael_jobs.specs.Tasks.Audit.{HasBadOutput, HasFaultyPart, HasNoVerdict, HasOutput, HasProgram, HasTrueOutput, IsAudited, verdict_status, verdict_text}
@@ -34,17 +34,7 @@ never_bad one input line right bad =
 pub never_faulty : MeansOneProgram → HasNoFault → (input : List ℕ) (status : Status) → HasOutput input → HasFaultyPart input status → ⊥
 never_faulty one no_fault input (Text number line) right fault = no_fault (text_in input) right.has.program right.has.items number line right.has.text fault
 never_faulty one no_fault input (BadOutput line) right bad = never_bad one input line right bad
-never_faulty one no_fault input Done right fault = fault
-never_faulty one no_fault input (LongWord line) right fault = fault
-never_faulty one no_fault input Usage right fault = fault
-never_faulty one no_fault input Ended right fault = fault
-never_faulty one no_fault input (HeapFull asked room) right fault = fault
-never_faulty one no_fault input No right fault = fault
-never_faulty one no_fault input StepsOut right fault = fault
-never_faulty one no_fault input ReadFault right fault = fault
-never_faulty one no_fault input WriteFault right fault = fault
-never_faulty one no_fault input NoMemory right fault = fault
-never_faulty one no_fault input TooLong right fault = fault
+never_faulty one no_fault input _ right fault = fault
 
 -- ---- the audit
 

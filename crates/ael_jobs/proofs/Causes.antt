@@ -15,7 +15,7 @@ use Rattle.ael_jobs.specs.declared.arguments.options.ConcordOptions.{ConcordOpti
 use Rattle.ael_jobs.specs.declared.arguments.options.RunOptions.{RunOptions}
 use Rattle.ael_jobs.specs.declared.arguments.options.SimOptions.{SimOptions}
 use Rattle.ael_jobs.specs.declared.status.Status.{Status}
-use Rattle.ael_jobs.specs.declared.status.Status.TheVariants.{BadOutput, Done, No, Text, LongWord, Usage, Ended, HeapFull, StepsOut, ReadFault, WriteFault, NoMemory, TooLong}
+use Rattle.ael_jobs.specs.declared.status.Status.TheVariants.{Text, ReadFault, NoMemory, TooLong}
 use Rattle.ael_jobs.specs.Calls.Answer.{IsCaused, IsDrawnFor, Made, Refused, Unread, OutOfMemory}
 use Rattle.ael_jobs.specs.Tasks.Asm.{IsListed}
 use Rattle.ael_jobs.specs.Tasks.Audit.{HasNoVerdict, IsAudited}
@@ -55,43 +55,25 @@ pub unfit : (job : Job) (source : Drawn) (status : Status) → ReadsProgram job 
 unfit (Bench operands) source status reads u = absurd reads
 unfit (Concord options) source status reads u = absurd reads
 unfit (Audit options) source status reads u = absurd reads
-unfit Asm source (Text number line) reads u = Refused u.bytes u.input u.fault refl
-unfit (Sim options) source (Text number line) reads u = Refused u.bytes u.input u.fault refl
-unfit (Run options) source (Text number line) reads u = Refused u.bytes u.input u.fault refl
-unfit Asm source ReadFault reads u = Unread u refl
-unfit (Sim options) source ReadFault reads u = Unread u refl
-unfit (Run options) source ReadFault reads u = Unread u refl
-unfit Asm source TooLong reads u = Unread u refl
-unfit (Sim options) source TooLong reads u = Unread u refl
-unfit (Run options) source TooLong reads u = Unread u refl
+unfit _ source (Text number line) reads u = Refused u.bytes u.input u.fault refl
+unfit _ source ReadFault reads u = Unread u refl
+unfit _ source TooLong reads u = Unread u refl
 unfit job source NoMemory reads u = OutOfMemory refl refl
-unfit job source Done reads u = absurd u
-unfit job source (LongWord line) reads u = absurd u
-unfit job source Usage reads u = absurd u
-unfit job source Ended reads u = absurd u
-unfit job source (HeapFull asked room) reads u = absurd u
-unfit job source StepsOut reads u = absurd u
-unfit job source WriteFault reads u = absurd u
-unfit job source (BadOutput line) reads u = absurd u
-unfit job source No reads u = absurd u
+unfit job source _ reads u = absurd u
 
 -- each job that waits for nobody, but the benchmark and audits, reads a program
 pub reads_program : (job : Job) → IsStill job → ((operands : BenchOperands) → job ≢ Bench operands) → ((options : AuditOptions) → job ≢ Audit options) → ReadsProgram job
 reads_program (Bench operands) still no_bench no_audit = absurd (no_bench operands refl)
-reads_program Asm still no_bench no_audit = tt
-reads_program (Sim options) still no_bench no_audit = tt
-reads_program (Run options) still no_bench no_audit = tt
 reads_program (Concord options) still no_bench no_audit = absurd (true≢false still)
 reads_program (Audit options) still no_bench no_audit = absurd (no_audit options refl)
+reads_program _ still no_bench no_audit = tt
 
 -- then it reads its input
 pub reads_all : (job : Job) → ReadsProgram job → (job_task job).reads ≡ Everything
-reads_all (Bench operands) reads = absurd reads
-reads_all (Concord options) reads = absurd reads
-reads_all (Audit options) reads = absurd reads
 reads_all Asm reads = refl
 reads_all (Sim options) reads = refl
 reads_all (Run options) reads = refl
+reads_all _ reads = absurd reads
 
 -- and with it as much as a program
 pub drawn_for : (job : Job) (source : Drawn) → (job_task job).reads ≡ Everything → IsDrawn Everything source → IsDrawnFor (Some job) source

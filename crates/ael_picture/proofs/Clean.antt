@@ -32,37 +32,11 @@ decimal_plain n = onto_plain 64 n [] refl
 
 class_plain : (c : Class) → list_all is_in_value (class_name c) ≡ true
 class_plain class.Free = refl
-class_plain class.Header = refl
-class_plain class.Number = refl
-class_plain class.Raw = refl
-class_plain class.Old = refl
-class_plain class.New = refl
-class_plain class.Forward = refl
-class_plain class.Faded = refl
-class_plain class.Busy = refl
-class_plain class.Open = refl
-class_plain class.Scanning = refl
-class_plain class.Earlier = refl
-class_plain class.Unset = refl
-class_plain class.Mark = refl
-class_plain class.FieldNew = refl
-class_plain class.FieldOld = refl
-class_plain class.Weak = refl
-class_plain class.RootNew = refl
-class_plain class.RootOld = refl
-class_plain class.Copy = refl
-class_plain class.Copied = refl
-class_plain class.Plain = refl
-class_plain class.Small = refl
-class_plain class.Inside = refl
-class_plain class.Ending = refl
+class_plain _ = refl
 
 choice_plain : (c : Choice) → list_all is_in_value (choice_name c) ≡ true
 choice_plain choice.All = refl
-choice_plain choice.Fields = refl
-choice_plain choice.Roots = refl
-choice_plain choice.Copies = refl
-choice_plain choice.Nothing = refl
+choice_plain _ = refl
 
 both_plain : (xs ys : List ℕ) → list_all is_in_value xs ≡ true → list_all is_in_value ys ≡ true → list_all is_in_value (xs ++ ys) ≡ true
 both_plain xs ys h k = rw (list_all-append is_in_value xs ys, h, k) refl

@@ -14,7 +14,7 @@ use Rattle.plain_heap.proofs.Calls.Single.{call-eq, call-li, call-mov}
 use Rattle.gc_worker.proofs.Plain.RecordsMade.{made_of}
 use Rattle.ael_threads.specs.Seats.{Seated}
 use Rattle.ael_runtime.specs.declared.root.Root.{Root}
-use Rattle.ael_runtime.specs.declared.root.Root.TheVariants.{R0, R1, R2, R3, R4}
+use Rattle.ael_runtime.specs.declared.root.Root.TheVariants.{R0}
 use Rattle.ael_runtime.specs.declared.root.TheConstants.{SCRATCH}
 use Rattle.ael_runtime.specs.Calling.{HadEffect, IsSure, HadEffects, done}
 use Rattle.ael_runtime.specs.Reading.{held, number, root_register, seen_mutator}
@@ -24,10 +24,7 @@ use Rattle.ael_runtime.proofs.PlainCalls.{is_done}
 -- a root is none of the registers that the runtime keeps
 pub root_below : (r : Root) → root_register r < 5
 root_below R0 = omega arith
-root_below R1 = omega arith
-root_below R2 = omega arith
-root_below R3 = omega arith
-root_below R4 = omega arith
+root_below _ = omega arith
 
 pub root_within : (r : Root) (d : ℕ) → d ≡ root_register r → d < REGISTERS
 root_within r d is = let below = root_below r in omega (arith, below, is)

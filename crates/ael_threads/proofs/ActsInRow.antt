@@ -55,20 +55,13 @@ module _ {S T : Type 0} (Makes : S → T → S → Type 0) (stops : T → S → 
 
 -- neither an effect nor an end
 pub no_answer : (told : Stepped) (b : Seated) → ((m : ℕ) → told ≡ stepped.Effect m → ⊥) → ((m : ℕ) (end : End) → told ≡ stepped.Ended m end → ⊥) → is_answer told b ≡ false
-no_answer stepped.Idle b effect ended = refl
-no_answer stepped.Moved b effect ended = refl
-no_answer stepped.Traced b effect ended = refl
-no_answer (stepped.Flipped n) b effect ended = refl
 no_answer (stepped.Effect m) b effect ended = absurd (effect m refl)
 no_answer (stepped.Ended m end) b effect ended = absurd (ended m end refl)
+no_answer _ b effect ended = refl
 
 pub not_idle : (told : Stepped) (b : Seated) → (told ≡ stepped.Idle → ⊥) → is_idle told b ≡ false
 not_idle stepped.Idle b idle = absurd (idle refl)
-not_idle stepped.Moved b idle = refl
-not_idle stepped.Traced b idle = refl
-not_idle (stepped.Flipped n) b idle = refl
-not_idle (stepped.Effect m) b idle = refl
-not_idle (stepped.Ended m end) b idle = refl
+not_idle _ b idle = refl
 
 -- ---- what was written
 
@@ -146,16 +139,8 @@ round_silent round a b x h q = let u = h.until in quiet_more x u.last.seated b.s
 
 gone_told : (told : Stepped) (written : Bool) (a b : Seated) → rounds.Gone ≡ round_told told written → Acts a told b → b.worker.stage ≡ stages.Gone
 gone_told stepped.Idle written a b is h = ap (λ (z : Seated). z.worker.stage) h.0 ∙ h.1
-gone_told stepped.Moved true a b is h = absurd (cc)
-gone_told stepped.Moved false a b is h = absurd (cc)
-gone_told stepped.Traced true a b is h = absurd (cc)
-gone_told stepped.Traced false a b is h = absurd (cc)
-gone_told (stepped.Flipped n) true a b is h = absurd (cc)
-gone_told (stepped.Flipped n) false a b is h = absurd (cc)
-gone_told (stepped.Effect m) true a b is h = absurd (cc)
-gone_told (stepped.Effect m) false a b is h = absurd (cc)
-gone_told (stepped.Ended m end) true a b is h = absurd (cc)
-gone_told (stepped.Ended m end) false a b is h = absurd (cc)
+gone_told _ true a b is h = absurd (cc)
+gone_told _ _ a b is h = absurd (cc)
 
 -- a round that comes to Gone leaves the scanner gone
 pub round_gone : (round : Round) (a b : SeatedScanner) → MakesRound round a b → round ≡ rounds.Gone → b.seated.worker.stage ≡ stages.Gone
@@ -164,11 +149,7 @@ round_gone round a b h is = let u = h.until in gone_told u.told (has_written (u.
 nothing_told : (told : Stepped) (written : Bool) → rounds.Nothing ≡ round_told told written → written ≡ false
 nothing_told told false is = refl
 nothing_told stepped.Idle true is = absurd (cc)
-nothing_told stepped.Moved true is = absurd (cc)
-nothing_told stepped.Traced true is = absurd (cc)
-nothing_told (stepped.Flipped n) true is = absurd (cc)
-nothing_told (stepped.Effect m) true is = absurd (cc)
-nothing_told (stepped.Ended m end) true is = absurd (cc)
+nothing_told _ true is = absurd (cc)
 
 series_claims : (a : SeatedScanner) (before : List SeatedScanner) (b : SeatedScanner) → Series ScannerActs ends_round a before b → has_written before ≡ false → b.seated.knows.claims ≡ a.seated.knows.claims
 series_claims a [] b h none = ap (λ (z : SeatedScanner). z.seated.knows.claims) h

@@ -133,13 +133,11 @@ module _ (plan : Plan) (m : ℕ) (y : Held) (q : Step) (words : List ℕ) (worke
   no_answer call = by_told t refl
     where
       by_told : (u : Told) → t ≡ u → IsNoAnswer t
-      by_told Silent e = subst IsNoAnswer (sym e) tt
-      by_told Empties e = subst IsNoAnswer (sym e) tt
       by_told (Answers task Done) e = absurd (rests_before y.stage z.stage (goes.answers task Done e).after (past_look z.stage call))
       by_told (Answers task (Trap end)) e =
           let ended : z.account.end ≡ Some end = ap (λ (a : Account). a.end) (goes.answers task (Trap end) e).after.0 in
           absurd (ended_out z.stage (subst (λ (o : Option End). FitsEnd z.stage (is_some o)) ended fits_z.end) call)
-      by_told (Marks asked) e = subst IsNoAnswer (sym e) tt
+      by_told _ e = subst IsNoAnswer (sym e) tt
 
   looks_here : y.stage ≡ Looks → z.begun ≡ y.epoch → IsInCall z.stage → HasLooked plan m z (log ++ extra o m t)
   looks_here looks same call = by_task z.task refl

@@ -9,7 +9,7 @@ use Rattle.plain_state.specs.State.{Heap, Mutator, Plain, record_of}
 use Rattle.plain_state.proofs.Lists.{set-found, slice_get-replicate, slice_get-set_other}
 use Rattle.mutator_asm.specs.declared.instr.Instr.{Instr}
 use Rattle.plain_heap.specs.declared.action.Action.{Action}
-use Rattle.plain_heap.specs.declared.action.Action.TheVariants.{Sets, Jumps, Links, Prints, Makes, Measures, Loads, Stores, Exchanges, Gets, Puts, Swaps, Snaps}
+use Rattle.plain_heap.specs.declared.action.Action.TheVariants.{Sets, Links, Makes, Measures, Loads, Stores, Exchanges, Gets, Swaps}
 use Rattle.plain_heap.specs.Action.{action}
 use Rattle.plain_heap.specs.Call.{After, call, performed, store_in, value_in}
 use Rattle.plain_heap.specs.Step.{settled}
@@ -32,10 +32,7 @@ module _ (m : ℕ) (heap : Heap) (k : Mutator) where
 
   performed-count : (act : Action) → IfOk (performed m heap k act) AsMany
   performed-count (Sets d v) = length-set k.registers d v
-  performed-count (Jumps target) = refl
   performed-count (Links d target) = length-set k.registers d _
-  performed-count (Prints n) = refl
-  performed-count Snaps = refl
   performed-count (Makes kind d n v) = length-set k.registers d _
   performed-count (Measures d i) = length-set k.registers d _
   performed-count (Loads d i x) = if_ok-bind AsMany (value_in heap i x) _ (λ v. length-set k.registers d v)
@@ -43,8 +40,8 @@ module _ (m : ℕ) (heap : Heap) (k : Mutator) where
   performed-count (Exchanges d i x expected v) =
       performed_exchange m heap k d i x expected v AsMany (length-set k.registers d _) (if_ok-bind AsMany (store_in heap i (record_of heap i) x v) _ (λ h. length-set k.registers d _))
   performed-count (Gets d x) = length-set k.registers d _
-  performed-count (Puts x v) = refl
   performed-count (Swaps d x v) = length-set k.registers d _
+  performed-count _ = refl
 
   call-count : (i : Instr) → IfOk (call m heap k i) AsMany
   unfolding call

@@ -12,7 +12,7 @@ use Rattle.atom_store.specs.StepOn.{Store}
 use Rattle.atom_store.proofs.Acting.{no_step}
 use Rattle.atom_store.proofs.Steps.{slice_index-words_after, slice_index-stored}
 use Rattle.heap_words.specs.declared.kind.Kind.{Kind}
-use Rattle.heap_words.specs.declared.kind.Kind.TheVariants.{Fields, Raw, Mixed, Weak}
+use Rattle.heap_words.specs.declared.kind.Kind.TheVariants.{Fields}
 use Rattle.space_map.specs.declared.area_word.AreaWord.{AreaWord}
 use Rattle.space_map.specs.declared.page_word.PageWord.TheVariants.{Open}
 use Rattle.space_map.specs.declared.save_word.SaveWord.TheVariants.{New}
@@ -29,7 +29,7 @@ use Rattle.alloc_end.specs.declared.allocated.Allocated.TheVariants.{Full}
 use Rattle.alloc_end.specs.declared.fitting.Fitting.{Fitting}
 use Rattle.alloc_end.specs.declared.new_pages.NewPages.{NewPages}
 use Rattle.alloc_end.specs.declared.place_stage.PlaceStage.{PlaceStage}
-use Rattle.alloc_end.specs.declared.place_stage.PlaceStage.TheVariants.{LoadsTraced, LoadsSize, LoadsArea, ExchangesArea, StoresZero, StoresNew, OpensPage, StoresCount, StoresTarget, StoresLink, StoresHeader, Ended}
+use Rattle.alloc_end.specs.declared.place_stage.PlaceStage.TheVariants.{LoadsTraced, LoadsArea, ExchangesArea, StoresZero, StoresNew, OpensPage, Ended}
 use Rattle.alloc_end.specs.Place.{Placing, begun, at_stage, fits, wants_at, size_of, pages_for, words_for, shortage, place_machine, stores_first, taken_at, looked_at_area, readies, cleared, after_opening}
 use Rattle.alloc_end.specs.Soundness.{IsSoundPlacing, HasRoomToMark}
 use Rattle.alloc_end.specs.Theorems.{area_word, AreNew, AreMarked, NoneIsMarkedYet, OpenedPagesAreNew}
@@ -38,9 +38,7 @@ use Rattle.alloc_end.specs.Theorems.{area_word, AreNew, AreMarked, NoneIsMarkedY
 
 first_store : (p : Placing) (kind : Kind) (words : List ℕ) → AreMarked p (stores_first kind) words
 first_store p Fields words = tt
-first_store p Raw words = tt
-first_store p Mixed words = tt
-first_store p Weak words = tt
+first_store p _ words = tt
 
 pub none_yet : NoneIsMarkedYet
 none_yet layout run header epoch fields snap target words = by_test (nat_le (run.at + size_of header) run.end)
@@ -135,8 +133,6 @@ by_page p new words are = by_test (nat_lt (new.next + 1) (page_of new.first + pa
 pub marked : (p : Placing) (stage : PlaceStage) (before after : List ℕ) (turn : Turn Allocated) → IsSoundPlacing (at_stage p stage) → HoldsWhole p.layout before
     → AreMarked (at_stage p stage) stage before → MakesStep place_machine (at_stage p stage) before after turn
     → let next = after_next_step place_machine (at_stage p stage) before in AreMarked next next.stage after
-marked p LoadsTraced before after turn sound whole is acts = tt
-marked p (LoadsSize traced) before after turn sound whole is acts = tt
 marked p (LoadsArea traced size) before after turn sound whole is acts = by_area p traced size (decode_area (area_word p before)) after
 marked p (ExchangesArea f) before after turn sound whole is acts = by_exchange p f _ (area_word p before) after
 marked p (StoresZero new) before after turn sound whole is acts = by_zero p new after
@@ -147,11 +143,8 @@ marked p (OpensPage new) before after turn sound whole is acts =
     let stage = sound.stage in
     by_page p new after
     (λ some. new_stays p.layout.pages p.snap (page_of new.first) (new.next + 1) new.next (encode_page (Open p.epoch)) before after (omega (arith, stage)) (is some) acts.makes)
-marked p StoresCount before after turn sound whole is acts = tt
-marked p StoresTarget before after turn sound whole is acts = tt
-marked p StoresLink before after turn sound whole is acts = tt
-marked p StoresHeader before after turn sound whole is acts = tt
 marked p (Ended result) before after turn sound whole is acts = absurd (no_step acts.has_step)
+marked p _ before after turn sound whole is acts = tt
 
 -- ---- the page that is opened
 
@@ -161,17 +154,7 @@ opened_at p (OpensPage new) words page value sound is some wants =
     let here : new.next ≡ page = (let e = same_Some _ _ wants in cc) in
     let stage = sound.stage in
     is some page (omega (arith, stage, here)) (omega (arith, here))
-opened_at p LoadsTraced words page value sound is some wants = absurd (cc)
-opened_at p (LoadsSize traced) words page value sound is some wants = absurd (cc)
-opened_at p (LoadsArea traced size) words page value sound is some wants = absurd (cc)
-opened_at p (ExchangesArea f) words page value sound is some wants = absurd (cc)
-opened_at p (StoresZero new) words page value sound is some wants = absurd (cc)
-opened_at p (StoresNew new) words page value sound is some wants = absurd (cc)
-opened_at p StoresCount words page value sound is some wants = absurd (cc)
-opened_at p StoresTarget words page value sound is some wants = absurd (cc)
-opened_at p StoresLink words page value sound is some wants = absurd (cc)
-opened_at p StoresHeader words page value sound is some wants = absurd (cc)
-opened_at p (Ended result) words page value sound is some wants = absurd (cc)
+opened_at p _ words page value sound is some wants = absurd (cc)
 
 pub opened_are_new : OpenedPagesAreNew
 opened_are_new p words page value sound is some wants = opened_at p p.stage words page value sound is some wants

@@ -32,7 +32,7 @@ use Rattle.alloc_end.specs.declared.new_pages.NewPages.{NewPages}
 use Rattle.alloc_end.specs.declared.allocated.Allocated.{Allocated}
 use Rattle.alloc_end.specs.declared.allocated.Allocated.TheVariants.{Placed, Full}
 use Rattle.alloc_end.specs.declared.place_stage.PlaceStage.{PlaceStage}
-use Rattle.alloc_end.specs.declared.place_stage.PlaceStage.TheVariants.{LoadsTraced, LoadsSize, LoadsArea, ExchangesArea, StoresZero, StoresNew, OpensPage, StoresCount, StoresTarget, StoresLink, StoresHeader, Ended}
+use Rattle.alloc_end.specs.declared.place_stage.PlaceStage.TheVariants.{LoadsArea, ExchangesArea, StoresZero, StoresNew, OpensPage, StoresCount, StoresTarget, StoresLink, StoresHeader, Ended}
 use Rattle.alloc_end.specs.Place.{Placing, at_stage, size_of, pages_for, words_for, fits, shortage, place_machine, stores_first, told, told_at, taken_at, looked_at_area, readies, cleared, after_opening}
 use Rattle.alloc_end.specs.Soundness.{IsSoundPlacing}
 use Rattle.alloc_end.specs.Theorems.{area_word, AreZero, AreOpen, AreCleared, IsRunReady, AwaitsHeader, IsReady, PlacesRecord, zeros_from}
@@ -179,9 +179,7 @@ ready_by_zero p new words below zero = by_test (nat_lt (new.next + 1) (new.first
 
 zeros_from-pos : (kind : Kind) → 0 < zeros_from kind
 zeros_from-pos Fields = omega arith
-zeros_from-pos Raw = omega arith
-zeros_from-pos Mixed = omega arith
-zeros_from-pos Weak = omega arith
+zeros_from-pos _ = omega arith
 
 -- a run that is ready awaits the header of a record that isn't mixed and no cell
 header_next : (p : Placing) (words : List ℕ) → p.header.kind ≢ Mixed → p.header.kind ≢ Weak → p.run.at < p.run.end → IsRunReady p words → AwaitsHeader p words
@@ -261,8 +259,6 @@ link_stored p before after whole is room inside awaits makes =
 pub ready : (p : Placing) (stage : PlaceStage) (before after : List ℕ) (turn : Turn Allocated) → IsSoundPlacing (at_stage p stage) → HoldsTable p.layout.pages before
     → IsReady (at_stage p stage) stage before → MakesStep place_machine (at_stage p stage) before after turn
     → let next = after_next_step place_machine (at_stage p stage) before in IsReady next next.stage after
-ready p LoadsTraced before after turn sound whole is acts = tt
-ready p (LoadsSize traced) before after turn sound whole is acts = tt
 ready p (LoadsArea traced size) before after turn sound whole is acts = ready_by_area p traced size (decode_area (area_word p before)) after
 ready p (ExchangesArea f) before after turn sound whole is acts = ready_by_exchange p f _ (area_word p before) after
 ready p (StoresZero new) before after turn sound whole is acts =
@@ -301,8 +297,7 @@ ready p StoresLink before after turn sound whole is acts =
     let run = sound.run in
     let inside = run.1 in
     link_stored (at_stage p StoresLink) before after whole stage.0 (omega (arith, long, room)) inside is acts.makes
-ready p StoresHeader before after turn sound whole is acts = tt
-ready p (Ended result) before after turn sound whole is acts = tt
+ready p _ before after turn sound whole is acts = tt
 
 -- ---- the record
 
@@ -316,9 +311,7 @@ never_placed_at_area p traced size at None tells = cc
 
 pub never_ends_at_exchange : (p : Placing) (f : Fitting) (r : Reply) (result : Allocated) → told (taken_at (at_stage p (ExchangesArea f)) (ExchangesArea f) r) ≡ Finished result → ⊥
 never_ends_at_exchange p f reply.Won result tells = cc
-never_ends_at_exchange p f (reply.Lost word) result tells = cc
-never_ends_at_exchange p f (reply.Value word) result tells = cc
-never_ends_at_exchange p f reply.Done result tells = cc
+never_ends_at_exchange p f _ result tells = cc
 
 never_ends_at_next : (snap : ℕ) (new : NewPages) (result : Allocated) → told_at (readies snap new) ≡ Finished result → ⊥
 never_ends_at_next snap new result tells = by_test (snap == 0) tells
@@ -336,9 +329,7 @@ never_ends_at_zero p new result tells = by_test (nat_lt (new.next + 1) (new.firs
 
 never_ends_at_first : (kind : Kind) (result : Allocated) → told_at (stores_first kind) ≡ Finished result → ⊥
 never_ends_at_first Fields result e = cc
-never_ends_at_first Raw result e = cc
-never_ends_at_first Mixed result e = cc
-never_ends_at_first Weak result e = cc
+never_ends_at_first _ result e = cc
 
 pub never_ends_at_page : (p : Placing) (new : NewPages) (result : Allocated) → told (after_opening p new) ≡ Finished result → ⊥
 never_ends_at_page p new result tells = by_test (nat_lt (new.next + 1) (page_of new.first + pages_for (size_of p.header))) tells
@@ -354,16 +345,10 @@ more_never_ends result e = cc
 pub places : (p : Placing) (stage : PlaceStage) (before after : List ℕ) (at : ℕ) → IsSoundPlacing (at_stage p stage) → HoldsTable p.layout.pages before
     → IsReady (at_stage p stage) stage before → MakesStep place_machine (at_stage p stage) before after (Finished (Placed at))
     → PlacesRecord (at_stage p stage) before after at
-places p LoadsTraced before after at sound whole is acts = absurd (more_never_ends (Placed at) acts.tells)
-places p (LoadsSize traced) before after at sound whole is acts = absurd (more_never_ends (Placed at) acts.tells)
 places p (LoadsArea traced size) before after at sound whole is acts = absurd (never_placed_at_area p traced size at (decode_area (area_word p before)) acts.tells)
 places p (ExchangesArea f) before after at sound whole is acts = absurd (never_ends_at_exchange p f _ (Placed at) acts.tells)
 places p (StoresZero new) before after at sound whole is acts = absurd (never_ends_at_zero p new (Placed at) acts.tells)
-places p (StoresNew new) before after at sound whole is acts = absurd (more_never_ends (Placed at) acts.tells)
 places p (OpensPage new) before after at sound whole is acts = absurd (never_ends_at_page p new (Placed at) acts.tells)
-places p StoresCount before after at sound whole is acts = absurd (more_never_ends (Placed at) acts.tells)
-places p StoresTarget before after at sound whole is acts = absurd (more_never_ends (Placed at) acts.tells)
-places p StoresLink before after at sound whole is acts = absurd (more_never_ends (Placed at) acts.tells)
 places p StoresHeader before after at sound whole is acts = subst (PlacesRecord (at_stage p StoresHeader) before after) same record_placed
   where
     same : p.run.at ≡ at
@@ -387,3 +372,4 @@ places p StoresHeader before after at sound whole is acts = subst (PlacesRecord 
               ∙ slice_index-words_after (Store (place_of p.layout.pages (HeapWord p.run.at)) (encode (header_says p.header))) before place apart;
         }
 places p (Ended result) before after at sound whole is acts = absurd (no_step acts.has_step)
+places p _ before after at sound whole is acts = absurd (more_never_ends (Placed at) acts.tells)

@@ -20,7 +20,7 @@ use Rattle.alloc_end.specs.declared.shortage.Shortage.{Shortage}
 use Rattle.alloc_end.specs.declared.allocated.Allocated.{Allocated}
 use Rattle.alloc_end.specs.declared.allocated.Allocated.TheVariants.{Placed, Full}
 use Rattle.alloc_end.specs.declared.place_stage.PlaceStage.{PlaceStage}
-use Rattle.alloc_end.specs.declared.place_stage.PlaceStage.TheVariants.{LoadsTraced, LoadsSize, LoadsArea, ExchangesArea, StoresZero, StoresNew, OpensPage, StoresCount, StoresTarget, StoresLink, StoresHeader, Ended}
+use Rattle.alloc_end.specs.declared.place_stage.PlaceStage.TheVariants.{LoadsTraced, LoadsSize, LoadsArea, ExchangesArea, StoresZero, OpensPage, StoresHeader, Ended}
 use Rattle.alloc_end.specs.Place.{Placing, at_stage, words_for, kept_room, room_in, fits, area_after, first_claimed, shortage, place_machine, told, taken_at, looked_at_area}
 use Rattle.alloc_end.specs.Soundness.{IsSoundPlacing}
 use Rattle.alloc_end.specs.Theorems.{area_word, LooksAtTraced, LooksAtSize, ShowsShortage, ClaimsPages, LosesPages}
@@ -140,20 +140,15 @@ shows p traced size area before after says test stays = record {
 
 pub fulls : (p : Placing) (stage : PlaceStage) (before after : List ℕ) (s : Shortage)
     → MakesStep place_machine (at_stage p stage) before after (Finished (Full s)) → ShowsShortage (at_stage p stage) before after s
-fulls p LoadsTraced before after s acts = absurd (more_never_ends (Full s) acts.tells)
-fulls p (LoadsSize traced) before after s acts = absurd (more_never_ends (Full s) acts.tells)
 fulls p (LoadsArea traced size) before after s acts =
     let found = short p traced size s (decode_area (area_word p before)) acts.tells in
     subst (ShowsShortage (at_stage p (LoadsArea traced size)) before after) (sym found.numbers) (shows p traced size found.area before after found.is found.test acts.makes)
 fulls p (ExchangesArea f) before after s acts = absurd (never_ends_at_exchange p f _ (Full s) acts.tells)
 fulls p (StoresZero new) before after s acts = absurd (never_ends_at_zero p new (Full s) acts.tells)
-fulls p (StoresNew new) before after s acts = absurd (more_never_ends (Full s) acts.tells)
 fulls p (OpensPage new) before after s acts = absurd (never_ends_at_page p new (Full s) acts.tells)
-fulls p StoresCount before after s acts = absurd (more_never_ends (Full s) acts.tells)
-fulls p StoresTarget before after s acts = absurd (more_never_ends (Full s) acts.tells)
-fulls p StoresLink before after s acts = absurd (more_never_ends (Full s) acts.tells)
 fulls p StoresHeader before after s acts = absurd (header_never_full p.run.at s acts.tells)
 fulls p (Ended result) before after s acts = absurd (no_step acts.has_step)
+fulls p _ before after s acts = absurd (more_never_ends (Full s) acts.tells)
 
 refuses : (words kept room : ℕ) → room < words + kept → nat_le (words + kept) room ≡ false
 refuses words kept room less = grind (arith, nat_tests)

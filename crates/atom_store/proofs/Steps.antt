@@ -41,9 +41,8 @@ test-apart m n test same = grind (arith, nat_tests)
 -- ---- all steps
 
 pub place_in-step_at : {P : Type 0} (place : P → ℕ) (step : StepOn P) → place_in (step_at place step) ≡ place (touched step)
-place_in-step_at place (on.Load p) = refl
-place_in-step_at place (on.Store p word) = refl
-place_in-step_at place (on.Exchange p old new) = refl
+place_in-step_at place (on.Load _) = refl
+place_in-step_at place _ = refl
 
 pub length-words_after : (step : Step) (words : List ℕ) → length (words_after step words) ≡ length words
 length-words_after (Load place) words = refl

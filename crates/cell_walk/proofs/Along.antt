@@ -2,7 +2,7 @@
 use Rattle.std.proofs.Common.{◌≡◌, ℕ, ◌+◌, ◌-◌, ◌<◌, ◌≤◌, nat_lt, Bool, true, false, refl, arith, ◌==◌, if◌then◌else◌}
 use Rattle.std.specs.Prelude.{◌||◌}
 use Rattle.std.proofs.lemmas.Bool.Decides.{nat_tests}
-use Rattle.heap_words.specs.Decoded.{Decoded, NumberWord, PointerWord, HeaderWord, ForwardWord, BusyWord, Malformed}
+use Rattle.heap_words.specs.Decoded.{Decoded, PointerWord}
 use Rattle.space_map.specs.Spaces.{Layout}
 use Rattle.cell_walk.specs.declared.linked_cell.LinkedCell.{LinkedCell}
 use Rattle.cell_walk.specs.declared.walk_end.WalkEnd.TheVariants.{Passed, Another}
@@ -43,8 +43,4 @@ module _ (P : WalkStage → Type 0) where
       → ((old : ℕ) → d ≡ PointerWord old → is_old l epoch old ≡ true → P (LoadsTargetHeader cell old))
       → P (LoadsLink cell) → P (by_target l epoch cell d)
   of_target l epoch cell (PointerWord a) looks other = of_old (is_old l epoch a) _ _ (looks a refl) other
-  of_target l epoch cell (NumberWord n) looks other = other
-  of_target l epoch cell (HeaderWord kind len serial mutator) looks other = other
-  of_target l epoch cell (ForwardWord len a) looks other = other
-  of_target l epoch cell (BusyWord len worker) looks other = other
-  of_target l epoch cell Malformed looks other = other
+  of_target l epoch cell _ looks other = other

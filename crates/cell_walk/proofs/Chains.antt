@@ -5,7 +5,7 @@ use Rattle.std.proofs.lemmas.Bool.Decides.{nat_tests}
 use Rattle.std.proofs.lemmas.List.{get_or-set_other, set-get_or}
 use Rattle.atom_store.specs.Runs.{Working, alone, with_words}
 use Rattle.atom_store.specs.declared.reply.Reply.TheVariants.{Won, Lost}
-use Rattle.heap_words.specs.Decoded.{Decoded, NumberWord, PointerWord, HeaderWord, ForwardWord, BusyWord, Malformed, decode}
+use Rattle.heap_words.specs.Decoded.{Decoded, PointerWord, decode}
 use Rattle.space_map.specs.Spaces.{Layout}
 use Rattle.space_map.specs.Table.{WeakHead, WeakTurn, HeapWord, place_of}
 use Rattle.space_map.specs.TableWords.{row_word}
@@ -79,11 +79,7 @@ module _ (l : Layout) (epoch : ℕ) (words : List ℕ) where
         → Goes (walk_at (by_target l epoch cell d) now)
         (walk_at (LoadsLink cell) (slice_set now (target_place l cell.at) (target_said l epoch (heap_in l words) (heap_in l words (cell.at + 1)) d))) 2
     by_said (PointerWord old) says = at_old old says (is_old l epoch old) refl
-    by_said (NumberWord n) says = stays cell now unread.target
-    by_said (HeaderWord kind len serial mutator) says = stays cell now unread.target
-    by_said (ForwardWord len address) says = stays cell now unread.target
-    by_said (BusyWord len worker) says = stays cell now unread.target
-    by_said Malformed says = stays cell now unread.target
+    by_said _ says = stays cell now unread.target
 
     -- from a cell's target to its link
     passes_target : Goes (walk_at (LoadsTarget cell) now) (walk_at (LoadsLink cell) (with_target now cell.at)) 3

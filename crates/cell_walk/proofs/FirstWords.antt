@@ -4,7 +4,7 @@ use Rattle.std.specs.Result.{OkIff, result_ok}
 use Rattle.std.proofs.lemmas.Bool.Decides.{nat_tests}
 use Rattle.std.proofs.lemmas.Nat.{and_mask}
 use Rattle.heap_words.specs.declared.tag.Tag.TheVariants.{Forward}
-use Rattle.heap_words.specs.Decoded.{Decoded, NumberWord, PointerWord, HeaderWord, ForwardWord, BusyWord, Malformed, decode}
+use Rattle.heap_words.specs.Decoded.{Decoded, ForwardWord, decode}
 use Rattle.heap_words.specs.Word.{number_word, pointer_word, tag_spelled, tag_of, forward_word}
 use Rattle.heap_words.proofs.Spelling.{forward_word-decode}
 use Rattle.cell_walk.specs.Taken.{copy_in, replacement}
@@ -42,11 +42,7 @@ form_of w len address is = omega (arith, and_mask w 4)
 
 none : (w : ℕ) (d : Decoded) → decode w ≡ d → bit_and w 15 ≢ 3 → copy_in d ≡ None
 none w (ForwardWord len address) is other = absurd (other (form_of w len address (forward_word-decode w len address is)))
-none w (NumberWord n) is other = refl
-none w (PointerWord address) is other = refl
-none w (HeaderWord kind len serial mutator) is other = refl
-none w (BusyWord len worker) is other = refl
-none w Malformed is other = refl
+none w _ is other = refl
 
 pub copy_in-none : (w : ℕ) → bit_and w 15 ≢ 3 → copy_in (decode w) ≡ None
 copy_in-none w other = none w (decode w) refl other
@@ -55,16 +51,8 @@ copy_in-none w other = none w (decode w) refl other
 
 pub replacement-copy : (d : Decoded) (address : ℕ) → Some address ≡ copy_in d → replacement d ≡ pointer_word address
 replacement-copy (ForwardWord len a) address is = let same : a ≡ address = cc in ap pointer_word same
-replacement-copy (NumberWord n) address is = absurd (cc)
-replacement-copy (PointerWord a) address is = absurd (cc)
-replacement-copy (HeaderWord kind len serial mutator) address is = absurd (cc)
-replacement-copy (BusyWord len worker) address is = absurd (cc)
-replacement-copy Malformed address is = absurd (cc)
+replacement-copy _ address is = absurd (cc)
 
 pub replacement-none : (d : Decoded) → None ≡ copy_in d → replacement d ≡ number_word 0
 replacement-none (ForwardWord len a) is = absurd (cc)
-replacement-none (NumberWord n) is = refl
-replacement-none (PointerWord a) is = refl
-replacement-none (HeaderWord kind len serial mutator) is = refl
-replacement-none (BusyWord len worker) is = refl
-replacement-none Malformed is = refl
+replacement-none _ is = refl

@@ -30,14 +30,11 @@ IsCounted (LoadsLink cell) = 0 < cell.most
 IsCounted _ = Unit {0}
 
 pub counted : (l : Layout) (epoch : ℕ) (x : WalkStage) → FitsStage l epoch x → IsCounted x
-counted l epoch LoadsTurn fits = tt
-counted l epoch (TakesTurn found) fits = tt
-counted l epoch LoadsWeak fits = tt
 counted l epoch (LoadsTarget cell) fits = fits.some
 counted l epoch (LoadsTargetHeader cell old) fits = fits.0.some
 counted l epoch (StoresTarget cell word) fits = fits.0.some
 counted l epoch (LoadsLink cell) fits = fits.some
-counted l epoch (Ended end) fits = tt
+counted l epoch _ fits = tt
 
 module _ (l : Layout) (epoch : ℕ) where
   -- the next stage has fewer steps left, and is counted too
@@ -121,14 +118,8 @@ runs_down v met (suc n) some =
     (omega arith, next.1)
 
 is_over : (pages : ℕ) (x : WalkStage) → IsCounted x → left_at pages x ≤ 0 → (end : WalkEnd) × (told x ≡ Finished end)
-is_over n LoadsTurn some none = absurd (omega arith)
-is_over n (TakesTurn found) some none = absurd (omega arith)
-is_over n LoadsWeak some none = absurd (omega arith)
-is_over n (LoadsTarget cell) some none = absurd (omega arith)
-is_over n (LoadsTargetHeader cell old) some none = absurd (omega arith)
-is_over n (StoresTarget cell word) some none = absurd (omega arith)
-is_over n (LoadsLink cell) some none = absurd (omega arith)
 is_over n (Ended end) some none = (end, refl)
+is_over n _ some none = absurd (omega arith)
 
 pub ends_in_time : EndsInTime
 ends_in_time v met sound =

@@ -2,7 +2,7 @@
 use Rattle.std.proofs.Common.{◌≡◌, ℕ, ◌+◌, ◌-◌, ◌*◌, ◌<◌, inl, inr, refl, arith}
 use Rattle.atom_store.specs.declared.reply.Reply.{Reply}
 use Rattle.atom_store.specs.declared.reply.Reply.TheVariants.{Value, Done, Won, Lost}
-use Rattle.heap_words.specs.Decoded.{Decoded, NumberWord, PointerWord, HeaderWord, ForwardWord, BusyWord, Malformed, decode}
+use Rattle.heap_words.specs.Decoded.{Decoded, ForwardWord, decode}
 use Rattle.heap_words.proofs.Ranges.{forward_bounds}
 use Rattle.space_map.specs.Spaces.{Layout}
 use Rattle.cell_walk.specs.declared.linked_cell.LinkedCell.{LinkedCell}
@@ -16,11 +16,7 @@ use Rattle.cell_walk.proofs.Along.{of_along, of_target, of_turn}
 
 replaced_so : (w : ℕ) (d : Decoded) → decode w ≡ d → IsReplacement (replacement d)
 replaced_so w (ForwardWord len address) is = inr (address, (forward_bounds w len address is).1, refl)
-replaced_so w (NumberWord n) is = inl refl
-replaced_so w (PointerWord address) is = inl refl
-replaced_so w (HeaderWord kind len serial mutator) is = inl refl
-replaced_so w (BusyWord len worker) is = inl refl
-replaced_so w Malformed is = inl refl
+replaced_so w _ is = inl refl
 
 module _ (l : Layout) (epoch : ℕ) where
   -- it fits, where it is at no cell but one in the heap

@@ -2,7 +2,7 @@
 use Rattle.std.proofs.Common.{◌≡◌, ℕ, ◌+◌, ◌-◌, ◌⊎◌, inl, inr, refl, sym, ap, ◌∙◌, subst, arith}
 use Rattle.atom_store.specs.declared.reply.Reply.{Reply}
 use Rattle.atom_store.specs.declared.reply.Reply.TheVariants.{Value, Done, Won, Lost}
-use Rattle.heap_words.specs.Decoded.{Decoded, NumberWord, PointerWord, HeaderWord, ForwardWord, BusyWord, Malformed, decode}
+use Rattle.heap_words.specs.Decoded.{Decoded, ForwardWord, decode}
 use Rattle.heap_words.specs.FirstWords.{is_forward}
 use Rattle.cell_walk.specs.declared.linked_cell.LinkedCell.{LinkedCell}
 use Rattle.cell_walk.specs.declared.walk_stage.WalkStage.{WalkStage}
@@ -16,11 +16,7 @@ use Rattle.cell_walk.proofs.Along.{of_along, of_target, of_turn}
 
 replaced : (first : ℕ) (d : Decoded) → decode first ≡ d → IsReplacedBy first (replacement d)
 replaced first (ForwardWord len a) is = ByCopy len a is refl
-replaced first (NumberWord n) is = ByNothing (ap is_forward is) refl
-replaced first (PointerWord a) is = ByNothing (ap is_forward is) refl
-replaced first (HeaderWord kind len serial mutator) is = ByNothing (ap is_forward is) refl
-replaced first (BusyWord len worker) is = ByNothing (ap is_forward is) refl
-replaced first Malformed is = ByNothing (ap is_forward is) refl
+replaced first _ is = ByNothing (ap is_forward is) refl
 
 module _ (v : Walking) (cell : LinkedCell) (new : ℕ) where
   abbrev Replaces : WalkStage → Reply → WalkStage → Type 0

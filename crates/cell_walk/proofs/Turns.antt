@@ -48,9 +48,7 @@ late epoch found word =
 
 loses : (l : Layout) (epoch found word : ℕ) (r : Reply) → told (stage_after l epoch (TakesTurn found) r) ≡ Finished (Another word) → r ≡ reply.Lost word
 loses l epoch found word (reply.Lost lost) tells = let same : lost ≡ word = cc in ap reply.Lost same
-loses l epoch found word reply.Won tells = absurd (cc)
-loses l epoch found word (reply.Value value) tells = absurd (cc)
-loses l epoch found word reply.Done tells = absurd (cc)
+loses l epoch found word _ tells = absurd (cc)
 
 along_tells : (most link word : ℕ) → told (along most link) ≡ Finished (Another word) → ⊥
 along_tells most link word = of_along (λ z. told z ≡ Finished (Another word) → ⊥) most link (λ at is some tells. cc) (λ tells. cc)

@@ -7,7 +7,7 @@ use Rattle.std.proofs.lemmas.List.Elements.{Contains-append_right}
 use Rattle.std.proofs.lemmas.List.Sums.{sum_by-cons}
 use Rattle.std.proofs.lemmas.Option.{same_Some}
 use Rattle.heap_words.specs.Word.{tag_of}
-use Rattle.heap_words.specs.Decoded.{Decoded, NumberWord, PointerWord, HeaderWord, ForwardWord, BusyWord, Malformed, decode, pointer_in}
+use Rattle.heap_words.specs.Decoded.{Decoded, PointerWord, decode, pointer_in}
 use Rattle.record_layout.specs.declared.header.Header.{Header}
 use Rattle.record_layout.specs.Layout.{header_in}
 use Rattle.checkpoint_text.specs.declared.saved_record.SavedRecord.{SavedRecord}
@@ -19,11 +19,7 @@ use Rattle.checkpoint_text.proofs.Places.{beyond_is}
 -- a pointer, by the address that it has
 pub pointer_is : (d : Decoded) (address : ℕ) → pointer_in d ≡ Some address → d ≡ PointerWord address
 pointer_is (PointerWord b) address is = ap PointerWord (same_Some b address is)
-pointer_is (NumberWord n) address is = cc
-pointer_is (HeaderWord kind len serial mutator) address is = cc
-pointer_is (ForwardWord len b) address is = cc
-pointer_is (BusyWord len worker) address is = cc
-pointer_is Malformed address is = cc
+pointer_is _ address is = cc
 
 address_by : (a next : ℕ) (h : Option Header) (r : SavedRecord) → record_by a next h ≡ Some r → r.address ≡ a
 address_by a next (Some h) r is = ap (λ (s : SavedRecord). s.address) (sym (same_Some _ r is))

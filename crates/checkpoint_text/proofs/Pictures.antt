@@ -5,13 +5,13 @@ use Rattle.std.proofs.lemmas.List.{take_all, take_more}
 use Rattle.std.proofs.lemmas.Option.{get_or_from_slice_get, same_Some, slice_get-get_or}
 use Rattle.heap_words.specs.declared.word.TheConstants.{NUMBERS}
 use Rattle.heap_words.specs.Word.{number_word}
-use Rattle.heap_words.specs.Decoded.{Decoded, NumberWord, PointerWord, HeaderWord, ForwardWord, BusyWord, Malformed, decode, number_in, pointer_in}
+use Rattle.heap_words.specs.Decoded.{Decoded, NumberWord, PointerWord, HeaderWord, decode, number_in, pointer_in}
 use Rattle.heap_words.proofs.Decoding.{decode-number_word}
 use Rattle.record_layout.specs.declared.header.Header.{Header}
 use Rattle.record_layout.specs.Layout.{header_in}
 use Rattle.record_layout.proofs.Rereading.{header_in-said}
 use Rattle.plain_state.specs.declared.kind.Kind.{Kind}
-use Rattle.plain_state.specs.declared.kind.Kind.TheVariants.{Fields, Raw, Mixed, Weak}
+use Rattle.plain_state.specs.declared.kind.Kind.TheVariants.{Mixed, Weak}
 use Rattle.plain_state.specs.declared.value.Identity.{Identity}
 use Rattle.plain_state.specs.declared.value.Value.{Value}
 use Rattle.plain_state.specs.declared.value.Value.TheVariants.{Number, Reference}
@@ -97,10 +97,7 @@ all_values heap first fields vs each count e = values_are heap first fields vs c
 pub reference_is : (identity : ℕ → Identity) (d : Decoded) (i : Identity) → value_said identity d ≡ Some (Reference i) → (b : ℕ) × (d ≡ PointerWord b) × (identity b ≡ i)
 reference_is identity (NumberWord m) i is = absurd (let differ : Some (Number m) ≡ Some (Reference i) = is in cc)
 reference_is identity (PointerWord b) i is = (b, refl, let same : Some (Reference (identity b)) ≡ Some (Reference i) = is in cc)
-reference_is identity (HeaderWord kind len serial mutator) i is = absurd (let differ : None ≡ Some (Reference i) = is in cc)
-reference_is identity (ForwardWord len a) i is = absurd (let differ : None ≡ Some (Reference i) = is in cc)
-reference_is identity (BusyWord len worker) i is = absurd (let differ : None ≡ Some (Reference i) = is in cc)
-reference_is identity Malformed i is = absurd (let differ : None ≡ Some (Reference i) = is in cc)
+reference_is identity _ i is = absurd (let differ : None ≡ Some (Reference i) = is in cc)
 
 -- ---- a record
 
@@ -140,12 +137,10 @@ module _ (kept : Snapped) (p : Pictured kept) where
 
   -- word 1 says the count of fields, if the record is mixed
   count_is : (a : ℕ) (k : Kind) → 0 < p.frozen.size a → words_ahead k ≤ p.frozen.size a → CountShows k p.frozen.heap a → SaysCount k (p.heap (a + 1))
-  count_is a Fields some long shows = tt
-  count_is a Raw some long shows = tt
   count_is a (Mixed count) some long shows =
       let is : p.heap (a + 1) ≡ number_word count = word_is a 1 some (omega (arith, long)) ∙ shows in
       ap decode is ∙ decode-number_word count (count_below a count is)
-  count_is a Weak some long shows = tt
+  count_is a _ some long shows = tt
 
   same_identity : (h : Header) (i : Identity) → h.serial ≡ i.serial → h.mutator ≡ i.mutator → identity_by (Some h) ≡ i
   same_identity h i serial mutator = λ k. record { mutator = mutator k; serial = serial k }
@@ -211,10 +206,7 @@ module _ (kept : Snapped) (p : Pictured kept) where
   value_said_is : (d : Decoded) (v : Value) → value_said p.frozen.identity d ≡ Some v → ((b : ℕ) → d ≡ PointerWord b → 0 < p.frozen.size b) → value_by p.heap (pointer_in d) (number_in d) ≡ v
   value_said_is (NumberWord m) v is lands = same_Some (Number m) v is
   value_said_is (PointerWord b) v is lands = ap Reference (identity_is b (lands b refl)) ∙ same_Some (Reference (p.frozen.identity b)) v is
-  value_said_is (HeaderWord kind len serial mutator) v is lands = absurd (let differ : None ≡ Some v = is in cc)
-  value_said_is (ForwardWord len a) v is lands = absurd (let differ : None ≡ Some v = is in cc)
-  value_said_is (BusyWord len worker) v is lands = absurd (let differ : None ≡ Some v = is in cc)
-  value_said_is Malformed v is lands = absurd (let differ : None ≡ Some v = is in cc)
+  value_said_is _ v is lands = absurd (let differ : None ≡ Some v = is in cc)
 
   -- a field whose word denotes a value is read as that
   field_value_is : (y : ℕ) (v : Value) → p.heap y ≡ p.frozen.heap y → value_of p.frozen.identity (p.frozen.heap y) ≡ Some v → ((b : ℕ) → decode (p.frozen.heap y) ≡ PointerWord b → 0 < p.frozen.size b) → field_value p.heap y ≡ v

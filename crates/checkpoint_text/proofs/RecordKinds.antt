@@ -18,28 +18,20 @@ count_read : (count next : ℕ) → decode next ≡ NumberWord count → unwrap_
 count_read count next says = ap (λ d. unwrap_or (number_in d) 0) says
 
 pub kind_is : (k : Kind) (len next : ℕ) → SaysCount k next → kind_with (header_kind k) (fields_by (header_kind k) len next) ≡ k
-kind_is Fields len next says = refl
-kind_is Raw len next says = refl
 kind_is (Mixed count) len next says = ap Mixed (count_read count next says)
-kind_is Weak len next says = refl
+kind_is _ len next says = refl
 
 pub before_is : (k : Kind) → words_before (header_kind k) ≡ values_at k
 before_is Fields = refl
-before_is Raw = refl
-before_is (Mixed count) = refl
-before_is Weak = refl
+before_is _ = refl
 
 pub after_is : (k : Kind) → words_after (header_kind k) ≡ words_behind k
 after_is Fields = refl
-after_is Raw = refl
-after_is (Mixed count) = refl
-after_is Weak = refl
+after_is _ = refl
 
 pub some_before : (k : Kind) → 1 ≤ values_at k
 some_before Fields = omega arith
-some_before Raw = omega arith
-some_before (Mixed count) = omega arith
-some_before Weak = omega arith
+some_before _ = omega arith
 
 pub field_is : (k : Kind) (len next x : ℕ) → SaysCount k next → x < len → x < fields_by (header_kind k) len next → is_field k (word_of_value k x) ≡ true
 field_is Fields len next x says within front = refl
@@ -62,14 +54,10 @@ raw_is Weak len next x says one within behind = absurd (omega (arith, within, be
 
 -- a value that a word denotes, but that is in no field, is the target of a cell
 pub target_is : (k : Kind) (fields x : ℕ) → x < denoted_by (header_kind k) fields → fields ≤ x → (x ≡ 0) × (k ≡ Weak)
-target_is Fields fields x within behind = absurd (omega (arith, within, behind))
-target_is Raw fields x within behind = absurd (omega (arith, within, behind))
-target_is (Mixed count) fields x within behind = absurd (omega (arith, within, behind))
 target_is Weak fields x within behind = (omega (arith, within), refl)
+target_is _ fields x within behind = absurd (omega (arith, within, behind))
 
 -- a record has none if one of its words is a field
 pub no_target : (k : Kind) (fields i : ℕ) → is_field k i ≡ true → denoted_by (header_kind k) fields ≡ fields
-no_target Fields fields i field = refl
-no_target Raw fields i field = refl
-no_target (Mixed count) fields i field = refl
 no_target Weak fields i field = cc
+no_target _ fields i field = refl

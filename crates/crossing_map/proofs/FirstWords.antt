@@ -1,6 +1,6 @@
 -- What the code reads in a record's first word is what a walk meets there.
 use Rattle.std.proofs.Common.{◌≡◌, ℕ, ◌+◌, ◌^◌, ◌<◌, Some, None, refl, sym, ap, ◌∙◌}
-use Rattle.heap_words.specs.Decoded.{Decoded, NumberWord, PointerWord, HeaderWord, ForwardWord, BusyWord, Malformed, decode, encode}
+use Rattle.heap_words.specs.Decoded.{Decoded, HeaderWord, ForwardWord, BusyWord, decode, encode}
 use Rattle.heap_words.proofs.Decoding.{decode-header_word, decode-forward_word, decode-busy_word}
 use Rattle.record_layout.specs.declared.busy.Busy.{Busy}
 use Rattle.record_layout.specs.declared.header.Header.{Header}
@@ -27,15 +27,13 @@ met-busy w b in_range spelled =
 
 none_of : (w : ℕ) (d : Decoded) → decode w ≡ d → None ≡ header_in (decode w) → None ≡ forward_in (decode w) → None ≡ busy_in (decode w)
     → None ≡ size_met (met_word d)
-none_of w (NumberWord n) e no_header no_forward no_busy = refl
-none_of w (PointerWord a) e no_header no_forward no_busy = refl
 none_of w (HeaderWord kind len serial mutator) e no_header no_forward no_busy =
     let h = header_in-said w kind len serial mutator e in absurd (let z : None ≡ Some h.0 = no_header ∙ h.1 in cc)
 none_of w (ForwardWord len a) e no_header no_forward no_busy =
     let f = forward_in-said w len a e in absurd (let z : None ≡ Some f.0 = no_forward ∙ f.1 in cc)
 none_of w (BusyWord len worker) e no_header no_forward no_busy =
     let b = busy_in-said w len worker e in absurd (let z : None ≡ Some b.0 = no_busy ∙ b.1 in cc)
-none_of w Malformed e no_header no_forward no_busy = refl
+none_of w _ e no_header no_forward no_busy = refl
 
 pub met-none : (w : ℕ) → None ≡ header_in (decode w) → None ≡ forward_in (decode w) → None ≡ busy_in (decode w) → None ≡ size_met (met_word (decode w))
 met-none w no_header no_forward no_busy = none_of w (decode w) refl no_header no_forward no_busy
@@ -48,11 +46,7 @@ size_said-header w h spelled = ap size_said (decode-header w h spelled)
 no_size : (w : ℕ) (d : Decoded) → decode w ≡ d → None ≡ header_in (decode w) → size_said d ≡ 0
 no_size w (HeaderWord kind len serial mutator) e none =
     let h = header_in-said w kind len serial mutator e in absurd (let z : None ≡ Some h.0 = none ∙ h.1 in cc)
-no_size w (NumberWord n) e none = refl
-no_size w (PointerWord a) e none = refl
-no_size w (ForwardWord len a) e none = refl
-no_size w (BusyWord len worker) e none = refl
-no_size w Malformed e none = refl
+no_size w _ e none = refl
 
 pub size_said-none : (w : ℕ) → None ≡ header_in (decode w) → size_said (decode w) ≡ 0
 size_said-none w none = no_size w (decode w) refl none

@@ -3,7 +3,7 @@ use Rattle.std.proofs.Common.{◌≡◌, ◌≢◌, ℕ, zero, suc, ◌+◌, ◌
 use Rattle.std.specs.Prelude.{nat_le, nat_lt, ◌==◌, ⊤}
 use Rattle.std.proofs.lemmas.Bool.{cases_lt, lt-ltb, le-ltb, le-leb, lt-leb}
 use Rattle.std.proofs.lemmas.Bool.Decides.{nat_tests}
-use Rattle.heap_words.specs.Decoded.{Decoded, NumberWord, PointerWord, HeaderWord, ForwardWord, BusyWord, Malformed, decode}
+use Rattle.heap_words.specs.Decoded.{Decoded, NumberWord, PointerWord, HeaderWord, Malformed, decode}
 use Rattle.space_map.specs.Spaces.{page_of, first_word}
 use Rattle.heap_state.specs.Memory.Walk.{Met, AtEnd, Nothing, Reserved, Record, Broken, IsRead, ReadsAll, Walked, meets, met_word, next_place, walk, walked_at}
 use Rattle.heap_state.proofs.Walks.Walking.{walk_end, reads_end}
@@ -20,17 +20,13 @@ item at size = record { at = at; size = size }
 abbrev HasWords : Met → Type 0
 HasWords (Reserved size) = 0 < size
 HasWords (Record size) = 0 < size
-HasWords AtEnd = ⊤
-HasWords Nothing = ⊤
-HasWords Broken = ⊤
+HasWords _ = ⊤
 
 word_has : (d : Decoded) → HasWords (met_word d)
-word_has (HeaderWord kind len serial mutator) = omega arith
-word_has (BusyWord len worker) = omega arith
-word_has (ForwardWord len a) = omega arith
 word_has (NumberWord n) = tt
 word_has (PointerWord a) = tt
 word_has Malformed = tt
+word_has _ = omega arith
 
 has_if : (b : Bool) (x y : Met) → (b ≡ true → HasWords x) → (b ≡ false → HasWords y) → HasWords (if b then x else y)
 has_if true x y here there = here refl
@@ -54,10 +50,8 @@ module _ (passes : ℕ → Bool) (reserved heap : ℕ → ℕ) (end : ℕ) where
 
   goes_on : (at : ℕ) (m : Met) → HasWords m → at < end → at < next_place end at m
   goes_on at AtEnd has before = before
-  goes_on at Nothing has before = omega arith
-  goes_on at (Reserved size) has before = omega arith
-  goes_on at (Record size) has before = omega arith
   goes_on at Broken has before = before
+  goes_on at _ has before = omega arith
 
   pub later : (at : ℕ) → at < end → at < after at
   later at before = goes_on at (met at) (met_has at) before
@@ -170,12 +164,8 @@ module _ (passes : ℕ → Bool) (reserved heap : ℕ → ℕ) (end : ℕ) where
   ends_by n at Broken rest inside is = absurd (cc)
 
   word_met : (d : Decoded) → met_word d ≢ AtEnd
-  word_met (HeaderWord kind len serial mutator) e = cc
-  word_met (BusyWord len worker) e = cc
-  word_met (ForwardWord len a) e = cc
-  word_met (NumberWord n) e = cc
-  word_met (PointerWord a) e = cc
-  word_met Malformed e = cc
+  word_met (HeaderWord _ _ _ _) e = cc
+  word_met _ e = cc
 
   neither : (b : Bool) (x y : Met) → x ≢ AtEnd → y ≢ AtEnd → (if b then x else y) ≢ AtEnd
   neither true x y here there = here

@@ -1,7 +1,7 @@
 -- One step of a walk by what stands in the words of the table.
 use Rattle.std.proofs.Common.{◌≡◌, ◌≢◌, ℕ, ◌+◌, ◌-◌, ◌*◌, ◌/◌, ◌<◌, ◌≤◌, Bool, true, false, List, slice_index, refl, sym, ap, ◌∙◌, subst, ⊎_elim}
 use Rattle.std.proofs.lemmas.Bool.{lt-ltb, ne_eqb, cases_Bool}
-use Rattle.heap_words.specs.Decoded.{Decoded, NumberWord, PointerWord, HeaderWord, ForwardWord, BusyWord, Malformed, decode}
+use Rattle.heap_words.specs.Decoded.{Decoded, HeaderWord, decode}
 use Rattle.space_map.specs.Table.{HeapWord, Page, Cross, place_of}
 use Rattle.heap_state.specs.Memory.Table.{page_word_in, table_of}
 use Rattle.heap_state.specs.Memory.Walk.{Met, Nothing, Reserved, meets, met_word, next_place}
@@ -32,12 +32,8 @@ cross-word n words p place inside is = word_in-row n words (Cross p) inside ∙ 
 -- ---- a step
 
 same_behind : (end at : ℕ) (d : Decoded) (behind : Next) → next_at end at (met_word d) behind ≡ next_at end at (met_word d) next.Ended
-same_behind end at (HeaderWord kind len serial mutator) behind = refl
-same_behind end at (BusyWord len worker) behind = refl
-same_behind end at (ForwardWord len a) behind = refl
-same_behind end at (NumberWord n) behind = refl
-same_behind end at (PointerWord a) behind = refl
-same_behind end at Malformed behind = refl
+same_behind end at (HeaderWord _ _ _ _) behind = refl
+same_behind end at _ behind = refl
 
 module _ (passes : ℕ → Bool) (reserved heap : ℕ → ℕ) (end at : ℕ) (before : at < end) where
   by_met : (m : Met) → meets passes reserved heap end at ≡ m

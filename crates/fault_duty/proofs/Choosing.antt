@@ -66,9 +66,8 @@ at_gate_never d loaded (Some g) c is = gate_never d d.caller loaded g c is
 at_gate_never d loaded None c is = cc
 
 first_never : (caller : Caller) (found : Findings) (c : Claiming) → Duty.first_look caller found ≡ Claims c → ⊥
-first_never (Faulted page) found c is = cc
-first_never Allocates found c is = cc
-first_never (Scans mutators) found c is = cc
+first_never (Faulted _) found c is = cc
+first_never _ found c is = cc
 
 traced_never : (d : Round) (hindrance : Option ℕ) (loaded : ℕ) (c : Claiming) → Duty.looked_at_traced d hindrance loaded ≡ Claims c → ⊥
 traced_never d hindrance loaded c is = by_test (nat_eq loaded (d.epoch + 1)) is
@@ -124,9 +123,7 @@ end_page_never d look page loaded c is = by_test (nat_eq loaded (encode_page (pa
 
 filling_by_never : (look : EndLook) (loaded : ℕ) (says : PageWord) (state : PageState) (c : Claiming) → Duty.filling_by look loaded says state ≡ Claims c → ⊥
 filling_by_never look loaded says Scanned c is = cc
-filling_by_never look loaded says Opened c is = cc
-filling_by_never look loaded says Waits c is = cc
-filling_by_never look loaded says Past c is = cc
+filling_by_never look loaded says _ c is = cc
 
 filling_never : (d : Round) (look : EndLook) (loaded : ℕ) (o : Option PageWord) (c : Claiming) → Duty.looked_at_filling d look loaded o ≡ Claims c → ⊥
 filling_never d look loaded (Some says) c is = filling_by_never look loaded says (Duty.state_of says d.epoch) c is
@@ -156,9 +153,7 @@ same_claim a b same = cc
 claimed_is : (d : Round) (page : ℕ) (says : PageWord) (in_place : Bool) (state : PageState) (c : Claiming) → Duty.claim_by_state d page says in_place state ≡ Claims c
     → c ≡ begun d.layout page d.epoch d.worker says in_place
 claimed_is d page says in_place Waits c is = same_claim (begun d.layout page d.epoch d.worker says in_place) c is
-claimed_is d page says in_place Past c is = cc
-claimed_is d page says in_place Opened c is = cc
-claimed_is d page says in_place Scanned c is = cc
+claimed_is d page says in_place _ c is = cc
 
 one_is : (d : Round) (found : Findings) (w : WantedPage) (c : Claiming) → Duty.wanted_one d found w ≡ Claims c
     → (w.page ≡ board_page d.layout.pages) × (c ≡ begun d.layout w.page d.epoch d.worker w.says false)
@@ -221,10 +216,8 @@ chosen d choice page loaded None c is = cc
 
 ends_is : (d : Round) (look : EndLook) (filling : PageWord) (state : PageState) (c : Claiming) → Duty.ends_by d look filling state ≡ Claims c
     → c ≡ begun d.layout (page_of look.front) d.epoch d.worker filling true
-ends_is d look filling Opened c is = cc
 ends_is d look filling Waits c is = same_claim (begun d.layout (page_of look.front) d.epoch d.worker filling true) c is
-ends_is d look filling Past c is = cc
-ends_is d look filling Scanned c is = cc
+ends_is d look filling _ c is = cc
 
 claims_filling : (d : Round) (look : EndLook) (filling : PageWord) (words : List ℕ) (o : Option AreaWord) (c : Claiming)
     → decode_area (word_of_row d (Area (to_space d.epoch)) words) ≡ o

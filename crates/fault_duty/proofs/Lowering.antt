@@ -65,9 +65,8 @@ by_gate d word (Some gate) t = by_caller d d.caller word gate
 by_gate d word None t = cc
 
 first_look-le : (d : Round) (caller : Caller) (seen : Findings) → left_at d (Duty.first_look caller seen) ≤ 2 * d.layout.pages + (claim.longest + 4) + Duty.walk_left d
-first_look-le d (Faulted page) seen = omega arith
-first_look-le d Allocates seen = omega arith
-first_look-le d (Scans mutators) seen = omega arith
+first_look-le d (Faulted _) seen = omega arith
+first_look-le d _ seen = omega arith
 
 by_traced : (d : Round) (hindrance : Option ℕ) (word : ℕ) → left_at d (Duty.looked_at_traced d hindrance word) < 2 * d.layout.pages + (claim.longest + 5) + Duty.walk_left d
 by_traced d hindrance word =
@@ -81,9 +80,7 @@ first_stage-le n page false = by_test (λ s. claim.left_at s ≤ claim.longest) 
 
 claimed_by-le : (d : Round) (page : ℕ) (says : PageWord) (in_place : Bool) (state : PageState) → left_at d (Duty.claim_by_state d page says in_place state) ≤ claim.longest
 claimed_by-le d page says in_place Waits = first_stage-le d.layout.pages page in_place
-claimed_by-le d page says in_place Past = omega arith
-claimed_by-le d page says in_place Opened = omega arith
-claimed_by-le d page says in_place Scanned = omega arith
+claimed_by-le d page says in_place _ = omega arith
 
 wanted_one-le : (d : Round) (seen : Findings) (w : WantedPage) → left_at d (Duty.wanted_one d seen w) ≤ 2 * d.layout.pages + (claim.longest + 3) + Duty.walk_left d
 wanted_one-le d seen w =
@@ -235,9 +232,7 @@ by_end_page d look page word few fits =
 
 by_filling_state : (d : Round) (look : EndLook) (word : ℕ) (says : PageWord) (state : PageState) → left_at d (Duty.filling_by look word says state) < 3 + Duty.walk_left d
 by_filling_state d look word says Scanned = omega arith
-by_filling_state d look word says Opened = omega arith
-by_filling_state d look word says Waits = omega arith
-by_filling_state d look word says Past = omega arith
+by_filling_state d look word says _ = omega arith
 
 by_filling : (d : Round) (look : EndLook) (word : ℕ) (o : Option PageWord) → IsTrue (is_some o) → left_at d (Duty.looked_at_filling d look word o) < 3 + Duty.walk_left d
 by_filling d look word (Some says) t = by_filling_state d look word says (Duty.state_of says d.epoch)
@@ -245,9 +240,7 @@ by_filling d look word None t = cc
 
 by_end_state : (d : Round) (look : EndLook) (filling : PageWord) (state : PageState) → left_at d (Duty.ends_by d look filling state) < 2 + Duty.walk_left d
 by_end_state d look filling Opened = omega arith
-by_end_state d look filling Waits = omega arith
-by_end_state d look filling Past = omega arith
-by_end_state d look filling Scanned = omega arith
+by_end_state d look filling _ = omega arith
 
 by_end_area_again : (d : Round) (look : EndLook) (filling : PageWord) (word : ℕ) (o : Option AreaWord) → IsTrue (is_some o)
     → left_at d (Duty.ended_area_again d look filling word o) < 2 + Duty.walk_left d

@@ -154,9 +154,8 @@ left_told d mutators loaded g caller is left =
 -- ---- TRACED
 
 first_never : (caller : Caller) (found : Findings) (result : RoundEnd) → told_at (Duty.first_look caller found) ≡ Finished result → ⊥
-first_never (Faulted page) found result e = cc
-first_never Allocates found result e = cc
-first_never (Scans mutators) found result e = cc
+first_never (Faulted _) found result e = cc
+first_never _ found result e = cc
 
 pub traced_ends : (d : Round) (hindrance : Option ℕ) (loaded : ℕ) (result : RoundEnd) → told_at (Duty.looked_at_traced d hindrance loaded) ≡ Finished result
     → (loaded ≡ d.epoch + 1) × (result ≡ Traced)
@@ -174,9 +173,7 @@ traced_ends d hindrance loaded result tells = by_test (nat_eq loaded (d.epoch + 
 pub claimed_ends : (d : Round) (page : ℕ) (says : PageWord) (in_place : Bool) (state : PageState) (result : RoundEnd)
     → told_at (Duty.claim_by_state d page says in_place state) ≡ Finished result → (result ≡ NothingNow (encode_page says)) × (state ≢ Waits)
 claimed_ends d page says in_place Waits result e = cc
-claimed_ends d page says in_place Past result e = (cc, λ x. cc)
-claimed_ends d page says in_place Opened result e = (cc, λ x. cc)
-claimed_ends d page says in_place Scanned result e = (cc, λ x. cc)
+claimed_ends d page says in_place _ result e = (cc, λ x. cc)
 
 -- the wanted page is served
 pub record WantedEnds (d : Round) (page loaded : ℕ) (result : RoundEnd) (o : Option PageWord) : Type 0 where
@@ -364,9 +361,7 @@ filling_state_ends : (d : Round) (look : EndLook) (loaded : ℕ) (says : PageWor
     → told_at (Duty.filling_by look loaded says state) ≡ Finished result → FillingEnds d loaded result (Some says)
 filling_state_ends d look loaded says Scanned result is e =
     let scans = (says_state says d.epoch).scanned is in record { worker = scans.0; is = ap Some scans.1; told_is = cc }
-filling_state_ends d look loaded says Opened result is e = cc
-filling_state_ends d look loaded says Waits result is e = cc
-filling_state_ends d look loaded says Past result is e = cc
+filling_state_ends d look loaded says _ result is e = cc
 
 pub filling_ends : (d : Round) (look : EndLook) (loaded : ℕ) (result : RoundEnd) (o : Option PageWord)
     → told_at (Duty.looked_at_filling d look loaded o) ≡ Finished result → FillingEnds d loaded result o

@@ -78,15 +78,11 @@ lost_on n row old new word before after makes lost =
 
 trace_loses : (d : Round) (traced : ℕ) (r : Reply) (word : ℕ) → told (taken_at (at_stage d (Traces traced)) (Traces traced) r) ≡ Finished (NothingNow word) → r ≡ reply.Lost word
 trace_loses d traced (reply.Lost lost) word e = let same : lost ≡ word = cc in ap reply.Lost same
-trace_loses d traced reply.Won word e = cc
-trace_loses d traced (reply.Value value) word e = cc
-trace_loses d traced reply.Done word e = cc
+trace_loses d traced _ word e = cc
 
 trace_wins : (d : Round) (traced : ℕ) (r : Reply) → told (taken_at (at_stage d (Traces traced)) (Traces traced) r) ≡ Finished Marked → r ≡ reply.Won
 trace_wins d traced reply.Won e = refl
-trace_wins d traced (reply.Lost lost) e = cc
-trace_wins d traced (reply.Value value) e = cc
-trace_wins d traced reply.Done e = cc
+trace_wins d traced _ e = cc
 
 -- ---- the claim's step is the round's
 
@@ -311,17 +307,7 @@ last_alone LoadsGate result other is = neither result other is
 last_alone (Claims c) result other is = tt
 last_alone (Traces traced) result other is = tt
 last_alone (LoadsTraced hindrance) result other is = other.not_traced is
-last_alone (LoadsWanted found page) result other is = other.not_nothing is.0 is.1
-last_alone (LoadsFrontFor found w) result other is = other.not_nothing is.0 is.1
-last_alone (LoadsFront found) result other is = other.not_nothing is.0 is.1
-last_alone (LoadsPage choice page) result other is = other.not_nothing is.0 is.1
-last_alone (EndGate traced) result other is = other.not_nothing is.0 is.1
-last_alone (EndArea traced) result other is = other.not_nothing is.0 is.1
-last_alone (EndPage look page) result other is = other.not_nothing is.0 is.1
-last_alone (EndFilling look) result other is = other.not_nothing is.0 is.1
-last_alone (EndAreaAgain look filling) result other is = other.not_nothing is.0 is.1
-last_alone (Walks traced v) result other is = other.not_nothing is.0 is.1
-last_alone (Ended result') result other is = other.not_nothing is.0 is.1
+last_alone _ result other is = other.not_nothing is.0 is.1
 
 marked_other : IsOther Marked
 marked_other = record { not_nothing = λ word e. cc; not_traced = λ e. cc; not_left = λ word e. cc }
@@ -351,12 +337,9 @@ marks d stage before after sound whole acts =
 -- ---- claimed
 
 trace_never_claims : (d : Round) (traced : ℕ) (r : Reply) (in_place : Bool) (page : ℕ) → told (taken_at (at_stage d (Traces traced)) (Traces traced) r) ≡ Finished (claimed_page in_place page) → ⊥
+trace_never_claims d traced (reply.Lost _) true page e = cc
 trace_never_claims d traced reply.Won true page e = cc
-trace_never_claims d traced reply.Won false page e = cc
-trace_never_claims d traced (reply.Lost lost) true page e = cc
-trace_never_claims d traced (reply.Lost lost) false page e = cc
-trace_never_claims d traced (reply.Value value) in_place page e = cc
-trace_never_claims d traced reply.Done in_place page e = cc
+trace_never_claims d traced _ _ page e = cc
 
 claims_by : (d : Round) (stage : DutyStage) (before after : List ℕ) (in_place : Bool) (page : ℕ) → IsLast stage → IsSoundRound (at_stage d stage) → HoldsTable d.layout.pages before
     → MakesStep duty_machine (at_stage d stage) before after (Finished (claimed_page in_place page)) → ClaimsPage (at_stage d stage) page in_place before after
@@ -391,9 +374,7 @@ gate_never_traced (inr is) = let e = is.1 in cc
 
 trace_never_traced : (d : Round) (traced : ℕ) (r : Reply) → told (taken_at (at_stage d (Traces traced)) (Traces traced) r) ≡ Finished round_end.Traced → ⊥
 trace_never_traced d traced reply.Won e = cc
-trace_never_traced d traced (reply.Lost lost) e = cc
-trace_never_traced d traced (reply.Value value) e = cc
-trace_never_traced d traced reply.Done e = cc
+trace_never_traced d traced _ e = cc
 
 pub sees_traced : (d : Round) (stage : DutyStage) (before after : List ℕ) → MakesStep duty_machine (at_stage d stage) before after (Finished round_end.Traced)
     → SeesTraced (at_stage d stage) before after
@@ -424,9 +405,7 @@ no_left word is = let e = is.1 in cc
 
 trace_never_left : (d : Round) (traced : ℕ) (r : Reply) (word : ℕ) → told (taken_at (at_stage d (Traces traced)) (Traces traced) r) ≡ Finished (AllLeft word) → ⊥
 trace_never_left d traced reply.Won word e = cc
-trace_never_left d traced (reply.Lost lost) word e = cc
-trace_never_left d traced (reply.Value value) word e = cc
-trace_never_left d traced reply.Done word e = cc
+trace_never_left d traced _ word e = cc
 
 pub sees_left : (d : Round) (stage : DutyStage) (before after : List ℕ) (word : ℕ) → MakesStep duty_machine (at_stage d stage) before after (Finished (AllLeft word))
     → SeesAllLeft (at_stage d stage) before after word

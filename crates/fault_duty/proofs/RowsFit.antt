@@ -9,7 +9,7 @@ use Rattle.page_slots.proofs.RowsFit.{claim_rows_fit, claim_writes}
 use Rattle.cell_walk.specs.Walking as walk
 use Rattle.cell_walk.proofs.RowsFit as walk_rows
 use Rattle.fault_duty.specs.declared.duty_stage.DutyStage.{DutyStage}
-use Rattle.fault_duty.specs.declared.duty_stage.DutyStage.TheVariants.{LoadsGate, LoadsTraced, LoadsWanted, LoadsFrontFor, LoadsFront, LoadsPage, Claims, EndGate, EndArea, EndPage, EndFilling, EndAreaAgain, Walks, Traces, Ended}
+use Rattle.fault_duty.specs.declared.duty_stage.DutyStage.TheVariants.{LoadsWanted, LoadsFrontFor, LoadsFront, LoadsPage, Claims, EndArea, EndPage, EndFilling, EndAreaAgain, Walks, Traces, Ended}
 use Rattle.fault_duty.specs.Duty.{Round, wanted_at, wants_at}
 use Rattle.fault_duty.specs.Soundness.{FitsCaller, FitsDutyStage, IsRoundGoing}
 use Rattle.fault_duty.proofs.Lowering.{to_start-le}
@@ -21,15 +21,12 @@ by_rows d (Walks traced v) fits = ap (λ (l : Layout). option_map (step_at (plac
 by_rows d stage fits = refl
 
 pub rows_fit : (d : Round) (stage : DutyStage) → FitsDutyStage d stage → FitsCaller d.layout.pages d.caller → IsRoundGoing stage → IsOn (IsRow d.layout.pages) (wants_at d stage)
-rows_fit d LoadsGate fits caller going = tt
-rows_fit d (LoadsTraced hindrance) fits caller going = tt
 rows_fit d (LoadsWanted seen page) fits caller going = subst (FitsCaller d.layout.pages) fits.1 caller
 rows_fit d (LoadsFrontFor seen wanted) fits caller going = omega arith
 rows_fit d (LoadsFront seen) fits caller going = omega arith
 rows_fit d (LoadsPage choice page) fits caller going = fits.1.in_table
 rows_fit d (Claims c) fits caller going =
     subst (λ (l : Layout). IsOn (IsRow l.pages) (claim.wants_at c c.stage)) fits.layout (claim_rows_fit c c.stage fits.sound.stage fits.sound.page fits.going)
-rows_fit d (EndGate traced) fits caller going = tt
 rows_fit d (EndArea traced) fits caller going = omega arith
 rows_fit d (EndPage look page) fits caller going = fits.1.in_table
 rows_fit d (EndFilling look) fits caller going = let high = fits.1.high in let start = to_start-le d in omega (arith, high, start)
@@ -37,8 +34,8 @@ rows_fit d (EndAreaAgain look filling) fits caller going = omega arith
 rows_fit d (Walks traced v) fits caller going =
     let own = fits.1 in
     subst (λ (l : Layout). IsOn (IsRow l.pages) (walk.wants_at v.epoch v.stage)) own.layout (walk_rows.rows_fit v.layout v.epoch v.stage own.sound.fits own.going)
-rows_fit d (Traces traced) fits caller going = tt
 rows_fit d (Ended result) fits caller going = going
+rows_fit d _ fits caller going = tt
 
 pub writes : (Q : Row → Type 0) → Q Traced → Q WeakTurn → ((page : ℕ) → Q (Page page)) → ((addr : ℕ) → Q (HeapWord addr)) → (d : Round) (stage : DutyStage)
     → WritesOnly Q (wants_at d stage)

@@ -80,9 +80,8 @@ by_gate d word (Some gate) = by_caller d d.caller word gate
 by_gate d word None = tt
 
 first_look : (caller : Caller) (seen : Findings) → IsTurnless (Duty.first_look caller seen)
-first_look (Faulted page) seen = tt
-first_look Allocates seen = tt
-first_look (Scans mutators) seen = tt
+first_look (Faulted _) seen = tt
+first_look _ seen = tt
 
 by_traced : (d : Round) (hindrance : Option ℕ) (word : ℕ) → IsTurnless (Duty.looked_at_traced d hindrance word)
 by_traced d hindrance word =
@@ -90,9 +89,7 @@ by_traced d hindrance word =
 
 claimed : (d : Round) (page : ℕ) (says : PageWord) (in_place : Bool) (state : PageState) → IsTurnless (Duty.claim_by_state d page says in_place state)
 claimed d page says in_place Waits = tt
-claimed d page says in_place Past = tt
-claimed d page says in_place Opened = tt
-claimed d page says in_place Scanned = tt
+claimed d page says in_place _ = tt
 
 wanted_one : (d : Round) (seen : Findings) (w : WantedPage) → IsTurnless (Duty.wanted_one d seen w)
 wanted_one d seen w =
@@ -170,9 +167,7 @@ by_end_page d look page word =
 
 by_filling_state : (look : EndLook) (word : ℕ) (says : PageWord) (state : PageState) → IsTurnless (Duty.filling_by look word says state)
 by_filling_state look word says Scanned = tt
-by_filling_state look word says Opened = tt
-by_filling_state look word says Waits = tt
-by_filling_state look word says Past = tt
+by_filling_state look word says _ = tt
 
 by_filling : (d : Round) (look : EndLook) (word : ℕ) (o : Option PageWord) → IsTurnless (Duty.looked_at_filling d look word o)
 by_filling d look word (Some says) = by_filling_state look word says (Duty.state_of says d.epoch)
@@ -180,9 +175,7 @@ by_filling d look word None = tt
 
 by_end_state : (d : Round) (look : EndLook) (filling : PageWord) (state : PageState) → IsTurnless (Duty.ends_by d look filling state)
 by_end_state d look filling Opened = λ has. has
-by_end_state d look filling Waits = tt
-by_end_state d look filling Past = tt
-by_end_state d look filling Scanned = tt
+by_end_state d look filling _ = tt
 
 by_end_area_again : (d : Round) (look : EndLook) (filling : PageWord) (word : ℕ) (o : Option AreaWord) → IsTurnless (Duty.ended_area_again d look filling word o)
 by_end_area_again d look filling word (Some area) =

@@ -6,7 +6,7 @@ use Rattle.atom_store.specs.declared.reply.Reply.TheVariants.{Value, Done, Won, 
 use Rattle.atom_store.specs.declared.step.Step.TheVariants.{Load, Store}
 use Rattle.space_map.specs.Table.{HeapWord, WeakHead}
 use Rattle.forwarding.specs.declared.evac_stage.EvacStage.{EvacStage}
-use Rattle.forwarding.specs.declared.evac_stage.EvacStage.TheVariants.{LoadsHeader, TakesHeader, LoadsArea, Announces, Reserves, StoresHeader, LoadsWord, StoresWord, StoresCross, StoresForward, LoadsWeak, StoresLink, TakesWeak, Clears, Ended}
+use Rattle.forwarding.specs.declared.evac_stage.EvacStage.TheVariants.{StoresHeader, LoadsWord, StoresWord, StoresCross, StoresForward, LoadsWeak, StoresLink, TakesWeak, Clears}
 use Rattle.forwarding.specs.declared.reserved.Reserved.{Reserved}
 use Rattle.forwarding.specs.Evacuation.{Evacuation, is_cell, link_of, wanted_at}
 use Rattle.forwarding.specs.Taken.{taken}
@@ -27,16 +27,7 @@ before r (LoadsWord of i) copies behind = behind
 before r (StoresWord of w) copies behind = behind
 before r (StoresCross of page) copies behind = behind
 before r (StoresForward of) copies behind = behind
-before r LoadsHeader copies behind = copies
-before r (TakesHeader kept) copies behind = copies
-before r (LoadsArea kept) copies behind = copies
-before r (Announces kept area) copies behind = copies
-before r (Reserves kept area) copies behind = copies
-before r (LoadsWeak to) copies behind = copies
-before r (StoresLink to head) copies behind = copies
-before r (TakesWeak to head) copies behind = copies
-before r (Clears to) copies behind = copies
-before r (Ended to) copies behind = copies
+before r _ copies behind = copies
 
 -- what holds of each way from the store of the forward on
 record OfWaysBehind (P : EvacStage → Reply → EvacStage → Type 0) : Type 0 where

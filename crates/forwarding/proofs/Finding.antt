@@ -3,7 +3,7 @@ use Rattle.std.proofs.Common.{◌≡◌, ℕ, ◌+◌, Some, refl, sym, ap, ◌�
 use Rattle.atom_store.specs.declared.reply.Reply.{Reply}
 use Rattle.atom_store.specs.declared.reply.Reply.TheVariants.{Value, Done, Won}
 use Rattle.atom_store.specs.declared.turn.Turn.TheVariants.{More, Finished}
-use Rattle.heap_words.specs.Decoded.{Decoded, NumberWord, PointerWord, HeaderWord, ForwardWord, BusyWord, Malformed, decode}
+use Rattle.heap_words.specs.Decoded.{Decoded, HeaderWord, ForwardWord, decode}
 use Rattle.space_map.specs.declared.area_word.AreaWord.{AreaWord}
 use Rattle.heap_words.specs.Word.{busy_word}
 use Rattle.space_map.specs.AreaWord.{encode_area}
@@ -11,7 +11,7 @@ use Rattle.space_map.specs.Spaces.{to_space}
 use Rattle.space_map.specs.Table.{Area, HeapWord, Announce}
 use Rattle.atom_store.specs.declared.step.Step.TheVariants.{Store, Exchange}
 use Rattle.forwarding.specs.declared.evac_stage.EvacStage.{EvacStage}
-use Rattle.forwarding.specs.declared.evac_stage.EvacStage.TheVariants.{LoadsHeader, TakesHeader, LoadsArea, Announces, Reserves, StoresHeader, LoadsWord, StoresWord, StoresCross, StoresForward, LoadsWeak, StoresLink, TakesWeak, Clears, Ended}
+use Rattle.forwarding.specs.declared.evac_stage.EvacStage.TheVariants.{LoadsHeader, TakesHeader, Announces, Reserves, StoresHeader, LoadsWord, StoresWord, StoresCross, StoresForward, Clears, Ended}
 use Rattle.forwarding.specs.declared.kept_header.KeptHeader.{KeptHeader}
 use Rattle.forwarding.specs.declared.to.To.{To}
 use Rattle.forwarding.specs.Evacuation.{IsGoing, area_past, front_of, size_of, wanted_at}
@@ -31,11 +31,7 @@ address_told More = 0
 tells : (w to : ℕ) (d : Decoded) → told (by_first_word w d) ≡ Finished (record { 0 = to }) → (len : ℕ) × (d ≡ ForwardWord len to)
 unfolding address_told
 tells w to (ForwardWord len a) is = (len, ap (λ t. ForwardWord len (address_told t)) is)
-tells w to (HeaderWord kind len serial mutator) is = absurd (cc)
-tells w to (NumberWord n) is = absurd (cc)
-tells w to (PointerWord a) is = absurd (cc)
-tells w to (BusyWord len worker) is = absurd (cc)
-tells w to Malformed is = absurd (cc)
+tells w to _ is = absurd (cc)
 
 pub follows_forwards : FollowsForwards
 follows_forwards v word to begins =
@@ -111,16 +107,7 @@ header_kept-copying r (LoadsWord of i) is = ap (λ (z : Reserved). Some z.kept) 
 header_kept-copying r (StoresWord of w) is = ap (λ (z : Reserved). Some z.kept) is
 header_kept-copying r (StoresCross of page) is = ap (λ (z : Reserved). Some z.kept) is
 header_kept-copying r (StoresForward of) is = ap (λ (z : Reserved). Some z.kept) is
-header_kept-copying r LoadsHeader is = absurd is
-header_kept-copying r (TakesHeader kept) is = absurd is
-header_kept-copying r (LoadsArea kept) is = absurd is
-header_kept-copying r (Announces kept area) is = absurd is
-header_kept-copying r (Reserves kept area) is = absurd is
-header_kept-copying r (LoadsWeak to) is = absurd is
-header_kept-copying r (StoresLink to head) is = absurd is
-header_kept-copying r (TakesWeak to head) is = absurd is
-header_kept-copying r (Clears to) is = absurd is
-header_kept-copying r (Ended to) is = absurd is
+header_kept-copying r _ is = absurd is
 
 address_reserved-copying : (r : Reserved) (x : EvacStage) → IsBeingCopied r x → address_reserved x ≡ Some r.to
 address_reserved-copying r (StoresHeader of) is = ap (λ (z : Reserved). Some z.to) is
@@ -128,16 +115,7 @@ address_reserved-copying r (LoadsWord of i) is = ap (λ (z : Reserved). Some z.t
 address_reserved-copying r (StoresWord of w) is = ap (λ (z : Reserved). Some z.to) is
 address_reserved-copying r (StoresCross of page) is = ap (λ (z : Reserved). Some z.to) is
 address_reserved-copying r (StoresForward of) is = ap (λ (z : Reserved). Some z.to) is
-address_reserved-copying r LoadsHeader is = absurd is
-address_reserved-copying r (TakesHeader kept) is = absurd is
-address_reserved-copying r (LoadsArea kept) is = absurd is
-address_reserved-copying r (Announces kept area) is = absurd is
-address_reserved-copying r (Reserves kept area) is = absurd is
-address_reserved-copying r (LoadsWeak to) is = absurd is
-address_reserved-copying r (StoresLink to head) is = absurd is
-address_reserved-copying r (TakesWeak to head) is = absurd is
-address_reserved-copying r (Clears to) is = absurd is
-address_reserved-copying r (Ended to) is = absurd is
+address_reserved-copying r _ is = absurd is
 
 pub takes_by_exchange : TakesByExchange
 takes_by_exchange v reply kept =

@@ -1,6 +1,6 @@
 -- What the code reads in an old record's first word is what the machine makes of it.
 use Rattle.std.proofs.Common.{◌≡◌, ℕ, ◌^◌, ◌<◌, Some, None, refl, sym, ap, ◌∙◌}
-use Rattle.heap_words.specs.Decoded.{Decoded, NumberWord, PointerWord, HeaderWord, ForwardWord, BusyWord, Malformed, decode, encode}
+use Rattle.heap_words.specs.Decoded.{Decoded, HeaderWord, ForwardWord, decode, encode}
 use Rattle.heap_words.proofs.Decoding.{decode-header_word, decode-forward_word}
 use Rattle.record_layout.specs.declared.header.Header.{Header}
 use Rattle.record_layout.specs.declared.forward.Forward.{Forward}
@@ -19,14 +19,11 @@ by_first_word-header w h spelled =
 
 neither : (w : ℕ) (d : Decoded) → decode w ≡ d → header_in (decode w) ≡ None → forward_in (decode w) ≡ None
     → by_first_word w d ≡ LoadsHeader
-neither w (NumberWord n) e no_header no_forward = refl
-neither w (PointerWord address) e no_header no_forward = refl
 neither w (HeaderWord kind len serial mutator) e no_header no_forward =
     let h = header_in-said w kind len serial mutator e in absurd (let z : None ≡ Some h.0 = sym no_header ∙ h.1 in cc)
 neither w (ForwardWord len address) e no_header no_forward =
     let f = forward_in-said w len address e in absurd (let z : None ≡ Some f.0 = sym no_forward ∙ f.1 in cc)
-neither w (BusyWord len worker) e no_header no_forward = refl
-neither w Malformed e no_header no_forward = refl
+neither w _ e no_header no_forward = refl
 
 pub by_first_word-neither : (w : ℕ) → None ≡ header_in (decode w) → None ≡ forward_in (decode w) → by_first_word w (decode w) ≡ LoadsHeader
 by_first_word-neither w no_header no_forward = neither w (decode w) refl (sym no_header) (sym no_forward)

@@ -5,7 +5,7 @@ use Rattle.std.proofs.lemmas.Bool.{eqb-true}
 use Rattle.atom_store.specs.declared.reply.Reply.{Reply}
 use Rattle.atom_store.specs.declared.reply.Reply.TheVariants.{Value, Done, Won, Lost}
 use Rattle.heap_words.specs.declared.kind.Kind.{Kind}
-use Rattle.heap_words.specs.Decoded.{Decoded, NumberWord, PointerWord, HeaderWord, ForwardWord, BusyWord, Malformed, decode}
+use Rattle.heap_words.specs.Decoded.{Decoded, HeaderWord, ForwardWord, decode}
 use Rattle.space_map.specs.declared.area_word.AreaWord.{AreaWord}
 use Rattle.space_map.specs.AreaWord.{decode_area}
 use Rattle.space_map.specs.Spaces.{Layout, first_word}
@@ -27,10 +27,7 @@ module _ (P : EvacStage → Type 0) where
       → P LoadsHeader → P (by_first_word w d)
   of_word w (ForwardWord len to) forward header other = forward len to refl
   of_word w (HeaderWord kind len serial mutator) forward header other = header kind len serial mutator refl
-  of_word w (NumberWord n) forward header other = other
-  of_word w (PointerWord a) forward header other = other
-  of_word w (BusyWord len worker) forward header other = other
-  of_word w Malformed forward header other = other
+  of_word w _ forward header other = other
 
   pub of_area : (kept : KeptHeader) (o : Option AreaWord) → ((area : AreaWord) → P (Announces kept area)) → P (LoadsArea kept) → P (by_area kept o)
   of_area kept (Some area) announces loads = announces area

@@ -235,15 +235,11 @@ never_ends_at_area n seen g size None result tells = cc
 exchange_goes : (f : Flipping) (reset : Reset) (r : Reply) (asked : ℕ) → told_at (next_stage f (Exchanges reset) r) ≡ Finished (Went asked)
     → (r ≡ reply.Won) × (asked ≡ f.asked)
 exchange_goes f reset reply.Won asked tells = (refl, cc)
-exchange_goes f reset (reply.Lost lost) asked tells = cc
-exchange_goes f reset (reply.Value value) asked tells = cc
-exchange_goes f reset reply.Done asked tells = cc
+exchange_goes f reset _ asked tells = cc
 
 exchange_never_hindered : (f : Flipping) (reset : Reset) (r : Reply) (word : ℕ) → told_at (next_stage f (Exchanges reset) r) ≡ Finished (NotYet word) → ⊥
 exchange_never_hindered f reset reply.Won word tells = cc
-exchange_never_hindered f reset (reply.Lost lost) word tells = cc
-exchange_never_hindered f reset (reply.Value value) word tells = cc
-exchange_never_hindered f reset reply.Done word tells = cc
+exchange_never_hindered f reset _ word tells = cc
 
 pub flips : (f : Flipping) (stage : FlipStage) (before after : List ℕ) (asked : ℕ) → IsSoundFlipping (at f stage) → HoldsTable f.layout.pages before
     → StandsAt f stage before → MakesStep flip_machine (at f stage) before after (Finished (Went asked)) → FlipsHeap f before after × (asked ≡ f.asked)

@@ -72,9 +72,7 @@ is_allowed (Resume epoch) g is =
   where
     same_epoch : (m n : ℕ) → nat_eq m n ≡ true → m ≡ n
     same_epoch m n e = grind (arith, nat_tests)
-is_allowed Forwarded g is = tt
-is_allowed Leave g is = tt
-is_allowed Clear g is = tt
+is_allowed _ g is = tt
 
 pub is_forbidden : (passage : Passage) (g : GateWord) → allows passage g ≡ false → IsForbidden passage g
 is_forbidden Look g is = not_false g.request is
@@ -89,9 +87,7 @@ is_forbidden (Resume epoch) g is =
   where
     other_epoch : (m n : ℕ) → nat_eq m n ≡ false → m ≢ n
     other_epoch m n e = grind (arith, nat_tests)
-is_forbidden Forwarded g is = cc
-is_forbidden Leave g is = cc
-is_forbidden Clear g is = cc
+is_forbidden _ g is = cc
 
 -- the gate after an allowed passage fits its word
 pub fits_after : (passage : Passage) (g : GateWord) → MayPass passage g → GateFits (gate_after passage g)
@@ -116,13 +112,7 @@ record Looks (passage : Passage) (loaded word : ℕ) (o : Option GateWord) : Typ
 
 goes_at_once : (passage : Passage) (loaded word : ℕ) (g : GateWord) → told_at (allowed passage loaded g) ≡ Finished (Went word) → (passage ≡ Look) × (word ≡ loaded)
 goes_at_once Look loaded word g tells = (refl, cc)
-goes_at_once Attach loaded word g tells = cc
-goes_at_once Park loaded word g tells = cc
-goes_at_once Request loaded word g tells = cc
-goes_at_once (Resume epoch) loaded word g tells = cc
-goes_at_once Forwarded loaded word g tells = cc
-goes_at_once Leave loaded word g tells = cc
-goes_at_once Clear loaded word g tells = cc
+goes_at_once _ loaded word g tells = cc
 
 looks : (passage : Passage) (loaded word : ℕ) (o : Option GateWord) → told_at (looked passage loaded o) ≡ Finished (Went word) → Looks passage loaded word o
 looks passage loaded word (Some g) tells = by_test (allows passage g) refl tells
@@ -141,13 +131,7 @@ record Forbids (passage : Passage) (loaded word : ℕ) (o : Option GateWord) : T
 
 never_hindered : (passage : Passage) (loaded word : ℕ) (g : GateWord) → told_at (allowed passage loaded g) ≡ Finished (NotYet word) → ⊥
 never_hindered Look loaded word g tells = cc
-never_hindered Attach loaded word g tells = cc
-never_hindered Park loaded word g tells = cc
-never_hindered Request loaded word g tells = cc
-never_hindered (Resume epoch) loaded word g tells = cc
-never_hindered Forwarded loaded word g tells = cc
-never_hindered Leave loaded word g tells = cc
-never_hindered Clear loaded word g tells = cc
+never_hindered _ loaded word g tells = cc
 
 hinders : (passage : Passage) (loaded word : ℕ) (o : Option GateWord) → told_at (looked passage loaded o) ≡ Finished (NotYet word) → Forbids passage loaded word o
 hinders passage loaded word (Some g) tells = by_test (allows passage g) refl tells
@@ -162,15 +146,11 @@ hinders passage loaded word None tells = cc
 pub exchange_goes : (passage : Passage) (g : GateWord) (r : Reply) (word : ℕ) → told_at (next_stage passage (Exchanges g) r) ≡ Finished (Went word)
     → (r ≡ reply.Won) × (word ≡ encode_gate (gate_after passage g))
 exchange_goes passage g reply.Won word tells = (refl, cc)
-exchange_goes passage g (reply.Lost lost) word tells = cc
-exchange_goes passage g (reply.Value value) word tells = cc
-exchange_goes passage g reply.Done word tells = cc
+exchange_goes passage g _ word tells = cc
 
 exchange_never_hindered : (passage : Passage) (g : GateWord) (r : Reply) (word : ℕ) → told_at (next_stage passage (Exchanges g) r) ≡ Finished (NotYet word) → ⊥
 exchange_never_hindered passage g reply.Won word tells = cc
-exchange_never_hindered passage g (reply.Lost lost) word tells = cc
-exchange_never_hindered passage g (reply.Value value) word tells = cc
-exchange_never_hindered passage g reply.Done word tells = cc
+exchange_never_hindered passage g _ word tells = cc
 
 -- ---- all
 

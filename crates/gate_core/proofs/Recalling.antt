@@ -4,7 +4,7 @@ use Rattle.std.specs.Prelude.{is_some, ⊤}
 use Rattle.std.proofs.lemmas.Bool.Decides.{nat_tests}
 use Rattle.std.proofs.lemmas.Option.{same_Some}
 use Rattle.atom_store.specs.declared.reply.Reply.{Reply}
-use Rattle.atom_store.specs.declared.reply.Reply.TheVariants.{Value, Done, Won, Lost}
+use Rattle.atom_store.specs.declared.reply.Reply.TheVariants.{Value}
 use Rattle.atom_store.specs.declared.turn.Turn.TheVariants.{Finished}
 use Rattle.atom_store.specs.Runs.{among, after_step}
 use Rattle.space_map.specs.Spaces.{Layout}
@@ -42,13 +42,8 @@ sound_end number None fits = fits
 stage_stays_sound : (stage : RecallStage) (reply : Reply) → FitsRecallStage stage → FitsRecallStage (next_stage stage reply)
 stage_stays_sound LoadsSnap (Value word) fits = sound_number word (number_in word) refl
 stage_stays_sound (LoadsDone number) (Value word) fits = sound_end number (number_in word) fits
-stage_stays_sound (Ended result) reply fits = fits
-stage_stays_sound LoadsSnap Done fits = tt
-stage_stays_sound LoadsSnap Won fits = tt
-stage_stays_sound LoadsSnap (Lost word) fits = tt
-stage_stays_sound (LoadsDone number) Done fits = fits
-stage_stays_sound (LoadsDone number) Won fits = fits
-stage_stays_sound (LoadsDone number) (Lost word) fits = fits
+stage_stays_sound LoadsSnap _ fits = tt
+stage_stays_sound _ _ fits = fits
 
 -- whatever word is read
 pub recall_stays_sound : (r : Recalling) (reply : Reply) → IsSoundRecalling r → IsSoundRecalling (taken r reply)
@@ -67,13 +62,7 @@ by_done_number number None is = absurd (cc)
 pub recalls_lower : (stage : RecallStage) (reply : Reply) → advances_at stage reply ≡ true → left_at (next_stage stage reply) < left_at stage
 recalls_lower LoadsSnap (Value word) on = by_snap_number (number_in word) on
 recalls_lower (LoadsDone number) (Value word) on = by_done_number number (number_in word) on
-recalls_lower LoadsSnap Done on = absurd (cc)
-recalls_lower LoadsSnap Won on = absurd (cc)
-recalls_lower LoadsSnap (Lost word) on = absurd (cc)
-recalls_lower (LoadsDone number) Done on = absurd (cc)
-recalls_lower (LoadsDone number) Won on = absurd (cc)
-recalls_lower (LoadsDone number) (Lost word) on = absurd (cc)
-recalls_lower (Ended result) reply on = absurd (cc)
+recalls_lower _ _ on = absurd (cc)
 
 -- ---- what it has read
 

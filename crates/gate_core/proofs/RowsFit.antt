@@ -30,13 +30,10 @@ passage_writes Q gate p stage = tt
 
 pub flip_rows_fit : (f : Flipping) (stage : FlipStage) → IsFlippingGoing stage → IsOn (IsRow f.layout.pages) (flip.wants_at f stage)
 flip_rows_fit f flip_stage.LoadsGate going = tt
-flip_rows_fit f (flip_stage.LoadsSize read) going = omega arith
-flip_rows_fit f (flip_stage.LoadsArea read size) going = omega arith
-flip_rows_fit f (flip_stage.StoresSize reset) going = omega arith
-flip_rows_fit f (flip_stage.StoresArea reset) going = omega arith
 flip_rows_fit f (flip_stage.ResetsWeak reset) going = tt
 flip_rows_fit f (flip_stage.Exchanges reset) going = tt
 flip_rows_fit f (flip_stage.Ended result) going = going
+flip_rows_fit f _ going = omega arith
 
 pub recall_rows_fit : (n : ℕ) (stage : RecallStage) → IsRecallGoing stage → IsOn (IsRow n) (recall.wants_at stage)
 recall_rows_fit n recall_stage.LoadsSnap going = tt
@@ -45,8 +42,7 @@ recall_rows_fit n (recall_stage.Ended result) going = going
 
 pub recall_writes : (Q : Row → Type 0) → (stage : RecallStage) → WritesOnly Q (recall.wants_at stage)
 recall_writes Q recall_stage.LoadsSnap = tt
-recall_writes Q (recall_stage.LoadsDone number) = tt
-recall_writes Q (recall_stage.Ended result) = tt
+recall_writes Q _ = tt
 
 pub snap_rows_fit : (s : Snapping) (stage : SnapStage) → IsSnappingGoing stage → IsOn (IsRow s.layout.pages) (snap.wants_at s stage)
 snap_rows_fit s snap_stage.LoadsGate going = tt

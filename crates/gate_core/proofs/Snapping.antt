@@ -63,13 +63,7 @@ by_gate word None is = absurd (cc)
 pub snaps_lower : (stage : SnapStage) (answer : Reply) → advances_at stage answer ≡ true → left_at (next_stage stage answer) < left_at stage
 snaps_lower LoadsGate (reply.Value word) on = by_gate word (decode_gate word) on
 snaps_lower (ExchangesSnap g) reply.Won on = omega arith
-snaps_lower LoadsGate reply.Done on = absurd (cc)
-snaps_lower LoadsGate reply.Won on = absurd (cc)
-snaps_lower LoadsGate (reply.Lost word) on = absurd (cc)
-snaps_lower (ExchangesSnap g) reply.Done on = absurd (cc)
-snaps_lower (ExchangesSnap g) (reply.Value word) on = absurd (cc)
-snaps_lower (ExchangesSnap g) (reply.Lost word) on = absurd (cc)
-snaps_lower (Ended result) answer on = absurd (cc)
+snaps_lower _ _ on = absurd (cc)
 
 -- ---- what is read
 
@@ -106,15 +100,11 @@ never_begun_at_gate word gate None tells = cc
 
 exchange_begins : (g gate : GateWord) (r : Reply) → told_at (next_stage (ExchangesSnap g) r) ≡ Finished (Begun gate) → (r ≡ reply.Won) × (g ≡ gate)
 exchange_begins g gate reply.Won tells = (refl, cc)
-exchange_begins g gate (reply.Lost lost) tells = cc
-exchange_begins g gate (reply.Value value) tells = cc
-exchange_begins g gate reply.Done tells = cc
+exchange_begins g gate _ tells = cc
 
 exchange_never_hindered : (g : GateWord) (r : Reply) (word : ℕ) → told_at (next_stage (ExchangesSnap g) r) ≡ Finished (NotYet word) → ⊥
 exchange_never_hindered g reply.Won word tells = cc
-exchange_never_hindered g (reply.Lost lost) word tells = cc
-exchange_never_hindered g (reply.Value value) word tells = cc
-exchange_never_hindered g reply.Done word tells = cc
+exchange_never_hindered g _ word tells = cc
 
 pub begins : (s : Snapping) (stage : SnapStage) (before after : List ℕ) (gate : GateWord) → IsSoundSnapping (at s stage) → HoldsTable s.layout.pages before
     → GateStandsAt s stage before → MakesStep snap_machine (at s stage) before after (Finished (Begun gate)) → BeginsCheckpoint s before after gate

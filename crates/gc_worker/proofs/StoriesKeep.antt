@@ -43,10 +43,8 @@ module _ (h : Heap) (p o : Plain) (k : ℕ) (x : Held) (q : Step) (story : Story
 
   stands_by : (t : Told) → u ≡ t → FlipsWhereTold h.pages h.words later.words x t → WorkersStand later (after_told (empty_cells (read later)) p k t) (at_flip p o t)
       → WorkersStand later (story_told p o k t) (at_flip p o t)
-  stands_by Silent tells flips stands = stands
   stands_by Empties tells epoch stands = traced tells epoch
-  stands_by (Answers task outcome) tells flips stands = stands
-  stands_by (Marks asked) tells flips stands = stands
+  stands_by _ tells flips stands = stands
 
   -- ---- cells
 

@@ -5,7 +5,7 @@ use Rattle.std.specs.List.{Contains}
 use Rattle.std.proofs.lemmas.Bool.{cases_eq}
 use Rattle.std.proofs.lemmas.List.{get_or-set_other, get_or-set_same, get_or_past, take_all}
 use Rattle.std.proofs.lemmas.List.Elements.{Contains-append_left, Contains-push, Contains-push_cases}
-use Rattle.heap_words.specs.Decoded.{Decoded, NumberWord, PointerWord, HeaderWord, BusyWord, ForwardWord, Malformed, decode, pointer_in}
+use Rattle.heap_words.specs.Decoded.{Decoded, PointerWord, decode, pointer_in}
 use Rattle.heap_state.specs.Meaning.Dump.{Dump}
 use Rattle.heap_state.specs.Meaning.Represents.{IsInHeap, LeadsToRecord}
 use Rattle.heap_state.specs.Memory.Walk.{Walked}
@@ -57,11 +57,7 @@ notes_all begins rs i all notes = subst (Notes begins) (take_all i rs all) notes
 
 pointer_is : (d : Decoded) (a : ℕ) → pointer_in d ≡ Some a → d ≡ PointerWord a
 pointer_is (PointerWord b) a e = let s : b ≡ a = cc in ap PointerWord s
-pointer_is (NumberWord n) a e = absurd (cc)
-pointer_is (HeaderWord k l s m) a e = absurd (cc)
-pointer_is (ForwardWord l b) a e = absurd (cc)
-pointer_is (BusyWord l k) a e = absurd (cc)
-pointer_is Malformed a e = absurd (cc)
+pointer_is _ a e = absurd (cc)
 
 pub leads_by : (d : Dump) (w a : ℕ) (b : Bool) → pointer_in (decode w) ≡ Some a → ((b ≡ true) ↔ ((size : ℕ) × IsInHeap d (item a size))) → IsTrue b ↔ LeadsToRecord d w
 leads_by d w a b points is =

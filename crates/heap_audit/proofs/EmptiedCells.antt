@@ -4,10 +4,10 @@ use Rattle.std.specs.Prelude.{IsTrue, nat_eq, not}
 use Rattle.std.specs.Option.{option_eq}
 use Rattle.std.proofs.lemmas.Bool.{eq-eqb, eqb-true}
 use Rattle.std.specs.HashSet.{contains}
-use Rattle.heap_words.specs.Decoded.{Decoded, NumberWord, PointerWord, HeaderWord, BusyWord, ForwardWord, Malformed, decode, number_in}
+use Rattle.heap_words.specs.Decoded.{Decoded, NumberWord, decode, number_in}
 use Rattle.plain_state.specs.Cells.{is_cell}
 use Rattle.plain_state.specs.declared.kind.Kind.{Kind}
-use Rattle.plain_state.specs.declared.kind.Kind.TheVariants.{Fields, Raw, Mixed, Weak}
+use Rattle.plain_state.specs.declared.kind.Kind.TheVariants.{Weak}
 use Rattle.plain_state.specs.declared.value.Identity.{Identity}
 use Rattle.plain_state.specs.declared.value.Value.{Value}
 use Rattle.plain_state.specs.declared.value.Value.TheVariants.{Reference}
@@ -23,11 +23,7 @@ use Rattle.heap_audit.proofs.CopiedNames.{named_short}
 
 number_is : (d : Decoded) (n : ℕ) → number_in d ≡ Some n → d ≡ NumberWord n
 number_is (NumberWord m) n e = let s : m ≡ n = cc in ap NumberWord s
-number_is (PointerWord a) n e = absurd (cc)
-number_is (HeaderWord k l s m) n e = absurd (cc)
-number_is (ForwardWord l a) n e = absurd (cc)
-number_is (BusyWord l k) n e = absurd (cc)
-number_is Malformed n e = absurd (cc)
+number_is _ n e = absurd (cc)
 
 -- ---- tests
 
@@ -51,9 +47,7 @@ fails false none = refl
 
 pub is_weak : (k : Kind) → is_cell k ≡ true → k ≡ Weak
 is_weak Weak e = refl
-is_weak Fields e = absurd (cc)
-is_weak Raw e = absurd (cc)
-is_weak (Mixed count) e = absurd (cc)
+is_weak _ e = absurd (cc)
 
 same_reference : (i j : Identity) → Reference i ≡ Reference j → i ≡ j
 same_reference i j e = cc

@@ -104,17 +104,6 @@ end_takes bytes end rest e =
 
 pub end_again : (end : Option End) (rest : List ℕ) → EndFits end → Stops rest → end_at (end_text end ++ rest) ≡ Some (end, rest)
 unfolding end_at full_end_at
-end_again None rest fits stop = refl
-end_again (Some Halt) rest fits stop = refl
-end_again (Some NotPointer) rest fits stop = refl
-end_again (Some NotNumber) rest fits stop = refl
-end_again (Some OutOfRange) rest fits stop = refl
-end_again (Some WeakCell) rest fits stop = refl
-end_again (Some IntoRaw) rest fits stop = refl
-end_again (Some ZeroDivisor) rest fits stop = refl
-end_again (Some JumpOut) rest fits stop = refl
-end_again (Some TurnsOut) rest fits stop = refl
-end_again (Some OutputFull) rest fits stop = refl
 end_again (Some (HeapFull asked room live)) rest fits stop =
     ap end_at (regroup asked room live rest)
     ∙ rw (
@@ -122,19 +111,10 @@ end_again (Some (HeapFull asked room live)) rest fits stop =
       amount_again room (codes " live " ++ (decimal live ++ rest)) fits.1 refl,
       amount_again live rest fits.2 stop,
     ) refl
+end_again _ rest fits stop = refl
 
 -- the text of an end is no number's
 pub no_number : (limit : ℕ) (end : Option End) (rest : List ℕ) → decimal_at limit (end_text end ++ rest) ≡ None
 unfolding decimal_at
-no_number limit None rest = refl
 no_number limit (Some Halt) rest = refl
-no_number limit (Some NotPointer) rest = refl
-no_number limit (Some NotNumber) rest = refl
-no_number limit (Some OutOfRange) rest = refl
-no_number limit (Some WeakCell) rest = refl
-no_number limit (Some IntoRaw) rest = refl
-no_number limit (Some ZeroDivisor) rest = refl
-no_number limit (Some JumpOut) rest = refl
-no_number limit (Some TurnsOut) rest = refl
-no_number limit (Some OutputFull) rest = refl
-no_number limit (Some (HeapFull asked room live)) rest = refl
+no_number limit _ rest = refl

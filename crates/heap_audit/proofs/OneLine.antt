@@ -1,5 +1,5 @@
 -- Texts that are one line.
-use Rattle.std.proofs.Common.{◌≡◌, ℕ, ◌+◌, ◌^◌, ◌<◌, Bool, true, false, cond, eqb, decimal, List, [], ◌∷◌, ◌++◌, codes, Option, Some, None, refl, sym, ap, ◌∙◌, arith}
+use Rattle.std.proofs.Common.{◌≡◌, ℕ, ◌+◌, ◌^◌, ◌<◌, Bool, true, false, cond, eqb, decimal, List, [], ◌∷◌, ◌++◌, codes, Option, Some, refl, sym, ap, ◌∙◌, arith}
 use Rattle.std.proofs.lemmas.List.{append_assoc}
 use Rattle.std.proofs.lemmas.List.Folds.{list_all-append}
 use Rattle.std.proofs.lemmas.List.Concat.{flat_map-cons}
@@ -14,7 +14,7 @@ use Rattle.plain_heap.specs.declared.mark.Mark.{Mark}
 use Rattle.plain_heap.specs.declared.mark.Mark.TheVariants.{Step, Flip, Full, Traced}
 use Rattle.plain_heap.specs.Print.{end_text, mark_text, order_line, printed_line}
 use Rattle.plain_state.specs.declared.end.End.{End}
-use Rattle.plain_state.specs.declared.end.End.TheVariants.{Halt, NotPointer, NotNumber, OutOfRange, WeakCell, IntoRaw, ZeroDivisor, JumpOut, TurnsOut, OutputFull, HeapFull}
+use Rattle.plain_state.specs.declared.end.End.TheVariants.{HeapFull}
 use Rattle.heap_audit.specs.Ends.{EndFits}
 use Rattle.heap_audit.specs.Order.{MarkFits}
 use Rattle.heap_audit.proofs.Fronts.{ends, ends_append}
@@ -76,17 +76,6 @@ printed_is_line m text lt h =
     record { body = name ++ text; is = refl; inside = both_inside name text (both_inside (decimal m) (codes ": ") (decimal_inside m lt) refl) h }
 
 pub end_inside : (end : Option End) → EndFits end → IsInside (end_text end)
-end_inside None fits = refl
-end_inside (Some Halt) fits = refl
-end_inside (Some NotPointer) fits = refl
-end_inside (Some NotNumber) fits = refl
-end_inside (Some OutOfRange) fits = refl
-end_inside (Some WeakCell) fits = refl
-end_inside (Some IntoRaw) fits = refl
-end_inside (Some ZeroDivisor) fits = refl
-end_inside (Some JumpOut) fits = refl
-end_inside (Some TurnsOut) fits = refl
-end_inside (Some OutputFull) fits = refl
 end_inside (Some (HeapFull asked room live)) fits =
     let a = codes "heap full asked " ++ decimal asked in
     let b = a ++ codes " room " in
@@ -94,6 +83,7 @@ end_inside (Some (HeapFull asked room live)) fits =
     let d = c ++ codes " live " in
     both_inside d (decimal live) (both_inside c (codes " live ") (both_inside b (decimal room) (both_inside a (codes " room ")
     (both_inside (codes "heap full asked ") (decimal asked) refl (decimal_inside asked (omega (arith, fits.0)))) refl) (decimal_inside room (omega (arith, fits.1)))) refl) (decimal_inside live (omega (arith, fits.2)))
+end_inside _ fits = refl
 
 -- ---- the line of an order
 

@@ -2,7 +2,7 @@
 use Rattle.std.proofs.Common.{◌≡◌, ℕ, zero, suc, ◌^◌, ◌<◌, ◌≤◌, List, [], ◌∷◌, Some, None, length, get_or, refl, sym, ap, ◌∙◌, arith}
 use Rattle.std.specs.Prelude.{IsTrue, ◌↔◌, is_some, option_map}
 use Rattle.std.proofs.Math.Decide.{dec_le, dec_lt}
-use Rattle.heap_words.specs.Decoded.{Decoded, NumberWord, PointerWord, HeaderWord, BusyWord, ForwardWord, Malformed, decode, encode}
+use Rattle.heap_words.specs.Decoded.{Decoded, HeaderWord, BusyWord, ForwardWord, decode, encode}
 use Rattle.heap_words.specs.Word.{tag_of}
 use Rattle.heap_words.specs.declared.kind.Kind.{Kind}
 use Rattle.heap_words.proofs.Decoding.{decode-forward_word, decode-busy_word}
@@ -49,11 +49,7 @@ no_header = refl
 pub busy_reads : (w : ℕ) (d : Decoded) → decode w ≡ d → (IsTrue (is_some (busy_in d)) ↔ IsBusy d)
 unfolding busy_in
 busy_reads w (BusyWord len worker) e = (λ t. tt, λ t. let b = busy_in-said w len worker e in ap is_some (ap busy_in (sym e) ∙ b.1))
-busy_reads w (HeaderWord kind len serial mutator) e = (λ t. cc, λ none. absurd none)
-busy_reads w (NumberWord n) e = (λ t. cc, λ none. absurd none)
-busy_reads w (PointerWord a) e = (λ t. cc, λ none. absurd none)
-busy_reads w (ForwardWord len a) e = (λ t. cc, λ none. absurd none)
-busy_reads w Malformed e = (λ t. cc, λ none. absurd none)
+busy_reads w _ e = (λ t. cc, λ none. absurd none)
 
 -- ---- the own header
 
@@ -62,12 +58,8 @@ own-kept kept w b e = rw e refl
 
 own_by : (kept : List Kept) (w : ℕ) (d : Decoded) → decode w ≡ d → None ≡ busy_in (decode w) → header_in d ≡ header_in (own_header_in kept d)
 unfolding header_in
-own_by kept w (HeaderWord kind len serial mutator) e none = refl
-own_by kept w (NumberWord n) e none = refl
-own_by kept w (PointerWord a) e none = refl
-own_by kept w (ForwardWord len a) e none = refl
-own_by kept w Malformed e none = refl
 own_by kept w (BusyWord len worker) e none = let b = busy_in-said w len worker e in absurd (let z : None ≡ Some b.0 = none ∙ b.1 in cc)
+own_by kept w _ e none = refl
 
 pub own-placed : (kept : List Kept) (w : ℕ) → None ≡ busy_in (decode w) → header_in (decode w) ≡ header_in (own_header_in kept (decode w))
 own-placed kept w none = own_by kept w (decode w) refl none
@@ -83,11 +75,7 @@ says_with kind len serial mutator h (no short) counted e = absurd (cc)
 pub header_in-says : (d : Decoded) (h : Header) → header_in d ≡ Some h → d ≡ header_says h
 unfolding header_in
 header_in-says (HeaderWord kind len serial mutator) h e = says_with kind len serial mutator h (dec_le len 4095) (dec_lt serial (2 ^ 40)) e
-header_in-says (NumberWord n) h e = absurd (cc)
-header_in-says (PointerWord a) h e = absurd (cc)
-header_in-says (ForwardWord len a) h e = absurd (cc)
-header_in-says (BusyWord len worker) h e = absurd (cc)
-header_in-says Malformed h e = absurd (cc)
+header_in-says _ h e = absurd (cc)
 
 -- ---- the identity
 
@@ -98,11 +86,7 @@ named_by_word w (HeaderWord kind len serial mutator) e =
     let is : header_in (HeaderWord kind len serial mutator) ≡ Some h.0 = sym (ap header_in e) ∙ h.1 in
     let says = header_in-says (HeaderWord kind len serial mutator) h.0 is in
     ap named_by says ∙ sym (ap (option_map identity_by) is)
-named_by_word w (NumberWord n) e = refl
-named_by_word w (PointerWord a) e = refl
-named_by_word w (ForwardWord len a) e = refl
-named_by_word w (BusyWord len worker) e = refl
-named_by_word w Malformed e = refl
+named_by_word w _ e = refl
 
 pub named_header : (w : ℕ) → named_by (decode w) ≡ option_map identity_by (header_in (decode w))
 named_header w = named_by_word w (decode w) refl
@@ -111,10 +95,7 @@ named_own_by : (kept : List Kept) (w : ℕ) (d : Decoded) → decode w ≡ d →
 unfolding header_in
 named_own_by kept w (HeaderWord kind len serial mutator) e = named_by_word w (HeaderWord kind len serial mutator) e
 named_own_by kept w (BusyWord len worker) e = named_header (kept_at kept worker).header
-named_own_by kept w (NumberWord n) e = refl
-named_own_by kept w (PointerWord a) e = refl
-named_own_by kept w (ForwardWord len a) e = refl
-named_own_by kept w Malformed e = refl
+named_own_by kept w _ e = refl
 
 pub named_own : (kept : List Kept) (w : ℕ) → named_by (own_header_in kept (decode w)) ≡ option_map identity_by (header_in (own_header_in kept (decode w)))
 named_own kept w = named_own_by kept w (decode w) refl
@@ -123,12 +104,8 @@ pub named-forwarded : (heap : ℕ → ℕ) (kept : List Kept) (w : ℕ) (f : For
 named-forwarded heap kept w f e = rw e refl
 
 named_in_by : (heap : ℕ → ℕ) (kept : List Kept) (w : ℕ) (d : Decoded) → decode w ≡ d → None ≡ forward_in (decode w) → named_in heap kept d ≡ named_by (own_header_in kept d)
-named_in_by heap kept w (HeaderWord kind len serial mutator) e none = refl
-named_in_by heap kept w (NumberWord n) e none = refl
-named_in_by heap kept w (PointerWord a) e none = refl
-named_in_by heap kept w (BusyWord len worker) e none = refl
-named_in_by heap kept w Malformed e none = refl
 named_in_by heap kept w (ForwardWord len a) e none = let f = forward_in-said w len a e in absurd (let z : None ≡ Some f.0 = none ∙ f.1 in cc)
+named_in_by heap kept w _ e none = refl
 
 pub named-in_place : (heap : ℕ → ℕ) (kept : List Kept) (w : ℕ) → None ≡ forward_in (decode w) → named_in heap kept (decode w) ≡ named_by (own_header_in kept (decode w))
 named-in_place heap kept w none = named_in_by heap kept w (decode w) refl none

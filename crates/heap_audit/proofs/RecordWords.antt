@@ -3,7 +3,7 @@ use Rattle.std.proofs.Common.{◌≡◌, ℕ, zero, suc, ◌+◌, ◌-◌, ◌<�
 use Rattle.std.specs.Prelude.{nat_eq, option_map, slice_get}
 use Rattle.std.specs.HashMap.{get}
 use Rattle.std.proofs.lemmas.Bool.{cases_lt}
-use Rattle.heap_words.specs.Decoded.{Decoded, NumberWord, PointerWord, HeaderWord, BusyWord, ForwardWord, Malformed, decode}
+use Rattle.heap_words.specs.Decoded.{Decoded, NumberWord, HeaderWord, decode}
 use Rattle.heap_words.specs.declared.kind.Kind.{Kind as HeaderKind}
 use Rattle.heap_words.specs.declared.kind.Kind.TheVariants as header
 use Rattle.heap_words.proofs.Decoding.{decode-number_word}
@@ -45,18 +45,12 @@ none_is d a none k l s m e =
 -- what names an identity is a header with it
 pub named_is : (e : Decoded) (i : Identity) → named_by e ≡ Some i → (k : HeaderKind) × (l : ℕ) × (e ≡ HeaderWord k l i.serial i.mutator)
 named_is (HeaderWord k l s m) i e = let q : record { mutator = m; serial = s } ≡ i = some_same e in (k, l, ap (λ (j : Identity). HeaderWord k l j.serial j.mutator) q)
-named_is (NumberWord n) i e = absurd (cc)
-named_is (PointerWord a) i e = absurd (cc)
-named_is (ForwardWord l a) i e = absurd (cc)
-named_is (BusyWord l k) i e = absurd (cc)
-named_is Malformed i e = absurd (cc)
+named_is _ i e = absurd (cc)
 
 -- a kind that a header says has that header
 pub header_kind-said : (k : HeaderKind) (next : ℕ) → header_kind (said_kind k next) ≡ k
 header_kind-said header.Fields next = refl
-header_kind-said header.Raw next = refl
-header_kind-said header.Mixed next = refl
-header_kind-said header.Weak next = refl
+header_kind-said _ next = refl
 
 -- ---- a record without a header of its own
 
@@ -191,10 +185,8 @@ cell_or_not r = by_kind r.kind refl
 
 -- behind the values of a record that has a field there is no word
 none_behind : (k : Kind) (i : ℕ) → is_field k i ≡ true → words_behind k ≡ 0
-none_behind Fields i e = refl
-none_behind Raw i e = refl
-none_behind (Mixed count) i e = refl
 none_behind Weak i e = absurd (cc)
+none_behind _ i e = refl
 
 -- the plain record of that many words has value x exactly where it has a field at its word
 value_at_field : (r : plain.Record) (i : ℕ) → 0 < i → i < size_of r → is_field r.kind i ≡ true → (i ≡ word_of_value r.kind (i - values_at r.kind)) × (i - values_at r.kind < length r.values)
@@ -211,30 +203,22 @@ there_is (v ∷ values) (suc x) l = there_is values x (omega arith)
 
 -- a mixed kind is what is said where its count stands behind the header
 counted_kind : (k : Kind) (word : ℕ) → CountShows k (λ x. word) 0 → IsCount k → k ≡ said_kind (header_kind k) word
-counted_kind Fields word shows fits = refl
-counted_kind Raw word shows fits = refl
 counted_kind (Mixed c) word shows fits = let e : decode word ≡ NumberWord c = ap decode shows ∙ decode-number_word c (omega arith) in ap (λ z. Mixed (count_said z)) (sym e)
-counted_kind Weak word shows fits = refl
+counted_kind _ word shows fits = refl
 
 -- the count at a place
 count_there : (k : Kind) (heap : ℕ → ℕ) (a : ℕ) → CountShows k (λ x. heap (a + 1)) 0 → CountShows k heap a
-count_there Fields heap a shows = tt
-count_there Raw heap a shows = tt
 count_there (Mixed c) heap a shows = shows
-count_there Weak heap a shows = tt
+count_there _ heap a shows = tt
 
 count_here : (k : Kind) (heap : ℕ → ℕ) (a : ℕ) → CountShows k heap a → CountShows k (λ x. heap (a + 1)) 0
-count_here Fields heap a shows = tt
-count_here Raw heap a shows = tt
 count_here (Mixed c) heap a shows = shows
-count_here Weak heap a shows = tt
+count_here _ heap a shows = tt
 
 -- a kind that has no count shows it
 needs_count : (k : Kind) (word : ℕ) → (CountShows k (λ x. word) 0 → ⊥) → values_at k ≡ 2
-needs_count Fields word none = absurd (none tt)
-needs_count Raw word none = absurd (none tt)
 needs_count (Mixed c) word none = refl
-needs_count Weak word none = absurd (none tt)
+needs_count _ word none = absurd (none tt)
 
 module _ (d : Dump) (p : plain.Plain) (w : Walked) (h : Header) (there : IsInHeap d w) (owned : own_header d w.at ≡ HeaderWord h.kind h.len h.serial h.mutator)
     (r : plain.Record) (is : plain.record_of p.heap (record { mutator = h.mutator; serial = h.serial }) ≡ Some r) (alike : header_kind r.kind ≡ h.kind) (size : size_of r ≡ w.size)

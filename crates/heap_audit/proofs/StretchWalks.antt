@@ -4,7 +4,7 @@ use Rattle.std.specs.Prelude.{nat_lt, ◌==◌, ⊤}
 use Rattle.std.specs.List.{All, Contains}
 use Rattle.std.proofs.lemmas.Bool.{cases_lt, le-leb, lt-leb}
 use Rattle.std.proofs.lemmas.List.Elements.{All-cons, All-contains, All-nil}
-use Rattle.heap_words.specs.Decoded.{Decoded, NumberWord, PointerWord, HeaderWord, BusyWord, ForwardWord, Malformed, decode}
+use Rattle.heap_words.specs.Decoded.{Decoded, HeaderWord, BusyWord, ForwardWord, decode}
 use Rattle.space_map.specs.Spaces.{page_of}
 use Rattle.heap_state.specs.Kept.{Kept, reserved_in}
 use Rattle.heap_state.specs.Memory.Table.{Table}
@@ -22,9 +22,7 @@ use Rattle.crossing_map.proofs.Parts.{at_end, is_broken, is_ended, item, later, 
 abbrev IsWordMet : Met → Type 0
 IsWordMet Broken = ⊤
 IsWordMet (Record size) = ⊤
-IsWordMet AtEnd = ⊥
-IsWordMet Nothing = ⊥
-IsWordMet (Reserved size) = ⊥
+IsWordMet _ = ⊥
 
 by_tests : (inside closed free blank : Bool) (reserved word m : Met) → IsWordMet m → (reserved ≡ m → ⊥)
     → (if inside then (if closed then Nothing else if free then (if blank then Nothing else word) else reserved) else AtEnd) ≡ m → word ≡ m
@@ -33,26 +31,20 @@ by_tests false closed free blank reserved word m is apart e = absurd (nothing m 
     nothing : (m : Met) → IsWordMet m → AtEnd ≡ m → ⊥
     nothing Broken is e = cc
     nothing (Record size) is e = cc
-    nothing AtEnd is e = is
-    nothing Nothing is e = is
-    nothing (Reserved size) is e = is
+    nothing _ is e = is
 by_tests true true free blank reserved word m is apart e = absurd (nothing m is e)
   where
     nothing : (m : Met) → IsWordMet m → Nothing ≡ m → ⊥
     nothing Broken is e = cc
     nothing (Record size) is e = cc
-    nothing AtEnd is e = is
-    nothing Nothing is e = is
-    nothing (Reserved size) is e = is
+    nothing _ is e = is
 by_tests true false false blank reserved word m is apart e = absurd (apart e)
 by_tests true false true true reserved word m is apart e = absurd (nothing m is e)
   where
     nothing : (m : Met) → IsWordMet m → Nothing ≡ m → ⊥
     nothing Broken is e = cc
     nothing (Record size) is e = cc
-    nothing AtEnd is e = is
-    nothing Nothing is e = is
-    nothing (Reserved size) is e = is
+    nothing _ is e = is
 by_tests true false true false reserved word m is apart e = e
 
 -- the records at an address, by the size that is met there if a record is
@@ -64,9 +56,7 @@ word_size : (d : Decoded) (s : ℕ) → met_word d ≡ Record s → 0 < s
 word_size (HeaderWord kind len serial mutator) s e = let q : len + 1 ≡ s = cc in omega arith
 word_size (BusyWord len worker) s e = let q : len + 1 ≡ s = cc in omega arith
 word_size (ForwardWord len a) s e = let q : len + 1 ≡ s = cc in omega arith
-word_size (NumberWord n) s e = absurd (cc)
-word_size (PointerWord a) s e = absurd (cc)
-word_size Malformed s e = absurd (cc)
+word_size _ s e = absurd (cc)
 
 module _ (passes : ℕ → Bool) (reserved heap : ℕ → ℕ) (end : ℕ) where
   abbrev met : ℕ → Met
@@ -154,8 +144,7 @@ module _ (passes : ℕ → Bool) (reserved heap : ℕ → ℕ) (end : ℕ) where
 
 pub or_ended : (n : Next) → or_next n next.Ended ≡ n
 or_ended next.Ended = refl
-or_ended (next.Record a size) = refl
-or_ended (next.Broken a) = refl
+or_ended _ = refl
 
 -- ---- by what a walk over both parts comes to
 

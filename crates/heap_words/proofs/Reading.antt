@@ -4,7 +4,7 @@ use Rattle.std.specs.Result.{OkIff, result_ok}
 use Rattle.std.proofs.lemmas.Bool.Decides.{nat_tests}
 use Rattle.heap_words.specs.declared.tag.Tag.TheVariants.{Number, Pointer}
 use Rattle.heap_words.specs.Word.{tag_of, number_word, pointer_word}
-use Rattle.heap_words.specs.Decoded.{Decoded, NumberWord, PointerWord, HeaderWord, ForwardWord, BusyWord, Malformed, decode, number_in, pointer_in}
+use Rattle.heap_words.specs.Decoded.{Decoded, NumberWord, PointerWord, decode, number_in, pointer_in}
 use Rattle.heap_words.proofs.Tags.{tag_of-number_word, tag_of-pointer_word}
 use Rattle.heap_words.proofs.Spelling.{number_word-decode, pointer_word-decode}
 
@@ -16,11 +16,7 @@ number_in-number w tag short = let test : nat_lt w (2 ^ 64) ≡ true = grind (ar
 
 no_number : (w : ℕ) (d : Decoded) → decode w ≡ d → tag_of w ≢ Number → number_in d ≡ None
 no_number w (NumberWord n) is other = absurd (other (ap tag_of (number_word-decode w n is) ∙ tag_of-number_word n))
-no_number w (PointerWord address) is other = refl
-no_number w (HeaderWord kind len serial mutator) is other = refl
-no_number w (ForwardWord len address) is other = refl
-no_number w (BusyWord len worker) is other = refl
-no_number w Malformed is other = refl
+no_number w _ is other = refl
 
 pub number_in-none : (w : ℕ) → tag_of w ≢ Number → number_in (decode w) ≡ None
 number_in-none w other = no_number w (decode w) refl other
@@ -38,11 +34,7 @@ pointer_in-long w tag long = let test : nat_lt w (2 ^ 34) ≡ false = grind (ari
 no_pointer : (w : ℕ) (d : Decoded) → decode w ≡ d → tag_of w ≢ Pointer → pointer_in d ≡ None
 no_pointer w (PointerWord address) is other =
     absurd (other (ap tag_of (pointer_word-decode w address is) ∙ tag_of-pointer_word address))
-no_pointer w (NumberWord n) is other = refl
-no_pointer w (HeaderWord kind len serial mutator) is other = refl
-no_pointer w (ForwardWord len address) is other = refl
-no_pointer w (BusyWord len worker) is other = refl
-no_pointer w Malformed is other = refl
+no_pointer w _ is other = refl
 
 pub pointer_in-none : (w : ℕ) → tag_of w ≢ Pointer → pointer_in (decode w) ≡ None
 pointer_in-none w other = no_pointer w (decode w) refl other
@@ -57,22 +49,14 @@ pointer_in-narrowed (Err e) w tag wide = sym (pointer_in-long w tag (grind arith
 
 spelled_number : (w : ℕ) (d : Decoded) → decode w ≡ d → IfSome (number_in d) (λ n. w ≡ number_word n)
 spelled_number w (NumberWord n) is = number_word-decode w n is
-spelled_number w (PointerWord address) is = tt
-spelled_number w (HeaderWord kind len serial mutator) is = tt
-spelled_number w (ForwardWord len address) is = tt
-spelled_number w (BusyWord len worker) is = tt
-spelled_number w Malformed is = tt
+spelled_number w _ is = tt
 
 pub number_in-spelling : (w : ℕ) → IfSome (number_in (decode w)) (λ n. w ≡ number_word n)
 number_in-spelling w = spelled_number w (decode w) refl
 
 spelled_pointer : (w : ℕ) (d : Decoded) → decode w ≡ d → IfSome (pointer_in d) (λ address. w ≡ pointer_word address)
 spelled_pointer w (PointerWord address) is = pointer_word-decode w address is
-spelled_pointer w (NumberWord n) is = tt
-spelled_pointer w (HeaderWord kind len serial mutator) is = tt
-spelled_pointer w (ForwardWord len address) is = tt
-spelled_pointer w (BusyWord len worker) is = tt
-spelled_pointer w Malformed is = tt
+spelled_pointer w _ is = tt
 
 pub pointer_in-spelling : (w : ℕ) → IfSome (pointer_in (decode w)) (λ address. w ≡ pointer_word address)
 pointer_in-spelling w = spelled_pointer w (decode w) refl

@@ -75,9 +75,5 @@ decode-encode Malformed fits = decode-malformed
 
 pub encode-below : (d : Decoded) → IsInRange d → encode d < 2 ^ 64
 unfolding number_word pointer_word header_word forward_word busy_word
-encode-below (NumberWord n) fits = omega arith
-encode-below (PointerWord address) fits = omega arith
 encode-below (HeaderWord kind len serial mutator) fits = omega (arith, kind_code-lt kind)
-encode-below (ForwardWord len address) fits = omega arith
-encode-below (BusyWord len worker) fits = omega arith
-encode-below Malformed fits = omega arith
+encode-below _ fits = omega arith

@@ -62,12 +62,7 @@ more_found K L B C then said r (LoadsPage page (Some word)) has = said word has
 more_found K L B C then said r (LoadsSave page None) has = λ other before. then other (has other before)
 more_found K L B C then said r (LoadsSave page (Some word)) has = said word has
 more_found K L B C then said r ExchangesDone has = λ other in_round. then other (has other in_round)
-more_found K L B C then said r LoadsGate has = tt
-more_found K L B C then said r LoadsSnap has = tt
-more_found K L B C then said r LoadsDone has = tt
-more_found K L B C then said r LoadsGateAgain has = tt
-more_found K L B C then said r (Saves s) has = tt
-more_found K L B C then said r (Ended result) has = tt
+more_found K L B C then said r _ has = tt
 
 -- the board comes first
 first_found : (K B : ℕ → Type 0) (r : SavingRound) → HasFound K B r (SaveRound.first_page r)

@@ -18,7 +18,7 @@ use Rattle.page_saves.specs.declared.may_write.MayWrite.{MayWrite}
 use Rattle.page_saves.specs.declared.save_end.SaveEnd.{SaveEnd}
 use Rattle.page_saves.specs.declared.save_end.SaveEnd.TheVariants.{Saved, Taken}
 use Rattle.page_saves.specs.declared.save_state.SaveState.{SaveState}
-use Rattle.page_saves.specs.declared.save_state.SaveState.TheVariants.{Waits, Copying, Kept, Past}
+use Rattle.page_saves.specs.declared.save_state.SaveState.TheVariants.{Waits, Kept, Past}
 use Rattle.page_saves.specs.Guard.{Guarding, guard_machine, told, told_at, looked, looked_by, save_went}
 use Rattle.page_saves.specs.Save.{PageSaving, save_machine}
 use Rattle.page_saves.specs.Save as save
@@ -48,10 +48,8 @@ kept_is says number some is = by_tests (nat_lt (number_of says) number) (nat_eq 
 -- ---- what is told
 
 state_ends : (g : Guarding) (says : SaveWord) (state : SaveState) (outcome : MayWrite) → told_at (looked_by g says state) ≡ Finished outcome → state ≡ Kept
-state_ends g says Waits outcome tells = cc
-state_ends g says Copying outcome tells = cc
 state_ends g says Kept outcome tells = refl
-state_ends g says Past outcome tells = cc
+state_ends g says _ outcome tells = cc
 
 -- a look that ends has found the page kept
 record LookEnds (g : Guarding) (o : Option SaveWord) : Type 0 where

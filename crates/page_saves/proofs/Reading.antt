@@ -69,11 +69,8 @@ module _ (begun : SavingRound) (met : ℕ → List ℕ) where
   HasReadAt n r LoadsSnap = HasEpoch begun met n r.layout.pages r.epoch r.caller
   HasReadAt n r LoadsDone = HasReadSnap begun met n r.layout.pages r.epoch r.number r.caller
   HasReadAt n r LoadsGateAgain = HasReadDone begun met n r.layout.pages r.epoch r.number r.caller
-  HasReadAt n r (LoadsPage page busy) = HasReadAll begun met n r.layout.pages r.epoch r.number r.caller
-  HasReadAt n r (LoadsSave page busy) = HasReadAll begun met n r.layout.pages r.epoch r.number r.caller
-  HasReadAt n r (Saves s) = HasReadAll begun met n r.layout.pages r.epoch r.number r.caller
-  HasReadAt n r ExchangesDone = HasReadAll begun met n r.layout.pages r.epoch r.number r.caller
   HasReadAt n r (Ended result) = ⊤
+  HasReadAt n r _ = HasReadAll begun met n r.layout.pages r.epoch r.number r.caller
 
   abbrev HasReadBy : ℕ → SavingRound → Type 0
   HasReadBy n r = HasReadAt n r r.stage

@@ -144,15 +144,11 @@ page_ends r page loaded busy result tells = by_test (nat_eq loaded (encode_page 
 
 pub within_copying : (says : SaveWord) (number : ℕ) → number_of says ≡ number → state_within says ≡ Copying → (worker : ℕ) × (says ≡ save_word.Saving number worker)
 within_copying (save_word.Saving found worker) number same is = (worker, ap (λ (c : ℕ). save_word.Saving c worker) same)
-within_copying save_word.Unsaved number same is = cc
-within_copying (save_word.Saved found) number same is = cc
-within_copying (save_word.New found) number same is = cc
+within_copying _ number same is = cc
 
 pub within_never_past : (says : SaveWord) → state_within says ≡ Past → ⊥
 within_never_past save_word.Unsaved is = cc
-within_never_past (save_word.Saving found worker) is = cc
-within_never_past (save_word.Saved found) is = cc
-within_never_past (save_word.New found) is = cc
+within_never_past _ is = cc
 
 -- what a state tells of the word
 pub record SaysState (says : SaveWord) (number : ℕ) (state : SaveState) : Type 0 where
@@ -225,12 +221,8 @@ saving_ends r s before after result acts =
 
 pub exchange_wins : (r : SavingRound) (answer : Reply) → told (taken_at r ExchangesDone answer) ≡ Finished Marked → r.stage ≡ ExchangesDone → answer ≡ reply.Won
 exchange_wins r reply.Won tells is = refl
-exchange_wins r (reply.Lost word) tells is = cc
-exchange_wins r (reply.Value word) tells is = cc
-exchange_wins r reply.Done tells is = cc
+exchange_wins r _ tells is = cc
 
 pub exchange_loses : (r : SavingRound) (answer : Reply) (word : ℕ) → told (taken_at r ExchangesDone answer) ≡ Finished (NothingNow word) → r.stage ≡ ExchangesDone → answer ≡ reply.Lost word
 exchange_loses r (reply.Lost lost) word tells is = let same : lost ≡ word = cc in ap reply.Lost same
-exchange_loses r reply.Won word tells is = cc
-exchange_loses r (reply.Value value) word tells is = cc
-exchange_loses r reply.Done word tells is = cc
+exchange_loses r _ word tells is = cc

@@ -112,9 +112,7 @@ not_none (save_end.Taken lost) number same = cc
 
 exchange_never_none : (r : SavingRound) (answer : Reply) (number : ℕ) → told (taken_at (at_stage r ExchangesDone) ExchangesDone answer) ≡ Finished (NoneRuns number) → ⊥
 exchange_never_none r reply.Won number tells = cc
-exchange_never_none r (reply.Lost lost) number tells = cc
-exchange_never_none r (reply.Value value) number tells = cc
-exchange_never_none r reply.Done number tells = cc
+exchange_never_none r _ number tells = cc
 
 -- the number that the round has is loaded as that of the checkpoint done last; no word changes
 pub record FindsSame (r : SavingRound) (before after : List ℕ) (number : ℕ) : Type 0 where
@@ -144,9 +142,7 @@ is_saved (save_end.Taken lost) same = cc
 
 exchange_never_saves : (r : SavingRound) (answer : Reply) → told (taken_at (at_stage r ExchangesDone) ExchangesDone answer) ≡ Finished Saved → ⊥
 exchange_never_saves r reply.Won tells = cc
-exchange_never_saves r (reply.Lost lost) tells = cc
-exchange_never_saves r (reply.Value value) tells = cc
-exchange_never_saves r reply.Done tells = cc
+exchange_never_saves r _ tells = cc
 
 pub saves_page : (r : SavingRound) (stage : SaveRoundStage) (before after : List ℕ) → IsSoundSaveRound (at_stage r stage) → HoldsWhole r.layout before
     → MakesStep save_round_machine (at_stage r stage) before after (Finished Saved) → SavesPage (at_stage r stage) before after

@@ -58,17 +58,13 @@ round_by_rows r stage fits = refl
 
 pub round_rows_fit : (r : SavingRound) (stage : SaveRoundStage) → FitsSaveRoundStage r stage → IsSaveRoundGoing stage
     → IsOn (IsWholeRow r.layout.pages) (round.wants_at r stage)
-round_rows_fit r round_stage.LoadsGate fits going = tt
-round_rows_fit r round_stage.LoadsSnap fits going = tt
-round_rows_fit r round_stage.LoadsDone fits going = tt
-round_rows_fit r round_stage.LoadsGateAgain fits going = tt
 round_rows_fit r (round_stage.LoadsPage page busy) fits going = fits.in_table
 round_rows_fit r (round_stage.LoadsSave page busy) fits going = fits.in_table
 round_rows_fit r (round_stage.Saves s) fits going =
     subst (λ (l : Layout). IsOn (IsWholeRow l.pages) (save.wants_at s s.stage)) fits.1.in_layout
     (save_rows_fit s s.stage fits.1.sound.stage fits.1.sound.page fits.1.going)
-round_rows_fit r round_stage.ExchangesDone fits going = tt
 round_rows_fit r (round_stage.Ended result) fits going = going
+round_rows_fit r _ fits going = tt
 
 -- ---- what is written
 

@@ -34,15 +34,11 @@ exchange_wins false word tells = cc
 
 exchange_loses : (r : Reply) (word : ℕ) → told_at (next_stage Exchanges r) ≡ Finished (Taken word) → r ≡ reply.Lost word
 exchange_loses (reply.Lost lost) word tells = let same : lost ≡ word = cc in ap reply.Lost same
-exchange_loses reply.Won word tells = cc
-exchange_loses (reply.Value value) word tells = cc
-exchange_loses reply.Done word tells = cc
+exchange_loses _ word tells = cc
 
 exchange_never_saves : (r : Reply) → told_at (next_stage Exchanges r) ≡ Finished Saved → ⊥
-exchange_never_saves (reply.Lost lost) tells = cc
-exchange_never_saves reply.Won tells = cc
-exchange_never_saves (reply.Value value) tells = cc
-exchange_never_saves reply.Done tells = cc
+exchange_never_saves (reply.Lost _) tells = cc
+exchange_never_saves _ tells = cc
 
 -- after a word it goes on
 pub word_goes_on : (i : ℕ) (result : SaveEnd) → told_at (after_word i) ≡ Finished result → ⊥

@@ -52,22 +52,12 @@ word_fits i = by_test (nat_lt (i + 1) 64) refl
 
 save_fits : (stage : SaveStage) (r : Reply) → FitsSaveStage stage → FitsSaveStage (save.next_stage stage r)
 save_fits save_stage.Exchanges Won fits = omega arith
-save_fits save_stage.Exchanges (Lost word) fits = tt
-save_fits save_stage.Exchanges (Value word) fits = tt
-save_fits save_stage.Exchanges Done fits = tt
-save_fits (save_stage.LoadsWord i) (Value word) fits = fits
-save_fits (save_stage.LoadsWord i) Won fits = fits
-save_fits (save_stage.LoadsWord i) (Lost word) fits = fits
-save_fits (save_stage.LoadsWord i) Done fits = fits
+save_fits (save_stage.LoadsWord i) (Value _) fits = fits
+save_fits (save_stage.LoadsWord i) _ fits = fits
 save_fits (save_stage.StoresImage i word) Done fits = word_fits i
-save_fits (save_stage.StoresImage i word) Won fits = fits
-save_fits (save_stage.StoresImage i word) (Lost other) fits = fits
-save_fits (save_stage.StoresImage i word) (Value other) fits = fits
+save_fits (save_stage.StoresImage i word) _ fits = fits
 save_fits save_stage.StoresSaved Done fits = tt
-save_fits save_stage.StoresSaved Won fits = tt
-save_fits save_stage.StoresSaved (Lost word) fits = tt
-save_fits save_stage.StoresSaved (Value word) fits = tt
-save_fits (save_stage.Ended result) r fits = tt
+save_fits _ _ fits = tt
 
 pub save_stays : (s : PageSaving) (r : Reply) → IsSoundSave s → IsSoundSave (save.taken s r)
 save_stays s r sound = record {
@@ -83,11 +73,8 @@ save_stays s r sound = record {
 
 -- a save that goes on has a next step
 goes_on : (stage : SaveStage) → save.told_at stage ≡ More → IsSaveGoing stage
-goes_on save_stage.Exchanges more = tt
-goes_on (save_stage.LoadsWord i) more = tt
-goes_on (save_stage.StoresImage i word) more = tt
-goes_on save_stage.StoresSaved more = tt
 goes_on (save_stage.Ended result) more = cc
+goes_on _ more = tt
 
 -- it is the same worker's then, of the same page for the same checkpoint
 own_stays : (layout : Layout) (page number worker : ℕ) (s : PageSaving) (r : Reply) → IsOwnSave layout page number worker s
@@ -105,9 +92,7 @@ own_stays layout page number worker s r own more = record {
 
 within_never_waits : (says : SaveWord) → state_within says ≡ Waits → ⊥
 within_never_waits save_word.Unsaved is = cc
-within_never_waits (save_word.Saving found worker) is = cc
-within_never_waits (save_word.Saved found) is = cc
-within_never_waits (save_word.New found) is = cc
+within_never_waits _ is = cc
 
 -- a page that waits is of an earlier checkpoint, if of any
 waits_is : (says : SaveWord) (number : ℕ) → state_of says number ≡ Waits → number_of says < number
@@ -146,9 +131,7 @@ by_looked : (g : Guarding) (stage : GuardStage) (word : ℕ) (says : SaveWord) (
     → state_of says g.number ≡ state → FitsGuardStage g (guard.looked_by g says state)
 by_looked g stage word says Waits sound reads is =
     begun_own g.layout g.page g.number g.worker word says sound.pages sound.room sound.page sound.number sound.worker reads is
-by_looked g stage word says Copying sound reads is = tt
-by_looked g stage word says Kept sound reads is = tt
-by_looked g stage word says Past sound reads is = tt
+by_looked g stage word says _ sound reads is = tt
 
 by_look : (g : Guarding) (stage : GuardStage) (word : ℕ) (o : Option SaveWord) → IsSoundGuard (record g { stage = stage }) → decode_save word ≡ o → FitsGuardStage g (guard.looked g o)
 by_look g stage word (Some says) sound reads = by_looked g stage word says (state_of says g.number) sound reads refl
@@ -161,12 +144,9 @@ by_went g s (Finished (save_end.Taken word)) own = tt
 
 guard_fits : (g : Guarding) (stage : GuardStage) (r : Reply) → IsSoundGuard (record g { stage = stage }) → FitsGuardStage g (guard.next_stage g stage r)
 guard_fits g guard_stage.Looks (Value word) sound = by_look g guard_stage.Looks word (decode_save word) sound refl
-guard_fits g guard_stage.Looks Won sound = tt
-guard_fits g guard_stage.Looks (Lost word) sound = tt
-guard_fits g guard_stage.Looks Done sound = tt
 guard_fits g (guard_stage.Saves s) r sound =
     by_went g (save.taken s r) (save.told (save.taken s r)) (λ more. own_stays g.layout g.page g.number g.worker s r sound.stage more)
-guard_fits g (guard_stage.Ended result) r sound = tt
+guard_fits g _ _ sound = tt
 
 pub guard_stays : (g : Guarding) (r : Reply) → IsSoundGuard g → IsSoundGuard (guard.taken g r)
 guard_stays g r sound = record {

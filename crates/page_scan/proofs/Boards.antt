@@ -4,13 +4,13 @@ use Rattle.std.specs.Prelude.{◌==◌}
 use Rattle.std.proofs.lemmas.Bool.{lt-ltb, le-ltb, cases_lt}
 use Rattle.std.proofs.lemmas.Bool.Decides.{nat_tests}
 use Rattle.atom_store.specs.Runs.{Working, alone}
-use Rattle.heap_words.specs.Decoded.{Decoded, NumberWord, PointerWord, HeaderWord, ForwardWord, BusyWord, Malformed, decode}
+use Rattle.heap_words.specs.Decoded.{Decoded, PointerWord, decode}
 use Rattle.heap_words.specs.Word.{pointer_word}
 use Rattle.space_map.specs.Spaces.{Layout, first_word, board_page}
 use Rattle.space_map.specs.Table.{HeapWord, place_of, table_length}
 use Rattle.page_scan.specs.declared.ending.Ending.{Ending}
 use Rattle.page_scan.specs.declared.scan_stage.ScanStage.{ScanStage}
-use Rattle.page_scan.specs.declared.scan_stage.ScanStage.TheVariants.{LoadsCross, LoadsFirst, LoadsCount, LoadsWord, Asks, StoresCopy, LoadsFront, LoadsNext, Ended}
+use Rattle.page_scan.specs.declared.scan_stage.ScanStage.TheVariants.{LoadsCross, LoadsWord, Asks, StoresCopy, Ended}
 use Rattle.page_scan.specs.declared.spot.Spot.{Spot}
 use Rattle.page_scan.specs.declared.spot.Spot.TheVariants.{OnBoard, InRecord}
 use Rattle.page_scan.specs.Answering.{LeadsBack, ReplacesPointers, answered_by, answering, heap_in}
@@ -68,11 +68,7 @@ module _ (l : Layout) (epoch : ℕ) (in_place : Bool) (words : List ℕ) (answer
   word-Knows : (x : ℕ) (now : List ℕ) (d : Decoded) → Below x now → Looked x → decode (heap_in l words x) ≡ d
       → Knows (answered_by answer (by_word l board epoch in_place (OnBoard x) d)) now
   word-Knows x now (PointerWord a) replaced looked is = old-Knows x now a (is_old l epoch a) replaced looked is refl
-  word-Knows x now (NumberWord n) replaced looked is = over_word x now replaced looked (λ old leads back. let e = sym is ∙ leads in cc)
-  word-Knows x now (HeaderWord kind len serial mutator) replaced looked is = over_word x now replaced looked (λ old leads back. let e = sym is ∙ leads in cc)
-  word-Knows x now (ForwardWord len a) replaced looked is = over_word x now replaced looked (λ old leads back. let e = sym is ∙ leads in cc)
-  word-Knows x now (BusyWord len worker) replaced looked is = over_word x now replaced looked (λ old leads back. let e = sym is ∙ leads in cc)
-  word-Knows x now Malformed replaced looked is = over_word x now replaced looked (λ old leads back. let e = sym is ∙ leads in cc)
+  word-Knows x now _ replaced looked is = over_word x now replaced looked (λ old leads back. let e = sym is ∙ leads in cc)
 
   spot-Knows : (spot : Spot) (now : List ℕ) → KnowsSpot spot now
       → Knows (answered_by answer (by_word l board epoch in_place spot (decode (heap_in l now (address_of spot))))) now
@@ -103,15 +99,10 @@ module _ (l : Layout) (epoch : ℕ) (in_place : Bool) (words : List ℕ) (answer
   runs : (n : ℕ) (x : ScanStage) (now : List ℕ) → Knows x now → Running n x now
   unfolding alone
   runs zero x now known = known
-  runs (suc n) LoadsCross now known = absurd known
-  runs (suc n) (LoadsFirst a) now known = absurd known
-  runs (suc n) (LoadsCount h) now known = absurd known
   runs (suc n) (LoadsWord spot) now known = runs n _ now (spot-Knows spot now known)
-  runs (suc n) (Asks asked) now known = absurd known
   runs (suc n) (StoresCopy asked to) now known = runs n _ _ (stored-Knows asked.spot asked.old to now known.0 known.1 known.2)
-  runs (suc n) (LoadsFront r) now known = absurd known
-  runs (suc n) (LoadsNext r) now known = absurd known
   runs (suc n) (Ended ending) now known = runs n (Ended ending) now known
+  runs (suc n) _ now known = absurd known
 
   pub scanned : (n : ℕ) (ending : Ending) → (alone (answering answer) n (scan_at (LoadsWord (OnBoard (64 * board))) words)).machine.stage ≡ Ended ending
       → ReplacesPointers l epoch Looked answer words (alone (answering answer) n (scan_at (LoadsWord (OnBoard (64 * board))) words)).words

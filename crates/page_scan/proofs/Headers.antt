@@ -1,13 +1,13 @@
 -- What the code reads in the first word at an address is what the scan makes of it.
 use Rattle.std.proofs.Common.{◌≡◌, ℕ, ◌+◌, Bool, Some, None, refl, sym, ap, ◌∙◌}
 use Rattle.atom_store.specs.declared.turn.Turn.TheVariants.{More}
-use Rattle.heap_words.specs.Decoded.{Decoded, NumberWord, PointerWord, HeaderWord, ForwardWord, BusyWord, Malformed, decode, encode}
+use Rattle.heap_words.specs.Decoded.{Decoded, HeaderWord, decode, encode}
 use Rattle.heap_words.proofs.Decoding.{decode-header_word}
 use Rattle.record_layout.specs.declared.header.Header.{Header}
 use Rattle.record_layout.specs.Layout.{header_in, header_says}
 use Rattle.record_layout.proofs.Rereading.{header_in-said}
 use Rattle.page_scan.specs.declared.scan_stage.ScanStage.{ScanStage}
-use Rattle.page_scan.specs.declared.scan_stage.ScanStage.TheVariants.{LoadsCross, LoadsFirst, LoadsCount, LoadsWord, Asks, StoresCopy, LoadsFront, LoadsNext, Ended}
+use Rattle.page_scan.specs.declared.scan_stage.ScanStage.TheVariants.{Asks, Ended}
 use Rattle.page_scan.specs.Scanning.{HasStep}
 use Rattle.page_scan.specs.Taken.{by_header, by_kind, told}
 
@@ -20,11 +20,7 @@ no_header : (page : ℕ) (in_place : Bool) (at : ℕ) (stage : ScanStage) (w : �
     → by_header page in_place at stage d ≡ stage
 no_header page in_place at stage w (HeaderWord kind len serial mutator) e none =
     let h = header_in-said w kind len serial mutator e in absurd (let z : None ≡ Some h.0 = sym none ∙ h.1 in cc)
-no_header page in_place at stage w (NumberWord n) e none = refl
-no_header page in_place at stage w (PointerWord address) e none = refl
-no_header page in_place at stage w (ForwardWord len address) e none = refl
-no_header page in_place at stage w (BusyWord len worker) e none = refl
-no_header page in_place at stage w Malformed e none = refl
+no_header page in_place at stage w _ e none = refl
 
 pub by_header-none : (page : ℕ) (in_place : Bool) (at : ℕ) (stage : ScanStage) (w : ℕ) → None ≡ header_in (decode w)
     → by_header page in_place at stage (decode w) ≡ stage
@@ -32,12 +28,6 @@ by_header-none page in_place at stage w none = no_header page in_place at stage 
 
 -- a scan that has a next step tells nothing
 pub told-HasStep : (x : ScanStage) → HasStep x → told x ≡ More
-told-HasStep LoadsCross going = refl
-told-HasStep (LoadsFirst at) going = refl
-told-HasStep (LoadsCount h) going = refl
-told-HasStep (LoadsWord spot) going = refl
 told-HasStep (Asks asked) going = absurd going
-told-HasStep (StoresCopy asked to) going = refl
-told-HasStep (LoadsFront r) going = refl
-told-HasStep (LoadsNext r) going = refl
 told-HasStep (Ended ending) going = absurd going
+told-HasStep _ going = refl

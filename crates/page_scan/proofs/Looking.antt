@@ -13,7 +13,7 @@ use Rattle.plain_state.specs.declared.kind.Kind.TheVariants.{Fields, Raw, Mixed,
 use Rattle.heap_state.specs.Memory.FieldSpan.{first_field}
 use Rattle.heap_words.specs.declared.kind.Kind.{Kind as HeaderKind}
 use Rattle.heap_words.specs.declared.kind.Kind.TheVariants as header
-use Rattle.heap_words.specs.Decoded.{Decoded, NumberWord, PointerWord, HeaderWord, ForwardWord, BusyWord, Malformed, decode}
+use Rattle.heap_words.specs.Decoded.{Decoded, NumberWord, PointerWord, HeaderWord, decode}
 use Rattle.space_map.specs.declared.area_word.AreaWord.{AreaWord}
 use Rattle.space_map.specs.AreaWord.{decode_area}
 use Rattle.space_map.specs.Spaces.{Layout, to_space, space_start, first_word}
@@ -34,15 +34,10 @@ use Rattle.page_scan.specs.Theorems.{AsksAtWords, AsksOfPointers, CursorRises, E
 -- ---- stores
 
 stores : (v : Scanning) (x : ScanStage) (step : Step) → v.stage ≡ x → wanted_at v.layout v.page v.epoch x ≡ Some step → StoresAnswer v step
-stores v LoadsCross step is wants = subst (StoresAnswer v) (same_Some _ _ wants) tt
-stores v (LoadsFirst at) step is wants = subst (StoresAnswer v) (same_Some _ _ wants) tt
-stores v (LoadsCount h) step is wants = subst (StoresAnswer v) (same_Some _ _ wants) tt
-stores v (LoadsWord spot) step is wants = subst (StoresAnswer v) (same_Some _ _ wants) tt
 stores v (Asks asked) step is wants = absurd (cc)
 stores v (StoresCopy asked to) step is wants = subst (StoresAnswer v) (same_Some _ _ wants) (asked, to, is, refl, refl)
-stores v (LoadsFront r) step is wants = subst (StoresAnswer v) (same_Some _ _ wants) tt
-stores v (LoadsNext r) step is wants = subst (StoresAnswer v) (same_Some _ _ wants) tt
 stores v (Ended ending) step is wants = absurd (cc)
+stores v _ step is wants = subst (StoresAnswer v) (same_Some _ _ wants) tt
 
 pub stores_only_answers : StoresOnlyAnswers
 stores_only_answers v step wants = stores v v.stage step refl wants
@@ -92,11 +87,7 @@ module _ (P : ScanStage → Type 0) where
       → P stage → P (by_header page in_place at stage d)
   of_header page in_place at stage (HeaderWord kind len serial mutator) entered mixed other =
       of_kind page in_place at kind (len + 1) (λ k. entered k (len + 1)) (mixed (len + 1))
-  of_header page in_place at stage (NumberWord n) entered mixed other = other
-  of_header page in_place at stage (PointerWord a) entered mixed other = other
-  of_header page in_place at stage (ForwardWord len a) entered mixed other = other
-  of_header page in_place at stage (BusyWord len worker) entered mixed other = other
-  of_header page in_place at stage Malformed entered mixed other = other
+  of_header page in_place at stage _ entered mixed other = other
 
   pub of_count : (page : ℕ) (in_place : Bool) (h : HeadedRecord) (d : Decoded)
       → ((c : ℕ) → c + 2 ≤ h.size → P (enters page in_place h.at (Mixed c) h.size)) → P (LoadsCount h) → P (by_count page in_place h d)
@@ -104,11 +95,7 @@ module _ (P : ScanStage → Type 0) where
       (λ (a : h.size < c + 2). rw (lt-leb (c + 2) h.size a) other)
       (λ (a : c + 2 ≤ h.size). rw (le-leb (c + 2) h.size a) (counted c a))
       (cases_lt h.size (c + 2))
-  of_count page in_place h (PointerWord a) counted other = other
-  of_count page in_place h (HeaderWord kind len serial mutator) counted other = other
-  of_count page in_place h (ForwardWord len a) counted other = other
-  of_count page in_place h (BusyWord len worker) counted other = other
-  of_count page in_place h Malformed counted other = other
+  of_count page in_place h _ counted other = other
 
   of_old : (b : Bool) (x y : ScanStage) → (b ≡ true → P x) → P y → P (if b then x else y)
   of_old true x y here there = here refl
@@ -118,11 +105,7 @@ module _ (P : ScanStage → Type 0) where
       → ((old : ℕ) → d ≡ PointerWord old → is_old l epoch old ≡ true → P (Asks (record { spot = spot; old = old })))
       → P (passes_word page in_place spot) → P (by_word l page epoch in_place spot d)
   of_word l page epoch in_place spot (PointerWord a) asks other = of_old (is_old l epoch a) _ _ (asks a refl) other
-  of_word l page epoch in_place spot (NumberWord n) asks other = other
-  of_word l page epoch in_place spot (HeaderWord kind len serial mutator) asks other = other
-  of_word l page epoch in_place spot (ForwardWord len a) asks other = other
-  of_word l page epoch in_place spot (BusyWord len worker) asks other = other
-  of_word l page epoch in_place spot Malformed asks other = other
+  of_word l page epoch in_place spot _ asks other = other
 
   at_front : (r : ScannedRecord) (front : ℕ) (b : Bool) → (front == r.next) ≡ b
       → (front ≡ r.next → P (Ended (record { cursor = r.next; at_front = true }))) → P (LoadsNext r)

@@ -3,7 +3,7 @@ use Rattle.std.proofs.Common.{IsTrue, refl, ◌≡◌, ℕ, zero, suc, ◌+◌, 
 use Rattle.std.proofs.lemmas.Bool.{cases_lt, leb-true}
 use Rattle.heap_words.specs.declared.kind.Kind.{Kind as HeaderKind}
 use Rattle.heap_words.specs.declared.kind.Kind.TheVariants as header
-use Rattle.heap_words.specs.Decoded.{Decoded, NumberWord, PointerWord, HeaderWord, ForwardWord, BusyWord, Malformed, decode}
+use Rattle.heap_words.specs.Decoded.{Decoded, NumberWord, HeaderWord, decode}
 use Rattle.plain_state.specs.declared.kind.Kind.TheVariants.{Mixed}
 use Rattle.heap_state.specs.Invariant.Ghost.{count_said, said_kind}
 use Rattle.heap_state.proofs.Records.FieldSpans.{span-within}
@@ -14,11 +14,7 @@ use Rattle.page_scan.specs.Taken.{is_count}
 -- where the next word is a count, it is said
 count-le : (size : ℕ) (d : Decoded) → IsTrue (is_count size d) → count_said d + 2 ≤ size
 count-le size (NumberWord c) is = leb-true (c + 2) size is
-count-le size (PointerWord a) is = absurd (cc)
-count-le size (HeaderWord kind len serial mutator) is = absurd (cc)
-count-le size (ForwardWord len a) is = absurd (cc)
-count-le size (BusyWord len worker) is = absurd (cc)
-count-le size Malformed is = absurd (cc)
+count-le size _ is = absurd (cc)
 
 -- the word behind a mixed record's header is its count
 abbrev pub IsCounted : Decoded → (next : ℕ) → Type 0
@@ -26,23 +22,17 @@ IsCounted d next = (len serial mutator : ℕ) → d ≡ HeaderWord header.Mixed 
 
 room-said : (kind : HeaderKind) (len serial mutator next : ℕ) → IsCounted (HeaderWord kind len serial mutator) next
     → (count : ℕ) → said_kind kind next ≡ Mixed count → count + 2 ≤ len + 1
-room-said header.Fields len serial mutator next counted count is = absurd (cc)
-room-said header.Raw len serial mutator next counted count is = absurd (cc)
 room-said header.Mixed len serial mutator next counted count is =
     let said : count_said (decode next) ≡ count = cc in
     let le = count-le (len + 1) (decode next) (counted len serial mutator refl) in
     omega arith
-room-said header.Weak len serial mutator next counted count is = absurd (cc)
+room-said _ len serial mutator next counted count is = absurd (cc)
 
 -- a record's fields begin and end within it
 said-within : (d : Decoded) (next : ℕ) → IsCounted d next → (first_said d next ≤ size_said d) × (fields_said d next ≤ size_said d)
 said-within (HeaderWord kind len serial mutator) next counted =
     let z = span-within (said_kind kind next) (len + 1) (omega arith) (room-said kind len serial mutator next counted) in (z.1, z.2)
-said-within (NumberWord n) next counted = (omega arith, omega arith)
-said-within (PointerWord a) next counted = (omega arith, omega arith)
-said-within (ForwardWord len a) next counted = (omega arith, omega arith)
-said-within (BusyWord len worker) next counted = (omega arith, omega arith)
-said-within Malformed next counted = (omega arith, omega arith)
+said-within _ next counted = (omega arith, omega arith)
 
 module _ (heap : ℕ → ℕ) (from front : ℕ) where
   abbrev at : ℕ → ℕ

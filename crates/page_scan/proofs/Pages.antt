@@ -7,7 +7,7 @@ use Rattle.atom_store.specs.Runs.{Working, alone}
 use Rattle.plain_state.specs.declared.kind.Kind.TheVariants.{Mixed}
 use Rattle.heap_words.specs.declared.kind.Kind.{Kind as HeaderKind}
 use Rattle.heap_words.specs.declared.kind.Kind.TheVariants as header
-use Rattle.heap_words.specs.Decoded.{Decoded, NumberWord, PointerWord, HeaderWord, ForwardWord, BusyWord, Malformed, decode}
+use Rattle.heap_words.specs.Decoded.{Decoded, NumberWord, PointerWord, HeaderWord, decode}
 use Rattle.heap_state.specs.Memory.FieldSpan.{first_field}
 use Rattle.heap_state.specs.Invariant.Ghost.{count_said, said_kind}
 use Rattle.heap_state.specs.Kept.{size_said}
@@ -155,15 +155,8 @@ module _ (l : Layout) (page epoch : ℕ) (in_place : Bool) (words : List ℕ) (f
       (cases_lt y r.fields_end)
 
   still : (x : ScanStage) (now : List ℕ) → Knows x now → Knows (answered_by answer x) now
-  still LoadsCross now known = known
-  still (LoadsFirst a) now known = known
-  still (LoadsCount h) now known = known
-  still (LoadsWord spot) now known = known
   still (Asks asked) now known = absurd known
-  still (StoresCopy asked to) now known = known
-  still (LoadsFront r) now known = known
-  still (LoadsNext r) now known = known
-  still (Ended ending) now known = known
+  still _ now known = known
 
   -- ---- headers
 
@@ -197,11 +190,7 @@ module _ (l : Layout) (page epoch : ℕ) (in_place : Bool) (words : List ℕ) (f
       → Below (max (at k) (64 * page)) now → 64 * page ≤ at (k + 1) → Knows (by_header page in_place (at k) stage d) now
   header-Knows k now stage (HeaderWord kind len serial mutator) says header below replaced reaches =
       kind-Knows k kind len serial mutator now says below replaced reaches
-  header-Knows k now stage (NumberWord n) says header below replaced reaches = absurd (cc)
-  header-Knows k now stage (PointerWord a) says header below replaced reaches = absurd (cc)
-  header-Knows k now stage (ForwardWord len a) says header below replaced reaches = absurd (cc)
-  header-Knows k now stage (BusyWord len worker) says header below replaced reaches = absurd (cc)
-  header-Knows k now stage Malformed says header below replaced reaches = absurd (cc)
+  header-Knows k now stage _ says header below replaced reaches = absurd (cc)
 
   -- the first word of a record is read
   reads-Knows : (k a : ℕ) (now : List ℕ) (stage : ScanStage) → a ≡ at k → heap_in l now a ≡ heap a → at k < front
@@ -260,11 +249,7 @@ module _ (l : Layout) (page epoch : ℕ) (in_place : Bool) (words : List ℕ) (f
       → Below (max (at k) (64 * page)) now → 64 * page ≤ at (k + 1) → decode (heap (at k + 1)) ≡ d → IsTrue (is_count (len + 1) d)
       → Knows (by_count page in_place (record { at = at k; size = len + 1 }) d) now
   count-Knows k len serial mutator (NumberWord c) now says below replaced reaches is fits = counted-Knows k len serial mutator c now says below replaced reaches is fits
-  count-Knows k len serial mutator (PointerWord a) now says below replaced reaches is fits = absurd (cc)
-  count-Knows k len serial mutator (HeaderWord kind n i m) now says below replaced reaches is fits = absurd (cc)
-  count-Knows k len serial mutator (ForwardWord n a) now says below replaced reaches is fits = absurd (cc)
-  count-Knows k len serial mutator (BusyWord n worker) now says below replaced reaches is fits = absurd (cc)
-  count-Knows k len serial mutator Malformed now says below replaced reaches is fits = absurd (cc)
+  count-Knows k len serial mutator _ now says below replaced reaches is fits = absurd (cc)
 
   reads_count-Knows : (k : ℕ) (h : HeadedRecord) (now : List ℕ) → IsHeadedNumber k h → Below (max (at k) (64 * page)) now
       → Knows (by_count page in_place h (decode (heap_in l now (h.at + 1)))) now
@@ -332,11 +317,7 @@ module _ (l : Layout) (page epoch : ℕ) (in_place : Bool) (words : List ℕ) (f
   word-Knows : (k : ℕ) (r : ScannedRecord) (x : ℕ) (now : List ℕ) (d : Decoded) → StandsAt k r x now → decode (heap x) ≡ d
       → Knows (answered_by answer (by_word l page epoch in_place (InRecord r x) d)) now
   word-Knows k r x now (PointerWord a) stands is = old-Knows k r x now a (is_old l epoch a) stands is refl
-  word-Knows k r x now (NumberWord n) stands is = over_word k r x now stands (λ old leads back. let e = sym is ∙ leads in cc)
-  word-Knows k r x now (HeaderWord kind len serial mutator) stands is = over_word k r x now stands (λ old leads back. let e = sym is ∙ leads in cc)
-  word-Knows k r x now (ForwardWord len a) stands is = over_word k r x now stands (λ old leads back. let e = sym is ∙ leads in cc)
-  word-Knows k r x now (BusyWord len worker) stands is = over_word k r x now stands (λ old leads back. let e = sym is ∙ leads in cc)
-  word-Knows k r x now Malformed stands is = over_word k r x now stands (λ old leads back. let e = sym is ∙ leads in cc)
+  word-Knows k r x now _ stands is = over_word k r x now stands (λ old leads back. let e = sym is ∙ leads in cc)
 
   spot-Knows : (spot : Spot) (now : List ℕ) → KnowsSpot spot now
       → Knows (answered_by answer (by_word l page epoch in_place spot (decode (heap_in l now (address_of spot))))) now

@@ -32,15 +32,11 @@ at c stage = record c { stage = stage }
 
 exchange_wins : (c : Claiming) (r : Reply) → told_at (next_stage c Exchanges r) ≡ Finished Won → r ≡ reply.Won
 exchange_wins c reply.Won tells = refl
-exchange_wins c (reply.Lost word) tells = cc
-exchange_wins c (reply.Value word) tells = cc
-exchange_wins c reply.Done tells = cc
+exchange_wins c _ tells = cc
 
 exchange_loses : (c : Claiming) (r : Reply) (word : ℕ) → told_at (next_stage c Exchanges r) ≡ Finished (Taken word) → r ≡ reply.Lost word
 exchange_loses c (reply.Lost lost) word tells = let same : lost ≡ word = cc in ap reply.Lost same
-exchange_loses c reply.Won word tells = cc
-exchange_loses c (reply.Value value) word tells = cc
-exchange_loses c reply.Done word tells = cc
+exchange_loses c _ word tells = cc
 
 -- ---- the looks
 

@@ -3,7 +3,7 @@ use Rattle.std.proofs.Common.{◌≡◌, ℕ, ◌+◌, ◌-◌, ◌<◌, ◌==�
 use Rattle.atom_store.specs.declared.reply.Reply.{Reply}
 use Rattle.atom_store.specs.declared.reply.Reply.TheVariants.{Value}
 use Rattle.atom_store.specs.declared.turn.Turn.TheVariants.{More}
-use Rattle.heap_words.specs.Decoded.{Decoded, NumberWord, PointerWord, HeaderWord, ForwardWord, BusyWord, Malformed, decode, number_in}
+use Rattle.heap_words.specs.Decoded.{Decoded, HeaderWord, decode, number_in}
 use Rattle.heap_words.specs.declared.kind.Kind.{Kind}
 use Rattle.heap_words.specs.declared.kind.Kind.TheVariants as headers
 use Rattle.heap_words.specs.Word.{number_word}
@@ -36,14 +36,12 @@ use Rattle.record_access.specs.Seen.{value_seen}
 use Rattle.record_access.specs.Access.{Answered, advances_at, at_stage, by_kind, count_at, counted_by, counting, field_at, field_of, goes_at, goes_by, goes_to_field, is_header, kind_of, left, left_at, let_through, loading, looked, may_store, read_before, read_count, read_header, role_by_count, storing, taken, told, turn_by, used_by, uses_board, uses_field, valued, Comes, GoesTo, compared, role_of, with_new, word_as}
 
 by_use : (f : FieldAccess) (usage : FieldUse) → left_at (uses_field f usage) < 3
-by_use f (field_uses.Loads into) = omega arith
-by_use f (field_uses.Stores new) = omega arith
-by_use f (field_uses.Exchanges e) = omega arith
+by_use f (field_uses.Loads _) = omega arith
+by_use f _ = omega arith
 
 by_board_use : (word : ℕ) (usage : BoardUse) → left_at (uses_board word usage) < 3
-by_board_use word (board_uses.Loads into) = omega arith
-by_board_use word (board_uses.Stores new) = omega arith
-by_board_use word (board_uses.Swaps into new) = omega arith
+by_board_use word (board_uses.Loads _) = omega arith
+by_board_use word _ = omega arith
 
 by_field : (f : FieldAccess) (usage : FieldUse) → left_at (goes_to_field f usage) < 4
 by_field f usage = by_test (page_of (read_before f) == page_of (field_at f))
@@ -106,11 +104,7 @@ module _ (a : Access) where
 
   by_header : (r : RecordAccess) (d : Decoded) → is_header d ≡ true → Lowers (read_header r d) 6
   by_header r (HeaderWord head len serial mutator) t = by_head r head len
-  by_header r (NumberWord n) t = absurd (cc)
-  by_header r (PointerWord address) t = absurd (cc)
-  by_header r (ForwardWord len address) t = absurd (cc)
-  by_header r (BusyWord len worker) t = absurd (cc)
-  by_header r Malformed t = absurd (cc)
+  by_header r _ t = absurd (cc)
 
   by_value : (m : MixedAccess) (role : Role) (usage : FieldUse) → Lowers (valued m role usage) 4
   by_value m role (field_uses.Loads into) more =

@@ -4,24 +4,14 @@ use Rattle.atom_store.specs.StepOn.{IsOn, WritesOnly}
 use Rattle.space_map.specs.Spaces.{Layout}
 use Rattle.space_map.specs.Table.{Row, HeapWord, IsRow}
 use Rattle.record_access.specs.declared.access_stage.AccessStage.{AccessStage}
-use Rattle.record_access.specs.declared.access_stage.AccessStage.TheVariants.{LooksAtRecord, LoadsHeader, LooksAtCount, LoadsCount, LooksAtField, LoadsField, StoresField, LoadsForCas, ExchangesField, LooksAtBoard, LoadsBoard, StoresBoard, LoadsForSwap, SwapsBoard}
+use Rattle.record_access.specs.declared.access_stage.AccessStage.TheVariants.{StoresField, ExchangesField, LooksAtBoard, StoresBoard, SwapsBoard}
 use Rattle.record_access.specs.Access.{FitsStage, board_at, field_at, wants_at}
 
 pub rows_fit : (l : Layout) (stage : AccessStage) → FitsStage l.pages stage → IsOn (IsRow l.pages) (Some (wants_at l stage))
-rows_fit l (LooksAtRecord r) fits = let inside = fits.0 in omega (arith, inside)
-rows_fit l (LoadsHeader r) fits = let inside = fits.0 in omega (arith, inside)
-rows_fit l (LooksAtCount m) fits = let inside = fits.0 in omega (arith, inside)
-rows_fit l (LoadsCount m) fits = let inside = fits.0 in omega (arith, inside)
-rows_fit l (LooksAtField f usage) fits = let inside = fits.0 in omega (arith, inside)
-rows_fit l (LoadsField f into) fits = let inside = fits.0 in omega (arith, inside)
 rows_fit l (StoresField f new) fits = omega (arith, fits)
-rows_fit l (LoadsForCas f e) fits = let inside = fits.0 in omega (arith, inside)
-rows_fit l (ExchangesField f e old) fits = let inside = fits.0 in omega (arith, inside)
 rows_fit l (LooksAtBoard b) fits = omega arith
-rows_fit l (LoadsBoard word into) fits = let inside = fits.0 in omega (arith, inside)
 rows_fit l (StoresBoard word new) fits = omega (arith, fits)
-rows_fit l (LoadsForSwap s) fits = let inside = fits.0 in omega (arith, inside)
-rows_fit l (SwapsBoard s old) fits = let inside = fits.0 in omega (arith, inside)
+rows_fit l _ fits = let inside = fits.0 in omega (arith, inside)
 
 pub writes : (Q : Row → Type 0) → ((addr : ℕ) → Q (HeapWord addr)) → (l : Layout) (stage : AccessStage) → WritesOnly Q (Some (wants_at l stage))
 writes Q words l (StoresField f new) = words (field_at f)

@@ -19,8 +19,7 @@ decode_page-encode_page (Scanning epoch worker) fits =
 pub encode_page-lt : (page : PageWord) → PageFits page → encode_page page < 2 ^ 48
 unfolding encode_page
 encode_page-lt Unset fits = omega arith
-encode_page-lt (Open epoch) fits = omega arith
-encode_page-lt (Scanning epoch worker) fits = omega arith
+encode_page-lt _ fits = omega arith
 
 -- ---- from the word decoded
 

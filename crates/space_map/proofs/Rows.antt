@@ -73,10 +73,6 @@ place_of-apart n a b a_is b_is apart same = apart (same_row n a b a_is b_is same
 pub place_of-lt : (n : ℕ) (row : Row) → IsRow n row → place_of n row < table_length n
 unfolding place_of
 place_of-lt n Gate is = omega arith
-place_of-lt n WeakHead is = omega arith
-place_of-lt n WeakTurn is = omega arith
-place_of-lt n SnapNumber is = omega arith
-place_of-lt n DoneNumber is = omega arith
 place_of-lt n _ is = omega arith
 
 -- ---- the rows of checkpoints

@@ -21,9 +21,7 @@ decode_save-encode_save (New number) fits =
 pub encode_save-lt : (save : SaveWord) → SaveFits save → encode_save save < 2 ^ 48
 unfolding encode_save
 encode_save-lt Unsaved fits = omega arith
-encode_save-lt (Saving number worker) fits = omega arith
-encode_save-lt (Saved number) fits = omega arith
-encode_save-lt (New number) fits = omega arith
+encode_save-lt _ fits = omega arith
 
 -- ---- from the word decoded
 

@@ -2,7 +2,7 @@
 use Rattle.std.proofs.Common.{◌≡◌, ℕ, ◌+◌, ◌-◌, ◌*◌, ◌<◌, ◌≤◌, ◌||◌, Bool, true, false, cond, Option, Some, None, is_some, nat_lt, refl, arith, ltb-true}
 use Rattle.atom_store.specs.declared.reply.Reply.{Reply}
 use Rattle.atom_store.specs.declared.reply.Reply.TheVariants.{Value, Done, Won}
-use Rattle.heap_words.specs.Decoded.{Decoded, NumberWord, PointerWord, HeaderWord, ForwardWord, BusyWord, Malformed, decode}
+use Rattle.heap_words.specs.Decoded.{Decoded, HeaderWord, ForwardWord, decode}
 use Rattle.heap_words.specs.FirstWords.{is_header, is_forward}
 use Rattle.space_map.specs.declared.area_word.AreaWord.{AreaWord}
 use Rattle.space_map.specs.AreaWord.{decode_area}
@@ -20,10 +20,7 @@ use Rattle.gc_worker.proofs.Stages.Copies.Publishing.{cell_of}
 by_word : (word : ℕ) (d : Decoded) → is_header d || is_forward d ≡ true → left_at (by_first_word word d) < steps_of_longest + 5
 by_word word (HeaderWord kind len serial mutator) t = omega arith
 by_word word (ForwardWord len to) t = omega arith
-by_word word (BusyWord len worker) t = absurd (cc)
-by_word word (NumberWord n) t = absurd (cc)
-by_word word (PointerWord address) t = absurd (cc)
-by_word word Malformed t = absurd (cc)
+by_word word _ t = absurd (cc)
 
 by_front : (kept : KeptHeader) (o : Option AreaWord) → is_some o ≡ true → left_at (by_area kept o) < steps_of_longest + 3
 by_front kept (Some area) t = omega arith

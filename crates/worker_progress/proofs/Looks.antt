@@ -8,7 +8,7 @@ use Rattle.plain_state.specs.declared.value.Value as values
 use Rattle.record_layout.specs.declared.header.Header.{Header}
 use Rattle.mutator_asm.specs.declared.instr.Instr.{Instr}
 use Rattle.plain_heap.specs.declared.action.Action.{Action}
-use Rattle.plain_heap.specs.declared.action.Action.TheVariants.{Sets, Jumps, Links, Prints, Makes, Measures, Loads, Stores, Exchanges, Gets, Puts, Swaps, Snaps}
+use Rattle.plain_heap.specs.declared.action.Action.TheVariants.{Sets, Jumps, Links, Prints, Makes, Snaps}
 use Rattle.plain_heap.specs.Action.{action}
 use Rattle.alloc_end.specs.Place as place
 use Rattle.space_map.specs.declared.gate_word.GateWord.{GateWord}
@@ -57,13 +57,7 @@ acts_done y task (Links d target) has again = refl
 acts_done y task (Prints n) has again = refl
 acts_done y task Snaps has again = no_snapping y task (may_snap y) again
 acts_done y task (Makes kind d n v) has again = absurd (no_placing y (header_for y) (has kind d n v refl) again)
-acts_done y task (Measures d i) has again = absurd again
-acts_done y task (Loads d i n) has again = absurd again
-acts_done y task (Stores i n v) has again = absurd again
-acts_done y task (Exchanges d i n u v) has again = absurd again
-acts_done y task (Gets d n) has again = absurd again
-acts_done y task (Puts n v) has again = absurd again
-acts_done y task (Swaps d n v) has again = absurd again
+acts_done y task _ has again = absurd again
 
 module _ (x : Held) where
   calls_done : (instr : Instr) → x.task ≡ Some (Calls instr) → FitsCall x.account x.registers instr → (r : Result Action End) → action (seen x.account x.registers) instr ≡ r

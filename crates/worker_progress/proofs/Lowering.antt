@@ -5,7 +5,7 @@ use Rattle.std.proofs.lemmas.Bool.Decides.{nat_tests}
 use Rattle.atom_store.specs.declared.reply.Reply.{Reply}
 use Rattle.atom_store.specs.declared.reply.Reply.TheVariants.{Value, Done, Won}
 use Rattle.heap_words.specs.declared.kind.Kind.{Kind}
-use Rattle.heap_words.specs.declared.kind.Kind.TheVariants.{Fields, Raw, Mixed, Weak}
+use Rattle.heap_words.specs.declared.kind.Kind.TheVariants.{Fields}
 use Rattle.space_map.specs.declared.area_word.AreaWord.{AreaWord}
 use Rattle.space_map.specs.declared.gate_word.GateWord.{GateWord}
 use Rattle.space_map.specs.AreaWord.{decode_area}
@@ -17,7 +17,7 @@ use Rattle.gate_core.specs.declared.flipped.Flipped.TheVariants as flipped
 use Rattle.gate_core.specs.declared.gate_stage.GateStage.{GateStage}
 use Rattle.gate_core.specs.declared.gate_stage.GateStage.TheVariants as gate_stage
 use Rattle.gate_core.specs.declared.passage.Passage.{Passage}
-use Rattle.gate_core.specs.declared.passage.Passage.TheVariants.{Look, Attach, Park, Request, Resume, Forwarded, Leave, Clear}
+use Rattle.gate_core.specs.declared.passage.Passage.TheVariants.{Look}
 use Rattle.gate_core.specs.declared.passed.Passed.TheVariants as passed
 use Rattle.gate_core.specs.Flip as flip
 use Rattle.gate_core.specs.Gate as gate
@@ -35,21 +35,8 @@ use Rattle.alloc_end.specs.Soundness.{FitsPlaceStage}
 
 by_allowed : (passage : Passage) (word : ℕ) (read : GateWord) (b : Bool) → gate.left_at passage (cond b (gate.allowed passage word read) (gate_stage.Ended (passed.NotYet word))) < gate.left_before passage
 by_allowed Look word read true = omega arith
-by_allowed Look word read false = omega arith
-by_allowed Attach word read true = omega arith
-by_allowed Attach word read false = omega arith
-by_allowed Park word read true = omega arith
-by_allowed Park word read false = omega arith
-by_allowed Request word read true = omega arith
-by_allowed Request word read false = omega arith
-by_allowed (Resume epoch) word read true = omega arith
-by_allowed (Resume epoch) word read false = omega arith
-by_allowed Forwarded word read true = omega arith
-by_allowed Forwarded word read false = omega arith
-by_allowed Leave word read true = omega arith
-by_allowed Leave word read false = omega arith
-by_allowed Clear word read true = omega arith
-by_allowed Clear word read false = omega arith
+by_allowed _ word read true = omega arith
+by_allowed _ word read _ = omega arith
 
 by_gate : (passage : Passage) (word : ℕ) (o : Option GateWord) → is_some o ≡ true → gate.left_at passage (gate.looked passage word o) < gate.left_before passage
 by_gate passage word (Some read) t = by_allowed passage word read (gate.allows passage read)
@@ -110,9 +97,7 @@ module _ (p : place.Placing) where
 
   by_first : (kind : Kind) → place.left_at asked (place.stores_first kind) ≤ 3
   by_first Fields = omega arith
-  by_first Raw = omega arith
-  by_first Mixed = omega arith
-  by_first Weak = omega arith
+  by_first _ = omega arith
 
   by_opened : (new : NewPages) → FitsPlaceStage p.layout.pages asked p.snap p.run p.header (place_stage.OpensPage new) → place.left (place.after_opening p new) < 2 * asked + 2 - 2 * (new.next - page_of new.first)
   by_opened new fits = let first = by_first p.header.kind in grind (arith, nat_tests, first)

@@ -54,7 +54,7 @@ use Rattle.heap_state.proofs.Table.Places.{word_in-row}
 use Rattle.heap_laws.specs.Answers.{OldHeader, InPlace, KeptBy, Forwards}
 use Rattle.record_access.specs.declared.access.Access.{Access}
 use Rattle.record_access.specs.declared.access_stage.AccessStage.{AccessStage}
-use Rattle.record_access.specs.declared.access_stage.AccessStage.TheVariants.{LooksAtRecord, LoadsHeader, LooksAtCount, LoadsCount, LooksAtField, LoadsField, StoresField, LoadsForCas, ExchangesField, LooksAtBoard, LoadsBoard, StoresBoard, LoadsForSwap, SwapsBoard}
+use Rattle.record_access.specs.declared.access_stage.AccessStage.TheVariants.{LoadsHeader, LoadsCount, LoadsField, StoresField, ExchangesField, LoadsBoard, StoresBoard, SwapsBoard}
 use Rattle.record_access.specs.declared.board_access.BoardSwap.{BoardSwap}
 use Rattle.record_access.specs.declared.field_access.FieldAccess.{FieldAccess}
 use Rattle.record_access.specs.declared.field_access.FieldExchange.{FieldExchange}
@@ -252,30 +252,25 @@ module _ (c : Configuration) (p : Plain) (s : Stands c p) (k : ℕ) where
     pub accessing : (stage : AccessStage) → More_at stage → ((r : RecordAccess) → stage ≡ LoadsHeader r → access.is_header (decode (word_at a.spaces.pages (HeapWord r.at))) ≡ true)
         → ((m : MixedAccess) → stage ≡ LoadsCount m → is_some (number_in (decode (word_at a.spaces.pages (HeapWord (access.count_at m))))) ≡ true)
         → On (access.advances_at stage) (its_step stage)
-    accessing (LooksAtRecord r) more header count = Advances refl
     accessing (LoadsHeader r) more header count = Advances (header r refl)
-    accessing (LooksAtCount m) more header count = Advances refl
     accessing (LoadsCount m) more header count = Advances (count m refl)
-    accessing (LooksAtField f usage) more header count = Advances refl
     accessing (LoadsField f into) more header count = absurd (cc)
     accessing (StoresField f new) more header count = absurd (cc)
-    accessing (LoadsForCas f e) more header count = Advances refl
     accessing (ExchangesField f e old) more header count = exchanged f e old (slice_index c.words (place_of a.spaces.pages (HeapWord (access.field_at f))) == old) more
       where
         exchanged : (f : FieldAccess) (e : FieldExchange) (old : ℕ) (won : Bool) → access.told (access.at_stage a (ExchangesField f e old)) (cond won Won (Lost (slice_index c.words (place_of a.spaces.pages (HeapWord (access.field_at f)))))) ≡ More
             → TakesOn (access.advances_at (ExchangesField f e old)) (cond won Won (Lost (slice_index c.words (place_of a.spaces.pages (HeapWord (access.field_at f)))))) (MeetsBusy c k (its_step (ExchangesField f e old)))
         exchanged f e old true more = absurd (cc)
         exchanged f e old false more = Loses _ refl
-    accessing (LooksAtBoard b) more header count = Advances refl
     accessing (LoadsBoard y into) more header count = absurd (cc)
     accessing (StoresBoard y new) more header count = absurd (cc)
-    accessing (LoadsForSwap b) more header count = Advances refl
     accessing (SwapsBoard b old) more header count = swapped b old (slice_index c.words (place_of a.spaces.pages (HeapWord (access.board_at a.spaces b.word))) == old) more
       where
         swapped : (b : BoardSwap) (old : ℕ) (won : Bool) → access.told (access.at_stage a (SwapsBoard b old)) (cond won Won (Lost (slice_index c.words (place_of a.spaces.pages (HeapWord (access.board_at a.spaces b.word)))))) ≡ More
             → TakesOn (access.advances_at (SwapsBoard b old)) (cond won Won (Lost (slice_index c.words (place_of a.spaces.pages (HeapWord (access.board_at a.spaces b.word)))))) (MeetsBusy c k (its_step (SwapsBoard b old)))
         swapped b old true more = absurd (cc)
         swapped b old false more = Loses _ refl
+    accessing _ more header count = Advances refl
 
   -- ---- scans
 

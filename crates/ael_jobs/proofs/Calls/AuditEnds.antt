@@ -5,7 +5,7 @@ use Rattle.mutator_asm.specs.Theorems.{HasNoFault, MeansOneProgram}
 use Rattle.ael_jobs.specs.declared.arguments.job.Job.TheVariants.{Audit}
 use Rattle.ael_jobs.specs.declared.arguments.options.AuditOptions.{AuditOptions}
 use Rattle.ael_jobs.specs.declared.status.Status.{Status}
-use Rattle.ael_jobs.specs.declared.status.Status.TheVariants.{BadOutput, Done, No, Text, LongWord, Usage, Ended, HeapFull, StepsOut, ReadFault, WriteFault, NoMemory, TooLong}
+use Rattle.ael_jobs.specs.declared.status.Status.TheVariants.{BadOutput, Done, Text}
 use Rattle.ael_jobs.specs.Calls.Audits.{AuditEnd, AuditEnds, BadOutputTold, SaysYesToTrueOutputs, TextFaultTold, VerdictTold, WantOfMemoryTold}
 use Rattle.ael_jobs.specs.Calls.Call.{Call}
 use Rattle.ael_jobs.specs.Calls.Concordance.{CallTells}
@@ -19,17 +19,7 @@ module _ (call : Call) (options : AuditOptions) (input : List ℕ) where
   fault_told : (status : Status) → HasFaultyPart input status → CallTells call [] status → AuditEnd call options input
   fault_told (Text number line) fault told = TextFaultTold number line fault told
   fault_told (BadOutput line) bad told = BadOutputTold line bad told
-  fault_told Done fault told = absurd fault
-  fault_told (LongWord line) fault told = absurd fault
-  fault_told Usage fault told = absurd fault
-  fault_told Ended fault told = absurd fault
-  fault_told (HeapFull asked room) fault told = absurd fault
-  fault_told No fault told = absurd fault
-  fault_told StepsOut fault told = absurd fault
-  fault_told ReadFault fault told = absurd fault
-  fault_told WriteFault fault told = absurd fault
-  fault_told NoMemory fault told = absurd fault
-  fault_told TooLong fault told = absurd fault
+  fault_told _ fault told = absurd fault
 
 -- what is told without output
 told_alone : (call : Call) (output : List ℕ) (status : Status) → output ≡ [] → CallTells call output status → CallTells call [] status

@@ -18,7 +18,7 @@ use Rattle.ael_jobs.specs.declared.arguments.options.ConcordOptions.{ConcordOpti
 use Rattle.ael_jobs.specs.declared.arguments.options.RunOptions.{RunOptions}
 use Rattle.ael_jobs.specs.declared.arguments.options.SimOptions.{SimOptions}
 use Rattle.ael_jobs.specs.declared.status.Status.{Status}
-use Rattle.ael_jobs.specs.declared.status.Status.TheVariants.{BadOutput, Done, No, Text, LongWord, Usage, Ended, HeapFull, StepsOut, ReadFault, WriteFault, NoMemory, TooLong}
+use Rattle.ael_jobs.specs.declared.status.Status.TheVariants.{Text}
 use Rattle.ael_jobs.specs.Tasks.Bench.{bench_options}
 use Rattle.ael_jobs.specs.Calls.Call.{Call}
 use Rattle.ael_jobs.specs.Calls.Headline.{HeadlineHolds, IsAlwaysTheSame, CallIsAnswered, IsComplete, IsDone, PrintsListing, PrintsPlainly}
@@ -41,27 +41,14 @@ use Rattle.ael_jobs.proofs.Calls.SoundEnds.{ByRefusal, ForMemory, OfInput, Sound
 -- the text of a program has no fault
 not_refused : {A : Type 0} → HasNoFault → (bytes : List ℕ) (status : Status) → IsProgram bytes → HasFault bytes status → A
 not_refused no_fault bytes (Text number line) right fault = absurd (no_fault bytes right.program right.items number line right.text fault)
-not_refused no_fault bytes Done right fault = absurd fault
-not_refused no_fault bytes (LongWord line) right fault = absurd fault
-not_refused no_fault bytes Usage right fault = absurd fault
-not_refused no_fault bytes Ended right fault = absurd fault
-not_refused no_fault bytes (HeapFull asked room) right fault = absurd fault
-not_refused no_fault bytes StepsOut right fault = absurd fault
-not_refused no_fault bytes ReadFault right fault = absurd fault
-not_refused no_fault bytes WriteFault right fault = absurd fault
-not_refused no_fault bytes NoMemory right fault = absurd fault
-not_refused no_fault bytes TooLong right fault = absurd fault
-not_refused no_fault bytes (BadOutput line) right fault = absurd fault
-not_refused no_fault bytes No right fault = absurd fault
+not_refused no_fault bytes _ right fault = absurd fault
 
 -- a right input is not refused
 is_taken : {A : Type 0} → MeansOneProgram → HasNoFault → (job : Job) (bytes : List ℕ) (status : Status) → (job_task job).IsRight bytes → (job_task job).Refuses bytes status → A
 is_taken one no_fault (Bench operands) bytes status right fault = absurd fault
-is_taken one no_fault Asm bytes status right fault = not_refused no_fault bytes status right fault
-is_taken one no_fault (Sim options) bytes status right fault = not_refused no_fault bytes status right fault
-is_taken one no_fault (Run options) bytes status right fault = not_refused no_fault bytes status right fault
 is_taken one no_fault (Concord options) bytes status right long = absurd (never_long bytes long.line right long.first)
 is_taken one no_fault (Audit options) bytes status right faulty = absurd (never_faulty one no_fault bytes status right faulty)
+is_taken one no_fault _ bytes status right fault = not_refused no_fault bytes status right fault
 
 -- ---- the output
 

@@ -3,7 +3,7 @@ use Rattle.std.proofs.Common.{◌≡◌, ℕ, List, [], ap, sym, ◌∙◌, subs
 use Rattle.std.specs.Prelude.{Option, Some}
 use Rattle.ael_jobs.specs.declared.arguments.job.Job.{Job}
 use Rattle.ael_jobs.specs.declared.status.Status.{Status}
-use Rattle.ael_jobs.specs.declared.status.Status.TheVariants.{BadOutput, Done, No, Text, LongWord, Usage, Ended, HeapFull, StepsOut, ReadFault, WriteFault, NoMemory, TooLong}
+use Rattle.ael_jobs.specs.declared.status.Status.TheVariants.{ReadFault, NoMemory, TooLong}
 use Rattle.ael_jobs.specs.Calls.Answer.{IsAnswer, IsCaused, Made, Refused, Unread, OutOfMemory}
 use Rattle.ael_jobs.specs.Calls.Call.{Call}
 use Rattle.ael_jobs.specs.Calls.Concordance.{CallTells}
@@ -27,20 +27,9 @@ input_is Everything source bytes own given input = rw given.0 at input.all
 -- an input that is told, if no read fails, is read
 is_read : {A : Type 0} (reads : NeededInput) (source : Drawn) (bytes : List ℕ) (status : Status) → IsGiven reads source bytes → IsFaultless source.before source.after
     → IsUnread reads source status → A
-is_read Nothing source bytes status given sound unread = absurd unread
 is_read Everything source bytes ReadFault given sound unread = absurd (sound unread)
 is_read Everything source bytes TooLong given sound unread = let past = rw given.0 at unread in let within = given.1 in absurd (omega (arith, within, past))
-is_read Everything source bytes Done given sound unread = absurd unread
-is_read Everything source bytes (Text number line) given sound unread = absurd unread
-is_read Everything source bytes (LongWord line) given sound unread = absurd unread
-is_read Everything source bytes Usage given sound unread = absurd unread
-is_read Everything source bytes Ended given sound unread = absurd unread
-is_read Everything source bytes (HeapFull asked room) given sound unread = absurd unread
-is_read Everything source bytes StepsOut given sound unread = absurd unread
-is_read Everything source bytes WriteFault given sound unread = absurd unread
-is_read Everything source bytes NoMemory given sound unread = absurd unread
-is_read Everything source bytes (BadOutput line) given sound unread = absurd unread
-is_read Everything source bytes No given sound unread = absurd unread
+is_read _ source bytes _ given sound unread = absurd unread
 
 -- why an answer is what it is, if the input could be read
 pub data SoundCause (job : Job) (bytes output : List ℕ) (status : Status) : Type 0 where

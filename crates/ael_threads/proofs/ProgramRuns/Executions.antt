@@ -2,7 +2,7 @@
 use Rattle.std.proofs.Common.{◌≡◌, ℕ, ◌+◌, ◌<◌, ◌≤◌, List, [], ◌∷◌, ◌++◌, drop, Option, Some, None, slice_get, refl, sym, ◌∙◌, ap, subst}
 use Rattle.std.proofs.lemmas.Bool.{lt-leb, le-leb}
 use Rattle.plain_state.specs.declared.end.End.{End}
-use Rattle.plain_state.specs.declared.end.End.TheVariants.{Halt, NotPointer, NotNumber, OutOfRange, WeakCell, IntoRaw, ZeroDivisor, JumpOut, TurnsOut, OutputFull, HeapFull}
+use Rattle.plain_state.specs.declared.end.End.TheVariants.{JumpOut, TurnsOut, HeapFull}
 use Rattle.plain_state.specs.Reachable.{IsLive}
 use Rattle.plain_state.specs.State.{Mutator, Plain}
 use Rattle.plain_heap.specs.Step.{fetch}
@@ -141,16 +141,7 @@ module _ (w : Work) (m count : ℕ) (a : Seated) (h : Executing w m count a) whe
 
   full_by : (b : Seated) (task : Task) (end : End) → Called a task (Trap end) b → EndFoundFull w.plan m b.knows.seen end
   full_by b task (HeapFull asked room live) c = found b task asked room live c
-  full_by b task Halt c = tt
-  full_by b task NotPointer c = tt
-  full_by b task NotNumber c = tt
-  full_by b task OutOfRange c = tt
-  full_by b task WeakCell c = tt
-  full_by b task IntoRaw c = tt
-  full_by b task ZeroDivisor c = tt
-  full_by b task JumpOut c = tt
-  full_by b task TurnsOut c = tt
-  full_by b task OutputFull c = tt
+  full_by b task _ c = tt
 
   -- after one that was its end
   pub executing_ends : (b : Seated) (task : Task) (end : End) → b.table ≡ a.table → IsNext task → Called a task (Trap end) b → Executed w m b

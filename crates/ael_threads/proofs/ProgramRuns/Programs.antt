@@ -3,7 +3,7 @@ use Rattle.std.proofs.Common.{◌≡◌, ℕ, ◌<◌, ◌^◌, List, [], ◌∷
 use Rattle.std.specs.Prelude.{IsTrue}
 use mathlib.Core.List.{IsPrefix}
 use Rattle.atomic_table.specs.Seated.{TableId}
-use Rattle.plain_state.specs.declared.end.End.TheVariants.{Halt, NotPointer, NotNumber, OutOfRange, WeakCell, IntoRaw, ZeroDivisor, JumpOut, TurnsOut, OutputFull, HeapFull}
+use Rattle.plain_state.specs.declared.end.End.TheVariants.{HeapFull}
 use Rattle.plain_state.specs.State.{Mutator}
 use Rattle.mutator_asm.specs.declared.instr.Instr.{Instr}
 use Rattle.mutator_asm.specs.Program.{is_valid}
@@ -16,7 +16,7 @@ use Rattle.gc_worker.specs.Workers.Held.{Held}
 use Rattle.gc_worker.specs.Plain.Marks.{task_of}
 use Rattle.gc_worker.specs.declared.calls.call.Call.{Call}
 use Rattle.gc_worker.specs.declared.calls.did.Did.{Did}
-use Rattle.gc_worker.specs.declared.calls.did.Did.TheVariants.{Done, Trap}
+use Rattle.gc_worker.specs.declared.calls.did.Did.TheVariants.{Trap}
 use Rattle.gc_worker.specs.declared.calls.entry.Entry.{Entry}
 use Rattle.ael_threads.specs.declared.view.Plan.{Plan}
 use Rattle.ael_threads.specs.Calls.{Called, Rests, call_by}
@@ -32,18 +32,8 @@ use Rattle.ael_threads.proofs.WorkerSeats.Shown.{mutator_at}
 
 -- a heap that is told to be full has too few words
 short_by : (n : ℕ) (words : List ℕ) (x : Held) (did : Did) → FullByOutcome n words x did → IsShort did
-short_by n words x Done h = tt
 short_by n words x (Trap (HeapFull asked room live)) h = h.short
-short_by n words x (Trap Halt) h = tt
-short_by n words x (Trap NotPointer) h = tt
-short_by n words x (Trap NotNumber) h = tt
-short_by n words x (Trap OutOfRange) h = tt
-short_by n words x (Trap WeakCell) h = tt
-short_by n words x (Trap IntoRaw) h = tt
-short_by n words x (Trap ZeroDivisor) h = tt
-short_by n words x (Trap JumpOut) h = tt
-short_by n words x (Trap TurnsOut) h = tt
-short_by n words x (Trap OutputFull) h = tt
+short_by n words x _ h = tt
 
 -- ---- from call to call
 

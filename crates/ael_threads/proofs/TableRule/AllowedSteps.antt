@@ -37,9 +37,8 @@ words_are words (Store place v) = refl
 words_are words (Exchange place old new) = exchanged words place old new (get_or words place 0 == old) refl
 
 reply_is : (words : List ℕ) (q : Step) → reply_of q words ≡ reply_to q (get_or words (place_in q) 0)
-reply_is words (Load place) = refl
-reply_is words (Store place v) = refl
-reply_is words (Exchange place old new) = refl
+reply_is words (Load _) = refl
+reply_is words _ = refl
 
 -- ---- the step of a seat
 

@@ -3,7 +3,7 @@ use Rattle.std.proofs.Common.{◌≡◌, ℕ, Bool, true, false, cond, List, Opt
 use Rattle.std.specs.Prelude.{⊤}
 use Rattle.plain_state.specs.declared.end.End.{End}
 use Rattle.plain_heap.specs.declared.action.Action.{Action}
-use Rattle.plain_heap.specs.declared.action.Action.TheVariants.{Sets, Jumps, Links, Prints, Makes, Measures, Loads, Stores, Exchanges, Gets, Puts, Swaps, Snaps}
+use Rattle.plain_heap.specs.declared.action.Action.TheVariants.{Sets, Jumps, Links, Prints, Snaps}
 use Rattle.plain_heap.specs.Action.{action}
 use Rattle.atom_store.specs.declared.reply.Reply.{Reply}
 use Rattle.atom_store.specs.declared.reply.Reply.TheVariants as replies
@@ -29,7 +29,7 @@ use Rattle.record_access.specs.declared.accessed.Accessed.{Accessed}
 use Rattle.record_access.specs.declared.accessed.Accessed.TheVariants.{Faults, Awaits, Brings, Stored, Fails}
 use Rattle.gc_worker.specs.declared.stage.after.After.TheVariants as afters
 use Rattle.gc_worker.specs.declared.stage.Stage.{Stage}
-use Rattle.gc_worker.specs.declared.stage.Stage.TheVariants.{Looks, Passes, Flips, Forwards, Accesses, Places, Serves, Scans, Evacuates, Opens, Recalls, Guards, Checkpoints, BeginsCheckpoint, Gone}
+use Rattle.gc_worker.specs.declared.stage.Stage.TheVariants.{Looks, Flips, Accesses, Places, Serves, BeginsCheckpoint}
 use Rattle.gc_worker.specs.declared.task.Task.{Task}
 use Rattle.gc_worker.specs.declared.task.Task.TheVariants.{Calls, Stops}
 use Rattle.record_access.specs.Access as access
@@ -42,7 +42,7 @@ use Rattle.gc_worker.specs.declared.steps.allocating.Making.{Making}
 use Rattle.gc_worker.specs.Plain.Seen.{seen}
 use Rattle.gc_worker.specs.declared.calls.did.Did.{Did}
 use Rattle.gc_worker.specs.declared.calls.did.Did.TheVariants.{Done}
-use Rattle.gc_worker.specs.Steps.Turned.{Told, Silent, Empties, Answers, Marks, acted, acts, begins, begins_checkpoint, end_by_shortage, ended, full_by, is_full, looked_by, passes, started, told, told_access, told_acted, told_action, told_at, told_effect, told_end, told_flip, told_full, told_gate, told_look, told_place, told_snap, told_start, turned, turned_access, turned_at, turned_flip, turned_look, turned_place, turned_snap, went_on, with_record}
+use Rattle.gc_worker.specs.Steps.Turned.{Told, Silent, Answers, Marks, acted, acts, begins, begins_checkpoint, end_by_shortage, ended, full_by, is_full, looked_by, passes, started, told, told_access, told_acted, told_action, told_at, told_effect, told_end, told_flip, told_full, told_gate, told_look, told_place, told_snap, told_start, turned, turned_access, turned_at, turned_flip, turned_look, turned_place, turned_snap, went_on, with_record}
 use Rattle.gc_worker.proofs.Between.Pages.Claims.{flips_at}
 use Rattle.gc_worker.proofs.Plain.Quiet.{IsQuiet, rounds_are_quiet}
 use Rattle.gc_worker.proofs.Workers.ApartFromCount.{counted_fit}
@@ -59,19 +59,15 @@ module _ (n mutators m count : ℕ) (x : Held) (reply : Reply) (fits : Fits n mu
       sym its ∙ own
 
   pub flips_by : (t : Told) → told x reply ≡ t → FlipsWhereTold n words later (counted count x) t → FlipsWhereTold n words later x t
-  flips_by Silent e h = h
-  flips_by Empties e h = h
-  flips_by (Answers task outcome) e h = h
   flips_by (Marks asked) e h = record { asked_is = h.asked_is ∙ same_asked asked e; epoch = h.epoch; next = h.next; untraced = h.untraced }
+  flips_by _ e h = h
 
 -- ---- an answer
 
 -- who answers stays in its epoch, and if it has begun the task before, keeps the one in which it did
 abbrev Stays : (past : Type 0) (was now : Held) → Told → Type 0
-Stays past was now Silent = ⊤
-Stays past was now Empties = ⊤
 Stays past was now (Answers task outcome) = (now.epoch ≡ was.epoch) × (past → now.begun ≡ was.begun)
-Stays past was now (Marks asked) = ⊤
+Stays past was now _ = ⊤
 
 module _ (x : Held) where
   effect_stays : (y : Held) → y.epoch ≡ x.epoch → y.begun ≡ x.begun → (task : Option Task) → Stays ⊤ x y (told_effect task)
@@ -94,14 +90,7 @@ module _ (x : Held) where
   by_action task (Links d target) = (refl, λ past. absurd past)
   by_action task (Prints n) = (refl, λ past. absurd past)
   by_action task Snaps = snap_stays task (may_snap x) _
-  by_action task (Makes kind d n v) = tt
-  by_action task (Measures d i) = tt
-  by_action task (Loads d i n) = tt
-  by_action task (Stores i n v) = tt
-  by_action task (Exchanges d i n u v) = tt
-  by_action task (Gets d n) = tt
-  by_action task (Puts n v) = tt
-  by_action task (Swaps d n v) = tt
+  by_action task _ = tt
 
   by_result : (task : Task) (r : Result Action End) → Stays ⊥ x (acted (begins x) r) (told_acted x task r)
   by_result task (Ok act) = by_action task act
@@ -122,9 +111,7 @@ module _ (x : Held) where
 
   look_stays : (reply : Reply) → Stays ⊥ x (turned_look x reply) (told_look x reply)
   look_stays (replies.Value word) = gate_stays (decode_gate word)
-  look_stays replies.Done = tt
-  look_stays replies.Won = tt
-  look_stays (replies.Lost word) = tt
+  look_stays _ = tt
 
   -- ---- an access, an allocation
 
@@ -166,10 +153,8 @@ module _ (x : Held) where
   begun_stays s (Finished (snapped.NotYet word)) = tt
 
   quiet_stays : (past : Type 0) (y : Held) (t : Told) → IsQuiet t → Stays past x y t
-  quiet_stays past y Silent quiet = tt
-  quiet_stays past y Empties quiet = tt
   quiet_stays past y (Answers task outcome) quiet = absurd quiet
-  quiet_stays past y (Marks asked) quiet = tt
+  quiet_stays past y _ quiet = tt
 
   -- ---- each stage
 
@@ -178,17 +163,9 @@ module _ (x : Held) where
   by_stage (Flips f) reply = flip_stays (flip.taken f reply) (flip.told (flip.taken f reply))
   by_stage (Accesses a) reply = access_stays (access.taken a reply) (access.told a reply)
   by_stage (Places p) reply = place_stays (place.taken p reply) (place.told (place.taken p reply))
-  by_stage (Passes g after) reply = tt
-  by_stage (Forwards w) reply = tt
   by_stage (Serves d back) reply = quiet_stays (IsPastLook (Serves d back)) (turned_at x (Serves d back) reply) (told_at x (Serves d back) reply) (rounds_are_quiet (duty.told (duty.taken d reply)))
-  by_stage (Scans s back) reply = tt
-  by_stage (Evacuates v s back) reply = tt
-  by_stage (Opens o s back) reply = tt
-  by_stage (Recalls r after) reply = tt
-  by_stage (Guards g write) reply = tt
-  by_stage (Checkpoints r goal) reply = tt
   by_stage (BeginsCheckpoint s) reply = begun_stays (snap.taken s reply) (snap.told (snap.taken s reply))
-  by_stage Gone reply = tt
+  by_stage _ reply = tt
 
   pub answers_in_epoch : (reply : Reply) (task : Task) (outcome : Did) → told x reply ≡ Answers task outcome → (turned x reply).epoch ≡ x.epoch
   answers_in_epoch reply task outcome e = (subst (Stays (IsPastLook x.stage) x (turned x reply)) e (by_stage x.stage reply)).0

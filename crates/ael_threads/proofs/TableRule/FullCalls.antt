@@ -34,9 +34,7 @@ told_or_before o m k (Answers other came) task did [] rest [] e =
     inr (refl, ap (λ (c : Call). c.by) same, λ i. Answers (sym same i).task (sym same i).did)
 told_or_before o m k (Marks asked) task did [] rest [] e = absurd (let never : Made (worker_call m task did) ≡ Exchanged k asked = cc in cc)
 told_or_before o m k Empties task did [] rest [] e = absurd (let never : Made (worker_call m task did) ≡ Emptied (cells_to_empty o) = cc in cc)
-told_or_before o m k (Answers other came) task did (x ∷ xs) rest [] e = absurd (not_empty xs rest (Made (worker_call m task did)) (let none : xs ++ Made (worker_call m task did) ∷ rest ≡ [] = cc in none))
-told_or_before o m k (Marks asked) task did (x ∷ xs) rest [] e = absurd (not_empty xs rest (Made (worker_call m task did)) (let none : xs ++ Made (worker_call m task did) ∷ rest ≡ [] = cc in none))
-told_or_before o m k Empties task did (x ∷ xs) rest [] e = absurd (not_empty xs rest (Made (worker_call m task did)) (let none : xs ++ Made (worker_call m task did) ∷ rest ≡ [] = cc in none))
+told_or_before o m k _ task did (x ∷ xs) rest [] e = absurd (not_empty xs rest (Made (worker_call m task did)) (let none : xs ++ Made (worker_call m task did) ∷ rest ≡ [] = cc in none))
 
 -- ---- an end stays
 

@@ -79,30 +79,23 @@ seen_fits o seen log m (Marks asked) h = prefix_more seen log (Exchanged m asked
 
 sees : (o : Plain) (v w : View) (log : List Entry) (m : ℕ) (t : Told) → IsPrefix v.seen log → w.seen ≡ seen_after v.seen (log ++ extra o m t) t
     → IsLegal (first_plain v.plan) (log ++ extra o m t) → HasOwnCalls (log ++ extra o m t) w.hands → Sees v m t w
-sees o v w log m Silent pre is legal own = is
-sees o v w log m Empties pre is legal own = is
 sees o v w log m (Answers task outcome) pre is legal own = record {
   between = pre.0;
   is = is ∙ ap (λ (z : List Entry). z ++ Made (worker_call m task outcome) ∷ []) (sym pre.1);
   own = subst (λ (z : List Entry). HasOwnCalls z w.hands) (sym is) own;
   legal = subst (IsLegal (first_plain v.plan)) (sym is) legal;
 }
-sees o v w log m (Marks asked) pre is legal own = is
+sees o v w log m _ pre is legal own = is
 
 -- where the seat's worker had all its calls in what was seen, it has them in what is seen now
 mine_after : (o : Plain) (seen log : List Entry) (m : ℕ) (own : List Call) (t : Told) → calls_of m seen ≡ own → calls_of m (log ++ extra o m t) ≡ own_after m own t → calls_of m (seen_after seen (log ++ extra o m t) t) ≡ own_after m own t
-mine_after o seen log m own Silent was is = was
-mine_after o seen log m own Empties was is = was
 mine_after o seen log m own (Answers task outcome) was is = is
-mine_after o seen log m own (Marks asked) was is = was
+mine_after o seen log m own _ was is = was
 
 -- an answer is no flip
 live_seen : (p o : Plain) (seen log : List Entry) (m : ℕ) (t : Told) → LiveWhereTold (last_flip p log) t → LiveWhereTold (last_flip p (seen_after seen (log ++ extra o m t) t)) t
-live_seen p o seen log m Silent h = tt
-live_seen p o seen log m Empties h = tt
-live_seen p o seen log m (Answers task Done) h = tt
 live_seen p o seen log m (Answers task (Trap end)) h = subst (λ (flip : Plain). LiveByEnd flip end) (sym (flip_more p p o log m (Answers task (Trap end)))) h
-live_seen p o seen log m (Marks asked) h = tt
+live_seen p o seen log m _ h = tt
 
 -- whatever it has counted, it was given a task or not
 pub begins_counted : (count : ℕ) (was now : Held) → Begins was now → Begins (counted count was) (counted count now)
@@ -291,15 +284,13 @@ module _ (plan : Plan) (id : ℕ) (was : Hand) (x : Held) (others : List Hand) (
   stays_ended w end its e = let s = showed_at w its in subst (λ (registers : List ℕ). ShowsRegisters registers w) (sym (goes.ended end (s.end ∙ e)).1) s.registers
 
   shows_ended : (w : Mutator) (end : End) (u : Told) → t ≡ u → slice_get (story_told p o m u).mutators m ≡ Some w → slice_get p'.mutators m ≡ Some w → w.end ≡ Some end → ShowsRegisters z.registers w
-  shows_ended w end Silent is was_its its e = stays_ended w end was_its e
-  shows_ended w end Empties is was_its its e = stays_ended w end was_its e
-  shows_ended w end (Marks asked) is was_its its e = stays_ended w end was_its e
   shows_ended w end (Answers task Done) is was_its its e = let a = as_plain w its in a.shows (sym a.account.end ∙ (goes_present task is).0)
   shows_ended w end (Answers task (Trap why)) is was_its its e =
       let comes : ComesTo p m task (Trap why) = subst (IsAnswered p m) is answered in
       let s = showed_at comes.mutator comes.is in
       let same = (goes.answers task (Trap why) is).after.1 in
       ends_with p m comes.mutator task why w z.registers comes.is was_its (subst (λ (registers : List ℕ). ShowsRegisters registers comes.mutator) (sym same) s.registers)
+  shows_ended w end _ is was_its its e = stays_ended w end was_its e
 
   shows_registers : (w : Mutator) → slice_get p'.mutators m ≡ Some w → ShowsRegisters z.registers w
   shows_registers w its = by_end w.end refl

@@ -17,7 +17,7 @@ use Rattle.mutator_asm.specs.declared.instr.Instr.{Instr}
 use Rattle.mutator_asm.specs.declared.instr.Instr.TheVariants as instrs
 use Rattle.mutator_asm.specs.declared.operand.Operand.TheVariants as operands
 use Rattle.plain_heap.specs.declared.action.Action.{Action}
-use Rattle.plain_heap.specs.declared.action.Action.TheVariants.{Sets, Jumps, Links, Prints, Makes, Measures, Loads, Stores, Exchanges, Gets, Puts, Swaps, Snaps}
+use Rattle.plain_heap.specs.declared.action.Action.TheVariants.{Loads, Stores, Exchanges, Puts, Swaps}
 use Rattle.plain_heap.specs.Action.{◌>>=◌, action, register}
 use Rattle.plain_heap.specs.Call.{After, board_word, call, may_hold, performed, store_in, value_in}
 use Rattle.plain_heap.specs.Step.{settled}
@@ -104,22 +104,15 @@ module _ (m : ℕ) (heap : Heap) (k : Mutator) where
   stored-long i x v (Some r) = if_ok-bind AsLong (may_hold r.kind x v) _ (λ w. refl)
 
   performed-long : (act : Action) → IfOk (performed m heap k act) (λ a. AsLong a.heap)
-  performed-long (Sets d v) = refl
-  performed-long (Jumps target) = refl
-  performed-long (Links d target) = refl
-  performed-long (Prints n) = refl
-  performed-long Snaps = refl
-  performed-long (Makes kind d n v) = refl
-  performed-long (Measures d i) = refl
   performed-long (Loads d i x) = if_ok-bind (λ (a : After). AsLong a.heap) (value_in heap i x) _ (λ v. refl)
   performed-long (Stores i x v) = if_ok-bind (λ (a : After). AsLong a.heap) (value_in heap i x) _
       (λ old. if_ok-then AsLong (λ (a : After). AsLong a.heap) (store_in heap i (record_of heap i) x v) _ (stored-long i x v (record_of heap i)) (λ h same. same))
   performed-long (Exchanges d i x expected v) =
       performed_exchange m heap k d i x expected v (λ (a : After). AsLong a.heap) refl
       (if_ok-then AsLong (λ (a : After). AsLong a.heap) (store_in heap i (record_of heap i) x v) _ (stored-long i x v (record_of heap i)) (λ h same. same))
-  performed-long (Gets d x) = refl
   performed-long (Puts x v) = length-set heap.board x v
   performed-long (Swaps d x v) = length-set heap.board x v
+  performed-long _ = refl
 
   call-long : (instr : Instr) → IfOk (call m heap k instr) (λ a. AsLong a.heap)
   unfolding call

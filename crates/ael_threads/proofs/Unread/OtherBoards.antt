@@ -12,7 +12,7 @@ use Rattle.plain_state.specs.Writing.{stored}
 use Rattle.mutator_asm.specs.declared.instr.Instr.{Instr}
 use Rattle.mutator_asm.specs.declared.instr.Instr.TheVariants as instrs
 use Rattle.plain_heap.specs.declared.action.Action.{Action}
-use Rattle.plain_heap.specs.declared.action.Action.TheVariants.{Sets, Jumps, Links, Prints, Makes, Measures, Loads, Stores, Exchanges, Gets, Puts, Swaps, Snaps}
+use Rattle.plain_heap.specs.declared.action.Action.TheVariants.{Loads, Stores, Exchanges, Gets, Puts, Swaps}
 use Rattle.plain_heap.specs.Action.{◌>>=◌, action, are_same}
 use Rattle.plain_heap.specs.Alone.{leaves_board}
 use Rattle.plain_heap.specs.Call.{After, call, loads, may_hold, performed, store_in, value_in, went_on}
@@ -62,19 +62,13 @@ module _ (m : ℕ) (heap there : Heap) (k : Mutator) where
   exchanges_same d i (Some r) x v same = exchanged_same d i r x same (may_hold r.kind x v)
 
   performed-same : (act : Action) → Names (λ v. ⊤) ⊥ k act → DoTheSame (performed m heap k act) (performed m other k act)
-  performed-same (Sets d v) is = record { mutator = refl; records = refl; board = refl }
-  performed-same (Jumps target) is = record { mutator = refl; records = refl; board = refl }
-  performed-same (Links d target) is = record { mutator = refl; records = refl; board = refl }
-  performed-same (Prints n) is = record { mutator = refl; records = refl; board = refl }
-  performed-same (Makes kind d n v) is = record { mutator = refl; records = refl; board = refl }
-  performed-same (Measures d i) is = record { mutator = refl; records = refl; board = refl }
   performed-same (Loads d i x) is = same-bind (KeepsBoard heap) (value_in heap i x) _ _ (λ v at. record { mutator = refl; records = refl; board = refl })
   performed-same (Stores i x v) is = same-bind (KeepsBoard heap) (value_in heap i x) _ _ (λ old at. stores_same i (record_of heap i) x v)
   performed-same (Exchanges d i x expected v) is = same-bind (KeepsBoard heap) (value_in heap i x) _ _ (λ found at. exchanges_same d i (record_of heap i) x v (are_same found expected))
   performed-same (Gets d x) is = absurd is.0
   performed-same (Puts x v) is = absurd is.0
   performed-same (Swaps d x v) is = absurd is.0
-  performed-same Snaps is = record { mutator = refl; records = refl; board = refl }
+  performed-same _ is = record { mutator = refl; records = refl; board = refl }
 
   spells : (i : Instr) → leaves_board i ≡ true → Spells (λ v. ⊤) ⊥ i
   spells (instrs.Get d x) leaves = cc

@@ -12,8 +12,8 @@ use Rattle.gc_worker.specs.declared.steps.stepped.Stepped.TheVariants as stepped
 use Rattle.gc_worker.specs.Workers.Fits.{Fits, FitsEnd, FitsTask, FitsTaskBefore}
 use Rattle.gc_worker.specs.Workers.Held.{Held}
 use Rattle.gc_worker.specs.Steps.Stepped.{stepped_by, uncounted}
-use Rattle.gc_worker.specs.declared.calls.did.Did.TheVariants.{Done, Trap}
-use Rattle.gc_worker.specs.Steps.Turned.{Told, Silent, Empties, Answers, Marks, told, turned}
+use Rattle.gc_worker.specs.declared.calls.did.Did.TheVariants.{Done}
+use Rattle.gc_worker.specs.Steps.Turned.{Told, Answers, told, turned}
 use Rattle.gc_worker.specs.Steps.Wanted.{wanted}
 use Rattle.gc_worker.proofs.Between.GoingOn.{workers_go_on}
 use Rattle.ael_threads.specs.declared.view.Hand.{Hand}
@@ -49,19 +49,12 @@ no_task plan x hs end heads is =
 
 -- who makes a step is not idle
 not_idle : (k : ℕ) (t : Told) → stepped.Idle ≡ stepped_by k t → ⊥
-not_idle k Silent e = cc
-not_idle k Empties e = cc
-not_idle k (Answers task Done) e = cc
-not_idle k (Answers task (Trap end)) e = cc
-not_idle k (Marks asked) e = cc
+not_idle k (Answers _ Done) e = cc
+not_idle k _ e = cc
 
 by_stepped : (a : Seated) (r : Reply) (s : Stepped) (b : Seated) → ActsBy a r s b → Acts a s b
 by_stepped a r stepped.Idle b h = absurd (not_idle a.worker.number (told a.worker r) h.stepped)
-by_stepped a r stepped.Moved b h = (r, h)
-by_stepped a r stepped.Traced b h = (r, h)
-by_stepped a r (stepped.Effect m) b h = (r, h)
-by_stepped a r (stepped.Flipped n) b h = (r, h)
-by_stepped a r (stepped.Ended m end) b h = (r, h)
+by_stepped a r _ b h = (r, h)
 
 pub acts : (a : Seated) (r : Reply) (s : Stepped) (b : Seated) (q : Step) → Heads a.knows.plan a.worker a.knows.hands → wanted a.worker ≡ Some q → s ≡ stepped_by a.worker.number (told a.worker r)
     → b.worker ≡ uncounted (turned a.worker r) → Moves a.knows (first_number a.knows.hands) a.worker r b.knows → Acts a s b

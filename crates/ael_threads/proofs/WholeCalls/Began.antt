@@ -12,7 +12,7 @@ use Rattle.gate_core.specs.Recall as recall
 use Rattle.gc_worker.specs.declared.stage.after.After.{After}
 use Rattle.gc_worker.specs.declared.stage.after.After.TheVariants as afters
 use Rattle.gc_worker.specs.declared.stage.back.Back.{Back}
-use Rattle.gc_worker.specs.declared.stage.back.Back.TheVariants.{ToAccess, ToTarget, ToPlace, ToScanner, ToSnap}
+use Rattle.gc_worker.specs.declared.stage.back.Back.TheVariants.{ToScanner, ToSnap}
 use Rattle.gc_worker.specs.declared.stage.goal.Goal.{Goal}
 use Rattle.gc_worker.specs.declared.stage.goal.Goal.TheVariants.{ForFlip, ForScanner, ForSnap}
 use Rattle.gc_worker.specs.declared.stage.write.Write.{Write}
@@ -42,21 +42,16 @@ module _ (x : Held) (none : x.task ≡ None) where
   none_asking afters.Snaps f call = none_after afters.Snaps f call
 
   none_before : (passage : Passage) (after : After) → FitsTaskBefore x passage after → IsInPassage passage after → ⊥
-  none_before Look after f call = call
-  none_before Attach after f call = call
-  none_before Leave after f call = call
-  none_before Clear after f call = call
   none_before Park after f call = none_after after f call
   none_before Request after f call = none_asking after f call
   none_before (Resume epoch) after f call = none_after after f call
   none_before Forwarded after f call = none_after after f call
+  none_before _ after f call = call
 
   none_back : (back : Back) → FitsTaskBack x back → IsPastBack back → ⊥
-  none_back (ToAccess a) f call = let some = f.executes.task_is in let never = sym none ∙ some in cc
-  none_back ToPlace f call = let some = f.executes.task_is in let never = sym none ∙ some in cc
-  none_back (ToTarget a) f call = let some = f.executes.task_is in let never = sym none ∙ some in cc
   none_back ToSnap f call = let some = f.0.task_is in let never = sym none ∙ some in cc
   none_back ToScanner f call = call
+  none_back _ f call = let some = f.executes.task_is in let never = sym none ∙ some in cc
 
   none_writing : (write : Write) → FitsTaskWrite x write → ⊥
   none_writing (OfAccess a) f = let some = f.executes.task_is in let never = sym none ∙ some in cc
@@ -91,21 +86,13 @@ given_none n mutators m x now task fits none is call = none_at x none x.stage fi
 -- ---- who answers is in a call, or looks
 
 pub answers_in_call : (x : Held) (reply : Reply) (task : Task) (did : Did) (stage : Stage) → told_at x stage reply ≡ Answers task did → IsPastLook stage → IsInCall stage
-answers_in_call x reply task did Looks e past = past
 answers_in_call x reply task did (Passes g after) e past = absurd (let e = e in cc)
 answers_in_call x reply task did (Flips g) e past = tt
-answers_in_call x reply task did (Forwards w) e past = past
 answers_in_call x reply task did (Accesses a) e past = tt
 answers_in_call x reply task did (Places p) e past = tt
-answers_in_call x reply task did (Serves d back) e past = past
-answers_in_call x reply task did (Scans s back) e past = past
-answers_in_call x reply task did (Evacuates v s back) e past = past
-answers_in_call x reply task did (Opens o s back) e past = past
-answers_in_call x reply task did (Recalls r after) e past = past
 answers_in_call x reply task did (Guards g write) e past = tt
-answers_in_call x reply task did (Checkpoints r goal) e past = past
 answers_in_call x reply task did (BeginsCheckpoint s) e past = tt
-answers_in_call x reply task did Gone e past = past
+answers_in_call x reply task did _ e past = past
 
 -- ---- who is in a call was in it before, unless it looked
 
@@ -122,11 +109,8 @@ module _ (x : Held) where
   passed_in after Attach (passed.NotYet word) task past own call = call
   passed_in after Leave (passed.Went word) task past own call = call
   passed_in after Leave (passed.NotYet word) task past own call = own call
-  passed_in after Park result task past own call = past
-  passed_in after Request result task past own call = past
-  passed_in after (Resume epoch) result task past own call = past
-  passed_in after Forwarded result task past own call = past
   passed_in after Clear result task past own call = subst IsPastAfter task.1 past
+  passed_in after _ result task past own call = past
 
   gate_in : (g : gate.Passing) (after : After) (turn : Turn Passed) → FitsTaskBefore x g.passage after → IsPastAfter after → (IsInCall x.stage → IsInPassage g.passage after)
       → IsInCall (turned_gate x g after turn).stage → IsInPassage g.passage after
@@ -134,21 +118,13 @@ module _ (x : Held) where
   gate_in g after (Finished result) task past own call = passed_in after g.passage result task past own call
 
   in_call_at : (reply : Reply) (stage : Stage) → x.stage ≡ stage → FitsTask x stage → IsPastLook stage → IsInCall (turned_at x stage reply).stage → IsInCall stage
-  in_call_at reply Looks is task past call = past
   in_call_at reply (Passes g after) is task past call = gate_in (gate.taken g reply) after (gate.told (gate.taken g reply)) task past (λ own. subst IsInCall is own) call
   in_call_at reply (Flips f) is task past call = tt
-  in_call_at reply (Forwards w) is task past call = past
   in_call_at reply (Accesses a) is task past call = tt
   in_call_at reply (Places p) is task past call = tt
-  in_call_at reply (Serves d back) is task past call = past
-  in_call_at reply (Scans s back) is task past call = past
-  in_call_at reply (Evacuates v s back) is task past call = past
-  in_call_at reply (Opens o s back) is task past call = past
-  in_call_at reply (Recalls r after) is task past call = past
   in_call_at reply (Guards g write) is task past call = tt
-  in_call_at reply (Checkpoints r goal) is task past call = past
   in_call_at reply (BeginsCheckpoint s) is task past call = tt
-  in_call_at reply Gone is task past call = past
+  in_call_at reply _ is task past call = past
 
 pub was_in_call : (n mutators m : ℕ) (x : Held) (reply : Reply) → Fits n mutators m x → IsPastLook x.stage → IsInCall (turned x reply).stage → IsInCall x.stage
 was_in_call n mutators m x reply fits past call = in_call_at x reply x.stage refl fits.task past call

@@ -4,13 +4,13 @@ use Rattle.atom_store.specs.declared.reply.Reply.{Reply}
 use Rattle.atom_store.specs.declared.turn.Turn.{Turn}
 use Rattle.atom_store.specs.declared.turn.Turn.TheVariants.{Finished, More}
 use Rattle.gate_core.specs.declared.passage.Passage.{Passage}
-use Rattle.gate_core.specs.declared.passage.Passage.TheVariants.{Attach, Clear, Forwarded, Leave, Look, Park, Request, Resume}
+use Rattle.gate_core.specs.declared.passage.Passage.TheVariants.{Leave}
 use Rattle.gate_core.specs.declared.passed.Passed.{Passed}
 use Rattle.gate_core.specs.declared.passed.Passed.TheVariants as passed
 use Rattle.gate_core.specs.Gate as gate
 use Rattle.gc_worker.specs.declared.stage.after.After.{After}
 use Rattle.gc_worker.specs.declared.stage.Stage.{Stage}
-use Rattle.gc_worker.specs.declared.stage.Stage.TheVariants.{Accesses, BeginsCheckpoint, Checkpoints, Evacuates, Flips, Forwards, Gone, Guards, Looks, Opens, Passes, Places, Recalls, Scans, Serves}
+use Rattle.gc_worker.specs.declared.stage.Stage.TheVariants.{Gone, Passes}
 use Rattle.gc_worker.specs.Laws.Cycles.{IsInCall, IsInPassage}
 use Rattle.gc_worker.specs.Steps.Turned.{passed_by, turned_at, turned_gate}
 use Rattle.gc_worker.specs.Workers.Fits.{FitsEnd, IsEndBefore}
@@ -18,31 +18,13 @@ use Rattle.gc_worker.specs.Workers.Held.{Held}
 
 leaves : (passage : Passage) → IsEndBefore passage true → passage ≡ Leave
 leaves Leave ended = refl
-leaves Look ended = absurd (cc)
-leaves Attach ended = absurd (cc)
-leaves Park ended = absurd (cc)
-leaves Request ended = absurd (cc)
-leaves (Resume epoch) ended = absurd (cc)
-leaves Forwarded ended = absurd (cc)
-leaves Clear ended = absurd (cc)
+leaves _ ended = absurd (cc)
 
 -- what is so there is so of who has an end
 pub ended_at : (P : Stage → Type 0) → ((g : gate.Passing) (after : After) → g.passage ≡ Leave → P (Passes g after)) → P Gone → (stage : Stage) → FitsEnd stage true → P stage
 ended_at P leaving gone (Passes g after) ended = leaving g after (leaves g.passage ended)
 ended_at P leaving gone Gone ended = gone
-ended_at P leaving gone Looks ended = absurd (cc)
-ended_at P leaving gone (Flips f) ended = absurd (cc)
-ended_at P leaving gone (Forwards w) ended = absurd (cc)
-ended_at P leaving gone (Accesses a) ended = absurd (cc)
-ended_at P leaving gone (Places p) ended = absurd (cc)
-ended_at P leaving gone (Serves d back) ended = absurd (cc)
-ended_at P leaving gone (Scans s back) ended = absurd (cc)
-ended_at P leaving gone (Evacuates v s back) ended = absurd (cc)
-ended_at P leaving gone (Opens o s back) ended = absurd (cc)
-ended_at P leaving gone (Recalls r after) ended = absurd (cc)
-ended_at P leaving gone (Guards g write) ended = absurd (cc)
-ended_at P leaving gone (Checkpoints r goal) ended = absurd (cc)
-ended_at P leaving gone (BeginsCheckpoint s) ended = absurd (cc)
+ended_at P leaving gone _ ended = absurd (cc)
 
 -- it is in no call
 pub ended_out : (stage : Stage) → FitsEnd stage true → IsInCall stage → ⊥

@@ -26,7 +26,7 @@ use Rattle.gc_worker.specs.Laws.Between.{AreAlike, IsNoAnswer, RegistersLand, wi
 use Rattle.gc_worker.specs.Plain.Full.{FullWhereTold}
 use Rattle.gc_worker.specs.Workers.Held.{Held}
 use Rattle.gc_worker.specs.Steps.Stepped.{stepped_by, uncounted}
-use Rattle.gc_worker.specs.Steps.Turned.{Told, Silent, Empties, Answers, Marks, told, turned, PageWon, won}
+use Rattle.gc_worker.specs.Steps.Turned.{Told, Answers, told, turned, PageWon, won}
 use Rattle.gc_worker.specs.declared.calls.call.Call.{Call}
 use Rattle.ael_threads.specs.declared.view.WonClaim.{WonClaim}
 use Rattle.gc_worker.specs.declared.calls.did.Did.{Did}
@@ -89,16 +89,12 @@ under_way a b task begins same first = record {
 -- ---- a step that answers nothing
 
 own_kept : (m : ℕ) (own : List Call) (t : Told) → IsNoAnswer t → own_after m own t ≡ own
-own_kept m own Silent n = refl
-own_kept m own Empties n = refl
 own_kept m own (Answers task outcome) n = absurd n
-own_kept m own (Marks asked) n = refl
+own_kept m own _ n = refl
 
 seen_kept : (v w : View) (m : ℕ) (t : Told) → IsNoAnswer t → Sees v m t w → w.seen ≡ v.seen
-seen_kept v w m Silent n s = s
-seen_kept v w m Empties n s = s
 seen_kept v w m (Answers task outcome) n s = absurd n
-seen_kept v w m (Marks asked) n s = s
+seen_kept v w m _ n s = s
 
 pub rests_by : (b c : Seated) (r : Reply) (s : Stepped) → ActsBy b r s c → IsNoAnswer (told b.worker r) → Rests b c
 rests_by b c r s h none = let k = h.knows in record {
@@ -116,11 +112,9 @@ abbrev IsNeither : Stepped → Type 0
 IsNeither s = ((m : ℕ) → s ≡ stepped.Effect m → ⊥) × ((m : ℕ) (end : End) → s ≡ stepped.Ended m end → ⊥)
 
 no_answer : (k : ℕ) (t : Told) (s : Stepped) → s ≡ stepped_by k t → IsNeither s → IsNoAnswer t
-no_answer k Silent s is n = tt
-no_answer k Empties s is n = tt
 no_answer k (Answers task Done) s is n = absurd (n.0 k is)
 no_answer k (Answers task (Trap end)) s is n = absurd (n.1 k end is)
-no_answer k (Marks asked) s is n = tt
+no_answer k _ s is n = tt
 
 waits_by : (a b c : Seated) (task : Task) (r : Reply) (s : Stepped) → Waits a task b → ActsBy b r s c → IsNeither s → Waits a task c
 waits_by a b c task r s w h neither =
@@ -236,18 +230,12 @@ calls a b c task r s did u h other is =
     }
 
 by_effect : (a b c : Seated) (task : Task) (r : Reply) (m : ℕ) → IsUnderWay a task b → ActsBy b r (stepped.Effect m) c → (t : Told) → told b.worker r ≡ t → stepped.Effect m ≡ stepped_by b.worker.number t → Called a task Done c
-by_effect a b c task r m w h Silent is e = absurd (cc)
-by_effect a b c task r m w h Empties is e = absurd (cc)
 by_effect a b c task r m w h (Answers other Done) is e = calls a b c task r (stepped.Effect m) Done w h other is
-by_effect a b c task r m w h (Answers other (Trap end)) is e = absurd (cc)
-by_effect a b c task r m w h (Marks asked) is e = absurd (cc)
+by_effect a b c task r m w h _ is e = absurd (cc)
 
 by_end : (a b c : Seated) (task : Task) (r : Reply) (m : ℕ) (end : End) → IsUnderWay a task b → ActsBy b r (stepped.Ended m end) c → (t : Told) → told b.worker r ≡ t → stepped.Ended m end ≡ stepped_by b.worker.number t → Called a task (Trap end) c
-by_end a b c task r m end w h Silent is e = absurd (cc)
-by_end a b c task r m end w h Empties is e = absurd (cc)
-by_end a b c task r m end w h (Answers other Done) is e = absurd (cc)
 by_end a b c task r m end w h (Answers other (Trap why)) is e = let same : why ≡ end = cc in calls a b c task r (stepped.Ended m end) (Trap end) w h other (is ∙ ap (λ (z : End). Answers other (Trap z)) same)
-by_end a b c task r m end w h (Marks asked) is e = absurd (cc)
+by_end a b c task r m end w h _ is e = absurd (cc)
 
 pub found_is : (a b : Seated) (task : Task) (did : Did) (c : Called a task did b) → a.knows.seen ++ c.history.between ≡ c.acts.knows.found.log
 found_is a b task did c = sym (found_at a c.last b task did c.reply c.stepped c.acts c.waits.rests.number c.answers c.history)
@@ -286,10 +274,8 @@ quiet_by a b c r s q h = by_told (told b.worker r) refl
     }
 
     by_told : (t : Told) → told b.worker r ≡ t → StaysSilent a c
-    by_told Silent is = by_none (subst IsNoAnswer (sym is) tt)
-    by_told Empties is = by_none (subst IsNoAnswer (sym is) tt)
     by_told (Answers task outcome) is = absurd (let some = (h.goes_on.answers task outcome is).asked in let none = q.none in cc)
-    by_told (Marks asked) is = by_none (subst IsNoAnswer (sym is) tt)
+    by_told _ is = by_none (subst IsNoAnswer (sym is) tt)
 
 pub quiet_first : (a : Seated) → a.worker.task ≡ None → StaysSilent a a
 quiet_first a none = record { none = none; rests = rests_same a a refl; ended = λ end is. is; shown = λ end is records m p was. was; known = λ was. was }

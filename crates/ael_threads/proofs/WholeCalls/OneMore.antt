@@ -14,7 +14,7 @@ use Rattle.plain_state.specs.Writing.{filled}
 use Rattle.plain_state.proofs.Lists.{slice_get-replicate, slice_get-set_same}
 use Rattle.mutator_asm.specs.declared.instr.Instr.{Instr}
 use Rattle.plain_heap.specs.declared.action.Action.{Action}
-use Rattle.plain_heap.specs.declared.action.Action.TheVariants.{Sets, Jumps, Links, Prints, Makes, Measures, Loads, Stores, Exchanges, Gets, Puts, Swaps, Snaps}
+use Rattle.plain_heap.specs.declared.action.Action.TheVariants.{Makes, Loads, Stores, Exchanges}
 use Rattle.plain_heap.specs.Action.{action}
 use Rattle.plain_heap.specs.Call.{After, call, may_hold, performed, store_in, value_in}
 use Rattle.plain_heap.specs.Step.{ended, fetch, settled}
@@ -53,22 +53,14 @@ module _ (m : ℕ) (heap : Heap) (k : Mutator) where
   stores-makers i x v (Some r) = if_ok-bind AsMany (may_hold r.kind x v) _ (λ w. length-set heap.records i.mutator _)
 
   performed-makers : (act : Action) → IfOk (performed m heap k act) (λ a. AsMany a.heap)
-  performed-makers (Sets d v) = refl
-  performed-makers (Jumps target) = refl
-  performed-makers (Links d target) = refl
-  performed-makers (Prints n) = refl
-  performed-makers Snaps = refl
   performed-makers (Makes kind d n v) = length-set heap.records m (made_by heap m ++ filled kind n v ∷ [])
-  performed-makers (Measures d i) = refl
   performed-makers (Loads d i x) = if_ok-bind (λ (a : After). AsMany a.heap) (value_in heap i x) _ (λ v. refl)
   performed-makers (Stores i x v) = if_ok-bind (λ (a : After). AsMany a.heap) (value_in heap i x) _
       (λ old. if_ok-then AsMany (λ (a : After). AsMany a.heap) (store_in heap i (record_of heap i) x v) _ (stores-makers i x v (record_of heap i)) (λ h same. same))
   performed-makers (Exchanges d i x expected v) =
       performed_exchange m heap k d i x expected v (λ (a : After). AsMany a.heap) refl
       (if_ok-then AsMany (λ (a : After). AsMany a.heap) (store_in heap i (record_of heap i) x v) _ (stores-makers i x v (record_of heap i)) (λ h same. same))
-  performed-makers (Gets d x) = refl
-  performed-makers (Puts x v) = refl
-  performed-makers (Swaps d x v) = refl
+  performed-makers _ = refl
 
   call-makers : (i : Instr) → IfOk (call m heap k i) (λ a. AsMany a.heap)
   unfolding call

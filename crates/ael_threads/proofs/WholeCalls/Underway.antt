@@ -2,12 +2,12 @@
 use Rattle.std.proofs.Common.{◌≡◌, ℕ, ◌<◌, ◌≤◌, inl, inr, List, length, Some, refl, sym, ◌∙◌, ap, subst, arith, ⊎_elim}
 use mathlib.Core.List.{IsPrefix}
 use Rattle.atom_store.specs.declared.reply.Reply.{Reply}
-use Rattle.plain_state.specs.declared.end.End.TheVariants.{Halt, NotPointer, NotNumber, OutOfRange, WeakCell, IntoRaw, ZeroDivisor, JumpOut, TurnsOut, OutputFull, HeapFull}
+use Rattle.plain_state.specs.declared.end.End.TheVariants.{HeapFull}
 use Rattle.space_map.specs.declared.gate_word.GateWord.{GateWord}
 use Rattle.std.specs.Prelude.{Option}
 use Rattle.gc_worker.specs.declared.calls.call.Call.{Call}
 use Rattle.gc_worker.specs.declared.calls.did.Did.{Did}
-use Rattle.gc_worker.specs.declared.calls.did.Did.TheVariants.{Done, Trap}
+use Rattle.gc_worker.specs.declared.calls.did.Did.TheVariants.{Trap}
 use Rattle.gc_worker.specs.declared.calls.entry.Entry.{Entry}
 use Rattle.gc_worker.specs.declared.stage.Stage.TheVariants.{Looks}
 use Rattle.gc_worker.specs.declared.steps.stepped.Stepped.{Stepped}
@@ -189,15 +189,5 @@ module _ (a b c : Seated) (task : Task) (r : Reply) (s : Stepped) (u : IsUnderWa
       }
 
   pub flipped_by : (other : Task) (did : Did) → told x r ≡ Answers other did → FlippedByOutcome a task log b c did
-  flipped_by other Done e = tt
   flipped_by other (Trap (HeapFull asked room live)) e = full other asked room live e
-  flipped_by other (Trap Halt) e = tt
-  flipped_by other (Trap NotPointer) e = tt
-  flipped_by other (Trap NotNumber) e = tt
-  flipped_by other (Trap OutOfRange) e = tt
-  flipped_by other (Trap WeakCell) e = tt
-  flipped_by other (Trap IntoRaw) e = tt
-  flipped_by other (Trap ZeroDivisor) e = tt
-  flipped_by other (Trap JumpOut) e = tt
-  flipped_by other (Trap TurnsOut) e = tt
-  flipped_by other (Trap OutputFull) e = tt
+  flipped_by other _ e = tt

@@ -2,17 +2,17 @@
 use Rattle.std.proofs.Common.{◌≡◌, ◌⊎◌, inl, inr, ℕ, zero, suc, ◌<◌, Bool, true, false, nat_lt, ltb-true, Option, Some, None, List, [], ◌∷◌, length, slice_get, refl, sym, ◌∙◌, ap, subst, arith}
 use Rattle.std.specs.Option.{is_some}
 use Rattle.plain_state.specs.declared.end.End.{End}
-use Rattle.plain_state.specs.declared.end.End.TheVariants.{Halt, NotPointer, NotNumber, OutOfRange, WeakCell, IntoRaw, ZeroDivisor, JumpOut, TurnsOut, OutputFull, HeapFull}
+use Rattle.plain_state.specs.declared.end.End.TheVariants.{HeapFull}
 use Rattle.plain_state.specs.State.{Mutator, Plain}
 use Rattle.plain_state.proofs.Lists.{slice_get-set_same}
 use Rattle.std.proofs.lemmas.Option.{same_Some, slice_get_within}
 use Rattle.heap_state.specs.Worker.{is_running}
 use Rattle.gc_worker.specs.declared.stage.Stage.{Stage}
 use Rattle.gc_worker.specs.declared.stage.back.Back.{Back}
-use Rattle.gc_worker.specs.declared.stage.back.Back.TheVariants.{ToAccess, ToTarget, ToPlace, ToScanner, ToSnap}
+use Rattle.gc_worker.specs.declared.stage.back.Back.TheVariants.{ToScanner}
 use Rattle.gc_worker.specs.declared.stage.goal.Goal.{Goal}
 use Rattle.gc_worker.specs.declared.stage.goal.Goal.TheVariants.{ForFlip, ForScanner, ForSnap}
-use Rattle.gc_worker.specs.declared.stage.Stage.TheVariants.{Accesses, BeginsCheckpoint, Checkpoints, Evacuates, Flips, Forwards, Gone, Guards, Looks, Opens, Passes, Places, Recalls, Scans, Serves}
+use Rattle.gc_worker.specs.declared.stage.Stage.TheVariants.{BeginsCheckpoint, Checkpoints, Evacuates, Gone, Looks, Opens, Passes, Scans, Serves}
 use Rattle.gc_worker.specs.declared.task.Task.{Task}
 use Rattle.gc_worker.specs.declared.task.Task.TheVariants.{Calls, Stops}
 use Rattle.gc_worker.specs.Plain.Answer.{after_answer}
@@ -25,13 +25,13 @@ use Rattle.gc_worker.specs.Workers.Knows.{post_back, post_before, post_for, post
 use Rattle.gc_worker.specs.Laws.Step.{Heap, WorkersStand}
 use Rattle.gc_worker.proofs.Between.Pages.Copied.{full_tells_live}
 use Rattle.gc_worker.specs.Steps.Stepped.{IsBeginningCheckpoint, awaits, awaits_at, uncounted}
-use Rattle.gc_worker.specs.declared.calls.did.Did.TheVariants.{Done, Trap}
+use Rattle.gc_worker.specs.declared.calls.did.Did.TheVariants.{Trap}
 use Rattle.gc_worker.specs.Plain.Seen.{seen}
 use Rattle.gc_worker.proofs.Plain.OnlySnap.{snaps_alone}
 use Rattle.gate_core.specs.declared.passage.Passage.{Passage}
 use Rattle.mutator_asm.specs.declared.instr.Instr.{Instr}
 use Rattle.mutator_asm.specs.declared.instr.Instr.TheVariants.{Snap}
-use Rattle.gc_worker.specs.Steps.Turned.{Told, Silent, Empties, Answers, Marks}
+use Rattle.gc_worker.specs.Steps.Turned.{Told, Answers}
 use Rattle.ael_threads.specs.Seats.{IsPresent, IsRunning, IsShown, LiveByEnd, LiveWhereTold}
 
 pub shown_by : (h : Heap) (p : Plain) (m count : ℕ) (z : Held) (q : Mutator) → IsAsPlain h p m (counted count z) q → ShowsRegisters z.registers q → IsShown p.heap m (uncounted z) q
@@ -106,11 +106,8 @@ gone_is_none true e = cc
 gone_is_none false e = cc
 
 back_present : (back : Back) (b : Bool) → IsOnSideBack back b → is_present (post_back back) ≡ true → b ≡ true
-back_present (ToAccess a) b side e = side
-back_present ToPlace b side e = side
-back_present (ToTarget a) b side e = side
-back_present ToSnap b side e = side
 back_present ToScanner b side e = absurd (cc)
+back_present _ b side e = side
 
 goal_present : (goal : Goal) (b : Bool) → IsOnSideFor goal b → is_present (post_for goal) ≡ true → b ≡ true
 goal_present ForFlip b side e = side
@@ -125,39 +122,18 @@ present_aside n mutators m z f present =
     omega (arith, less, number, beside)
   where
     by_stage : (stage : Stage) → IsOnSide stage (nat_lt z.number z.mutators) (is_some z.account.end) → is_present (post_in z stage) ≡ true → nat_lt z.number z.mutators ≡ true
-    by_stage Looks side e = side
-    by_stage (Passes g after) side e = side
-    by_stage (Flips g) side e = side
-    by_stage (Forwards w) side e = side
-    by_stage (Accesses a) side e = side
-    by_stage (Places p) side e = side
     by_stage (Serves d back) side e = back_present back (nat_lt z.number z.mutators) side e
     by_stage (Scans s back) side e = back_present back (nat_lt z.number z.mutators) side e
     by_stage (Evacuates v s back) side e = back_present back (nat_lt z.number z.mutators) side e
     by_stage (Opens o s back) side e = back_present back (nat_lt z.number z.mutators) side e
-    by_stage (Recalls r after) side e = side
-    by_stage (Guards g write) side e = side
     by_stage (Checkpoints r goal) side e = goal_present goal (nat_lt z.number z.mutators) side e
-    by_stage (BeginsCheckpoint s) side e = side
     by_stage Gone side e = absurd (gone_is_none (nat_lt z.number z.mutators) e)
+    by_stage _ side e = side
 
 -- whatever its count is
 counted_post : (count : ℕ) (z : Held) (stage : Stage) → post_in (counted count z) stage ≡ post_in z stage
 counted_post count z Looks = refl
-counted_post count z (Passes g after) = refl
-counted_post count z (Flips g) = refl
-counted_post count z (Forwards w) = refl
-counted_post count z (Accesses a) = refl
-counted_post count z (Places p) = refl
-counted_post count z (Serves d back) = refl
-counted_post count z (Scans s back) = refl
-counted_post count z (Evacuates v s back) = refl
-counted_post count z (Opens o s back) = refl
-counted_post count z (Recalls r after) = refl
-counted_post count z (Guards g write) = refl
-counted_post count z (Checkpoints r goal) = refl
-counted_post count z (BeginsCheckpoint s) = refl
-counted_post count z Gone = refl
+counted_post count z _ = refl
 
 -- who runs does so whatever its count is
 pub runs_uncounted : (z : Held) → IsRunning z → IsRunning (uncounted z)
@@ -205,23 +181,11 @@ full_end n words count x (HeapFull asked room live) h = record {
   size_is = h.size_is;
   no_flip = h.no_flip;
 }
-full_end n words count x Halt h = tt
-full_end n words count x NotPointer h = tt
-full_end n words count x NotNumber h = tt
-full_end n words count x OutOfRange h = tt
-full_end n words count x WeakCell h = tt
-full_end n words count x IntoRaw h = tt
-full_end n words count x ZeroDivisor h = tt
-full_end n words count x JumpOut h = tt
-full_end n words count x TurnsOut h = tt
-full_end n words count x OutputFull h = tt
+full_end n words count x _ h = tt
 
 pub full_by : (n : ℕ) (words : List ℕ) (count : ℕ) (x : Held) (t : Told) → FullWhereTold n words (counted count x) t → FullWhereTold n words x t
-full_by n words count x Silent h = tt
-full_by n words count x Empties h = tt
-full_by n words count x (Answers task Done) h = tt
 full_by n words count x (Answers task (Trap end)) h = full_end n words count x end h
-full_by n words count x (Marks asked) h = tt
+full_by n words count x _ h = tt
 
 -- ---- an end
 
@@ -247,20 +211,8 @@ ends_with p m q task why w registers its was s =
 module _ (h : Heap) (p o : Plain) (stands : WorkersStand h p o) (x : Held) where
   live_end : (end : End) → FullByEnd h.pages h.words x end → LiveByEnd o end
   live_end (HeapFull asked room live) f = full_tells_live h p o x asked room live stands f
-  live_end Halt f = tt
-  live_end NotPointer f = tt
-  live_end NotNumber f = tt
-  live_end OutOfRange f = tt
-  live_end WeakCell f = tt
-  live_end IntoRaw f = tt
-  live_end ZeroDivisor f = tt
-  live_end JumpOut f = tt
-  live_end TurnsOut f = tt
-  live_end OutputFull f = tt
+  live_end _ f = tt
 
   pub live_by : (t : Told) → FullWhereTold h.pages h.words x t → LiveWhereTold o t
-  live_by Silent f = tt
-  live_by Empties f = tt
-  live_by (Answers task Done) f = tt
   live_by (Answers task (Trap end)) f = live_end end f
-  live_by (Marks asked) f = tt
+  live_by _ f = tt

@@ -9,7 +9,7 @@ use Rattle.plain_heap.specs.Order.{Story, story}
 use Rattle.plain_heap.proofs.States.SameMutators.{plain_count}
 use Rattle.atom_store.specs.declared.step.Step.{Step}
 use Rattle.atom_store.specs.Step.{reply_of}
-use Rattle.gc_worker.specs.declared.calls.did.Did.TheVariants.{Done, Trap}
+use Rattle.gc_worker.specs.declared.calls.did.Did.TheVariants.{Trap}
 use Rattle.gc_worker.specs.declared.calls.entry.Entry.{Entry}
 use Rattle.gc_worker.specs.declared.steps.stepped.Stepped.TheVariants.{Ended}
 use Rattle.gc_worker.specs.declared.task.Task.{Task}
@@ -19,7 +19,7 @@ use Rattle.gc_worker.specs.History.Tally.{FitsTally, Tally, Tasks, tally, tasks_
 use Rattle.gc_worker.specs.Laws.Cycles.{SetsAside, low_of, set_aside, size_of, words_claimed}
 use Rattle.gc_worker.specs.Laws.Step.{Heap, held_at, nobody}
 use Rattle.gc_worker.specs.Steps.Stepped.{stepped_by}
-use Rattle.gc_worker.specs.Steps.Turned.{Told, Silent, Empties, Answers, Marks, told, turned}
+use Rattle.gc_worker.specs.Steps.Turned.{Told, Answers, told, turned}
 use Rattle.gc_worker.specs.Steps.Wanted.{wanted}
 use Rattle.gc_worker.specs.Workers.Fits.{Fits}
 use Rattle.gc_worker.specs.Workers.Held.{Held}
@@ -36,11 +36,8 @@ use Rattle.gc_core.proofs.Runs.History.{HasHistory, are_next, first, given, hist
 
 -- who ends has nothing set aside
 ended_aside : (w : ℕ) (t : Told) (was : Held) (claims : ℕ) (now : Held) → SetsAside was claims now t → (m : ℕ) (why : End) → stepped_by w t ≡ Ended m why → set_aside was ≡ 0
-ended_aside w Silent was claims now sets m why e = absurd (cc)
-ended_aside w Empties was claims now sets m why e = absurd (cc)
-ended_aside w (Answers task Done) was claims now sets m why e = absurd (cc)
 ended_aside w (Answers task (Trap end)) was claims now sets m why e = omega (arith, sets)
-ended_aside w (Marks asked) was claims now sets m why e = absurd (cc)
+ended_aside w _ was claims now sets m why e = absurd (cc)
 
 module _ (least limit : ℕ) (s : CoreState) (w : ℕ) (log : List Entry) (h : HasHistory least s log) (claims : ℕ) (fills : HasClaimed limit s claims) (m : ℕ) (why : End) where
   abbrev t : Tally

@@ -9,7 +9,7 @@ use Rattle.atom_store.specs.Step.{words_after, reply_of}
 use Rattle.space_map.specs.Spaces.{to_space}
 use Rattle.space_map.specs.Table.{Size}
 use Rattle.heap_state.specs.Memory.Table.{word_in}
-use Rattle.gc_worker.specs.declared.calls.did.Did.TheVariants.{Done, Trap}
+use Rattle.gc_worker.specs.declared.calls.did.Did.TheVariants.{Done}
 use Rattle.gc_worker.specs.declared.calls.entry.Entry.{Entry}
 use Rattle.gc_worker.specs.Laws.Cycles.{LowGoes, SizeGoes, words_claimed, low_of, low_at, low_said, size_of}
 use Rattle.gc_worker.specs.Plain.Full.{FindsNoRoom}
@@ -17,7 +17,7 @@ use Rattle.gc_worker.specs.Workers.Held.{Held}
 use Rattle.gc_worker.specs.History.Tally.{tally}
 use Rattle.gc_worker.specs.Laws.Step.{WorkersStand, epoch_of, nobody}
 use Rattle.gc_worker.specs.Steps.Stepped.{stepped_by}
-use Rattle.gc_worker.specs.Steps.Turned.{Told, Silent, Empties, Answers, Marks, epoch_in_gate, told}
+use Rattle.gc_worker.specs.Steps.Turned.{Told, Answers, Marks, epoch_in_gate, told}
 use Rattle.gc_worker.specs.Steps.Wanted.{wanted}
 use Rattle.gc_worker.proofs.Between.Pages.Copied.{full_tells_live}
 use Rattle.gc_worker.proofs.Cycles.Lows.{low_falls_by_claims}
@@ -43,11 +43,9 @@ module _ (limit : ℕ) (s : CoreState) (w claims : ℕ) (fills : HasClaimed limi
   -- a flip empties the space, and nothing else but a claim changes LOW
   by_told : (t : Told) (later : List ℕ) (more : ℕ) → LowGoes s.heap.pages s.heap.words later more t → SizeGoes s.heap.pages s.heap.words later t
       → low_of s.heap.pages later + claims_after claims more (stepped_by w t) ≡ PAGE_WORDS * size_of s.heap.pages later
-  by_told Silent later more goes same = let l = fills.low in omega (arith, goes, l, same)
-  by_told Empties later more goes same = let l = fills.low in omega (arith, goes, l, same)
-  by_told (Answers task Done) later more goes same = let l = fills.low in omega (arith, goes, l, same)
-  by_told (Answers task (Trap why)) later more goes same = let l = fills.low in omega (arith, goes, l, same)
   by_told (Marks asked) later more goes grows = omega (arith, goes)
+  by_told (Answers _ Done) later more goes same = let l = fills.low in omega (arith, goes, l, same)
+  by_told _ later more goes same = let l = fills.low in omega (arith, goes, l, same)
 
   step_fills : (p o : Plain) (r : ReadyToStep s w p o) (q : Step) → wanted (ready s w) ≡ Some q → HasClaimed limit (core_after s w) (claims_next s w claims)
   unfolding event_of

@@ -5,15 +5,15 @@ use Rattle.std.proofs.lemmas.List.{get_or_past}
 use Rattle.atom_store.specs.declared.step.Step.{Step}
 use Rattle.atom_store.specs.Step.{reply_of, words_after}
 use Rattle.space_map.specs.Spaces.{to_space}
-use Rattle.gc_worker.specs.declared.calls.did.Did.TheVariants.{Done, Trap}
+use Rattle.gc_worker.specs.declared.calls.did.Did.TheVariants.{Done}
 use Rattle.gc_worker.specs.declared.steps.stepped.Stepped.{Stepped}
-use Rattle.gc_worker.specs.declared.steps.stepped.Stepped.TheVariants.{Idle, Moved, Effect, Flipped, Traced, Ended}
+use Rattle.gc_worker.specs.declared.steps.stepped.Stepped.TheVariants.{Flipped}
 use Rattle.gc_worker.specs.Laws.Cycles.{HasNextSize, SizeGoes, SizesHoldAt, front_of, size_at, size_next, size_of}
 use Rattle.gc_worker.specs.Laws.Growth.{Grows}
 use Rattle.gc_worker.specs.Laws.Claims.{epoch_of_heap}
 use Rattle.gc_worker.specs.Laws.Step.{nobody}
 use Rattle.gc_worker.specs.Steps.Stepped.{stepped_by}
-use Rattle.gc_worker.specs.Steps.Turned.{Told, Silent, Empties, Answers, Marks, told}
+use Rattle.gc_worker.specs.Steps.Turned.{Told, Answers, Marks, told}
 use Rattle.gc_worker.specs.Steps.Wanted.{wanted}
 use Rattle.gc_worker.specs.Workers.Held.{Held, has_seen_flip}
 use Rattle.gc_worker.proofs.Between.Beginning.{tasks_may_begin}
@@ -70,11 +70,9 @@ module _ (s : CoreState) (w : ℕ) (l : IsLawful s) where
   Sets t later = (asked : ℕ) → t ≡ Marks asked → size_of s.heap.pages later ≡ size_next s.heap.pages s.heap.words (ready s w)
 
   by_told : (t : Told) (later : List ℕ) → SizeGoes s.heap.pages s.heap.words later t → Sets t later → SizeIsAfter s w (size_of s.heap.pages later) (stepped_by w t)
-  by_told Silent later goes sets = goes
-  by_told Empties later goes sets = goes
-  by_told (Answers task Done) later goes sets = goes
-  by_told (Answers task (Trap why)) later goes sets = goes
   by_told (Marks asked) later goes sets = sets asked refl
+  by_told (Answers _ Done) later goes sets = goes
+  by_told _ later goes sets = goes
 
   -- the worker with its task
   module _ (below : w < length s.heap.workers) where
@@ -116,12 +114,8 @@ module _ (s : CoreState) (w : ℕ) (l : IsLawful s) where
   next_grows_of = next_grows s.heap.pages (has_seen_flip (ready s w)) (size_in s) (front_of s.heap.pages s.heap.words)
 
   never_fewer : (next : ℕ) (t : Stepped) → size_in s ≤ s.heap.pages → SizeIsAfter s w next t → size_in s ≤ next
-  never_fewer next Idle few same = omega (arith, same)
-  never_fewer next Moved few same = omega (arith, same)
-  never_fewer next Traced few same = omega (arith, same)
-  never_fewer next (Effect m) few same = omega (arith, same)
-  never_fewer next (Ended m why) few same = omega (arith, same)
   never_fewer next (Flipped asked) few set = let grown = (grown_within s.heap.pages (size_in s) (size_next s.heap.pages s.heap.words (ready s w)) few next_grows_of).0 in omega (arith, grown, set)
+  never_fewer next _ few same = omega (arith, same)
 
 pub sizes_grow_at_flips : SizesGrowAtFlips
 sizes_grow_at_flips s w l = is_after s w l

@@ -13,7 +13,7 @@ use Rattle.plain_heap.specs.Order.{Story, first_story, opening, story}
 use Rattle.gc_worker.specs.declared.config.Config.{Config}
 use Rattle.gc_worker.specs.declared.calls.entry.Entry.{Entry}
 use Rattle.gc_worker.specs.declared.steps.stepped.Stepped.{Stepped}
-use Rattle.gc_worker.specs.declared.steps.stepped.Stepped.TheVariants.{Idle, Moved, Effect, Flipped, Traced, Ended}
+use Rattle.gc_worker.specs.declared.steps.stepped.Stepped.TheVariants.{Ended}
 use Rattle.gc_worker.specs.History.Needs.{EachFullIs, EachMayCome, being_made, made_since}
 use Rattle.gc_worker.specs.History.Order.{order_of}
 use Rattle.gc_worker.specs.History.Tally.{aside_in, tally}
@@ -173,22 +173,8 @@ module _ (code : List (List Instr)) (items : List Item) (turns : ℕ) (config : 
 
 -- a mark of a full heap is of an event that tells it
 told_full : (told : Stepped) (m asked room live : ℕ) → mark_of told ≡ Some (Full m asked room live) → told ≡ Ended m (ends.HeapFull asked room live)
-told_full Idle m asked room live e = cc
-told_full Moved m asked room live e = cc
-told_full Traced m asked room live e = cc
-told_full (Effect j) m asked room live e = cc
-told_full (Flipped pages) m asked room live e = cc
-told_full (Ended j ends.Halt) m asked room live e = cc
-told_full (Ended j ends.NotPointer) m asked room live e = cc
-told_full (Ended j ends.NotNumber) m asked room live e = cc
-told_full (Ended j ends.OutOfRange) m asked room live e = cc
-told_full (Ended j ends.WeakCell) m asked room live e = cc
-told_full (Ended j ends.IntoRaw) m asked room live e = cc
-told_full (Ended j ends.ZeroDivisor) m asked room live e = cc
-told_full (Ended j ends.JumpOut) m asked room live e = cc
-told_full (Ended j ends.TurnsOut) m asked room live e = cc
-told_full (Ended j ends.OutputFull) m asked room live e = cc
-told_full (Ended j (ends.HeapFull pages left words)) m asked room live e = cc
+told_full (Ended _ ends.Halt) m asked room live e = cc
+told_full _ m asked room live e = cc
 
 pub cycles_keep_what_is_live : CyclesKeepWhatIsLive
 cycles_keep_what_is_live code items turns config schedule n program size turns_fit few =

@@ -9,7 +9,7 @@ use Rattle.plain_state.specs.State.{Mutator, Plain}
 use Rattle.plain_heap.specs.Order.{Story, end_of}
 use Rattle.plain_heap.specs.Print.{Seen, plain_seen}
 use Rattle.gc_worker.specs.declared.steps.stepped.Stepped.{Stepped}
-use Rattle.gc_worker.specs.declared.steps.stepped.Stepped.TheVariants.{Idle, Moved, Effect, Flipped, Traced, Ended}
+use Rattle.gc_worker.specs.declared.steps.stepped.Stepped.TheVariants.{Effect, Ended}
 use Rattle.gc_worker.proofs.Between.Standing.{what_stands_is_so}
 use Rattle.gc_core.specs.Core.{CoreState}
 use Rattle.gc_core.specs.Event.{core_after, event_of}
@@ -49,9 +49,6 @@ ends_are_told s w l untold =
 
     by_told : (t : Stepped) → (event_of s w).told ≡ t → IsTold s w story (event_of s w).after t
         → list_all has_end (plain_seen (plain_met_by s story (event_of s w).after t)) ≡ list_all has_end (plain_seen l.plain)
-    by_told Idle e told = refl
-    by_told Moved e told = refl
-    by_told Traced e told = refl
-    by_told (Flipped asked) e told = refl
     by_told (Effect m) e told = not_all (plain_after s story (Effect m)) m told.2 ∙ sym (not_all l.plain m told.1)
     by_told (Ended m why) e told = absurd (untold m why e)
+    by_told _ e told = refl

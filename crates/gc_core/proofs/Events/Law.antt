@@ -71,17 +71,8 @@ answer_story s story w task (Trap why) = no_flip s.code s.turns story.now story.
 -- an end for want of room comes for want of room
 for_want : (s : CoreState) (p : Plain) (w : ℕ) (why : End) → ((asked room live : ℕ) → why ≡ ends.HeapFull asked room live → asked_by s.code s.turns p w ≡ Some asked)
     → FullByEnd s.heap.pages s.heap.words (ready s w) why → IsForWant s p w why
-for_want s p w ends.Halt asks full = tt
-for_want s p w ends.NotPointer asks full = tt
-for_want s p w ends.NotNumber asks full = tt
-for_want s p w ends.OutOfRange asks full = tt
-for_want s p w ends.WeakCell asks full = tt
-for_want s p w ends.IntoRaw asks full = tt
-for_want s p w ends.ZeroDivisor asks full = tt
-for_want s p w ends.JumpOut asks full = tt
-for_want s p w ends.TurnsOut asks full = tt
-for_want s p w ends.OutputFull asks full = tt
 for_want s p w (ends.HeapFull asked room live) asks full = (asks asked room live refl, full)
+for_want s p w _ asks full = tt
 
 -- the heap in which a worker was given its task stands for the same story
 pub ready_story : (s : CoreState) (w : ℕ) (p o : Plain) (r : ReadyToStep s w p o) → StoryStands s.heap p o → StoryStands r.heap p o
@@ -196,11 +187,9 @@ module _ (law : StepsKeep) (goes : WorkersGoOn) (wants : WorkersWant) (so : What
     Met u = ((story_met s story (record { told = stepped_by w u; after = after })).now ≡ then u) × ((story_met s story (record { told = stepped_by w u; after = after })).flip ≡ at_flip p story.flip u)
 
     met : (u : Told) → t ≡ u → IsAnswered p w u → Met u
-    met Silent e answered = (refl, refl)
-    met Empties e answered = (refl, refl)
-    met (Marks asked) e answered = (refl, refl)
     met (Answers task Done) e answered = story_stands (Answers task Done) e answered
     met (Answers task (Trap why)) e answered = story_stands (Answers task (Trap why)) e answered
+    met _ e answered = (refl, refl)
 
     -- ---- what is told
 

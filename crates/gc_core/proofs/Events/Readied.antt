@@ -15,7 +15,7 @@ use Rattle.atom_store.specs.declared.step.Step.{Step}
 use Rattle.atom_store.specs.Step.{words_after, reply_of}
 use Rattle.heap_state.specs.Worker.{Account}
 use Rattle.gc_worker.specs.declared.stage.Stage.{Stage}
-use Rattle.gc_worker.specs.declared.stage.Stage.TheVariants.{Looks, Passes, Flips, Forwards, Accesses, Places, Serves, Scans, Evacuates, Opens, Recalls, Guards, Checkpoints, BeginsCheckpoint, Gone}
+use Rattle.gc_worker.specs.declared.stage.Stage.TheVariants.{Looks}
 use Rattle.gc_worker.specs.declared.task.Task.{Task}
 use Rattle.gc_worker.specs.Laws.Between.{ReadyingStands, TasksMayBegin, IsIdle, with_task, with_worker}
 use Rattle.gc_worker.specs.Laws.Between as between
@@ -42,21 +42,7 @@ pub data Due (code : List (List Instr)) (turns m : ℕ) (x : Held) : Type 0 wher
 module _ (code : List (List Instr)) (turns m : ℕ) (x : Held) where
   due_by : (stage : Stage) (task : Option Task) → x.stage ≡ stage → x.task ≡ task → Due code turns m x
   due_by Looks None e f = Begins e f (rw (e, f) refl)
-  due_by Looks (Some task) e f = Rests (rw (e, f) refl)
-  due_by (Passes g after) task e f = Rests (rw (e, f) refl)
-  due_by (Flips y) task e f = Rests (rw (e, f) refl)
-  due_by (Forwards y) task e f = Rests (rw (e, f) refl)
-  due_by (Accesses a) task e f = Rests (rw (e, f) refl)
-  due_by (Places p) task e f = Rests (rw (e, f) refl)
-  due_by (Serves d back) task e f = Rests (rw (e, f) refl)
-  due_by (Scans y back) task e f = Rests (rw (e, f) refl)
-  due_by (Evacuates v y back) task e f = Rests (rw (e, f) refl)
-  due_by (Opens o y back) task e f = Rests (rw (e, f) refl)
-  due_by (Recalls r after) task e f = Rests (rw (e, f) refl)
-  due_by (Guards g write) task e f = Rests (rw (e, f) refl)
-  due_by (Checkpoints r goal) task e f = Rests (rw (e, f) refl)
-  due_by (BeginsCheckpoint y) task e f = Rests (rw (e, f) refl)
-  due_by Gone task e f = Rests (rw (e, f) refl)
+  due_by _ _ e f = Rests (rw (e, f) refl)
 
   pub due : Due code turns m x
   due = due_by x.stage x.task refl refl

@@ -21,8 +21,8 @@ use Rattle.heap_state.specs.Worker.{Account}
 use Rattle.gc_worker.specs.Laws.Step.{StepKeeps, held_at, nobody}
 use Rattle.gc_worker.specs.Steps.Made.{AllowsStep, MayMake, step_made, step_made_by}
 use Rattle.gc_worker.specs.Steps.Stepped.{IsSound, awaits, stepped_by}
-use Rattle.gc_worker.specs.declared.calls.did.Did.TheVariants.{Done, Trap}
-use Rattle.gc_worker.specs.Steps.Turned.{Told, Silent, Empties, Answers, Marks, told, turned}
+use Rattle.gc_worker.specs.declared.calls.did.Did.TheVariants.{Done}
+use Rattle.gc_worker.specs.Steps.Turned.{Told, Answers, told, turned}
 use Rattle.gc_worker.specs.Steps.Wanted.{wanted, wanted_at}
 use Rattle.gc_worker.proofs.Between.Beginning.{tasks_may_begin}
 use Rattle.gc_worker.proofs.Between.GoingOn.{workers_go_on}
@@ -54,10 +54,7 @@ has_turns code turns m x instr is = by_turns (nat_le turns x.account.executed) r
 -- an effect answers a task
 effect_of : (k m : ℕ) (t : Told) → stepped_by k t ≡ tells.Effect m → (task : Task) × (t ≡ Answers task Done)
 effect_of k m (Answers task Done) is = (task, refl)
-effect_of k m (Answers task (Trap end)) is = absurd (cc)
-effect_of k m Silent is = absurd (cc)
-effect_of k m Empties is = absurd (cc)
-effect_of k m (Marks asked) is = absurd (cc)
+effect_of k m _ is = absurd (cc)
 
 module _ (s : CoreState) (w : ℕ) (lawful : IsLawful s) (below : w < length s.heap.workers) where
   abbrev x : Held

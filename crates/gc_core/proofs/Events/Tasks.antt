@@ -7,7 +7,7 @@ use Rattle.mutator_asm.specs.declared.instr.Instr.{Instr}
 use Rattle.mutator_asm.specs.Program.{is_valid}
 use Rattle.heap_state.specs.Worker.{Account}
 use Rattle.gc_worker.specs.declared.stage.Stage.{Stage}
-use Rattle.gc_worker.specs.declared.stage.Stage.TheVariants.{Looks, Passes, Flips, Forwards, Accesses, Places, Serves, Scans, Evacuates, Opens, Recalls, Guards, Checkpoints, BeginsCheckpoint, Gone}
+use Rattle.gc_worker.specs.declared.stage.Stage.TheVariants.{Looks}
 use Rattle.gc_worker.specs.declared.task.Task.{Task}
 use Rattle.gc_worker.specs.Laws.Between.{IsIdle}
 use Rattle.gc_worker.specs.Workers.Fits.{FitsCall, FitsEnd, IsOnSide}
@@ -15,8 +15,8 @@ use Rattle.gc_worker.specs.Workers.Held.{Held}
 use Rattle.gc_worker.specs.Workers.Counted.{CountsApart, counted, count_after}
 use Rattle.gc_worker.specs.Steps.Stepped.{IsSound, awaits, awaits_at, stepped_by, uncounted}
 use Rattle.gc_worker.specs.declared.steps.stepped.Stepped.TheVariants as steps
-use Rattle.gc_worker.specs.declared.calls.did.Did.TheVariants.{Done, Trap}
-use Rattle.gc_worker.specs.Steps.Turned.{Told, Silent, Empties, Answers, Marks, told, turned}
+use Rattle.gc_worker.specs.declared.calls.did.Did.TheVariants.{Done}
+use Rattle.gc_worker.specs.Steps.Turned.{Told, Answers, told, turned}
 use Rattle.atom_store.specs.declared.reply.Reply.{Reply}
 use Rattle.atom_store.specs.declared.step.Step.{Step}
 use Rattle.atom_store.specs.Step.{reply_of}
@@ -26,21 +26,7 @@ use Rattle.gc_worker.proofs.Workers.ApartFromCount.{counted_fit, counts_are_apar
 
 pub at_look : (stage : Stage) (task : Option Task) → awaits_at stage task ≡ true → (stage ≡ Looks) × (task ≡ None)
 at_look Looks None is = (refl, refl)
-at_look Looks (Some task) is = absurd (cc)
-at_look (Passes g after) task is = absurd (cc)
-at_look (Flips f) task is = absurd (cc)
-at_look (Forwards w) task is = absurd (cc)
-at_look (Accesses a) task is = absurd (cc)
-at_look (Places p) task is = absurd (cc)
-at_look (Serves d back) task is = absurd (cc)
-at_look (Scans s back) task is = absurd (cc)
-at_look (Evacuates v s back) task is = absurd (cc)
-at_look (Opens o s back) task is = absurd (cc)
-at_look (Recalls r after) task is = absurd (cc)
-at_look (Guards g write) task is = absurd (cc)
-at_look (Checkpoints r goal) task is = absurd (cc)
-at_look (BeginsCheckpoint s) task is = absurd (cc)
-at_look Gone task is = absurd (cc)
+at_look _ _ is = absurd (cc)
 
 none_by : (o : Option End) → is_some o ≡ false → o ≡ None
 none_by None is = refl
@@ -84,18 +70,12 @@ module _ (count : ℕ) (x : Held) (sound : IsSound (counted count x)) where
 -- an effect is counted
 counts_effect : (k m count : ℕ) (t : Told) → stepped_by k t ≡ steps.Effect m → count + 1 ≡ count_after count t
 counts_effect k m count (Answers task Done) is = refl
-counts_effect k m count (Answers task (Trap end)) is = absurd (cc)
-counts_effect k m count Silent is = absurd (cc)
-counts_effect k m count Empties is = absurd (cc)
-counts_effect k m count (Marks asked) is = absurd (cc)
+counts_effect k m count _ is = absurd (cc)
 
 -- and nothing else is
 counts_no_other : (k count : ℕ) (t : Told) → ((m : ℕ) → stepped_by k t ≡ steps.Effect m → ⊥) → count ≡ count_after count t
 counts_no_other k count (Answers task Done) other = absurd (other k refl)
-counts_no_other k count (Answers task (Trap end)) other = refl
-counts_no_other k count Silent other = refl
-counts_no_other k count Empties other = refl
-counts_no_other k count (Marks asked) other = refl
+counts_no_other k count _ other = refl
 
 -- ---- its step with the count beside it
 

@@ -18,8 +18,8 @@ use Rattle.gc_worker.specs.Laws.Claims.{CopiedPagesAreBelowLow, FlipsAreOfTraced
 use Rattle.gc_worker.specs.Laws.Copied.{IsTraced}
 use Rattle.gc_worker.specs.Workers.Held.{Held}
 use Rattle.gc_worker.specs.Laws.Step.{Heap, WorkersStand, nobody}
-use Rattle.gc_worker.specs.declared.calls.did.Did.TheVariants.{Done, Trap}
-use Rattle.gc_worker.specs.Steps.Turned.{PageWon, Told, Silent, Empties, Answers, Marks, told}
+use Rattle.gc_worker.specs.declared.calls.did.Did.TheVariants.{Done}
+use Rattle.gc_worker.specs.Steps.Turned.{PageWon, Told, Answers, Marks, told}
 use Rattle.gc_worker.specs.Steps.Wanted.{wanted}
 use Rattle.gc_worker.specs.declared.steps.stepped.Stepped.TheVariants as tells
 use Rattle.gc_worker.specs.Plain.Marks.{mark_of}
@@ -138,11 +138,9 @@ module _ (opens : PagesAreOpenedByClaims) (readies : ReadyingStands) (tasks : Ta
 
 -- a step that is told as a flip is one to the plain machine
 marks_by : (h : Heap) (w asked : ℕ) (x : Held) (q : Step) (t : Told) → told x (reply_of q h.words) ≡ t → (event_by h w x (Some q)).told ≡ tells.Flipped asked → t ≡ Marks asked
-marks_by h w asked x q Silent is e = let f = rw is at e in absurd (cc)
-marks_by h w asked x q Empties is e = let f = rw is at e in absurd (cc)
-marks_by h w asked x q (Answers task Done) is e = let f = rw is at e in absurd (cc)
-marks_by h w asked x q (Answers task (Trap why)) is e = let f = rw is at e in absurd (cc)
 marks_by h w asked x q (Marks other) is e = let f = rw is at e in let same : other ≡ asked = cc in ap Marks same
+marks_by h w asked x q (Answers _ Done) is e = let f = rw is at e in absurd (cc)
+marks_by h w asked x q _ is e = let f = rw is at e in absurd (cc)
 
 module _ (flips : FlipsAreOfTraced) (readies : ReadyingStands) (tasks : TasksMayBegin) (s : CoreState) (w asked : ℕ) (p o : Plain) (steady : IsSteady s) (stands : WorkersStand s.heap p o) where
   flipped_by : (q : Option Step) → wanted (ready s w) ≡ q → (event_by s.heap w (ready s w) q).told ≡ tells.Flipped asked → IsTraced s.heap

@@ -11,7 +11,7 @@ use Rattle.plain_heap.specs.Step.{fetch}
 use Rattle.plain_heap.proofs.States.SameMutators.{plain_count}
 use Rattle.atom_store.specs.declared.step.Step.{Step}
 use Rattle.atom_store.specs.Step.{reply_of}
-use Rattle.gc_worker.specs.declared.calls.did.Did.TheVariants.{Done, Trap}
+use Rattle.gc_worker.specs.declared.calls.did.Did.TheVariants.{Done}
 use Rattle.gc_worker.specs.declared.calls.entry.Entry.{Entry}
 use Rattle.gc_worker.specs.Plain.Answer.{IsAnswered}
 use Rattle.gc_worker.specs.Workers.Held.{Held}
@@ -25,7 +25,7 @@ use Rattle.gc_worker.specs.Laws.Stories.{StoryStands}
 use Rattle.gc_worker.specs.Plain.Marks.{mark_of, task_of}
 use Rattle.gc_worker.specs.Plain.Seen.{seen}
 use Rattle.gc_worker.specs.Steps.Stepped.{stepped_by}
-use Rattle.gc_worker.specs.Steps.Turned.{Told, Silent, Empties, Answers, Marks, told}
+use Rattle.gc_worker.specs.Steps.Turned.{Told, Answers, told}
 use Rattle.gc_worker.specs.Steps.Wanted.{wanted}
 use Rattle.gc_worker.proofs.Between.Beginning.{tasks_may_begin}
 use Rattle.gc_worker.proofs.Between.GoingOn.{workers_go_on}
@@ -64,11 +64,8 @@ abbrev pub adds : CoreState → List Entry → ℕ → List Entry
 adds s log w = adds_by s (tally (first s) log).flip w (wanted (ready s w))
 
 order_more : (o : Plain) (w : ℕ) (t : Told) → order_of (extra o w t) ≡ option_to_list (mark_of (stepped_by w t))
-order_more o w Silent = refl
-order_more o w Empties = refl
-order_more o w (Answers task Done) = refl
-order_more o w (Answers task (Trap end)) = refl
-order_more o w (Marks asked) = refl
+order_more o w (Answers _ Done) = refl
+order_more o w _ = refl
 
 -- its mark is what is told of the event
 pub order_adds : (s : CoreState) (log : List Entry) (w : ℕ) → order_of (adds s log w) ≡ option_to_list (mark_of (event_of s w).told)
@@ -170,9 +167,6 @@ module _ (least : ℕ) (s : CoreState) (w : ℕ) (log : List Entry) (h : HasHist
     all_is = sym (tally_now (first s) log)
 
     fetches : (m : ℕ) (v : Told) → u ≡ v → IsAnswered t.now w v → AreFetched s.code s.turns m (after_all (opening s.code) log) (extra t.flip w v)
-    fetches m Silent e comes = tt
-    fetches m Empties e comes = tt
-    fetches m (Marks pages) e comes = tt
     fetches m (Answers task did) e comes = (own, tt)
       where
         own : w ≡ m → (k : Mutator) → slice_get (after_all (opening s.code) log).mutators m ≡ Some k → task ≡ task_of (fetch s.code s.turns m k)
@@ -180,6 +174,7 @@ module _ (least : ℕ) (s : CoreState) (w : ℕ) (log : List Entry) (h : HasHist
             own_task steps_keep workers_go_on workers_want what_stands_is_so s w now h.steady r q asked task did k e
             (ap (λ (p : Plain). slice_get p.mutators w) (sym all_is) ∙ (ap (λ (j : ℕ). slice_get (after_all (opening s.code) log).mutators j) same ∙ is))
             ∙ ap (λ (j : ℕ). task_of (fetch s.code s.turns j k)) same
+    fetches m _ e comes = tt
 
     step_history : HasHistory least (core_after s w) (log ++ adds s log w)
     step_history =

@@ -29,17 +29,8 @@ use Rattle.gc_core.specs.Whole.{IsFull}
 
 -- the mark of an end acts
 end_acts : (s : CoreState) (w : ℕ) (story : Story) (after : Heap) (m : ℕ) (why : End) → IsTold s w story after (Ended m why) → EachActs s.code s.turns story (option_to_list (mark_of (Ended m why)))
-end_acts s w story after m ends.Halt t = (t.1, tt)
-end_acts s w story after m ends.NotPointer t = (t.1, tt)
-end_acts s w story after m ends.NotNumber t = (t.1, tt)
-end_acts s w story after m ends.OutOfRange t = (t.1, tt)
-end_acts s w story after m ends.WeakCell t = (t.1, tt)
-end_acts s w story after m ends.IntoRaw t = (t.1, tt)
-end_acts s w story after m ends.ZeroDivisor t = (t.1, tt)
-end_acts s w story after m ends.JumpOut t = (t.1, tt)
-end_acts s w story after m ends.TurnsOut t = (t.1, tt)
-end_acts s w story after m ends.OutputFull t = (t.1, tt)
 end_acts s w story after m (ends.HeapFull asked room live) t = ((t.1, t.3.0, t.3.1.short), tt)
+end_acts s w story after m _ t = (t.1, tt)
 
 -- the mark of whatever is told acts
 told_acts : (s : CoreState) (w : ℕ) (story : Story) (after : Heap) (told : Stepped) → IsTold s w story after told → EachActs s.code s.turns story (option_to_list (mark_of told))

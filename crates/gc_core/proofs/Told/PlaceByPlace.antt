@@ -14,7 +14,7 @@ use Rattle.forwarding.specs.Keeping as keeping
 use Rattle.forwarding.specs.Keeping.{kept_word, reserved_word}
 use Rattle.space_map.specs.Spaces.{Layout}
 use Rattle.gc_worker.specs.declared.stage.Stage.{Stage}
-use Rattle.gc_worker.specs.declared.stage.Stage.TheVariants.{Looks, Passes, Flips, Forwards, Accesses, Places, Serves, Scans, Evacuates, Opens, Recalls, Guards, Checkpoints, BeginsCheckpoint, Gone}
+use Rattle.gc_worker.specs.declared.stage.Stage.TheVariants.{Forwards, Evacuates}
 use Rattle.gc_worker.specs.Workers.Knows.{knows, copy_at, copy_in}
 use Rattle.gc_worker.specs.Steps.Stepped.{header_kept, place_kept}
 use Rattle.gc_worker.specs.Laws.Step.{nobody, held_at}
@@ -53,37 +53,12 @@ kept_there s w below =
 
 copy_kept : (l : Layout) (a e : ℕ) (stage : EvacStage) → kept_by (copy_at l a e stage) ≡ record { header = kept_word (keeping.header_kept stage); place = reserved_word (keeping.address_reserved stage) }
 copy_kept l a e evac_stage.LoadsHeader = refl
-copy_kept l a e (evac_stage.TakesHeader kept) = refl
-copy_kept l a e (evac_stage.LoadsArea kept) = refl
-copy_kept l a e (evac_stage.Announces kept area) = refl
-copy_kept l a e (evac_stage.Reserves kept area) = refl
-copy_kept l a e (evac_stage.StoresHeader r) = refl
-copy_kept l a e (evac_stage.LoadsWord r i) = refl
-copy_kept l a e (evac_stage.StoresWord r w) = refl
-copy_kept l a e (evac_stage.StoresCross r page) = refl
-copy_kept l a e (evac_stage.StoresForward r) = refl
-copy_kept l a e (evac_stage.LoadsWeak to) = refl
-copy_kept l a e (evac_stage.StoresLink to head) = refl
-copy_kept l a e (evac_stage.TakesWeak to head) = refl
-copy_kept l a e (evac_stage.Clears to) = refl
-copy_kept l a e (evac_stage.Ended to) = refl
+copy_kept l a e _ = refl
 
 stage_kept : (stage : Stage) → kept_by (copy_in stage) ≡ record { header = header_kept stage; place = place_kept stage }
-stage_kept Looks = refl
-stage_kept (Passes g after) = refl
-stage_kept (Flips f) = refl
 stage_kept (Forwards w) = copy_kept w.evac.layout w.evac.addr w.evac.epoch w.evac.stage
-stage_kept (Accesses a) = refl
-stage_kept (Places p) = refl
-stage_kept (Serves d back) = refl
-stage_kept (Scans s back) = refl
 stage_kept (Evacuates v s back) = copy_kept v.layout v.addr v.epoch v.stage
-stage_kept (Opens o s back) = refl
-stage_kept (Recalls r after) = refl
-stage_kept (Guards g write) = refl
-stage_kept (Checkpoints r goal) = refl
-stage_kept (BeginsCheckpoint s) = refl
-stage_kept Gone = refl
+stage_kept _ = refl
 
 pub kept_told : (s : CoreState) (w : ℕ) → w < workers_of s
     → slice_get (kept_in s) w ≡ Some (record { header = header_kept (held_at s.heap w).stage; place = place_kept (held_at s.heap w).stage })

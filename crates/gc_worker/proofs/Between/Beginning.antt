@@ -5,11 +5,11 @@ use Rattle.plain_heap.specs.declared.action.Action.{Action}
 use Rattle.gate_core.specs.declared.gate_stage.GateStage.{GateStage}
 use Rattle.gate_core.specs.declared.gate_stage.GateStage.TheVariants as gate_stage
 use Rattle.gate_core.specs.declared.passage.Passage.{Passage}
-use Rattle.gate_core.specs.declared.passage.Passage.TheVariants.{Look, Attach, Park, Request, Resume, Forwarded, Leave, Clear}
+use Rattle.gate_core.specs.declared.passage.Passage.TheVariants.{Look, Attach, Request, Leave, Clear}
 use Rattle.gc_worker.specs.declared.stage.after.After.{After}
 use Rattle.gc_worker.specs.declared.stage.after.After.TheVariants as afters
 use Rattle.gc_worker.specs.declared.stage.back.Back.{Back}
-use Rattle.gc_worker.specs.declared.stage.back.Back.TheVariants.{ToAccess, ToTarget, ToPlace, ToSnap, ToScanner}
+use Rattle.gc_worker.specs.declared.stage.back.Back.TheVariants.{ToSnap, ToScanner}
 use Rattle.gc_worker.specs.declared.stage.forwarding_register.ForwardingRegister.{ForwardingRegister}
 use Rattle.gc_worker.specs.declared.stage.goal.Goal.{Goal}
 use Rattle.gc_worker.specs.declared.stage.goal.Goal.TheVariants.{ForFlip, ForSnap, ForScanner}
@@ -29,13 +29,10 @@ use Rattle.gc_worker.specs.Workers.Saves.{saver_at}
 -- a passage after which a mutator looks
 abbrev IsOnTheWay : Passage → After → Type 0
 IsOnTheWay Attach after = ⊤
-IsOnTheWay Park after = after ≡ afters.Looks
-IsOnTheWay (Resume epoch) after = after ≡ afters.Looks
-IsOnTheWay Forwarded after = after ≡ afters.Looks
-IsOnTheWay Clear after = after ≡ afters.Looks
 IsOnTheWay Look after = ⊥
 IsOnTheWay Request after = ⊥
 IsOnTheWay Leave after = ⊥
+IsOnTheWay _ after = after ≡ afters.Looks
 
 abbrev Waits : Stage → Type 0
 Waits Looks = ⊤
@@ -66,20 +63,16 @@ module _ (x : Held) (idle : IsIdle x) where
 
   by_passage : (passage : Passage) (after : After) → IsEndBefore passage (is_some x.account.end) → FitsTaskBefore x passage after → IsOnTheWay passage after
   by_passage Attach after end task = tt
-  by_passage Park after end task = looks_after after task
-  by_passage (Resume epoch) after end task = looks_after after task
-  by_passage Forwarded after end task = looks_after after task
   by_passage Clear after end task = task.1
   by_passage Look after end task = absurd task
   by_passage Request after end task = absurd (asks_none after task)
   by_passage Leave after end task = absurd (unended end)
+  by_passage _ after end task = looks_after after task
 
   by_back : (back : Back) → FitsTaskBack x back → IsOnSideBack back (nat_lt x.number x.mutators) → ⊥
-  by_back (ToAccess a) task side = executes_none task.executes
-  by_back (ToTarget a) task side = executes_none task.executes
-  by_back ToPlace task side = executes_none task.executes
   by_back ToSnap task side = executes_none task.0
   by_back ToScanner task side = mutator side
+  by_back _ task side = executes_none task.executes
 
   by_write : (write : Write) → FitsTaskWrite x write → ⊥
   by_write (OfAccess a) task = executes_none task.executes
@@ -119,14 +112,8 @@ module _ (x : Held) (task : Task) where
 
   -- no passage but a request says for what it is made
   same_passage : (passage : Passage) (after : After) → IsOnTheWay passage after → passage_in (pages_needed y) after passage ≡ passage_in (pages_needed x) after passage
-  same_passage Attach after on = refl
-  same_passage Park after on = refl
-  same_passage (Resume epoch) after on = refl
-  same_passage Forwarded after on = refl
-  same_passage Clear after on = refl
-  same_passage Look after on = refl
   same_passage Request after on = absurd on
-  same_passage Leave after on = refl
+  same_passage _ after on = refl
 
   same_step : (passage : Passage) (after : After) (stage : GateStage) → IsOnTheWay passage after → gate_step_at (pages_needed y) after passage stage ≡ gate_step_at (pages_needed x) after passage stage
   same_step passage after (gate_stage.Exchanges gate) on = ap (step_from gate) (same_passage passage after on)
@@ -138,17 +125,7 @@ module _ (x : Held) (task : Task) where
   known (Passes g after) w = λ i. record (known_at x (Passes g after)) { gate_step = same_step g.passage after g.stage w i }
   known (Forwards w) e = refl
   known (Recalls r after) w = refl
-  known (Flips f) w = absurd w
-  known (Accesses a) w = absurd w
-  known (Places p) w = absurd w
-  known (Serves d back) w = absurd w
-  known (Scans s back) w = absurd w
-  known (Evacuates v s back) w = absurd w
-  known (Opens o s back) w = absurd w
-  known (Guards g write) w = absurd w
-  known (Checkpoints r goal) w = absurd w
-  known (BeginsCheckpoint s) w = absurd w
-  known Gone w = absurd w
+  known _ w = absurd w
 
   -- of checkpoints it holds what it held
   saves : (stage : Stage) → Waits stage → saver_at y stage ≡ saver_at x stage
@@ -156,17 +133,7 @@ module _ (x : Held) (task : Task) where
   saves (Passes g after) w = refl
   saves (Forwards w) e = refl
   saves (Recalls r after) w = refl
-  saves (Flips f) w = absurd w
-  saves (Accesses a) w = absurd w
-  saves (Places p) w = absurd w
-  saves (Serves d back) w = absurd w
-  saves (Scans s back) w = absurd w
-  saves (Evacuates v s back) w = absurd w
-  saves (Opens o s back) w = absurd w
-  saves (Guards g write) w = absurd w
-  saves (Checkpoints r goal) w = absurd w
-  saves (BeginsCheckpoint s) w = absurd w
-  saves Gone w = absurd w
+  saves _ w = absurd w
 
   fits_copy : (w : ForwardingRegister) → FitsRegister x w → FitsRegister y w
   fits_copy w f =
@@ -178,17 +145,7 @@ module _ (x : Held) (task : Task) where
   fits_stage (Passes g after) w f = record { layout = f.layout; passage = f.passage; going = f.going; sound = f.sound }
   fits_stage (Forwards w) e f = fits_copy w f
   fits_stage (Recalls r after) w f = record { room = f.room; layout = f.layout; going = f.going; sound = f.sound }
-  fits_stage (Flips f) w s = absurd w
-  fits_stage (Accesses a) w s = absurd w
-  fits_stage (Places p) w s = absurd w
-  fits_stage (Serves d back) w s = absurd w
-  fits_stage (Scans s back) w f = absurd w
-  fits_stage (Evacuates v s back) w f = absurd w
-  fits_stage (Opens o s back) w f = absurd w
-  fits_stage (Guards g write) w f = absurd w
-  fits_stage (Checkpoints r goal) w f = absurd w
-  fits_stage (BeginsCheckpoint s) w f = absurd w
-  fits_stage Gone w f = absurd w
+  fits_stage _ w s = absurd w
 
   module _ (may : MayBegin x.account x.registers (Some task)) where
     task_after : (after : After) → after ≡ afters.Looks → FitsTaskAfter y after
@@ -198,30 +155,18 @@ module _ (x : Held) (task : Task) where
 
     task_before : (passage : Passage) (after : After) → IsOnTheWay passage after → FitsTaskBefore y passage after
     task_before Attach after on = may
-    task_before Park after e = task_after after e
-    task_before (Resume epoch) after e = task_after after e
-    task_before Forwarded after e = task_after after e
     task_before Clear after e = (may, e)
     task_before Look after on = absurd on
     task_before Request after on = absurd on
     task_before Leave after on = absurd on
+    task_before _ after e = task_after after e
 
     fits_task : (stage : Stage) → Waits stage → FitsTask y stage
     fits_task Looks w = may
     fits_task (Passes g after) w = task_before g.passage after w
     fits_task (Forwards w) e = task_after w.after e
     fits_task (Recalls r after) e = task_after after e
-    fits_task (Flips f) w = absurd w
-    fits_task (Accesses a) w = absurd w
-    fits_task (Places p) w = absurd w
-    fits_task (Serves d back) w = absurd w
-    fits_task (Scans s back) w = absurd w
-    fits_task (Evacuates v s back) w = absurd w
-    fits_task (Opens o s back) w = absurd w
-    fits_task (Guards g write) w = absurd w
-    fits_task (Checkpoints r goal) w = absurd w
-    fits_task (BeginsCheckpoint s) w = absurd w
-    fits_task Gone w = absurd w
+    fits_task _ w = absurd w
 
     with_it : (n mutators k : ℕ) → Waits x.stage → Fits n mutators k x → Fits n mutators k y
     with_it n mutators k w f = record {

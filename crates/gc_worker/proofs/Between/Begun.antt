@@ -44,15 +44,15 @@ use Rattle.page_scan.specs.Taken as scan_taken
 use Rattle.page_slots.specs.declared.opened.Opened.{Opened}
 use Rattle.page_slots.specs.Open as open_page
 use Rattle.plain_heap.specs.declared.action.Action.{Action}
-use Rattle.plain_heap.specs.declared.action.Action.TheVariants.{Sets, Jumps, Links, Prints, Makes, Measures, Loads, Stores, Exchanges, Gets, Puts, Swaps, Snaps}
+use Rattle.plain_heap.specs.declared.action.Action.TheVariants.{Snaps}
 use Rattle.plain_heap.specs.Action.{action}
 use Rattle.record_access.specs.declared.access.Access.{Access}
 use Rattle.record_access.specs.declared.accessed.Accessed.{Accessed}
-use Rattle.record_access.specs.declared.accessed.Accessed.TheVariants.{Faults, Awaits, Brings, Stored, Fails}
+use Rattle.record_access.specs.declared.accessed.Accessed.TheVariants.{Faults}
 use Rattle.gc_worker.specs.declared.stage.after.After.{After}
 use Rattle.gc_worker.specs.declared.stage.after.After.TheVariants as afters
 use Rattle.gc_worker.specs.declared.stage.back.Back.{Back}
-use Rattle.gc_worker.specs.declared.stage.back.Back.TheVariants.{ToAccess, ToTarget, ToPlace, ToSnap, ToScanner}
+use Rattle.gc_worker.specs.declared.stage.back.Back.TheVariants.{ToScanner}
 use Rattle.gc_worker.specs.declared.stage.forwarding_register.ForwardingRegister.{ForwardingRegister}
 use Rattle.gc_worker.specs.declared.stage.goal.Goal.{Goal}
 use Rattle.gc_worker.specs.declared.stage.goal.Goal.TheVariants.{ForFlip, ForSnap, ForScanner}
@@ -68,7 +68,7 @@ use Rattle.gc_worker.specs.Workers.Fits.{FitsTask, FitsTaskAsking, FitsTaskBefor
 use Rattle.gc_worker.specs.Workers.Held.{Held, at_stage, making_for, may_snap}
 use Rattle.gc_worker.specs.Plain.Seen.{Making, seen}
 use Rattle.gc_worker.specs.declared.calls.did.Did.TheVariants.{Done, Trap}
-use Rattle.gc_worker.specs.Steps.Turned.{Answers, Marks, Pointed, Silent, Empties, Told, acted, acts, asks_flip, begins, checkpoints, end_by_shortage, ended, epoch_said, first_pointer, forwards_from, forwards_it, full_by, goes_back, goes_on, in_epoch, is_full, looked_by, of_round, passed_by, passes, recalled, rounded, runs_on, served_by, serves_snap, started, told_acted, told_action, told_at, told_gate, told_look, told_start, traced_by, turned_access, turned_at, turned_copy, turned_flip, turned_gate, turned_guard, turned_look, turned_opening, turned_place, turned_recall, turned_register, turned_round, turned_save_round, turned_scan, turned_snap, went_on, with_copy, with_evac, with_record}
+use Rattle.gc_worker.specs.Steps.Turned.{Answers, Pointed, Silent, Told, acted, acts, asks_flip, begins, checkpoints, end_by_shortage, ended, epoch_said, first_pointer, forwards_from, forwards_it, full_by, goes_back, goes_on, in_epoch, is_full, looked_by, of_round, passed_by, passes, recalled, rounded, runs_on, served_by, serves_snap, started, told_acted, told_action, told_at, told_gate, told_look, told_start, traced_by, turned_access, turned_at, turned_copy, turned_flip, turned_gate, turned_guard, turned_look, turned_opening, turned_place, turned_recall, turned_register, turned_round, turned_save_round, turned_scan, turned_snap, went_on, with_copy, with_evac, with_record}
 use Rattle.gc_worker.proofs.Stages.Look.Ends.{Stops as StopsRight, action_stops}
 use Rattle.gc_worker.proofs.Plain.Quiet.{IsQuiet, rounds_are_quiet}
 
@@ -87,11 +87,8 @@ runs_on_so : (x : Held) (after : After) → IsPastLook (runs_on x after) → IsP
 runs_on_so x after past = pasts (IsPastAfter after) x.layout.checkpoints (Recalls (recall.begun x.layout) after) (goes_on x after) (λ p. p) (goes_on_so x after) past
 
 goes_back_so : (x : Held) (back : Back) → IsPastLook (goes_back x back) → IsPastBack back
-goes_back_so x (ToAccess a) past = tt
-goes_back_so x (ToTarget a) past = tt
-goes_back_so x ToPlace past = tt
-goes_back_so x ToSnap past = tt
 goes_back_so x ToScanner past = past
+goes_back_so x _ past = tt
 
 forwards_so : (x : Held) (after : After) (o : Option Pointed) → IsPastLook (forwards_it x after o) → IsPastAfter after
 forwards_so x after (Some p) past = past
@@ -111,21 +108,17 @@ module _ (x : Held) where
 
   passed_so : (after : After) (passage : Passage) (result : Passed) → (passage ≡ Request → IsPastAfter after) → (IsPastLook x.stage → IsPastAfter after) → Kept (IsPastAfter after) (passed_by x after passage result)
   passed_so after Attach (passed.Went word) asks own past = absurd (runs_on_so (in_epoch x (epoch_said x.epoch word)) afters.Looks past)
-  passed_so after Attach (passed.NotYet word) asks own past = (past, refl)
-  passed_so after Park (passed.Went word) asks own past = (past, refl)
   passed_so after Park (passed.NotYet word) asks own past = (goes_on_so x after past, refl)
   passed_so after Request (passed.Went word) asks own past = (asks refl, refl)
-  passed_so after Request (passed.NotYet word) asks own past = (past, refl)
   passed_so after (Resume epoch) (passed.Went word) asks own past = (runs_on_so x after past, refl)
   passed_so after (Resume epoch) (passed.NotYet word) asks own past =
       (pasts (IsPastAfter after) (nat_lt x.epoch (epoch_said x.epoch word)) (forwards_from x after 0) (passes x (Resume x.epoch) after) (forwards_so x after (first_pointer x.registers 8 0)) (λ p. p) past, refl)
-  passed_so after Forwarded (passed.Went word) asks own past = (past, refl)
   passed_so after Forwarded (passed.NotYet word) asks own past = (own past, refl)
   passed_so after Leave (passed.Went word) asks own past = absurd past
   passed_so after Leave (passed.NotYet word) asks own past = (own past, refl)
   passed_so after Look result asks own past = (own past, refl)
-  passed_so after Clear (passed.Went word) asks own past = (past, refl)
   passed_so after Clear (passed.NotYet word) asks own past = (own past, refl)
+  passed_so after _ _ asks own past = (past, refl)
 
   passing_by : (g : gate.Passing) (after : After) (turn : Turn Passed) → (g.passage ≡ Request → IsPastAfter after) → (IsPastLook x.stage → IsPastAfter after) → Kept (IsPastAfter after) (turned_gate x g after turn)
   passing_by g after More asks own past = (past, refl)
@@ -144,12 +137,8 @@ module _ (x : Held) where
   -- ---- an access, an allocation
 
   access_by : (a : Access) (turn : Turn Accessed) → Kept ⊤ (turned_access x a turn)
-  access_by a More past = (tt, refl)
-  access_by a (Finished (Faults page)) past = (tt, refl)
-  access_by a (Finished Awaits) past = (tt, refl)
-  access_by a (Finished (Brings into word)) past = (tt, refl)
-  access_by a (Finished Stored) past = (tt, refl)
-  access_by a (Finished (Fails why)) past = (tt, refl)
+  access_by a (Finished (Faults _)) past = (tt, refl)
+  access_by a _ past = (tt, refl)
 
   shortage_by : (s : Shortage) (traced : Bool) → (full_by x s traced).begun ≡ x.begun
   shortage_by s false = refl
@@ -167,12 +156,9 @@ module _ (x : Held) where
   -- ---- rounds and scans
 
   traced_so : (d : duty.Round) (back : Back) → Kept (IsPastBack back) (traced_by (of_round x d) back)
-  traced_so d (ToAccess a) past = (tt, refl)
-  traced_so d (ToTarget a) past = (tt, refl)
-  traced_so d ToPlace past = (tt, refl)
-  traced_so d ToSnap past = (tt, refl)
   traced_so d ToScanner past =
       (pasts ⊥ x.layout.checkpoints (checkpoints (of_round x d) ForScanner) (goes_back (of_round x d) ToScanner) (λ p. p) (λ p. p) past, refl)
+  traced_so d _ past = (tt, refl)
 
   served_so : (d : duty.Round) (back : Back) (result : RoundEnd) → Kept (IsPastBack back) (served_by x d back result)
   served_so d back (ScanPage page) past = (past, refl)
@@ -229,19 +215,8 @@ module _ (x : Held) where
   Begins y = IsPastLook y.stage → y.begun ≡ x.epoch
 
   by_action : (act : Action) → (acts (begins x) act).begun ≡ x.epoch
-  by_action (Sets d v) = refl
-  by_action (Jumps target) = refl
-  by_action (Links d target) = refl
-  by_action (Prints n) = refl
   by_action Snaps = begun_if x.epoch (may_snap x) (at_stage (begins x) (serves_snap (begins x))) (went_on (begins x)) refl refl
-  by_action (Makes kind d n v) = refl
-  by_action (Measures d i) = refl
-  by_action (Loads d i n) = refl
-  by_action (Stores i n v) = refl
-  by_action (Exchanges d i n u v) = refl
-  by_action (Gets d n) = refl
-  by_action (Puts n v) = refl
-  by_action (Swaps d n v) = refl
+  by_action _ = refl
 
   by_result : (r : Result Action End) → (acted (begins x) r).begun ≡ x.epoch
   by_result (Ok act) = by_action act
@@ -266,9 +241,7 @@ module _ (x : Held) where
 
     look_by : (reply : Reply) → Begins (turned_look x reply)
     look_by (replies.Value word) past = gate_by (decode_gate word) past
-    look_by replies.Done past = at_look past
-    look_by replies.Won past = at_look past
-    look_by (replies.Lost word) past = at_look past
+    look_by _ past = at_look past
 
   -- ---- each stage
 
@@ -311,23 +284,16 @@ rests_before was stage rests past = rests
 -- ---- a look finds no full heap
 
 abbrev NotFull : Told → Type 0
-NotFull Silent = ⊤
-NotFull Empties = ⊤
-NotFull (Answers task Done) = ⊤
 NotFull (Answers task (Trap end)) = MayStop end
-NotFull (Marks asked) = ⊤
+NotFull _ = ⊤
 
 done_not_full : (task : Task) (b : Bool) → NotFull (cond b Silent (Answers task Done))
 done_not_full task true = tt
 done_not_full task false = tt
 
 action_not_full : (x : Held) (task : Task) (act : Action) → NotFull (told_action x task act)
-action_not_full x task (Sets d v) = tt
-action_not_full x task (Jumps target) = tt
-action_not_full x task (Links d target) = tt
-action_not_full x task (Prints n) = tt
 action_not_full x task Snaps = done_not_full task (may_snap x)
-action_not_full x task act = tt
+action_not_full x task _ = tt
 
 acted_not_full : (x : Held) (task : Task) (r : Result Action End) → StopsRight r → NotFull (told_acted x task r)
 acted_not_full x task (Ok act) stops = action_not_full x task act
@@ -349,26 +315,16 @@ module _ (x : Held) (fits : MayBegin x.account x.registers x.task) where
 
   look_not_full : (reply : Reply) → NotFull (told_look x reply)
   look_not_full (replies.Value word) = gate_not_full (decode_gate word)
-  look_not_full replies.Done = tt
-  look_not_full replies.Won = tt
-  look_not_full (replies.Lost word) = tt
+  look_not_full _ = tt
 
 full_by_stage : (x : Held) (reply : Reply) (task : Task) (asked room live : ℕ) (stage : Stage) → FitsTask x stage → told_at x stage reply ≡ Answers task (Trap (HeapFull asked room live)) → IsPastLook stage
 full_by_stage x reply task asked room live Looks fits e = subst NotFull e (look_not_full x fits reply)
 full_by_stage x reply task asked room live (Flips f) fits e = tt
 full_by_stage x reply task asked room live (Accesses a) fits e = tt
 full_by_stage x reply task asked room live (Places p) fits e = tt
-full_by_stage x reply task asked room live (Passes g after) fits e = absurd (let e = e in cc)
-full_by_stage x reply task asked room live (Forwards w) fits e = absurd (let e = e in cc)
 full_by_stage x reply task asked room live (Serves d back) fits e = absurd (subst IsQuiet e (rounds_are_quiet (duty.told (duty.taken d reply))))
-full_by_stage x reply task asked room live (Scans s back) fits e = absurd (let e = e in cc)
-full_by_stage x reply task asked room live (Evacuates v s back) fits e = absurd (let e = e in cc)
-full_by_stage x reply task asked room live (Opens o s back) fits e = absurd (let e = e in cc)
 full_by_stage x reply task asked room live (BeginsCheckpoint s) fits e = tt
-full_by_stage x reply task asked room live (Recalls r after) fits e = absurd (let e = e in cc)
-full_by_stage x reply task asked room live (Guards g write) fits e = absurd (let e = e in cc)
-full_by_stage x reply task asked room live (Checkpoints r goal) fits e = absurd (let e = e in cc)
-full_by_stage x reply task asked room live Gone fits e = absurd (let e = e in cc)
+full_by_stage x reply task asked room live _ fits e = absurd (let e = e in cc)
 
 pub full_is_found_later : FullIsFoundLater
 full_is_found_later n mutators k x reply task asked room live fits e = full_by_stage x reply task asked room live x.stage fits.task e

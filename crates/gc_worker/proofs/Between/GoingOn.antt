@@ -71,10 +71,8 @@ use Rattle.gc_worker.proofs.Plain.NewRecords.{made_is}
 -- ---- what becomes of the task
 
 abbrev Comes : (x y : Held) → Told → Type 0
-Comes x y Silent = y.task ≡ x.task
-Comes x y Empties = y.task ≡ x.task
 Comes x y (Answers task outcome) = IsAnswerOf x y task outcome
-Comes x y (Marks asked) = y.task ≡ x.task
+Comes x y _ = y.task ≡ x.task
 
 -- a worker becomes another by a step that is this to the plain machine
 record Turns (x y : Held) (t : Told) : Type 0 where
@@ -148,9 +146,7 @@ module _ (x : Held) where
 
   look_by : (reply : Reply) → Turns x (turned_look x reply) (told_look x reply)
   look_by (replies.Value word) = gate_by (decode_gate word)
-  look_by replies.Done = turns x Silent (refl, refl, refl, refl) refl
-  look_by replies.Won = turns x Silent (refl, refl, refl, refl) refl
-  look_by (replies.Lost word) = turns x Silent (refl, refl, refl, refl) refl
+  look_by _ = turns x Silent (refl, refl, refl, refl) refl
 
   -- ---- at the gate
 
@@ -299,38 +295,18 @@ module _ (x : Held) where
 
   leaves : (passage : Passage) → IsEndBefore passage true → passage ≡ Leave
   leaves Leave end = refl
-  leaves Look end = absurd (cc)
-  leaves Attach end = absurd (cc)
-  leaves Park end = absurd (cc)
-  leaves Request end = absurd (cc)
-  leaves (Resume epoch) end = absurd (cc)
-  leaves Forwarded end = absurd (cc)
-  leaves Clear end = absurd (cc)
+  leaves _ end = absurd (cc)
 
   rests : (stage : Stage) → FitsEnd stage true → (reply : Reply) → Rests (turned_at x stage reply)
   rests (Passes g after) end reply = leaving (gate.taken g reply) after (gate.told (gate.taken g reply)) (leaves g.passage end)
   rests Gone end reply = (refl, refl)
-  rests Looks end reply = absurd (cc)
-  rests (Flips f) end reply = absurd (cc)
-  rests (Forwards w) end reply = absurd (cc)
-  rests (Accesses a) end reply = absurd (cc)
-  rests (Places p) end reply = absurd (cc)
-  rests (Serves d back) end reply = absurd (cc)
-  rests (Scans s back) end reply = absurd (cc)
-  rests (Evacuates v s back) end reply = absurd (cc)
-  rests (Opens o s back) end reply = absurd (cc)
-  rests (Recalls r after) end reply = absurd (cc)
-  rests (Guards g write) end reply = absurd (cc)
-  rests (Checkpoints r goal) end reply = absurd (cc)
-  rests (BeginsCheckpoint s) end reply = absurd (cc)
+  rests _ end reply = absurd (cc)
 
 -- ---- the law
 
 kept_by : (x y : Held) (t : Told) → Comes x y t → IsNoAnswer t → y.task ≡ x.task
-kept_by x y Silent comes none = comes
-kept_by x y Empties comes none = comes
 kept_by x y (Answers task outcome) comes none = absurd none
-kept_by x y (Marks asked) comes none = comes
+kept_by x y _ comes none = comes
 
 pub workers_go_on : WorkersGoOn
 workers_go_on n mutators k x reply fits =

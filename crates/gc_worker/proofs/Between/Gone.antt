@@ -39,7 +39,7 @@ use Rattle.gate_core.specs.declared.flipped.Flipped.TheVariants as flipped
 use Rattle.gate_core.specs.declared.gate_stage.GateStage.{GateStage}
 use Rattle.gate_core.specs.declared.gate_stage.GateStage.TheVariants as gate_stage
 use Rattle.gate_core.specs.declared.passage.Passage.{Passage}
-use Rattle.gate_core.specs.declared.passage.Passage.TheVariants.{Look, Attach, Park, Request, Resume, Forwarded, Leave, Clear}
+use Rattle.gate_core.specs.declared.passage.Passage.TheVariants.{Attach, Park, Request, Resume, Forwarded, Leave, Clear}
 use Rattle.gate_core.specs.declared.passed.Passed.{Passed}
 use Rattle.gate_core.specs.declared.passed.Passed.TheVariants as passed
 use Rattle.gate_core.specs.declared.recall.recalled.Recalled.{Recalled}
@@ -62,11 +62,11 @@ use Rattle.page_scan.specs.Taken as scan_taken
 use Rattle.page_slots.specs.declared.opened.Opened.{Opened}
 use Rattle.page_slots.specs.Open as open_page
 use Rattle.plain_heap.specs.declared.action.Action.{Action}
-use Rattle.plain_heap.specs.declared.action.Action.TheVariants.{Sets, Jumps, Links, Prints, Makes, Measures, Loads, Stores, Exchanges, Gets, Puts, Swaps, Snaps}
+use Rattle.plain_heap.specs.declared.action.Action.TheVariants.{Makes, Loads, Exchanges, Snaps}
 use Rattle.plain_heap.specs.Action.{action}
 use Rattle.record_access.specs.declared.access.Access.{Access}
 use Rattle.record_access.specs.declared.accessed.Accessed.{Accessed}
-use Rattle.record_access.specs.declared.accessed.Accessed.TheVariants.{Faults, Awaits, Brings, Stored, Fails}
+use Rattle.record_access.specs.declared.accessed.Accessed.TheVariants.{Faults}
 use Rattle.gc_worker.specs.declared.stage.after.After.{After}
 use Rattle.gc_worker.specs.declared.stage.after.After.TheVariants as afters
 use Rattle.gc_worker.specs.declared.stage.back.Back.{Back}
@@ -126,27 +126,20 @@ running_on y after = either y.layout.checkpoints (Recalls (recall.begun y.layout
 
 asking : (y : Held) (after : After) → IsHere (after_request y after)
 asking y afters.Looks = tt
-asking y afters.Places = tt
-asking y afters.Snaps = tt
+asking y _ = tt
 
 checkpointing : (y : Held) (goal : Goal) → IsHere (checkpoints y goal)
 checkpointing y ForFlip = tt
-checkpointing y ForSnap = tt
-checkpointing y ForScanner = tt
+checkpointing y _ = tt
 
 going_back : (y : Held) (back : Back) → IsHere (goes_back y back)
-going_back y (ToAccess a) = tt
-going_back y (ToTarget a) = tt
 going_back y ToPlace = placing y (header_for y)
-going_back y ToSnap = tt
-going_back y ToScanner = tt
+going_back y _ = tt
 
 tracing : (y : Held) (back : Back) → IsHere (traced_by y back).stage
-tracing y (ToAccess a) = tt
-tracing y (ToTarget a) = tt
 tracing y ToPlace = placing y (header_for y)
-tracing y ToSnap = tt
 tracing y ToScanner = either y.layout.checkpoints (checkpoints y ForScanner) (goes_back y ToScanner) tt tt
+tracing y _ = tt
 
 writing : (write : Write) → IsHere (writes write)
 writing (OfAccess a) = tt
@@ -154,9 +147,7 @@ writing (OfPlace p) = tt
 
 rounding_by : (y : Held) (goal : Goal) (result : SaveRoundEnd) → IsHere (rounded_by y goal result)
 rounding_by y goal (save_round_end.NoneRuns number) = tt
-rounding_by y goal save_round_end.Saved = checkpointing y goal
-rounding_by y goal save_round_end.Marked = checkpointing y goal
-rounding_by y goal (save_round_end.NothingNow word) = checkpointing y goal
+rounding_by y goal _ = checkpointing y goal
 
 rounding : (y : Held) (goal : Goal) (result : SaveRoundEnd) → IsHere (rounded y goal result)
 rounding y ForFlip result = rounding_by y ForFlip result
@@ -175,19 +166,9 @@ module _ (x : Held) (here : IsHere x.stage) where
   -- ---- a look
 
   acts_here : (y : Held) (act : Action) → IsHere (acts y act).stage
-  acts_here y (Sets d v) = tt
-  acts_here y (Jumps target) = tt
-  acts_here y (Links d target) = tt
-  acts_here y (Prints n) = tt
   acts_here y Snaps = either_here (may_snap y) (at_stage y (serves_snap y)) (went_on y) tt tt
   acts_here y (Makes kind d n v) = placing y (header_for y)
-  acts_here y (Measures d i) = tt
-  acts_here y (Loads d i n) = tt
-  acts_here y (Stores i n v) = tt
-  acts_here y (Exchanges d i n u v) = tt
-  acts_here y (Gets d n) = tt
-  acts_here y (Puts n v) = tt
-  acts_here y (Swaps d n v) = tt
+  acts_here y _ = tt
 
   acted_here : (y : Held) (r : Result Action End) → IsHere (acted y r).stage
   acted_here y (Ok act) = acts_here y act
@@ -204,9 +185,7 @@ module _ (x : Held) (here : IsHere x.stage) where
 
   look_here : (reply : Reply) → IsHere (turned_look x reply).stage
   look_here (replies.Value word) = looked_here (decode_gate word)
-  look_here replies.Done = here
-  look_here replies.Won = here
-  look_here (replies.Lost word) = here
+  look_here _ = here
 
   -- ---- at the gate: but for the last passage
 
@@ -226,12 +205,9 @@ module _ (x : Held) (here : IsHere x.stage) where
       not_gone (passed_by x after (Resume epoch) (passed.NotYet word)).stage
       (either (nat_lt x.epoch (epoch_said x.epoch word)) (forwards_from x after 0) (passes x (Resume x.epoch) after) (forwarding x after (first_pointer x.registers 8 0)) tt) gone
   passed_here after Forwarded (passed.Went word) gone = not_gone (passed_by x after Forwarded (passed.Went word)).stage tt gone
-  passed_here after Forwarded (passed.NotYet word) gone = not_gone x.stage here gone
   passed_here after Leave (passed.Went word) gone = (refl, word, refl)
-  passed_here after Leave (passed.NotYet word) gone = not_gone x.stage here gone
-  passed_here after Look result gone = not_gone x.stage here gone
   passed_here after Clear (passed.Went word) gone = not_gone (passes x (Resume x.epoch) after) tt gone
-  passed_here after Clear (passed.NotYet word) gone = not_gone x.stage here gone
+  passed_here after _ _ gone = not_gone x.stage here gone
 
   flip_here : (f : flip.Flipping) (turn : Turn Flipped) → IsHere (turned_flip x f turn).stage
   flip_here f More = tt
@@ -247,11 +223,8 @@ module _ (x : Held) (here : IsHere x.stage) where
 
   access_here : (a : Access) (turn : Turn Accessed) → IsHere (turned_access x a turn).stage
   access_here a More = guarding_access x a
-  access_here a (Finished (Faults page)) = tt
-  access_here a (Finished Awaits) = tt
-  access_here a (Finished (Brings into word)) = tt
-  access_here a (Finished Stored) = tt
-  access_here a (Finished (Fails why)) = tt
+  access_here a (Finished (Faults _)) = tt
+  access_here a (Finished _) = tt
 
   full_here : (s : Shortage) (traced : Bool) → IsHere (full_by x s traced).stage
   full_here s false = tt
@@ -326,15 +299,11 @@ module _ (l : Layout) (q : Step) (words : List ℕ) where
       → gate.told_at (gate.next_stage Leave (gate_stage.Exchanges read) reply) ≡ Finished (passed.Went word) → WonLeave
   exchanged read word replies.Won is asked ends =
       (read, sym (same_Some (Exchange (place_of l.pages Gate) (encode_gate read) (encode_gate (gate.gate_after Leave read))) q asked), is)
-  exchanged read word (replies.Lost lost) is asked ends = absurd (cc)
-  exchanged read word (replies.Value value) is asked ends = absurd (cc)
-  exchanged read word replies.Done is asked ends = absurd (cc)
+  exchanged read word _ is asked ends = absurd (cc)
 
   looking : (word : ℕ) (reply : Reply) → gate.told_at (gate.next_stage Leave gate_stage.Loads reply) ≡ Finished (passed.Went word) → WonLeave
   looking word (replies.Value value) ends = loaded (decode_gate value) word value ends
-  looking word replies.Won ends = absurd (cc)
-  looking word (replies.Lost lost) ends = absurd (cc)
-  looking word replies.Done ends = absurd (cc)
+  looking word _ ends = absurd (cc)
 
   leaving : (stage : GateStage) (word : ℕ) → IsPassingGoing stage → gate.wanted (leave_at stage) ≡ Some q
       → gate.told_at (gate.next_stage Leave stage (reply_of q words)) ≡ Finished (passed.Went word) → WonLeave
@@ -422,20 +391,7 @@ module _ (x : Held) (q : Step) (words : List ℕ) (here : IsHere x.stage) where
 -- who wants a step is here
 wants_here : (x : Held) (q : Step) (stage : Stage) → wanted_at x stage ≡ Some q → IsHere stage
 wants_here x q Gone asked = absurd (cc)
-wants_here x q Looks asked = tt
-wants_here x q (Passes g after) asked = tt
-wants_here x q (Flips f) asked = tt
-wants_here x q (Forwards w) asked = tt
-wants_here x q (Accesses a) asked = tt
-wants_here x q (Places p) asked = tt
-wants_here x q (Serves d back) asked = tt
-wants_here x q (Scans s back) asked = tt
-wants_here x q (Evacuates v s back) asked = tt
-wants_here x q (Opens o s back) asked = tt
-wants_here x q (Recalls r after) asked = tt
-wants_here x q (Guards g write) asked = tt
-wants_here x q (Checkpoints r goal) asked = tt
-wants_here x q (BeginsCheckpoint s) asked = tt
+wants_here x q _ asked = tt
 
 pub who_is_gone_saw_why : WhoIsGoneSawWhy
 who_is_gone_saw_why n mutators k x q words f asked gone =

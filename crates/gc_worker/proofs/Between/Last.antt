@@ -11,7 +11,7 @@ use Rattle.space_map.specs.GateWord.{decode_gate}
 use Rattle.space_map.specs.Table.{Gate}
 use Rattle.space_map.specs.TableWords.{row_word}
 use Rattle.gate_core.specs.declared.passage.Passage.{Passage}
-use Rattle.gate_core.specs.declared.passage.Passage.TheVariants.{Look, Attach, Park, Request, Resume, Forwarded, Leave, Clear}
+use Rattle.gate_core.specs.declared.passage.Passage.TheVariants.{Look}
 use Rattle.heap_state.specs.Configuration.{Configuration, table, team}
 use Rattle.heap_state.specs.Functions.{sum_below, count_one}
 use Rattle.heap_state.specs.Memory.Table.{word_in}
@@ -20,11 +20,11 @@ use Rattle.heap_state.specs.Worker as workers
 use Rattle.heap_state.proofs.Table.Places.{word_in-row}
 use Rattle.heap_laws.proofs.Gate.Counts.{ones}
 use Rattle.gc_worker.specs.declared.stage.back.Back.{Back}
-use Rattle.gc_worker.specs.declared.stage.back.Back.TheVariants.{ToAccess, ToTarget, ToPlace, ToSnap, ToScanner}
+use Rattle.gc_worker.specs.declared.stage.back.Back.TheVariants.{ToAccess}
 use Rattle.gc_worker.specs.declared.stage.goal.Goal.{Goal}
-use Rattle.gc_worker.specs.declared.stage.goal.Goal.TheVariants.{ForFlip, ForSnap, ForScanner}
+use Rattle.gc_worker.specs.declared.stage.goal.Goal.TheVariants.{ForFlip}
 use Rattle.gc_worker.specs.declared.stage.Stage.{Stage}
-use Rattle.gc_worker.specs.declared.stage.Stage.TheVariants.{Looks, Passes, Flips, Forwards, Accesses, Places, Serves, Scans, Evacuates, Opens, Recalls, Guards, Checkpoints, BeginsCheckpoint, Gone}
+use Rattle.gc_worker.specs.declared.stage.Stage.TheVariants.{Passes, Serves, Scans, Evacuates, Opens, Checkpoints, Gone}
 use Rattle.gc_worker.specs.Laws.Between.{fresh_mutator, fresh_scanner, opening_heap, with_worker}
 use Rattle.gc_worker.specs.Workers.Fits.{Fits}
 use Rattle.gc_worker.specs.Laws.Gone.{HasLeft, SawAllLeave, ScannersAreLast, ScannersBeginLast, ScannersStayLast}
@@ -63,52 +63,30 @@ all_ones (suc n) most is past many m l = by_last (λ few past_few many_few below
 
 before_gone : (passage : Passage) → is_gone (post_before passage) ≡ true → ⊥
 before_gone Look e = cc
-before_gone Attach e = cc
-before_gone Park e = cc
-before_gone Request e = cc
-before_gone (Resume epoch) e = cc
-before_gone Forwarded e = cc
-before_gone Leave e = cc
-before_gone Clear e = cc
+before_gone _ e = cc
 
 back_gone : (back : Back) → is_gone (post_back back) ≡ true → ⊥
-back_gone (ToAccess a) e = cc
-back_gone (ToTarget a) e = cc
-back_gone ToPlace e = cc
-back_gone ToSnap e = cc
-back_gone ToScanner e = cc
+back_gone (ToAccess _) e = cc
+back_gone _ e = cc
 
 goal_gone : (goal : Goal) → is_gone (post_for goal) ≡ true → ⊥
 goal_gone ForFlip e = cc
-goal_gone ForSnap e = cc
-goal_gone ForScanner e = cc
+goal_gone _ e = cc
 
 -- who counts as gone is
 gone_stage : (x : Held) (stage : Stage) → is_gone (post_in x stage) ≡ true → stage ≡ Gone
 gone_stage x Gone e = refl
-gone_stage x Looks e = absurd (cc)
 gone_stage x (Passes g after) e = absurd (before_gone g.passage e)
-gone_stage x (Flips f) e = absurd (cc)
-gone_stage x (Forwards w) e = absurd (cc)
-gone_stage x (Accesses a) e = absurd (cc)
-gone_stage x (Places p) e = absurd (cc)
 gone_stage x (Serves d back) e = absurd (back_gone back e)
 gone_stage x (Scans s back) e = absurd (back_gone back e)
 gone_stage x (Evacuates v s back) e = absurd (back_gone back e)
 gone_stage x (Opens o s back) e = absurd (back_gone back e)
-gone_stage x (Recalls r after) e = absurd (cc)
-gone_stage x (Guards g write) e = absurd (cc)
 gone_stage x (Checkpoints r goal) e = absurd (goal_gone goal e)
-gone_stage x (BeginsCheckpoint s) e = absurd (cc)
+gone_stage x _ e = absurd (cc)
 
 no_mutator : (post : Post) → is_mutator post ≡ false → is_gone post ≡ false
 no_mutator workers.Scanner e = refl
-no_mutator workers.Outside e = absurd (cc)
-no_mutator workers.Running e = absurd (cc)
-no_mutator workers.Stopped e = absurd (cc)
-no_mutator workers.Snapping e = absurd (cc)
-no_mutator (workers.Flipping asked) e = absurd (cc)
-no_mutator workers.Gone e = absurd (cc)
+no_mutator _ e = absurd (cc)
 
 -- ---- where the gate counts all mutators as left, they have
 

@@ -28,7 +28,7 @@ use Rattle.heap_laws.proofs.Lifting.Configurations.{ready}
 use Rattle.heap_laws.proofs.Scanning.Scanners.{now_not_late}
 use Rattle.gc_worker.specs.declared.stage.back.Back.TheVariants.{ToAccess, ToTarget, ToPlace, ToSnap, ToScanner}
 use Rattle.gc_worker.specs.declared.stage.Stage.{Stage}
-use Rattle.gc_worker.specs.declared.stage.Stage.TheVariants.{Looks, Passes, Flips, Forwards, Accesses, Places, Serves, Scans, Evacuates, Opens, Recalls, Guards, Checkpoints, BeginsCheckpoint, Gone}
+use Rattle.gc_worker.specs.declared.stage.Stage.TheVariants.{Serves}
 use Rattle.gc_worker.specs.Laws.Between.{ShowsRegisters, RegistersLand, AreAlike, IsAsPlain, WhatStandsIsSo, is_present}
 use Rattle.gc_worker.specs.Workers.Fits.{FitsStage}
 use Rattle.gc_worker.specs.Steps.Goes.{Is}
@@ -44,20 +44,7 @@ use Rattle.gc_worker.proofs.Workers.Members.{member}
 -- who is present and makes a round makes it in its own epoch
 round_epoch : (own : ℕ) (d : Round) (stage : DutyStage) → d.epoch ≡ own → epoch_at own d stage ≡ own
 round_epoch own d duty_stage.LoadsGate e = refl
-round_epoch own d (duty_stage.LoadsTraced hindrance) e = e
-round_epoch own d (duty_stage.LoadsWanted seen page) e = e
-round_epoch own d (duty_stage.LoadsFrontFor seen wanted) e = e
-round_epoch own d (duty_stage.LoadsFront seen) e = e
-round_epoch own d (duty_stage.LoadsPage choice page) e = e
-round_epoch own d (duty_stage.Claims claim) e = e
-round_epoch own d (duty_stage.EndGate traced) e = e
-round_epoch own d (duty_stage.EndArea traced) e = e
-round_epoch own d (duty_stage.EndPage look page) e = e
-round_epoch own d (duty_stage.EndFilling look) e = e
-round_epoch own d (duty_stage.EndAreaAgain look filling) e = e
-round_epoch own d (duty_stage.Walks traced walk) e = e
-round_epoch own d (duty_stage.Traces traced) e = e
-round_epoch own d (duty_stage.Ended result) e = e
+round_epoch own d _ e = e
 
 own_epoch : (x : Held) (stage : Stage) → FitsStage x stage → is_present (post_in x stage) ≡ true → epoch_in x.epoch stage ≡ x.epoch
 own_epoch x (Serves d (ToAccess a)) fits present = round_epoch x.epoch d d.stage fits.0.epoch
@@ -65,20 +52,7 @@ own_epoch x (Serves d (ToTarget a)) fits present = round_epoch x.epoch d d.stage
 own_epoch x (Serves d ToPlace) fits present = round_epoch x.epoch d d.stage fits.0.epoch
 own_epoch x (Serves d ToSnap) fits present = round_epoch x.epoch d d.stage fits.0.epoch
 own_epoch x (Serves d ToScanner) fits present = absurd (cc)
-own_epoch x Looks fits present = refl
-own_epoch x (Passes g after) fits present = refl
-own_epoch x (Flips f) fits present = refl
-own_epoch x (Forwards w) fits present = refl
-own_epoch x (Accesses a) fits present = refl
-own_epoch x (Places z) fits present = refl
-own_epoch x (Scans z back) fits present = refl
-own_epoch x (Evacuates v z back) fits present = refl
-own_epoch x (Opens o z back) fits present = refl
-own_epoch x (Recalls r after) fits present = refl
-own_epoch x (Guards z write) fits present = refl
-own_epoch x (Checkpoints r goal) fits present = refl
-own_epoch x (BeginsCheckpoint z) fits present = refl
-own_epoch x Gone fits present = refl
+own_epoch x _ fits present = refl
 
 -- the mutators come first
 enough : (h : Heap) (p o : Plain) → WorkersStand h p o → h.mutators ≤ length h.workers

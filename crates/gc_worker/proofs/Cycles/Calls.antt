@@ -19,7 +19,7 @@ use Rattle.forwarding.specs.Taken as evac_taken
 use Rattle.gate_core.specs.declared.flipped.Flipped.{Flipped}
 use Rattle.gate_core.specs.declared.flipped.Flipped.TheVariants as flipped
 use Rattle.gate_core.specs.declared.passage.Passage.{Passage}
-use Rattle.gate_core.specs.declared.passage.Passage.TheVariants.{Look, Attach, Park, Request, Resume, Forwarded, Leave, Clear}
+use Rattle.gate_core.specs.declared.passage.Passage.TheVariants.{Park, Request, Resume, Forwarded}
 use Rattle.gate_core.specs.declared.passed.Passed.{Passed}
 use Rattle.gate_core.specs.declared.passed.Passed.TheVariants as passed
 use Rattle.gate_core.specs.Flip as flip
@@ -137,10 +137,6 @@ module _ (x : Held) where
 
   passed_on : (after : After) (passage : Passage) (result : Passed) → FitsTaskBefore x passage after → IsInPassage passage after → Stays (snaps_after after) x.stage
       → Goes (snaps_after after) (passed_by x after passage result)
-  passed_on after Look result task past own = absurd past
-  passed_on after Attach result task past own = absurd past
-  passed_on after Leave result task past own = absurd past
-  passed_on after Clear result task past own = absurd past
   passed_on after Park (passed.Went word) task past own = inl (past, λ e. e)
   passed_on after Park (passed.NotYet word) task past own = going_on x after past task
   passed_on after Request (passed.Went word) task past own = inl (asking after past)
@@ -151,6 +147,7 @@ module _ (x : Held) where
       (forwarding x after (first_pointer x.registers 8 0) past) (past, λ e. e))
   passed_on after Forwarded (passed.Went word) task past own = inl (past, λ e. e)
   passed_on after Forwarded (passed.NotYet word) task past own = inl own
+  passed_on after _ result task past own = absurd past
 
   passing : (g : gate.Passing) (after : After) (turn : Turn Passed) → FitsTaskBefore x g.passage after → IsInPassage g.passage after → Stays (snaps_after after) x.stage
       → Goes (snaps_after after) (turned_gate x g after turn)
@@ -164,8 +161,7 @@ module _ (x : Held) where
     where
       read_task : (after : After) → FitsTaskAfter x after → FitsTaskAfter (recalled x result) after
       read_task afters.Looks task = task
-      read_task afters.Places task = task
-      read_task afters.Snaps task = task
+      read_task _ task = task
 
   flipping : (f : flip.Flipping) (turn : Turn Flipped) → Stays false (turned_flip x f turn).stage
   flipping f More = (tt, λ e. refl)
@@ -189,15 +185,11 @@ module _ (x : Held) where
   looking g write (Finished result) = writing write
 
   rounded_on : (goal : Goal) (result : SaveRoundEnd) → IsPastGoal goal → Stays (snaps_for goal) (rounded x goal result)
-  rounded_on ForFlip (save_round_end.NoneRuns number) past = (tt, λ e. refl)
-  rounded_on ForFlip save_round_end.Saved past = (tt, λ e. refl)
-  rounded_on ForFlip save_round_end.Marked past = (tt, λ e. refl)
-  rounded_on ForFlip (save_round_end.NothingNow word) past = (tt, λ e. refl)
-  rounded_on ForSnap (save_round_end.NoneRuns number) past = (tt, λ e. e)
-  rounded_on ForSnap save_round_end.Saved past = (tt, λ e. e)
-  rounded_on ForSnap save_round_end.Marked past = (tt, λ e. e)
-  rounded_on ForSnap (save_round_end.NothingNow word) past = (tt, λ e. e)
   rounded_on ForScanner result past = absurd past
+  rounded_on ForFlip (save_round_end.NoneRuns _) past = (tt, λ e. refl)
+  rounded_on ForFlip _ past = (tt, λ e. refl)
+  rounded_on ForSnap (save_round_end.NoneRuns _) past = (tt, λ e. e)
+  rounded_on ForSnap _ past = (tt, λ e. e)
 
   saving : (r : save_round.SavingRound) (goal : Goal) (turn : Turn SaveRoundEnd) → IsPastGoal goal → Stays (snaps_for goal) (turned_save_round x r goal turn).stage
   saving r goal More past = (past, λ e. e)
@@ -241,11 +233,8 @@ module _ (x : Held) where
 
   -- a mutator that has no end is not gone
   not_gone : (back : Back) → IsPastBack back → (mutator ended : Bool) → IsOnSideBack back mutator → ended ≡ false → IsGoneBy mutator ended → ⊥
-  not_gone (ToAccess a) past mutator ended side end gone = let e : ended ≡ true = subst (λ (b : Bool). IsGoneBy b ended) side gone in let f = sym end ∙ e in cc
-  not_gone (ToTarget a) past mutator ended side end gone = let e : ended ≡ true = subst (λ (b : Bool). IsGoneBy b ended) side gone in let f = sym end ∙ e in cc
-  not_gone ToPlace past mutator ended side end gone = let e : ended ≡ true = subst (λ (b : Bool). IsGoneBy b ended) side gone in let f = sym end ∙ e in cc
-  not_gone ToSnap past mutator ended side end gone = let e : ended ≡ true = subst (λ (b : Bool). IsGoneBy b ended) side gone in let f = sym end ∙ e in cc
   not_gone ToScanner past mutator ended side end gone = past
+  not_gone _ past mutator ended side end gone = let e : ended ≡ true = subst (λ (b : Bool). IsGoneBy b ended) side gone in let f = sym end ∙ e in cc
 
   -- its epoch was found traced: who begins a checkpoint makes rounds for the one in progress
   traced_on : (epoch : ℕ) (back : Back) → IsPastBack back → FitsTaskBack x back → Stays (snaps_back back) (traced_by (record x { epoch = epoch }) back).stage

@@ -17,7 +17,7 @@ use Rattle.alloc_end.specs.declared.run.Run.{Run}
 use Rattle.alloc_end.specs.declared.shortage.Shortage.{Shortage}
 use Rattle.alloc_end.specs.Place as place
 use Rattle.fault_duty.specs.declared.round_end.RoundEnd.{RoundEnd}
-use Rattle.fault_duty.specs.declared.round_end.RoundEnd.TheVariants.{ScanPage, ScanInPlace, Marked, Traced, AllLeft, NothingNow}
+use Rattle.fault_duty.specs.declared.round_end.RoundEnd.TheVariants.{Marked, Traced, NothingNow}
 use Rattle.fault_duty.specs.Duty as duty
 use Rattle.forwarding.specs.declared.to.To.{To}
 use Rattle.forwarding.specs.Evacuation as evac
@@ -55,11 +55,11 @@ use Rattle.gc_worker.specs.Workers.Fits.{FitsStage, IsOwnPassage, MayRequest}
 use Rattle.record_access.specs.declared.access.Access.{Access}
 use Rattle.record_access.specs.declared.access_stage.AccessStage.{AccessStage}
 use Rattle.record_access.specs.declared.accessed.Accessed.{Accessed}
-use Rattle.record_access.specs.declared.accessed.Accessed.TheVariants.{Faults, Awaits, Brings, Stored, Fails}
+use Rattle.record_access.specs.declared.accessed.Accessed.TheVariants.{Faults}
 use Rattle.gc_worker.specs.declared.stage.after.After.{After}
 use Rattle.gc_worker.specs.declared.stage.after.After.TheVariants as afters
 use Rattle.gc_worker.specs.declared.stage.back.Back.{Back}
-use Rattle.gc_worker.specs.declared.stage.back.Back.TheVariants.{ToAccess, ToTarget, ToPlace, ToSnap, ToScanner}
+use Rattle.gc_worker.specs.declared.stage.back.Back.TheVariants.{ToPlace, ToScanner}
 use Rattle.gc_worker.specs.declared.stage.goal.Goal.{Goal}
 use Rattle.gc_worker.specs.declared.stage.goal.Goal.TheVariants.{ForFlip, ForSnap, ForScanner}
 use Rattle.gc_worker.specs.declared.stage.write.Write.{Write}
@@ -111,11 +111,8 @@ module _ (n size : ℕ) where
   running_on x y after = either x y.layout.checkpoints (Recalls (recall.begun y.layout) after) (goes_on y after) tt (going_on x y after)
 
   going_back : (x y : Held) (back : Back) → FirstAt x (goes_back y back)
-  going_back x y (ToAccess a) = tt
-  going_back x y (ToTarget a) = tt
   going_back x y ToPlace = placing x y (header_for y)
-  going_back x y ToSnap = tt
-  going_back x y ToScanner = tt
+  going_back x y _ = tt
 
   forwarding : (x y : Held) (after : After) (o : Option Pointed) → FirstAt x (forwards_it y after o)
   forwarding x y after (Some p) = tt
@@ -132,22 +129,17 @@ module _ (n size : ℕ) where
 
     passed_first : (after : After) (passage : Passage) (result : Passed) → IsOwnPassage x after passage → First x → FirstAt x (passes x passage after) → First (passed_by x after passage result)
     passed_first after Attach (passed.Went word) may own asks = let y = in_epoch x (epoch_said x.epoch word) in running_on (attached x word) y afters.Looks
-    passed_first after Attach (passed.NotYet word) may own asks = tt
-    passed_first after Park (passed.Went word) may own asks = tt
     passed_first after Park (passed.NotYet word) may own asks = let y = passed_by x after Park (passed.NotYet word) in going_on y x after
     passed_first after Request (passed.Went word) may own asks = asking after may asks
-    passed_first after Request (passed.NotYet word) may own asks = tt
     passed_first after (Resume epoch) (passed.Went word) may own asks = let y = passed_by x after (Resume epoch) (passed.Went word) in running_on y x after
     passed_first after (Resume epoch) (passed.NotYet word) may own asks =
         let y = passed_by x after (Resume epoch) (passed.NotYet word) in
         either y (nat_lt x.epoch (epoch_said x.epoch word)) (forwards_from x after 0) (passes x (Resume x.epoch) after) (forwarding y x after (first_pointer x.registers 8 0)) tt
-    passed_first after Forwarded (passed.Went word) may own asks = tt
     passed_first after Forwarded (passed.NotYet word) may own asks = own
-    passed_first after Leave (passed.Went word) may own asks = tt
     passed_first after Leave (passed.NotYet word) may own asks = own
     passed_first after Look result may own asks = own
-    passed_first after Clear (passed.Went word) may own asks = tt
     passed_first after Clear (passed.NotYet word) may own asks = own
+    passed_first after _ _ may own asks = tt
 
     passing : (g : gate.Passing) (after : After) (turn : Turn Passed) → IsOwnPassage x after g.passage → First x → FirstAt x (Passes g after) → First (turned_gate x g after turn)
     passing g after More may own asks = asks
@@ -172,11 +164,8 @@ module _ (n size : ℕ) where
 
     accessing : (a : Access) (turn : Turn Accessed) → First (turned_access x a turn)
     accessing a More = guarding (turned_access x a More) x (OfAccess a) (access.writes_on a.spaces a.stage) (Accesses a) tt
-    accessing a (Finished (Faults page)) = tt
-    accessing a (Finished Awaits) = tt
-    accessing a (Finished (Brings into word)) = tt
-    accessing a (Finished Stored) = tt
-    accessing a (Finished (Fails why)) = tt
+    accessing a (Finished (Faults _)) = tt
+    accessing a (Finished _) = tt
 
     -- who asks for a flip has found that none came, or that the space may still grow
     full_first : (s : Shortage) (b : Bool) → s.size ≡ size → x.layout.pages ≡ n → size ≤ n → is_full x s ≡ b → First (cond b (ended x (end_by_shortage s)) (at_stage x (asks_flip x)))
@@ -211,19 +200,15 @@ module _ (n size : ℕ) where
     -- ---- rounds and scans
 
     traced_first : (y : Held) (back : Back) → First (traced_by y back)
-    traced_first y (ToAccess a) = tt
-    traced_first y (ToTarget a) = tt
     traced_first y ToPlace = going_back (traced_by y ToPlace) y ToPlace
-    traced_first y ToSnap = tt
     traced_first y ToScanner = either (traced_by y ToScanner) y.layout.checkpoints (checkpoints y ForScanner) (goes_back y ToScanner) tt tt
+    traced_first y _ = tt
 
     served_first : (d : duty.Round) (back : Back) (result : RoundEnd) → First (served_by x d back result)
-    served_first d back (ScanPage page) = tt
-    served_first d back (ScanInPlace page) = tt
     served_first d back Marked = going_back (served_by x d back Marked) (record x { epoch = d.epoch }) back
     served_first d back Traced = traced_first (record x { epoch = d.epoch }) back
     served_first d back (NothingNow word) = going_back (served_by x d back (NothingNow word)) (record x { epoch = d.epoch }) back
-    served_first d back (AllLeft word) = tt
+    served_first d back _ = tt
 
     serving : (d : duty.Round) (back : Back) (turn : Turn RoundEnd) → First (turned_round x d back turn)
     serving d back More = tt
@@ -253,15 +238,10 @@ module _ (n size : ℕ) where
     looking g write (Finished result) = writing (turned_guard x g write (Finished result)) write
 
     rounded_first : (goal : Goal) (result : SaveRoundEnd) → ((r : save_round.SavingRound) → FirstAt x (Checkpoints r goal)) → First (at_stage x (rounded x goal result))
-    rounded_first ForFlip (save_round_end.NoneRuns number) first = first (save_round.begun_by_mutator x.layout x.epoch x.number)
-    rounded_first ForFlip save_round_end.Saved first = first (save_round.begun_by_mutator x.layout x.epoch x.number)
-    rounded_first ForFlip save_round_end.Marked first = first (save_round.begun_by_mutator x.layout x.epoch x.number)
-    rounded_first ForFlip (save_round_end.NothingNow word) first = first (save_round.begun_by_mutator x.layout x.epoch x.number)
-    rounded_first ForSnap (save_round_end.NoneRuns number) first = tt
-    rounded_first ForSnap save_round_end.Saved first = tt
-    rounded_first ForSnap save_round_end.Marked first = tt
-    rounded_first ForSnap (save_round_end.NothingNow word) first = tt
-    rounded_first ForScanner result first = tt
+    rounded_first ForFlip (save_round_end.NoneRuns _) first = first (save_round.begun_by_mutator x.layout x.epoch x.number)
+    rounded_first ForFlip _ first = first (save_round.begun_by_mutator x.layout x.epoch x.number)
+    rounded_first ForSnap (save_round_end.NoneRuns _) first = tt
+    rounded_first _ _ first = tt
 
     -- whatever round it makes for this
     for_goal : (r z : save_round.SavingRound) (goal : Goal) → FirstAt x (Checkpoints r goal) → FirstAt x (Checkpoints z goal)
@@ -325,9 +305,7 @@ module _ (n size : ℕ) where
 
     look_first : (reply : Reply) → First (turned_look x reply)
     look_first (replies.Value word) = gate_first (decode_gate word)
-    look_first replies.Done = at_look
-    look_first replies.Won = at_look
-    look_first (replies.Lost word) = at_look
+    look_first _ = at_look
 
   -- ---- each stage
 

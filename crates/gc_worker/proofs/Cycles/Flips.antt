@@ -14,7 +14,7 @@ use Rattle.atom_store.specs.declared.turn.Turn.TheVariants.{More, Finished}
 use Rattle.gate_core.specs.declared.flipped.Flipped.{Flipped}
 use Rattle.gate_core.specs.declared.flipped.Flipped.TheVariants as flipped
 use Rattle.gate_core.specs.declared.passage.Passage.{Passage}
-use Rattle.gate_core.specs.declared.passage.Passage.TheVariants.{Look, Attach, Park, Request, Resume, Forwarded, Leave, Clear}
+use Rattle.gate_core.specs.declared.passage.Passage.TheVariants.{Request}
 use Rattle.gate_core.specs.Flip as flip
 use Rattle.gate_core.specs.Gate as gate
 use Rattle.page_saves.specs.SaveRound as save_round
@@ -30,9 +30,9 @@ use Rattle.gc_worker.specs.declared.stage.after.After.{After}
 use Rattle.gc_worker.specs.declared.stage.goal.Goal.{Goal}
 use Rattle.gc_worker.specs.declared.stage.goal.Goal.TheVariants.{ForFlip, ForSnap, ForScanner}
 use Rattle.gc_worker.specs.declared.stage.Stage.{Stage}
-use Rattle.gc_worker.specs.declared.stage.Stage.TheVariants.{Looks, Passes, Flips, Forwards, Accesses, Places, Serves, Scans, Evacuates, Opens, Recalls, Guards, Checkpoints, BeginsCheckpoint, Gone}
+use Rattle.gc_worker.specs.declared.stage.Stage.TheVariants.{Passes, Flips, Places, Checkpoints}
 use Rattle.gc_worker.specs.Workers.Held.{Held, at_stage}
-use Rattle.gc_worker.specs.Steps.Turned.{Told, Silent, Empties, Answers, Marks, told, told_at, told_flip, turned, turned_at, turned_flip}
+use Rattle.gc_worker.specs.Steps.Turned.{Told, Marks, told, told_at, told_flip, turned, turned_at, turned_flip}
 use Rattle.gc_worker.proofs.Between.Pages.Claims.{flips_at}
 use Rattle.gc_worker.proofs.Cycles.Lows.{of_now}
 use Rattle.gc_worker.proofs.Cycles.Sizes.{sizes_are_within, sizes_stay}
@@ -83,13 +83,7 @@ module _ (c : Configuration) (p : Plain) (s : Stands c p) (j : ℕ) (y : Held) w
   by_passage g after Request e is asks =
       let t = (s.invariant.workers j is.below).timely in
       sym (ap (λ (w : Worker). w.epoch) is.as_known) ∙ t.running (ap (λ (w : Worker). is_running w.post) is.as_known ∙ ap (λ (q : Passage). is_running (post_before q)) e)
-  by_passage g after Look e is asks = absurd asks
-  by_passage g after Attach e is asks = absurd asks
-  by_passage g after Park e is asks = absurd asks
-  by_passage g after (Resume epoch) e is asks = absurd asks
-  by_passage g after Forwarded e is asks = absurd asks
-  by_passage g after Leave e is asks = absurd asks
-  by_passage g after Clear e is asks = absurd asks
+  by_passage g after _ e is asks = absurd asks
 
   by_goal : (r : save_round.SavingRound) (goal : Goal) → Is c j (at_stage y (Checkpoints r goal)) → AsksFor goal → y.epoch ≡ (era c).epoch
   by_goal r ForFlip is asks =
@@ -104,18 +98,7 @@ module _ (c : Configuration) (p : Plain) (s : Stands c p) (j : ℕ) (y : Held) w
       let t = (s.invariant.workers j is.below).timely in
       sym (ap (λ (w : Worker). w.epoch) is.as_known) ∙ t.asking (rw is.as_known refl)
   asks_now (Checkpoints r goal) is asks = by_goal r goal is asks
-  asks_now Looks is asks = absurd asks
-  asks_now (Forwards w) is asks = absurd asks
-  asks_now (Accesses a) is asks = absurd asks
-  asks_now (Places z) is asks = absurd asks
-  asks_now (Serves d back) is asks = absurd asks
-  asks_now (Scans v back) is asks = absurd asks
-  asks_now (Evacuates v z back) is asks = absurd asks
-  asks_now (Opens v z back) is asks = absurd asks
-  asks_now (Recalls r after) is asks = absurd asks
-  asks_now (Guards g write) is asks = absurd asks
-  asks_now (BeginsCheckpoint z) is asks = absurd asks
-  asks_now Gone is asks = absurd asks
+  asks_now _ is asks = absurd asks
 
 -- ---- a step
 
@@ -167,20 +150,7 @@ module _ (h : Heap) (p o : Plain) (k : ℕ) (x : Held) (q : Step) (st : WorkersS
           let span = span_is (read h) in
           let here : size_now (read h) (to_space (era (read h)).epoch) ≡ size = ap (λ (e : ℕ). size_now (read h) (to_space e)) (of_now h p o k x st) in
           omega (arith, knows_it, span, here)
-  read_by Looks e = tt
-  read_by (Passes g after) e = tt
-  read_by (Flips f) e = tt
-  read_by (Forwards w) e = tt
-  read_by (Accesses a) e = tt
-  read_by (Serves d back) e = tt
-  read_by (Scans s back) e = tt
-  read_by (Evacuates v s back) e = tt
-  read_by (Opens v s back) e = tt
-  read_by (Recalls r after) e = tt
-  read_by (Guards g write) e = tt
-  read_by (Checkpoints r goal) e = tt
-  read_by (BeginsCheckpoint z) e = tt
-  read_by Gone e = tt
+  read_by _ e = tt
 
   own : IsFirstAt n size x x.stage
   own = subst (IsFirst n h.words) holds (all k l)
@@ -202,10 +172,8 @@ module _ (h : Heap) (p o : Plain) (k : ℕ) (x : Held) (q : Step) (st : WorkersS
       (resumes (flip.taken f.0 reply) (flip.told (flip.taken f.0 reply)) pages (sym (ap (λ (s : Stage). told_at x s reply) f.1) ∙ e))
 
   own_first : (t : Told) → u ≡ t → SizeGoes n h.words later t → IsFirst n later (turned x reply)
-  own_first Silent e same = subst (λ (s : ℕ). IsFirstAt n s (turned x reply) (turned x reply).stage) (sym same) turned_first
-  own_first Empties e same = subst (λ (s : ℕ). IsFirstAt n s (turned x reply) (turned x reply).stage) (sym same) turned_first
-  own_first (Answers task outcome) e same = subst (λ (s : ℕ). IsFirstAt n s (turned x reply) (turned x reply).stage) (sym same) turned_first
   own_first (Marks pages) e grows = flipper_first pages e
+  own_first _ e same = subst (λ (s : ℕ). IsFirstAt n s (turned x reply) (turned x reply).stage) (sym same) turned_first
 
   -- another worker
   module _ (j : ℕ) (inside : j < length h.workers) (other : j ≢ k) where
@@ -231,10 +199,8 @@ module _ (h : Heap) (p o : Plain) (k : ℕ) (x : Held) (q : Step) (st : WorkersS
         omega (arith, once.epoch, once.next, was, now, before, behind)
 
     other_first : (t : Told) → u ≡ t → SizeGoes n h.words later t → IsFirst n later y
-    other_first Silent e same = subst (λ (s : ℕ). IsFirstAt n s y y.stage) (sym same) (all j inside)
-    other_first Empties e same = subst (λ (s : ℕ). IsFirstAt n s y y.stage) (sym same) (all j inside)
-    other_first (Answers task outcome) e same = subst (λ (s : ℕ). IsFirstAt n s y y.stage) (sym same) (all j inside)
     other_first (Marks pages) e grows = first_beside n size (size_of n later) y y.stage (none_asks pages e) (all j inside)
+    other_first _ e same = subst (λ (s : ℕ). IsFirstAt n s y y.stage) (sym same) (all j inside)
 
   pub stays_first : (j : ℕ) → j < length h.workers → IsFirst n later (held_at next j)
   stays_first j inside = ⊎_elim

@@ -62,7 +62,7 @@ use Rattle.gc_worker.specs.declared.stage.Stage.TheVariants.{Looks, Passes, Flip
 use Rattle.gc_worker.specs.Steps.Goes.{Is}
 use Rattle.gc_worker.specs.Workers.Held.{Held, at_stage}
 use Rattle.gc_worker.specs.Laws.Step.{Heap, FlipsWhereTold, WorkersStand, read, held_at, epoch_of}
-use Rattle.gc_worker.specs.Steps.Turned.{Told, Silent, Empties, Answers, Marks, epoch_in_gate, told, told_at, told_flip}
+use Rattle.gc_worker.specs.Steps.Turned.{Told, Marks, epoch_in_gate, told, told_at, told_flip}
 use Rattle.gc_worker.specs.Steps.Wanted.{wanted, wanted_at}
 use Rattle.record_access.proofs.RowsFit as access_rows
 use Rattle.gc_worker.proofs.Words.Areas.{area_says, is_space}
@@ -323,15 +323,11 @@ looked_unmarked word (Some gate) = by_test (flip.is_still gate)
 
 gate_unmarked : (f : Flipping) (reply : Reply) → NoMark (told_flip (flip.told_at (flip.next_stage f flip_stage.LoadsGate reply)))
 gate_unmarked f (replies.Value word) = looked_unmarked word (decode_gate word)
-gate_unmarked f replies.Done = tt
-gate_unmarked f replies.Won = tt
-gate_unmarked f (replies.Lost word) = tt
+gate_unmarked f _ = tt
 
 size_unmarked : (f : Flipping) (gate : GateWord) (reply : Reply) → NoMark (told_flip (flip.told_at (flip.next_stage f (flip_stage.LoadsSize gate) reply)))
-size_unmarked f gate (replies.Value word) = tt
-size_unmarked f gate replies.Done = tt
-size_unmarked f gate replies.Won = tt
-size_unmarked f gate (replies.Lost word) = tt
+size_unmarked f gate (replies.Value _) = tt
+size_unmarked f gate _ = tt
 
 read_unmarked : (pages : ℕ) (seen : Bool) (gate : GateWord) (size : ℕ) (o : Option AreaWord) → NoMark (told_flip (flip.told_at (flip.read_area pages seen gate size o)))
 read_unmarked pages seen gate size (Some area) = tt
@@ -339,27 +335,19 @@ read_unmarked pages seen gate size None = tt
 
 area_unmarked : (f : Flipping) (gate : GateWord) (size : ℕ) (reply : Reply) → NoMark (told_flip (flip.told_at (flip.next_stage f (flip_stage.LoadsArea gate size) reply)))
 area_unmarked f gate size (replies.Value word) = read_unmarked f.layout.pages f.seen gate size (decode_area word)
-area_unmarked f gate size replies.Done = tt
-area_unmarked f gate size replies.Won = tt
-area_unmarked f gate size (replies.Lost word) = tt
+area_unmarked f gate size _ = tt
 
 sizing_unmarked : (f : Flipping) (r : resets.Reset) (reply : Reply) → NoMark (told_flip (flip.told_at (flip.next_stage f (flip_stage.StoresSize r) reply)))
-sizing_unmarked f r (replies.Value word) = tt
-sizing_unmarked f r replies.Done = tt
-sizing_unmarked f r replies.Won = tt
-sizing_unmarked f r (replies.Lost word) = tt
+sizing_unmarked f r (replies.Value _) = tt
+sizing_unmarked f r _ = tt
 
 store_unmarked : (f : Flipping) (r : resets.Reset) (reply : Reply) → NoMark (told_flip (flip.told_at (flip.next_stage f (flip_stage.StoresArea r) reply)))
-store_unmarked f r (replies.Value word) = tt
-store_unmarked f r replies.Done = tt
-store_unmarked f r replies.Won = tt
-store_unmarked f r (replies.Lost word) = tt
+store_unmarked f r (replies.Value _) = tt
+store_unmarked f r _ = tt
 
 weak_unmarked : (f : Flipping) (r : resets.Reset) (reply : Reply) → NoMark (told_flip (flip.told_at (flip.next_stage f (flip_stage.ResetsWeak r) reply)))
-weak_unmarked f r (replies.Value word) = tt
-weak_unmarked f r replies.Done = tt
-weak_unmarked f r replies.Won = tt
-weak_unmarked f r (replies.Lost word) = tt
+weak_unmarked f r (replies.Value _) = tt
+weak_unmarked f r _ = tt
 
 pub exchanges_at : (f : Flipping) (stage : FlipStage) (q : Step) (reply : Reply) (pages : ℕ) → flip.wanted_at f stage ≡ Some q → told_flip (flip.told_at (flip.next_stage f stage reply)) ≡ Marks pages
     → (r : resets.Reset) × (stage ≡ flip_stage.Exchanges r)
@@ -403,15 +391,13 @@ module _ (h : Heap) (p o : Plain) (k : ℕ) (x : Held) (q : Step) (st : WorkersS
       ap (low_at h.pages later) space ∙ (stay ∙ (whole ∙ ap (λ (size : ℕ). PAGE_WORDS * size) (sym sized ∙ ap (λ (s : ℕ). word_in h.pages later (Size s)) (sym space))))
 
   by_told : (t : Told) → told x reply ≡ t → FlipsWhereTold h.pages h.words later x t → LowGoes h.pages h.words later (words_claimed x reply) t
-  by_told Silent e flips = same_epoch flips.epoch
-  by_told Empties e flips = same_epoch flips.epoch
-  by_told (Answers task outcome) e flips = same_epoch flips.epoch
   by_told (Marks pages) e flips =
       let f = flips_at x reply pages x.stage e in
       let wants : flip.wanted f.0 ≡ Some q = sym (ap (wanted_at x) f.1) ∙ asked in
       let tells : told_flip (flip.told (flip.taken f.0 reply)) ≡ Marks pages = sym (ap (λ (s : Stage). told_at x s reply) f.1) ∙ e in
       let r = exchanges_at f.0 f.0.stage q reply pages wants tells in
       at_exchange f.0 r.0 f.1 r.1 flips.epoch flips.next
+  by_told _ e flips = same_epoch flips.epoch
 
   pub low_falls : LowGoes h.pages h.words later (words_claimed x reply) (told x reply)
   low_falls = by_told (told x reply) refl (steps_keep h p o k x q st l holds asked).flips

@@ -15,7 +15,7 @@ use Rattle.alloc_end.specs.declared.run.Run.{Run}
 use Rattle.alloc_end.specs.declared.shortage.Shortage.{Shortage}
 use Rattle.alloc_end.specs.Place as place
 use Rattle.fault_duty.specs.declared.round_end.RoundEnd.{RoundEnd}
-use Rattle.fault_duty.specs.declared.round_end.RoundEnd.TheVariants.{ScanPage, ScanInPlace, Marked, Traced, AllLeft, NothingNow}
+use Rattle.fault_duty.specs.declared.round_end.RoundEnd.TheVariants.{Marked, Traced, NothingNow}
 use Rattle.fault_duty.specs.Duty as duty
 use Rattle.forwarding.specs.declared.to.To.{To}
 use Rattle.forwarding.specs.Evacuation as evac
@@ -48,12 +48,12 @@ use Rattle.plain_heap.specs.Action.{action}
 use Rattle.record_access.specs.declared.access.Access.{Access}
 use Rattle.record_access.specs.declared.access_stage.AccessStage.{AccessStage}
 use Rattle.record_access.specs.declared.accessed.Accessed.{Accessed}
-use Rattle.record_access.specs.declared.accessed.Accessed.TheVariants.{Faults, Awaits, Brings, Stored, Fails}
+use Rattle.record_access.specs.declared.accessed.Accessed.TheVariants.{Faults}
 use Rattle.record_access.specs.Access as access
 use Rattle.gc_worker.specs.declared.stage.after.After.{After}
 use Rattle.gc_worker.specs.declared.stage.after.After.TheVariants as afters
 use Rattle.gc_worker.specs.declared.stage.back.Back.{Back}
-use Rattle.gc_worker.specs.declared.stage.back.Back.TheVariants.{ToAccess, ToTarget, ToPlace, ToSnap, ToScanner}
+use Rattle.gc_worker.specs.declared.stage.back.Back.TheVariants.{ToPlace, ToScanner}
 use Rattle.gc_worker.specs.declared.stage.goal.Goal.{Goal}
 use Rattle.gc_worker.specs.declared.stage.goal.Goal.TheVariants.{ForFlip, ForSnap, ForScanner}
 use Rattle.gc_worker.specs.declared.stage.write.Write.{Write}
@@ -99,11 +99,8 @@ running_on : (y : Held) (after : After) → IsUnread (runs_on y after)
 running_on y after = either y.layout.checkpoints (Recalls (recall.begun y.layout) after) (goes_on y after) tt (going_on y after)
 
 going_back : (y : Held) (back : Back) → IsUnread (goes_back y back)
-going_back y (ToAccess a) = tt
-going_back y (ToTarget a) = tt
 going_back y ToPlace = placing y (header_for y)
-going_back y ToSnap = tt
-going_back y ToScanner = tt
+going_back y _ = tt
 
 forwarding : (y : Held) (after : After) (o : Option Pointed) → IsUnread (forwards_it y after o)
 forwarding y after (Some p) = tt
@@ -112,8 +109,7 @@ forwarding y after None = tt
 -- a round for a checkpoint is no flip
 rounding : (y : Held) (goal : Goal) → IsUnread (checkpoints y goal)
 rounding y ForFlip = tt
-rounding y ForSnap = tt
-rounding y ForScanner = tt
+rounding y _ = tt
 
 writing : (write : Write) → IsUnread (writes write)
 writing (OfAccess a) = tt
@@ -130,21 +126,16 @@ module _ (x : Held) where
 
   passing_by : (after : After) (passage : Passage) (result : Passed) → IsUnread x.stage → IsUnread (passed_by x after passage result).stage
   passing_by after Attach (passed.Went word) own = running_on (in_epoch x (epoch_said x.epoch word)) afters.Looks
-  passing_by after Attach (passed.NotYet word) own = tt
-  passing_by after Park (passed.Went word) own = tt
   passing_by after Park (passed.NotYet word) own = going_on x after
   passing_by after Request (passed.Went word) own = asking after
-  passing_by after Request (passed.NotYet word) own = tt
   passing_by after (Resume epoch) (passed.Went word) own = running_on x after
   passing_by after (Resume epoch) (passed.NotYet word) own =
       either (nat_lt x.epoch (epoch_said x.epoch word)) (forwards_from x after 0) (passes x (Resume x.epoch) after) (forwarding x after (first_pointer x.registers 8 0)) tt
-  passing_by after Forwarded (passed.Went word) own = tt
   passing_by after Forwarded (passed.NotYet word) own = own
-  passing_by after Leave (passed.Went word) own = tt
   passing_by after Leave (passed.NotYet word) own = own
   passing_by after Look result own = own
-  passing_by after Clear (passed.Went word) own = tt
   passing_by after Clear (passed.NotYet word) own = own
+  passing_by after _ _ own = tt
 
   passing : (g : gate.Passing) (after : After) (turn : Turn Passed) → IsUnread x.stage → IsUnread (turned_gate x g after turn).stage
   passing g after More own = tt
@@ -162,11 +153,8 @@ module _ (x : Held) where
 
   accessing : (a : Access) (turn : Turn Accessed) → IsUnread (turned_access x a turn).stage
   accessing a More = guarding x (OfAccess a) (access.writes_on a.spaces a.stage) (Accesses a) tt
-  accessing a (Finished (Faults page)) = tt
-  accessing a (Finished Awaits) = tt
-  accessing a (Finished (Brings into word)) = tt
-  accessing a (Finished Stored) = tt
-  accessing a (Finished (Fails why)) = tt
+  accessing a (Finished (Faults _)) = tt
+  accessing a (Finished _) = tt
 
   shortage : (s : Shortage) (traced : Bool) → IsUnread (full_by x s traced).stage
   shortage s false = tt
@@ -188,19 +176,15 @@ module _ (x : Held) where
   -- ---- rounds and scans
 
   tracing : (y : Held) (back : Back) → IsUnread (traced_by y back).stage
-  tracing y (ToAccess a) = tt
-  tracing y (ToTarget a) = tt
   tracing y ToPlace = going_back y ToPlace
-  tracing y ToSnap = tt
   tracing y ToScanner = either y.layout.checkpoints (checkpoints y ForScanner) (goes_back y ToScanner) tt tt
+  tracing y _ = tt
 
   serving_by : (d : duty.Round) (back : Back) (result : RoundEnd) → IsUnread (served_by x d back result).stage
-  serving_by d back (ScanPage page) = tt
-  serving_by d back (ScanInPlace page) = tt
   serving_by d back Marked = going_back (record x { epoch = d.epoch }) back
   serving_by d back Traced = tracing (record x { epoch = d.epoch }) back
   serving_by d back (NothingNow word) = going_back (record x { epoch = d.epoch }) back
-  serving_by d back (AllLeft word) = tt
+  serving_by d back _ = tt
 
   serving : (d : duty.Round) (back : Back) (turn : Turn RoundEnd) → IsUnread (turned_round x d back turn).stage
   serving d back More = tt
@@ -227,9 +211,7 @@ module _ (x : Held) where
 
   rounded_to : (goal : Goal) (result : SaveRoundEnd) → IsUnread (rounded_by x goal result)
   rounded_to goal (save_round_end.NoneRuns number) = tt
-  rounded_to goal save_round_end.Saved = rounding x goal
-  rounded_to goal save_round_end.Marked = rounding x goal
-  rounded_to goal (save_round_end.NothingNow word) = rounding x goal
+  rounded_to goal _ = rounding x goal
 
   round_ends : (goal : Goal) (result : SaveRoundEnd) → IsUnread (rounded x goal result)
   round_ends ForFlip result = rounded_to ForFlip result
@@ -284,9 +266,7 @@ module _ (x : Held) (own : IsUnread x.stage) where
 
   by_look : (reply : Reply) → IsUnread (turned_look x reply).stage
   by_look (replies.Value word) = by_gate (decode_gate word)
-  by_look replies.Done = own
-  by_look replies.Won = own
-  by_look (replies.Lost word) = own
+  by_look _ = own
 
   -- ---- each stage but a flip's
 

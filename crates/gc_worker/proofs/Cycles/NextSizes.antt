@@ -4,7 +4,7 @@ use Rattle.std.proofs.lemmas.Bool.{cases_eq}
 use Rattle.std.proofs.lemmas.Option.{same_Some}
 use Rattle.plain_state.specs.State.{Plain}
 use Rattle.atom_store.specs.declared.reply.Reply.{Reply}
-use Rattle.atom_store.specs.declared.reply.Reply.TheVariants.{Value, Done, Won, Lost}
+use Rattle.atom_store.specs.declared.reply.Reply.TheVariants.{Value, Won, Lost}
 use Rattle.atom_store.specs.declared.step.Step.{Step}
 use Rattle.atom_store.specs.declared.step.Step.TheVariants.{Load}
 use Rattle.atom_store.specs.declared.turn.Turn.TheVariants.{More}
@@ -26,7 +26,7 @@ use Rattle.heap_state.specs.Worker.{Reset, Worker, is_running}
 use Rattle.heap_state.proofs.Table.Places.{word_in-row}
 use Rattle.heap_laws.proofs.Allocation.Claimed.{runs_counted}
 use Rattle.gc_worker.specs.declared.stage.Stage.{Stage}
-use Rattle.gc_worker.specs.declared.stage.Stage.TheVariants.{Looks, Passes, Flips, Forwards, Accesses, Places, Serves, Scans, Evacuates, Opens, Recalls, Guards, Checkpoints, BeginsCheckpoint, Gone}
+use Rattle.gc_worker.specs.declared.stage.Stage.TheVariants.{Flips, Places}
 use Rattle.gc_worker.specs.Laws.Between.{fresh_mutator, fresh_scanner, opening_words, with_worker}
 use Rattle.gc_worker.specs.Laws.Cycles.{FlipsSetSizes, HasFound, HasFoundAt, HasNextSize, HaveNextSizes, LowGoes, NextSizesBegin, NextSizesStay, SizeGoes, front_of, front_said, low_of, reset_of, size_next, size_of, words_claimed}
 use Rattle.gc_worker.specs.Laws.Step.{FlipsWhereTold, Heap, StepKeeps, WorkersStand, at_flip, epoch_of, held_at, moved, nobody, read}
@@ -34,7 +34,7 @@ use Rattle.gc_worker.specs.Plain.Answer.{after_told}
 use Rattle.gc_worker.specs.Plain.Empty.{empty_cells}
 use Rattle.gc_worker.specs.Steps.Goes.{Is}
 use Rattle.gc_worker.specs.Steps.Stepped.{IsFlipping}
-use Rattle.gc_worker.specs.Steps.Turned.{Told, Silent, Empties, Answers, Marks, told, told_at, told_flip, turned, turned_at, turned_flip}
+use Rattle.gc_worker.specs.Steps.Turned.{Told, Silent, Marks, told, told_at, told_flip, turned, turned_at, turned_flip}
 use Rattle.gc_worker.specs.Steps.Wanted.{wanted, wanted_at}
 use Rattle.gc_worker.specs.Workers.Held.{Held, at_stage, has_seen_flip}
 use Rattle.gc_worker.specs.Workers.Knows.{reset_at, reset_in}
@@ -78,28 +78,13 @@ module _ (h : Heap) (p o : Plain) (k : ℕ) (x : Held) (q : Step) (st : WorkersS
   none_claimed still (Places z) e =
       let runs : is_running ((team (read h)).worker k).post ≡ true = ap (λ (w : Worker). is_running w.post) there.as_known ∙ rw e refl in
       absurd (let some = runs_counted (memory (read h)).gate (team (read h)).count (team (read h)).worker k st.stands.invariant.counted there.below runs in omega (arith, some, still))
-  none_claimed still Looks e = rw e refl
-  none_claimed still (Passes g after) e = rw e refl
-  none_claimed still (Flips f) e = rw e refl
-  none_claimed still (Forwards w) e = rw e refl
-  none_claimed still (Accesses a) e = rw e refl
-  none_claimed still (Serves d back) e = rw e refl
-  none_claimed still (Scans s back) e = rw e refl
-  none_claimed still (Evacuates v s back) e = rw e refl
-  none_claimed still (Opens v s back) e = rw e refl
-  none_claimed still (Recalls r after) e = rw e refl
-  none_claimed still (Guards g write) e = rw e refl
-  none_claimed still (Checkpoints r goal) e = rw e refl
-  none_claimed still (BeginsCheckpoint z) e = rw e refl
-  none_claimed still Gone e = rw e refl
+  none_claimed still _ e = rw e refl
 
   -- within an epoch LOW falls by what is claimed, and the size stays
   same_by : (t : Told) → u ≡ t → ((pages : ℕ) → t ≢ Marks pages) → LowGoes h.pages h.words later (words_claimed x reply) t → SizeGoes h.pages h.words later t
       → (low_of h.pages later + words_claimed x reply ≡ low_of h.pages h.words) × (size_of h.pages later ≡ size_of h.pages h.words)
-  same_by Silent e other low size = (low, size)
-  same_by Empties e other low size = (low, size)
-  same_by (Answers task outcome) e other low size = (low, size)
   same_by (Marks pages) e other low size = absurd (other pages refl)
+  same_by _ e other low size = (low, size)
 
   -- ---- a flipper that has read all before and after it
 
@@ -179,15 +164,11 @@ module _ (h : Heap) (p o : Plain) (k : ℕ) (x : Held) (q : Step) (st : WorkersS
 
     gate_unread : (z : Reply) → reset_of (flip.next_stage f flip_stage.LoadsGate z) ≡ None
     gate_unread (Value word) = by_gate word (decode_gate word)
-    gate_unread Done = refl
-    gate_unread Won = refl
-    gate_unread (Lost word) = refl
+    gate_unread _ = refl
 
     size_unread : (gate : GateWord) (z : Reply) → reset_of (flip.next_stage f (flip_stage.LoadsSize gate) z) ≡ None
-    size_unread gate (Value word) = refl
-    size_unread gate Done = refl
-    size_unread gate Won = refl
-    size_unread gate (Lost word) = refl
+    size_unread gate (Value _) = refl
+    size_unread gate _ = refl
 
     -- its exchange is won, or it begins anew
     exchanged : (r : resets.Reset) → flip.wanted_at f (flip_stage.Exchanges r) ≡ Some q → reset_of (flip.next_stage f (flip_stage.Exchanges r) reply) ≡ None
@@ -304,10 +285,8 @@ module _ (h : Heap) (p o : Plain) (k : ℕ) (x : Held) (q : Step) (st : WorkersS
     by_reset f staged unmarked (Some r) has = still_next unmarked j y y was_there will_be_there f f staged staged r has has refl own
 
     by_told : (t : Told) → u ≡ t → (f : Flipping) → y.stage ≡ Flips f → HasNextSize h.pages later y
-    by_told Silent e f staged = by_reset f staged (λ pages marks. let a = sym e ∙ marks in cc) (reset_of f.stage) refl
-    by_told Empties e f staged = by_reset f staged (λ pages marks. let a = sym e ∙ marks in cc) (reset_of f.stage) refl
-    by_told (Answers task outcome) e f staged = by_reset f staged (λ pages marks. let a = sym e ∙ marks in cc) (reset_of f.stage) refl
     by_told (Marks pages) e f staged = at_mark pages f e staged
+    by_told _ e f staged = by_reset f staged (λ pages marks. let a = sym e ∙ marks in cc) (reset_of f.stage) refl
 
     other_by : (stage : Stage) → y.stage ≡ stage → HasNextSize h.pages later y
     other_by (Flips f) staged = by_told u refl f staged

@@ -14,7 +14,7 @@ use Rattle.alloc_end.specs.declared.allocated.Allocated.{Allocated}
 use Rattle.alloc_end.specs.declared.run.Run.{Run}
 use Rattle.alloc_end.specs.declared.new_pages.NewPages.{NewPages}
 use Rattle.alloc_end.specs.declared.place_stage.PlaceStage.{PlaceStage}
-use Rattle.alloc_end.specs.declared.place_stage.PlaceStage.TheVariants.{LoadsTraced, LoadsSize, LoadsArea, ExchangesArea, StoresZero, StoresNew, OpensPage, StoresCount, StoresTarget, StoresLink, StoresHeader, Ended}
+use Rattle.alloc_end.specs.declared.place_stage.PlaceStage.TheVariants.{LoadsTraced, LoadsSize, LoadsArea, StoresZero, StoresNew, OpensPage, StoresCount, StoresTarget, StoresLink, StoresHeader, Ended}
 use Rattle.alloc_end.specs.Place.{Placing, pages_for, size_of, stores_first, words_for}
 use Rattle.alloc_end.specs.Place as place
 use Rattle.alloc_end.specs.Soundness.{IsPlacingGoing}
@@ -33,8 +33,8 @@ use Rattle.gc_worker.specs.Steps.Goes.{Is}
 use Rattle.gc_worker.specs.Workers.Held.{Held, at_stage, pages_needed, header_for, pages_asked}
 use Rattle.gc_worker.specs.Workers.Knows.{post_in}
 use Rattle.gc_worker.specs.Laws.Step.{Heap, WorkersStand, read}
-use Rattle.gc_worker.specs.declared.calls.did.Did.TheVariants.{Done, Trap}
-use Rattle.gc_worker.specs.Steps.Turned.{Told, Silent, Empties, Answers, Marks, guards, told, told_effect, told_place, turned, turned_guard, turned_place}
+use Rattle.gc_worker.specs.declared.calls.did.Did.TheVariants.{Done}
+use Rattle.gc_worker.specs.Steps.Turned.{Told, Silent, Answers, Marks, guards, told, told_effect, told_place, turned, turned_guard, turned_place}
 use Rattle.gc_worker.proofs.Plain.AnswerSteps.{its_mutator}
 use Rattle.gc_worker.proofs.Stages.Gate.Resuming.{end_none}
 use Rattle.gc_worker.proofs.Plain.NewRecords.{asked_is, plain_pages}
@@ -46,11 +46,9 @@ use Rattle.gc_worker.proofs.Plain.Actions.{plain_value}
 
 -- nothing is claimed, and nothing was set aside
 nothing : (x y : Held) (claims : ℕ) → claims ≡ 0 → set_aside x ≡ 0 → (t : Told) → SetsAside x claims y t
-nothing x y claims none empty Silent = omega (arith, none, empty)
-nothing x y claims none empty Empties = omega (arith, none, empty)
 nothing x y claims none empty (Answers task Done) = none
-nothing x y claims none empty (Answers task (Trap end)) = omega (arith, none, empty)
 nothing x y claims none empty (Marks asked) = tt
+nothing x y claims none empty _ = omega (arith, none, empty)
 
 -- the pages that the record needs
 asks : (x : Held) (header : Header) → header_for x ≡ Some header → words_for header ≡ PAGE_WORDS * pages_needed x
@@ -107,41 +105,22 @@ module _ (x : Held) (z : Placing) (task : IsMaking x.account x.registers x.task)
   by_place LoadsTraced reply going = nothing (at LoadsTraced) (turned (at LoadsTraced) reply) 0 refl refl (told (at LoadsTraced) reply)
   by_place (LoadsSize traced) reply going = nothing (at (LoadsSize traced)) (turned (at (LoadsSize traced)) reply) 0 refl refl (told (at (LoadsSize traced)) reply)
   by_place (LoadsArea traced size) reply going = nothing (at (LoadsArea traced size)) (turned (at (LoadsArea traced size)) reply) 0 refl refl (told (at (LoadsArea traced size)) reply)
-  by_place (ExchangesArea f) (replies.Value word) going = omega arith
-  by_place (ExchangesArea f) replies.Done going = omega arith
-  by_place (ExchangesArea f) replies.Won going = omega arith
-  by_place (ExchangesArea f) (replies.Lost word) going = omega arith
-  by_place (StoresZero new) (replies.Value word) going = omega arith
   by_place (StoresZero new) replies.Done going =
       clears new (record { first = new.first; next = new.next + 1 }) (record { first = new.first; next = page_of new.first }) (nat_lt (new.next + 1) (new.first + words_for z.header))
-  by_place (StoresZero new) replies.Won going = omega arith
-  by_place (StoresZero new) (replies.Lost word) going = omega arith
-  by_place (StoresNew new) (replies.Value word) going = omega arith
   by_place (StoresNew new) replies.Done going = within (StoresNew new) 0 (record z { stage = OpensPage new }) refl (omega arith)
-  by_place (StoresNew new) replies.Won going = omega arith
-  by_place (StoresNew new) (replies.Lost word) going = omega arith
-  by_place (OpensPage new) (replies.Value word) going = omega arith
   by_place (OpensPage new) replies.Done going =
       opens new (record { first = new.first; next = new.next + 1 }) (record { at = new.first; end = new.first + words_for z.header }) z.header.kind (nat_lt (new.next + 1) (page_of new.first + pages_for (size_of z.header)))
-  by_place (OpensPage new) replies.Won going = omega arith
-  by_place (OpensPage new) (replies.Lost word) going = omega arith
-  by_place StoresCount (replies.Value word) going = within StoresCount 0 (record z { stage = StoresCount }) refl (omega arith)
   by_place StoresCount replies.Done going = within StoresCount 0 (record z { stage = StoresHeader }) refl (omega arith)
-  by_place StoresCount replies.Won going = within StoresCount 0 (record z { stage = StoresCount }) refl (omega arith)
-  by_place StoresCount (replies.Lost word) going = within StoresCount 0 (record z { stage = StoresCount }) refl (omega arith)
-  by_place StoresTarget (replies.Value word) going = within StoresTarget 0 (record z { stage = StoresTarget }) refl (omega arith)
+  by_place StoresCount _ going = within StoresCount 0 (record z { stage = StoresCount }) refl (omega arith)
   by_place StoresTarget replies.Done going = within StoresTarget 0 (record z { stage = StoresLink }) refl (omega arith)
-  by_place StoresTarget replies.Won going = within StoresTarget 0 (record z { stage = StoresTarget }) refl (omega arith)
-  by_place StoresTarget (replies.Lost word) going = within StoresTarget 0 (record z { stage = StoresTarget }) refl (omega arith)
-  by_place StoresLink (replies.Value word) going = within StoresLink 0 (record z { stage = StoresLink }) refl (omega arith)
+  by_place StoresTarget _ going = within StoresTarget 0 (record z { stage = StoresTarget }) refl (omega arith)
   by_place StoresLink replies.Done going = within StoresLink 0 (record z { stage = StoresHeader }) refl (omega arith)
-  by_place StoresLink replies.Won going = within StoresLink 0 (record z { stage = StoresLink }) refl (omega arith)
-  by_place StoresLink (replies.Lost word) going = within StoresLink 0 (record z { stage = StoresLink }) refl (omega arith)
-  by_place StoresHeader (replies.Value word) going = within StoresHeader 0 (record z { stage = StoresHeader }) refl (omega arith)
+  by_place StoresLink _ going = within StoresLink 0 (record z { stage = StoresLink }) refl (omega arith)
   by_place StoresHeader replies.Done going = places
-  by_place StoresHeader replies.Won going = within StoresHeader 0 (record z { stage = StoresHeader }) refl (omega arith)
-  by_place StoresHeader (replies.Lost word) going = within StoresHeader 0 (record z { stage = StoresHeader }) refl (omega arith)
+  by_place StoresHeader _ going = within StoresHeader 0 (record z { stage = StoresHeader }) refl (omega arith)
   by_place (Ended result) reply going = absurd going
+  by_place _ (replies.Value _) going = omega arith
+  by_place _ _ going = omega arith
 
 -- a look before a write leaves what is set aside
 looks : (x y : Held) (g h : Guarding) (z : Placing) (turn : Turn MayWrite) → SetsAside (at_stage x (Guards g (OfPlace z))) 0 (turned_guard y h (OfPlace z) turn) Silent

@@ -54,7 +54,7 @@ use Rattle.gc_worker.specs.declared.stage.Stage.TheVariants.{Looks, Passes, Flip
 use Rattle.gc_worker.specs.Steps.Goes.{Is}
 use Rattle.gc_worker.specs.Workers.Held.{Held, at_stage, has_seen_flip}
 use Rattle.gc_worker.specs.Laws.Step.{Heap, FlipsOnce, FlipsWhereTold, WorkersStand, read, held_at, epoch_of}
-use Rattle.gc_worker.specs.Steps.Turned.{Told, Silent, Empties, Answers, Marks, told, told_at, told_flip}
+use Rattle.gc_worker.specs.Steps.Turned.{Told, Marks, told, told_at, told_flip}
 use Rattle.gc_worker.specs.Steps.Wanted.{wanted, wanted_at}
 use Rattle.record_access.proofs.RowsFit as access_rows
 use Rattle.gc_worker.proofs.Words.Areas.{is_space}
@@ -269,10 +269,8 @@ module _ (h : Heap) (p o : Plain) (k : ℕ) (x : Held) (q : Step) (st : WorkersS
   grows follows = subst (Grows h.pages (size_of h.pages h.words)) (sym follows.1) (next_grows h.pages (has_seen_flip x) (size_of h.pages h.words) follows.0)
 
   by_told : (t : Told) → told x reply ≡ t → FlipsWhereTold h.pages h.words later x t → SizeGoes h.pages h.words later t
-  by_told Silent e flips = same_epoch flips.epoch
-  by_told Empties e flips = same_epoch flips.epoch
-  by_told (Answers task outcome) e flips = same_epoch flips.epoch
   by_told (Marks pages) e flips = grows (at_flip pages e flips).5
+  by_told _ e flips = same_epoch flips.epoch
 
   flips_told : FlipsWhereTold h.pages h.words later x (told x reply)
   flips_told = (steps_keep h p o k x q st l holds asked).flips

@@ -8,7 +8,7 @@ use Rattle.space_map.specs.AreaWord.{decode_area}
 use Rattle.space_map.specs.Spaces.{page_of}
 use Rattle.alloc_end.specs.declared.new_pages.NewPages.{NewPages}
 use Rattle.alloc_end.specs.declared.place_stage.PlaceStage.{PlaceStage}
-use Rattle.alloc_end.specs.declared.place_stage.PlaceStage.TheVariants.{LoadsTraced, LoadsSize, LoadsArea, ExchangesArea, StoresZero, StoresNew, OpensPage, StoresCount, StoresTarget, StoresLink, StoresHeader, Ended}
+use Rattle.alloc_end.specs.declared.place_stage.PlaceStage.TheVariants.{LoadsArea, ExchangesArea, StoresZero, StoresNew, OpensPage, Ended}
 use Rattle.alloc_end.specs.Soundness.{IsPlacingGoing}
 use Rattle.atom_store.specs.declared.reply.Reply.{Reply}
 use Rattle.atom_store.specs.declared.reply.Reply.TheVariants as replies
@@ -53,9 +53,7 @@ module _ (size : ℕ) (p : place.Placing) where
 
   by_kind : (kind : HeaderKind) → IsSized size (place.told_at (place.stores_first kind))
   by_kind header_kinds.Fields = tt
-  by_kind header_kinds.Raw = tt
-  by_kind header_kinds.Mixed = tt
-  by_kind header_kinds.Weak = tt
+  by_kind _ = tt
 
   by_opened : (new : NewPages) (b : Bool)
       → IsSized size (place.told (cond b (place.at_stage (at (OpensPage new)) (place.readies p.snap (record { first = new.first; next = new.next + 1 })))
@@ -65,48 +63,9 @@ module _ (size : ℕ) (p : place.Placing) where
 
   -- it has read the size before
   pub sized : (stage : PlaceStage) (reply : Reply) → IsPlacingGoing stage → ((found : ℕ) → size_at stage ≡ Some found → found ≡ size) → IsSized size (place.told (place.taken_at (at stage) stage reply))
-  sized LoadsTraced (replies.Value word) going read = tt
-  sized LoadsTraced replies.Done going read = tt
-  sized LoadsTraced replies.Won going read = tt
-  sized LoadsTraced (replies.Lost word) going read = tt
-  sized (LoadsSize traced) (replies.Value word) going read = tt
-  sized (LoadsSize traced) replies.Done going read = tt
-  sized (LoadsSize traced) replies.Won going read = tt
-  sized (LoadsSize traced) (replies.Lost word) going read = tt
   sized (LoadsArea traced found) (replies.Value word) going read = by_area traced found (decode_area word) (read found refl)
-  sized (LoadsArea traced found) replies.Done going read = tt
-  sized (LoadsArea traced found) replies.Won going read = tt
-  sized (LoadsArea traced found) (replies.Lost word) going read = tt
-  sized (ExchangesArea f) (replies.Value word) going read = tt
-  sized (ExchangesArea f) replies.Done going read = tt
-  sized (ExchangesArea f) replies.Won going read = tt
-  sized (ExchangesArea f) (replies.Lost word) going read = tt
-  sized (StoresZero new) (replies.Value word) going read = tt
   sized (StoresZero new) replies.Done going read = by_cleared new (nat_lt (new.next + 1) (new.first + place.words_for p.header))
-  sized (StoresZero new) replies.Won going read = tt
-  sized (StoresZero new) (replies.Lost word) going read = tt
-  sized (StoresNew new) (replies.Value word) going read = tt
-  sized (StoresNew new) replies.Done going read = tt
-  sized (StoresNew new) replies.Won going read = tt
-  sized (StoresNew new) (replies.Lost word) going read = tt
-  sized (OpensPage new) (replies.Value word) going read = tt
   sized (OpensPage new) replies.Done going read = by_opened new (nat_lt (new.next + 1) (page_of new.first + place.pages_for (place.size_of p.header)))
-  sized (OpensPage new) replies.Won going read = tt
-  sized (OpensPage new) (replies.Lost word) going read = tt
-  sized StoresCount (replies.Value word) going read = tt
-  sized StoresCount replies.Done going read = tt
-  sized StoresCount replies.Won going read = tt
-  sized StoresCount (replies.Lost word) going read = tt
-  sized StoresTarget (replies.Value word) going read = tt
-  sized StoresTarget replies.Done going read = tt
-  sized StoresTarget replies.Won going read = tt
-  sized StoresTarget (replies.Lost word) going read = tt
-  sized StoresLink (replies.Value word) going read = tt
-  sized StoresLink replies.Done going read = tt
-  sized StoresLink replies.Won going read = tt
-  sized StoresLink (replies.Lost word) going read = tt
-  sized StoresHeader (replies.Value word) going read = tt
-  sized StoresHeader replies.Done going read = tt
-  sized StoresHeader replies.Won going read = tt
-  sized StoresHeader (replies.Lost word) going read = tt
   sized (Ended result) reply going read = absurd going
+  sized _ (replies.Value _) going read = tt
+  sized _ _ going read = tt

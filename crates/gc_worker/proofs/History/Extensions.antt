@@ -19,14 +19,12 @@ use Rattle.gc_worker.specs.History.Legal.{IsLegal, after_all, after_call, worker
 use Rattle.gc_worker.proofs.Plain.Emptied.{same_serial}
 
 pub legal_more : (p o : Plain) (log : List Entry) (m : ℕ) (t : Told) → IsLegal p log → IsAnswered (after_all p log) m t → IsLegal p (log ++ extra o m t)
-legal_more p o [] m Silent h e = tt
-legal_more p o [] m Empties h e = tt
 legal_more p o [] m (Answers task Done) h e = (e, tt)
 legal_more p o [] m (Answers task (Trap end)) h e = (e, tt)
-legal_more p o [] m (Marks asked) h e = tt
 legal_more p o (Made c ∷ es) m t h e = (h.0, legal_more (after_call p c) o es m t h.1 e)
 legal_more p o (Exchanged by asked ∷ es) m t h e = legal_more p o es m t h e
 legal_more p o (Emptied cells ∷ es) m t h e = legal_more (with_emptied p cells) o es m t h e
+legal_more p o [] m _ h e = tt
 
 pub legal_last : (p : Plain) (log : List Entry) (c : Call) → IsLegal p (log ++ Made c ∷ []) → ComesTo (after_all p log) c.by c.task c.did
 legal_last p [] c h = h.0
@@ -35,23 +33,18 @@ legal_last p (Exchanged by asked ∷ es) c h = legal_last p es c h
 legal_last p (Emptied cells ∷ es) c h = legal_last (with_emptied p cells) es c h
 
 pub after_more : (p o : Plain) (log : List Entry) (m : ℕ) (t : Told) → after_all p (log ++ extra o m t) ≡ story_told (after_all p log) o m t
-after_more p o [] m Silent = refl
-after_more p o [] m Empties = refl
-after_more p o [] m (Answers task Done) = refl
-after_more p o [] m (Answers task (Trap end)) = refl
-after_more p o [] m (Marks asked) = refl
 after_more p o (Made c ∷ es) m t = after_more (after_call p c) o es m t
 after_more p o (Exchanged by asked ∷ es) m t = after_more p o es m t
 after_more p o (Emptied cells ∷ es) m t = after_more (with_emptied p cells) o es m t
+after_more p o [] m (Answers _ Done) = refl
+after_more p o [] m _ = refl
 
 pub flip_more : (p o at : Plain) (log : List Entry) (m : ℕ) (t : Told) → flip_from p o (log ++ extra at m t) ≡ at_flip (after_all p log) (flip_from p o log) t
-flip_more p o at [] m Silent = refl
-flip_more p o at [] m Empties = refl
-flip_more p o at [] m (Answers task outcome) = refl
-flip_more p o at [] m (Marks asked) = refl
 flip_more p o at (Made c ∷ es) m t = flip_more (after_call p c) o at es m t
 flip_more p o at (Exchanged by asked ∷ es) m t = flip_more p p at es m t
 flip_more p o at (Emptied cells ∷ es) m t = flip_more (with_emptied p cells) o at es m t
+flip_more p o at [] m Silent = refl
+flip_more p o at [] m _ = refl
 
 -- ---- the calls of one worker
 

@@ -6,11 +6,11 @@ use Rattle.plain_state.specs.State.{Plain}
 use Rattle.mutator_asm.specs.declared.instr.Instr.{Instr}
 use Rattle.atom_store.specs.declared.reply.Reply.{Reply}
 use Rattle.gate_core.specs.declared.passage.Passage.{Passage}
-use Rattle.gate_core.specs.declared.passage.Passage.TheVariants.{Look, Attach, Park, Request, Resume, Forwarded, Leave, Clear}
+use Rattle.gate_core.specs.declared.passage.Passage.TheVariants.{Park, Request, Resume, Forwarded}
 use Rattle.fault_duty.specs.Duty as duty
 use Rattle.gc_worker.specs.declared.stage.after.After.{After}
 use Rattle.gc_worker.specs.declared.stage.Stage.{Stage}
-use Rattle.gc_worker.specs.declared.stage.Stage.TheVariants.{Looks, Passes, Flips, Forwards, Accesses, Places, Serves, Scans, Evacuates, Opens, Recalls, Guards, Checkpoints, BeginsCheckpoint, Gone}
+use Rattle.gc_worker.specs.declared.stage.Stage.TheVariants.{Looks, Passes, Flips, Accesses, Places, Serves, Guards, BeginsCheckpoint, Gone}
 use Rattle.gc_worker.specs.declared.task.Task.{Task}
 use Rattle.gc_worker.specs.declared.task.Task.TheVariants.{Calls, Stops}
 use Rattle.gc_worker.specs.Plain.Answer.{ComesTo}
@@ -29,31 +29,22 @@ use Rattle.gc_worker.proofs.Plain.Quiet.{IsQuiet, rounds_are_quiet}
 -- ---- who is in a call has begun its instruction
 
 past_passage : (passage : Passage) (after : After) → IsInPassage passage after → IsPastAfter after
-past_passage Look after call = absurd call
-past_passage Attach after call = absurd call
 past_passage Park after call = call
 past_passage Request after call = call
 past_passage (Resume epoch) after call = call
 past_passage Forwarded after call = call
-past_passage Leave after call = absurd call
-past_passage Clear after call = absurd call
+past_passage _ after call = absurd call
 
 pub past_look : (stage : Stage) → IsInCall stage → IsPastLook stage
 past_look Looks call = absurd call
 past_look (Passes g after) call = past_passage g.passage after call
 past_look (Flips f) call = tt
-past_look (Forwards w) call = call
 past_look (Accesses a) call = tt
 past_look (Places p) call = tt
-past_look (Serves d back) call = call
-past_look (Scans s back) call = call
-past_look (Evacuates v s back) call = call
-past_look (Opens o s back) call = call
-past_look (Recalls r after) call = call
 past_look (Guards g write) call = tt
-past_look (Checkpoints r goal) call = call
 past_look (BeginsCheckpoint s) call = tt
 past_look Gone call = absurd call
+past_look _ call = call
 
 -- ---- a full heap is found by an instruction
 
@@ -82,14 +73,6 @@ module _ (n mutators k : ℕ) (y : Held) (reply : Reply) (fits : Fits n mutators
       by_stage (Accesses a) at fit tells = by_task fit.executes.instr fit.executes.task_is
       by_stage (Places p) at fit tells = by_task fit.0.executes.instr fit.0.executes.task_is
       by_stage (Flips f) at fit tells = by_task fit.0.executes.instr fit.0.executes.task_is
-      by_stage (Passes g after) at fit tells = absurd (cc)
-      by_stage (Forwards w) at fit tells = absurd (cc)
       by_stage (Serves d back) at fit tells = absurd (subst IsQuiet tells (rounds_are_quiet (duty.told (duty.taken d reply))))
-      by_stage (Scans s back) at fit tells = absurd (cc)
-      by_stage (Evacuates v s back) at fit tells = absurd (cc)
-      by_stage (Opens o s back) at fit tells = absurd (cc)
-      by_stage (Recalls r after) at fit tells = absurd (cc)
-      by_stage (Guards g write) at fit tells = absurd (cc)
-      by_stage (Checkpoints r goal) at fit tells = absurd (cc)
       by_stage (BeginsCheckpoint s) at fit tells = by_task fit.instr fit.task_is
-      by_stage Gone at fit tells = absurd (cc)
+      by_stage _ at fit tells = absurd (cc)

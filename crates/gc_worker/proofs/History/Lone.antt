@@ -71,9 +71,7 @@ module _ (code : List (List Instr)) (turns : ℕ) where
     acts_behind : (s : Story) (traced : List Mark) → list_all is_traced traced ≡ true → EachActs code turns s (traced ++ full ∷ rest) → end_of s.now m ≡ Some None
     acts_behind s [] all each = each.0.0
     acts_behind s (Traced ∷ traced) all each = sym (traced_ends s m) ∙ acts_behind (story_marked code turns s Traced) traced all each.1
-    acts_behind s (Step j ∷ traced) all each = absurd (let never = all in cc)
-    acts_behind s (Flip pages ∷ traced) all each = absurd (let never = all in cc)
-    acts_behind s (Full j pages left words ∷ traced) all each = absurd (let never = all in cc)
+    acts_behind s _ all each = absurd (let never = all in cc)
 
     -- the mark before, but for those of tracing, is a flip, if one came since the last step
     last_is : (s : Story) (since : ℕ → Bool) (mark : Mark) (traced : List Mark) → list_all is_traced traced ≡ true → IsLone s → EachActs code turns s (mark ∷ traced ++ full ∷ rest)
@@ -150,23 +148,17 @@ module _ (limit least : ℕ) (code : List (List Instr)) (turns : ℕ) (one : len
   traced_live : (s : Story) (traced : List Mark) → list_all is_traced traced ≡ true → (live : ℕ) → IsLive s.now live → IsLive (story_after code turns s traced).now live
   traced_live s [] all live is = is
   traced_live s (Traced ∷ traced) all live is = traced_live (story_marked code turns s Traced) traced all live (live_emptied s.flip s.now live is)
-  traced_live s (Step j ∷ traced) all live is = absurd (let never = all in cc)
-  traced_live s (Flip pages ∷ traced) all live is = absurd (let never = all in cc)
-  traced_live s (Full j pages left words ∷ traced) all live is = absurd (let never = all in cc)
+  traced_live s _ all live is = absurd (let never = all in cc)
 
   traced_made : (s : Story) (made : ℕ) (traced : List Mark) → list_all is_traced traced ≡ true → made_after code turns s made traced ≡ made
   traced_made s made [] all = refl
   traced_made s made (Traced ∷ traced) all = traced_made (story_marked code turns s Traced) made traced all
-  traced_made s made (Step j ∷ traced) all = absurd (let never = all in cc)
-  traced_made s made (Flip pages ∷ traced) all = absurd (let never = all in cc)
-  traced_made s made (Full j pages left words ∷ traced) all = absurd (let never = all in cc)
+  traced_made s made _ all = absurd (let never = all in cc)
 
   traced_flip : (s : Story) (traced : List Mark) → list_all is_traced traced ≡ true → (story_after code turns s traced).flip ≡ s.flip
   traced_flip s [] all = refl
   traced_flip s (Traced ∷ traced) all = traced_flip (story_marked code turns s Traced) traced all
-  traced_flip s (Step j ∷ traced) all = absurd (let never = all in cc)
-  traced_flip s (Flip pages ∷ traced) all = absurd (let never = all in cc)
-  traced_flip s (Full j pages left words ∷ traced) all = absurd (let never = all in cc)
+  traced_flip s _ all = absurd (let never = all in cc)
 
   -- right after a flip what was live then is live now, and no record was made since
   after_flip : (front : List Mark) → EndsWithFlip front → ((live : ℕ) → IsLive (after front).flip live → IsLive (after front).now live) × (made_since code turns front ≡ 0)

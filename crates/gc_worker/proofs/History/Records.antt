@@ -5,7 +5,7 @@ use Rattle.std.specs.Result.{IfOk}
 use Rattle.std.proofs.lemmas.Bool.{and_parts, ltb-true}
 use Rattle.std.proofs.lemmas.List.{get_or-map}
 use Rattle.std.proofs.lemmas.Option.{get_or_from_slice_get}
-use Rattle.heap_words.specs.Decoded.{Decoded, NumberWord, PointerWord, HeaderWord, ForwardWord, BusyWord, Malformed, decode}
+use Rattle.heap_words.specs.Decoded.{Decoded, NumberWord, PointerWord, decode}
 use Rattle.plain_state.specs.declared.end.End.{End}
 use Rattle.plain_state.specs.declared.end.End.TheVariants.{OutputFull}
 use Rattle.plain_state.specs.declared.kind.Kind.{Kind}
@@ -55,10 +55,7 @@ module _ (x : Held) (q : Mutator) (eight : length x.registers ≡ REGISTERS) (va
       by_word : (d : Decoded) → decode (word r) ≡ d → IsValueAs d → as_number (seen_as d) ≡ Ok n → as_number (register q r) ≡ Ok n
       by_word (NumberWord m) is value e = ap as_number (get_or_from_slice_get q.registers r (Number m) (Number 0) (shows.numbers r m small is)) ∙ e
       by_word (PointerWord a) is value e = absurd (let never = e in cc)
-      by_word (HeaderWord kind len serial mutator) is value e = absurd value
-      by_word (ForwardWord len a) is value e = absurd value
-      by_word (BusyWord len k) is value e = absurd value
-      by_word Malformed is value e = absurd value
+      by_word _ is value e = absurd value
 
   operand_of : (y : Operand) (n : ℕ) → is_operand y ≡ true → operand sight y ≡ Ok n → operand q y ≡ Ok n
   operand_of (operands.Reg r) n valid e = number_of r n (ltb-true r REGISTERS valid) e
@@ -70,10 +67,7 @@ module _ (x : Held) (q : Mutator) (eight : length x.registers ≡ REGISTERS) (va
       by_word : (d : Decoded) → decode (word r) ≡ d → IsValueAs d → reference_in (seen_as d) ≡ Ok i → (j : Identity) × (reference_in (register q r) ≡ Ok j)
       by_word (PointerWord a) is value e = let p = shows.pointers r a small is in (p.0, ap reference_in (get_or_from_slice_get q.registers r (Reference p.0) (Number 0) p.1))
       by_word (NumberWord m) is value e = absurd (let never = e in cc)
-      by_word (HeaderWord kind len serial mutator) is value e = absurd value
-      by_word (ForwardWord len a) is value e = absurd value
-      by_word (BusyWord len k) is value e = absurd value
-      by_word Malformed is value e = absurd value
+      by_word _ is value e = absurd value
 
   -- ---- by instructions
 
@@ -140,30 +134,22 @@ module _ (x : Held) (q : Mutator) (eight : length x.registers ≡ REGISTERS) (va
   makes_same (instrs.Raw d y) valid = allocated Raw d y (second d _ valid)
   makes_same (instrs.Mix d y z) valid = let l = and_parts (is_register d && is_operand y) (is_operand z) valid in mixed d y z (second d (is_operand y) l.0) l.1
   makes_same (instrs.Weak d a) valid = cell d a (ltb-true a REGISTERS (second d _ valid))
-  makes_same (instrs.Li d n) valid = tt
-  makes_same (instrs.Mov d a) valid = tt
   makes_same (instrs.Add d a b) valid = computed _ operations.Add d a b
   makes_same (instrs.Sub d a b) valid = computed _ operations.Sub d a b
   makes_same (instrs.Mul d a b) valid = computed _ operations.Mul d a b
   makes_same (instrs.Div d a b) valid = computed _ operations.Div d a b
   makes_same (instrs.Rem d a b) valid = computed _ operations.Rem d a b
   makes_same (instrs.Lt d a b) valid = computed _ operations.Lt d a b
-  makes_same (instrs.Eq d a b) valid = tt
-  makes_same (instrs.Jmp target) valid = tt
-  makes_same (instrs.Jz a target) valid = tt
-  makes_same (instrs.Jal d target) valid = tt
   makes_same (instrs.Jr a) valid = if_ok-bind _ (as_number (register sight a)) _ (λ n. tt)
   makes_same (instrs.Ld d a y) valid = if_ok-bind _ (reference_in (register sight a)) _ (λ i. if_ok-bind _ (operand sight y) _ (λ n. tt))
   makes_same (instrs.St a y b) valid = if_ok-bind _ (reference_in (register sight a)) _ (λ i. if_ok-bind _ (operand sight y) _ (λ n. tt))
   makes_same (instrs.Cas d a y b c) valid = if_ok-bind _ (reference_in (register sight a)) _ (λ i. if_ok-bind _ (operand sight y) _ (λ n. tt))
   makes_same (instrs.Len d a) valid = if_ok-bind _ (reference_in (register sight a)) _ (λ i. tt)
-  makes_same (instrs.Isp d a) valid = tt
   makes_same (instrs.Get d y) valid = if_ok-bind _ (board_place sight y) _ (λ n. tt)
   makes_same (instrs.Put y a) valid = if_ok-bind _ (board_place sight y) _ (λ n. tt)
   makes_same (instrs.Swap d y) valid = if_ok-bind _ (board_place sight y) _ (λ n. tt)
   makes_same (instrs.Out a) valid = if_ok-bind _ (as_number (register sight a)) _ (λ n. printed _ n (nat_lt (length sight.printed) MOST_PRINTED))
-  makes_same instrs.Snap valid = tt
-  makes_same instrs.Halt valid = tt
+  makes_same _ valid = tt
 
   pub makes_its_record : (making : IsMaking x.account x.registers x.task) → (v : Value) × (action q making.executes.instr ≡ Ok (Makes making.making.kind making.making.into making.making.len v))
   makes_its_record making =

@@ -116,10 +116,8 @@ module _ (h : Heap) (k : ℕ) (y : Held) (q : Step) (below : k < length h.worker
   -- ---- the words claimed
 
   abbrev claims_after : Told → ℕ
-  claims_after Silent = c.claims + words_claimed y reply
-  claims_after Empties = c.claims + words_claimed y reply
-  claims_after (Answers task outcome) = c.claims + words_claimed y reply
   claims_after (Marks asked) = 0
+  claims_after _ = c.claims + words_claimed y reply
 
   -- the next epoch's size, if there is a flip, is that of the words
   abbrev sizes_after : Sizes
@@ -138,26 +136,20 @@ module _ (h : Heap) (k : ℕ) (y : Held) (q : Step) (below : k < length h.worker
   sizes_go u e = subst (SizeGoes n h.words words') e goes_size
 
   size_after : (u : Told) → SizeGoes n h.words words' u → size_of n words' ≡ size_now sizes_after (then_by u)
-  size_after Silent same = same ∙ (c.size ∙ sym (agree t.flips (omega arith)))
-  size_after Empties same = same ∙ (c.size ∙ sym (agree t.flips (omega arith)))
-  size_after (Answers task Done) same = same ∙ (c.size ∙ sym (agree t.flips (omega arith)))
-  size_after (Answers task (Trap end)) same = same ∙ (c.size ∙ sym (agree t.flips (omega arith)))
   size_after (Marks asked) grows = sym next_size
+  size_after (Answers _ Done) same = same ∙ (c.size ∙ sym (agree t.flips (omega arith)))
+  size_after _ same = same ∙ (c.size ∙ sym (agree t.flips (omega arith)))
 
   least_after : (u : Told) → SizeGoes n h.words words' u → b.sizes.least ≤ size_of n words'
-  least_after Silent same = let was = c.least in let size = c.size in omega (arith, was, size, same)
-  least_after Empties same = let was = c.least in let size = c.size in omega (arith, was, size, same)
-  least_after (Answers task outcome) same = let was = c.least in let size = c.size in omega (arith, was, size, same)
   least_after (Marks asked) grows =
       let was = c.least in let size = c.size in let within = (sizes_are_within h p o st).1 in
       let more = grown_within n (size_of n h.words) (size_of n words') within grows in
       omega (arith, was, size, more)
+  least_after _ same = let was = c.least in let size = c.size in omega (arith, was, size, same)
 
   low_after : (u : Told) → SizeGoes n h.words words' u → LowGoes n h.words words' (words_claimed y reply) u → low_of n words' + claims_after u ≡ PAGE_WORDS * size_of n words'
-  low_after Silent same low = let was = c.low in let size = c.size in omega (arith, low, was, same, size)
-  low_after Empties same low = let was = c.low in let size = c.size in omega (arith, low, was, same, size)
-  low_after (Answers task outcome) same low = let was = c.low in let size = c.size in omega (arith, low, was, same, size)
   low_after (Marks asked) grows low = omega (arith, low)
+  low_after _ same low = let was = c.low in let size = c.size in omega (arith, low, was, same, size)
 
   its_most : (task : Task) → y.task ≡ Some task → set_aside y ≤ PAGE_WORDS * pages_by_task t.now k (Some task)
   its_most task is =
@@ -165,15 +157,13 @@ module _ (h : Heap) (k : ℕ) (y : Held) (q : Step) (below : k < length h.worker
       (subst (λ (x : Held). set_aside x ≤ PAGE_WORDS * pages_by_task p k x.task) holds (aside_most h p o st k below))
 
   covers_after : (u : Told) → told y reply ≡ u → SetsAside y (words_claimed y reply) z u → claims_after u ≤ PAGE_WORDS * (then_by u).made + aside_in after
-  covers_after Silent e sets = let was = c.for_records in let change = aside_changes h k y q below holds in omega (arith, sets, was, change)
-  covers_after Empties e sets = let was = c.for_records in let change = aside_changes h k y q below holds in omega (arith, sets, was, change)
   covers_after (Answers task Done) e sets =
       let was = c.for_records in
       let change = aside_changes h k y q below holds in
       let most = its_most task (goes.answers task Done e).asked in
       omega (arith, sets, was, change, most)
-  covers_after (Answers task (Trap end)) e sets = let was = c.for_records in let change = aside_changes h k y q below holds in omega (arith, sets, was, change)
   covers_after (Marks asked) e sets = omega arith
+  covers_after _ e sets = let was = c.for_records in let change = aside_changes h k y q below holds in omega (arith, sets, was, change)
 
   -- where all have a flip since their last call no record was made since it
   none_after : (u : Told) → told y reply ≡ u → ((m : ℕ) → m < h.mutators → (then_by u).since m ≡ true) → (then_by u).made ≡ 0
@@ -191,10 +181,8 @@ module _ (h : Heap) (k : ℕ) (y : Held) (q : Step) (below : k < length h.worker
   -- ---- flips
 
   epoch_after : (u : Told) → FlipsWhereTold n h.words words' y u → epoch_of n words' ≡ (then_by u).flips
-  epoch_after Silent f = f.epoch ∙ c.epoch
-  epoch_after Empties f = f.epoch ∙ c.epoch
-  epoch_after (Answers task outcome) f = f.epoch ∙ c.epoch
   epoch_after (Marks asked) f = let is = f.epoch in let next = f.next in let was = c.epoch in omega (arith, is, next, was)
+  epoch_after _ f = f.epoch ∙ c.epoch
 
   -- a mutator that looks is of the gate's epoch
   at_look : k < h.mutators → y.stage ≡ Looks → t.flips ≡ y.epoch
@@ -232,9 +220,7 @@ module _ (h : Heap) (k : ℕ) (y : Held) (q : Step) (below : k < length h.worker
 
   more_flips : (u : Told) → t.flips ≤ (then_by u).flips
   more_flips Silent = omega arith
-  more_flips Empties = omega arith
-  more_flips (Answers task outcome) = omega arith
-  more_flips (Marks asked) = omega arith
+  more_flips _ = omega arith
 
   begun_after : (u : Told) (m : ℕ) → IsBegun (then_by u).flips m (held_at after m)
   begun_after u m few none past = let up = more_flips u in let was = by_worker few none past in omega (arith, up, was)
@@ -461,16 +447,7 @@ module _ (h : Heap) (k : ℕ) (y : Held) (q : Step) (below : k < length h.worker
 
   end_is : (task : Task) (end : End) → told y reply ≡ Answers task (Trap end) → IsFilledByEnd sizes_after tasks t k task end []
   end_is task (ends.HeapFull asked room live) e = is_filled task asked room live e
-  end_is task ends.Halt e = tt
-  end_is task ends.NotPointer e = tt
-  end_is task ends.NotNumber e = tt
-  end_is task ends.OutOfRange e = tt
-  end_is task ends.WeakCell e = tt
-  end_is task ends.IntoRaw e = tt
-  end_is task ends.ZeroDivisor e = tt
-  end_is task ends.JumpOut e = tt
-  end_is task ends.TurnsOut e = tt
-  end_is task ends.OutputFull e = tt
+  end_is task _ e = tt
 
   -- a flip
   module _ (asked : ℕ) (e : told y reply ≡ Marks asked) where
@@ -518,15 +495,13 @@ module _ (h : Heap) (k : ℕ) (y : Held) (q : Step) (below : k < length h.worker
       (cases_eq j k)
 
   tasks_go_on : (u : Told) → told y reply ≡ u → (j : ℕ) (task : Task) → tasks_held h.workers j ≡ Some task → next_task j (extra o k u) (tasks j) ≡ Some task
-  tasks_go_on Silent e j task is = same_task (subst IsNoAnswer (sym e) tt) j ∙ is
-  tasks_go_on Empties e j task is = same_task (subst IsNoAnswer (sym e) tt) j ∙ is
-  tasks_go_on (Marks asked) e j task is = same_task (subst IsNoAnswer (sym e) tt) j ∙ is
   tasks_go_on (Answers done outcome) e j task is = ⊎_elim
       (λ (same : j ≡ k).
       let was : Some done ≡ Some task = sym (goes.answers done outcome e).asked ∙ (sym (ap (λ (x : Held). x.task) holds) ∙ (ap (tasks_held h.workers) (sym same) ∙ is)) in
       ap (λ (b : Bool). cond b (Some done) (tasks j)) (eq-eqb k j (sym same)) ∙ was)
       (λ (other : j ≢ k). ap (λ (b : Bool). cond b (Some done) (tasks j)) (ne_eqb k j (λ f. other (sym f))) ∙ (ap (λ (x : Held). x.task) (other_holds j other) ∙ is))
       (cases_eq j k)
+  tasks_go_on _ e j task is = same_task (subst IsNoAnswer (sym e) tt) j ∙ is
 
   pub step_tallied : IsTallied least after first (log ++ extra (tally first log).flip k (told y reply))
   step_tallied = record {

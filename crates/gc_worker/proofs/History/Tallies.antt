@@ -18,7 +18,7 @@ use Rattle.gc_worker.specs.Laws.Growth.{Grows}
 use Rattle.gc_worker.specs.Plain.Stories.{story_told}
 use Rattle.gc_worker.specs.History.Legal.{EmptiesLost, after_all, extra, flip_from}
 use Rattle.gc_worker.specs.Laws.Step.{at_flip}
-use Rattle.gc_worker.specs.Steps.Turned.{Told, Silent, Empties, Answers, Marks}
+use Rattle.gc_worker.specs.Steps.Turned.{Told, Silent}
 
 -- ---- two histories, one after the other
 
@@ -40,15 +40,11 @@ tally_flip t (Emptied cells ∷ es) = tally_flip (after_entry t (Emptied cells))
 
 pub tally_more-now : (t : Tally) (o : Plain) (m : ℕ) (u : Told) → (tally t (extra o m u)).now ≡ story_told t.now o m u
 tally_more-now t o m Silent = refl
-tally_more-now t o m Empties = refl
-tally_more-now t o m (Answers task did) = refl
-tally_more-now t o m (Marks asked) = refl
+tally_more-now t o m _ = refl
 
 pub tally_more-flip : (t : Tally) (o : Plain) (m : ℕ) (u : Told) → (tally t (extra o m u)).flip ≡ at_flip t.now t.flip u
 tally_more-flip t o m Silent = refl
-tally_more-flip t o m Empties = refl
-tally_more-flip t o m (Answers task did) = refl
-tally_more-flip t o m (Marks asked) = refl
+tally_more-flip t o m _ = refl
 
 -- flips only come
 pub flips_most : (t : Tally) (es : List Entry) → t.flips ≤ (tally t es).flips
@@ -159,16 +155,7 @@ module _ (tasks later : Tasks) (more : List Entry) (z : Sizes) (in_use : ℕ →
 
   end_on : (t : Tally) (m : ℕ) (task : Task) (end : End) (es : List Entry) → t.flips ≤ last → IsFilledByEnd z tasks t m task end es → IsFilledByEnd sizes later t m task end (es ++ more)
   end_on t m task (ends.HeapFull asked room live) es few f = full_on t m task asked room live es few f
-  end_on t m task ends.Halt es few f = tt
-  end_on t m task ends.NotPointer es few f = tt
-  end_on t m task ends.NotNumber es few f = tt
-  end_on t m task ends.OutOfRange es few f = tt
-  end_on t m task ends.WeakCell es few f = tt
-  end_on t m task ends.IntoRaw es few f = tt
-  end_on t m task ends.ZeroDivisor es few f = tt
-  end_on t m task ends.JumpOut es few f = tt
-  end_on t m task ends.TurnsOut es few f = tt
-  end_on t m task ends.OutputFull es few f = tt
+  end_on t m task _ es few f = tt
 
   did_on : (t : Tally) (m : ℕ) (task : Task) (did : Did) (es : List Entry) → t.flips ≤ last → IsFilledBy z tasks t m task did es → IsFilledBy sizes later t m task did (es ++ more)
   did_on t m task Done es few f = tt

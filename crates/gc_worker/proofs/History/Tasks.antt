@@ -4,14 +4,14 @@ use Rattle.std.proofs.lemmas.Bool.{cases_eq}
 use Rattle.heap_state.specs.Functions.{sum_below}
 use Rattle.heap_state.proofs.Puts.{sum_below-same}
 use Rattle.gate_core.specs.declared.passage.Passage.{Passage}
-use Rattle.gate_core.specs.declared.passage.Passage.TheVariants.{Look, Attach, Park, Request, Resume, Forwarded, Leave, Clear}
+use Rattle.gate_core.specs.declared.passage.Passage.TheVariants.{Request}
 use Rattle.page_saves.specs.SaveRound.{SavingRound}
 use Rattle.gc_worker.specs.declared.stage.after.After.{After}
 use Rattle.gc_worker.specs.declared.stage.after.After.TheVariants as afters
 use Rattle.gc_worker.specs.declared.stage.goal.Goal.{Goal}
 use Rattle.gc_worker.specs.declared.stage.goal.Goal.TheVariants.{ForFlip, ForSnap, ForScanner}
 use Rattle.gc_worker.specs.declared.stage.Stage.{Stage}
-use Rattle.gc_worker.specs.declared.stage.Stage.TheVariants.{Looks, Passes, Flips, Forwards, Accesses, Places, Serves, Scans, Evacuates, Opens, Recalls, Guards, Checkpoints, BeginsCheckpoint, Gone}
+use Rattle.gc_worker.specs.declared.stage.Stage.TheVariants.{Looks, Passes, Flips, Places, Checkpoints}
 use Rattle.gc_worker.specs.declared.task.Task.{Task}
 use Rattle.gc_worker.specs.Workers.Begun.{IsPastLook}
 use Rattle.gc_worker.specs.Laws.Between.{Begins, with_task, with_worker}
@@ -38,13 +38,7 @@ first_request n size x task afters.Snaps f = tt
 
 first_passage : (n size : ℕ) (x : Held) (task : Task) (passage : Passage) (after : After) → IsFirstBy n size x passage after → IsFirstBy n size (with_task x task) passage after
 first_passage n size x task Request after f = first_request n size x task after f
-first_passage n size x task Look after f = tt
-first_passage n size x task Attach after f = tt
-first_passage n size x task Park after f = tt
-first_passage n size x task (Resume epoch) after f = tt
-first_passage n size x task Forwarded after f = tt
-first_passage n size x task Leave after f = tt
-first_passage n size x task Clear after f = tt
+first_passage n size x task _ after f = tt
 
 first_round : (n size : ℕ) (x : Held) (task : Task) (r : SavingRound) (goal : Goal) → IsFirstAt n size x (Checkpoints r goal) → IsFirstAt n size (with_task x task) (Checkpoints r goal)
 first_round n size x task r ForFlip f = f
@@ -54,19 +48,8 @@ first_round n size x task r ForScanner f = tt
 first_given : (n size : ℕ) (x : Held) (task : Task) (stage : Stage) → IsFirstAt n size x stage → IsFirstAt n size (with_task x task) stage
 first_given n size x task (Passes g after) f = first_passage n size x task g.passage after f
 first_given n size x task (Flips g) f = f
-first_given n size x task Looks f = tt
-first_given n size x task (Forwards w) f = tt
-first_given n size x task (Accesses a) f = tt
-first_given n size x task (Places p) f = tt
-first_given n size x task (Serves d back) f = tt
-first_given n size x task (Scans s back) f = tt
-first_given n size x task (Evacuates v s back) f = tt
-first_given n size x task (Opens o s back) f = tt
-first_given n size x task (Recalls r after) f = tt
-first_given n size x task (Guards g write) f = tt
 first_given n size x task (Checkpoints r goal) f = first_round n size x task r goal f
-first_given n size x task (BeginsCheckpoint s) f = tt
-first_given n size x task Gone f = tt
+first_given n size x task _ f = tt
 
 is_but : (was now : Held) → Begins was now → IsBut was now
 is_but was now (inl same) = record {

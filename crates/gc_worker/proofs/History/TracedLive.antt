@@ -4,7 +4,7 @@ use Rattle.std.specs.Option.{option_map}
 use Rattle.std.proofs.lemmas.List.Elements.{All-weaker}
 use Rattle.std.proofs.lemmas.Option.{same_Some}
 use Rattle.plain_state.specs.declared.kind.Kind.{Kind}
-use Rattle.plain_state.specs.declared.kind.Kind.TheVariants.{Fields, Raw, Mixed, Weak}
+use Rattle.plain_state.specs.declared.kind.Kind.TheVariants.{Weak}
 use Rattle.plain_state.specs.declared.value.Identity.{Identity}
 use Rattle.plain_state.specs.declared.value.Value.{Value}
 use Rattle.plain_state.specs.declared.value.Value.TheVariants.{Number}
@@ -17,10 +17,8 @@ use Rattle.plain_heap.proofs.Reaching.Emptying.{all-is, emptied_of_lost_cells}
 
 -- it is no cell
 no_cell : (k : Kind) (x : ℕ) → is_field k x ≡ true → is_cell k ≡ false
-no_cell Fields x field = refl
-no_cell Raw x field = refl
-no_cell (Mixed count) x field = refl
 no_cell Weak x field = absurd (cc)
+no_cell _ x field = refl
 
 -- and stays what it is
 as_it_was : (r : Record) → is_cell r.kind ≡ false → without_target r ≡ r

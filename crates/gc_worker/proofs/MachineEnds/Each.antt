@@ -2,7 +2,7 @@
 use Rattle.std.proofs.Common.{◌≡◌, ℕ, ◌+◌, ◌-◌, ◌==◌, Bool, true, false, cond, Option, Some, None, refl, sym, ap, subst, ◌∙◌, arith}
 use Rattle.std.specs.Prelude.{⊤}
 use Rattle.atom_store.specs.declared.reply.Reply.{Reply}
-use Rattle.atom_store.specs.declared.reply.Reply.TheVariants.{Value, Done, Won, Lost}
+use Rattle.atom_store.specs.declared.reply.Reply.TheVariants.{Value, Won}
 use Rattle.atom_store.specs.declared.turn.Turn.TheVariants.{Finished}
 use Rattle.record_layout.specs.declared.header.Header.{Header}
 use Rattle.alloc_end.specs.declared.allocated.Allocated.{Allocated}
@@ -11,7 +11,7 @@ use Rattle.alloc_end.specs.declared.run.Run.{Run}
 use Rattle.alloc_end.specs.declared.shortage.Shortage.{Shortage}
 use Rattle.alloc_end.specs.Place as place
 use Rattle.fault_duty.specs.declared.round_end.RoundEnd.{RoundEnd}
-use Rattle.fault_duty.specs.declared.round_end.RoundEnd.TheVariants.{ScanPage, ScanInPlace, Marked, Traced, AllLeft, NothingNow}
+use Rattle.fault_duty.specs.declared.round_end.RoundEnd.TheVariants.{Marked, Traced, NothingNow}
 use Rattle.fault_duty.specs.Duty as duty
 use Rattle.forwarding.specs.declared.to.To.{To}
 use Rattle.gate_core.specs.declared.flipped.Flipped.{Flipped}
@@ -38,11 +38,11 @@ use Rattle.page_scan.specs.Scanning as scan
 use Rattle.page_slots.specs.Open as open_page
 use Rattle.record_access.specs.declared.access.Access.{Access}
 use Rattle.record_access.specs.declared.accessed.Accessed.{Accessed}
-use Rattle.record_access.specs.declared.accessed.Accessed.TheVariants.{Faults, Awaits, Brings, Stored, Fails}
+use Rattle.record_access.specs.declared.accessed.Accessed.TheVariants.{Faults}
 use Rattle.gc_worker.specs.declared.stage.after.After.{After}
 use Rattle.gc_worker.specs.declared.stage.after.After.TheVariants as afters
 use Rattle.gc_worker.specs.declared.stage.back.Back.{Back}
-use Rattle.gc_worker.specs.declared.stage.back.Back.TheVariants.{ToAccess, ToTarget, ToPlace, ToSnap, ToScanner}
+use Rattle.gc_worker.specs.declared.stage.back.Back.TheVariants.{ToAccess, ToPlace}
 use Rattle.gc_worker.specs.declared.stage.goal.Goal.TheVariants.{ForFlip}
 use Rattle.gc_worker.specs.declared.stage.write.Write.{Write}
 use Rattle.gc_worker.specs.declared.stage.write.Write.TheVariants.{OfAccess, OfPlace}
@@ -92,8 +92,7 @@ no_running_on g before y after =
 
 no_asking : (g : gate.Passing) (before : After) (y : Held) (after : After) → IsSameMachine (Passes g before) (after_request y after) → ⊥
 no_asking g before y afters.Looks same = same
-no_asking g before y afters.Places same = same
-no_asking g before y afters.Snaps same = same
+no_asking g before y _ same = same
 
 -- who leaves, clears a request or says that its registers are forwarded is let through by any gate
 always_passes : (passage : Passage) → ((read : GateWord) → gate.allows passage read ≡ true) → ((word : ℕ) (read : GateWord) → gate.allowed passage word read ≡ gate_stage.Exchanges read) → (stage : GateStage) (reply : Reply)
@@ -105,14 +104,9 @@ always_passes passage allows exchanges gate_stage.Loads (Value loaded) going wor
         let e : gate.looked passage loaded (Some read) ≡ gate_stage.Exchanges read = ap (λ (b : Bool). cond b (gate.allowed passage loaded read) (gate_stage.Ended (passed.NotYet loaded))) (allows read) ∙ exchanges loaded read in
         let f = sym (ap gate.told_at e) ∙ ends in cc
     by_gate None ends = cc
-always_passes passage allows exchanges gate_stage.Loads Won going word ends = cc
-always_passes passage allows exchanges gate_stage.Loads (Lost lost) going word ends = cc
-always_passes passage allows exchanges gate_stage.Loads Done going word ends = cc
-always_passes passage allows exchanges (gate_stage.Exchanges read) Won going word ends = cc
-always_passes passage allows exchanges (gate_stage.Exchanges read) (Lost lost) going word ends = cc
-always_passes passage allows exchanges (gate_stage.Exchanges read) (Value value) going word ends = cc
-always_passes passage allows exchanges (gate_stage.Exchanges read) Done going word ends = cc
 always_passes passage allows exchanges (gate_stage.Ended result) reply going word ends = absurd going
+always_passes passage allows exchanges _ Won going word ends = cc
+always_passes passage allows exchanges _ _ going word ends = cc
 
 -- the gate doesn't let it in or run on yet
 pub passages_end : (x : Held) (g : gate.Passing) (before after : After) (reply : Reply) (passage : Passage) (result : Passed) → g.passage ≡ passage → (passage ≡ Look → ⊥) → IsPassingGoing g.stage
@@ -121,18 +115,15 @@ pub passages_end : (x : Held) (g : gate.Passing) (before after : After) (reply :
 passages_end x g before after reply Attach (passed.NotYet word) is look going ends same = (tt, (word, refl))
 passages_end x g before after reply (Resume epoch) (passed.NotYet word) is look going ends same = (tt, (word, refl))
 passages_end x g before after reply Park (passed.NotYet word) is look going ends same = absurd (no_passing_on g before x after same)
-passages_end x g before after reply Request (passed.NotYet word) is look going ends same = absurd (let e = sym is ∙ sym same in cc)
 passages_end x g before after reply Forwarded (passed.NotYet word) is look going ends same = absurd (always_passes Forwarded (λ read. refl) (λ loaded read. refl) g.stage reply going word ends)
 passages_end x g before after reply Leave (passed.NotYet word) is look going ends same = absurd (always_passes Leave (λ read. refl) (λ loaded read. refl) g.stage reply going word ends)
 passages_end x g before after reply Attach (passed.Went word) is look going ends same = absurd (no_running_on g before (in_epoch x (epoch_said x.epoch word)) afters.Looks same)
-passages_end x g before after reply Park (passed.Went word) is look going ends same = absurd (let e = sym is ∙ sym same in cc)
 passages_end x g before after reply Request (passed.Went word) is look going ends same = absurd (no_asking g before x after same)
 passages_end x g before after reply (Resume epoch) (passed.Went word) is look going ends same = absurd (no_running_on g before x after same)
-passages_end x g before after reply Forwarded (passed.Went word) is look going ends same = absurd (let e = sym is ∙ sym same in cc)
 passages_end x g before after reply Leave (passed.Went word) is look going ends same = absurd same
 passages_end x g before after reply Look result is look going ends same = absurd (look refl)
-passages_end x g before after reply Clear (passed.Went word) is look going ends same = absurd (let e = sym is ∙ sym same in cc)
 passages_end x g before after reply Clear (passed.NotYet word) is look going ends same = absurd (always_passes Clear (λ read. refl) (λ loaded read. refl) g.stage reply going word ends)
+passages_end x g before after reply _ _ is look going ends same = absurd (let e = sym is ∙ sym same in cc)
 
 -- ---- flips
 
@@ -168,11 +159,8 @@ registers_end x was w to is same =
 -- ---- accesses, allocations
 
 pub accesses_end : (x : Held) (was a : Access) (result : Accessed) → IsSameMachine (Accesses was) (accessed_by x a result).stage → ⊥
-accesses_end x was a (Faults page) same = same
-accesses_end x was a Awaits same = same
-accesses_end x was a (Brings into word) same = same
-accesses_end x was a Stored same = same
-accesses_end x was a (Fails why) same = same
+accesses_end x was a (Faults _) same = same
+accesses_end x was a _ same = same
 
 no_placing : (x : Held) (was : place.Placing) (s : Shortage) (b : Bool) → IsSameMachine (Places was) (cond b (ended x (end_by_shortage s)) (at_stage x (asks_flip x))).stage → ⊥
 no_placing x was s true same = same
@@ -195,48 +183,37 @@ allocations_end x was p (Full s) making same = short_end x was s s.traced same
 
 -- a scanner, and who is to load a target or begins a checkpoint, make another round at once
 abbrev pub RoundsAgain : Back → Type 0
-RoundsAgain ToScanner = ⊤
-RoundsAgain ToSnap = ⊤
-RoundsAgain (ToTarget a) = ⊤
 RoundsAgain (ToAccess a) = ⊥
 RoundsAgain ToPlace = ⊥
+RoundsAgain _ = ⊤
 
 no_round : (y : Held) (was : duty.Round) (o : Option Header) → IsSameMachine (Serves was ToPlace) (places y o) → ⊥
 no_round y was o = places_so (λ (t : Stage). IsSameMachine (Serves was ToPlace) t → ⊥) y (λ p same. same) (λ v write same. same) o (λ same. same)
 
 round_back : (y : Held) (was : duty.Round) (back : Back) → IsSameMachine (Serves was back) (goes_back y back) → RoundsAgain back
 round_back y was (ToAccess a) same = same
-round_back y was (ToTarget a) same = tt
 round_back y was ToPlace same = absurd (no_round y was (header_for y) same)
-round_back y was ToSnap same = tt
-round_back y was ToScanner same = tt
+round_back y was _ same = tt
 
 traced_back : (y : Held) (was : duty.Round) (back : Back) → IsSameMachine (Serves was back) (traced_by y back).stage → RoundsAgain back
 traced_back y was (ToAccess a) same = same
-traced_back y was (ToTarget a) same = tt
 traced_back y was ToPlace same = absurd (no_round y was (header_for y) same)
-traced_back y was ToSnap same = tt
-traced_back y was ToScanner same = tt
+traced_back y was _ same = tt
 
 pub rounds_end : (x : Held) (was d : duty.Round) (back : Back) (result : RoundEnd) → IsSameMachine (Serves was back) (served_by x d back result).stage → RoundsAgain back
-rounds_end x was d back (ScanPage page) same = absurd same
-rounds_end x was d back (ScanInPlace page) same = absurd same
 rounds_end x was d back Marked same = round_back (record x { epoch = d.epoch }) was back same
 rounds_end x was d back Traced same = traced_back (record x { epoch = d.epoch }) was back same
 rounds_end x was d back (NothingNow word) same = round_back (record x { epoch = d.epoch }) was back same
-rounds_end x was d back (AllLeft word) same = absurd same
+rounds_end x was d back _ same = absurd same
 
 pub scans_end : (x : Held) (was s : scan.Scanning) (back : Back) (result : Scanned) → IsSameMachine (Scans was back) (scanned_by x s back result).stage → ⊥
 scans_end x was s back (scanned.Ask old) same = same
 scans_end x was s back (scanned.Ended at_front) same = same
 
 opening_back : (y : Held) (was : open_page.Opening) (s : scan.Scanning) (back : Back) → IsSameMachine (Opens was s back) (goes_back y back) → ⊥
-opening_back y was s (ToAccess a) same = same
-opening_back y was s (ToTarget a) same = same
 opening_back y was s ToPlace same =
     places_so (λ (t : Stage). IsSameMachine (Opens was s ToPlace) t → ⊥) y (λ p same. same) (λ v write same. same) (header_for y) (λ same. same) same
-opening_back y was s ToSnap same = same
-opening_back y was s ToScanner same = same
+opening_back y was s _ same = same
 
 pub openings_end : (x : Held) (was : open_page.Opening) (s : scan.Scanning) (back : Back) → IsSameMachine (Opens was s back) (goes_back x back) → ⊥
 openings_end x was s back same = opening_back x was s back same

@@ -148,7 +148,6 @@ module _ (identity : ℕ → Identity) (m q : Mutator) (alike : AreAlikeBy ident
 
   pub acts_alike : (i : Instr) → IsTrue (is_valid i) → action q i ≡ plain_outcome identity (action m i)
   unfolding action
-  acts_alike (instrs.Li d n) valid = refl
   acts_alike (instrs.Mov d a) valid = ap (λ (v : Value). Ok (Sets d v)) (alike.values a (is_small a (second d _ valid)))
   acts_alike (instrs.Add d a b) valid = computed_of operations.Add d a b valid
   acts_alike (instrs.Sub d a b) valid = computed_of operations.Sub d a b valid
@@ -158,12 +157,10 @@ module _ (identity : ℕ → Identity) (m q : Mutator) (alike : AreAlikeBy ident
   acts_alike (instrs.Lt d a b) valid = computed_of operations.Lt d a b valid
   acts_alike (instrs.Eq d a b) valid = let l = and_parts (is_register d && is_register a) (is_register b) valid in
       ap (λ (same : Bool). Ok (Sets d (Number (one_if same)))) (alike.same a b (is_small a (second d (is_register a) l.0)) (is_small b l.1))
-  acts_alike (instrs.Jmp target) valid = refl
   acts_alike (instrs.Jz a target) valid =
       let l = and_parts (is_register a) _ valid in
       let zero_is = ap is_zero (alike.values a (is_small a l.0)) ∙ same_zero identity (register m a) in
       λ i. Ok (Jumps (cond (zero_is i) target (alike.next i)))
-  acts_alike (instrs.Jal d target) valid = refl
   acts_alike (instrs.Jr a) valid = with_number a (is_small a valid) _ _ (λ n. refl)
   acts_alike (instrs.New d x) valid = allocated Fields d x (second d _ valid)
   acts_alike (instrs.Raw d x) valid = allocated Raw d x (second d _ valid)
@@ -190,5 +187,4 @@ module _ (identity : ℕ → Identity) (m q : Mutator) (alike : AreAlikeBy ident
   acts_alike (instrs.Swap d x) valid = let l = and_parts (is_register d) (is_operand x) valid in
       with_board_place x l.1 _ _ (λ n. ap (λ (v : Value). Ok (Swaps d n v)) (alike.values d (is_small d l.0)))
   acts_alike (instrs.Out a) valid = with_number a (is_small a valid) _ _ (λ n. printed n)
-  acts_alike instrs.Snap valid = refl
-  acts_alike instrs.Halt valid = refl
+  acts_alike _ valid = refl

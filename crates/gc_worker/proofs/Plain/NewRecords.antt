@@ -6,7 +6,7 @@ use Rattle.std.specs.Option.{option_and_then, option_map}
 use Rattle.std.specs.Result.{IfOk}
 use Rattle.plain_state.specs.declared.end.End.{End}
 use Rattle.plain_state.specs.declared.kind.Kind.{Kind}
-use Rattle.plain_state.specs.declared.kind.Kind.TheVariants.{Fields, Raw, Mixed, Weak}
+use Rattle.plain_state.specs.declared.kind.Kind.TheVariants.{Fields, Mixed, Weak}
 use Rattle.heap_words.specs.declared.kind.Kind.TheVariants as headers
 use Rattle.plain_state.specs.declared.sizes.TheConstants.{LONGEST_RECORD}
 use Rattle.plain_state.specs.declared.value.Value.{Value}
@@ -37,34 +37,8 @@ use Rattle.gc_worker.specs.Plain.Seen.{Making, making_in, seen}
 
 -- what holds of all values holds of those that an instruction spells
 spelled : (i : Instr) → Spells (λ v. ⊤) ⊤ i
-spelled (instrs.Li d n) = tt
-spelled (instrs.Mov d a) = tt
-spelled (instrs.Add d a b) = tt
-spelled (instrs.Sub d a b) = tt
-spelled (instrs.Mul d a b) = tt
-spelled (instrs.Div d a b) = tt
-spelled (instrs.Rem d a b) = tt
-spelled (instrs.Lt d a b) = tt
-spelled (instrs.Eq d a b) = tt
-spelled (instrs.Jmp target) = tt
-spelled (instrs.Jz a target) = tt
-spelled (instrs.Jal d target) = tt
-spelled (instrs.Jr a) = tt
-spelled (instrs.New d x) = tt
-spelled (instrs.Raw d x) = tt
-spelled (instrs.Mix d fields raw) = tt
-spelled (instrs.Weak d a) = tt
-spelled (instrs.Ld d a x) = tt
-spelled (instrs.St a x b) = tt
-spelled (instrs.Cas d a x b c) = tt
-spelled (instrs.Len d a) = tt
-spelled (instrs.Isp d a) = tt
-spelled (instrs.Get d x) = tt
-spelled (instrs.Put x a) = tt
-spelled (instrs.Swap d x) = tt
-spelled (instrs.Out a) = tt
-spelled instrs.Snap = tt
-spelled instrs.Halt = tt
+spelled (instrs.Li _ _) = tt
+spelled _ = tt
 
 -- a new record may have so many values, and is one of zeros unless it is a cell
 pub makes_named : (q : Mutator) (i : Instr) (m : Making) (v : Value) → action q i ≡ Ok (Makes m.kind m.into m.len v) → FitsKind m.kind m.len × FillsKind (λ v. ⊤) m.kind v
@@ -75,42 +49,30 @@ makes_named q i m v is =
 -- nor is its header's length
 pub header_short : (kind : Kind) (n : ℕ) → FitsKind kind n → header_len kind n ≤ LONGEST_RECORD
 header_short Fields n fits = omega (arith, fits)
-header_short Raw n fits = omega (arith, fits)
-header_short (Mixed fields) n fits = omega (arith, fits)
-header_short Weak n fits = omega (arith, fits)
+header_short _ n fits = omega (arith, fits)
 
 -- it holds its fields
 pub fields_held : (kind : Kind) (n : ℕ) → FitsKind kind n → fields_end kind (header_len kind n + 1) ≤ header_len kind n + 1
-fields_held Fields n fits = omega arith
-fields_held Raw n fits = omega arith
 fields_held (Mixed fields) n fits = omega (arith, fits)
-fields_held Weak n fits = omega arith
+fields_held _ n fits = omega arith
 
 holds_by : (kind : Kind) (n : ℕ) → FitsKind kind n → header_kind kind ≡ headers.Mixed → fields_of kind < header_len kind n
-holds_by Fields n fits mixed = absurd (cc)
-holds_by Raw n fits mixed = absurd (cc)
 holds_by (Mixed fields) n fits mixed = omega (arith, fits)
-holds_by Weak n fits mixed = absurd (cc)
+holds_by _ n fits mixed = absurd (cc)
 
 -- a cell takes three words
 pub cell_size : (kind : Kind) (n : ℕ) → FitsKind kind n → kind ≡ Weak → header_len kind n + 1 ≡ 3
-cell_size Fields n fits e = absurd (cc)
-cell_size Raw n fits e = absurd (cc)
-cell_size (Mixed fields) n fits e = absurd (cc)
 cell_size Weak n fits e = omega (arith, fits)
+cell_size _ n fits e = absurd (cc)
 
 header_kind_cell : (kind : Kind) → header_kind kind ≡ headers.Weak → kind ≡ Weak
-header_kind_cell Fields e = absurd (cc)
-header_kind_cell Raw e = absurd (cc)
-header_kind_cell (Mixed fields) e = absurd (cc)
 header_kind_cell Weak e = refl
+header_kind_cell _ e = absurd (cc)
 
 -- its kind is the one that its header says, with its fields
 pub kind_said : (kind : Kind) → kind_with (header_kind kind) (fields_of kind) ≡ kind
 kind_said Fields = refl
-kind_said Raw = refl
-kind_said (Mixed fields) = refl
-kind_said Weak = refl
+kind_said _ = refl
 
 -- with the header it has as many words as the plain record
 pub sized : (kind : Kind) (n : ℕ) → n + (values_at kind + words_behind kind) ≡ header_len kind n + 1

@@ -18,7 +18,7 @@ use Rattle.mutator_asm.specs.Program.{instr_at}
 use Rattle.plain_heap.specs.declared.mark.Mark.{Mark}
 use Rattle.plain_heap.specs.declared.mark.Mark.TheVariants as marks
 use Rattle.plain_heap.specs.declared.action.Action.{Action}
-use Rattle.plain_heap.specs.declared.action.Action.TheVariants.{Sets, Jumps, Links, Prints, Makes, Measures, Loads, Stores, Exchanges, Gets, Puts, Swaps, Snaps}
+use Rattle.plain_heap.specs.declared.action.Action.TheVariants.{Makes, Loads, Stores, Exchanges}
 use Rattle.plain_heap.specs.Action.{◌>>=◌, action}
 use Rattle.plain_heap.specs.Call.{After, call, performed, value_in, store_in, may_hold, set_register, went_on}
 use Rattle.plain_heap.specs.Order.{ended_for_want, end_of, story_marked}
@@ -53,17 +53,8 @@ pub data Sort (m : ℕ) (why : End) : Type 0 where
   IsStep : end_mark m why ≡ marks.Step m → ((heap : Heap) (q : Mutator) (instr : Instr) → MayEnd m heap q instr why → call m heap q instr ≡ Err why) → Sort m why
 
 pub sort : (m : ℕ) (why : End) → Sort m why
-sort m ends.Halt = IsStep refl (λ heap q instr y. y)
-sort m ends.NotPointer = IsStep refl (λ heap q instr y. y)
-sort m ends.NotNumber = IsStep refl (λ heap q instr y. y)
-sort m ends.OutOfRange = IsStep refl (λ heap q instr y. y)
-sort m ends.WeakCell = IsStep refl (λ heap q instr y. y)
-sort m ends.IntoRaw = IsStep refl (λ heap q instr y. y)
-sort m ends.ZeroDivisor = IsStep refl (λ heap q instr y. y)
-sort m ends.JumpOut = IsStep refl (λ heap q instr y. y)
-sort m ends.TurnsOut = IsStep refl (λ heap q instr y. y)
-sort m ends.OutputFull = IsStep refl (λ heap q instr y. y)
 sort m (ends.HeapFull asked room live) = IsFull asked room live refl
+sort m _ = IsStep refl (λ heap q instr y. y)
 
 -- ---- counts
 
@@ -81,20 +72,12 @@ module _ (m : ℕ) (heap : Heap) (k : Mutator) (made : m < length heap.records) 
       by_held (Err why) = tt
 
   performed-counted : (act : Action) → IfOk (performed m heap k act) Counted
-  performed-counted (Sets d v) = omega arith
-  performed-counted (Jumps target) = omega arith
-  performed-counted (Links d target) = omega arith
-  performed-counted (Prints n) = omega arith
-  performed-counted Snaps = omega arith
   performed-counted (Makes kind d n v) = let g = gained_serial heap m (filled kind n v) made in omega (arith, g)
-  performed-counted (Measures d i) = omega arith
   performed-counted (Loads d i x) = if_ok-bind Counted (value_in heap i x) _ (λ v. omega arith)
   performed-counted (Stores i x v) = if_ok-bind Counted (value_in heap i x) _ (λ old. stores (went_on k) i x v (record_of heap i) refl)
   performed-counted (Exchanges d i x expected v) =
       performed_exchange m heap k d i x expected v Counted (omega arith) (stores (went_on (set_register k d (Number 1))) i x v (record_of heap i) refl)
-  performed-counted (Gets d x) = omega arith
-  performed-counted (Puts x v) = omega arith
-  performed-counted (Swaps d x v) = omega arith
+  performed-counted _ = omega arith
 
   pub call-counted : (i : Instr) → IfOk (call m heap k i) Counted
   unfolding call

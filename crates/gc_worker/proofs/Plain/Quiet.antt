@@ -2,9 +2,9 @@
 use Rattle.std.specs.Prelude.{◌≡◌, ℕ, ⊤}
 use Rattle.std.proofs.Common.{refl}
 use Rattle.atom_store.specs.declared.turn.Turn.{Turn}
-use Rattle.atom_store.specs.declared.turn.Turn.TheVariants.{More, Finished}
+use Rattle.atom_store.specs.declared.turn.Turn.TheVariants.{Finished}
 use Rattle.fault_duty.specs.declared.round_end.RoundEnd.{RoundEnd}
-use Rattle.fault_duty.specs.declared.round_end.RoundEnd.TheVariants.{ScanPage, ScanInPlace, Marked, Traced, AllLeft, NothingNow}
+use Rattle.fault_duty.specs.declared.round_end.RoundEnd.TheVariants.{ScanPage}
 use Rattle.gc_worker.specs.Steps.Turned.{Told, Silent, Empties, Answers, Marks, told_round}
 use Rattle.gc_worker.specs.Workers.Counted.{count_after}
 
@@ -16,13 +16,8 @@ IsQuiet (Marks asked) = ⊥
 
 -- so are those of a round
 pub rounds_are_quiet : (t : Turn RoundEnd) → IsQuiet (told_round t)
-rounds_are_quiet (Finished (ScanPage page)) = tt
-rounds_are_quiet (Finished (ScanInPlace page)) = tt
-rounds_are_quiet (Finished Marked) = tt
-rounds_are_quiet (Finished Traced) = tt
-rounds_are_quiet (Finished (NothingNow word)) = tt
-rounds_are_quiet (Finished (AllLeft word)) = tt
-rounds_are_quiet More = tt
+rounds_are_quiet (Finished (ScanPage _)) = tt
+rounds_are_quiet _ = tt
 
 -- nor is an instruction executed
 pub quiet_counts : (count : ℕ) (t : Told) → IsQuiet t → count_after count t ≡ count

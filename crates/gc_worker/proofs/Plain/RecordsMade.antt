@@ -71,34 +71,23 @@ makes_of q instr = None
 
 pub made_of : (q : Mutator) (instr : Instr) → making_in (action q instr) ≡ makes_of q instr
 unfolding action
-made_of q (instrs.Li d n) = refl
-made_of q (instrs.Mov d a) = refl
 made_of q (instrs.Add d a b) = computes_no_record operations.Add q d a b
 made_of q (instrs.Sub d a b) = computes_no_record operations.Sub q d a b
 made_of q (instrs.Mul d a b) = computes_no_record operations.Mul q d a b
 made_of q (instrs.Div d a b) = computes_no_record operations.Div q d a b
 made_of q (instrs.Rem d a b) = computes_no_record operations.Rem q d a b
 made_of q (instrs.Lt d a b) = computes_no_record operations.Lt q d a b
-made_of q (instrs.Eq d a b) = refl
-made_of q (instrs.Jmp target) = refl
-made_of q (instrs.Jz a target) = refl
-made_of q (instrs.Jal d target) = refl
 made_of q (instrs.Jr a) = no_record_then (as_number (register q a)) _ (λ n. refl)
-made_of q (instrs.New d x) = refl
-made_of q (instrs.Raw d x) = refl
 made_of q (instrs.Mix d fields raw) = ap making_in (mixed_makes q d fields raw)
-made_of q (instrs.Weak d a) = refl
 made_of q (instrs.Ld d a x) = no_record_then (reference_in (register q a)) _ (λ i. no_record_then (operand q x) _ (λ n. refl))
 made_of q (instrs.St a x b) = no_record_then (reference_in (register q a)) _ (λ i. no_record_then (operand q x) _ (λ n. refl))
 made_of q (instrs.Cas d a x b c) = no_record_then (reference_in (register q a)) _ (λ i. no_record_then (operand q x) _ (λ n. refl))
 made_of q (instrs.Len d a) = no_record_then (reference_in (register q a)) _ (λ i. refl)
-made_of q (instrs.Isp d a) = refl
 made_of q (instrs.Get d x) = no_record_then (board_place q x) _ (λ n. refl)
 made_of q (instrs.Put x a) = no_record_then (board_place q x) _ (λ n. refl)
 made_of q (instrs.Swap d x) = no_record_then (board_place q x) _ (λ n. refl)
 made_of q (instrs.Out a) = no_record_then (as_number (register q a)) _ (λ n. prints_no_record n (nat_lt (length q.printed) MOST_PRINTED))
-made_of q instrs.Snap = refl
-made_of q instrs.Halt = refl
+made_of q _ = refl
 
 -- ---- the register that leads to it
 

@@ -6,7 +6,7 @@ use Rattle.std.proofs.lemmas.Bool.{ltb-true, leb-true, and_parts, and_from, eqb-
 use Rattle.std.proofs.lemmas.List.{get_or-map, get_or_past, length-map}
 use Rattle.std.proofs.lemmas.Option.{get_or_from_slice_get}
 use Rattle.std.proofs.Math.Nat.{div-le_self, mod-le}
-use Rattle.heap_words.specs.Decoded.{Decoded, NumberWord, PointerWord, HeaderWord, ForwardWord, BusyWord, Malformed, decode}
+use Rattle.heap_words.specs.Decoded.{Decoded, NumberWord, PointerWord, decode}
 use Rattle.heap_words.specs.Word.{number_word, pointer_word}
 use Rattle.heap_words.proofs.Decoding.{decode-number_word}
 use Rattle.heap_words.proofs.Ranges.{number_bounds}
@@ -55,10 +55,7 @@ is_value identity w y e = by_word (decode w) e
     by_word : (d : Decoded) → value_said identity d ≡ Some y → IsValueAs d
     by_word (NumberWord n) e = tt
     by_word (PointerWord a) e = tt
-    by_word (HeaderWord kind len serial mutator) e = none≢some e
-    by_word (ForwardWord len a) e = none≢some e
-    by_word (BusyWord len j) e = none≢some e
-    by_word Malformed e = none≢some e
+    by_word _ e = none≢some e
 
 -- a number's word that denotes it is one of a number of the language
 counts : (identity : ℕ → Identity) (n : ℕ) → value_of identity (number_word n) ≡ Some (Number n) → n < NUMBERS
@@ -68,10 +65,7 @@ counts identity n e = by_word (decode (number_word n)) refl e
     by_word : (d : Decoded) → decode (number_word n) ≡ d → value_said identity d ≡ Some (Number n) → n < NUMBERS
     by_word (NumberWord m) is e = let l = number_bounds (number_word n) m is in let same : m ≡ n = cc in omega (arith, l, same)
     by_word (PointerWord a) is e = absurd (let e = e in cc)
-    by_word (HeaderWord kind len serial mutator) is e = none≢some e
-    by_word (ForwardWord len a) is e = none≢some e
-    by_word (BusyWord len j) is e = none≢some e
-    by_word Malformed is e = none≢some e
+    by_word _ is e = none≢some e
 
 -- a pointer's word that denotes a reference is one
 pub points : (identity : ℕ → Identity) (a : ℕ) (i : Identity) → value_of identity (pointer_word a) ≡ Some (Reference i) → decode (pointer_word a) ≡ PointerWord a
@@ -81,10 +75,7 @@ points identity a i e = by_word (decode (pointer_word a)) refl e
     by_word : (d : Decoded) → decode (pointer_word a) ≡ d → value_said identity d ≡ Some (Reference i) → decode (pointer_word a) ≡ PointerWord a
     by_word (NumberWord n) is e = absurd (let e = e in cc)
     by_word (PointerWord b) is e = let same = pointer_word-decode (pointer_word a) b is in is ∙ ap PointerWord (let z : b ≡ a = omega (arith, same) in z)
-    by_word (HeaderWord kind len serial mutator) is e = none≢some e
-    by_word (ForwardWord len b) is e = none≢some e
-    by_word (BusyWord len j) is e = none≢some e
-    by_word Malformed is e = none≢some e
+    by_word _ is e = none≢some e
 
 -- ---- values
 
@@ -137,10 +128,7 @@ module _ (c : Configuration) (p : Plain) (s : Stands c p) (k : ℕ) (x : Held) (
         by_word : (d : Decoded) → decode w ≡ d → IsValueAs d → y ≡ plain_value identity (seen_as d)
         by_word (NumberWord n) e is = hold.number n e
         by_word (PointerWord a) e is = hold.reference a e
-        by_word (HeaderWord kind len serial mutator) e is = absurd is
-        by_word (ForwardWord len a) e is = absurd is
-        by_word (BusyWord len j) e is = absurd is
-        by_word Malformed e is = absurd is
+        by_word _ e is = absurd is
 
     value_as : (r : ℕ) (small : r < REGISTERS) → (held_by r small).0 ≡ plain_value identity (value_seen (word r))
     value_as r small = denoted (word r) (held_by r small).0 (is.fits.registers r small) (held_by r small).2
@@ -223,33 +211,10 @@ module _ (c : Configuration) (p : Plain) (s : Stands c p) (k : ℕ) (x : Held) (
 
     spells : (i : Instr) → IsTrue (is_valid i) → Spells Holds ⊤ i
     spells (instrs.Li d n) valid = holds_number n (ltb-true n NUMBERS (and_parts (is_register d) (is_number n) valid).1)
-    spells (instrs.Mov d a) valid = tt
-    spells (instrs.Add d a b) valid = tt
-    spells (instrs.Sub d a b) valid = tt
-    spells (instrs.Mul d a b) valid = tt
-    spells (instrs.Div d a b) valid = tt
-    spells (instrs.Rem d a b) valid = tt
-    spells (instrs.Lt d a b) valid = tt
-    spells (instrs.Eq d a b) valid = tt
     spells (instrs.Jmp t) valid = target t valid
     spells (instrs.Jz a t) valid = target t (and_parts (is_register a) (nat_le t 65536) valid).1
     spells (instrs.Jal d t) valid = target t (and_parts (is_register d) (nat_le t 65536) valid).1
-    spells (instrs.Jr a) valid = tt
-    spells (instrs.New d y) valid = tt
-    spells (instrs.Raw d y) valid = tt
-    spells (instrs.Mix d y z) valid = tt
-    spells (instrs.Weak d a) valid = tt
-    spells (instrs.Ld d a y) valid = tt
-    spells (instrs.St a y b) valid = tt
-    spells (instrs.Cas d a y b e) valid = tt
-    spells (instrs.Len d a) valid = tt
-    spells (instrs.Isp d a) valid = tt
-    spells (instrs.Get d y) valid = tt
-    spells (instrs.Put y a) valid = tt
-    spells (instrs.Swap d y) valid = tt
-    spells (instrs.Out a) valid = tt
-    spells instrs.Snap valid = tt
-    spells instrs.Halt valid = tt
+    spells _ valid = tt
 
     -- each value and record that it names is held; lengths and words of the board are in range, and there is room to print
     pub held : (i : Instr) → IsTrue (is_valid i) → IfOk (action sight i) (Names Holds ⊤ sight)

@@ -68,8 +68,6 @@ module _ (q : Mutator) where
   writes_register (instrs.Rem d a b) valid = computed operations.Rem d a b (first_of_three d a (is_register b) valid)
   writes_register (instrs.Lt d a b) valid = computed operations.Lt d a b (first_of_three d a (is_register b) valid)
   writes_register (instrs.Eq d a b) valid = first_of_three d a (is_register b) valid
-  writes_register (instrs.Jmp target) valid = tt
-  writes_register (instrs.Jz a target) valid = tt
   writes_register (instrs.Jal d target) valid = first d _ valid
   writes_register (instrs.Jr a) valid = if_ok-bind WritesRegister (as_number (register q a)) _ (λ n. tt)
   writes_register (instrs.New d x) valid = allocated Fields d x (first d _ valid)
@@ -88,5 +86,4 @@ module _ (q : Mutator) where
   writes_register (instrs.Put x a) valid = if_ok-bind WritesRegister (board_place q x) _ (λ y. tt)
   writes_register (instrs.Swap d x) valid = if_ok-bind WritesRegister (board_place q x) _ (λ y. first d _ valid)
   writes_register (instrs.Out a) valid = if_ok-bind WritesRegister (as_number (register q a)) _ (λ n. printed n (nat_lt (length q.printed) MOST_PRINTED) refl)
-  writes_register instrs.Snap valid = tt
-  writes_register instrs.Halt valid = tt
+  writes_register _ valid = tt

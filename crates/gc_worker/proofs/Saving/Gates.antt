@@ -86,19 +86,15 @@ running_less : (snap running : ℕ) → KnowsNoMore (running_saver snap running)
 running_less snap running = runs_forgetting (running_saver snap running) snap running refl refl refl refl refl
 
 same_less : (snap running : ℕ) (passage : Passage) → KnowsNoMore (held_before snap running passage) (held_before snap running passage)
-same_less snap running Look = running_less snap running
 same_less snap running Attach = stopped_less snap running
-same_less snap running Park = running_less snap running
 same_less snap running Request = asking_less snap running
 same_less snap running (Resume epoch) = stopped_less snap running
 same_less snap running Forwarded = stopped_less snap running
-same_less snap running Leave = running_less snap running
-same_less snap running Clear = running_less snap running
+same_less snap running _ = running_less snap running
 
 requested : (after : After) (asked : ℕ) (gate : GateWord) → gate_after Request gate ≡ laws.gate_after (request_for asked after) gate
 requested afters.Looks asked gate = refl
-requested afters.Places asked gate = refl
-requested afters.Snaps asked gate = refl
+requested _ asked gate = refl
 
 module _ (y : Held) (l : Layout) (after : After) where
   abbrev at : Passage → GateStage → Held
@@ -107,13 +103,8 @@ module _ (y : Held) (l : Layout) (after : After) where
   module _ (room : y.layout.checkpoints ≡ true) where
     before : (passage : Passage) → IsOther passage → (stage : GateStage) → saver_of (at passage stage) ≡ held_before y.snap y.running passage
     before Look other stage = absurd other
-    before Attach other stage = rw room refl
-    before Park other stage = rw room refl
-    before Request other stage = rw room refl
-    before (Resume epoch) other stage = rw room refl
-    before Forwarded other stage = rw room refl
-    before Leave other stage = rw room refl
     before Clear other stage = absurd other
+    before _ other stage = rw room refl
 
     -- ---- the gate is loaded
 
@@ -199,8 +190,7 @@ module _ (y : Held) (l : Layout) (after : After) where
 module _ (y : Held) (l : Layout) (room : y.layout.checkpoints ≡ true) where
   requests : (after : After) → Becomes y l after room Request (request_for (pages_needed y) after)
   requests afters.Looks stage word = rw room refl
-  requests afters.Places stage word = rw room refl
-  requests afters.Snaps stage word = rw room refl
+  requests _ stage word = rw room refl
 
 -- from the gate that was found
 clears : (y : Held) (l : Layout) (after : After) (room : y.layout.checkpoints ≡ true) (gate : GateWord) (word : ℕ)

@@ -20,7 +20,7 @@ use Rattle.heap_laws.proofs.Lifting.Configurations.{seen}
 use Rattle.heap_laws.proofs.Saving.Stores.{saves_follow}
 use Rattle.gc_worker.specs.Laws.Step.{Heap, read, nobody, held_at, saves_in, CheckpointsStand, StandIf, WorkersStand, moved}
 use Rattle.gc_worker.specs.Plain.Answer.{after_told, with_emptied}
-use Rattle.gc_worker.specs.Steps.Turned.{Told, Silent, Empties, Answers, Marks, turned, told}
+use Rattle.gc_worker.specs.Steps.Turned.{Told, Empties, turned, told}
 use Rattle.gc_worker.specs.Steps.Wanted.{wanted}
 use Rattle.gc_worker.specs.Workers.Held.{Held}
 use Rattle.gc_worker.specs.Workers.Knows.{knows}
@@ -102,7 +102,5 @@ pub saving_kept : (empty : List Identity) (h : Heap) (p o : Plain) (k : ℕ) (x 
 saving_kept empty h p o k x q st l holds asked = by_told (told x (reply_of q h.words)) (by_room h p o k x q st l holds asked h.checkpoints refl)
   where
     by_told : (t : Told) → StandIf h.checkpoints (moved h k x q) (after_told [] p k t) → StandIf h.checkpoints (moved h k x q) (after_told empty p k t)
-    by_told Silent saved = saved
     by_told Empties saved = kept_by (moved h k x q) p (with_emptied p empty) h.checkpoints saved (kept_if p empty h.checkpoints)
-    by_told (Answers task outcome) saved = saved
-    by_told (Marks asked) saved = saved
+    by_told _ saved = saved

@@ -17,7 +17,7 @@ use Rattle.heap_state.specs.Worker.{Worker}
 use Rattle.heap_laws.specs.Scanning.Claims.{ends_scan}
 use Rattle.heap_laws.proofs.Scanning.Opened as opened
 use Rattle.gc_worker.specs.declared.stage.back.Back.{Back}
-use Rattle.gc_worker.specs.declared.stage.back.Back.TheVariants.{ToAccess, ToTarget, ToPlace, ToSnap, ToScanner}
+use Rattle.gc_worker.specs.declared.stage.back.Back.TheVariants.{ToAccess, ToPlace}
 use Rattle.gc_worker.specs.declared.stage.Stage.TheVariants.{Opens}
 use Rattle.gc_worker.specs.Workers.Fits.{FitsBack, HasEnded}
 use Rattle.gc_worker.specs.Steps.Goes.{Is, Goes, StepsSo}
@@ -32,26 +32,12 @@ use Rattle.gc_worker.proofs.Words.RowSteps.{Law, quiet, stores, row_fits, prepar
 -- a scan that has ended has nothing left to pass
 pub has_ended : (s : Scanning) (stage : ScanStage) → HasEnded stage → (scan_of s stage).ended ≡ true
 has_ended s (scan_stage.Ended ending) h = refl
-has_ended s scan_stage.LoadsCross h = absurd h
-has_ended s (scan_stage.LoadsFirst at) h = absurd h
-has_ended s (scan_stage.LoadsCount r) h = absurd h
-has_ended s (scan_stage.LoadsWord spot) h = absurd h
-has_ended s (scan_stage.Asks asked) h = absurd h
-has_ended s (scan_stage.StoresCopy asked to) h = absurd h
-has_ended s (scan_stage.LoadsFront r) h = absurd h
-has_ended s (scan_stage.LoadsNext r) h = absurd h
+has_ended s _ h = absurd h
 
 -- at each stage it is of its page
 pub of_page : (s : Scanning) (stage : ScanStage) → (scan_of s stage).page ≡ s.page
-of_page s (scan_stage.Ended ending) = refl
-of_page s scan_stage.LoadsCross = refl
-of_page s (scan_stage.LoadsFirst at) = refl
-of_page s (scan_stage.LoadsCount r) = refl
-of_page s (scan_stage.LoadsWord spot) = refl
-of_page s (scan_stage.Asks asked) = refl
-of_page s (scan_stage.StoresCopy asked to) = refl
-of_page s (scan_stage.LoadsFront r) = refl
-of_page s (scan_stage.LoadsNext r) = refl
+of_page s (scan_stage.Ended _) = refl
+of_page s _ = refl
 
 module _ (c : Configuration) (p : Plain) (s : Stands c p) (k : ℕ) (y : Held) (o : Opening) (scan : Scanning) (back : Back) where
   abbrev x : Held
@@ -60,10 +46,8 @@ module _ (c : Configuration) (p : Plain) (s : Stands c p) (k : ℕ) (y : Held) (
   -- what the worker then knows is what it knew but for the scan
   knows_back : (b : Back) → FitsBack x b → knows (back_from x b) ≡ ends_scan (knows (record x { stage = Opens (record o { stage = StoresOpen }) scan b }))
   knows_back (ToAccess a) fits = λ i. record (ends_scan (knows (record x { stage = Opens (record o { stage = StoresOpen }) scan (ToAccess a) }))) { traced_seen = fits.2 i }
-  knows_back (ToTarget a) fits = refl
   knows_back ToPlace fits = places_known x (header_for x)
-  knows_back ToSnap fits = refl
-  knows_back ToScanner fits = refl
+  knows_back _ fits = refl
 
   module _ (is : Is c k x) where
     abbrev entry : Entry

@@ -1,7 +1,7 @@
 -- The first register from one on that holds a pointer.
 use Rattle.std.proofs.Common.{◌≡◌, ℕ, zero, suc, ◌+◌, ◌<◌, ◌≤◌, List, slice_index, Option, Some, None, refl, sym, ap, ◌∙◌, arith, ⊎_elim}
 use Rattle.std.proofs.lemmas.Bool.{cases_eq}
-use Rattle.heap_words.specs.Decoded.{Decoded, NumberWord, PointerWord, HeaderWord, ForwardWord, BusyWord, Malformed, decode, pointer_in}
+use Rattle.heap_words.specs.Decoded.{Decoded, PointerWord, decode, pointer_in}
 use Rattle.heap_state.specs.Memory.Era.{Era}
 use Rattle.heap_state.specs.Invariant.Ghost.{Leads}
 use Rattle.gc_worker.specs.Steps.Turned.{Pointed, first_pointer, pointer_at}
@@ -38,12 +38,8 @@ found registers (suc n) j = by_word registers n j (first_pointer registers n (j 
 -- ---- where words lead
 
 pub is_pointer : (d : Decoded) (a : ℕ) → pointer_in d ≡ Some a → d ≡ PointerWord a
-is_pointer (PointerWord b) a same = cc
-is_pointer (NumberWord n) a same = cc
-is_pointer (HeaderWord kind len serial mutator) a same = cc
-is_pointer (ForwardWord len to) a same = cc
-is_pointer (BusyWord len worker) a same = cc
-is_pointer Malformed a same = cc
+is_pointer (PointerWord _) a same = cc
+is_pointer _ a same = cc
 
 -- a word that is no pointer leads nowhere
 pub leads_nowhere : (E : Era) (w : ℕ) → pointer_in (decode w) ≡ None → ¬ (Leads E w)

@@ -1,7 +1,7 @@
 -- What the code reads in a word is what the definitions make of it.
 use Rattle.std.proofs.Common.{◌≡◌, ℕ, true, false, ◌+◌, ◌-◌, ◌^◌, ◌<◌, ◌≤◌, arith, Option, zero, suc, List, [], ◌∷◌, map, Some, None, refl, sym, ap, ◌∙◌, subst, slice_get, slice_index, slice_index_or}
 use Rattle.std.proofs.lemmas.Option.{get_or_from_slice_get}
-use Rattle.heap_words.specs.Decoded.{Decoded, NumberWord, PointerWord, HeaderWord, ForwardWord, BusyWord, Malformed, decode, number_in, pointer_in}
+use Rattle.heap_words.specs.Decoded.{Decoded, NumberWord, PointerWord, HeaderWord, decode, number_in, pointer_in}
 use Rattle.record_layout.specs.declared.header.Header.{Header}
 use Rattle.record_layout.specs.Layout.{header_in, header_says, header_with}
 use Rattle.heap_words.specs.declared.kind.Kind.{Kind}
@@ -22,7 +22,7 @@ use Rattle.gc_worker.specs.declared.stage.after.After.{After}
 use Rattle.gc_worker.specs.declared.stage.after.After.TheVariants as afters
 use Rattle.gc_worker.specs.declared.stage.forwarding_register.ForwardingRegister.{ForwardingRegister}
 use Rattle.gc_worker.specs.declared.stage.back.Back.{Back}
-use Rattle.gc_worker.specs.declared.stage.back.Back.TheVariants.{ToAccess, ToTarget, ToPlace, ToSnap, ToScanner}
+use Rattle.gc_worker.specs.declared.stage.back.Back.TheVariants.{ToAccess}
 use Rattle.gate_core.specs.declared.recall.recalled.Recalled.{Recalled}
 use Rattle.gate_core.specs.Recall.{Recalling}
 use Rattle.gate_core.specs.Recall as recall
@@ -41,28 +41,17 @@ use Rattle.plain_state.specs.declared.value.Value.TheVariants.{Number, Reference
 -- ---- registers
 
 seen_as_number : (d : Decoded) (n : ℕ) → Some n ≡ number_in d → seen_as d ≡ Number n
-seen_as_number (NumberWord m) n is = cc
-seen_as_number (PointerWord address) n is = cc
-seen_as_number (HeaderWord kind len serial mutator) n is = cc
-seen_as_number (ForwardWord len address) n is = cc
-seen_as_number (BusyWord len worker) n is = cc
-seen_as_number Malformed n is = cc
+seen_as_number (NumberWord _) n is = cc
+seen_as_number _ n is = cc
 
 seen_as_pointer : (d : Decoded) (a : ℕ) → Some a ≡ pointer_in d → seen_as d ≡ Reference (by_address a)
-seen_as_pointer (NumberWord m) a is = cc
-seen_as_pointer (PointerWord address) a is = cc
-seen_as_pointer (HeaderWord kind len serial mutator) a is = cc
-seen_as_pointer (ForwardWord len address) a is = cc
-seen_as_pointer (BusyWord len worker) a is = cc
-seen_as_pointer Malformed a is = cc
+seen_as_pointer (NumberWord _) a is = cc
+seen_as_pointer _ a is = cc
 
 seen_as_neither : (d : Decoded) → None ≡ number_in d → None ≡ pointer_in d → seen_as d ≡ Number 0
 seen_as_neither (NumberWord m) number pointer = cc
 seen_as_neither (PointerWord address) number pointer = cc
-seen_as_neither (HeaderWord kind len serial mutator) number pointer = refl
-seen_as_neither (ForwardWord len address) number pointer = refl
-seen_as_neither (BusyWord len worker) number pointer = refl
-seen_as_neither Malformed number pointer = refl
+seen_as_neither _ number pointer = refl
 
 pub seen_number : (w n : ℕ) → Some n ≡ number_in (decode w) → value_seen w ≡ Number n
 seen_number w n is = seen_as_number (decode w) n is
@@ -168,8 +157,7 @@ register_turned x w reply to at ends =
 -- it goes on there whatever its stage was before
 pub goes_on_anywhere : (x : Held) (was : Stage) (after : After) → at_stage x (goes_on (at_stage x was) after) ≡ at_stage x (goes_on x after)
 goes_on_anywhere x was afters.Looks = refl
-goes_on_anywhere x was afters.Places = refl
-goes_on_anywhere x was afters.Snaps = refl
+goes_on_anywhere x was _ = refl
 
 -- the worker after the last step of the reading
 pub recall_turned : (x : Held) (r done : Recalling) (after : After) (reply : Reply) (result : Recalled) → x.stage ≡ Recalls r after → done ≡ recall.taken r reply
@@ -207,24 +195,9 @@ served_alike x d epoch back (AllLeft word) is = refl
 
 -- nor does the stage at which it was done
 served_anywhere : (x : Held) (was : Stage) (epoch : ℕ) (back : Back) (end : RoundEnd) → served_in (at_stage x was) epoch back end ≡ served_in x epoch back end
-served_anywhere x was epoch back (ScanPage page) = refl
-served_anywhere x was epoch back (ScanInPlace page) = refl
-served_anywhere x was epoch (ToAccess access) Marked = refl
-served_anywhere x was epoch (ToTarget access) Marked = refl
-served_anywhere x was epoch ToPlace Marked = refl
-served_anywhere x was epoch ToSnap Marked = refl
-served_anywhere x was epoch ToScanner Marked = refl
-served_anywhere x was epoch (ToAccess access) Traced = refl
-served_anywhere x was epoch (ToTarget access) Traced = refl
-served_anywhere x was epoch ToPlace Traced = refl
-served_anywhere x was epoch ToSnap Traced = refl
-served_anywhere x was epoch ToScanner Traced = refl
-served_anywhere x was epoch (ToAccess access) (NothingNow word) = refl
-served_anywhere x was epoch (ToTarget access) (NothingNow word) = refl
-served_anywhere x was epoch ToPlace (NothingNow word) = refl
-served_anywhere x was epoch ToSnap (NothingNow word) = refl
-served_anywhere x was epoch ToScanner (NothingNow word) = refl
-served_anywhere x was epoch back (AllLeft word) = refl
+served_anywhere x was epoch _ (ScanPage _) = refl
+served_anywhere x was epoch (ToAccess _) _ = refl
+served_anywhere x was epoch _ _ = refl
 
 pub served_after : (x : Held) (was : Stage) (d : Round) (epoch : ℕ) (back : Back) (end : RoundEnd) → epoch ≡ d.epoch
     → served_in (at_stage x was) epoch back end ≡ served_by x d back end
@@ -238,24 +211,9 @@ served_fits x was d epoch back end is fits =
 
 pub served_uncounted : (x : Held) (d : Round) (back : Back) (end : RoundEnd)
     → uncounted (served_by (uncounted x) d back end) ≡ served_by (uncounted x) d back end
-served_uncounted x d back (ScanPage page) = refl
-served_uncounted x d back (ScanInPlace page) = refl
-served_uncounted x d (ToAccess access) Marked = refl
-served_uncounted x d (ToTarget access) Marked = refl
-served_uncounted x d ToPlace Marked = refl
-served_uncounted x d ToSnap Marked = refl
-served_uncounted x d ToScanner Marked = refl
-served_uncounted x d (ToAccess access) Traced = refl
-served_uncounted x d (ToTarget access) Traced = refl
-served_uncounted x d ToPlace Traced = refl
-served_uncounted x d ToSnap Traced = refl
-served_uncounted x d ToScanner Traced = refl
-served_uncounted x d (ToAccess access) (NothingNow word) = refl
-served_uncounted x d (ToTarget access) (NothingNow word) = refl
-served_uncounted x d ToPlace (NothingNow word) = refl
-served_uncounted x d ToSnap (NothingNow word) = refl
-served_uncounted x d ToScanner (NothingNow word) = refl
-served_uncounted x d back (AllLeft word) = refl
+served_uncounted x d _ (ScanPage _) = refl
+served_uncounted x d (ToAccess _) _ = refl
+served_uncounted x d _ _ = refl
 
 -- the worker after the last step of a round
 pub round_turned : (x : Held) (d done : Round) (back : Back) (reply : Reply) (end : RoundEnd)

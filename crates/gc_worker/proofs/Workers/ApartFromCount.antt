@@ -1,9 +1,9 @@
 -- A worker with another count of its instructions wants, tells and becomes the same, and is as sound.
-use Rattle.std.proofs.Common.{◌≡◌, ℕ, ◌+◌, Bool, true, false, cond, Option, Some, None, Result, Ok, Err, refl, ap, sym, ◌∙◌}
+use Rattle.std.proofs.Common.{◌≡◌, ℕ, ◌+◌, Bool, true, false, cond, Option, Some, None, Result, Ok, refl, ap, sym, ◌∙◌}
 use Rattle.plain_state.specs.declared.end.End.{End}
 use Rattle.mutator_asm.specs.declared.instr.Instr.{Instr}
 use Rattle.plain_heap.specs.declared.action.Action.{Action}
-use Rattle.plain_heap.specs.declared.action.Action.TheVariants.{Sets, Jumps, Links, Prints, Makes, Measures, Loads, Stores, Exchanges, Gets, Puts, Swaps, Snaps}
+use Rattle.plain_heap.specs.declared.action.Action.TheVariants.{Sets, Makes, Snaps}
 use Rattle.plain_heap.specs.Action.{action}
 use Rattle.space_map.specs.declared.gate_word.GateWord.{GateWord}
 use Rattle.space_map.specs.GateWord.{decode_gate}
@@ -21,7 +21,7 @@ use Rattle.forwarding.specs.Evacuation as evac
 use Rattle.forwarding.specs.Taken as evac_taken
 use Rattle.gate_core.specs.declared.flipped.Flipped.{Flipped}
 use Rattle.gate_core.specs.declared.passage.Passage.{Passage}
-use Rattle.gate_core.specs.declared.passage.Passage.TheVariants.{Look, Attach, Park, Request, Resume, Forwarded, Leave, Clear}
+use Rattle.gate_core.specs.declared.passage.Passage.TheVariants.{Look, Attach, Park, Request, Leave, Clear}
 use Rattle.gate_core.specs.Gate as gate
 use Rattle.gate_core.specs.Flip as flip
 use Rattle.gate_core.specs.Recall as recall
@@ -66,20 +66,9 @@ module _ (count : ℕ) (x : Held) where
   snapping_by task false = refl
 
   acting : (instr : Instr) (o : Result Action End) → acted (begins (counted count x)) o ≡ counted (count_after count (told_acted x (Calls instr) o)) (acted (begins x) o)
-  acting instr (Err why) = refl
-  acting instr (Ok (Sets d v)) = refl
-  acting instr (Ok (Jumps target)) = refl
-  acting instr (Ok (Links d target)) = refl
-  acting instr (Ok (Prints n)) = refl
   acting instr (Ok Snaps) = snapping_by (Calls instr) (may_snap x)
   acting instr (Ok (Makes kind d n v)) = ap (λ (stage : Stage). counted count (at_stage (begins x) stage)) (placing count (begins x))
-  acting instr (Ok (Measures d i)) = refl
-  acting instr (Ok (Loads d i n)) = refl
-  acting instr (Ok (Stores i n v)) = refl
-  acting instr (Ok (Exchanges d i n u v)) = refl
-  acting instr (Ok (Gets d n)) = refl
-  acting instr (Ok (Puts n v)) = refl
-  acting instr (Ok (Swaps d n v)) = refl
+  acting instr _ = refl
 
   starting : (task : Option Task) → started (counted count x) task ≡ counted (count_after count (told_start x task)) (started x task)
   starting None = refl
@@ -96,13 +85,8 @@ module _ (count : ℕ) (x : Held) where
   looking (Some g) = requested g.request (passes x Park afters.Looks)
 
   acting_tells : (task : Task) (o : Result Action End) → told_acted (counted count x) task o ≡ told_acted x task o
-  acting_tells task (Err why) = refl
-  acting_tells task (Ok (Sets d v)) = refl
-  acting_tells task (Ok (Jumps target)) = refl
-  acting_tells task (Ok (Links d target)) = refl
-  acting_tells task (Ok (Prints n)) = refl
-  acting_tells task (Ok Snaps) = refl
-  acting_tells task (Ok act) = refl
+  acting_tells task (Ok (Sets _ _)) = refl
+  acting_tells task _ = refl
 
   starting_tells : (task : Option Task) → told_start (counted count x) task ≡ told_start x task
   starting_tells None = refl
@@ -117,9 +101,6 @@ module _ (count : ℕ) (x : Held) where
 
   turns_at : (stage : Stage) (reply : Reply) → FitsTask x stage → turned_at (counted count x) stage reply ≡ counted (count_after count (told_at x stage reply)) (turned_at x stage reply)
   turns_at Looks (replies.Value word) task = looking (decode_gate word)
-  turns_at Looks replies.Done task = refl
-  turns_at Looks replies.Won task = refl
-  turns_at Looks (replies.Lost word) task = refl
   turns_at (Passes g after) reply task = gating count x (gate.taken g reply) after (gate.told (gate.taken g reply))
   turns_at (Flips f) reply task =
       let t : Turn Flipped = flip.told (flip.taken f reply) in
@@ -142,17 +123,10 @@ module _ (count : ℕ) (x : Held) where
   turns_at (Guards g write) reply task = guarding count x (guard.taken g reply) write (guard.told (guard.taken g reply))
   turns_at (Checkpoints r goal) reply task = saving_round count x (save_round.taken r reply) goal (save_round.told (save_round.taken r reply))
   turns_at (BeginsCheckpoint s) reply task = snapping count x (snap.taken s reply) task.instr task.task_is (snap.told (snap.taken s reply))
-  turns_at Gone reply task = refl
+  turns_at _ _ task = refl
 
   tells_at : (stage : Stage) (reply : Reply) → told_at (counted count x) stage reply ≡ told_at x stage reply
   tells_at Looks (replies.Value word) = looking_tells (decode_gate word)
-  tells_at Looks replies.Done = refl
-  tells_at Looks replies.Won = refl
-  tells_at Looks (replies.Lost word) = refl
-  tells_at (Passes g after) reply = refl
-  tells_at (Flips f) reply = refl
-  tells_at (Forwards w) reply = refl
-  tells_at (Accesses a) reply = refl
   tells_at (Places p) reply = placed_tells (place.told (place.taken p reply))
     where
       full_tells : (s : Shortage) (traced : Bool) → told_full (counted count x) s traced ≡ told_full x s traced
@@ -163,32 +137,11 @@ module _ (count : ℕ) (x : Held) where
       placed_tells More = refl
       placed_tells (Finished (Placed at)) = refl
       placed_tells (Finished (Full s)) = full_tells s s.traced
-  tells_at (Serves d back) reply = refl
-  tells_at (Scans s back) reply = refl
-  tells_at (Evacuates v s back) reply = refl
-  tells_at (Opens o s back) reply = refl
-  tells_at (Recalls r after) reply = refl
-  tells_at (Guards g write) reply = refl
-  tells_at (Checkpoints r goal) reply = refl
-  tells_at (BeginsCheckpoint s) reply = refl
-  tells_at Gone reply = refl
+  tells_at _ _ = refl
 
   wants_at : (stage : Stage) → wanted_at (counted count x) stage ≡ wanted_at x stage
   wants_at Looks = refl
-  wants_at (Passes g after) = refl
-  wants_at (Flips f) = refl
-  wants_at (Forwards w) = refl
-  wants_at (Accesses a) = refl
-  wants_at (Places p) = refl
-  wants_at (Serves d back) = refl
-  wants_at (Scans s back) = refl
-  wants_at (Evacuates v s back) = refl
-  wants_at (Opens o s back) = refl
-  wants_at (Recalls r after) = refl
-  wants_at (Guards g write) = refl
-  wants_at (Checkpoints r goal) = refl
-  wants_at (BeginsCheckpoint s) = refl
-  wants_at Gone = refl
+  wants_at _ = refl
 
 pub counts_are_apart : CountsAreApart
 counts_are_apart n mutators k count x f = record {
@@ -241,11 +194,9 @@ module _ (count : ℕ) (x : Held) where
   task_before Leave after task = task
   task_before Request after task = task_asking after task
   task_before Attach after task = beginning x.task task
-  task_before Park after task = task_after after task
-  task_before (Resume epoch) after task = task_after after task
-  task_before Forwarded after task = task_after after task
   task_before Clear after task = (beginning x.task task.0, task.1)
   task_before Look after task = task
+  task_before _ after task = task_after after task
 
   task_write : (write : Write) → FitsTaskWrite x write → FitsTaskWrite z write
   task_write (OfAccess a) task = accesses a.stage task

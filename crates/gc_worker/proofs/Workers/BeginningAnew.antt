@@ -1,16 +1,16 @@
 -- A scanner's round keeps whose it is, so that it may begin anew.
 use Rattle.std.proofs.Common.{◌≡◌, ℕ, Bool, true, false, Option, Some, None, refl, sym, ap, ◌∙◌, subst, if◌then◌else◌}
 use Rattle.atom_store.specs.declared.reply.Reply.{Reply}
-use Rattle.atom_store.specs.declared.reply.Reply.TheVariants.{Value, Done, Won, Lost}
+use Rattle.atom_store.specs.declared.reply.Reply.TheVariants.{Value}
 use Rattle.space_map.specs.declared.gate_word.GateWord.{GateWord}
 use Rattle.space_map.specs.GateWord.{decode_gate}
 use Rattle.fault_duty.specs.declared.caller.Caller.{Caller}
 use Rattle.fault_duty.specs.declared.caller.Caller.TheVariants.{Faulted, Allocates, Scans}
 use Rattle.fault_duty.specs.declared.duty_stage.DutyStage.{DutyStage}
-use Rattle.fault_duty.specs.declared.duty_stage.DutyStage.TheVariants.{LoadsGate, LoadsTraced, LoadsWanted, LoadsFrontFor, LoadsFront, LoadsPage, Claims, EndGate, EndArea, EndPage, EndFilling, EndAreaAgain, Walks, Traces, Ended}
+use Rattle.fault_duty.specs.declared.duty_stage.DutyStage.TheVariants.{LoadsGate}
 use Rattle.fault_duty.specs.Duty.{Round, at_stage, begun, looked_at_gate, looked_by_gate, taken, taken_at}
 use Rattle.gc_worker.specs.declared.stage.back.Back.{Back}
-use Rattle.gc_worker.specs.declared.stage.back.Back.TheVariants.{ToAccess, ToTarget, ToPlace, ToSnap, ToScanner}
+use Rattle.gc_worker.specs.declared.stage.back.Back.TheVariants.{ToScanner}
 use Rattle.gc_worker.specs.declared.stage.Stage.TheVariants.{Serves}
 use Rattle.gc_worker.specs.Steps.Stepped.{MayBeginAnew}
 use Rattle.gc_worker.specs.Workers.Fits.{FitsRound, FitsStage, IsCallerOf}
@@ -36,59 +36,8 @@ by_gate d word None = refl
 
 kept : (d : Round) (stage : DutyStage) (reply : Reply) → anew (taken_at d stage reply) ≡ anew d
 kept d LoadsGate (Value word) = by_gate d word (decode_gate word)
-kept d LoadsGate Done = refl
-kept d LoadsGate Won = refl
-kept d LoadsGate (Lost word) = refl
-kept d (Claims c) reply = refl
-kept d (LoadsTraced hindrance) (Value word) = refl
-kept d (LoadsTraced hindrance) Done = refl
-kept d (LoadsTraced hindrance) Won = refl
-kept d (LoadsTraced hindrance) (Lost word) = refl
-kept d (LoadsWanted seen page) (Value word) = refl
-kept d (LoadsWanted seen page) Done = refl
-kept d (LoadsWanted seen page) Won = refl
-kept d (LoadsWanted seen page) (Lost word) = refl
-kept d (LoadsFrontFor seen w) (Value word) = refl
-kept d (LoadsFrontFor seen w) Done = refl
-kept d (LoadsFrontFor seen w) Won = refl
-kept d (LoadsFrontFor seen w) (Lost word) = refl
-kept d (LoadsFront seen) (Value word) = refl
-kept d (LoadsFront seen) Done = refl
-kept d (LoadsFront seen) Won = refl
-kept d (LoadsFront seen) (Lost word) = refl
-kept d (LoadsPage choice page) (Value word) = refl
-kept d (LoadsPage choice page) Done = refl
-kept d (LoadsPage choice page) Won = refl
-kept d (LoadsPage choice page) (Lost word) = refl
-kept d (EndGate traced) (Value word) = refl
-kept d (EndGate traced) Done = refl
-kept d (EndGate traced) Won = refl
-kept d (EndGate traced) (Lost word) = refl
-kept d (EndArea traced) (Value word) = refl
-kept d (EndArea traced) Done = refl
-kept d (EndArea traced) Won = refl
-kept d (EndArea traced) (Lost word) = refl
-kept d (EndPage look page) (Value word) = refl
-kept d (EndPage look page) Done = refl
-kept d (EndPage look page) Won = refl
-kept d (EndPage look page) (Lost word) = refl
-kept d (EndFilling look) (Value word) = refl
-kept d (EndFilling look) Done = refl
-kept d (EndFilling look) Won = refl
-kept d (EndFilling look) (Lost word) = refl
-kept d (EndAreaAgain look filling) (Value word) = refl
-kept d (EndAreaAgain look filling) Done = refl
-kept d (EndAreaAgain look filling) Won = refl
-kept d (EndAreaAgain look filling) (Lost word) = refl
-kept d (Walks traced walk) reply = refl
-kept d (Traces traced) (Value word) = refl
-kept d (Traces traced) Done = refl
-kept d (Traces traced) Won = refl
-kept d (Traces traced) (Lost word) = refl
-kept d (Ended result) (Value word) = refl
-kept d (Ended result) Done = refl
-kept d (Ended result) Won = refl
-kept d (Ended result) (Lost word) = refl
+kept d _ (Value _) = refl
+kept d _ _ = refl
 
 scans_for : (x : Held) (caller : Caller) → IsCallerOf x ToScanner caller → caller ≡ Scans x.mutators
 scans_for x (Scans mutators) own = ap Scans own
@@ -102,10 +51,7 @@ own_round x d own =
 
 by_back : (x : Held) (d : Round) (reply : Reply) (back : Back) → FitsStage x (Serves d back) → MayBeginAnew x.layout x.mutators x.number (Serves (taken d reply) back)
 by_back x d reply ToScanner fits = kept d d.stage reply ∙ own_round x d fits.0
-by_back x d reply (ToAccess a) fits = tt
-by_back x d reply (ToTarget a) fits = tt
-by_back x d reply ToPlace fits = tt
-by_back x d reply ToSnap fits = tt
+by_back x d reply _ fits = tt
 
 -- once a reply is taken it may begin anew, if it did before
 pub taken_anew : (x : Held) (d done : Round) (back : Back) (reply : Reply) → x.stage ≡ Serves d back → done ≡ taken d reply → FitsStage x x.stage

@@ -15,14 +15,14 @@ use Rattle.alloc_end.specs.declared.allocated.Allocated.TheVariants.{Placed, Ful
 use Rattle.alloc_end.specs.declared.shortage.Shortage.{Shortage}
 use Rattle.alloc_end.specs.Place as place
 use Rattle.fault_duty.specs.declared.round_end.RoundEnd.{RoundEnd}
-use Rattle.fault_duty.specs.declared.round_end.RoundEnd.TheVariants.{ScanPage, ScanInPlace, Marked, Traced, AllLeft, NothingNow}
+use Rattle.fault_duty.specs.declared.round_end.RoundEnd.TheVariants.{Marked, Traced, NothingNow}
 use Rattle.fault_duty.specs.Duty as duty
 use Rattle.forwarding.specs.declared.to.To.{To}
 use Rattle.forwarding.specs.Evacuation as evac
 use Rattle.gate_core.specs.declared.flipped.Flipped.{Flipped}
 use Rattle.gate_core.specs.declared.flipped.Flipped.TheVariants as flipped
 use Rattle.gate_core.specs.declared.passage.Passage.{Passage}
-use Rattle.gate_core.specs.declared.passage.Passage.TheVariants.{Look, Attach, Park, Request, Resume, Forwarded, Leave, Clear}
+use Rattle.gate_core.specs.declared.passage.Passage.TheVariants.{Park, Request, Resume}
 use Rattle.gate_core.specs.declared.passed.Passed.{Passed}
 use Rattle.gate_core.specs.declared.passed.Passed.TheVariants as passed
 use Rattle.gate_core.specs.Gate as gate
@@ -48,7 +48,7 @@ use Rattle.record_access.specs.declared.accessed.Accessed.TheVariants.{Faults, A
 use Rattle.gc_worker.specs.declared.stage.after.After.{After}
 use Rattle.gc_worker.specs.declared.stage.after.After.TheVariants as afters
 use Rattle.gc_worker.specs.declared.stage.back.Back.{Back}
-use Rattle.gc_worker.specs.declared.stage.back.Back.TheVariants.{ToAccess, ToTarget, ToPlace, ToSnap, ToScanner}
+use Rattle.gc_worker.specs.declared.stage.back.Back.TheVariants.{ToPlace}
 use Rattle.gc_worker.specs.declared.stage.goal.Goal.{Goal}
 use Rattle.gc_worker.specs.declared.stage.goal.Goal.TheVariants.{ForFlip, ForSnap, ForScanner}
 use Rattle.gc_worker.specs.declared.stage.write.Write.{Write}
@@ -66,45 +66,17 @@ use Rattle.gc_worker.proofs.Plain.NewRecords.{made, made_is}
 -- no action depends on the count
 same_action : (m : Mutator) (count : ℕ) (i : Instr) → action (record m { executed = count }) i ≡ action m i
 unfolding action
-same_action m count (instrs.Li d a) = refl
-same_action m count (instrs.Mov d a) = refl
-same_action m count (instrs.Add d a b) = refl
-same_action m count (instrs.Sub d a b) = refl
-same_action m count (instrs.Mul d a b) = refl
-same_action m count (instrs.Div d a b) = refl
-same_action m count (instrs.Rem d a b) = refl
-same_action m count (instrs.Lt d a b) = refl
-same_action m count (instrs.Eq d a b) = refl
-same_action m count (instrs.Jmp t) = refl
-same_action m count (instrs.Jz a t) = refl
-same_action m count (instrs.Jal d t) = refl
-same_action m count (instrs.Jr a) = refl
-same_action m count (instrs.New d (operands.Reg r)) = refl
-same_action m count (instrs.New d (operands.Number n)) = refl
-same_action m count (instrs.Raw d (operands.Reg r)) = refl
-same_action m count (instrs.Raw d (operands.Number n)) = refl
-same_action m count (instrs.Mix d (operands.Reg f) (operands.Reg r)) = refl
-same_action m count (instrs.Mix d (operands.Reg f) (operands.Number n)) = refl
-same_action m count (instrs.Mix d (operands.Number n) (operands.Reg r)) = refl
-same_action m count (instrs.Mix d (operands.Number n) (operands.Number o)) = refl
-same_action m count (instrs.Weak d a) = refl
-same_action m count (instrs.Ld d a (operands.Reg r)) = refl
-same_action m count (instrs.Ld d a (operands.Number n)) = refl
-same_action m count (instrs.St a (operands.Reg r) b) = refl
-same_action m count (instrs.St a (operands.Number n) b) = refl
-same_action m count (instrs.Cas d a (operands.Reg r) b c) = refl
-same_action m count (instrs.Cas d a (operands.Number n) b c) = refl
-same_action m count (instrs.Len d a) = refl
-same_action m count (instrs.Isp d a) = refl
-same_action m count (instrs.Get d (operands.Reg r)) = refl
-same_action m count (instrs.Get d (operands.Number n)) = refl
-same_action m count (instrs.Put (operands.Reg r) a) = refl
-same_action m count (instrs.Put (operands.Number n) a) = refl
-same_action m count (instrs.Swap d (operands.Reg r)) = refl
-same_action m count (instrs.Swap d (operands.Number n)) = refl
-same_action m count (instrs.Out a) = refl
-same_action m count instrs.Snap = refl
-same_action m count instrs.Halt = refl
+same_action m count (instrs.Mix _ (operands.Reg _) (operands.Reg _)) = refl
+same_action m count (instrs.New _ (operands.Reg _)) = refl
+same_action m count (instrs.Raw _ (operands.Reg _)) = refl
+same_action m count (instrs.Mix _ _ (operands.Reg _)) = refl
+same_action m count (instrs.Ld _ _ (operands.Reg _)) = refl
+same_action m count (instrs.St _ (operands.Reg _) _) = refl
+same_action m count (instrs.Cas _ _ (operands.Reg _) _ _) = refl
+same_action m count (instrs.Get _ (operands.Reg _)) = refl
+same_action m count (instrs.Put (operands.Reg _) _) = refl
+same_action m count (instrs.Swap _ (operands.Reg _)) = refl
+same_action m count _ = refl
 
 module _ (count : ℕ) (x : Held) where
   abbrev y : Held
@@ -150,11 +122,8 @@ module _ (count : ℕ) (x : Held) where
   asking afters.Snaps = refl
 
   going_back : (back : Back) → goes_back y back ≡ goes_back x back
-  going_back (ToAccess a) = refl
-  going_back (ToTarget a) = refl
   going_back ToPlace = placing
-  going_back ToSnap = refl
-  going_back ToScanner = refl
+  going_back _ = refl
 
   -- ---- what it becomes
 
@@ -162,21 +131,11 @@ module _ (count : ℕ) (x : Held) where
   At stage = counted count (at_stage x stage)
 
   pub passing : (after : After) (passage : Passage) (result : Passed) → passed_by y after passage result ≡ counted count (passed_by x after passage result)
-  passing after Attach (passed.Went word) = refl
-  passing after Attach (passed.NotYet word) = refl
-  passing after Park (passed.Went word) = refl
   passing after Park (passed.NotYet word) = ap At (going_on after)
   passing after Request (passed.Went word) = ap At (asking after)
-  passing after Request (passed.NotYet word) = refl
   passing after (Resume epoch) (passed.Went word) = ap At (running_on after)
-  passing after (Resume epoch) (passed.NotYet word) = refl
-  passing after Forwarded (passed.Went word) = refl
-  passing after Forwarded (passed.NotYet word) = refl
-  passing after Leave (passed.Went word) = refl
-  passing after Leave (passed.NotYet word) = refl
-  passing after Look result = refl
-  passing after Clear (passed.Went word) = refl
-  passing after Clear (passed.NotYet word) = refl
+  passing after _ (passed.Went _) = refl
+  passing after _ _ = refl
 
   pub gating : (g : gate.Passing) (after : After) (t : Turn Passed) → turned_gate y g after t ≡ counted count (turned_gate x g after t)
   gating g after More = refl
@@ -239,14 +198,11 @@ module _ (count : ℕ) (x : Held) where
 
   checkpointing : (goal : Goal) → checkpoints y goal ≡ checkpoints x goal
   checkpointing ForFlip = refl
-  checkpointing ForSnap = refl
-  checkpointing ForScanner = refl
+  checkpointing _ = refl
 
   rounding_by : (goal : Goal) (result : SaveRoundEnd) → rounded_by y goal result ≡ rounded_by x goal result
   rounding_by goal (save_round_end.NoneRuns number) = refl
-  rounding_by goal save_round_end.Saved = checkpointing goal
-  rounding_by goal save_round_end.Marked = checkpointing goal
-  rounding_by goal (save_round_end.NothingNow word) = checkpointing goal
+  rounding_by goal _ = checkpointing goal
 
   rounding : (goal : Goal) (result : SaveRoundEnd) → rounded y goal result ≡ rounded x goal result
   rounding ForFlip result = rounding_by ForFlip result
@@ -277,18 +233,12 @@ recalling count x r after More = refl
 recalling count x r after (Finished result) = ap (λ (stage : Stage). counted count (at_stage (recalled x result) stage)) (going_on count (recalled x result) after)
 
 tracing : (count : ℕ) (x : Held) (back : Back) → traced_by (counted count x) back ≡ counted count (traced_by x back)
-tracing count x (ToAccess a) = refl
-tracing count x (ToTarget a) = refl
 tracing count x ToPlace = ap (λ (stage : Stage). counted count (at_stage x stage)) (placing count x)
-tracing count x ToSnap = refl
-tracing count x ToScanner = refl
+tracing count x _ = refl
 
 -- after a round it goes on in the round's epoch
 pub serving : (count : ℕ) (x : Held) (d : duty.Round) (back : Back) (t : Turn RoundEnd) → turned_round (counted count x) d back t ≡ counted count (turned_round x d back t)
-serving count x d back More = refl
-serving count x d back (Finished (ScanPage page)) = refl
-serving count x d back (Finished (ScanInPlace page)) = refl
 serving count x d back (Finished Marked) = ap (λ (stage : Stage). counted count (at_stage (of_round x d) stage)) (going_back count (of_round x d) back)
 serving count x d back (Finished Traced) = tracing count (of_round x d) back
 serving count x d back (Finished (NothingNow word)) = ap (λ (stage : Stage). counted count (at_stage (of_round x d) stage)) (going_back count (of_round x d) back)
-serving count x d back (Finished (AllLeft word)) = refl
+serving count x d back _ = refl

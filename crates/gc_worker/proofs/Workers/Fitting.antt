@@ -9,7 +9,7 @@ use Rattle.heap_state.specs.Worker.{Account}
 use Rattle.page_saves.specs.SaveRound.{SavingRound}
 use Rattle.page_scan.specs.Scanning.{Scanning}
 use Rattle.gc_worker.specs.declared.stage.back.Back.{Back}
-use Rattle.gc_worker.specs.declared.stage.back.Back.TheVariants.{ToAccess, ToTarget, ToPlace, ToSnap, ToScanner}
+use Rattle.gc_worker.specs.declared.stage.back.Back.TheVariants.{ToSnap, ToScanner}
 use Rattle.gc_worker.specs.declared.stage.goal.Goal.{Goal}
 use Rattle.gc_worker.specs.declared.stage.goal.Goal.TheVariants.{ForFlip, ForSnap, ForScanner}
 use Rattle.gc_worker.specs.declared.stage.write.Write.{Write}
@@ -106,13 +106,11 @@ placing_guarded v x p q reply same is takes more fits =
 
 -- without room for checkpoints, who is to begin one or to help with one goes back, if it finds the epoch traced
 pub traced_without : (x : Held) (back : Back) → IsForCheckpoint back → x.layout.checkpoints ≡ false → FitsStage (traced_by x back) (traced_by x back).stage → traced_by x back ≡ back_from x back
-traced_without x (ToAccess a) helps none fits = absurd helps
-traced_without x (ToTarget a) helps none fits = absurd helps
-traced_without x ToPlace helps none fits = absurd helps
 traced_without x ToSnap helps none fits =
     let room = fits.room in
     absurd (cc (room, none))
 traced_without x ToScanner helps none fits = ap (λ (b : Bool). at_stage x (if b then checkpoints x ForScanner else goes_back x ToScanner)) none
+traced_without x _ helps none fits = absurd helps
 
 -- and fits there
 pub fits_without : (x : Held) (back : Back) → IsForCheckpoint back → x.layout.checkpoints ≡ false → FitsStage (traced_by x back) (traced_by x back).stage → FitsStage (back_from x back) (goes_back x back)

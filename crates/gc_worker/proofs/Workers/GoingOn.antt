@@ -38,15 +38,11 @@ first_fits n asked snap fields run header Weak is holds cell room = (is, cell is
 -- and leaves less than a page of a short one
 pub first_rest : (run : Run) (header : Header) (kind : Kind) → run.end < run.at + place.size_of header + 64 → LeavesShortRun run header (place.stores_first kind)
 first_rest run header Fields rest = rest
-first_rest run header Raw rest = rest
-first_rest run header Mixed rest = rest
-first_rest run header Weak rest = rest
+first_rest run header _ rest = rest
 
 pub first_going : (kind : Kind) → IsPlacingGoing (place.stores_first kind)
 first_going Fields = tt
-first_going Raw = tt
-first_going Mixed = tt
-first_going Weak = tt
+first_going _ = tt
 
 abbrev first_at : Kind → Bool → PlaceStage
 first_at kind b = cond b (place.stores_first kind) LoadsTraced

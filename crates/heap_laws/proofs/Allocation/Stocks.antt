@@ -50,16 +50,12 @@ nothing_ahead q p more = ⊎_elim
 
 -- what is stored ahead of a record's header lies before its fields and plain numbers, and in the record
 pub ahead_of_values : (c : Kind) (target j : ℕ) → values_at c ≤ j → (is_field c j ≡ true) ⊎ (is_raw c j ≡ true) → length (stored_ahead c target) < j
-ahead_of_values Fields target j from value = from
-ahead_of_values Raw target j from value = from
-ahead_of_values (Mixed count) target j from value = from
 ahead_of_values Weak target j from value = absurd (⊎_elim (λ e. cc) (λ e. cc) value)
+ahead_of_values _ target j from value = from
 
 within : (c : Kind) (target z : ℕ) → values_at c + words_behind c ≤ z → (c ≡ Weak → z ≡ 3) → length (stored_ahead c target) < z
-within Fields target z some three = omega (arith, some)
-within Raw target z some three = omega (arith, some)
-within (Mixed count) target z some three = omega (arith, some)
 within Weak target z some three = let e = three refl in omega (arith, e)
+within _ target z some three = omega (arith, some)
 
 module _ {E : Era} {low : ℕ} {size heap : ℕ → ℕ} {page : ℕ → PageWord} (q : Stock) (p : Stocked E low size heap page q) where
   -- behind what is stored ahead, the words of a run are 0
@@ -68,10 +64,8 @@ module _ {E : Era} {low : ℕ} {size heap : ℕ → ℕ} {page : ℕ → PageWor
 
   -- the count of a mixed record is stored ahead of its header
   pub count_ahead : (c : Kind) (target : ℕ) → q.ahead ≡ stored_ahead c target → CountShows c heap q.at
-  count_ahead Fields target e = tt
-  count_ahead Raw target e = tt
   count_ahead (Mixed count) target e = ap heap (omega arith) ∙ p.ahead 0 (number_word count) (ap (λ xs. slice_get xs 0) e)
-  count_ahead Weak target e = tt
+  count_ahead _ target e = tt
 
   -- a cell's target and its link are
   pub target_ahead : (target : ℕ) → q.ahead ≡ stored_ahead Weak target → heap (q.at + 1) ≡ target

@@ -1,6 +1,6 @@
 -- What words denote before and after a record begins to stand.
 use Rattle.std.proofs.Common.{◌≡◌, ℕ, ◌+◌, ◌<◌, ◌≤◌, true, refl, ap, arith, ⊎_elim, inl, inr}
-use Rattle.heap_words.specs.Decoded.{Decoded, NumberWord, PointerWord, HeaderWord, ForwardWord, BusyWord, Malformed, decode}
+use Rattle.heap_words.specs.Decoded.{Decoded, PointerWord, decode}
 use Rattle.plain_state.specs.declared.value.Identity.{Identity}
 use Rattle.plain_state.specs.Layout.{is_field}
 use Rattle.heap_state.specs.Memory.Era.{Era, Memory}
@@ -30,9 +30,5 @@ unfolding value_of Lands
 value_allocated size writer identity a i w blank lands = by_word (decode w) lands
   where
     by_word : (u : Decoded) → ((b : ℕ) → u ≡ PointerWord b → (0 < size b) × (writer b ≡ 0)) → value_said (put identity a i) u ≡ value_said identity u
-    by_word (NumberWord n) f = refl
     by_word (PointerWord b) f = rw (put_other identity a i b (λ e. let q : size b ≡ size a = ap size e in let s = (f b refl).0 in omega (arith, q, s, blank))) refl
-    by_word (HeaderWord kind len serial mutator) f = refl
-    by_word (ForwardWord len address) f = refl
-    by_word (BusyWord len worker) f = refl
-    by_word Malformed f = refl
+    by_word _ f = refl

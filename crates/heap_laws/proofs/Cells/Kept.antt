@@ -12,7 +12,7 @@ use Rattle.heap_state.specs.Worker.{Worker, Team, Quest, Scan, Linking, Reset, i
 use Rattle.heap_state.proofs.Puts.{some_same, none≢some, true_false}
 use Rattle.heap_laws.specs.Cells.Frames.{SameCells, GoesOnInChain, IsUnreadRow, IsNoCellWord, WordsAreUnread}
 use Rattle.heap_laws.specs.Composing.{IsLess, SameAtChain}
-use Rattle.heap_laws.specs.Steps.{Ready, SameInChain, WritesRow, NoRow, InGate, InTraced, InArea, InOldArea, InWeak, InWeakTurn, InPage, InCross, InWord, InAnnounce, Beside, with_worker}
+use Rattle.heap_laws.specs.Steps.{Ready, SameInChain, WritesRow, InWeak, InWeakTurn, with_worker}
 use Rattle.heap_laws.specs.Targets.Frames.{IsNoTarget, IsNoTargetRow, WordsAreNoTargets}
 use Rattle.heap_laws.proofs.Cells.Carried.{carried}
 use Rattle.heap_laws.proofs.Cells.Rows.{SameMemory, SameWords, unread, by_words, unread_words_carry_chain, no_cell_words}
@@ -31,18 +31,9 @@ IsNotWeak (Some (WeakTurnIs word)) = ⊥
 IsNotWeak e = Unit {0}
 
 pub same_weak : {E : Era} {m : Memory} {e : Option Entry} {later : Memory} → WritesRow E m e later → IsNotWeak e → SameWeak m later
-same_weak NoRow n = record { weak = refl; weak_turn = refl }
-same_weak (InGate gate fits at) n = record { weak = refl; weak_turn = refl }
-same_weak (InTraced word) n = record { weak = refl; weak_turn = refl }
-same_weak (InArea area fits) n = record { weak = refl; weak_turn = refl }
-same_weak (InOldArea area fits) n = record { weak = refl; weak_turn = refl }
 same_weak (InWeak word small) n = absurd n
 same_weak (InWeakTurn word) n = absurd n
-same_weak (InPage page word below fits) n = record { weak = refl; weak_turn = refl }
-same_weak (InCross page place below) n = record { weak = refl; weak_turn = refl }
-same_weak (InWord addr word below) n = record { weak = refl; weak_turn = refl }
-same_weak (InAnnounce worker place below) n = record { weak = refl; weak_turn = refl }
-same_weak (Beside e beside) n = record { weak = refl; weak_turn = refl }
+same_weak _ n = record { weak = refl; weak_turn = refl }
 
 -- the chain of these words, and the targets, are what is known of the cells
 pub of_chain : {E : Era} {m later : Memory} {team : Team} {g : Ghost} {r : Ranks} → SameWeak m later → Chain E later m.weak m.weak_turn team g r → Targets E later g → Cells E later team g

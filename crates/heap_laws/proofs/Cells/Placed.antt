@@ -2,7 +2,7 @@
 use Rattle.std.proofs.Common.{◌≡◌, ◌≢◌, ℕ, ◌+◌, ◌<◌, ◌≤◌, refl, sym, ◌∙◌, arith, ⊎_elim}
 use Rattle.std.proofs.lemmas.Bool.{cases_eq}
 use Rattle.plain_state.specs.declared.kind.Kind.{Kind}
-use Rattle.plain_state.specs.declared.kind.Kind.TheVariants.{Fields, Raw, Mixed, Weak}
+use Rattle.plain_state.specs.declared.kind.Kind.TheVariants.{Fields, Weak}
 use Rattle.plain_state.specs.Layout.{values_at}
 use Rattle.heap_state.specs.Cells.{Ranks, IsCopiedCell, Chain}
 use Rattle.heap_state.specs.Memory.Era.{Era, Memory}
@@ -19,9 +19,7 @@ use Rattle.heap_laws.proofs.Cells.Rows.{StoresWord, stores_word, no_cell_words}
 -- a record's values begin behind its header
 pub some_values : (c : Kind) → 0 < values_at c
 some_values Fields = omega arith
-some_values Raw = omega arith
-some_values (Mixed count) = omega arith
-some_values Weak = omega arith
+some_values _ = omega arith
 
 module _ (E : Era) (m later : Memory) (weak turn : ℕ) (team : Team) (g : Ghost) (r : Ranks) (k : ℕ) (s : Stock) (c : Kind) (z v target : ℕ) (w : Worker) (ready : Ready E m team g k) (places : PlacesNext team k s c z v target) (small : c ≡ Weak → z ≡ 3)
     (stores : StoresWord m later s.at v) (on : GoesOnInChain E w (team.worker k)) (chain : Chain E m weak turn team g r) where

@@ -9,7 +9,7 @@ use Rattle.heap_state.specs.Memory.Era.{Era, Memory}
 use Rattle.heap_state.specs.Invariant.Ghost.{Ghost}
 use Rattle.heap_state.specs.Invariant.Inductive.{Invariant, Knows}
 use Rattle.heap_state.specs.Invariant.Parts.Copying.{IsOrigin}
-use Rattle.heap_state.specs.Worker.{Worker, Team, Post, Scanner, Outside, Running, Stopped, Flipping, Gone, Quest, Origin, Register, Scanned, is_mutator, is_live, is_running, is_gone, is_late, Snapping}
+use Rattle.heap_state.specs.Worker.{Worker, Team, Post, Scanner, Quest, Origin, Register, Scanned, is_mutator, is_live, is_running, is_gone, is_late}
 
 left_of : (x y : Bool) → x && y ≡ true → (x ≡ true) × (y ≡ true)
 left_of true y e = (refl, e)
@@ -21,21 +21,11 @@ late_lives e w h = (left_of (is_live w.post) (eqb (w.epoch + 1) e) h).0
 
 live_mutator : (post : Post) → is_live post ≡ true → is_mutator post ≡ true
 live_mutator Scanner e = e
-live_mutator Outside e = refl
-live_mutator Running e = refl
-live_mutator Stopped e = refl
-live_mutator (Flipping asked) e = refl
-live_mutator Snapping e = refl
-live_mutator Gone e = refl
+live_mutator _ e = refl
 
 live_here : (post : Post) → is_live post ≡ true → is_gone post ≡ true → ⊥
 live_here Scanner e g = absurd (cc)
-live_here Outside e g = absurd (cc)
-live_here Running e g = absurd (cc)
-live_here Stopped e g = absurd (cc)
-live_here (Flipping asked) e g = absurd (cc)
-live_here Snapping e g = absurd (cc)
-live_here Gone e g = absurd (cc)
+live_here _ e g = absurd (cc)
 
 no_end : (o : Option End) → (is_some o ≡ true → ⊥) → o ≡ None
 no_end None f = refl

@@ -4,7 +4,7 @@ use Rattle.std.specs.Option.{option_and_then}
 use Rattle.std.proofs.lemmas.Bool.{ltb-true}
 use Rattle.std.proofs.lemmas.Option.{slice_get-get_or}
 use Rattle.heap_words.proofs.Decoding.{decode-number_word}
-use Rattle.heap_words.specs.Decoded.{Decoded, NumberWord, PointerWord, HeaderWord, ForwardWord, BusyWord, Malformed, decode, number_in}
+use Rattle.heap_words.specs.Decoded.{Decoded, NumberWord, HeaderWord, decode, number_in}
 use Rattle.plain_state.specs.declared.sizes.TheConstants.{NUMBERS}
 use Rattle.heap_words.specs.Word.{number_word}
 use Rattle.plain_state.specs.Cells.{cell_of, value_of_cell}
@@ -47,11 +47,7 @@ holds_number E g v small = let d = decode-number_word v small in record { held =
 
 number_word_of : (d : Decoded) (v : ℕ) → number_in d ≡ Some v → d ≡ NumberWord v
 number_word_of (NumberWord n) v e = ap NumberWord (some_same e)
-number_word_of (PointerWord a) v e = none≢some e
-number_word_of (HeaderWord k l s o) v e = none≢some e
-number_word_of (ForwardWord l a) v e = none≢some e
-number_word_of (BusyWord l w) v e = none≢some e
-number_word_of Malformed v e = none≢some e
+number_word_of _ v e = none≢some e
 
 -- ---- mutators and registers
 

@@ -16,7 +16,7 @@ use Rattle.heap_state.specs.Invariant.Inductive.{Invariant, Knows}
 use Rattle.heap_state.specs.Invariant.Parts.Copying.{IsOrigin}
 use Rattle.heap_state.specs.Invariant.Parts.Knowledge.{Clean, Ends, Passes}
 use Rattle.heap_state.specs.Meaning.Values.{Accounts, RegistersShow, value_of, Shown}
-use Rattle.heap_state.specs.Worker.{Worker, Team, Post, Running, Outside, Scanner, Stopped, Flipping, Gone, Origin, Register, Scanned, Quest, Access, GateStep, is_mutator, is_live, is_running, is_flipper, is_gone, is_late, Reset, is_sized, Snapping, is_asking}
+use Rattle.heap_state.specs.Worker.{Worker, Team, Post, Running, Outside, Origin, Register, Scanned, Quest, Access, GateStep, is_mutator, is_live, is_running, is_flipper, is_gone, is_late, Reset, is_sized, is_asking}
 use Rattle.heap_state.proofs.Workers.Frames.{counted_put, staffed_put, scanned_put, stocks_put, numbered_put}
 use Rattle.heap_state.proofs.Puts.{put_at, put_other, each_put, team_put, none≢some, true_false}
 use Rattle.heap_laws.specs.Composing.{IsAtMost, SameScan}
@@ -44,12 +44,7 @@ pub record RunsAsMutator (post : Post) : Type 0 where
 
 pub runs : (post : Post) → is_running post ≡ true → RunsAsMutator post
 runs Running r = record { flips = refl; asks = refl; gone = refl; outside = λ e. absurd (cc); mutator = refl; live = refl }
-runs Scanner r = absurd (cc)
-runs Outside r = absurd (cc)
-runs Stopped r = absurd (cc)
-runs (Flipping asked) r = absurd (cc)
-runs Snapping r = absurd (cc)
-runs Gone r = absurd (cc)
+runs _ r = absurd (cc)
 
 -- who runs is not late
 pub timely : (E : Era) (w : Worker) → is_running w.post ≡ true → (is_running w.post ≡ true → w.epoch ≡ E.epoch) → is_late E.epoch w ≡ false

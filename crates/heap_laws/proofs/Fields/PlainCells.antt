@@ -3,7 +3,7 @@ use Rattle.std.proofs.Common.{◌≡◌, ◌≢◌, ℕ, false, Some, None, refl
 use Rattle.std.specs.Option.{option_and_then}
 use Rattle.std.proofs.lemmas.Bool.{cases_eq}
 use Rattle.plain_state.specs.declared.kind.Kind.{Kind}
-use Rattle.plain_state.specs.declared.kind.Kind.TheVariants.{Fields, Raw, Mixed, Weak}
+use Rattle.plain_state.specs.declared.kind.Kind.TheVariants.{Weak}
 use Rattle.plain_state.specs.declared.value.Identity.{Identity}
 use Rattle.plain_state.specs.declared.value.Value.{Value}
 use Rattle.plain_state.specs.Cells.{is_cell, cell_of, value_of_cell}
@@ -13,10 +13,8 @@ use Rattle.plain_state.proofs.Stored.{stored_there, stored_elsewhere}
 use Rattle.heap_state.proofs.Puts.{none≢some}
 
 no_cell : (k : Kind) → k ≢ Weak → is_cell k ≡ false
-no_cell Fields other = refl
-no_cell Raw other = refl
-no_cell (Mixed count) other = refl
 no_cell Weak other = absurd (other refl)
+no_cell _ other = refl
 
 -- r has the identity i, and its value x becomes y
 module _ (heap : Heap) (i : Identity) (r : Record) (x : ℕ) (y : Value) (is : record_of heap i ≡ Some r) (other : r.kind ≢ Weak) where

@@ -1,6 +1,6 @@
 -- Words that a mutator may hold are equal exactly where they denote the same value.
 use Rattle.std.proofs.Common.{◌≡◌, ℕ, ◌+◌, ◌<◌, ◌≤◌, ◌↔◌, Some, refl, sym, ap, ◌∙◌, ⊎_elim}
-use Rattle.heap_words.specs.Decoded.{Decoded, NumberWord, PointerWord, HeaderWord, ForwardWord, BusyWord, Malformed, decode}
+use Rattle.heap_words.specs.Decoded.{Decoded, NumberWord, PointerWord, decode}
 use Rattle.heap_words.proofs.Spelling.{number_word-decode, pointer_word-decode}
 use Rattle.heap_words.specs.Word.{number_word, pointer_word}
 use Rattle.plain_state.specs.declared.value.Identity.{Identity}
@@ -26,10 +26,7 @@ spelled identity w x e = by_word (decode w) refl e
     by_word : (d : Decoded) → decode w ≡ d → value_said identity d ≡ Some x → Spelled identity w x
     by_word (NumberWord n) f q = rw (← some_same q) (AsNumber n (number_word-decode w n f))
     by_word (PointerWord a) f q = rw (← some_same q) (AsPointer a f (pointer_word-decode w a f))
-    by_word (HeaderWord kind len serial mutator) f q = none≢some q
-    by_word (ForwardWord len a) f q = none≢some q
-    by_word (BusyWord len j) f q = none≢some q
-    by_word Malformed f q = none≢some q
+    by_word _ f q = none≢some q
 
 module _ (E : Era) (m : Memory) (team : Team) (g : Ghost) (k : ℕ) (ready : Ready E m team g k) where
   -- a pointer that a mutator may hold leads to a record of the epoch's space

@@ -16,7 +16,7 @@ use Rattle.heap_state.specs.Invariant.Inductive.{Invariant, Knows}
 use Rattle.heap_state.specs.Invariant.Parts.Copying.{IsOrigin, Seeks, Licensed}
 use Rattle.heap_state.specs.Invariant.Parts.Knowledge.{Clean, Passes, Timely}
 use Rattle.heap_state.specs.Meaning.Values.{Shown, RegistersShow, value_of}
-use Rattle.heap_state.specs.Worker.{Worker, Team, Post, Passage, Outside, Enter, Park, Request, Forwarded, Resume, Leave, Origin, Register, Quest, Copy, is_mutator, is_live, is_late, GateStep, RequestSnap, Clear}
+use Rattle.heap_state.specs.Worker.{Worker, Team, Post, Passage, Outside, Forwarded, Origin, Register, Quest, Copy, is_mutator, is_live, is_late, GateStep}
 use Rattle.heap_state.proofs.Workers.Frames.{counted_put, staffed_put, scanned_put, stocks_put, numbered_put, accounts_put}
 use Rattle.heap_state.proofs.Puts.{put_at, put_other, put_same, each_put, team_put, none≢some, some_same, put_is}
 use Rattle.heap_state.specs.Targets.{IsCopied}
@@ -35,14 +35,8 @@ use Rattle.heap_laws.proofs.Targets.Frames.{made_put}
 
 -- a passage that is allowed before the last register stays so
 passes_on : (post : Post) (epoch done then_done : ℕ) (ended seen : Bool) (read : GateWord) (p : Passage) → done < 8 → Passes post epoch done ended seen read p → Passes post epoch then_done ended seen read p
-passes_on post epoch done then_done ended seen read Enter l q = q
-passes_on post epoch done then_done ended seen read Park l q = q
-passes_on post epoch done then_done ended seen read (Request n) l q = q
-passes_on post epoch done then_done ended seen read RequestSnap l q = q
-passes_on post epoch done then_done ended seen read Clear l q = q
 passes_on post epoch done then_done ended seen read Forwarded l q = absurd (omega (arith, l, q.2))
-passes_on post epoch done then_done ended seen read Resume l q = q
-passes_on post epoch done then_done ended seen read Leave l q = q
+passes_on post epoch done then_done ended seen read _ l q = q
 
 module _ (E : Era) (m : Memory) (team : Team) (g : Ghost) (k : ℕ) (inv : Invariant E m team g) (below : k < team.count) (has : HasRegister E team k) where
   me : Knows E m.gate m.traced m.front m.low m.old_front m.old_low m.old_owed g m.page m.cross m.announced m.heap k (team.worker k)

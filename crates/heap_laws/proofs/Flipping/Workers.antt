@@ -10,7 +10,7 @@ use Rattle.heap_state.specs.Invariant.Inductive.{Knows, KnowsAtPages}
 use Rattle.heap_state.specs.Invariant.Parts.Copying.{IsOrigin, Licensed}
 use Rattle.heap_state.specs.Invariant.Parts.Knowledge.{Timely, Clean, Passes}
 use Rattle.heap_state.specs.Invariant.Parts.Scanning.{Rounds, Claims, Looks, LastLooks}
-use Rattle.heap_state.specs.Worker.{Worker, Team, Post, Scanner, Outside, Running, Stopped, Flipping, Gone, Passage, Enter, Park, Request, Forwarded, Resume, Leave, Origin, Register, Scanned, Quest, Round, Claim, Look, LastLook, GateStep, is_mutator, is_live, is_running, is_gone, is_behind, is_late, Snapping, RequestSnap, Clear, is_asking}
+use Rattle.heap_state.specs.Worker.{Worker, Team, Post, Scanner, Outside, Stopped, Flipping, Gone, Passage, Origin, Register, Scanned, Quest, Round, Claim, Look, LastLook, GateStep, is_mutator, is_live, is_running, is_gone, is_behind, is_late, Clear, is_asking}
 use Rattle.heap_state.proofs.Puts.{none≢some, true_false}
 use Rattle.heap_laws.specs.Flipping.Flip.{next_era, next_ghost, flipped_gate, after_flip}
 use Rattle.heap_laws.proofs.Flipping.Parts.{ReadyToFlip, nothing, lands_on, leads_inside, page_age, board_age}
@@ -27,46 +27,29 @@ none_true false f = refl
 
 -- a mutator that has no end and is not live is outside
 pub not_live : (post : Post) → is_mutator post ≡ true → is_live post ≡ false → is_gone post ≡ false → post ≡ Outside
-not_live Scanner m l g = absurd (cc)
 not_live Outside m l g = refl
-not_live Running m l g = absurd (cc)
-not_live Stopped m l g = absurd (cc)
-not_live (Flipping asked) m l g = absurd (cc)
-not_live Snapping m l g = absurd (cc)
-not_live Gone m l g = absurd (cc)
+not_live _ m l g = absurd (cc)
 
 -- who is not live, is no flipper and does not run is late in no epoch
 behind_live : (e own : ℕ) (post : Post) → is_behind e post own ≡ true → is_live post ≡ true
 behind_live e own Scanner b = absurd (cc)
 behind_live e own Outside b = absurd (cc)
-behind_live e own Running b = refl
-behind_live e own Stopped b = refl
-behind_live e own (Flipping asked) b = refl
-behind_live e own Snapping b = refl
 behind_live e own Gone b = absurd (cc)
+behind_live e own _ b = refl
 
 behind_next : (e own : ℕ) (post : Post) → (is_live post ≡ true → own ≡ e) → is_behind (e + 1) post own ≡ is_live post
 behind_next e own Scanner h = refl
 behind_next e own Outside h = refl
-behind_next e own Running h = let z : own + 1 ≡ e + 1 = ap (λ i. i + 1) (h refl) in eq-eqb (own + 1) (e + 1) z
-behind_next e own Stopped h = let z : own + 1 ≡ e + 1 = ap (λ i. i + 1) (h refl) in eq-eqb (own + 1) (e + 1) z
-behind_next e own (Flipping asked) h = let z : own + 1 ≡ e + 1 = ap (λ i. i + 1) (h refl) in eq-eqb (own + 1) (e + 1) z
-behind_next e own Snapping h = let z : own + 1 ≡ e + 1 = ap (λ i. i + 1) (h refl) in eq-eqb (own + 1) (e + 1) z
 behind_next e own Gone h = refl
+behind_next e own _ h = let z : own + 1 ≡ e + 1 = ap (λ i. i + 1) (h refl) in eq-eqb (own + 1) (e + 1) z
 
 behind_now : (e own : ℕ) (post : Post) → is_live post ≡ true → own + 1 ≡ e → is_behind e post own ≡ true
 behind_now e own post l z = rw (l, eq-eqb (own + 1) e z) refl
 
 -- who flips has no step at the gate before
 flipper_passes : (asked epoch done : ℕ) (ended seen : Bool) (read : GateWord) (p : Passage) {A : Type 0} → Passes (Flipping asked) epoch done ended seen read p → A
-flipper_passes asked epoch done ended seen read Enter q = absurd (let y = q.0 in cc)
-flipper_passes asked epoch done ended seen read Park q = absurd (let y = q.0 in cc)
-flipper_passes asked epoch done ended seen read (Request n) q = absurd (let y = q.0 in cc)
-flipper_passes asked epoch done ended seen read RequestSnap q = absurd (let y = q.0 in cc)
 flipper_passes asked epoch done ended seen read Clear q = absurd (cc)
-flipper_passes asked epoch done ended seen read Forwarded q = absurd (let y = q.0 in cc)
-flipper_passes asked epoch done ended seen read Resume q = absurd (let y = q.0 in cc)
-flipper_passes asked epoch done ended seen read Leave q = absurd (let y = q.0 in cc)
+flipper_passes asked epoch done ended seen read _ q = absurd (let y = q.0 in cc)
 
 module _ {E : Era} {m : Memory} {team : Team} {g : Ghost} (ready : ReadyToFlip E m team g) where
   abbrev E1 : Era

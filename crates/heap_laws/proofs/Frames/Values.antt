@@ -3,7 +3,7 @@ use Rattle.std.proofs.Common.{◌≡◌, ℕ, ◌+◌, ◌<◌, ◌≤◌, Some,
 use Rattle.std.proofs.lemmas.Bool.{cases_lt}
 use Rattle.std.proofs.lemmas.Option.{slice_get_within}
 use Rattle.plain_state.specs.declared.kind.Kind.{Kind}
-use Rattle.heap_words.specs.Decoded.{Decoded, NumberWord, PointerWord, HeaderWord, ForwardWord, BusyWord, Malformed, decode}
+use Rattle.heap_words.specs.Decoded.{Decoded, NumberWord, PointerWord, decode}
 use Rattle.heap_words.specs.Word.{number_word}
 use Rattle.heap_words.proofs.Decoding.{decode-number_word}
 use Rattle.plain_state.specs.State as plain
@@ -77,12 +77,8 @@ unfolding value_of
 pointer_from_value identity w i e = by_word (decode w) refl e
   where
     by_word : (v : Decoded) → decode w ≡ v → value_said identity v ≡ Some (Reference i) → (a : ℕ) × (decode w ≡ PointerWord a) × (identity a ≡ i)
-    by_word (NumberWord n) q e = absurd (cc)
     by_word (PointerWord a) q e = (a, q, reference_same e)
-    by_word (HeaderWord kind len serial mutator) q e = absurd (cc)
-    by_word (ForwardWord len b) q e = absurd (cc)
-    by_word (BusyWord len k) q e = absurd (cc)
-    by_word Malformed q e = absurd (cc)
+    by_word _ q e = absurd (cc)
 
 pub value_from_pointer : (identity : ℕ → Identity) (w a : ℕ) → decode w ≡ PointerWord a → value_of identity w ≡ Some (Reference (identity a))
 unfolding value_of
@@ -94,12 +90,8 @@ unfolding value_of
 value_agrees identity other w f = by_word (decode w) f
   where
     by_word : (v : Decoded) → ((a : ℕ) → v ≡ PointerWord a → other a ≡ identity a) → value_said other v ≡ value_said identity v
-    by_word (NumberWord n) f = refl
     by_word (PointerWord a) f = rw (f a refl) refl
-    by_word (HeaderWord kind len serial mutator) f = refl
-    by_word (ForwardWord len b) f = refl
-    by_word (BusyWord len k) f = refl
-    by_word Malformed f = refl
+    by_word _ f = refl
 
 -- ---- values of copies
 

@@ -12,7 +12,7 @@ use Rattle.heap_state.specs.Invariant.Parts.Copying.{IsOrigin, Licensed}
 use Rattle.heap_state.specs.Invariant.Parts.Knowledge.{Accesses, Clean, Ends, Passes, Resets}
 use Rattle.heap_state.specs.Invariant.Parts.Pages.{Quiet, Sizes}
 use Rattle.heap_state.specs.Invariant.Parts.Scanning.{Claims, Looks, LastLooks}
-use Rattle.heap_state.specs.Worker.{Worker, Team, Post, Scanner, Outside, Running, Stopped, Flipping, Gone, Passage, Enter, Park, Request, Forwarded, Resume, Leave, Origin, Register, Scanned, Quest, Claim, Look, LastLook, GateStep, Reset, Access, is_mutator, is_flipper, is_gone, is_live, is_running, is_late, Snapping, RequestSnap, Clear, is_asking}
+use Rattle.heap_state.specs.Worker.{Worker, Team, Post, Outside, Running, Stopped, Flipping, Gone, Passage, Enter, Park, Request, Forwarded, Resume, Leave, Origin, Register, Scanned, Quest, Claim, Look, LastLook, GateStep, Reset, Access, is_mutator, is_flipper, is_gone, is_live, is_running, is_late, Snapping, RequestSnap, Clear, is_asking}
 use Rattle.heap_state.proofs.Puts.{none≢some, true_false}
 use Rattle.heap_state.specs.Memory.Entries.{GateIs}
 use Rattle.heap_laws.specs.Cells.Frames.{GoesOnInChain}
@@ -30,13 +30,8 @@ use Rattle.heap_laws.proofs.Flipping.Reset.{one_asks}
 use Rattle.heap_laws.proofs.Fields.GoingOn.{none_sized}
 
 runs : (p : Post) → is_running p ≡ true → p ≡ Running
-runs Scanner e = absurd (cc)
-runs Outside e = absurd (cc)
 runs Running e = refl
-runs Stopped e = absurd (cc)
-runs (Flipping asked) e = absurd (cc)
-runs Snapping e = absurd (cc)
-runs Gone e = absurd (cc)
+runs _ e = absurd (cc)
 
 module _ (E : Era) (m : Memory) (team : Team) (g : Ghost) (k : ℕ) (s : GateStep) (ready : Ready E m team g k) (free : (team.worker k).pass ≡ None) (wins : WinsGate m team k s) where
   abbrev inv : Invariant E m team g
@@ -368,13 +363,7 @@ module _ (E : Era) (m : Memory) (team : Team) (g : Ghost) (k : ℕ) (s : GateSte
 -- a passage stays in the epoch
 pub same_epoch : (p : Passage) (gate : GateWord) → (gate_after p gate).epoch ≡ gate.epoch
 same_epoch Enter gate = refl
-same_epoch Park gate = refl
-same_epoch (Request asked) gate = refl
-same_epoch RequestSnap gate = refl
-same_epoch Clear gate = refl
-same_epoch Forwarded gate = refl
-same_epoch Resume gate = refl
-same_epoch Leave gate = refl
+same_epoch _ gate = refl
 
 pub passes_gate : PassingGateKeeps
 passes_gate E m team g k s ready free wins =

@@ -2,7 +2,7 @@
 use Rattle.std.proofs.Common.{◌≡◌, ℕ, Bool, ◌+◌, true, Some, is_some, refl, arith, ◌⊎◌, inl, ◌*◌}
 use Rattle.space_map.specs.declared.gate_word.GateWord.{GateWord}
 use Rattle.heap_state.specs.Invariant.Parts.Knowledge.{Passes}
-use Rattle.heap_state.specs.Worker.{Worker, Post, Passage, Enter, Park, Request, Forwarded, Resume, Leave, GateStep, is_running, RequestSnap, Clear, is_asking}
+use Rattle.heap_state.specs.Worker.{Worker, Post, Passage, Request, GateStep, is_running, RequestSnap, is_asking}
 use Rattle.heap_state.proofs.Puts.{some_same}
 use Rattle.heap_laws.proofs.Steps.Learning.{learns, learnt}
 use Rattle.heap_laws.specs.Gate.{ReadingGateKeeps, SeeingTracedKeeps, SeeingSizeKeeps, SizesAreKnown}
@@ -10,14 +10,9 @@ use Rattle.space_map.specs.declared.spaces.TheConstants.{PAGE_WORDS}
 
 -- a passage that is allowed is allowed to who has seen more
 seen_on : (post : Post) (epoch done : ℕ) (ended seen : Bool) (read : GateWord) (p : Passage) → Passes post epoch done ended seen read p → Passes post epoch done ended true read p
-seen_on post epoch done ended seen read Enter q = q
-seen_on post epoch done ended seen read Park q = q
 seen_on post epoch done ended seen read (Request asked) q = (q.0, q.1, q.2, refl)
 seen_on post epoch done ended seen read RequestSnap q = (q.0, q.1, q.2, refl)
-seen_on post epoch done ended seen read Clear q = q
-seen_on post epoch done ended seen read Forwarded q = q
-seen_on post epoch done ended seen read Resume q = q
-seen_on post epoch done ended seen read Leave q = q
+seen_on post epoch done ended seen read _ q = q
 
 pub reads_gate : ReadingGateKeeps
 reads_gate E m team g k p ready passes =

@@ -11,7 +11,7 @@ use Rattle.heap_state.specs.Memory.Table.{Table, word_in}
 use Rattle.heap_state.proofs.Table.LaidOut.{laid_out, table_in_use}
 use Rattle.heap_state.proofs.Table.Seen.{follows}
 use Rattle.heap_laws.specs.Lifting.{table_after, RowFits, StepsAreLifted, PlainStepsAreLifted, words_after_row, SizesAreLifted, Flipped, FlipsAreLifted}
-use Rattle.heap_laws.specs.Steps.{WritesRow, NoRow, InGate, InTraced, InArea, InOldArea, InWeak, InWeakTurn, InPage, InCross, InWord, InAnnounce, Beside, IsBeside}
+use Rattle.heap_laws.specs.Steps.{WritesRow, InGate, InArea, InOldArea, InWeak, InPage, InCross, InWord, InAnnounce, Beside, IsBeside}
 use Rattle.heap_laws.proofs.Lifting.Configurations.{board_at, seen, stand, ready}
 use Rattle.heap_laws.specs.Flipping.Flip.{FlipKeeps, flipped_gate, after_flip, next_ghost, next_era, next_memory}
 use Rattle.heap_laws.specs.Flipping.Sizes.{sized_era, after_size}
@@ -55,22 +55,20 @@ seen_beside c (ImageIs addr word) beside = record { fits = let b = board_at c in
 seen_beside c _ beside = absurd beside
 
 pub row_seen : (c : Configuration) (e : Option Entry) (later : Memory) → WritesRow (era c) (memory c) e later → RowSeen c e later
-row_seen c _ _ NoRow = record { fits = tt; era_stays = refl; memory_is = refl }
 row_seen c _ _ (InGate gate fits same) = record {
   fits = fits;
   era_stays = ap (era_at (table c).pages (table c).in_use) same;
   memory_is = ap (memory_at (table c) gate) same;
 }
-row_seen c _ _ (InTraced word) = record { fits = tt; era_stays = refl; memory_is = refl }
 row_seen c _ _ (InArea area fits) = record { fits = (omega arith, fits); era_stays = refl; memory_is = (follows.area (table c) area).now }
 row_seen c _ _ (InOldArea area fits) = record { fits = (omega arith, fits); era_stays = refl; memory_is = (follows.area (table c) area).old }
 row_seen c _ _ (InWeak word small) = record { fits = small; era_stays = refl; memory_is = refl }
-row_seen c _ _ (InWeakTurn word) = record { fits = tt; era_stays = refl; memory_is = refl }
 row_seen c _ _ (InPage page word below fits) = record { fits = (let b = board_at c in omega (arith, b, below), fits); era_stays = refl; memory_is = refl }
 row_seen c _ _ (InCross page place below) = record { fits = let b = board_at c in omega (arith, b, below); era_stays = refl; memory_is = refl }
 row_seen c _ _ (InWord addr word below) = record { fits = let b = board_at c in omega (arith, b, below); era_stays = refl; memory_is = refl }
 row_seen c _ _ (InAnnounce worker place below) = record { fits = omega (arith, below); era_stays = refl; memory_is = refl }
 row_seen c _ _ (Beside e beside) = seen_beside c e beside
+row_seen c _ _ _ = record { fits = tt; era_stays = refl; memory_is = refl }
 
 -- ---- the step
 

@@ -14,7 +14,7 @@ use Rattle.heap_state.specs.Saving.Frozen.{Frozen}
 use Rattle.heap_state.specs.Saving.Parts.{SavingStands}
 use Rattle.heap_state.specs.Saving.Savers.{Saver}
 use Rattle.heap_state.specs.Saving.Words.{Saves}
-use Rattle.heap_state.specs.Worker.{Worker, Team, Post, Scanner, Outside, Running, Stopped, Flipping, Snapping, Gone, Passage, Enter, Park, Request, RequestSnap, Clear, Forwarded, Resume, Leave, Reset, is_running, is_asking}
+use Rattle.heap_state.specs.Worker.{Worker, Team, Post, Running, Snapping, Passage, Enter, Park, Request, RequestSnap, Clear, Forwarded, Resume, Leave, Reset, is_running, is_asking}
 use Rattle.heap_state.proofs.Puts.{put_at, put_other, true_false}
 use Rattle.heap_laws.specs.Answers.{IsCounted}
 use Rattle.heap_laws.specs.Flipping.Flip.{Flips, flipped_gate, after_flip}
@@ -72,12 +72,10 @@ passes_astir : (post : Post) (epoch done : ℕ) (ended traced_seen : Bool) (gate
     → p ≢ Clear → IsAstir gate
 passes_astir post epoch done ended traced_seen gate Enter may some other = NobodyAsks may.1
 passes_astir post epoch done ended traced_seen gate Park may some other = SomeoneRuns some
-passes_astir post epoch done ended traced_seen gate (Request asked) may some other = NobodyAsks may.2
-passes_astir post epoch done ended traced_seen gate RequestSnap may some other = NobodyAsks may.2
 passes_astir post epoch done ended traced_seen gate Clear may some other = absurd (other refl)
 passes_astir post epoch done ended traced_seen gate Forwarded may some other = SomeoneIsBehind some
-passes_astir post epoch done ended traced_seen gate Resume may some other = NobodyAsks may.2
 passes_astir post epoch done ended traced_seen gate Leave may some other = SomeoneRuns some.1
+passes_astir post epoch done ended traced_seen gate _ may some other = NobodyAsks may.2
 
 pub passages_are_spared : PassagesAreSpared
 passages_are_spared t s z team g saver k step stands ready follow wins other =
@@ -181,12 +179,7 @@ follow_put count worker saver k v w follow runs asks = record {
 -- who runs doesn't hold the request
 runs_idle : (post : Post) → is_running post ≡ true → is_asking post ≡ false
 runs_idle Running is = refl
-runs_idle Scanner is = absurd (cc)
-runs_idle Outside is = absurd (cc)
-runs_idle Stopped is = absurd (cc)
-runs_idle (Flipping asked) is = absurd (cc)
-runs_idle Snapping is = absurd (cc)
-runs_idle Gone is = absurd (cc)
+runs_idle _ is = absurd (cc)
 
 module _ (epoch : ℕ) (v : Worker) (w : Saver) (runs : w.runs ≡ is_running v.post) (asks : w.asks ≡ is_asking v.post) where
   post_after : (read : GateWord) (p : Passage) → Passes v.post v.epoch v.done (is_some v.account.end) v.traced_seen read p

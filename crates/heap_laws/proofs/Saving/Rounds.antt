@@ -343,19 +343,8 @@ module _ (t : Table) (s : Saves) (z : Frozen) (k : ℕ) (v : Saver) (words : Sav
 
   own_learnt : (w : Saver) → LearnsOfSaves t s v w → ((page c : ℕ) → s.save page ≡ Saving c k → HasWonSave v page c) → (page c : ℕ) → s.save page ≡ Saving c k
       → HasWonSave w page c
-  own_learnt _ (RecallsSnap number runs not_recalled read) own page c is = has_won_as v _ page c refl (own page c is)
-  own_learnt _ (RecallsDone done recalled next read) own page c is = has_won_as v _ page c refl (own page c is)
-  own_learnt _ (FindsRest recalled same traced) own page c is = has_won_as v _ page c refl (own page c is)
-  own_learnt _ (BeginsRound number epoch recalled known other now) own page c is = has_won_as v _ page c refl (own page c is)
-  own_learnt _ (ReadsGate epoch now) own page c is = has_won_as v _ page c refl (own page c is)
-  own_learnt _ (ReadsSnap epoch number same read) own page c is = has_won_as v _ page c refl (own page c is)
-  own_learnt _ (ReadsDone epoch number same other) own page c is = has_won_as v _ page c refl (own page c is)
-  own_learnt _ (ReadsGateAgain epoch number same now) own page c is = has_won_as v _ page c refl (own page c is)
-  own_learnt _ (FindsOpen r p same of opened) own page c is = has_won_as v _ page c refl (own page c is)
-  own_learnt _ (PassesClosed r p same next other) own page c is = has_won_as v _ page c refl (own page c is)
-  own_learnt _ (PassesKept r p says same next read of not_saving) own page c is = has_won_as v _ page c refl (own page c is)
-  own_learnt _ (PassesBusy r p same next) own page c is = has_won_as v _ page c refl (own page c is)
   own_learnt _ (BeginsSaving r p says same opened none read earlier) own page c is = none≢some (sym none ∙ (own page c is).is)
+  own_learnt _ _ own page c is = has_won_as v _ page c refl (own page c is)
 
 pub savers_learn : SaversLearn
 savers_learn t s z count saver k w stands in_team learns =

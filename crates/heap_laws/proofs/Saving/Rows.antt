@@ -8,7 +8,7 @@ use Rattle.heap_state.specs.Saving.Frozen.{Frozen}
 use Rattle.heap_state.specs.Saving.Savers.{Saver}
 use Rattle.heap_state.proofs.Puts.{put_at, put_other, true_false, none≢some}
 use Rattle.heap_laws.specs.Lifting.{table_after}
-use Rattle.heap_laws.specs.Saving.Rows.{RowsAreSpared, Spares, SparesNone, SparesCross, SparesAnnounce, SparesArea, SparesWeak, SparesWeakTurn, SparesSize, SparesWord, SparesPage, SparesTraced, SparesGate}
+use Rattle.heap_laws.specs.Saving.Rows.{RowsAreSpared, Spares, SparesNone, SparesWord, SparesPage, SparesTraced, SparesGate}
 use Rattle.heap_laws.proofs.Saving.Tables.{Leaves, words_after, knows_after}
 
 -- a table of which no part changes that is read of checkpoints
@@ -26,12 +26,6 @@ nothing_read t u s z pages gate traced page heap = record {
 module _ (t : Table) (s : Saves) (z : Frozen) (count : ℕ) (saver : ℕ → Saver) where
   leaves : (e : Option Entry) → Spares t s z count saver e → Leaves t (table_after t e) s z
   leaves _ SparesNone = nothing_read t t s z refl refl refl refl refl
-  leaves _ (SparesCross page place) = nothing_read t _ s z refl refl refl refl refl
-  leaves _ (SparesAnnounce worker place) = nothing_read t _ s z refl refl refl refl refl
-  leaves _ (SparesArea space area) = nothing_read t _ s z refl refl refl refl refl
-  leaves _ (SparesWeak word) = nothing_read t _ s z refl refl refl refl refl
-  leaves _ (SparesWeakTurn word) = nothing_read t _ s z refl refl refl refl refl
-  leaves _ (SparesSize space pages) = nothing_read t _ s z refl refl refl refl refl
   leaves _ (SparesWord addr word saved) = record {
     pages = refl;
     epoch = refl;
@@ -67,20 +61,12 @@ module _ (t : Table) (s : Saves) (z : Frozen) (count : ℕ) (saver : ℕ → Sav
     held = λ runs page held. refl;
     heap = λ runs x held loose. refl;
   }
+  leaves _ _ = nothing_read t _ s z refl refl refl refl refl
 
   -- who is still still sees its gate
   gate_after : (e : Option Entry) → Spares t s z count saver e → (k : ℕ) → k < count → (gate : _) → (saver k).still ≡ Some gate → (table_after t e).gate ≡ t.gate
-  gate_after _ SparesNone k in_team gate is = refl
-  gate_after _ (SparesCross page place) k in_team gate is = refl
-  gate_after _ (SparesAnnounce worker place) k in_team gate is = refl
-  gate_after _ (SparesArea space area) k in_team gate is = refl
-  gate_after _ (SparesWeak word) k in_team gate is = refl
-  gate_after _ (SparesWeakTurn word) k in_team gate is = refl
-  gate_after _ (SparesSize space pages) k in_team gate is = refl
-  gate_after _ (SparesWord addr word saved) k in_team gate is = refl
-  gate_after _ (SparesPage page word loose opens) k in_team gate is = refl
-  gate_after _ (SparesTraced word untraced same) k in_team gate is = refl
   gate_after _ (SparesGate g same nobody) k in_team gate is = none≢some (sym (nobody k in_team) ∙ is)
+  gate_after _ _ k in_team gate is = refl
 
 pub rows_are_spared : RowsAreSpared
 rows_are_spared t s z count saver e stands spares =

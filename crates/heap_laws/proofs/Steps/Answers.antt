@@ -4,7 +4,7 @@ use Rattle.std.proofs.lemmas.Bool.{cases_eq}
 use Rattle.heap_words.specs.declared.kind.Kind.TheVariants as header
 use Rattle.heap_words.specs.Decoded.{decode}
 use Rattle.plain_state.specs.declared.kind.Kind.{Kind}
-use Rattle.plain_state.specs.declared.kind.Kind.TheVariants.{Fields, Raw, Mixed, Weak}
+use Rattle.plain_state.specs.declared.kind.Kind.TheVariants.{Mixed}
 use Rattle.plain_state.specs.State.{Plain}
 use Rattle.space_map.specs.declared.spaces.TheConstants.{MOST_MUTATORS, MOST_SCANNERS}
 use Rattle.space_map.specs.GateWord.{GateFits}
@@ -15,7 +15,7 @@ use Rattle.heap_state.specs.Memory.Era.{Era, Memory, from_space}
 use Rattle.heap_state.specs.Functions.{count_one}
 use Rattle.heap_state.specs.Invariant.Ghost.{Ghost, header_kind}
 use Rattle.heap_state.specs.Invariant.Parts.Knowledge.{Passes}
-use Rattle.heap_state.specs.Worker.{Team, Post, Outside, Stopped, Passage, Enter, Park, Request, Forwarded, Resume, Leave, Scan, is_live, is_running, is_late, is_gone, Flipping, Gone, Running, Scanner, Snapping, RequestSnap, Clear}
+use Rattle.heap_state.specs.Worker.{Team, Post, Passage, Enter, Park, Request, Forwarded, Leave, Scan, is_live, is_running, is_late, is_gone, Running, RequestSnap, Clear}
 use Rattle.heap_state.proofs.Records.Headers.{count_there}
 use Rattle.heap_state.proofs.Records.Holding.{First, OwnHeader, KeptBy as KeptByWorker, GoneTo, first, uncopied_here}
 use Rattle.heap_state.proofs.Table.LaidOut.{table_pages, table_in_use, to_space-before}
@@ -72,10 +72,8 @@ copies_are_there E m team g k c ready has = record {
 
 module _ (E : Era) (m : Memory) (team : Team) (g : Ghost) (k : ℕ) (s : Scan) (ready : Ready E m team g k) (is : IsScanning team k s) where
   mixed_of : (kind : Kind) → header_kind kind ≡ header.Mixed → (count : ℕ) × (kind ≡ Mixed count)
-  mixed_of Fields e = absurd (cc)
-  mixed_of Raw e = absurd (cc)
   mixed_of (Mixed count) e = (count, refl)
-  mixed_of Weak e = absurd (cc)
+  mixed_of _ e = absurd (cc)
 
   -- a record of the epoch's space below FRONT has its header
   meets : (a : ℕ) → 0 < g.size a → g.writer a ≡ 0 → E.start ≤ a → a + g.size a ≤ m.front → (h : MeetsHeader m a) × (h.len + 1 ≡ g.size a)
@@ -153,32 +151,22 @@ module _ (E : Era) (m : Memory) (team : Team) (g : Ghost) (k : ℕ) (ready : Rea
 
   runs_live : (post : Post) → is_running post ≡ true → is_live post ≡ true
   runs_live Running e = refl
-  runs_live Scanner e = absurd (cc)
-  runs_live Outside e = absurd (cc)
-  runs_live Stopped e = absurd (cc)
-  runs_live (Flipping asked) e = absurd (cc)
-  runs_live Snapping e = absurd (cc)
-  runs_live Gone e = absurd (cc)
+  runs_live _ e = absurd (cc)
 
   is_counted : (p : Passage) → Passes (team.worker k).post (team.worker k).epoch (team.worker k).done (is_some (team.worker k).account.end) (team.worker k).traced_seen m.gate p → IsCounted m.gate p
-  is_counted Enter y = tt
   is_counted Park y = running_some y.0
   is_counted (Request asked) y = running_some y.0
   is_counted RequestSnap y = running_some y.0
-  is_counted Clear y = tt
   is_counted Forwarded y = behind_some (rw (y.0, eq-eqb ((team.worker k).epoch + 1) m.gate.epoch (sym y.1)) refl)
-  is_counted Resume y = tt
   is_counted Leave y = (live_some (runs_live (team.worker k).post y.0), running_some y.0)
+  is_counted _ y = tt
 
   after : (p : Passage) → GateFits (gate_after p m.gate)
   after Enter = record { epoch_fits = now.epoch_fits; live_fits = let f = few in omega (arith, f); running_fits = let f = few in omega (arith, f); behind_fits = now.behind_fits; left_fits = now.left_fits }
-  after Park = record { epoch_fits = now.epoch_fits; live_fits = now.live_fits; running_fits = let f = few in omega (arith, f); behind_fits = now.behind_fits; left_fits = now.left_fits }
-  after (Request asked) = record { epoch_fits = now.epoch_fits; live_fits = now.live_fits; running_fits = let f = few in omega (arith, f); behind_fits = now.behind_fits; left_fits = now.left_fits }
-  after RequestSnap = record { epoch_fits = now.epoch_fits; live_fits = now.live_fits; running_fits = let f = few in omega (arith, f); behind_fits = now.behind_fits; left_fits = now.left_fits }
   after Clear = record { epoch_fits = now.epoch_fits; live_fits = now.live_fits; running_fits = now.running_fits; behind_fits = now.behind_fits; left_fits = now.left_fits }
   after Forwarded = record { epoch_fits = now.epoch_fits; live_fits = now.live_fits; running_fits = now.running_fits; behind_fits = let f = now.behind_fits in omega (arith, f); left_fits = now.left_fits }
-  after Resume = record { epoch_fits = now.epoch_fits; live_fits = now.live_fits; running_fits = let f = few in omega (arith, f); behind_fits = now.behind_fits; left_fits = now.left_fits }
   after Leave = record { epoch_fits = now.epoch_fits; live_fits = let f = few in omega (arith, f); running_fits = let f = few in omega (arith, f); behind_fits = now.behind_fits; left_fits = let f = few in omega (arith, f) }
+  after _ = record { epoch_fits = now.epoch_fits; live_fits = now.live_fits; running_fits = let f = few in omega (arith, f); behind_fits = now.behind_fits; left_fits = now.left_fits }
 
 pub passages_fit : PassagesFit
 passages_fit E m team g k p ready passes = record { counted = is_counted E m team g k ready p passes; fits = now E m team g k ready; after = after E m team g k ready p }

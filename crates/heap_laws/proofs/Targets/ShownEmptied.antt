@@ -3,7 +3,7 @@
 use Rattle.std.proofs.Common.{◌≡◌, ℕ, ◌+◌, inl, Bool, true, false, cond, List, Option, Some, length, slice_get, refl, ap, sym, ◌∙◌, arith, length-set, ⊎_elim}
 use Rattle.std.specs.Option.{option_map}
 use Rattle.plain_state.specs.declared.kind.Kind.{Kind}
-use Rattle.plain_state.specs.declared.kind.Kind.TheVariants.{Fields, Raw, Mixed, Weak}
+use Rattle.plain_state.specs.declared.kind.Kind.TheVariants.{Fields}
 use Rattle.plain_state.specs.declared.value.Value.{Value}
 use Rattle.plain_state.specs.declared.value.Value.TheVariants.{Number}
 use Rattle.plain_state.specs.Cells.{is_cell, without_target}
@@ -23,15 +23,11 @@ use Rattle.heap_laws.specs.Tracing.{FollowsTargets}
 -- no word of a cell is a field or a number
 no_field : (kind : Kind) (word : ℕ) → is_cell kind ≡ true → is_field kind word ≡ true → ⊥
 no_field Fields word cell is = cc
-no_field Raw word cell is = cc
-no_field (Mixed count) word cell is = cc
-no_field Weak word cell is = cc
+no_field _ word cell is = cc
 
 no_raw : (kind : Kind) (word : ℕ) → is_cell kind ≡ true → is_raw kind word ≡ true → ⊥
 no_raw Fields word cell is = cc
-no_raw Raw word cell is = cc
-no_raw (Mixed count) word cell is = cc
-no_raw Weak word cell is = cc
+no_raw _ word cell is = cc
 
 -- so what shows a record shows it with the number 0 in it, if it is a cell
 pub shows_emptied : (denotes : ℕ → Option Value) (heap : ℕ → ℕ) (a : ℕ) (kind : Kind) (size : ℕ) (r : plain.Record)

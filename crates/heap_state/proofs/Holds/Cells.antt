@@ -2,7 +2,7 @@
 use Rattle.std.proofs.Common.{◌≡◌, ◌≢◌, ℕ, zero, suc, ◌+◌, ◌-◌, ◌*◌, ◌<◌, ◌≤◌, Bool, true, false, cond, List, [], ◌∷◌, length, Option, Some, None, slice_get, is_some, refl, sym, ap, ◌∙◌, subst, arith, ⊎_elim, ◌⊎◌, inl, inr}
 use Rattle.std.proofs.lemmas.Bool.{cases_eq, cases_lt}
 use Rattle.plain_state.specs.declared.kind.Kind.{Kind}
-use Rattle.plain_state.specs.declared.kind.Kind.TheVariants.{Fields, Raw, Mixed, Weak}
+use Rattle.plain_state.specs.declared.kind.Kind.TheVariants.{Weak}
 use Rattle.heap_words.specs.declared.kind.Kind.TheVariants as header_kinds
 use Rattle.heap_words.specs.Decoded.{HeaderWord, decode}
 use Rattle.heap_state.specs.Cells.{Ranks, IsCopiedCell, LeadsToRank, HasCopier, Linked, MayCopy, Passing, Chain, passed_from}
@@ -84,10 +84,8 @@ module _ (c : Configuration) (g : Ghost) (formed : IsFormed c.pages c.words) (in
   -- ---- cells
 
   weak_kind : (kind : Kind) → header_kind kind ≡ header_kinds.Weak → kind ≡ Weak
-  weak_kind Fields e = absurd (cc)
-  weak_kind Raw e = absurd (cc)
-  weak_kind (Mixed count) e = absurd (cc)
   weak_kind Weak e = refl
+  weak_kind _ e = absurd (cc)
 
   -- the header of a copy is in its place
   header : (a : ℕ) → 0 < g.size a → g.writer a ≡ 0 → E.start ≤ a → a < m.front → decode (m.heap a) ≡ HeaderWord (header_kind (g.kind a)) (g.size a - 1) (g.identity a).serial (g.identity a).mutator

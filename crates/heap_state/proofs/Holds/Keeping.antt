@@ -18,7 +18,7 @@ use Rattle.heap_state.specs.Meaning.Represents.{IsInHeap}
 use Rattle.heap_state.proofs.Walks.Reserving.{kept_there}
 use Rattle.heap_state.specs.Sums.{is_uncopied}
 use Rattle.heap_state.specs.Memory.Walk.{Walked}
-use Rattle.heap_state.specs.Worker.{Post, Scanner, Outside, Running, Stopped, Flipping, Snapping, Gone, Claim, Stock, is_live, is_running, is_asking, is_late}
+use Rattle.heap_state.specs.Worker.{Post, Running, Stopped, Flipping, Snapping, Claim, Stock, is_live, is_running, is_asking, is_late}
 use Rattle.heap_state.proofs.Puts.{sum_below-none}
 use Rattle.heap_state.proofs.Holds.Cells.{cells_hold}
 use Rattle.heap_state.proofs.Table.LaidOut.{table_in_use}
@@ -43,13 +43,11 @@ module _ (c : Configuration) (g : Ghost) (formed : IsFormed c.pages c.words) (in
 
   -- who is live but neither runs nor asks is stopped
   is_stopped : (post : Post) → is_live post ≡ true → (is_running post ≡ true → ⊥) → (is_asking post ≡ true → ⊥) → post ≡ Stopped
-  is_stopped Scanner live runs asks = absurd (cc)
-  is_stopped Outside live runs asks = absurd (cc)
   is_stopped Running live runs asks = absurd (runs refl)
   is_stopped Stopped live runs asks = refl
   is_stopped (Flipping asked) live runs asks = absurd (asks refl)
   is_stopped Snapping live runs asks = absurd (asks refl)
-  is_stopped Gone live runs asks = absurd (cc)
+  is_stopped _ live runs asks = absurd (cc)
 
   gate : GateHolds c
   gate = record {

@@ -19,10 +19,8 @@ field-span Weak i size f l = (λ e. absurd (cc), λ o. absurd (omega (arith, o))
 
 -- no field is a record's first word, and none lies behind the record
 pub span-within : (k : Kind) (size : ℕ) → 0 < size → ((count : ℕ) → k ≡ Mixed count → count + 2 ≤ size) → (0 < first_field k) × (first_field k ≤ size) × (fields_end k size ≤ size)
-span-within Fields size s room = (omega arith, omega arith, omega arith)
-span-within Raw size s room = (omega arith, omega arith, omega arith)
 span-within (Mixed count) size s room = let r = room count refl in (omega arith, omega (arith, r), r)
-span-within Weak size s room = (omega arith, omega arith, omega arith)
+span-within _ size s room = (omega arith, omega arith, omega arith)
 
 module _ (r : SeenRecord) (k : Kind) (size : ℕ) (fields : r.fields_end ≡ r.at + fields_end k size) (whole : r.next ≡ r.at + size) where
   -- a scan goes on not before y, and not behind the record

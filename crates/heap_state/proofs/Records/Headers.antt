@@ -1,7 +1,7 @@
 -- The kind that a header says, with the word after it.
 use Rattle.std.proofs.Common.{◌≡◌, ℕ, ◌+◌, ◌<◌, refl, ap, ◌∙◌, arith}
 use Rattle.plain_state.specs.declared.kind.Kind.{Kind}
-use Rattle.plain_state.specs.declared.kind.Kind.TheVariants.{Fields, Raw, Mixed, Weak}
+use Rattle.plain_state.specs.declared.kind.Kind.TheVariants.{Mixed, Weak}
 use Rattle.plain_state.specs.declared.sizes.TheConstants.{NUMBERS}
 use Rattle.plain_state.specs.Layout.{is_field}
 use Rattle.heap_words.specs.declared.kind.Kind.TheVariants as header
@@ -14,19 +14,15 @@ use Rattle.heap_state.specs.Invariant.Parts.Records.{RawWords, Counts}
 -- a record's header, with the word after it, says the record's kind
 said_kind-header_kind : (k : Kind) (next : ℕ) → ((count : ℕ) → k ≡ Mixed count → (next ≡ number_word count) × (next < NUMBERS)) → said_kind (header_kind k) next ≡ k
 unfolding number_word
-said_kind-header_kind Fields next says = refl
-said_kind-header_kind Raw next says = refl
 said_kind-header_kind (Mixed count) next says =
     let s = says count refl in
     ap (λ w. Mixed (count_said (decode w))) s.0 ∙ ap (λ d. Mixed (count_said d)) (decode-number_word count (omega (arith, s.0, s.1)))
-said_kind-header_kind Weak next says = refl
+said_kind-header_kind _ next says = refl
 
 -- only a cell has a cell's header
 pub weak_header : (k : Kind) → header_kind k ≡ header.Weak → k ≡ Weak
-weak_header Fields e = cc
-weak_header Raw e = cc
-weak_header (Mixed count) e = cc
 weak_header Weak e = refl
+weak_header _ e = cc
 
 module _ (size writer : ℕ → ℕ) (kind : ℕ → Kind) (heap : ℕ → ℕ) (raw_words : RawWords size writer kind heap) (counts : Counts size writer kind heap) (a : ℕ) (stands : 0 < size a) (written : writer a ≡ 0) where
   pub said_there : said_kind (header_kind (kind a)) (heap (a + 1)) ≡ kind a

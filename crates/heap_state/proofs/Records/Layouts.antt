@@ -18,9 +18,7 @@ raw_is_no_field Weak i e = cc
 -- values begin behind the header
 pub values_behind_header : (k : Kind) → 0 < values_at k
 values_behind_header Fields = omega arith
-values_behind_header Raw = omega arith
-values_behind_header (Mixed count) = omega arith
-values_behind_header Weak = omega arith
+values_behind_header _ = omega arith
 
 -- a field behind the header is a value
 pub field_is_value : (k : Kind) (i : ℕ) → 0 < i → is_field k i ≡ true → values_at k ≤ i
@@ -31,16 +29,12 @@ field_is_value Weak i f e = cc
 
 -- behind the values of a record that has a field or a plain number there is no word
 none_behind_fields : (k : Kind) (i : ℕ) → is_field k i ≡ true → words_behind k ≡ 0
-none_behind_fields Fields i e = refl
-none_behind_fields Raw i e = refl
-none_behind_fields (Mixed count) i e = refl
 none_behind_fields Weak i e = cc
+none_behind_fields _ i e = refl
 
 none_behind_numbers : (k : Kind) (i : ℕ) → is_raw k i ≡ true → words_behind k ≡ 0
-none_behind_numbers Fields i e = refl
-none_behind_numbers Raw i e = refl
-none_behind_numbers (Mixed count) i e = refl
 none_behind_numbers Weak i e = cc
+none_behind_numbers _ i e = refl
 
 -- each value of a record stands behind the header, and within the record
 pub value_within : {denotes : ℕ → Option Value} {heap : ℕ → ℕ} {a z : ℕ} {k : Kind} (r : plain.Record) → Shows denotes heap a k z r → (x : ℕ) → x < length r.values
@@ -62,7 +56,5 @@ pub count_stays : {denotes : ℕ → Option Value} {heap : ℕ → ℕ} {a z : �
 count_stays {heap = heap} {a = a} {z = z} {k = k} r s changed b same = let e = s.size in let n = ap values_at s.kind in by_kind k (omega (arith, e, n)) same s.count
   where
     by_kind : (k : Kind) → values_at k ≤ z → (1 < values_at k → 1 < z → is_field k 1 ≡ false → changed (b + 1) ≡ heap (a + 1)) → CountShows k heap a → CountShows k changed b
-    by_kind Fields room same shows = tt
-    by_kind Raw room same shows = tt
     by_kind (Mixed count) room same shows = same (omega arith) room refl ∙ shows
-    by_kind Weak room same shows = tt
+    by_kind _ room same shows = tt

@@ -1,7 +1,7 @@
 -- A word denotes what the proofs know it to.
 use Rattle.std.proofs.Common.{◌≡◌, ℕ, ◌+◌, ◌-◌, ◌*◌, ◌/◌, ◌<◌, ◌≤◌, Option, Some, refl, ap, arith, ⊎_elim, ◌⊎◌, inl, inr}
 use Rattle.std.proofs.lemmas.Bool.{cases_lt}
-use Rattle.heap_words.specs.Decoded.{Decoded, NumberWord, PointerWord, HeaderWord, BusyWord, ForwardWord, Malformed, decode}
+use Rattle.heap_words.specs.Decoded.{Decoded, PointerWord, HeaderWord, ForwardWord, Malformed, decode}
 use Rattle.plain_state.specs.declared.value.Identity.{Identity}
 use Rattle.space_map.specs.declared.page_word.PageWord.TheVariants.{Open}
 use Rattle.heap_state.specs.Memory.Table.{IsFormed}
@@ -65,12 +65,8 @@ module _ (c : Configuration) (g : Ghost) (formed : IsFormed c.pages c.words) (in
   denotes w lands = by_word (decode w) refl
     where
       by_word : (d : Decoded) → decode w ≡ d → denoted_by m.heap (kept_of c.workers) d ≡ value_said g.identity d
-      by_word (NumberWord n) e = refl
       by_word (PointerWord a) e = let l = lands a e in rw (named a l.0 l.1) refl
-      by_word (HeaderWord k l s o) e = refl
-      by_word (BusyWord l k) e = refl
-      by_word (ForwardWord l a) e = refl
-      by_word Malformed e = refl
+      by_word _ e = refl
 
   -- ---- where words lead
 

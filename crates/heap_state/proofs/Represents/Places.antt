@@ -23,22 +23,12 @@ same_kind Fields Fields e f = refl
 same_kind Raw Raw e f = refl
 same_kind Weak Weak e f = refl
 same_kind (Mixed n) l e f = absurd (omega arith)
-same_kind Fields Raw e f = cc
-same_kind Fields (Mixed n) e f = cc
-same_kind Fields Weak e f = cc
-same_kind Raw Fields e f = cc
-same_kind Raw (Mixed n) e f = cc
-same_kind Raw Weak e f = cc
-same_kind Weak Fields e f = cc
-same_kind Weak Raw e f = cc
-same_kind Weak (Mixed n) e f = cc
+same_kind _ _ e f = cc
 
 -- where no count stands none is asked for
 no_count : (k : Kind) (heap : ℕ → ℕ) (a : ℕ) → values_at k < 2 → CountShows k heap a
-no_count Fields heap a f = tt
-no_count Raw heap a f = tt
 no_count (Mixed n) heap a f = absurd (omega arith)
-no_count Weak heap a f = tt
+no_count _ heap a f = tt
 
 module _ (d : Dump) (p : plain.Plain) (w : Walked) where
   abbrev heap : ℕ → ℕ

@@ -2,7 +2,7 @@
 use Rattle.std.proofs.Common.{◌≡◌, ◌≢◌, ℕ, ◌<◌, ⊎_elim, true, false, refl, ap, arith}
 use Rattle.std.proofs.lemmas.Bool.{cases_Bool, cases_eq, eq-eqb, ne_eqb, eqb-true}
 use Rattle.space_map.specs.declared.save_word.SaveWord.{SaveWord}
-use Rattle.space_map.specs.declared.save_word.SaveWord.TheVariants.{Unsaved, Saving, Saved, New}
+use Rattle.space_map.specs.declared.save_word.SaveWord.TheVariants.{Saved}
 use Rattle.space_map.specs.Spaces.{page_of}
 use Rattle.heap_state.specs.Memory.Table.{table_of}
 use Rattle.heap_state.specs.Saving.Words.{saves_of, is_saved_for}
@@ -11,10 +11,8 @@ use Rattle.heap_state.proofs.Puts.{true_false}
 
 -- the test tells which SAVE says that the page is saved
 saved_for : (c : ℕ) (v : SaveWord) → is_saved_for c v ≡ true → v ≡ Saved c
-saved_for c Unsaved is = cc
-saved_for c (Saving number worker) is = cc
 saved_for c (Saved number) is = ap Saved (eqb-true number c is)
-saved_for c (New number) is = cc
+saved_for c _ is = cc
 
 saved_tested : (c : ℕ) (v : SaveWord) → v ≡ Saved c → is_saved_for c v ≡ true
 saved_tested c v is = rw is (eq-eqb c c refl)

@@ -10,7 +10,7 @@ use Rattle.space_map.proofs.AreaWords.{area_in-encode_area, encode_area-lt}
 use Rattle.space_map.proofs.GateWords.{gate_in-encode_gate, encode_gate-lt}
 use Rattle.space_map.proofs.PageWords.{decode_page-encode_page}
 use Rattle.space_map.proofs.Rows.{row_eq, row_eq-decides}
-use Rattle.heap_state.specs.Memory.Entries.{WholeRow, Within, Behind, whole_place_of, IsWholeRow, Entry, GateIs, TracedIs, AreaIs, WeakIs, WeakTurnIs, SizeIs, PageIs, CrossIs, WordIs, AnnounceIs, SnapIs, DoneIs, SaveIs, ImageIs, EntryFits, row_of, word_of, with_entry}
+use Rattle.heap_state.specs.Memory.Entries.{WholeRow, Within, Behind, whole_place_of, IsWholeRow, Entry, GateIs, AreaIs, WeakIs, SizeIs, PageIs, SnapIs, DoneIs, SaveIs, EntryFits, row_of, word_of, with_entry}
 use Rattle.heap_state.specs.Functions.{put}
 use Rattle.heap_state.specs.Memory.Table.{HasForm, page_word_in, table_by, table_of, word_in}
 use Rattle.heap_state.specs.Theorems.Rows.{StoresBeside, StoresEntry}
@@ -86,19 +86,7 @@ sizes_stay n words (SizeIs other pages) fits space stood = ⊎_elim
     (λ (test : (space == other) ≡ true). rw test (fits.1, fits.2))
     (λ (test : (space == other) ≡ false). rw test stood)
     (cases_Bool (space == other))
-sizes_stay n words (GateIs gate) fits space stood = stood
-sizes_stay n words (AreaIs other area) fits space stood = stood
-sizes_stay n words (PageIs page word) fits space stood = stood
-sizes_stay n words (TracedIs word) fits space stood = stood
-sizes_stay n words (WeakIs word) fits space stood = stood
-sizes_stay n words (WeakTurnIs word) fits space stood = stood
-sizes_stay n words (CrossIs page place) fits space stood = stood
-sizes_stay n words (WordIs addr word) fits space stood = stood
-sizes_stay n words (AnnounceIs worker place) fits space stood = stood
-sizes_stay n words (SnapIs number) fits space stood = stood
-sizes_stay n words (DoneIs number) fits space stood = stood
-sizes_stay n words (SaveIs page word) fits space stood = stood
-sizes_stay n words (ImageIs addr word) fits space stood = stood
+sizes_stay n words _ fits space stood = stood
 
 -- the words hold a whole table, and each has the form of its row
 pub record HasForms (n : ℕ) (words : List ℕ) : Type 0 where

@@ -2,7 +2,7 @@
 use Rattle.std.proofs.Common.{◌≡◌, ◌≢◌, ℕ, ◌<◌, ◌==◌, Bool, true, false, cond, None, nat_lt, refl, sym, ◌∙◌, arith}
 use Rattle.std.proofs.lemmas.Bool.{eqb-true, eqb-false, ltb-false}
 use Rattle.space_map.specs.declared.save_word.SaveWord.{SaveWord}
-use Rattle.space_map.specs.declared.save_word.SaveWord.TheVariants.{Unsaved, Saving, Saved, New}
+use Rattle.space_map.specs.declared.save_word.SaveWord.TheVariants.{Unsaved, Saving}
 use Rattle.space_map.specs.SaveWord.{number_of}
 use Rattle.page_saves.specs.declared.save_state.SaveState.{SaveState}
 use Rattle.page_saves.specs.declared.save_state.SaveState.TheVariants.{Waits, Copying, Past}
@@ -22,16 +22,12 @@ record IsSaving (says : SaveWord) : Type 0 where
   is : says ≡ Saving (number_of says) worker
 
 within_saving : (says : SaveWord) → state_within says ≡ Copying → IsSaving says
-within_saving Unsaved is = absurd (cc)
 within_saving (Saving c worker) is = record { worker = worker; is = refl }
-within_saving (Saved c) is = absurd (cc)
-within_saving (New c) is = absurd (cc)
+within_saving _ is = absurd (cc)
 
 within_last : (says : SaveWord) → state_within says ≢ Past
 within_last Unsaved is = cc
-within_last (Saving c worker) is = cc
-within_last (Saved c) is = cc
-within_last (New c) is = cc
+within_last _ is = cc
 
 module _ (says : SaveWord) (number : ℕ) where
   abbrev State : Bool → Bool → SaveState

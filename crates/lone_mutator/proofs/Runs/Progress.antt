@@ -21,7 +21,7 @@ use Rattle.gc_worker.specs.Workers.Held.{Held}
 use Rattle.gc_worker.specs.Laws.Step.{Heap, WorkersStand, held_at, layout_of, moved, nobody}
 use Rattle.gc_worker.specs.Steps.Stepped.{awaits, awaits_at}
 use Rattle.gc_worker.specs.declared.calls.did.Did.TheVariants.{Done, Trap}
-use Rattle.gc_worker.specs.Steps.Turned.{Told, Silent, Empties, Answers, Marks, told, turned}
+use Rattle.gc_worker.specs.Steps.Turned.{Told, Answers, told, turned}
 use Rattle.gc_worker.specs.Steps.Wanted.{wanted}
 use Rattle.gc_worker.proofs.Between.Beginning.{tasks_may_begin}
 use Rattle.gc_worker.proofs.Between.Readying.{readying_stands}
@@ -164,11 +164,9 @@ module _ (s : CoreState) (l : IsLawful s) (r : CoreIsReady s l.plain l.flip) whe
     less = subst (λ (l : Layout). potential h < most_steps_of l) r.layout
 
     went_by : (t : Told) → AfterStep r.heap h t → Went s h
-    went_by Silent after = silent after
-    went_by Empties after = silent after
     went_by (Answers task Done) after = GoesOn after.0 (rw (after.2, was) (one_pays (most s) (potential h) (potential s.heap) (executed_by s 0) (less after.1)))
     went_by (Answers task (Trap end)) after = Stops (ap is_some after)
-    went_by (Marks asked) after = silent after
+    went_by _ after = silent after
 
   went_of : (o : Option Step) → wanted (ready s 0) ≡ o → Went s (event_of s 0).after
   went_of None none = absurd (wants_some r.heap l.plain l.flip r.stands r.lone (ap wanted r.holds ∙ none))

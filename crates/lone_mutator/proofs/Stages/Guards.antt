@@ -3,8 +3,7 @@ use Rattle.std.proofs.Common.{◌≡◌, ℕ, ◌+◌, ◌*◌, ◌<◌, ◌≤�
 use Rattle.plain_state.specs.State.{Plain}
 use Rattle.atom_store.specs.declared.step.Step.TheVariants.{Load}
 use Rattle.alloc_end.specs.declared.place_stage.PlaceStage.{PlaceStage}
-use Rattle.alloc_end.specs.declared.place_stage.PlaceStage.TheVariants.{LoadsTraced, LoadsSize, LoadsArea, ExchangesArea, StoresZero, StoresNew, OpensPage, StoresCount, StoresTarget, StoresLink, StoresHeader}
-use Rattle.alloc_end.specs.declared.place_stage.PlaceStage.TheVariants as place_stage
+use Rattle.alloc_end.specs.declared.place_stage.PlaceStage.TheVariants.{LoadsTraced}
 use Rattle.alloc_end.specs.Place.{Placing}
 use Rattle.space_map.specs.declared.save_word.SaveWord.{SaveWord}
 use Rattle.space_map.specs.declared.save_word.SaveWord.TheVariants as save_word
@@ -52,17 +51,7 @@ use Rattle.lone_mutator.proofs.Steps.Owed.{loads_any, wants}
 module _ (n size : ℕ) (y : Held) (a b : Stage) where
   same_place : (z : Placing) (stage : PlaceStage) → place_left n size (at_stage y a) z stage ≡ place_left n size (at_stage y b) z stage
   same_place z LoadsTraced = refl
-  same_place z (LoadsSize traced) = refl
-  same_place z (LoadsArea traced read) = refl
-  same_place z (ExchangesArea f) = refl
-  same_place z (StoresZero new) = refl
-  same_place z (StoresNew new) = refl
-  same_place z (OpensPage new) = refl
-  same_place z StoresCount = refl
-  same_place z StoresTarget = refl
-  same_place z StoresLink = refl
-  same_place z StoresHeader = refl
-  same_place z (place_stage.Ended result) = refl
+  same_place z _ = refl
 
   same_write : (write : Write) → write_left n size (at_stage y a) write ≡ write_left n size (at_stage y b) write
   same_write (OfAccess z) = refl

@@ -55,11 +55,9 @@ module _ (c : Configuration) (p : Plain) (s : Stands c p) (x : Held) where
     lowers_pays l = record { remembers = l.remembers; falls = (let falls = l.falls in omega (arith, falls)) }
 
     pays_by : (t : Told) → LowersWhereTold c.pages (saves c) (table c) after x y t → PaysWhereTold c.pages x.layout.checkpoints (said c.pages c.words) then x y t
-    pays_by Silent l = lowers_pays l
-    pays_by Empties l = lowers_pays l
     pays_by (Answers task did.Done) quiet = quiet
     pays_by (Answers task (did.Trap end)) l = tt
-    pays_by (Marks asked) l = lowers_pays l
+    pays_by _ l = lowers_pays l
 
   pub pays : (after : Table) (reply : Reply) → Owes after reply → OwesAll after (saves c) reply
   pays after reply owes = pays_by after (turned x reply) (told x reply) owes

@@ -41,10 +41,7 @@ leaves_saves n words (PageIs page word) fits says = (saves_stay n words (Page pa
 leaves_saves n words (CrossIs page place) fits says = (saves_stay n words (Cross page) (word_of (CrossIs page place)) (entry_has_row n (CrossIs page place) fits) (λ e. cc) (λ e. cc)).says
 leaves_saves n words (WordIs addr word) fits says = (saves_stay n words (HeapWord addr) (word_of (WordIs addr word)) (entry_has_row n (WordIs addr word) fits) (λ e. cc) (λ e. cc)).says
 leaves_saves n words (AnnounceIs worker place) fits says = (saves_stay n words (Announce worker) (word_of (AnnounceIs worker place)) (entry_has_row n (AnnounceIs worker place) fits) (λ e. cc) (λ e. cc)).says
-leaves_saves n words (SnapIs number) fits says = absurd says
-leaves_saves n words (DoneIs number) fits says = absurd says
-leaves_saves n words (SaveIs page word) fits says = absurd says
-leaves_saves n words (ImageIs addr word) fits says = absurd says
+leaves_saves n words _ fits says = absurd says
 
 module _ (c : Configuration) (p : Plain) (s : Stands c p) (P : Table → Saves → Reply → Type 0) where
   -- it holds of what the step makes of the table and of what is said of checkpoints, and of its reply

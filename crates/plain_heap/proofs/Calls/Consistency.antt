@@ -87,12 +87,10 @@ remainder-small : (n : ℕ) → n % NUMBERS < NUMBERS
 remainder-small n = omega arith
 
 applied-small : (operation : Operation) (a b : ℕ) → a < NUMBERS → IfOk (applied operation a b) (λ n. n < NUMBERS)
-applied-small operations.Add a b small = remainder-small _
-applied-small operations.Sub a b small = remainder-small _
-applied-small operations.Mul a b small = remainder-small _
 applied-small operations.Div a b small = divided_by-small b (a / b) (b == 0) refl (omega (arith, div-le_self a b, small))
 applied-small operations.Rem a b small = divided_by-small b (a % b) (b == 0) refl (omega (arith, mod-le a b, small))
 applied-small operations.Lt a b small = one_if-small (nat_lt a b)
+applied-small _ a b small = remainder-small _
 
 -- ---- what is written
 

@@ -4,7 +4,7 @@ use Rattle.std.specs.Result.{IfOk}
 use Rattle.plain_state.specs.State.{Heap, Mutator, record_of}
 use Rattle.mutator_asm.specs.declared.instr.Instr.{Instr}
 use Rattle.plain_heap.specs.declared.action.Action.{Action}
-use Rattle.plain_heap.specs.declared.action.Action.TheVariants.{Sets, Jumps, Links, Prints, Makes, Measures, Loads, Stores, Exchanges, Gets, Puts, Swaps, Snaps}
+use Rattle.plain_heap.specs.declared.action.Action.TheVariants.{Prints, Loads, Stores, Exchanges}
 use Rattle.plain_heap.specs.Action.{action}
 use Rattle.plain_heap.specs.Call.{After, value_in, store_in, performed, call}
 use Rattle.plain_heap.proofs.Calls.Outcomes.{if_ok-bind, performed_exchange}
@@ -35,20 +35,12 @@ module _ (m : ℕ) (heap : Heap) (k : Mutator) where
   quiet l printed executed going = record { printed = record { rest = []; is = printed ∙ sym (append-nil k.printed) }; executed = executed; going = going }
 
   performed-went : (act : Action) → IfOk (performed m heap k act) WentOn
-  performed-went (Sets d v) = quiet _ refl refl refl
-  performed-went (Jumps target) = quiet _ refl refl refl
-  performed-went (Links d target) = quiet _ refl refl refl
   performed-went (Prints n) = record { printed = record { rest = n ∷ []; is = refl }; executed = refl; going = refl }
-  performed-went (Makes kind d n v) = quiet _ refl refl refl
-  performed-went (Measures d i) = quiet _ refl refl refl
   performed-went (Loads d i x) = if_ok-bind WentOn (value_in heap i x) _ (λ v. quiet _ refl refl refl)
   performed-went (Stores i x v) = if_ok-bind WentOn (value_in heap i x) _ (λ old. if_ok-bind WentOn (store_in heap i (record_of heap i) x v) _ (λ h. quiet _ refl refl refl))
   performed-went (Exchanges d i x expected new) =
       performed_exchange m heap k d i x expected new WentOn (quiet _ refl refl refl) (if_ok-bind WentOn (store_in heap i (record_of heap i) x new) _ (λ h. quiet _ refl refl refl))
-  performed-went (Gets d x) = quiet _ refl refl refl
-  performed-went (Puts x v) = quiet _ refl refl refl
-  performed-went (Swaps d x v) = quiet _ refl refl refl
-  performed-went Snaps = quiet _ refl refl refl
+  performed-went _ = quiet _ refl refl refl
 
   pub call-went : (i : Instr) → IfOk (call m heap k i) WentOn
   unfolding call

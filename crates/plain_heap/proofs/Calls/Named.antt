@@ -127,7 +127,6 @@ module _ (P : Value → Type 0) (B : Type 0) (k : Mutator) (held : (r : ℕ) →
 
   pub named : (i : Instr) → Spells P B i → IfOk (action k i) Named
   unfolding action
-  named (instrs.Li d n) is = is
   named (instrs.Mov d a) is = held a
   named (instrs.Add d a b) is = computes-named operations.Add d a b
   named (instrs.Sub d a b) is = computes-named operations.Sub d a b
@@ -136,9 +135,7 @@ module _ (P : Value → Type 0) (B : Type 0) (k : Mutator) (held : (r : ℕ) →
   named (instrs.Rem d a b) is = computes-named operations.Rem d a b
   named (instrs.Lt d a b) is = computes-named operations.Lt d a b
   named (instrs.Eq d a b) is = truth (are_same (register k a) (register k b))
-  named (instrs.Jmp target) is = is
   named (instrs.Jz a target) is = target_as target (is_zero (register k a)) is
-  named (instrs.Jal d target) is = is
   named (instrs.Jr a) is = with_number a _ (λ n is_n. is_n)
   named (instrs.New d x) is = allocates-named Fields d x (λ n short. (short, refl))
   named (instrs.Raw d x) is = allocates-named Raw d x (λ n short. (short, refl))
@@ -155,3 +152,4 @@ module _ (P : Value → Type 0) (B : Type 0) (k : Mutator) (held : (r : ℕ) →
   named (instrs.Out a) is = with_number a _ (λ n is_n. prints_as n (nat_lt (length k.printed) MOST_PRINTED) is_n refl)
   named instrs.Snap is = tt
   named instrs.Halt is = tt
+  named _ is = is

@@ -46,18 +46,12 @@ module _ (m : Mutator) where
 
   pub acts : (i : Instr) → is_snap i ≡ false → IfOk (action m i) Other
   unfolding action
-  acts (instrs.Li d n) other = refl
-  acts (instrs.Mov d a) other = refl
   acts (instrs.Add d a b) other = computed operations.Add d a b
   acts (instrs.Sub d a b) other = computed operations.Sub d a b
   acts (instrs.Mul d a b) other = computed operations.Mul d a b
   acts (instrs.Div d a b) other = computed operations.Div d a b
   acts (instrs.Rem d a b) other = computed operations.Rem d a b
   acts (instrs.Lt d a b) other = computed operations.Lt d a b
-  acts (instrs.Eq d a b) other = refl
-  acts (instrs.Jmp target) other = refl
-  acts (instrs.Jz a target) other = refl
-  acts (instrs.Jal d target) other = refl
   acts (instrs.Jr a) other = by_number a _ (λ n. refl)
   acts (instrs.New d x) other = allocated _ d x
   acts (instrs.Raw d x) other = allocated _ d x
@@ -68,13 +62,13 @@ module _ (m : Mutator) where
   acts (instrs.St a x b) other = if_ok-bind Other (reference_in (register m a)) _ (λ i. if_ok-bind Other (operand m x) _ (λ n. refl))
   acts (instrs.Cas d a x b c) other = if_ok-bind Other (reference_in (register m a)) _ (λ i. if_ok-bind Other (operand m x) _ (λ n. refl))
   acts (instrs.Len d a) other = if_ok-bind Other (reference_in (register m a)) _ (λ i. refl)
-  acts (instrs.Isp d a) other = refl
   acts (instrs.Get d x) other = if_ok-bind Other (board_place m x) _ (λ n. refl)
   acts (instrs.Put x a) other = if_ok-bind Other (board_place m x) _ (λ n. refl)
   acts (instrs.Swap d x) other = if_ok-bind Other (board_place m x) _ (λ n. refl)
   acts (instrs.Out a) other = by_number a _ (λ n. printed n (nat_lt (length m.printed) MOST_PRINTED))
   acts instrs.Snap other = absurd (cc)
   acts instrs.Halt other = tt
+  acts _ other = refl
 
 -- an instruction with another action is another
 pub not_snap : (m : Mutator) (i : Instr) (act : Action) → action m i ≡ Ok act → is_snaps act ≡ false → is_snap i ≡ false

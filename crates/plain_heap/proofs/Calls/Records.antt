@@ -52,9 +52,7 @@ zero_words (suc n) (suc x) = zero_words n x
 
 filled_words : (P : Value → Type 0) (kind : Kind) (n : ℕ) (v : Value) (x : ℕ) → FillsKind P kind v → word_in (Some (filled kind n v)) x ≡ Number 0
 filled_words P Weak n v x fills = refl
-filled_words P Fields n v x fills = rw fills (zero_words n x)
-filled_words P Raw n v x fills = rw fills (zero_words n x)
-filled_words P (Mixed count) n v x fills = rw fills (zero_words n x)
+filled_words P _ n v x fills = rw fills (zero_words n x)
 
 -- it begins with the words that it was read with before
 words_more : (records : List Record) (serial x : ℕ) (r : Record) → word_in (Some r) x ≡ Number 0 → word_in (at_serial (records ++ r ∷ []) serial) x ≡ word_in (at_serial records serial) x

@@ -145,9 +145,7 @@ module _ (code : List (List Instr)) (turns : ℕ) where
     begins = leaves.begins;
     last = λ l. refl;
   }
-  begun_here front (Flip asked) counted leaves = let never = leaves.is in absurd (cc)
-  begun_here front (Full m asked room live) counted leaves = let never = leaves.is in absurd (cc)
-  begun_here front Traced counted leaves = let never = leaves.is in absurd (cc)
+  begun_here front _ counted leaves = let never = leaves.is in absurd (cc)
 
   more : (front : List Mark) (mark : Mark) → Stands front → Stands (front ++ mark ∷ [])
   more front mark h = record {

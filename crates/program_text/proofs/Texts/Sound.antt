@@ -18,7 +18,7 @@ use Rattle.mutator_asm.specs.declared.operand.Operand.{Operand}
 use Rattle.mutator_asm.specs.Program.{is_register, is_number, is_operand, is_item, is_valid}
 use Rattle.mutator_asm.specs.Token.{is_register_name, is_numeral, register_of, number_of, number_or, operand_of, is_name, label_of, tokens_of}
 use Rattle.mutator_asm.specs.Instr.{made, nothing, one_register, two_registers, three_registers, register_number, register_operand, operand_register, two_registers_operand, both, register_two_operands, register_operand_register, registers_operand_registers, instr_of}
-use Rattle.mutator_asm.specs.Line.{Word, Nothing, Begins, Schedules, Does, Jumps, Bad, Line, unlabelled, jump_of, register_jump_of, jz_of, jal_of, does_or, named_of, labelled_of, begins_of, schedules_of, line_with, line_from, line_of, lines_of}
+use Rattle.mutator_asm.specs.Line.{Word, Schedules, Does, Jumps, Bad, Line, unlabelled, jump_of, register_jump_of, jz_of, jal_of, does_or, named_of, labelled_of, begins_of, schedules_of, line_with, line_from, line_of, lines_of}
 use Rattle.mutator_asm.specs.Item.{is_star, within, worker_item, times_of, item_from, item_of}
 use Rattle.mutator_asm.proofs.Lists.Tests.{if_passes}
 
@@ -46,12 +46,10 @@ is_jump_valid (Link d) = is_register d
 
 -- what a word has is of the language
 abbrev pub is_sound : Word → Bool
-is_sound Nothing = true
-is_sound (Begins alone) = true
 is_sound (Schedules items) = list_all is_item items
 is_sound (Does instr) = is_plain_valid instr
 is_sound (Jumps jump label) = is_jump_valid jump
-is_sound (Bad mistake) = true
+is_sound _ = true
 
 -- so is what a line has
 abbrev pub is_sound_line : Line → Bool

@@ -12,7 +12,7 @@ use Rattle.heap_laws.proofs.Steps.Answers.{areas_are_read}
 use Rattle.gc_worker.specs.Workers.Held.{Held}
 use Rattle.gc_worker.specs.Laws.Claims.{IsBelowLow, IsForCopies, IsOfEpoch, ComesByClaim, PagesAreOpenedByClaims, LowRisesAtFlips}
 use Rattle.gc_worker.specs.Laws.Step.{Heap, read, held_at, WorkersStand, moved, epoch_of, FlipsWhereTold, StepKeeps}
-use Rattle.gc_worker.specs.Steps.Turned.{PageWon, Told, Silent, Empties, Answers, Marks, told, won}
+use Rattle.gc_worker.specs.Steps.Turned.{PageWon, Told, Marks, told, won}
 use Rattle.gc_worker.specs.Steps.Wanted.{wanted}
 use Rattle.gc_worker.proofs.Words.Areas.{area_says, is_space}
 use Rattle.gc_worker.proofs.Words.Eras.{board_is, start_is}
@@ -27,10 +27,8 @@ use Rattle.gc_worker.proofs.Between.Pages.Leaving.{ByClaim, Same, New, Wins, Lea
 
 -- a step keeps the epoch, or raises it by one
 epoch_goes : (n : ℕ) (words later : List ℕ) (x : Held) (t : Told) → FlipsWhereTold n words later x t → (epoch_of n later ≡ epoch_of n words) ⊎ (epoch_of n later ≡ epoch_of n words + 1)
-epoch_goes n words later x Silent is = inl is.epoch
-epoch_goes n words later x Empties is = inl is.epoch
-epoch_goes n words later x (Answers task outcome) is = inl is.epoch
 epoch_goes n words later x (Marks asked) is = inr (let a = is.epoch in let b = is.next in omega (arith, a, b))
+epoch_goes n words later x _ is = inl is.epoch
 
 module _ (h : Heap) (p o : Plain) (k : ℕ) (x : Held) (q : Step) (st : WorkersStand h p o) (l : k < length h.workers) (holds : held_at h k ≡ x) (asked : wanted x ≡ Some q) where
   abbrev c : Configuration

@@ -6,7 +6,7 @@ use Rattle.std.proofs.lemmas.Option.{same_Some}
 use Rattle.plain_state.specs.declared.end.End.{End}
 use Rattle.plain_state.specs.State.{Plain}
 use Rattle.plain_heap.specs.declared.action.Action.{Action}
-use Rattle.plain_heap.specs.declared.action.Action.TheVariants.{Sets, Jumps, Links, Prints, Snaps}
+use Rattle.plain_heap.specs.declared.action.Action.TheVariants.{Snaps}
 use Rattle.plain_heap.specs.Action.{action}
 use Rattle.atom_store.specs.declared.reply.Reply.{Reply}
 use Rattle.atom_store.specs.declared.reply.Reply.TheVariants as replies
@@ -36,7 +36,7 @@ use Rattle.fault_duty.specs.Duty as duty
 use Rattle.record_access.specs.declared.accessed.Accessed.{Accessed}
 use Rattle.record_access.specs.declared.accessed.Accessed.TheVariants.{Faults, Awaits, Brings, Stored, Fails}
 use Rattle.gc_worker.specs.declared.stage.Stage.{Stage}
-use Rattle.gc_worker.specs.declared.stage.Stage.TheVariants.{Looks, Passes, Flips, Forwards, Accesses, Places, Serves, Scans, Evacuates, Opens, Recalls, Guards, Checkpoints, BeginsCheckpoint, Gone}
+use Rattle.gc_worker.specs.declared.stage.Stage.TheVariants.{Looks, Flips, Accesses, Places, Serves, BeginsCheckpoint}
 use Rattle.gc_worker.specs.declared.calls.did.Did.TheVariants.{Done}
 use Rattle.gc_worker.specs.declared.task.Task.{Task}
 use Rattle.gc_worker.specs.declared.task.Task.TheVariants.{Calls, Stops}
@@ -47,7 +47,7 @@ use Rattle.gc_worker.specs.Workers.Held.{Held, may_snap}
 use Rattle.gc_worker.specs.Workers.Knows.{traced_seen_in}
 use Rattle.gc_worker.specs.Laws.Step.{Heap, read, WorkersStand}
 use Rattle.gc_worker.specs.Plain.Seen.{seen}
-use Rattle.gc_worker.specs.Steps.Turned.{Told, Silent, Empties, Answers, Marks, told_at, told_look, told_gate, told_start, told_acted, told_action, told_access, told_place, told_snap, told_full, told_effect, told_end, is_full, end_by_shortage}
+use Rattle.gc_worker.specs.Steps.Turned.{Told, Silent, Answers, Marks, told_at, told_look, told_gate, told_start, told_acted, told_action, told_access, told_place, told_snap, told_full, told_effect, told_end, is_full, end_by_shortage}
 use Rattle.gc_worker.specs.Steps.Turned as turning
 use Rattle.gc_worker.proofs.Words.Areas.{area_now, area_says, is_space}
 use Rattle.gc_worker.proofs.Words.Eras.{board_is, start_is}
@@ -144,10 +144,8 @@ copied_pages_are_below_low h p o page st copied = copied_below h p o st page cop
 -- ---- flips
 
 abbrev pub NoMark : Told → Type 0
-NoMark Silent = ⊤
-NoMark Empties = ⊤
-NoMark (Answers task outcome) = ⊤
 NoMark (Marks asked) = ⊥
+NoMark _ = ⊤
 
 ends_unmarked : (o : Option Task) (end : End) → NoMark (told_end o end)
 ends_unmarked (Some task) end = tt
@@ -162,12 +160,8 @@ either_unmarked true s t is other = is
 either_unmarked false s t is other = other
 
 actions_unmarked : (x : Held) (task : Task) (act : Action) → NoMark (told_action x task act)
-actions_unmarked x task (Sets d v) = tt
-actions_unmarked x task (Jumps target) = tt
-actions_unmarked x task (Links d target) = tt
-actions_unmarked x task (Prints n) = tt
 actions_unmarked x task Snaps = either_unmarked (may_snap x) Silent (Answers task Done) tt tt
-actions_unmarked x task act = tt
+actions_unmarked x task _ = tt
 
 acted_unmarked : (x : Held) (task : Task) (o : Result Action End) → NoMark (told_acted x task o)
 acted_unmarked x task (Ok act) = actions_unmarked x task act
@@ -184,9 +178,7 @@ gates_unmarked x None = tt
 
 looks_unmarked : (x : Held) (reply : Reply) → NoMark (told_look x reply)
 looks_unmarked x (replies.Value word) = gates_unmarked x (decode_gate word)
-looks_unmarked x replies.Done = tt
-looks_unmarked x replies.Won = tt
-looks_unmarked x (replies.Lost word) = tt
+looks_unmarked x _ = tt
 
 accesses_unmarked : (o : Option Task) (t : Turn Accessed) → NoMark (told_access o t)
 accesses_unmarked o (Finished (Faults page)) = tt
@@ -211,10 +203,8 @@ snaps_unmarked o (Finished (snapped.NotYet word)) = tt
 snaps_unmarked o More = tt
 
 quiet_unmarked : (t : Told) → IsQuiet t → NoMark t
-quiet_unmarked Silent quiet = tt
-quiet_unmarked Empties quiet = tt
-quiet_unmarked (Answers task outcome) quiet = tt
 quiet_unmarked (Marks asked) quiet = quiet
+quiet_unmarked _ quiet = tt
 
 -- who flips is at a flip
 pub flips_at : (x : Held) (reply : Reply) (asked : ℕ) (stage : Stage) → told_at x stage reply ≡ Marks asked → (f : Flipping) × (stage ≡ Flips f)
@@ -222,17 +212,9 @@ flips_at x reply asked (Flips f) e = (f, refl)
 flips_at x reply asked Looks e = absurd (subst NoMark e (looks_unmarked x reply))
 flips_at x reply asked (Accesses a) e = absurd (subst NoMark e (accesses_unmarked x.task (access.told a reply)))
 flips_at x reply asked (Places p) e = absurd (subst NoMark e (places_unmarked x (place.told (place.taken p reply))))
-flips_at x reply asked (Passes g after) e = absurd (subst NoMark e tt)
-flips_at x reply asked (Forwards w) e = absurd (subst NoMark e tt)
 flips_at x reply asked (Serves d back) e = absurd (subst NoMark e (quiet_unmarked _ (rounds_are_quiet (duty.told (duty.taken d reply)))))
-flips_at x reply asked (Scans s back) e = absurd (subst NoMark e tt)
-flips_at x reply asked (Evacuates v s back) e = absurd (subst NoMark e tt)
-flips_at x reply asked (Opens o s back) e = absurd (subst NoMark e tt)
 flips_at x reply asked (BeginsCheckpoint s) e = absurd (subst NoMark e (snaps_unmarked x.task (snap.told (snap.taken s reply))))
-flips_at x reply asked (Recalls r after) e = absurd (subst NoMark e tt)
-flips_at x reply asked (Guards g write) e = absurd (subst NoMark e tt)
-flips_at x reply asked (Checkpoints r goal) e = absurd (subst NoMark e tt)
-flips_at x reply asked Gone e = absurd (subst NoMark e tt)
+flips_at x reply asked _ e = absurd (subst NoMark e tt)
 
 pub flips_are_of_traced : FlipsAreOfTraced
 flips_are_of_traced h p o k x reply asked st below holds marks =

@@ -46,15 +46,9 @@ IsEnd goal result = Unit {0}
 
 module _ (y : Held) (r : SavingRound) where
   ends_bare : (goal : Goal) (result : SaveRoundEnd) → IsEnd goal result → saver_of (at_stage (at y r goal) (rounded (at y r goal) goal result)) ≡ saver_bare (saver_of (at y r goal))
-  ends_bare ForScanner result end = refl
   ends_bare ForFlip (NoneRuns number) end = absurd end
-  ends_bare ForFlip Saved end = refl
-  ends_bare ForFlip Marked end = refl
-  ends_bare ForFlip (NothingNow word) end = refl
   ends_bare ForSnap (NoneRuns number) end = absurd end
-  ends_bare ForSnap Saved end = refl
-  ends_bare ForSnap Marked end = refl
-  ends_bare ForSnap (NothingNow word) end = refl
+  ends_bare _ _ end = refl
 
   -- past its first reads it has read nothing that counts
   pub no_reads : (goal : Goal) → reads_at r r.stage ≡ NoReads → reads_for goal r ≡ NoReads
@@ -80,18 +74,15 @@ module _ (y : Held) (r : SavingRound) where
 
 pub nothing_ends : (goal : Goal) (word : ℕ) → IsEnd goal (NothingNow word)
 nothing_ends ForScanner word = tt
-nothing_ends ForFlip word = tt
-nothing_ends ForSnap word = tt
+nothing_ends _ word = tt
 
 pub saved_ends : (goal : Goal) → IsEnd goal Saved
 saved_ends ForScanner = tt
-saved_ends ForFlip = tt
-saved_ends ForSnap = tt
+saved_ends _ = tt
 
 pub marked_ends : (goal : Goal) → IsEnd goal Marked
 marked_ends ForScanner = tt
-marked_ends ForFlip = tt
-marked_ends ForSnap = tt
+marked_ends _ = tt
 
 -- between two stages past its first reads it has another round, and no more
 pub follows : (y : Held) (r : SavingRound) (goal : Goal) (stage next : SaveRoundStage) → reads_at r stage ≡ NoReads → reads_at r next ≡ NoReads → save_of_round next ≡ save_of_round stage

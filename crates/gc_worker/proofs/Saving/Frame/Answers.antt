@@ -16,7 +16,7 @@ use Rattle.gc_worker.specs.declared.task.Task.{Task}
 use Rattle.gc_worker.specs.declared.task.Task.TheVariants.{Calls, Stops}
 use Rattle.gc_worker.specs.Plain.Answer.{after_outcome, after_answer, after_told}
 use Rattle.gc_worker.specs.Plain.Seen.{seen}
-use Rattle.gc_worker.specs.Steps.Turned.{Told, Silent, Empties, Answers, Marks, told_effect, told_end}
+use Rattle.gc_worker.specs.Steps.Turned.{Told, Answers, told_effect, told_end}
 use Rattle.gc_worker.specs.Workers.Fits.{ExecutesAction}
 use Rattle.heap_state.specs.Worker.{Account}
 use Rattle.gc_worker.proofs.Plain.OnlySnap.{acts, is_snap, is_snaps, not_snap}
@@ -54,22 +54,18 @@ stops_keep p k end (Some q) = record { snaps = refl; snapped = refl }
 stops_keep p k end None = record { snaps = refl; snapped = refl }
 
 kept : (p : Plain) (k : ℕ) (t : Told) → IsNoSnap t → KeepsCheckpoint p.heap (after_told [] p k t).heap
-kept p k Silent other = record { snaps = refl; snapped = refl }
-kept p k Empties other = record { snaps = refl; snapped = refl }
-kept p k (Marks asked) other = record { snaps = refl; snapped = refl }
 kept p k (Answers (Calls i) Done) other = calls_keep p k i other (slice_get p.mutators k)
 kept p k (Answers (Stops end) Done) other = stops_keep p k end (slice_get p.mutators k)
 kept p k (Answers task (Trap why)) other = ends_keep p k task why (slice_get p.mutators k)
+kept p k _ other = record { snaps = refl; snapped = refl }
 
 pub keeps_snaps : (p : Plain) (k : ℕ) (t : Told) → IsNoSnap t → KeepsSnaps p k t
 keeps_snaps p k t other = let same = kept p k t other in record { snaps = same.snaps; snapped = same.snapped }
 
 -- nor is one that answers nothing
 quiet_no_snap : (t : Told) → IsQuiet t → IsNoSnap t
-quiet_no_snap Silent quiet = tt
-quiet_no_snap Empties quiet = tt
 quiet_no_snap (Answers task outcome) quiet = absurd quiet
-quiet_no_snap (Marks asked) quiet = tt
+quiet_no_snap _ quiet = tt
 
 pub quiet_keeps : (p : Plain) (k : ℕ) (t : Told) → IsQuiet t → KeepsSnaps p k t
 quiet_keeps p k t quiet = keeps_snaps p k t (quiet_no_snap t quiet)

@@ -50,18 +50,12 @@ round_saver x back = record {
 
 module _ (x : Held) (room : x.layout.checkpoints ≡ true) where
   kept_by : (back : Back) → (page : ℕ) → (round_saver x back).guarded ≡ Some page → (round_saver x back).recalled ≡ true
-  kept_by (ToAccess a) page is = rw room refl
-  kept_by (ToTarget a) page is = rw room refl
-  kept_by ToPlace page is = rw room refl
-  kept_by ToSnap page is = rw room refl
   kept_by ToScanner page is = absurd (cc)
+  kept_by _ page is = rw room refl
 
   runs_by : (back : Back) → (round_saver x back).recalled ≡ true → (round_saver x back).runs ≡ true
-  runs_by (ToAccess a) is = refl
-  runs_by (ToTarget a) is = refl
-  runs_by ToPlace is = refl
-  runs_by ToSnap is = refl
   runs_by ToScanner is = absurd (let none = (rw room at is) in cc)
+  runs_by _ is = refl
 
   -- it goes on with that
   pub same_still : (back : Back) → KnowsNoMore (round_saver x back) (round_saver x back)
@@ -84,11 +78,8 @@ module _ (x : Held) (room : x.layout.checkpoints ≡ true) where
   runs_back = rw room refl
 
   back_same : (back : Back) → saver_at x (goes_back x back) ≡ round_saver x back
-  back_same (ToAccess a) = refl
-  back_same (ToTarget a) = refl
   back_same ToPlace = places_run x room (header_for x) ∙ runs_back
-  back_same ToSnap = refl
-  back_same ToScanner = refl
+  back_same _ = refl
 
   helps_same : (b : Bool) → saver_at x (cond b (checkpoints x ForScanner) (goes_back x ToScanner)) ≡ round_saver x ToScanner
   helps_same true = refl

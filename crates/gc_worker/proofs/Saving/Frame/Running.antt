@@ -2,7 +2,7 @@
 use Rattle.std.proofs.Common.{◌≡◌, ℕ, ◌==◌, Bool, true, false, cond, Option, None, Some, refl, sym, ap, ◌∙◌}
 use Rattle.std.proofs.lemmas.Bool.{eqb-true}
 use Rattle.heap_words.specs.declared.kind.Kind.{Kind}
-use Rattle.heap_words.specs.declared.kind.Kind.TheVariants.{Fields, Raw, Mixed, Weak}
+use Rattle.heap_words.specs.declared.kind.Kind.TheVariants.{Fields}
 use Rattle.record_layout.specs.declared.header.Header.{Header}
 use Rattle.alloc_end.specs.declared.place_stage.PlaceStage.TheVariants.{LoadsTraced}
 use Rattle.alloc_end.specs.Place as place
@@ -71,9 +71,7 @@ guarded_is running (OfPlace p) = refl
 -- with the first store of a record no page is marked
 pub first_unmarked : (p : place.Placing) (kind : Kind) → marked_at p (place.stores_first kind) ≡ None
 first_unmarked p Fields = refl
-first_unmarked p Raw = refl
-first_unmarked p Mixed = refl
-first_unmarked p Weak = refl
+first_unmarked p _ = refl
 
 first_by : (p : place.Placing) (kind : Kind) (b : Bool) → marked_at p (cond b (place.stores_first kind) LoadsTraced) ≡ None
 first_by p kind true = first_unmarked p kind

@@ -15,7 +15,7 @@ use Rattle.heap_state.specs.Saving.Words.{Saves, AreFormedSaves, saves_of}
 use Rattle.heap_state.proofs.Puts.{true_false, none≢some}
 use Rattle.heap_laws.specs.Lifting.{words_after_row, table_after, RowFits}
 use Rattle.heap_laws.specs.Saving.Rounds.{KnowsNoMore}
-use Rattle.heap_laws.specs.Saving.Rows.{Spares, SparesNone, SparesCross, SparesAnnounce, SparesArea, SparesWeak, SparesWeakTurn, SparesSize, SparesWord, SparesPage, SparesTraced, SparesGate}
+use Rattle.heap_laws.specs.Saving.Rows.{Spares, SparesNone}
 use Rattle.heap_laws.specs.Saving.Snapping.{FollowPosts}
 use Rattle.heap_laws.specs.Saving.Stores.{saves_after}
 use Rattle.heap_laws.specs.Steps.{Ready}
@@ -70,16 +70,7 @@ shows_still n s z p k t shows keeps = record { number = shows.number ∙ sym kee
 
 pub spares_leave : (t : Table) (s : Saves) (z : Frozen) (count : ℕ) (saver : ℕ → Saver) (e : Option Entry) → Spares t s z count saver e → saves_after s e ≡ s
 spares_leave t s z count saver _ SparesNone = refl
-spares_leave t s z count saver _ (SparesCross page place) = refl
-spares_leave t s z count saver _ (SparesAnnounce worker place) = refl
-spares_leave t s z count saver _ (SparesArea space area) = refl
-spares_leave t s z count saver _ (SparesWeak word) = refl
-spares_leave t s z count saver _ (SparesWeakTurn word) = refl
-spares_leave t s z count saver _ (SparesSize space pages) = refl
-spares_leave t s z count saver _ (SparesWord addr word saved) = refl
-spares_leave t s z count saver _ (SparesPage page word loose opens) = refl
-spares_leave t s z count saver _ (SparesTraced word untraced is) = refl
-spares_leave t s z count saver _ (SparesGate gate same nobody) = refl
+spares_leave t s z count saver _ _ = refl
 
 -- ---- who knows no more
 

@@ -48,20 +48,12 @@ use Rattle.gc_worker.proofs.Saving.Frame.Step.{Before, KeepsSnaps, SavesStep, sa
 
 -- no access is that of `snap`
 never_snaps : (stage : AccessStage) → IsAccessOf Snaps stage → ⊥
-never_snaps (LooksAtRecord r) is = cc
-never_snaps (LoadsHeader r) is = cc
-never_snaps (LooksAtCount m) is = cc
-never_snaps (LoadsCount m) is = cc
 never_snaps (LooksAtField f usage) is = is
 never_snaps (LoadsField f into) is = is
 never_snaps (StoresField f new) is = is
 never_snaps (LoadsForCas f e) is = is
 never_snaps (ExchangesField f e old) is = is.0
-never_snaps (LooksAtBoard b) is = cc
-never_snaps (LoadsBoard word into) is = cc
-never_snaps (StoresBoard word new) is = cc
-never_snaps (LoadsForSwap b) is = cc
-never_snaps (SwapsBoard b old) is = cc
+never_snaps _ is = cc
 
 differs : (act : Action) (stage : AccessStage) → IsAccessOf act stage → is_snaps act ≡ false
 differs Snaps stage is = absurd (never_snaps stage is)
@@ -69,13 +61,10 @@ differs _ stage is = refl
 
 -- to the plain machine it is its task's effect or end
 keeps_by : (p : Plain) (k : ℕ) (task : Option Task) (o : Answered) → IsNoSnap (told_effect task) → KeepsSnaps p k (told_access task (turn_by o))
-keeps_by p k task (GoesTo stage) other = keeps_snaps p k Silent tt
-keeps_by p k task (WaitsAt stage) other = keeps_snaps p k Silent tt
-keeps_by p k task (Comes (Faults page)) other = keeps_snaps p k Silent tt
-keeps_by p k task (Comes Awaits) other = keeps_snaps p k Silent tt
 keeps_by p k task (Comes (Brings into word)) other = keeps_snaps p k (told_effect task) other
 keeps_by p k task (Comes Stored) other = keeps_snaps p k (told_effect task) other
 keeps_by p k task (Comes (Fails why)) other = keeps_snaps p k (told_end task why) (no_snap_end task why)
+keeps_by p k task _ other = keeps_snaps p k Silent tt
 
 module _ (x : Held) (room : x.layout.checkpoints ≡ true) (a : Access) where
   -- a mutator that runs then

@@ -138,9 +138,7 @@ module _ (says : SaveWord) (number : ℕ) where
 
   never_waits : (says : SaveWord) → state_within says ≢ Waits
   never_waits Unsaved is = cc
-  never_waits (Saving c worker) is = cc
-  never_waits (Saved c) is = cc
-  never_waits (New c) is = cc
+  never_waits _ is = cc
 
   is_earlier : state_of says number ≡ Waits → number_of says < number
   is_earlier is = by (waits_by (nat_lt (number_of says) number) (number_of says == number) is refl)
@@ -292,12 +290,8 @@ module _ (c : Configuration) (p : Plain) (z : Frozen) (saver : ℕ → Saver) (k
           (EndsLook (save_step s true PAGE_WORDS None) holds refl refl (recalled saving b) (running saving b ∙ sym it.for_number))
 
       comes_by : (stage : SaveStage) → Comes c p z saver k (at saving) b s (it.in_layout ∙ b.is.fits.stage.layout) it.sound (it.by_worker ∙ mine saving b) (λ reply. refl) stage (after stage)
-      comes_by save_stage.Exchanges = refl
-      comes_by (save_stage.LoadsWord i) = refl
-      comes_by (save_stage.StoresImage i w) = refl
-      comes_by save_stage.StoresSaved = refl
-      comes_by (save_stage.Ended (save_end.Taken w)) = refl
       comes_by (save_stage.Ended save_end.Saved) = ends
+      comes_by _ = refl
 
       saves_it : (q : Step) → wanted (at saving) ≡ Some q → SavesStep c p saver k (at saving) q
       saves_it =

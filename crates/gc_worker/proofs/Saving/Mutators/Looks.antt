@@ -10,7 +10,7 @@ use Rattle.atom_store.specs.declared.reply.Reply.TheVariants.{Value}
 use Rattle.mutator_asm.specs.declared.instr.Instr.{Instr}
 use Rattle.mutator_asm.specs.declared.instr.Instr.TheVariants as instrs
 use Rattle.plain_heap.specs.declared.action.Action.{Action}
-use Rattle.plain_heap.specs.declared.action.Action.TheVariants.{Sets, Jumps, Links, Prints, Makes, Measures, Loads, Stores, Exchanges, Gets, Puts, Swaps, Snaps}
+use Rattle.plain_heap.specs.declared.action.Action.TheVariants.{Sets, Jumps, Links, Prints, Makes, Snaps}
 use Rattle.plain_heap.specs.Action.{action}
 use Rattle.plain_state.specs.declared.end.End.{End}
 use Rattle.plain_state.specs.State.{Mutator, Plain}
@@ -58,13 +58,7 @@ module _ (x : Held) (room : x.layout.checkpoints ≡ true) where
   acts_on (Prints n) = looks_run (acts x (Prints n)) room
   acts_on Snaps = snaps_by (may_snap x)
   acts_on (Makes kind d n v) = places_run x room (header_for x)
-  acts_on (Measures d i) = rw (room, guarded_none x.running) refl
-  acts_on (Loads d i n) = rw (room, guarded_none x.running) refl
-  acts_on (Stores i n v) = rw (room, guarded_none x.running) refl
-  acts_on (Exchanges d i n u v) = rw (room, guarded_none x.running) refl
-  acts_on (Gets d n) = rw (room, guarded_none x.running) refl
-  acts_on (Puts n v) = rw (room, guarded_none x.running) refl
-  acts_on (Swaps d n v) = rw (room, guarded_none x.running) refl
+  acts_on _ = rw (room, guarded_none x.running) refl
 
   acted_on : (o : Result Action End) → Goes (acted x o)
   acted_on (Ok act) = acts_on act

@@ -12,7 +12,7 @@ use Rattle.plain_heap.specs.declared.action.Action.{Action}
 use Rattle.plain_heap.specs.Action.{◌>>=◌, action}
 use Rattle.plain_heap.specs.Call.{After, call, performed}
 use Rattle.plain_heap.proofs.Calls.Named.{Names}
-use Rattle.heap_words.specs.Decoded.{Decoded, NumberWord, PointerWord, HeaderWord, ForwardWord, BusyWord, Malformed, decode}
+use Rattle.heap_words.specs.Decoded.{Decoded, NumberWord, PointerWord, decode}
 use Rattle.heap_words.specs.Word.{number_word, pointer_word}
 use Rattle.heap_words.proofs.Decoding.{decode-number_word, decode-pointer_word}
 use Rattle.heap_state.specs.Configuration.{Configuration, Stands, era, memory, team}
@@ -59,10 +59,7 @@ IsSmall (Reference i) = ⊤
 said_value : (identity : ℕ → Identity) (d : Decoded) (v : Value) → value_said identity d ≡ Some v → IsValueAs d
 said_value identity (NumberWord n) v is = tt
 said_value identity (PointerWord a) v is = tt
-said_value identity (HeaderWord kind len serial mutator) v is = absurd (cc)
-said_value identity (ForwardWord len a) v is = absurd (cc)
-said_value identity (BusyWord len worker) v is = absurd (cc)
-said_value identity Malformed v is = absurd (cc)
+said_value identity _ v is = absurd (cc)
 
 pub value_word : (identity : ℕ → Identity) (w : ℕ) (v : Value) → value_of identity w ≡ Some v → IsValueWord w
 unfolding value_of

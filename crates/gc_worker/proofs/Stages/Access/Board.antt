@@ -7,7 +7,7 @@ use Rattle.plain_state.specs.declared.value.Value.TheVariants.{Number}
 use Rattle.plain_state.specs.State.{Mutator, Plain}
 use Rattle.plain_state.specs.Writing.{with_board}
 use Rattle.plain_heap.specs.declared.action.Action.{Action}
-use Rattle.plain_heap.specs.declared.action.Action.TheVariants.{Sets, Jumps, Links, Prints, Makes, Measures, Loads, Stores, Exchanges, Gets, Puts, Swaps, Snaps}
+use Rattle.plain_heap.specs.declared.action.Action.TheVariants.{Loads, Stores, Gets, Puts, Swaps}
 use Rattle.plain_heap.specs.Call as plain
 use Rattle.plain_heap.specs.Call.{board_word}
 use Rattle.atom_store.specs.declared.step.Step.TheVariants.{Load, Store, Exchange}
@@ -66,18 +66,9 @@ gets (Gets d x) y into is =
     let usage : board_uses.Loads d ≡ board_uses.Loads into = same_use a b is in
     let word : x ≡ y = same_word a b is in
     cc
-gets (Sets d v) y into is = absurd (cc)
-gets (Jumps target) y into is = absurd (cc)
-gets (Links d target) y into is = absurd (cc)
-gets (Prints n) y into is = absurd (cc)
-gets Snaps y into is = absurd (cc)
-gets (Makes kind d n v) y into is = absurd (cc)
-gets (Measures d i) y into is = absurd (cc)
-gets (Loads d i x) y into is = absurd (cc)
-gets (Stores i x v) y into is = absurd (cc)
-gets (Exchanges d i x u v) y into is = absurd (cc)
 gets (Puts x v) y into is = absurd (let e = same_use (record { word = x; usage = board_uses.Stores (word_for v) }) (record { word = y; usage = board_uses.Loads into }) is in cc)
 gets (Swaps d x v) y into is = absurd (let e = same_use (record { word = x; usage = board_uses.Swaps d (word_for v) }) (record { word = y; usage = board_uses.Loads into }) is in cc)
+gets _ y into is = absurd (cc)
 
 puts : (act : Action) (x new : ℕ) → begun act ≡ Some (LooksAtBoard (record { word = x; usage = board_uses.Stores new })) → (v : Value) × (act ≡ Puts x v) × (word_for v ≡ new)
 puts (Puts x v) y new is =
@@ -85,18 +76,9 @@ puts (Puts x v) y new is =
     let b : BoardAccess = record { word = y; usage = board_uses.Stores new } in
     let usage : board_uses.Stores (word_for v) ≡ board_uses.Stores new = same_use a b is in
     (v, ap (λ (x : ℕ). Puts x v) (same_word a b is), cc)
-puts (Sets d v) y new is = absurd (cc)
-puts (Jumps target) y new is = absurd (cc)
-puts (Links d target) y new is = absurd (cc)
-puts (Prints n) y new is = absurd (cc)
-puts Snaps y new is = absurd (cc)
-puts (Makes kind d n v) y new is = absurd (cc)
-puts (Measures d i) y new is = absurd (cc)
-puts (Loads d i x) y new is = absurd (cc)
-puts (Stores i x v) y new is = absurd (cc)
-puts (Exchanges d i x u v) y new is = absurd (cc)
 puts (Gets d x) y new is = absurd (let e = same_use (record { word = x; usage = board_uses.Loads d }) (record { word = y; usage = board_uses.Stores new }) is in cc)
 puts (Swaps d x v) y new is = absurd (let e = same_use (record { word = x; usage = board_uses.Swaps d (word_for v) }) (record { word = y; usage = board_uses.Stores new }) is in cc)
+puts _ y new is = absurd (cc)
 
 swaps : (act : Action) (s : BoardSwap) → begun act ≡ Some (LooksAtBoard (record { word = s.word; usage = board_uses.Swaps s.into s.new })) → (v : Value) × (act ≡ Swaps s.into s.word v) × (word_for v ≡ s.new)
 swaps (Swaps d x v) s is =
@@ -105,18 +87,9 @@ swaps (Swaps d x v) s is =
     let usage : board_uses.Swaps d (word_for v) ≡ board_uses.Swaps s.into s.new = same_use a b is in
     let word : x ≡ s.word = same_word a b is in
     (v, cc, cc)
-swaps (Sets d v) s is = absurd (cc)
-swaps (Jumps target) s is = absurd (cc)
-swaps (Links d target) s is = absurd (cc)
-swaps (Prints n) s is = absurd (cc)
-swaps Snaps s is = absurd (cc)
-swaps (Makes kind d n v) s is = absurd (cc)
-swaps (Measures d i) s is = absurd (cc)
-swaps (Loads d i x) s is = absurd (cc)
-swaps (Stores i x v) s is = absurd (cc)
-swaps (Exchanges d i x u v) s is = absurd (cc)
 swaps (Gets d x) s is = absurd (let e = same_use (record { word = x; usage = board_uses.Loads d }) (record { word = s.word; usage = board_uses.Swaps s.into s.new }) is in cc)
 swaps (Puts x v) s is = absurd (let e = same_use (record { word = x; usage = board_uses.Stores (word_for v) }) (record { word = s.word; usage = board_uses.Swaps s.into s.new }) is in cc)
+swaps _ s is = absurd (cc)
 
 -- ---- a word of the board
 

@@ -8,7 +8,7 @@ use Rattle.plain_state.specs.declared.value.Value.{Value}
 use Rattle.plain_state.specs.declared.value.Value.TheVariants.{Reference}
 use Rattle.plain_state.specs.State.{Plain}
 use Rattle.plain_heap.specs.declared.action.Action.{Action}
-use Rattle.plain_heap.specs.declared.action.Action.TheVariants.{Sets, Jumps, Links, Prints, Makes, Measures, Loads, Stores, Exchanges, Gets, Puts, Swaps, Snaps}
+use Rattle.plain_heap.specs.declared.action.Action.TheVariants.{Measures, Loads, Stores, Exchanges}
 use Rattle.plain_heap.specs.Call.{may_hold}
 use Rattle.atom_store.specs.declared.step.Step.TheVariants.{Load}
 use Rattle.atom_store.specs.declared.reply.Reply.TheVariants as replies
@@ -61,14 +61,9 @@ has_by_count count x = by_test (nat_lt x count) refl
 -- an access to a mixed record is that before its header was read
 same_use : (u v : FieldUse) → record_use u ≡ record_use v → u ≡ v
 same_use (field_uses.Loads a) (field_uses.Loads b) e = cc
-same_use (field_uses.Loads a) (field_uses.Stores b) e = absurd (cc)
-same_use (field_uses.Stores a) (field_uses.Loads b) e = absurd (cc)
 same_use (field_uses.Stores a) (field_uses.Stores b) e = cc
-same_use (field_uses.Loads a) (field_uses.Exchanges b) e = absurd (cc)
-same_use (field_uses.Stores a) (field_uses.Exchanges b) e = absurd (cc)
-same_use (field_uses.Exchanges a) (field_uses.Loads b) e = absurd (cc)
-same_use (field_uses.Exchanges a) (field_uses.Stores b) e = absurd (cc)
 same_use (field_uses.Exchanges a) (field_uses.Exchanges b) e = cc
+same_use _ _ e = absurd (cc)
 
 same_mixed : (m n : MixedAccess) → Some (LooksAtRecord (before_header m)) ≡ Some (LooksAtRecord (before_header n)) → m ≡ n
 same_mixed m n e =
@@ -78,9 +73,8 @@ same_mixed m n e =
 
 -- and none tells a length
 no_length : (d : ℕ) (u : FieldUse) → record_uses.TellsLength d ≡ record_use u → ⊥
-no_length d (field_uses.Loads into) e = absurd (cc)
-no_length d (field_uses.Stores new) e = absurd (cc)
-no_length d (field_uses.Exchanges x) e = absurd (cc)
+no_length d (field_uses.Loads _) e = absurd (cc)
+no_length d _ e = absurd (cc)
 
 module _ (c : Configuration) (p : Plain) (s : Stands c p) (k : ℕ) (y : Held) where
   abbrev Answers : MixedAccess → Type 0
@@ -186,15 +180,7 @@ module _ (c : Configuration) (p : Plain) (s : Stands c p) (k : ℕ) (y : Held) w
       let o : Condition = Some (d, u) in
       begun_with (of_new o j x v) m e (λ its. stores_it o j x v its executes) is
   by_action m (Measures d j) executes e is = absurd (no_length d m.usage (ap (λ (r : RecordAccess). r.usage) (same_access (record { at = j.serial; value = 0; usage = record_uses.TellsLength d }) (before_header m) e)))
-  by_action m (Sets d v) executes e is = absurd (cc)
-  by_action m (Jumps target) executes e is = absurd (cc)
-  by_action m (Links d target) executes e is = absurd (cc)
-  by_action m (Prints n) executes e is = absurd (cc)
-  by_action m Snaps executes e is = absurd (cc)
-  by_action m (Makes kind d n v) executes e is = absurd (cc)
-  by_action m (Gets d x) executes e is = absurd (cc)
-  by_action m (Puts x v) executes e is = absurd (cc)
-  by_action m (Swaps d x v) executes e is = absurd (cc)
+  by_action m _ executes e is = absurd (cc)
 
   pub loads_count : (m : MixedAccess) → Is c k (at c p s k y (LoadsCount m)) → StepsSo c p s k (at c p s k y (LoadsCount m))
   loads_count m is = by_action m is.fits.task.act is.fits.task.executes is.fits.task.is is

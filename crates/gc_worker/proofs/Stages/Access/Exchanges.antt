@@ -7,7 +7,7 @@ use Rattle.plain_state.specs.declared.value.Value.{Value}
 use Rattle.plain_state.specs.declared.value.Value.TheVariants.{Number, Reference}
 use Rattle.plain_state.specs.State.{Heap, Mutator, Plain}
 use Rattle.plain_heap.specs.declared.action.Action.{Action}
-use Rattle.plain_heap.specs.declared.action.Action.TheVariants.{Sets, Jumps, Links, Prints, Makes, Measures, Loads, Stores, Exchanges, Gets, Puts, Swaps, Snaps}
+use Rattle.plain_heap.specs.declared.action.Action.TheVariants.{Loads, Stores, Exchanges}
 use Rattle.plain_heap.specs.Action.{are_same}
 use Rattle.plain_heap.specs.Call as plain
 use Rattle.plain_heap.specs.Call.{After, may_hold, performed}
@@ -151,16 +151,7 @@ module _ (c : Configuration) (p : Plain) (s : Stands c p) (k : ℕ) (y : Held) w
         subst (λ (g : FieldAccess). P g e) (sym of.0) (subst (P (field_of j.serial f.first f.role x)) (sym same) (so d j x u v executes of.1))
     of_action P e (Loads d j x) executes of so = absurd (let z = of.1 in cc)
     of_action P e (Stores j x v) executes of so = absurd (let z = of.2 in cc)
-    of_action P e (Sets d v) executes of so = absurd of
-    of_action P e (Jumps target) executes of so = absurd of
-    of_action P e (Links d target) executes of so = absurd of
-    of_action P e (Prints n) executes of so = absurd of
-    of_action P e Snaps executes of so = absurd of
-    of_action P e (Makes kind d n v) executes of so = absurd of
-    of_action P e (Measures d j) executes of so = absurd of
-    of_action P e (Gets d x) executes of so = absurd of
-    of_action P e (Puts x v) executes of so = absurd of
-    of_action P e (Swaps d x v) executes of so = absurd of
+    of_action P e _ executes of so = absurd of
 
     abbrev Loaded : FieldAccess → FieldExchange → Type 0
     Loaded g e = Is c k (at c p s k y (LoadsForCas g e)) → Goes c p s k None (at c p s k y (LoadsForCas g e)) (replies.Value (word_in c.pages c.words (HeapWord (field_at g))))

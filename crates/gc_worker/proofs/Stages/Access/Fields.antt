@@ -15,7 +15,7 @@ use Rattle.plain_state.specs.Layout.{is_raw, values_at, word_of_value}
 use Rattle.plain_state.specs.State.{Heap, Mutator, Plain, Record, record_of}
 use Rattle.plain_state.specs.Writing.{stored}
 use Rattle.plain_heap.specs.declared.action.Action.{Action}
-use Rattle.plain_heap.specs.declared.action.Action.TheVariants.{Sets, Jumps, Links, Prints, Makes, Measures, Loads, Stores, Exchanges, Gets, Puts, Swaps, Snaps}
+use Rattle.plain_heap.specs.declared.action.Action.TheVariants.{Loads, Stores, Exchanges}
 use Rattle.plain_heap.specs.Action.{◌>>=◌}
 use Rattle.plain_heap.specs.Call as plain
 use Rattle.plain_heap.specs.Call.{After, is_cell, performed, values_of, value_in, store_in, may_hold, went_on}
@@ -66,8 +66,6 @@ use Rattle.gc_worker.proofs.Stages.Access.Outcomes.{goes_loading, goes_storing}
 -- the role of a value says what may be stored there, whatever kind of record it is of
 pub held_by_role : (of : kinds.Kind) (o : Role) (x : ℕ) (v : Value) → parts.HasRole of (word_of_value of x) (role_of o) → may_hold of x v ≡ may_hold (kind_of o) x v
 held_by_role kind.Fields roles.Field x v has = refl
-held_by_role kind.Fields roles.Number x v has = absurd (cc)
-held_by_role kind.Raw roles.Field x v has = absurd (cc)
 held_by_role kind.Raw roles.Number x v has = refl
 held_by_role (kind.Mixed count) roles.Field x v has =
     let within = ltb-true (x + 2) (count + 2) (and_parts (nat_le 2 (x + 2)) (nat_lt (x + 2) (count + 2)) has).1 in
@@ -75,21 +73,15 @@ held_by_role (kind.Mixed count) roles.Field x v has =
 held_by_role (kind.Mixed count) roles.Number x v has =
     let behind = leb-true (count + 2) (x + 2) has in
     rw (le-ltb x count (omega (arith, behind))) refl
-held_by_role kind.Weak roles.Field x v has = absurd (cc)
-held_by_role kind.Weak roles.Number x v has = absurd (cc)
 held_by_role kind.Weak roles.Target x v has = refl
-held_by_role kind.Fields roles.Target x v has = absurd (let weak = has.0 in cc)
-held_by_role kind.Raw roles.Target x v has = absurd (let weak = has.0 in cc)
-held_by_role (kind.Mixed count) roles.Target x v has = absurd (let weak = has.0 in cc)
+held_by_role _ roles.Target x v has = absurd (let weak = has.0 in cc)
+held_by_role _ _ x v has = absurd (cc)
 
 -- a record with such a value is no cell, if it is no target
 no_cell : (of : kinds.Kind) (o : Role) (word : ℕ) → is_target o ≡ false → parts.HasRole of word (role_of o) → is_cell of ≡ false
-no_cell kind.Fields o word other has = refl
-no_cell kind.Raw o word other has = refl
-no_cell (kind.Mixed count) o word other has = refl
 no_cell kind.Weak roles.Field word other has = absurd (cc)
-no_cell kind.Weak roles.Number word other has = absurd (cc)
-no_cell kind.Weak roles.Target word other has = absurd (cc)
+no_cell kind.Weak _ word other has = absurd (cc)
+no_cell _ o word other has = refl
 
 field_or_number : (o : Role) → is_target o ≡ false → IsFieldOrNumber (role_of o)
 field_or_number roles.Field other = tt
@@ -304,16 +296,7 @@ module _ (c : Configuration) (p : Plain) (s : Stands c p) (k : ℕ) (y : Held) w
         (λ its. loads_it j f.first f.role x d its executes)) is
     loads_by into (Stores j x v) executes of is = absurd (let e = of.2 in cc)
     loads_by into (Exchanges d j x u v) executes of is = absurd (let e = of.2 in cc)
-    loads_by into (Sets d v) executes of is = absurd of
-    loads_by into (Jumps target) executes of is = absurd of
-    loads_by into (Links d target) executes of is = absurd of
-    loads_by into (Prints n) executes of is = absurd of
-    loads_by into Snaps executes of is = absurd of
-    loads_by into (Makes kind d n v) executes of is = absurd of
-    loads_by into (Measures d j) executes of is = absurd of
-    loads_by into (Gets d x) executes of is = absurd of
-    loads_by into (Puts x v) executes of is = absurd of
-    loads_by into (Swaps d x v) executes of is = absurd of
+    loads_by into _ executes of is = absurd of
 
     pub loads_field : (into : ℕ) → Is c k (at c p s k y (LoadsField f into)) → StepsSo c p s k (at c p s k y (LoadsField f into))
     loads_field into is =
@@ -329,16 +312,7 @@ module _ (c : Configuration) (p : Plain) (s : Stands c p) (k : ℕ) (y : Held) w
         (λ its. stores_it j f.first f.role x v its executes of.1)) is
     stores_by new (Loads d j x) executes of is = absurd (let e = of.1 in cc)
     stores_by new (Exchanges d j x u v) executes of is = absurd (let e = of.2 in cc)
-    stores_by new (Sets d v) executes of is = absurd of
-    stores_by new (Jumps target) executes of is = absurd of
-    stores_by new (Links d target) executes of is = absurd of
-    stores_by new (Prints n) executes of is = absurd of
-    stores_by new Snaps executes of is = absurd of
-    stores_by new (Makes kind d n v) executes of is = absurd of
-    stores_by new (Measures d j) executes of is = absurd of
-    stores_by new (Gets d x) executes of is = absurd of
-    stores_by new (Puts x v) executes of is = absurd of
-    stores_by new (Swaps d x v) executes of is = absurd of
+    stores_by new _ executes of is = absurd of
 
     pub stores_field : (new : ℕ) → Is c k (at c p s k y (StoresField f new)) → StepsSo c p s k (at c p s k y (StoresField f new))
     stores_field new is =

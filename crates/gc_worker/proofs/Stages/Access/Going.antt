@@ -7,7 +7,7 @@ use Rattle.plain_heap.specs.declared.action.Action.{Action}
 use Rattle.plain_heap.specs.declared.action.Action.TheVariants.{Loads, Stores, Exchanges}
 use Rattle.plain_heap.specs.Call.{may_hold}
 use Rattle.atom_store.specs.declared.reply.Reply.{Reply}
-use Rattle.atom_store.specs.declared.reply.Reply.TheVariants.{Value, Done, Won, Lost}
+use Rattle.atom_store.specs.declared.reply.Reply.TheVariants.{Value}
 use Rattle.space_map.specs.declared.page_word.PageWord.TheVariants.{Open}
 use Rattle.space_map.specs.Spaces.{Layout, board_page, page_of}
 use Rattle.fault_duty.specs.declared.caller.Caller.TheVariants as callers
@@ -55,22 +55,14 @@ no_end_by (Some end) e = absurd (cc)
 
 -- an access faults where it looks at a page, and not where it writes
 faults_at_look : (l : Layout) (epoch : ℕ) (stage : AccessStage) (reply : Reply) (page : ℕ) → answered_at l epoch stage reply ≡ Comes (Faults page) → writes_on l stage ≡ None
-faults_at_look l epoch (StoresField f new) (Value word) page comes = absurd (cc)
-faults_at_look l epoch (StoresField f new) Done page comes = absurd (cc)
-faults_at_look l epoch (StoresField f new) Won page comes = absurd (cc)
-faults_at_look l epoch (StoresField f new) (Lost word) page comes = absurd (cc)
-faults_at_look l epoch (ExchangesField f e old) (Value word) page comes = absurd (cc)
-faults_at_look l epoch (ExchangesField f e old) Done page comes = absurd (cc)
-faults_at_look l epoch (ExchangesField f e old) Won page comes = absurd (cc)
-faults_at_look l epoch (ExchangesField f e old) (Lost word) page comes = absurd (cc)
-faults_at_look l epoch (StoresBoard word new) (Value other) page comes = absurd (cc)
-faults_at_look l epoch (StoresBoard word new) Done page comes = absurd (cc)
-faults_at_look l epoch (StoresBoard word new) Won page comes = absurd (cc)
-faults_at_look l epoch (StoresBoard word new) (Lost other) page comes = absurd (cc)
-faults_at_look l epoch (SwapsBoard s old) (Value word) page comes = absurd (cc)
-faults_at_look l epoch (SwapsBoard s old) Done page comes = absurd (cc)
-faults_at_look l epoch (SwapsBoard s old) Won page comes = absurd (cc)
-faults_at_look l epoch (SwapsBoard s old) (Lost word) page comes = absurd (cc)
+faults_at_look l epoch (StoresField f new) (Value _) page comes = absurd (cc)
+faults_at_look l epoch (StoresField f new) _ page comes = absurd (cc)
+faults_at_look l epoch (ExchangesField f e old) (Value _) page comes = absurd (cc)
+faults_at_look l epoch (ExchangesField f e old) _ page comes = absurd (cc)
+faults_at_look l epoch (StoresBoard word new) (Value _) page comes = absurd (cc)
+faults_at_look l epoch (StoresBoard word new) _ page comes = absurd (cc)
+faults_at_look l epoch (SwapsBoard s old) (Value _) page comes = absurd (cc)
+faults_at_look l epoch (SwapsBoard s old) _ page comes = absurd (cc)
 faults_at_look l epoch stage reply page comes = refl
 
 -- nothing is stored in a cell

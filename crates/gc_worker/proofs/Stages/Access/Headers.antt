@@ -15,7 +15,7 @@ use Rattle.plain_state.specs.declared.value.Value.TheVariants.{Number, Reference
 use Rattle.plain_state.specs.Layout.{values_at, words_behind, word_of_value}
 use Rattle.plain_state.specs.State.{Heap, Mutator, Plain, Record}
 use Rattle.plain_heap.specs.declared.action.Action.{Action}
-use Rattle.plain_heap.specs.declared.action.Action.TheVariants.{Sets, Jumps, Links, Prints, Makes, Measures, Loads, Stores, Exchanges, Gets, Puts, Swaps, Snaps}
+use Rattle.plain_heap.specs.declared.action.Action.TheVariants.{Measures, Loads, Stores, Exchanges}
 use Rattle.plain_heap.specs.Action.{in_record}
 use Rattle.plain_heap.specs.Call.{call, values_of, may_hold}
 use Rattle.mutator_asm.specs.declared.instr.Instr.{Instr}
@@ -83,14 +83,12 @@ kinds_are kind.Weak = inl (roles.Target, refl)
 
 said_by : (role : Role) (next : ℕ) → said_kind (header_kind (kind_of role)) next ≡ kind_of role
 said_by roles.Field next = refl
-said_by roles.Number next = refl
-said_by roles.Target next = refl
+said_by _ next = refl
 
 -- its values begin behind the header
 first_by : (role : Role) → values_at (kind_of role) ≡ 1
 first_by roles.Field = refl
-first_by roles.Number = refl
-first_by roles.Target = refl
+first_by _ = refl
 
 -- how many it has by its length: behind that of a cell stands a link
 abbrev many : Role → (len : ℕ) → ℕ
@@ -100,18 +98,15 @@ many roles.Target len = len - 1
 
 counts_by : (role : Role) (n len : ℕ) → n + (values_at (kind_of role) + words_behind (kind_of role)) ≡ len + 1 → n ≡ many role len
 counts_by roles.Field n len long = omega (arith, long)
-counts_by roles.Number n len long = omega (arith, long)
-counts_by roles.Target n len long = omega (arith, long)
+counts_by _ n len long = omega (arith, long)
 
 many_within : (role : Role) (len : ℕ) → many role len ≤ len
 many_within roles.Field len = omega arith
-many_within roles.Number len = omega arith
-many_within roles.Target len = omega arith
+many_within _ len = omega arith
 
 read_by : (r : RecordAccess) (role : Role) (len : ℕ) → by_kind r (header_kind (kind_of role)) len ≡ used_by r role (many role len) r.usage
 read_by r roles.Field len = refl
-read_by r roles.Number len = refl
-read_by r roles.Target len = refl
+read_by r _ len = refl
 
 -- a cell has one value, its target
 has_role : (role : Role) (x len : ℕ) → (kind_of role ≡ kind.Weak → len ≡ 2) → x < many role len → parts.HasRole (kind_of role) (word_of_value (kind_of role) x) (role_of role)
@@ -273,13 +268,11 @@ refusal roles.Target = WeakCell
 
 pub may_refuse : (m : ℕ) (heap : Heap) (k : Mutator) (instr : Instr) (role : Role) → call m heap k instr ≡ Err (refusal role) → MayEnd m heap k instr (refusal role)
 may_refuse m heap k instr roles.Field calls = calls
-may_refuse m heap k instr roles.Number calls = calls
-may_refuse m heap k instr roles.Target calls = calls
+may_refuse m heap k instr _ calls = calls
 
 pub not_full : (n : ℕ) (words : List ℕ) (x : Held) (role : Role) → FullByEnd n words x (refusal role)
 not_full n words x roles.Field = tt
-not_full n words x roles.Number = tt
-not_full n words x roles.Target = tt
+not_full n words x _ = tt
 
 module _ (identity : ℕ → Identity) where
   -- a record whose words have this role may hold the value, or not, for the mutator and in the plain machine
@@ -458,15 +451,7 @@ module _ (c : Configuration) (p : Plain) (s : Stands c p) (k : ℕ) (y : Held) w
   by_action r (Exchanges d j x u v) executes e is =
       let o : Condition = Some (d, u) in
       begun_with (of_new o j x v) r e (λ its. stores_it o j x v its executes (kinds_are (s.ghost.kind j.serial))) is
-  by_action r (Sets d v) executes e is = absurd (cc)
-  by_action r (Jumps target) executes e is = absurd (cc)
-  by_action r (Links d target) executes e is = absurd (cc)
-  by_action r (Prints n) executes e is = absurd (cc)
-  by_action r Snaps executes e is = absurd (cc)
-  by_action r (Makes kind d n v) executes e is = absurd (cc)
-  by_action r (Gets d x) executes e is = absurd (cc)
-  by_action r (Puts x v) executes e is = absurd (cc)
-  by_action r (Swaps d x v) executes e is = absurd (cc)
+  by_action r _ executes e is = absurd (cc)
 
   pub loads_header : (r : RecordAccess) → Is c k (at c p s k y (LoadsHeader r)) → StepsSo c p s k (at c p s k y (LoadsHeader r))
   loads_header r is = by_action r is.fits.task.act is.fits.task.executes is.fits.task.is is

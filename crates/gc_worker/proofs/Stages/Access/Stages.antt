@@ -3,7 +3,7 @@ use Rattle.std.proofs.Common.{◌≡◌, ℕ, ◌≤◌, true, Some, is_some, sy
 use Rattle.plain_state.specs.State.{Plain}
 use Rattle.plain_state.specs.declared.value.Value.TheVariants.{Reference}
 use Rattle.plain_heap.specs.declared.action.Action.{Action}
-use Rattle.plain_heap.specs.declared.action.Action.TheVariants.{Sets, Jumps, Links, Prints, Makes, Measures, Loads, Stores, Exchanges, Gets, Puts, Swaps, Snaps}
+use Rattle.plain_heap.specs.declared.action.Action.TheVariants.{Measures, Loads, Stores, Exchanges}
 use Rattle.heap_words.specs.Decoded.{Decoded, decode, number_in}
 use Rattle.heap_state.specs.Configuration.{Configuration, Stands, era, memory}
 use Rattle.record_access.specs.declared.access.Access.{Access}
@@ -41,15 +41,7 @@ module _ (c : Configuration) (p : Plain) (s : Stands c p) (k : ℕ) (x : Held) w
     named_by (Loads d j y) executes e = at_address _ e (names c p s k x stage is (Loads d j y) executes)
     named_by (Stores j y v) executes e = at_address _ e (names c p s k x stage is (Stores j y v) executes).0
     named_by (Exchanges d j y u v) executes e = at_address _ e (names c p s k x stage is (Exchanges d j y u v) executes).0
-    named_by (Sets d v) executes e = absurd (cc)
-    named_by (Jumps target) executes e = absurd (cc)
-    named_by (Links d target) executes e = absurd (cc)
-    named_by (Prints n) executes e = absurd (cc)
-    named_by Snaps executes e = absurd (cc)
-    named_by (Makes kind d n v) executes e = absurd (cc)
-    named_by (Gets d y) executes e = absurd (cc)
-    named_by (Puts y v) executes e = absurd (cc)
-    named_by (Swaps d y v) executes e = absurd (cc)
+    named_by _ executes e = absurd (cc)
 
   low : (r : RecordAccess) → Is c k (at c p s k x (LooksAtRecord r)) → (era c).start ≤ r.at
   low r is = (led c p s k x (LooksAtRecord r) is r.at is.fits.stage.sound.stage.0 (named_by (LooksAtRecord r) r is is.fits.task.act is.fits.task.executes is.fits.task.is)).inside.0

@@ -1,7 +1,7 @@
 -- A round for the checkpoint in progress goes on: it is its worker's own, in a mutator's epoch, and for the number that the mutator knows.
 use Rattle.std.proofs.Common.{◌≡◌, ℕ, ◌^◌, Bool, true, false, cond, nat_lt, Option, Some, None, refl}
 use Rattle.atom_store.specs.declared.reply.Reply.{Reply}
-use Rattle.atom_store.specs.declared.reply.Reply.TheVariants.{Value, Done, Won, Lost}
+use Rattle.atom_store.specs.declared.reply.Reply.TheVariants.{Value, Won, Lost}
 use Rattle.space_map.specs.declared.gate_word.GateWord.{GateWord}
 use Rattle.atom_store.specs.declared.turn.Turn.{Turn}
 use Rattle.atom_store.specs.declared.turn.Turn.TheVariants.{More, Finished}
@@ -56,14 +56,8 @@ module _ (r : SavingRound) where
   pub stays_same : (stage : SaveRoundStage) (reply : Reply) → IsSameRound r (after stage reply)
   stays_same LoadsGate (Value word) = same_at_gate word (decode_gate word)
   stays_same LoadsSnap (Value word) = same_at_snap (save_round.number_in word)
-  stays_same LoadsDone (Value word) = record { layout = refl; worker = refl; caller = refl }
-  stays_same LoadsGateAgain (Value word) = record { layout = refl; worker = refl; caller = refl }
-  stays_same (LoadsPage page busy) (Value word) = record { layout = refl; worker = refl; caller = refl }
-  stays_same (LoadsSave page busy) (Value word) = record { layout = refl; worker = refl; caller = refl }
-  stays_same (Saves s) reply = record { layout = refl; worker = refl; caller = refl }
-  stays_same ExchangesDone Won = record { layout = refl; worker = refl; caller = refl }
-  stays_same ExchangesDone (Lost word) = record { layout = refl; worker = refl; caller = refl }
-  stays_same stage reply = record { layout = refl; worker = refl; caller = refl }
+  stays_same _ (Value _) = record { layout = refl; worker = refl; caller = refl }
+  stays_same _ _ = record { layout = refl; worker = refl; caller = refl }
 
 -- ---- a mutator's
 
@@ -84,12 +78,7 @@ module _ (x : Held) (r : SavingRound) where
   at_number same LoadsGate apart = absurd apart
   at_number same LoadsGateAgain apart = absurd apart
   at_number same LoadsSnap apart = tt
-  at_number same LoadsDone apart = same
-  at_number same (LoadsPage page busy) apart = same
-  at_number same (LoadsSave page busy) apart = same
-  at_number same (Saves s) apart = same
-  at_number same ExchangesDone apart = same
-  at_number same (Ended result) apart = same
+  at_number same _ apart = same
 
   -- ---- where it goes on
 
@@ -150,9 +139,7 @@ module _ (x : Held) (r : SavingRound) where
     stays_own LoadsGate reply number reads = absurd number
     stays_own LoadsGateAgain reply number reads = absurd number
     stays_own LoadsSnap (Value word) number reads = at_snap word (nat_lt word (2 ^ 32)) reads
-    stays_own LoadsSnap Won number reads = goes_to LoadsSnap tt
-    stays_own LoadsSnap Done number reads = goes_to LoadsSnap tt
-    stays_own LoadsSnap (Lost word) number reads = goes_to LoadsSnap tt
+    stays_own LoadsSnap _ number reads = goes_to LoadsSnap tt
     stays_own LoadsDone (Value word) number reads = goes_on number _ (apart_at_done (save_round.number_in word))
     stays_own (LoadsPage page busy) (Value word) number reads = goes_on number _ (apart_by_open page busy _)
     stays_own (LoadsSave page busy) (Value word) number reads = goes_on number _ (apart_at_save page busy word (decode_save word))

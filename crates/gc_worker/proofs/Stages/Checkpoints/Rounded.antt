@@ -2,7 +2,7 @@
 use Rattle.std.proofs.Common.{◌≡◌, ℕ, refl}
 use Rattle.gate_core.specs.declared.passage.Passage.TheVariants.{Request}
 use Rattle.page_saves.specs.declared.save_round_end.SaveRoundEnd.{SaveRoundEnd}
-use Rattle.page_saves.specs.declared.save_round_end.SaveRoundEnd.TheVariants.{NoneRuns, Saved, Marked, NothingNow}
+use Rattle.page_saves.specs.declared.save_round_end.SaveRoundEnd.TheVariants.{NoneRuns, Saved}
 use Rattle.page_saves.specs.SaveRound.{SavingRound}
 use Rattle.gc_worker.specs.declared.stage.after.After.TheVariants as afters
 use Rattle.gc_worker.specs.declared.stage.back.Back.TheVariants.{ToScanner}
@@ -23,15 +23,9 @@ module _ (y : Held) (r : SavingRound) where
 
   -- it knows what it knew
   pub rounded_known : (goal : Goal) (result : SaveRoundEnd) → knows (at goal) ≡ knows (at_stage (at goal) (rounded (at goal) goal result))
-  rounded_known ForScanner result = refl
-  rounded_known ForFlip (NoneRuns number) = refl
-  rounded_known ForFlip Saved = refl
-  rounded_known ForFlip Marked = refl
-  rounded_known ForFlip (NothingNow word) = refl
-  rounded_known ForSnap (NoneRuns number) = refl
-  rounded_known ForSnap Saved = refl
-  rounded_known ForSnap Marked = refl
-  rounded_known ForSnap (NothingNow word) = refl
+  rounded_known ForScanner _ = refl
+  rounded_known _ (NoneRuns _) = refl
+  rounded_known _ _ = refl
 
   module _ (n mutators k : ℕ) where
     abbrev FitsAt : Goal → Type 0
@@ -47,10 +41,6 @@ module _ (y : Held) (r : SavingRound) where
     pub rounded_fits : (goal : Goal) (result : SaveRoundEnd) → FitsAt goal → Fits n mutators k (at_stage (at goal) (rounded (at goal) goal result))
     rounded_fits ForScanner result f = back_fits n mutators k (at ForScanner) f f.end ToScanner f.stage.caller.no_run f.side f.task
     rounded_fits ForFlip (NoneRuns number) f = before_passage n mutators k (at ForFlip) f Request afters.Places f.end f.side f.task f.stage.caller.1
-    rounded_fits ForFlip Saved f = another_for_flip f
-    rounded_fits ForFlip Marked f = another_for_flip f
-    rounded_fits ForFlip (NothingNow word) f = another_for_flip f
     rounded_fits ForSnap (NoneRuns number) f = before_passage n mutators k (at ForSnap) f Request afters.Snaps f.end f.side f.task f.stage.caller.1
-    rounded_fits ForSnap Saved f = another_for_snap f
-    rounded_fits ForSnap Marked f = another_for_snap f
-    rounded_fits ForSnap (NothingNow word) f = another_for_snap f
+    rounded_fits ForFlip _ f = another_for_flip f
+    rounded_fits ForSnap _ f = another_for_snap f

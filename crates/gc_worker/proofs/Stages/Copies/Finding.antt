@@ -14,8 +14,7 @@ use Rattle.forwarding.specs.Soundness.{IsSound}
 use Rattle.forwarding.specs.Taken.{by_first_word, stage_after}
 use Rattle.forwarding.specs.Taken as evac_taken
 use Rattle.page_scan.specs.declared.scan_stage.ScanStage.{ScanStage}
-use Rattle.page_scan.specs.declared.scan_stage.ScanStage.TheVariants.{LoadsCross, LoadsFirst, LoadsCount, LoadsWord, Asks, StoresCopy, LoadsFront, LoadsNext}
-use Rattle.page_scan.specs.declared.scan_stage.ScanStage.TheVariants as scan_stage
+use Rattle.page_scan.specs.declared.scan_stage.ScanStage.TheVariants.{Asks}
 use Rattle.page_scan.specs.Scanning.{Scanning}
 use Rattle.page_scan.specs.Taken.{answered}
 use Rattle.heap_state.specs.Configuration.{Configuration, Stands, era, memory, team}
@@ -27,7 +26,7 @@ use Rattle.heap_laws.specs.Answers.{OldHeader, OldHeaderAnswers, InPlace, KeptBy
 use Rattle.heap_laws.proofs.Copying.Laws.{announces_are_cleared, forwards_are_found}
 use Rattle.heap_laws.proofs.Steps.Answers.{old_headers_are_read}
 use Rattle.gc_worker.specs.declared.stage.back.Back.{Back}
-use Rattle.gc_worker.specs.declared.stage.back.Back.TheVariants.{ToAccess, ToTarget, ToPlace, ToSnap, ToScanner}
+use Rattle.gc_worker.specs.declared.stage.back.Back.TheVariants.{ToAccess}
 use Rattle.gc_worker.specs.declared.stage.Stage.TheVariants.{Evacuates, Scans}
 use Rattle.gc_worker.specs.Workers.Fits.{Fits, FitsBack, HasAsked}
 use Rattle.gc_worker.specs.Steps.Goes.{Is, Goes, StepsSo}
@@ -55,35 +54,18 @@ module _ (y : Held) (v : Evacuation) (scan : Scanning) (back : Back) where
   answer_known : (z : EvacStage) (q : ScanStage) (to : ℕ) → linking_at z ≡ None → HasAsked (record v { stage = z }) q
       → record (knows (asking z q)) { copy = None; quest = Some (quest_with y v (ForScan (record scan { stage = q }) back) (Some to)) } ≡ knows (going_on q to)
   answer_known z (Asks asked) to none has = λ i. record (knows (going_on (Asks asked) to)) { linking = none i; quest = Some (record { old = sym has i; origin = Rattle.heap_state.specs.Worker.Scanned (cursor_asked (Asks asked)); found = Some to }) }
-  answer_known z LoadsCross to none has = absurd has
-  answer_known z (LoadsFirst a) to none has = absurd has
-  answer_known z (LoadsCount h) to none has = absurd has
-  answer_known z (LoadsWord spot) to none has = absurd has
-  answer_known z (StoresCopy asked b) to none has = absurd has
-  answer_known z (LoadsFront r) to none has = absurd has
-  answer_known z (LoadsNext r) to none has = absurd has
-  answer_known z (scan_stage.Ended ending) to none has = absurd has
+  answer_known z _ to none has = absurd has
 
   back_fits : (q : ScanStage) (z : EvacStage) (to : ℕ) (b : Back) → FitsBack (asking z q) b → FitsBack (going_on q to) b
-  back_fits q z to (ToAccess a) f = f
-  back_fits q z to (ToTarget a) f = f
-  back_fits q z to ToPlace f = f
-  back_fits q z to ToSnap f = f
-  back_fits q z to ToScanner f = f
+  back_fits q z to (ToAccess _) f = f
+  back_fits q z to _ f = f
 
   answer_fits : (n mutators k : ℕ) (z : EvacStage) (q : ScanStage) (to : ℕ) → Fits n mutators k (asking z q) → HasAsked (record v { stage = z }) q → Fits n mutators k (going_on q to)
   answer_fits n mutators k z (Asks asked) to f has =
       let g = f.stage.1 in
       refit n mutators k (asking z (Asks asked)) f (Scans (answered (record scan { stage = Asks asked }) to) back) f.end f.side f.task
       (record { layout = g.layout; epoch = g.epoch; sound = record { pages = g.sound.pages; page = g.sound.page; fits = g.sound.fits } }, tt, back_fits (Asks asked) z to back f.stage.3)
-  answer_fits n mutators k z LoadsCross to f has = absurd has
-  answer_fits n mutators k z (LoadsFirst a) to f has = absurd has
-  answer_fits n mutators k z (LoadsCount h) to f has = absurd has
-  answer_fits n mutators k z (LoadsWord spot) to f has = absurd has
-  answer_fits n mutators k z (StoresCopy asked b) to f has = absurd has
-  answer_fits n mutators k z (LoadsFront r) to f has = absurd has
-  answer_fits n mutators k z (LoadsNext r) to f has = absurd has
-  answer_fits n mutators k z (scan_stage.Ended ending) to f has = absurd has
+  answer_fits n mutators k z _ to f has = absurd has
 
 -- ---- the old record's first word
 

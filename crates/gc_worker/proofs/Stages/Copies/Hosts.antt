@@ -3,7 +3,7 @@ use Rattle.std.proofs.Common.{◌≡◌, ℕ, Option, Some, None, refl, sym, ap,
 use Rattle.atom_store.specs.declared.reply.Reply.{Reply}
 use Rattle.atom_store.specs.declared.turn.Turn.TheVariants.{More}
 use Rattle.forwarding.specs.declared.evac_stage.EvacStage.{EvacStage}
-use Rattle.forwarding.specs.declared.evac_stage.EvacStage.TheVariants.{LoadsHeader, TakesHeader, LoadsArea, Announces, Reserves, StoresHeader, LoadsWord, StoresWord, StoresCross, StoresForward, LoadsWeak, StoresLink, TakesWeak, Clears, Ended}
+use Rattle.forwarding.specs.declared.evac_stage.EvacStage.TheVariants.{LoadsWeak, StoresLink, TakesWeak, Ended}
 use Rattle.forwarding.specs.Evacuation as evac
 use Rattle.forwarding.specs.Soundness as sound
 use Rattle.forwarding.specs.Taken as taken
@@ -11,7 +11,7 @@ use Rattle.page_scan.specs.Scanning.{Scanning}
 use Rattle.heap_state.specs.Worker.{Copy, Quest, Origin, Register, Scanned}
 use Rattle.gc_worker.specs.declared.stage.after.After.{After}
 use Rattle.gc_worker.specs.declared.stage.back.Back.{Back}
-use Rattle.gc_worker.specs.declared.stage.back.Back.TheVariants.{ToAccess, ToTarget, ToPlace, ToSnap, ToScanner}
+use Rattle.gc_worker.specs.declared.stage.back.Back.TheVariants.{ToAccess}
 use Rattle.gc_worker.specs.declared.stage.Stage.{Stage}
 use Rattle.gc_worker.specs.declared.stage.Stage.TheVariants.{Forwards, Evacuates}
 use Rattle.gc_worker.specs.Workers.Fits.{Fits, FitsBack, Takes}
@@ -36,21 +36,10 @@ origin_of (ForRegister r after) = Register r
 
 -- who has found nothing yet has nothing to link
 pub nothing_to_link : (z : EvacStage) → found_in z ≡ None → linking_at z ≡ None
-nothing_to_link LoadsHeader e = refl
-nothing_to_link (TakesHeader kept) e = refl
-nothing_to_link (LoadsArea kept) e = refl
-nothing_to_link (Announces kept area) e = refl
-nothing_to_link (Reserves kept area) e = refl
-nothing_to_link (StoresHeader r) e = refl
-nothing_to_link (LoadsWord r i) e = refl
-nothing_to_link (StoresWord r w) e = refl
-nothing_to_link (StoresCross r page) e = refl
-nothing_to_link (StoresForward r) e = refl
 nothing_to_link (LoadsWeak to) e = absurd (cc)
 nothing_to_link (StoresLink to word) e = absurd (cc)
 nothing_to_link (TakesWeak to word) e = absurd (cc)
-nothing_to_link (Clears to) e = refl
-nothing_to_link (Ended to) e = refl
+nothing_to_link _ e = refl
 
 module _ (y : Held) (o : Host) (w : evac.Evacuation) where
   abbrev pub machine_at : EvacStage → evac.Evacuation
@@ -63,21 +52,8 @@ module _ (y : Held) (o : Host) (w : evac.Evacuation) where
 
 -- a copy that has more to do goes on
 going_on : (z : EvacStage) → taken.told z ≡ More → evac.IsGoing z
-going_on LoadsHeader more = tt
-going_on (TakesHeader kept) more = tt
-going_on (LoadsArea kept) more = tt
-going_on (Announces kept area) more = tt
-going_on (Reserves kept area) more = tt
-going_on (StoresHeader r) more = tt
-going_on (LoadsWord r i) more = tt
-going_on (StoresWord r word) more = tt
-going_on (StoresCross r page) more = tt
-going_on (StoresForward r) more = tt
-going_on (LoadsWeak to) more = tt
-going_on (StoresLink to word) more = tt
-going_on (TakesWeak to word) more = tt
-going_on (Clears to) more = tt
 going_on (Ended to) more = absurd (cc)
+going_on _ more = tt
 
 module _ (y : Held) (w : evac.Evacuation) where
   pub wants_its : (o : Host) (z : EvacStage) → wanted (at y o w z) ≡ evac.wanted (machine_at y o w z)
@@ -125,11 +101,8 @@ module _ (y : Held) (w : evac.Evacuation) where
     with_sound z q s fits = record { pages = s.pages; worker = s.worker; addr = s.addr; fits = fits }
 
     same_back : (o : Host) (z q : EvacStage) (b : Back) → FitsBack (at y o w z) b → FitsBack (at y o w q) b
-    same_back o z q (ToAccess a) f = f
-    same_back o z q (ToTarget a) f = f
-    same_back o z q ToPlace f = f
-    same_back o z q ToSnap f = f
-    same_back o z q ToScanner f = f
+    same_back o z q (ToAccess _) f = f
+    same_back o z q _ f = f
 
     pub refits : (o : Host) (z q : EvacStage) → Fits n mutators k (at y o w z) → taken.told q ≡ More → sound.FitsStage w.layout.pages w.addr q → Fits n mutators k (at y o w q)
     refits (ForScan s back) z q f more fits =

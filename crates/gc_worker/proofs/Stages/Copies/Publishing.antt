@@ -7,7 +7,7 @@ use Rattle.atom_store.specs.declared.reply.Reply.TheVariants.{Done, Won, Lost}
 use Rattle.atom_store.specs.declared.step.Step.TheVariants.{Store, Exchange}
 use Rattle.atom_store.specs.declared.turn.Turn.TheVariants.{More}
 use Rattle.heap_words.specs.declared.kind.Kind.{Kind}
-use Rattle.heap_words.specs.declared.kind.Kind.TheVariants.{Fields, Raw, Mixed, Weak}
+use Rattle.heap_words.specs.declared.kind.Kind.TheVariants.{Weak}
 use Rattle.heap_words.specs.Decoded.{HeaderWord, ForwardWord, decode}
 use Rattle.heap_words.specs.Word.{busy_word, forward_word}
 use Rattle.heap_words.proofs.Decoding.{decode-busy_word, decode-forward_word}
@@ -37,9 +37,7 @@ use Rattle.gc_worker.proofs.Words.RowSteps.{Law, becomes, exchanges, nothing, st
 -- a cell's header is of the kind weak, and of two words
 pub cell_of : (kind : Kind) (len : ℕ) → is_cell_of kind len ≡ true → (kind ≡ Weak) × (len ≡ 2)
 cell_of Weak len e = (refl, eqb-true len 2 e)
-cell_of Fields len e = absurd (cc)
-cell_of Raw len e = absurd (cc)
-cell_of Mixed len e = absurd (cc)
+cell_of _ len e = absurd (cc)
 
 keeps_cell : {pages addr : ℕ} (kept : KeptHeader) → is_cell kept ≡ true → IsKeptHeader pages addr kept
     → (serial : ℕ) × (mutator : ℕ) × (decode kept.word ≡ HeaderWord Weak 2 serial mutator)

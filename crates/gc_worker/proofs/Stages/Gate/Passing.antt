@@ -65,13 +65,11 @@ resumes_so g epoch is = by_clear (is_clear g) refl is
 may_request : (after : After) (epoch asked : ℕ) (ended : Bool) (gate : GateWord) → ended ≡ false → gate.request ≡ false
     → parts.Passes workers.Running epoch 0 ended true gate (request_for asked after)
 may_request afters.Looks epoch asked ended gate unended none = (refl, unended, none, refl)
-may_request afters.Places epoch asked ended gate unended none = (refl, unended, none, refl)
-may_request afters.Snaps epoch asked ended gate unended none = (refl, unended, none, refl)
+may_request _ epoch asked ended gate unended none = (refl, unended, none, refl)
 
 counts_itself : (after : After) (asked : ℕ) (gate : GateWord) → GateAnswers gate (request_for asked after) → 0 < gate.running
 counts_itself afters.Looks asked gate a = a.counted
-counts_itself afters.Places asked gate a = a.counted
-counts_itself afters.Snaps asked gate a = a.counted
+counts_itself _ asked gate a = a.counted
 
 -- who requests anything may stop for it
 request_stops : (y : Held) (after : After) → FitsTaskAsking y after → FitsTaskAfter y after

@@ -47,12 +47,9 @@ divided_stops n true = tt
 divided_stops n false = tt
 
 applied_stops : (operation : Operation) (a b : ℕ) → Stops (applied operation a b)
-applied_stops operations.Add a b = tt
-applied_stops operations.Sub a b = tt
-applied_stops operations.Mul a b = tt
 applied_stops operations.Div a b = divided_stops _ (b == 0)
 applied_stops operations.Rem a b = divided_stops _ (b == 0)
-applied_stops operations.Lt a b = tt
+applied_stops _ a b = tt
 
 module _ (m : Mutator) where
   operand_stops : (x : Operand) → Stops (operand m x)
@@ -77,18 +74,12 @@ module _ (m : Mutator) where
 
   pub action_stops : (i : Instr) → Stops (action m i)
   unfolding action
-  action_stops (instrs.Li d n) = tt
-  action_stops (instrs.Mov d a) = tt
   action_stops (instrs.Add d a b) = computes_stops operations.Add d a b
   action_stops (instrs.Sub d a b) = computes_stops operations.Sub d a b
   action_stops (instrs.Mul d a b) = computes_stops operations.Mul d a b
   action_stops (instrs.Div d a b) = computes_stops operations.Div d a b
   action_stops (instrs.Rem d a b) = computes_stops operations.Rem d a b
   action_stops (instrs.Lt d a b) = computes_stops operations.Lt d a b
-  action_stops (instrs.Eq d a b) = tt
-  action_stops (instrs.Jmp target) = tt
-  action_stops (instrs.Jz a target) = tt
-  action_stops (instrs.Jal d target) = tt
   action_stops (instrs.Jr a) = bind (as_number (register m a)) _ (number_stops (register m a)) (λ n. tt)
   action_stops (instrs.New d x) = allocates_stops Fields d x
   action_stops (instrs.Raw d x) = allocates_stops Raw d x
@@ -98,13 +89,11 @@ module _ (m : Mutator) where
   action_stops (instrs.St a x b) = bind (reference_in (register m a)) _ (reference_stops (register m a)) (λ i. bind (operand m x) _ (operand_stops x) (λ n. tt))
   action_stops (instrs.Cas d a x b c) = bind (reference_in (register m a)) _ (reference_stops (register m a)) (λ i. bind (operand m x) _ (operand_stops x) (λ n. tt))
   action_stops (instrs.Len d a) = bind (reference_in (register m a)) _ (reference_stops (register m a)) (λ i. tt)
-  action_stops (instrs.Isp d a) = tt
   action_stops (instrs.Get d x) = bind (board_place m x) _ (board_stops x) (λ n. tt)
   action_stops (instrs.Put x a) = bind (board_place m x) _ (board_stops x) (λ n. tt)
   action_stops (instrs.Swap d x) = bind (board_place m x) _ (board_stops x) (λ n. tt)
   action_stops (instrs.Out a) = bind (as_number (register m a)) _ (number_stops (register m a)) (λ n. if_else (Prints n) OutputFull (nat_lt (length m.printed) MOST_PRINTED) tt)
-  action_stops instrs.Snap = tt
-  action_stops instrs.Halt = tt
+  action_stops _ = tt
 
 -- an instruction that ends so by its registers
 pub its_end : (m : Mutator) (i : Instr) (why : End) → action m i ≡ Err why → MayStop why

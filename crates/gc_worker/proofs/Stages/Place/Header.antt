@@ -92,9 +92,7 @@ filled_show denotes heap a (Mixed count) z n v fills shows = subst (λ (w : Valu
 -- a cell has one value, which is that of its record
 cell_value : (kind : Kind) (n : ℕ) (v : Value) → kind ≡ Weak → FitsKind kind n → value_of_cell (filled kind n v) ≡ Some v
 cell_value Weak n v weak one = ap (λ (l : ℕ). value_of_cell (filled Weak l v)) one
-cell_value Fields n v weak one = absurd (cc)
-cell_value Raw n v weak one = absurd (cc)
-cell_value (Mixed count) n v weak one = absurd (cc)
+cell_value _ n v weak one = absurd (cc)
 
 module _ (c : Configuration) (p : Plain) (s : Stands c p) (k : ℕ) (y : Held) (run : Run) (making : IsMaking y.account y.registers y.task) where
   abbrev m : Making

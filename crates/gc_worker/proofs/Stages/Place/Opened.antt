@@ -102,16 +102,12 @@ module _ (c : Configuration) (p : Plain) (s : Stands c p) (k : ℕ) (y : Held) (
     comes : (kind : Kind) (b : Bool) → by (pick_for kind b) ≡ then_for kind b
     comes kind true = readied_comes c p s k y run header further (OpensPage new)
     comes Fields false = refl
-    comes Raw false = refl
-    comes Mixed false = refl
-    comes Weak false = refl
+    comes _ false = refl
 
     silent : (kind : Kind) (b : Bool) → told_place x (told (pick_for kind b)) ≡ Silent
     silent kind true = readied_silent c p s k y run header further (OpensPage new)
     silent Fields false = refl
-    silent Raw false = refl
-    silent Mixed false = refl
-    silent Weak false = refl
+    silent _ false = refl
 
     abbrev test_of : Bool
     test_of = nat_lt (new.next + 1) (page_of new.first + asked)

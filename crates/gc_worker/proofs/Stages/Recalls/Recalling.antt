@@ -3,7 +3,7 @@ use Rattle.std.proofs.Common.{◌≡◌, ℕ, ◌≤◌, ◌==◌, Bool, true, f
 use Rattle.std.specs.Prelude.{⊤}
 use Rattle.plain_state.specs.State.{Plain}
 use Rattle.atom_store.specs.declared.reply.Reply.{Reply}
-use Rattle.atom_store.specs.declared.reply.Reply.TheVariants.{Value, Done, Won, Lost}
+use Rattle.atom_store.specs.declared.reply.Reply.TheVariants.{Value}
 use Rattle.atom_store.specs.declared.step.Step.TheVariants.{Load}
 use Rattle.gate_core.specs.declared.recall.recalled.Recalled.{Recalled}
 use Rattle.gate_core.specs.declared.recall.recall_stage.RecallStage.{RecallStage}
@@ -49,13 +49,8 @@ recalled_by_done number None = tt
 recalled_next : (stage : RecallStage) (reply : Reply) → IsRecallGoing stage → IsRecalled (next_stage stage reply)
 recalled_next recall_stage.LoadsSnap (Value word) going = recalled_by_snap (number_in word)
 recalled_next (recall_stage.LoadsDone number) (Value word) going = recalled_by_done number (number_in word)
-recalled_next recall_stage.LoadsSnap Done going = tt
-recalled_next recall_stage.LoadsSnap Won going = tt
-recalled_next recall_stage.LoadsSnap (Lost word) going = tt
-recalled_next (recall_stage.LoadsDone number) Done going = tt
-recalled_next (recall_stage.LoadsDone number) Won going = tt
-recalled_next (recall_stage.LoadsDone number) (Lost word) going = tt
 recalled_next (recall_stage.Ended result) reply going = absurd going
+recalled_next _ _ going = tt
 
 module _ (c : Configuration) (p : Plain) (s : Stands c p) (k : ℕ) (y : Held) (after : After) where
   abbrev at : Recalling → Held

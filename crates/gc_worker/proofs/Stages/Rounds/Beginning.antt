@@ -139,15 +139,7 @@ module _ (c : Configuration) (p : Plain) (s : Stands c p) (k : ℕ) (y : Held) w
       (ap (duty.looked_at_gate (round c p s k y (record d { caller = Allocates }) ToSnap LoadsGate) (gate_now c)) (gate_says c p s))
   gate_goes d (Scans mutators) ToScanner is = scanner_by d mutators is (nat_eq gate.left mutators)
       (ap (duty.looked_at_gate (round c p s k y (record d { caller = Scans mutators }) ToScanner LoadsGate) (gate_now c)) (gate_says c p s))
-  gate_goes d (Faulted page) ToPlace is = absurd is.fits.stage.0.caller
-  gate_goes d (Faulted page) ToSnap is = absurd is.fits.stage.0.caller
-  gate_goes d (Faulted page) ToScanner is = absurd is.fits.stage.0.caller
-  gate_goes d Allocates (ToAccess a) is = absurd is.fits.stage.0.caller
-  gate_goes d Allocates ToScanner is = absurd is.fits.stage.0.caller
-  gate_goes d (Scans mutators) (ToAccess a) is = absurd is.fits.stage.0.caller
-  gate_goes d (Scans mutators) (ToTarget a) is = absurd is.fits.stage.0.caller
-  gate_goes d (Scans mutators) ToPlace is = absurd is.fits.stage.0.caller
-  gate_goes d (Scans mutators) ToSnap is = absurd is.fits.stage.0.caller
+  gate_goes d _ _ is = absurd is.fits.stage.0.caller
 
   pub loads_gate : (d : Round) (back : Back) → Is c k (at c p s k y d back LoadsGate) → StepsSo c p s k (at c p s k y d back LoadsGate)
   loads_gate d back is = loads_it c p s k y d back LoadsGate is Gate tt refl (gate_goes d d.caller back is)

@@ -6,7 +6,7 @@ use Rattle.atom_store.specs.declared.turn.Turn.TheVariants.{More, Finished}
 use Rattle.fault_duty.specs.declared.caller.Caller.{Caller}
 use Rattle.fault_duty.specs.declared.caller.Caller.TheVariants as callers
 use Rattle.fault_duty.specs.declared.duty_stage.DutyStage.{DutyStage}
-use Rattle.fault_duty.specs.declared.duty_stage.DutyStage.TheVariants.{LoadsGate, LoadsTraced, LoadsWanted, LoadsFrontFor, LoadsFront, LoadsPage, Claims, EndGate, EndArea, EndPage, EndFilling, EndAreaAgain, Walks, Traces, Ended}
+use Rattle.fault_duty.specs.declared.duty_stage.DutyStage.TheVariants.{LoadsGate, Ended}
 use Rattle.fault_duty.specs.declared.round_end.RoundEnd.{RoundEnd}
 use Rattle.fault_duty.specs.declared.round_end.RoundEnd.TheVariants.{NothingNow, Marked}
 use Rattle.fault_duty.specs.Duty as duty
@@ -39,21 +39,8 @@ use Rattle.gc_worker.proofs.Stages.Gate.Words.{wants}
 
 -- a round that has more to do goes on
 going_on : (stage : DutyStage) → duty.told_at stage ≡ More → IsRoundGoing stage
-going_on LoadsGate more = tt
-going_on (LoadsTraced hindrance) more = tt
-going_on (LoadsWanted found page) more = tt
-going_on (LoadsFrontFor found wanted) more = tt
-going_on (LoadsFront found) more = tt
-going_on (LoadsPage choice page) more = tt
-going_on (Claims claim) more = tt
-going_on (EndGate traced) more = tt
-going_on (EndArea traced) more = tt
-going_on (EndPage look page) more = tt
-going_on (EndFilling look) more = tt
-going_on (EndAreaAgain look filling) more = tt
-going_on (Walks traced walk) more = tt
-going_on (Traces traced) more = tt
 going_on (Ended result) more = absurd (cc)
+going_on _ more = tt
 
 -- a worker whose round ends, and that doesn't walk over the chain of copied cells any more
 abbrev pub rests : Worker → Worker
@@ -98,11 +85,8 @@ module _ (c : Configuration) (p : Plain) (s : Stands c p) (k : ℕ) (y : Held) (
     SameStock = own_stock d.epoch y.run ≡ own_stock y.epoch y.run
 
     same_stock : (b : Back) → IsEpochOf x b d.epoch → FitsBack x b → SameStock
-    same_stock (ToAccess a) of_epoch own = ap (λ e. own_stock e y.run) of_epoch
-    same_stock (ToTarget a) of_epoch own = ap (λ e. own_stock e y.run) of_epoch
-    same_stock ToPlace of_epoch own = ap (λ e. own_stock e y.run) of_epoch
-    same_stock ToSnap of_epoch own = ap (λ e. own_stock e y.run) of_epoch
     same_stock ToScanner of_epoch own = ap (own_stock d.epoch) own ∙ sym (ap (own_stock y.epoch) own)
+    same_stock _ of_epoch own = ap (λ e. own_stock e y.run) of_epoch
 
     -- who ends its round knows what it knew but for that
     module _ (own : epoch_at y.epoch (round stage) stage ≡ d.epoch) (same : SameStock) where
@@ -121,10 +105,8 @@ module _ (c : Configuration) (p : Plain) (s : Stands c p) (k : ℕ) (y : Held) (
 
       knows_back : (b : Back) → FitsBack x b → knows (back_from (done_with b) b) ≡ with_epoch b
       knows_back (ToAccess a) fits = λ i. record (with_epoch (ToAccess a)) { traced_seen = fits.2 i }
-      knows_back (ToTarget a) fits = refl
       knows_back ToPlace fits = places_known (done_with ToPlace) (header_for (done_with ToPlace))
-      knows_back ToSnap fits = refl
-      knows_back ToScanner fits = refl
+      knows_back _ fits = refl
 
       pub ended_known : knows (back_from done back) ≡ rests (knows x)
       ended_known = knows_back back is.fits.stage.1 ∙ same_worker back
@@ -140,11 +122,8 @@ module _ (c : Configuration) (p : Plain) (s : Stands c p) (k : ℕ) (y : Held) (
     caller_done ToScanner callers.Allocates e of_epoch own = absurd own
 
     epoch_done : (b : Back) (e : ℕ) → IsEpochOf (record x { epoch = e }) b e
-    epoch_done (ToAccess a) e = refl
-    epoch_done (ToTarget a) e = refl
-    epoch_done ToPlace e = refl
-    epoch_done ToSnap e = refl
     epoch_done ToScanner e = tt
+    epoch_done _ e = refl
 
     back_done : (b : Back) (e : ℕ) → IsEpochOf x b e → FitsBack x b → FitsBack (record x { epoch = e }) b
     back_done (ToAccess a) e of_epoch own = subst (λ z. FitsBack (record x { epoch = z }) (ToAccess a)) (sym of_epoch) own

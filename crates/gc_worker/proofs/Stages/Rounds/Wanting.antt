@@ -25,7 +25,7 @@ use Rattle.heap_state.specs.Worker as workers
 use Rattle.heap_laws.specs.Scanning.Claims.{MayClaim}
 use Rattle.heap_laws.proofs.Steps.Answers.{areas_are_read}
 use Rattle.gc_worker.specs.declared.stage.back.Back.{Back}
-use Rattle.gc_worker.specs.declared.stage.back.Back.TheVariants.{ToAccess, ToTarget, ToPlace, ToSnap, ToScanner}
+use Rattle.gc_worker.specs.declared.stage.back.Back.TheVariants.{ToAccess, ToTarget}
 use Rattle.gc_worker.specs.Workers.Fits.{IsCallerOf, IsEpochOf, IsFaulting}
 use Rattle.gc_worker.specs.Steps.Goes.{Is, Goes, StepsSo}
 use Rattle.gc_worker.specs.Workers.Held.{Held}
@@ -75,13 +75,11 @@ module _ (c : Configuration) (p : Plain) (s : Stands c p) (k : ℕ) (y : Held) (
         → Goes c p s k None x (Value loaded)
     one_by true test Waits waits taken =
         begins c p s k y d back (LoadsWanted found page) is page says refl refl (Value loaded) (board (eqb-true page (board_page d.layout.pages) test) waits) waits fits_says inside taken refl
-    one_by true test Past past taken = ends c p s k y d back (LoadsWanted found page) is (Value loaded) (encode_page says) taken refl refl refl
-    one_by true test Opened opened taken = ends c p s k y d back (LoadsWanted found page) is (Value loaded) (encode_page says) taken refl refl refl
-    one_by true test Scanned scanned taken = ends c p s k y d back (LoadsWanted found page) is (Value loaded) (encode_page says) taken refl refl refl
     one_by false test state is_state taken =
         let own = is.fits.stage.0.sound in
         goes_on c p s k y d back (LoadsWanted found page) is None (Value loaded) (LoadsFrontFor found (record { page = page; says = says })) s.ghost taken refl refl
         (own.stage.0, own.stage.1, fits_says) (nothing c p s k x is (knows (at c p s k y d back (LoadsFrontFor found (record { page = page; says = says })))) refl)
+    one_by true test _ past taken = ends c p s k y d back (LoadsWanted found page) is (Value loaded) (encode_page says) taken refl refl refl
 
     -- by what its word says
     state_by : (state : PageState) → duty.state_of says d.epoch ≡ state
@@ -125,9 +123,7 @@ module _ (c : Configuration) (p : Plain) (s : Stands c p) (k : ℕ) (y : Held) (
     faulting : (b : Back) → IsCallerOf z b (Faulted w.page) → IsEpochOf z b d.epoch → (w.page ≡ board_page d.layout.pages) ⊎ (duty.to_start d ≤ first_word w.page)
     faulting (ToAccess a) own of_epoch = in_own_epoch own of_epoch
     faulting (ToTarget a) own of_epoch = in_own_epoch own of_epoch
-    faulting ToPlace own of_epoch = absurd own
-    faulting ToSnap own of_epoch = absurd own
-    faulting ToScanner own of_epoch = absurd own
+    faulting _ own of_epoch = absurd own
 
     served : (w.page ≡ board_page d.layout.pages) ⊎ (duty.to_start d ≤ first_word w.page)
     served = let round_fits = is.fits.stage.0 in
@@ -165,9 +161,7 @@ module _ (c : Configuration) (p : Plain) (s : Stands c p) (k : ℕ) (y : Held) (
         ≡ round c p s k y d back (duty.claim_by_state (round c p s k y d back (LoadsFrontFor found w)) w.page w.says false state) → Goes c p s k None z (Value (area_now c space))
     claimed_by Waits waits full taken =
         begins c p s k y d back (LoadsFrontFor found w) is w.page w.says refl refl (Value (area_now c space)) (may full waits) waits is.fits.stage.0.sound.stage.2 within taken refl
-    claimed_by Past past full taken = ends c p s k y d back (LoadsFrontFor found w) is (Value (area_now c space)) (encode_page w.says) taken refl refl refl
-    claimed_by Opened opened full taken = ends c p s k y d back (LoadsFrontFor found w) is (Value (area_now c space)) (encode_page w.says) taken refl refl refl
-    claimed_by Scanned scanned full taken = ends c p s k y d back (LoadsFrontFor found w) is (Value (area_now c space)) (encode_page w.says) taken refl refl refl
+    claimed_by _ past full taken = ends c p s k y d back (LoadsFrontFor found w) is (Value (area_now c space)) (encode_page w.says) taken refl refl refl
 
     full_by : (b : Bool) → duty.is_full (duty.front_of d area) w.page ≡ b
         → duty.taken_at (round c p s k y d back (LoadsFrontFor found w)) (LoadsFrontFor found w) (Value (area_now c space))

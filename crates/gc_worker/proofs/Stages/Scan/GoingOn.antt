@@ -9,7 +9,7 @@ use Rattle.page_scan.specs.declared.ending.Ending.{Ending}
 use Rattle.page_scan.specs.declared.scan_stage.ScanStage.{ScanStage}
 use Rattle.page_scan.specs.declared.scan_stage.ScanStage.TheVariants as scan_stage
 use Rattle.gc_worker.specs.declared.stage.back.Back.{Back}
-use Rattle.gc_worker.specs.declared.stage.back.Back.TheVariants.{ToAccess, ToTarget, ToPlace, ToSnap, ToScanner}
+use Rattle.gc_worker.specs.declared.stage.back.Back.TheVariants.{ToPlace, ToSnap}
 use Rattle.gc_worker.specs.declared.stage.Stage.{Stage}
 use Rattle.gc_worker.specs.declared.stage.Stage.TheVariants.{Scans, Opens}
 use Rattle.gc_worker.specs.Workers.Fits.{Fits, FitsScan, FitsBack, FitsTaskBack, IsOnSideBack}
@@ -19,11 +19,9 @@ use Rattle.gc_worker.proofs.Workers.Parts.{refit, page_count}
 
 -- where it goes back to stays
 pub still_back : (x : Held) (next : Stage) (back : Back) → FitsBack x back → FitsBack (at_stage x next) back
-still_back x next (ToAccess a) own = own
-still_back x next (ToTarget a) own = own
 still_back x next ToPlace own = tt
 still_back x next ToSnap own = tt
-still_back x next ToScanner own = own
+still_back x next _ own = own
 
 module _ (x : Held) (v : Scanning) (back : Back) where
   -- the worker whose scan comes to a stage

@@ -5,7 +5,7 @@ use Rattle.std.proofs.lemmas.Bool.Decides.{nat_tests}
 use Rattle.plain_state.specs.State.{Plain}
 use Rattle.atom_store.specs.declared.step.Step.TheVariants.{Load}
 use Rattle.atom_store.specs.declared.reply.Reply.TheVariants.{Value}
-use Rattle.heap_words.specs.Decoded.{Decoded, NumberWord, PointerWord, HeaderWord, ForwardWord, BusyWord, Malformed, decode}
+use Rattle.heap_words.specs.Decoded.{Decoded, PointerWord, decode}
 use Rattle.space_map.specs.Spaces.{space_start, to_space}
 use Rattle.space_map.specs.Table.{HeapWord, place_of}
 use Rattle.page_scan.specs.Scanning.{Scanning, address_of}
@@ -172,11 +172,7 @@ module _ (c : Configuration) (p : Plain) (s : Stands c p) (k : ℕ) (y : Held) (
             let same : a ≡ b = pointers (sym says ∙ q) in
             outside_by (space_start u.layout.pages (to_space (u.epoch + 1))) (space_start u.layout.pages (to_space (u.epoch + 1)) + 64 * u.layout.pages) a f (rw (← old_start, same) low) (let w = old_span in let at = old_start in omega (arith, w, at, same, high))))
             (rw (e, f) refl)
-    goes_by (NumberWord m) e = goes_past (unleading (era c) ((memory c).heap now.cursor) (λ b q _ _. let z = sym (ap decode (heap_word c (address_of spot)) ∙ e) ∙ q in absurd (cc))) (rw e refl)
-    goes_by (HeaderWord kind len serial mutator) e = goes_past (unleading (era c) ((memory c).heap now.cursor) (λ b q _ _. let z = sym (ap decode (heap_word c (address_of spot)) ∙ e) ∙ q in absurd (cc))) (rw e refl)
-    goes_by (ForwardWord len a) e = goes_past (unleading (era c) ((memory c).heap now.cursor) (λ b q _ _. let z = sym (ap decode (heap_word c (address_of spot)) ∙ e) ∙ q in absurd (cc))) (rw e refl)
-    goes_by (BusyWord len j) e = goes_past (unleading (era c) ((memory c).heap now.cursor) (λ b q _ _. let z = sym (ap decode (heap_word c (address_of spot)) ∙ e) ∙ q in absurd (cc))) (rw e refl)
-    goes_by Malformed e = goes_past (unleading (era c) ((memory c).heap now.cursor) (λ b q _ _. let z = sym (ap decode (heap_word c (address_of spot)) ∙ e) ∙ q in absurd (cc))) (rw e refl)
+    goes_by _ e = goes_past (unleading (era c) ((memory c).heap now.cursor) (λ b q _ _. let z = sym (ap decode (heap_word c (address_of spot)) ∙ e) ∙ q in absurd (cc))) (rw e refl)
 
     inside_row : (t : Spot) → scan_sound.IsOnPage c.pages u.page t → address_of t < 128 * c.pages + 64
     inside_row (OnBoard a) o = omega (arith, o)

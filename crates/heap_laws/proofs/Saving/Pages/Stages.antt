@@ -386,14 +386,8 @@ pages_are_saved t s z count saver k _ _ stands in_team (MarksNew page number rec
     (marks_new t s z count saver k stands in_team page recalled loose)
 
 pub save_numbers_rise : SaveNumbersRise
-save_numbers_rise t s z count saver k _ _ stands in_team (FindsKept page says recalled runs is kept) p = omega arith
-save_numbers_rise t s z count saver k _ _ stands in_team (FindsUnsaved page number says recalled running none is earlier of opened) p = omega arith
-save_numbers_rise t s z count saver k _ _ stands in_team LooksAgain p = omega arith
 save_numbers_rise t s z count saver k _ _ stands in_team (WinsSave v is not_won found) p =
     numbers_rise t s z k v.page (Saving v.number k) (begins_marks t s z count saver k stands in_team v is not_won found) p
-save_numbers_rise t s z count saver k _ _ stands in_team (LosesSave v is not_won) p = omega arith
-save_numbers_rise t s z count saver k _ _ stands in_team (LoadsWord v word is won small read) p = omega arith
-save_numbers_rise t s z count saver k _ _ stands in_team (StoresImage v word is won loaded) p = omega arith
 save_numbers_rise t s z count saver k _ _ stands in_team (EndsSave v is won all) p =
     numbers_rise t s z k v.page (Saved v.number) (ends_marks t s z count saver k stands in_team v is won all) p
 save_numbers_rise t s z count saver k _ _ stands in_team (EndsLook v is won all recalled running) p =
@@ -401,3 +395,5 @@ save_numbers_rise t s z count saver k _ _ stands in_team (EndsLook v is won all 
 save_numbers_rise t s z count saver k _ _ stands in_team (MarksNew page number recalled snap loose) p =
     subst (λ n. number_of (s.save p) ≤ number_of (put s.save page (New n) p)) snap
     (numbers_rise t s z k page (New (saver k).snap) (marks_as_new t s z count saver k stands in_team page recalled loose) p)
+save_numbers_rise t s z count saver k _ _ stands in_team (FindsUnsaved _ _ _ _ _ none _ _ _ _) p = omega arith
+save_numbers_rise t s z count saver k _ _ stands in_team _ p = omega arith

@@ -43,8 +43,7 @@ module _ (c : Configuration) (p : Plain) (s : Stands c p) (y : Held) (r : Record
   -- the header is read before the wait for a target
   pays_wait : (role : Role) → 3 + wait_for c p s y (LoadsHeader r) a role + guard_cost < access_left c.pages (own c p s 0 y (LoadsHeader r))
   pays_wait roles.Field = omega arith
-  pays_wait roles.Number = omega arith
-  pays_wait roles.Target = omega arith
+  pays_wait _ = omega arith
 
   uses_by : (role : Role) (len : ℕ) (usage : RecordUse) → Owes (used_by r role len usage)
   uses_by role len (record_uses.TellsLength into) = brings c p s y (LoadsHeader r) a (table c) into (number_word len) a.remembers.quiet

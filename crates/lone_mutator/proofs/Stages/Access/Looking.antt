@@ -4,7 +4,7 @@ use Rattle.std.proofs.lemmas.Bool.{eqb-true, eq-eqb}
 use Rattle.plain_state.specs.State.{Plain}
 use Rattle.plain_state.specs.declared.value.Value.TheVariants.{Reference}
 use Rattle.plain_heap.specs.declared.action.Action.{Action}
-use Rattle.plain_heap.specs.declared.action.Action.TheVariants.{Sets, Jumps, Links, Prints, Makes, Measures, Loads, Stores, Exchanges, Gets, Puts, Swaps, Snaps}
+use Rattle.plain_heap.specs.declared.action.Action.TheVariants.{Measures, Loads, Stores, Exchanges, Swaps}
 use Rattle.atom_store.specs.declared.step.Step.TheVariants.{Load}
 use Rattle.atom_store.specs.declared.reply.Reply.TheVariants.{Value}
 use Rattle.space_map.specs.declared.page_word.PageWord.{PageWord}
@@ -148,15 +148,7 @@ module _ (c : Configuration) (p : Plain) (s : Stands c p) (y : Held) where
     named_by (Loads d j v) executes e = at_address _ e (names c p s 0 y stage a.is (Loads d j v) executes)
     named_by (Stores j v w) executes e = at_address _ e (names c p s 0 y stage a.is (Stores j v w) executes).0
     named_by (Exchanges d j v u w) executes e = at_address _ e (names c p s 0 y stage a.is (Exchanges d j v u w) executes).0
-    named_by (Sets d v) executes e = absurd (cc)
-    named_by (Jumps target) executes e = absurd (cc)
-    named_by (Links d target) executes e = absurd (cc)
-    named_by (Prints n) executes e = absurd (cc)
-    named_by Snaps executes e = absurd (cc)
-    named_by (Makes kind d n v) executes e = absurd (cc)
-    named_by (Gets d v) executes e = absurd (cc)
-    named_by (Puts v w) executes e = absurd (cc)
-    named_by (Swaps d v w) executes e = absurd (cc)
+    named_by _ executes e = absurd (cc)
 
     pub leads : IsHeapAddress y.layout.pages r.at → (act : Action) → ExecutesAction y.account y.registers y.task act → begun act ≡ Some (LooksAtRecord r) → IsLedTo (era c) (memory c) s.ghost p r.at
     leads inside act executes e = led c p s 0 y stage a.is r.at inside (named_by act executes e)

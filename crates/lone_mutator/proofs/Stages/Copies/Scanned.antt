@@ -35,14 +35,7 @@ use Rattle.lone_mutator.proofs.Epochs.Pages.{untraced_scanning}
 answered-left : (z : Scanning) (stage : ScanStage) (v : Evacuation) (to : ℕ) → HasAsked v stage
     → scan_left.left_at (scan_taken.scan_end z.layout z.page) (scan_taken.stage_answered stage to) ≡ scan_left.left_at (scan_taken.scan_end z.layout z.page) stage
 answered-left z (scan_stage.Asks asked) v to has = refl
-answered-left z scan_stage.LoadsCross v to has = absurd has
-answered-left z (scan_stage.LoadsFirst first) v to has = absurd has
-answered-left z (scan_stage.LoadsCount h) v to has = absurd has
-answered-left z (scan_stage.LoadsWord spot) v to has = absurd has
-answered-left z (scan_stage.StoresCopy asked copy) v to has = absurd has
-answered-left z (scan_stage.LoadsFront r) v to has = absurd has
-answered-left z (scan_stage.LoadsNext r) v to has = absurd has
-answered-left z (scan_stage.Ended ending) v to has = absurd has
+answered-left z _ v to has = absurd has
 
 module _ (c : Configuration) (p : Plain) (s : Stands c p) (y : Held) (v : Evacuation) (z : Scanning) (back : Back) (a : IsAlone c (at_stage y (Evacuates v z back))) where
   abbrev x : Held

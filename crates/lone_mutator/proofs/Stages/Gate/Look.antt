@@ -7,7 +7,7 @@ use Rattle.plain_state.specs.State.{Plain}
 use Rattle.plain_state.specs.declared.value.Value.{Value}
 use Rattle.mutator_asm.specs.declared.instr.Instr.{Instr}
 use Rattle.plain_heap.specs.declared.action.Action.{Action}
-use Rattle.plain_heap.specs.declared.action.Action.TheVariants.{Sets, Jumps, Links, Prints, Makes, Measures, Loads, Stores, Exchanges, Gets, Puts, Swaps, Snaps}
+use Rattle.plain_heap.specs.declared.action.Action.TheVariants.{Sets, Jumps, Links, Prints, Makes, Snaps}
 use Rattle.plain_heap.specs.Action.{action}
 use Rattle.atom_store.specs.declared.step.Step.TheVariants.{Load}
 use Rattle.space_map.specs.declared.gate_word.GateWord.{GateWord}
@@ -84,13 +84,7 @@ module _ (c : Configuration) (p : Plain) (s : Stands c p) (y : Held) where
       act_by (Prints n) is = a.remembers.quiet
       act_by Snaps is = snaps is
       act_by (Makes kind d n v) is = makes kind d n v is
-      act_by (Measures d i) is = record { remembers = record { began = λ past. omega arith; quiet = a.remembers.quiet; stands = tt }; falls = omega arith }
-      act_by (Loads d i n) is = record { remembers = record { began = λ past. omega arith; quiet = a.remembers.quiet; stands = tt }; falls = omega arith }
-      act_by (Stores i n v) is = record { remembers = record { began = λ past. omega arith; quiet = a.remembers.quiet; stands = tt }; falls = omega arith }
-      act_by (Exchanges d i n u v) is = record { remembers = record { began = λ past. omega arith; quiet = a.remembers.quiet; stands = tt }; falls = omega arith }
-      act_by (Gets d n) is = record { remembers = record { began = λ past. omega arith; quiet = a.remembers.quiet; stands = tt }; falls = omega arith }
-      act_by (Puts n v) is = record { remembers = record { began = λ past. omega arith; quiet = a.remembers.quiet; stands = tt }; falls = omega arith }
-      act_by (Swaps d n v) is = record { remembers = record { began = λ past. omega arith; quiet = a.remembers.quiet; stands = tt }; falls = omega arith }
+      act_by _ is = record { remembers = record { began = λ past. omega arith; quiet = a.remembers.quiet; stands = tt }; falls = omega arith }
 
       acted_by : (r : Result Action End) → action (seen y.account y.registers) instr ≡ r → LowersWhereTold c.pages (saves c) (table c) (table c) x (acted (begins x) r) (told_acted x (Calls instr) r)
       acted_by (Ok act) is = act_by act is

@@ -14,7 +14,7 @@ use Rattle.space_map.proofs.GateWords.{decode_gate-encode_gate}
 use Rattle.gate_core.specs.declared.gate_stage.GateStage.{GateStage}
 use Rattle.gate_core.specs.declared.gate_stage.GateStage.TheVariants.{Loads, Exchanges, Ended}
 use Rattle.gate_core.specs.declared.passage.Passage.{Passage}
-use Rattle.gate_core.specs.declared.passage.Passage.TheVariants.{Look, Attach, Park, Request, Resume, Forwarded, Leave, Clear}
+use Rattle.gate_core.specs.declared.passage.Passage.TheVariants.{Attach, Request, Resume, Forwarded, Clear}
 use Rattle.gate_core.specs.declared.passed.Passed.TheVariants.{NotYet}
 use Rattle.gate_core.specs.Gate.{allows, allowed, gate_after, is_clear, looked, told_at}
 use Rattle.heap_state.specs.Configuration.{Configuration, Stands, table}
@@ -302,17 +302,13 @@ module _ (c : Configuration) (p : Plain) (s : Stands c p) (y : Held) (l : Layout
   loads_gate Request a = request_loads a
   loads_gate (Resume epoch) a = resume_loads epoch a
   loads_gate Forwarded a = forwarded_loads a
-  loads_gate Look a = absurd a.remembers.stands.0
-  loads_gate Park a = absurd a.remembers.stands.0
-  loads_gate Leave a = absurd a.remembers.stands.0
   loads_gate Clear a = clear_loads a
+  loads_gate _ a = absurd a.remembers.stands.0
 
   pub exchanges_gate : (passage : Passage) (gate : GateWord) → IsAlone c (at passage (Exchanges gate)) → StepsLower c (at passage (Exchanges gate))
   exchanges_gate Attach gate a = own Attach attach_won gate a
   exchanges_gate Request gate a = own Request request_won gate a
   exchanges_gate (Resume epoch) gate a = own (Resume epoch) (resume_won epoch) gate a
   exchanges_gate Forwarded gate a = own Forwarded forwarded_won gate a
-  exchanges_gate Look gate a = absurd a.remembers.stands.0
-  exchanges_gate Park gate a = absurd a.remembers.stands.0
-  exchanges_gate Leave gate a = absurd a.remembers.stands.0
   exchanges_gate Clear gate a = own Clear clear_won gate a
+  exchanges_gate _ gate a = absurd a.remembers.stands.0

@@ -9,7 +9,7 @@ use Rattle.space_map.specs.Table.{Row, IsRow, place_of}
 use Rattle.fault_duty.specs.declared.caller.Caller.{Caller}
 use Rattle.fault_duty.specs.declared.caller.Caller.TheVariants as callers
 use Rattle.fault_duty.specs.declared.duty_stage.DutyStage.{DutyStage}
-use Rattle.fault_duty.specs.declared.duty_stage.DutyStage.TheVariants.{LoadsGate, LoadsTraced, LoadsWanted, LoadsFrontFor, LoadsFront, LoadsPage, Claims, EndGate, EndArea, EndPage, EndFilling, EndAreaAgain, Walks, Traces, Ended}
+use Rattle.fault_duty.specs.declared.duty_stage.DutyStage.TheVariants.{LoadsGate}
 use Rattle.fault_duty.specs.Duty as duty
 use Rattle.fault_duty.specs.Duty.{Round}
 use Rattle.fault_duty.proofs.Lowering as lowering
@@ -59,20 +59,7 @@ module _ (c : Configuration) (p : Plain) (s : Stands c p) (y : Held) (d : Round)
 
     known_epoch : (z : DutyStage) → epoch_at y.epoch (round c p s 0 y d back z) z ≡ d.epoch
     known_epoch LoadsGate = sym of_epoch
-    known_epoch (LoadsTraced hindrance) = refl
-    known_epoch (LoadsWanted found page) = refl
-    known_epoch (LoadsFrontFor found wanted) = refl
-    known_epoch (LoadsFront found) = refl
-    known_epoch (LoadsPage choice page) = refl
-    known_epoch (Claims claim) = refl
-    known_epoch (EndGate traced) = refl
-    known_epoch (EndArea traced) = refl
-    known_epoch (EndPage look page) = refl
-    known_epoch (EndFilling look) = refl
-    known_epoch (EndAreaAgain look filling) = refl
-    known_epoch (Walks traced v) = refl
-    known_epoch (Traces traced) = refl
-    known_epoch (Ended result) = refl
+    known_epoch _ = refl
 
     pub worker_epoch : ((team c).worker 0).epoch ≡ d.epoch
     worker_epoch = ap (λ (w : Worker). w.epoch) a.is.as_known ∙ known_epoch stage
@@ -90,18 +77,12 @@ module _ (c : Configuration) (p : Plain) (s : Stands c p) (y : Held) (d : Round)
 
     mutator_by : (b : Back) (caller : Caller) → BackStands b → IsCallerOf x b caller → (mutators : ℕ) → caller ≢ callers.Scans mutators
     mutator_by (ToAccess access) (callers.Faulted page) stands is mutators e = cc
-    mutator_by (ToAccess access) callers.Allocates stands is mutators e = is
-    mutator_by (ToAccess access) (callers.Scans other) stands is mutators e = is
     mutator_by (ToTarget access) (callers.Faulted page) stands is mutators e = cc
     mutator_by (ToTarget access) callers.Allocates stands is mutators e = cc
-    mutator_by (ToTarget access) (callers.Scans other) stands is mutators e = is
-    mutator_by ToPlace (callers.Faulted page) stands is mutators e = is
     mutator_by ToPlace callers.Allocates stands is mutators e = cc
-    mutator_by ToPlace (callers.Scans other) stands is mutators e = is
-    mutator_by ToSnap (callers.Faulted page) stands is mutators e = is
     mutator_by ToSnap callers.Allocates stands is mutators e = cc
-    mutator_by ToSnap (callers.Scans other) stands is mutators e = is
     mutator_by ToScanner caller stands is mutators e = stands
+    mutator_by _ _ stands is mutators e = is
 
     pages : d.layout.pages ≡ c.pages
     pages = same_pages c p s 0 y d back stage a.is

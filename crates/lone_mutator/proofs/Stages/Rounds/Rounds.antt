@@ -10,7 +10,7 @@ use Rattle.fault_duty.specs.declared.duty_stage.DutyStage.{DutyStage}
 use Rattle.fault_duty.specs.Duty.{Round, at_stage, taken_at, told_at, left_at, advances_at, to_start}
 use Rattle.heap_state.specs.Memory.Era.{Era, Memory}
 use Rattle.gc_worker.specs.declared.stage.back.Back.{Back}
-use Rattle.gc_worker.specs.declared.stage.back.Back.TheVariants.{ToAccess, ToTarget, ToPlace, ToSnap, ToScanner}
+use Rattle.gc_worker.specs.declared.stage.back.Back.TheVariants.{ToTarget, ToSnap}
 use Rattle.lone_mutator.specs.Bound.{round_cost}
 use Rattle.lone_mutator.specs.Potential.{again_left, round_left, round_steps}
 use Rattle.lone_mutator.specs.Rounds.{FoundAt, IsUntraced}
@@ -39,8 +39,6 @@ pub record RoundGoes (E : Era) (m : Memory) (d : Round) (stage : DutyStage) (rep
 
 -- in the midst of a round of an epoch that isn't traced, what the tracing costs, and the round after it
 pub left_again : (n left due : ℕ) → due ≡ left + round_cost n → (back : Back) → round_left left due back ≡ left + again_left n back
-left_again n left due is (ToAccess a) = omega arith
 left_again n left due is (ToTarget a) = omega (arith, is)
-left_again n left due is ToPlace = omega arith
 left_again n left due is ToSnap = omega (arith, is)
-left_again n left due is ToScanner = omega arith
+left_again n left due is _ = omega arith

@@ -17,7 +17,7 @@ use Rattle.record_access.specs.declared.access.Access.{Access}
 use Rattle.record_access.specs.declared.access_stage.AccessStage.{AccessStage}
 use Rattle.record_access.specs.declared.access_stage.AccessStage.TheVariants.{LooksAtField, LoadsField}
 use Rattle.gc_worker.specs.declared.stage.back.Back.{Back}
-use Rattle.gc_worker.specs.declared.stage.back.Back.TheVariants.{ToAccess, ToTarget, ToPlace, ToSnap, ToScanner}
+use Rattle.gc_worker.specs.declared.stage.back.Back.TheVariants.{ToTarget, ToSnap}
 use Rattle.gc_worker.specs.declared.stage.goal.Goal.TheVariants.{ForSnap}
 use Rattle.gc_worker.specs.declared.stage.Stage.TheVariants.{Accesses, Checkpoints}
 use Rattle.record_access.specs.Access.{is_at_target}
@@ -99,6 +99,4 @@ module _ (c : Configuration) (p : Plain) (s : Stands c p) (y : Held) (d : Round)
   pub ends_traced : (back : Back) → EndsTraced back → IsAlone c (begins back) → (memory c).traced ≡ (era c).epoch + 1 → StepsLower c (begins back)
   ends_traced ToSnap is a traced = ends ToSnap a traced (saves_first a traced) (turns_to_save a traced) (saves_lower a traced)
   ends_traced (ToTarget z) is a traced = ends (ToTarget z) a traced (loads_next z a traced) (turns_to_load z a traced) (load_lowers z a traced)
-  ends_traced (ToAccess z) is a traced = absurd is
-  ends_traced ToPlace is a traced = absurd is
-  ends_traced ToScanner is a traced = absurd is
+  ends_traced _ is a traced = absurd is

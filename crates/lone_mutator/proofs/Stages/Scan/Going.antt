@@ -4,7 +4,7 @@ use Rattle.plain_state.specs.State.{Plain}
 use Rattle.atom_store.specs.declared.reply.Reply.{Reply}
 use Rattle.atom_store.specs.declared.step.Step.{Step}
 use Rattle.page_scan.specs.declared.scan_stage.ScanStage.{ScanStage}
-use Rattle.page_scan.specs.declared.scan_stage.ScanStage.TheVariants.{LoadsCross, LoadsFirst, LoadsCount, LoadsWord, Asks, StoresCopy, LoadsFront, LoadsNext, Ended}
+use Rattle.page_scan.specs.declared.scan_stage.ScanStage.TheVariants.{Asks}
 use Rattle.page_scan.specs.Left.{left_at, advances}
 use Rattle.page_scan.specs.Scanning.{Scanning}
 use Rattle.page_scan.specs.Soundness.{FitsStage}
@@ -42,15 +42,8 @@ module _ (c : Configuration) (p : Plain) (s : Stands c p) (y : Held) (z : Scanni
     returns = ap (λ (size : ℕ). back_left c.pages size y back) size
 
     lower : (next : ScanStage) → cost (scan_end z.layout z.page) next < left_at (scan_end z.layout z.page) stage → Lowers c.pages (saves c) t after x (scans_to x at back next)
-    lower LoadsCross fewer = record { remembers = record { began = a.remembers.began; quiet = quiet; stands = a.remembers.stands }; falls = omega (arith, same, returns, fewer) }
-    lower (LoadsFirst first) fewer = record { remembers = record { began = a.remembers.began; quiet = quiet; stands = a.remembers.stands }; falls = omega (arith, same, returns, fewer) }
-    lower (LoadsCount h) fewer = record { remembers = record { began = a.remembers.began; quiet = quiet; stands = a.remembers.stands }; falls = omega (arith, same, returns, fewer) }
-    lower (LoadsWord spot) fewer = record { remembers = record { began = a.remembers.began; quiet = quiet; stands = a.remembers.stands }; falls = omega (arith, same, returns, fewer) }
     lower (Asks asked) fewer = record { remembers = record { began = a.remembers.began; quiet = quiet; stands = (tt, a.remembers.stands) }; falls = omega (arith, same, returns, fewer) }
-    lower (StoresCopy asked to) fewer = record { remembers = record { began = a.remembers.began; quiet = quiet; stands = a.remembers.stands }; falls = omega (arith, same, returns, fewer) }
-    lower (LoadsFront r) fewer = record { remembers = record { began = a.remembers.began; quiet = quiet; stands = a.remembers.stands }; falls = omega (arith, same, returns, fewer) }
-    lower (LoadsNext r) fewer = record { remembers = record { began = a.remembers.began; quiet = quiet; stands = a.remembers.stands }; falls = omega (arith, same, returns, fewer) }
-    lower (Ended ending) fewer = record { remembers = record { began = a.remembers.began; quiet = quiet; stands = a.remembers.stands }; falls = omega (arith, same, returns, fewer) }
+    lower _ fewer = record { remembers = record { began = a.remembers.began; quiet = quiet; stands = a.remembers.stands }; falls = omega (arith, same, returns, fewer) }
 
     -- the stage after the reply
     abbrev next_at : Reply → ScanStage
