@@ -1,5 +1,5 @@
 -- What a reply makes of the walk, and what the walk then tells.
-use Rattle.std.specs.Prelude.{ℕ, ◌+◌, ◌-◌, ◌*◌, ◌==◌, ◌&&◌, ◌||◌, Bool, Option, Some, None, nat_lt, nat_le, if◌then◌else◌}
+use Rattle.std.specs.Prelude.{ℕ, ◌+◌, ◌-◌, ◌*◌, ◌==◌, ◌&&◌, ◌||◌, Bool, nat_lt, nat_le, if◌then◌else◌}
 use Rattle.atom_store.specs.declared.reply.Reply.{Reply}
 use Rattle.atom_store.specs.declared.reply.Reply.TheVariants.{Value, Done, Won, Lost}
 use Rattle.atom_store.specs.declared.turn.Turn.{Turn}
@@ -38,11 +38,6 @@ by_target l epoch cell (HeaderWord kind len serial mutator) = LoadsLink cell
 by_target l epoch cell (ForwardWord len address) = LoadsLink cell
 by_target l epoch cell (BusyWord len worker) = LoadsLink cell
 by_target l epoch cell Malformed = LoadsLink cell
-
--- the address of the copy, where a first word that says this is a forward
-abbrev pub copy_in : Decoded → Option ℕ
-copy_in (ForwardWord len address) = Some address
-copy_in _ = None
 
 -- What a target becomes that leads to an old record whose first word says this: at a forward, the pointer to the copy; else the
 -- number 0.

@@ -4,7 +4,7 @@ ghost use Rattle.heap_words.specs.Decoded.{PointerWord, decode};
 ghost use Rattle.space_map.specs.Table.{table_length};
 ghost use Rattle.cell_walk.specs.Left.{advances, left};
 ghost use Rattle.cell_walk.specs.Soundness.{IsSound};
-ghost use Rattle.cell_walk.specs.Taken.{along, by_target, by_turn, copy_in, replacement, taken, told};
+ghost use Rattle.cell_walk.specs.Taken.{along, by_target, by_turn, replacement, taken, told};
 ghost use Rattle.cell_walk.specs.Walking.{IsGoing, begun, most_cells, wanted};
 
 use crate::linked_cell::LinkedCell;
@@ -17,14 +17,6 @@ use std::marker::Model;
 
 /// The number of words of a cell: its header, its target and its link.
 const CELL_WORDS: u32 = 3;
-
-/// The lowest four bits of a record's first word, which say whether it is a forward.
-const FORM_MASK: u64 = 0b1111;
-
-const FORWARD: u64 = 0b0011;
-
-/// Where the address stands in a forward.
-const ADDRESS_AT: u32 = 16;
 
 /// The walk over the cells that were linked in an epoch, by one worker.
 #[derive(Clone, Copy)]
@@ -200,18 +192,8 @@ fn most_cells(spaces: Spaces) -> u32
 fn replacement(word: u64) -> u64
     ensures { result ≡ replacement (decode word) }
 {
-    match copy_in(word) {
+    match Word(word).as_forward() {
         Some(address) => Word::pointer(address).0,
         None => Word::number(0).0,
     }
-}
-
-/// The address of the copy, where this first word is a forward.
-fn copy_in(word: u64) -> Option<u32>
-    ensures { result ≡ copy_in (decode word) }
-{
-    if word & FORM_MASK != FORWARD {
-        return None;
-    }
-    u32::try_from(word >> ADDRESS_AT).ok()
 }

@@ -4,3 +4,4 @@ pub mod Decoding
 pub mod Spelling
 pub mod Ranges
 pub mod Reading
+pub mod Forwards

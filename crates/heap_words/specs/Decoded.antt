@@ -82,3 +82,8 @@ pointer_in (HeaderWord kind len serial mutator) = None
 pointer_in (ForwardWord len address) = None
 pointer_in (BusyWord len worker) = None
 pointer_in Malformed = None
+
+-- the address of the copy, if the word is a forward
+abbrev pub copy_in : Decoded → Option ℕ
+copy_in (ForwardWord len address) = Some address
+copy_in _ = None

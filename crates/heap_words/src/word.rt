@@ -1,6 +1,6 @@
 ghost use Rattle.std.specs.Prelude.{◌≡◌, ℕ, ◌^◌, ◌<◌, ◌↔◌, IsSome, IfSome};
 ghost use Rattle.heap_words.specs.Word.{number_word, pointer_word, tag_of};
-ghost use Rattle.heap_words.specs.Decoded.{NumberWord, PointerWord, decode, number_in, pointer_in};
+ghost use Rattle.heap_words.specs.Decoded.{NumberWord, PointerWord, copy_in, decode, number_in, pointer_in};
 
 use crate::tag::Tag;
 
@@ -12,6 +12,15 @@ const TAG_WIDTH: u32 = 2;
 const TAG_MASK: u64 = 0b11;
 
 const POINTER_TAG: u64 = 1;
+
+/// The lowest four bits of a record's first word: the tag, then the kind of a header, or of what stands in place of one.
+pub const FORM_MASK: u64 = 0b1111;
+
+/// These bits of a forward.
+pub const FORWARD: u64 = 0b0011;
+
+/// Where the address of the copy stands in a forward.
+pub const ADDRESS_AT: u32 = 16;
 
 /// A tagged word: what a register, the board or a record of kind `Fields` holds.
 #[derive(Clone, Copy, Debug, PartialEq, Eq)]
@@ -56,6 +65,17 @@ impl Word {
             Tag::Pointer => u32::try_from(self.0 >> TAG_WIDTH).ok(),
             _ => None,
         }
+    }
+
+    /// The address of the copy, if the word is a forward.
+    pub fn as_forward(self) -> Option<u32>
+        ensures { result ≡ copy_in (decode self.0) }
+    {
+        let word = self.0;
+        if word & FORM_MASK != FORWARD {
+            return None;
+        }
+        u32::try_from(word >> ADDRESS_AT).ok()
     }
 
     pub fn tag(self) -> Tag

@@ -54,17 +54,9 @@ pub busy_word-parts : (w worker : ℕ) → bit_and w 15 ≡ 7 → worker ≡ w /
 unfolding busy_word
 busy_word-parts w worker form is = omega (arith, and_mask w 4, and_mask (w / 16) 12)
 
-pub forward_word-form : (w len address : ℕ) → w ≡ forward_word len address → bit_and w 15 ≡ 3
-unfolding forward_word
-forward_word-form w len address is = omega (arith, and_mask w 4)
-
 pub busy_word-form : (w len worker : ℕ) → w ≡ busy_word len worker → bit_and w 15 ≡ 7
 unfolding busy_word
 busy_word-form w len worker is = omega (arith, and_mask w 4)
-
-pub forward_word-rest : (w len address : ℕ) → len ≤ 4095 → w ≡ forward_word len address → w / 65536 ≡ address
-unfolding forward_word
-forward_word-rest w len address short is = omega arith
 
 pub busy_word-rest : (w len worker : ℕ) → len ≤ 4095 → w ≡ busy_word len worker → w / 65536 ≡ worker
 unfolding busy_word

@@ -3,10 +3,10 @@ use Rattle.std.proofs.Common.{◌≡◌, ℕ, ◌^◌, ◌<◌, ◌≤◌, Some,
 use Rattle.std.specs.Coded.{le_prop}
 use Rattle.std.proofs.Math.Decide.{dec_le, dec_lt}
 use Rattle.heap_words.specs.declared.kind.Kind.{Kind}
-use Rattle.heap_words.specs.Word.{header_word, forward_word, busy_word}
-use Rattle.heap_words.specs.Decoded.{Decoded, HeaderWord, ForwardWord, BusyWord, decode, encode}
+use Rattle.heap_words.specs.Word.{header_word, busy_word}
+use Rattle.heap_words.specs.Decoded.{Decoded, HeaderWord, ForwardWord, BusyWord, copy_in, decode, encode}
 use Rattle.heap_words.proofs.Decoding.{decode-header_word, decode-forward_word, decode-busy_word}
-use Rattle.heap_words.proofs.Spelling.{header_word-decode, forward_word-decode, busy_word-decode}
+use Rattle.heap_words.proofs.Spelling.{header_word-decode, busy_word-decode}
 use Rattle.heap_words.proofs.Ranges.{header_bounds, forward_bounds, busy_bounds}
 use Rattle.record_layout.specs.declared.header.Header.{Header}
 use Rattle.record_layout.specs.declared.forward.Forward.{Forward}
@@ -70,15 +70,14 @@ forward_in-said w len address is =
     let f : Forward = record { len = len; addr = address; short = bounds.0 } in
     (f, ap forward_in is ∙ forward_in-forward_says f, refl, refl)
 
-no_forward : (w : ℕ) (d : Decoded) → decode w ≡ d
-    → ((len address : ℕ) → len ≤ 4095 → address < 2 ^ 32 → w ≡ forward_word len address → ⊥) → forward_in d ≡ None
+no_forward : (d : Decoded) → None ≡ copy_in d → forward_in d ≡ None
 unfolding forward_in
-no_forward w (ForwardWord len address) is other = let bounds = forward_bounds w len address is in absurd (other len address bounds.0 bounds.1 (forward_word-decode w len address is))
-no_forward w d is other = refl
+no_forward (ForwardWord len address) none = absurd (cc)
+no_forward d none = refl
 
-pub forward_in-none : (w : ℕ)
-    → ((len address : ℕ) → len ≤ 4095 → address < 2 ^ 32 → w ≡ forward_word len address → ⊥) → forward_in (decode w) ≡ None
-forward_in-none w other = no_forward w (decode w) refl other
+-- a word in which no copy's address is read is no forward
+pub forward_in-no_copy : (w : ℕ) → None ≡ copy_in (decode w) → forward_in (decode w) ≡ None
+forward_in-no_copy w none = no_forward (decode w) none
 
 -- ---- busy words
 

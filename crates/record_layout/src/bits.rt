@@ -1,11 +1,6 @@
-//! Where the parts of a record's first word stand in it.
-
-/// The lowest four bits: the tag, then the kind of a header, or of what stands in place of one.
-pub const FORM_MASK: u64 = 0b1111;
+//! Where the parts of a record's first word stand in it. Those by which a forward is read stand in `heap_words`.
 
 pub const HEADER: u64 = 0b0010;
-
-pub const FORWARD: u64 = 0b0011;
 
 pub const BUSY: u64 = 0b0111;
 
@@ -20,8 +15,6 @@ pub const LEN_MASK: u64 = 0xfff;
 pub const SERIAL_AT: u32 = 16;
 
 pub const SERIAL_MASK: u64 = 0xff_ffff_ffff;
-
-pub const ADDRESS_AT: u32 = 16;
 
 pub const WORKER_AT: u32 = 16;
 

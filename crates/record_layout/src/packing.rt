@@ -3,13 +3,11 @@ ghost use Rattle.heap_words.specs.Word.{kind_code, tag_of};
 ghost use Rattle.heap_words.specs.Decoded.{decode, encode};
 ghost use Rattle.record_layout.specs.Layout.{header_says, forward_says, busy_says, header_in, forward_in, busy_in};
 
-use crate::bits::{
-    ADDRESS_AT, BUSY, FORWARD, HEADER, KIND_AT, LEN_AT, MUTATOR_AT, SERIAL_AT, WORKER_AT,
-};
+use crate::bits::{BUSY, HEADER, KIND_AT, LEN_AT, MUTATOR_AT, SERIAL_AT, WORKER_AT};
 use crate::busy::Busy;
 use crate::forward::Forward;
 use crate::header::Header;
-use heap_words::{Kind, Tag};
+use heap_words::{ADDRESS_AT, FORWARD, Kind, Tag};
 
 /// The word of a header.
 pub fn pack(h: &Header) -> u64

@@ -5,13 +5,12 @@ ghost use Rattle.heap_words.specs.Decoded.{decode, encode, kind_spelled};
 ghost use Rattle.record_layout.specs.Layout.{header_says, forward_says, busy_says, header_in, forward_in, busy_in};
 
 use crate::bits::{
-    ADDRESS_AT, BUSY, FORM_MASK, FORWARD, KIND_AT, KIND_MASK, LEN_AT, LEN_MASK, MUTATOR_AT,
-    SERIAL_AT, SERIAL_MASK, WORKER_AT,
+    BUSY, KIND_AT, KIND_MASK, LEN_AT, LEN_MASK, MUTATOR_AT, SERIAL_AT, SERIAL_MASK, WORKER_AT,
 };
 use crate::busy::Busy;
 use crate::forward::Forward;
 use crate::header::Header;
-use heap_words::{Kind, Tag, Word};
+use heap_words::{FORM_MASK, Kind, Tag, Word};
 
 /// The header that this word is, if it is one.
 #[inline(always)]
@@ -38,12 +37,10 @@ pub fn read_forward(w: u64) -> Option<Forward>
         ↔ ((tag_of w ≡ Tag.Forward) × (bit_at w 2 ≡ 0) × (bit_at w 3 ≡ 0) × (w < 2 ^ 48)) }
     ensures one_spelling { IfSome result (λ f. w ≡ encode (forward_says f)) }
 {
-    if w & FORM_MASK != FORWARD {
-        return None;
-    }
+    let addr = Word(w).as_forward()?;
     Some(Forward {
         len: (w >> LEN_AT & LEN_MASK) as u16,
-        addr: u32::try_from(w >> ADDRESS_AT).ok()?,
+        addr,
     })
 }
 

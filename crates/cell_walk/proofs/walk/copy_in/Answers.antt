@@ -1,9 +1,0 @@
-use Rattle.std.proofs.Common.{◌∙◌, sym}
-use Rattle.cell_walk.proofs.FirstWords.{copy_in-narrowed, copy_in-none}
-use Rattle.cell_walk.proofs.walk.copy_in.Goals as goal
-
-pub returns : goal.returns
-returns c = c.ok.ensures.value ∙ copy_in-narrowed c.try_from.result c.args.word c.if-word-ne-FORWARD.false c.try_from.ensures
-
-pub returns-then-word-ne-FORWARD : goal.returns-then-word-ne-FORWARD
-returns-then-word-ne-FORWARD c = sym (copy_in-none c.args.word c.if-word-ne-FORWARD.true)
