@@ -226,41 +226,34 @@ fn after(passage: Passage, gate: GateWord) -> GateWord
     ensures gate { result ≡ gate_after passage gate }
     ensures fits { result.left < 2 ^ 5 }
 {
-    let GateWord {
-        live,
-        running,
-        behind,
-        left,
-        ..
-    } = gate;
     match passage {
         Passage::Look => gate,
         Passage::Attach => GateWord {
-            live: live + 1,
-            running: running + 1,
+            live: gate.live + 1,
+            running: gate.running + 1,
             ..gate
         },
         Passage::Park => GateWord {
-            running: running - 1,
+            running: gate.running - 1,
             ..gate
         },
         Passage::Request => GateWord {
-            running: running - 1,
+            running: gate.running - 1,
             request: true,
             ..gate
         },
         Passage::Resume(_) => GateWord {
-            running: running + 1,
+            running: gate.running + 1,
             ..gate
         },
         Passage::Forwarded => GateWord {
-            behind: behind - 1,
+            behind: gate.behind - 1,
             ..gate
         },
         Passage::Leave => GateWord {
-            live: live - 1,
-            running: running - 1,
-            left: left + 1,
+            live: gate.live - 1,
+            running: gate.running - 1,
+            left: gate.left + 1,
             ..gate
         },
         Passage::Clear => GateWord {
