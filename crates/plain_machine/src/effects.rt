@@ -58,11 +58,7 @@ pub fn perform(
             heap.set_board(x, value);
             mutator.go_on();
         }
-        Action::Swaps(d, x, value) => {
-            let old = heap.board_word(x);
-            heap.set_board(x, value);
-            mutator.load(d, old);
-        }
+        Action::Swaps(d, x, value) => mutator.load(d, heap.swap_board(x, value)),
         Action::Snaps => {
             heap.snap(alloc)?;
             mutator.go_on();

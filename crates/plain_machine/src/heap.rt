@@ -132,6 +132,16 @@ impl PlainHeap {
         }
     }
 
+    /// Puts a value into a word of the board, and answers what stood there.
+    pub fn swap_board(&mut self, x: u64, value: Value) -> Value
+        ensures found { result ≡ board_word self.old x }
+        ensures put { self.new ≡ with_board self.old x value }
+    {
+        let found = self.board_word(x);
+        self.set_board(x, value);
+        found
+    }
+
     fn set_word(&mut self, i: Identity, x: u64, value: Value)
         ensures { IfSome (record_of self.old i) (λ r. self.new ≡ stored self.old i r x value) }
     {
