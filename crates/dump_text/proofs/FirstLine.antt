@@ -2,6 +2,7 @@
 use Rattle.std.proofs.Common.{◌≡◌, ℕ, suc, ◌+◌, ◌^◌, ◌<◌, ◌≤◌, true, cond, decimal, List, [], ◌∷◌, ◌++◌, Some, None, refl, sym, ap, subst, ◌∙◌, arith}
 use Rattle.std.proofs.lemmas.Bool.Decides.{nat_tests}
 use Rattle.std.proofs.lemmas.List.{append_assoc}
+use Rattle.std.proofs.lemmas.Fmt.{digits_decimal}
 use Rattle.std.specs.List.{list_all}
 use Rattle.std.specs.Char.{is_ascii_digit}
 use Rattle.space_map.specs.declared.spaces.TheConstants.{MOST_MUTATORS, MOST_PAGES, MOST_SCANNERS}
@@ -10,9 +11,10 @@ use Rattle.dump_text.specs.Pieces.{◌>>=◌, byte_at, keyword_at, number_at, he
 use Rattle.dump_text.specs.Text.{Counts, are_counts}
 use Rattle.dump_text.proofs.Laid.{head_text}
 use Rattle.dump_text.proofs.FirstLines.{is_inside, inside_line}
-use Rattle.dump_text.proofs.Numerals.{number_takes, number_again, decimal_digits}
+use Rattle.dump_text.proofs.Numerals.{number_takes, number_again}
 use Rattle.dump_text.proofs.Options.{some_bind, some_if, both_true}
 use Rattle.dump_text.proofs.Pieces.{IsPiece, byte_takes}
+use Rattle.plain_state.proofs.Numerals.{numerals}
 
 -- ---- the counts of a heap
 
@@ -82,7 +84,7 @@ head_piece = record { takes = head_takes; again = head_again }
 
 -- ---- the first line is a line
 
-pub digit_inside : (b : ℕ) → is_ascii_digit b ≡ true → is_inside b ≡ true
+digit_inside : (b : ℕ) → is_ascii_digit b ≡ true → is_inside b ≡ true
 digit_inside b h = grind (arith, nat_tests)
 
 all_inside : (bytes : List ℕ) → list_all is_ascii_digit bytes ≡ true → list_all is_inside bytes ≡ true
@@ -91,8 +93,11 @@ all_inside (b ∷ bytes) h =
     let t = both_true (is_ascii_digit b) (list_all is_ascii_digit bytes) h in
     rw (digit_inside b t.0, all_inside bytes t.1) refl
 
+pub decimal_inside : (n : ℕ) → n < 2 ^ 64 → list_all is_inside (decimal n) ≡ true
+decimal_inside n lt = all_inside (decimal n) (digits_decimal numerals n lt)
+
 number_inside : (n k : ℕ) (rest : List ℕ) → k < 2 ^ 64 → first_lines (suc n) (decimal k ++ rest) ≡ decimal k ++ first_lines (suc n) rest
-number_inside n k rest lt = inside_line n (decimal k) rest (all_inside (decimal k) (decimal_digits k lt))
+number_inside n k rest lt = inside_line n (decimal k) rest (decimal_inside k lt)
 
 pub head_ends : (c : Counts) (rest : List ℕ) (n : ℕ) → are_counts c ≡ true → first_lines (suc n) (head_text c ++ rest) ≡ head_text c ++ first_lines n rest
 head_ends c rest n h =

@@ -76,13 +76,19 @@ abbrev pub digit_count : List ℕ → ℕ
 digit_count [] = 0
 digit_count (b ∷ bytes) = if is_ascii_digit b then suc (digit_count bytes) else 0
 
+-- a number in at most so many decimal digits, of which the first is 0 in 0 alone
+unfoldable pub numeral_at : ℕ → Piece ℕ
+numeral_at most bytes =
+    let count = digit_count bytes in
+    if (count == 0) || nat_lt most count || ((slice_index bytes 0 == 48) && nat_lt 1 count) then None else Some (digits_value 10 (take count bytes), drop count bytes)
+
 -- a number in one to four digits of which the first isn't 0, and the byte that is wanted behind it
 unfoldable pub number_at : ℕ → Piece ℕ
-number_at wanted bytes =
-    let count = digit_count bytes in
-    if (count == 0) || nat_lt 4 count || (slice_index bytes 0 == 48) then None else (do
-      rest ← byte_at wanted (drop count bytes)
-      Some (digits_value 10 (take count bytes), rest))
+number_at wanted bytes = do
+  number ← numeral_at 4 bytes
+  if number.0 == 0 then None else (do
+    rest ← byte_at wanted number.1
+    Some (number.0, rest))
 
 -- the word `dump` and a space
 abbrev pub keyword_at : List ℕ → Option (List ℕ)

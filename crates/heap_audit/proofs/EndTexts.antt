@@ -4,12 +4,12 @@ use Rattle.std.proofs.lemmas.List.{append_assoc}
 use Rattle.plain_state.specs.declared.end.End.{End}
 use Rattle.plain_state.specs.declared.end.End.TheVariants.{Halt, NotPointer, NotNumber, OutOfRange, WeakCell, IntoRaw, ZeroDivisor, JumpOut, TurnsOut, OutputFull, HeapFull}
 use Rattle.plain_heap.specs.Print.{end_text}
-use Rattle.dump_text.specs.Pieces.{◌>>=◌, byte_at}
+use Rattle.dump_text.specs.Pieces.{◌>>=◌, byte_at, numeral_at}
 use Rattle.dump_text.proofs.Options.{some_bind, some_is}
 use Rattle.dump_text.proofs.Pieces.{byte_takes}
 use Rattle.heap_audit.specs.Pieces.{amount_at, chosen, decimal_at}
 use Rattle.heap_audit.specs.Ends.{text_at, full_end_at, told, end_at, EndFits}
-use Rattle.heap_audit.proofs.Numerals.{Stops}
+use Rattle.dump_text.proofs.Numerals.{Stops}
 use Rattle.heap_audit.proofs.Marks.{amount_takes, amount_again}
 
 text_takes : (wanted bytes rest : List ℕ) → text_at wanted bytes ≡ Some rest → bytes ≡ wanted ++ rest
@@ -115,6 +115,6 @@ end_again _ rest fits stop = refl
 
 -- the text of an end is no number's
 pub no_number : (limit : ℕ) (end : Option End) (rest : List ℕ) → decimal_at limit (end_text end ++ rest) ≡ None
-unfolding decimal_at
+unfolding decimal_at numeral_at
 no_number limit (Some Halt) rest = refl
 no_number limit _ rest = refl

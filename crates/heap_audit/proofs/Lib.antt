@@ -1,5 +1,5 @@
 pub mod Fronts
-pub mod Numerals
+pub mod Decimals
 pub mod Marks
 pub mod EndTexts
 pub mod OneLine

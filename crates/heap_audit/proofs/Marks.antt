@@ -9,25 +9,26 @@ use Rattle.plain_heap.specs.declared.mark.Mark.TheVariants.{Step, Flip, Full, Tr
 use Rattle.plain_heap.specs.Print.{mark_text}
 use Rattle.heap_audit.specs.Order.{MarkFits}
 use Rattle.heap_audit.specs.Pieces.{amount_at, mutator_at, next_amount_at, step_mark_at, flip_mark_at, full_mark_at, traced_mark_at, chosen, mark_at}
-use Rattle.heap_audit.proofs.Numerals.{Stops, number_takes, number_again, first_digit, first_low}
+use Rattle.dump_text.proofs.Numerals.{Stops}
+use Rattle.heap_audit.proofs.Decimals.{decimal_takes, decimal_again, first_digit, first_low}
 
 -- ---- its numbers
 
 pub amount_takes : (bytes : List ℕ) (n : ℕ) (rest : List ℕ) → amount_at bytes ≡ Some (n, rest) → (bytes ≡ decimal n ++ rest) × (n < 2 ^ 32)
 unfolding amount_at
-amount_takes bytes n rest e = number_takes (2 ^ 32) bytes n rest e
+amount_takes bytes n rest e = decimal_takes (2 ^ 32) bytes n rest e
 
 pub amount_again : (n : ℕ) (rest : List ℕ) → n < 2 ^ 32 → Stops rest → amount_at (decimal n ++ rest) ≡ Some (n, rest)
 unfolding amount_at
-amount_again n rest lt stop = number_again (2 ^ 32) n rest (omega arith) lt stop
+amount_again n rest lt stop = decimal_again (2 ^ 32) n rest (omega arith) lt stop
 
 pub mutator_takes : (bytes : List ℕ) (n : ℕ) (rest : List ℕ) → mutator_at bytes ≡ Some (n, rest) → (bytes ≡ decimal n ++ rest) × (n < 256)
 unfolding mutator_at
-mutator_takes bytes n rest e = number_takes 256 bytes n rest e
+mutator_takes bytes n rest e = decimal_takes 256 bytes n rest e
 
 pub mutator_again : (n : ℕ) (rest : List ℕ) → n < 256 → Stops rest → mutator_at (decimal n ++ rest) ≡ Some (n, rest)
 unfolding mutator_at
-mutator_again n rest lt stop = number_again 256 n rest (omega arith) lt stop
+mutator_again n rest lt stop = decimal_again 256 n rest (omega arith) lt stop
 
 next_takes : (bytes : List ℕ) (n : ℕ) (rest : List ℕ) → next_amount_at bytes ≡ Some (n, rest) → (bytes ≡ 44 ∷ (decimal n ++ rest)) × (n < 2 ^ 32)
 unfolding next_amount_at

@@ -3,13 +3,11 @@ use Rattle.std.proofs.Common.{◌≡◌, ℕ, ◌+◌, ◌^◌, ◌<◌, Bool, t
 use Rattle.std.proofs.lemmas.List.{append_assoc}
 use Rattle.std.proofs.lemmas.List.Folds.{list_all-append}
 use Rattle.std.proofs.lemmas.List.Concat.{flat_map-cons}
-use Rattle.std.specs.Char.{is_ascii_digit}
 use Rattle.std.specs.List.{flat_map, list_all, AllByRecursion}
 use Rattle.dump_text.specs.Lines.{first_lines}
 use Rattle.dump_text.proofs.FirstLines.{front_and_rest, inside_line, is_inside}
-use Rattle.dump_text.proofs.Numerals.{decimal_digits}
 use Rattle.dump_text.proofs.Options.{both_true}
-use Rattle.dump_text.proofs.FirstLine.{digit_inside}
+use Rattle.dump_text.proofs.FirstLine.{decimal_inside}
 use Rattle.plain_heap.specs.declared.mark.Mark.{Mark}
 use Rattle.plain_heap.specs.declared.mark.Mark.TheVariants.{Step, Flip, Full, Traced}
 use Rattle.plain_heap.specs.Print.{end_text, mark_text, order_line, printed_line}
@@ -24,15 +22,6 @@ use Rattle.heap_audit.proofs.Fronts.{ends, ends_append}
 -- no line ends in a text
 abbrev pub IsInside : List ℕ → Type 0
 IsInside text = list_all is_inside text ≡ true
-
-digits_inside : (digits : List ℕ) → list_all is_ascii_digit digits ≡ true → IsInside digits
-digits_inside [] h = refl
-digits_inside (b ∷ digits) h =
-    let t = both_true (is_ascii_digit b) (list_all is_ascii_digit digits) h in
-    rw (digit_inside b t.0, digits_inside digits t.1) refl
-
-pub decimal_inside : (n : ℕ) → n < 2 ^ 64 → IsInside (decimal n)
-decimal_inside n lt = digits_inside (decimal n) (decimal_digits n lt)
 
 pub both_inside : (xs ys : List ℕ) → IsInside xs → IsInside ys → IsInside (xs ++ ys)
 both_inside xs ys hx hy = rw (list_all-append is_inside xs ys, hx, hy) refl

@@ -12,7 +12,7 @@ use Rattle.heap_audit.specs.FirstWrong.{NamesWrong}
 use Rattle.heap_audit.specs.Order.{MarkFits}
 use Rattle.heap_audit.specs.Pieces.{mark_at, name_at}
 use Rattle.heap_audit.specs.declared.reading_error.ReadingError.TheVariants as errors
-use Rattle.heap_audit.proofs.Numerals.{Stops}
+use Rattle.dump_text.proofs.Numerals.{Stops}
 use Rattle.heap_audit.proofs.Marks.{mark_takes, mark_again}
 use Rattle.heap_audit.proofs.OneLine.{begin_so, order_is_line}
 

@@ -11,6 +11,7 @@ use Rattle.dump_text.specs.Lines.{first_lines}
 use Rattle.dump_text.specs.Pieces.{◌>>=◌, byte_at}
 use Rattle.dump_text.proofs.Options.{some_bind, some_is}
 use Rattle.dump_text.proofs.Pieces.{byte_takes}
+use Rattle.dump_text.proofs.FirstLine.{decimal_inside}
 use Rattle.heap_audit.specs.Ends.{end_at, EndFits}
 use Rattle.heap_audit.specs.FirstWrong.{GoWrongBehind, NamesWrong}
 use Rattle.heap_audit.specs.Lines.{named_at, printed_at, ended_at, IsPrinted, SeenFits, seen_text}
@@ -19,8 +20,8 @@ use Rattle.heap_audit.specs.declared.reading_error.ReadingError.TheVariants as e
 use Rattle.heap_audit.proofs.EndTexts.{end_takes, end_again, no_number}
 use Rattle.heap_audit.proofs.Fronts.{ends, ends_append, front_lines}
 use Rattle.heap_audit.proofs.Marks.{mutator_takes, mutator_again}
-use Rattle.heap_audit.proofs.Numerals.{number_takes, number_again}
-use Rattle.heap_audit.proofs.OneLine.{IsLine, begin_so, decimal_inside, end_inside, line_ends, printed_is_line}
+use Rattle.heap_audit.proofs.Decimals.{decimal_takes, decimal_again}
+use Rattle.heap_audit.proofs.OneLine.{IsLine, begin_so, end_inside, line_ends, printed_is_line}
 use Rattle.heap_audit.proofs.WrongLines.{goes_on as front_goes_on}
 
 -- ---- a line
@@ -57,7 +58,7 @@ printed_takes m bytes n rest e =
     let a = some_bind (named_at m bytes) (λ text. decimal_at (2 ^ 62) text >>= λ number. byte_at 10 number.1 >>= λ rest. Some (number.0, rest)) (n, rest) e in
     let b = some_bind (decimal_at (2 ^ 62) a.0) (λ number. byte_at 10 number.1 >>= λ rest. Some (number.0, rest)) (n, rest) a.2 in
     let c = some_bind (byte_at 10 b.0.1) (λ rest. Some (b.0.0, rest)) (n, rest) b.2 in
-    let t = number_takes (2 ^ 62) a.0 b.0.0 b.0.1 b.1 in
+    let t = decimal_takes (2 ^ 62) a.0 b.0.0 b.0.1 b.1 in
     let whole : bytes ≡ Named m (decimal b.0.0 ++ 10 ∷ c.0) =
     named_takes m bytes a.0 a.1 ∙ ap (λ (xs : List ℕ). Named m xs) (t.0 ∙ ap (λ (xs : List ℕ). decimal b.0.0 ++ xs) (byte_takes 10 b.0.1 c.0 c.1)) in
     let P : ℕ × List ℕ → Type 0 = λ q. (bytes ≡ printed_line m (decimal q.0) ++ q.1) × IsPrinted q.0 in
@@ -67,7 +68,7 @@ printed_again : (m n : ℕ) (rest : List ℕ) → m < 256 → IsPrinted n → pr
 unfolding printed_at
 printed_again m n rest lt fits =
     ap (printed_at m) (line_is m (decimal n) rest)
-    ∙ rw (named_again m (decimal n ++ 10 ∷ rest) lt, number_again (2 ^ 62) n (10 ∷ rest) (omega arith) fits refl) refl
+    ∙ rw (named_again m (decimal n ++ 10 ∷ rest) lt, decimal_again (2 ^ 62) n (10 ∷ rest) (omega arith) fits refl) refl
 
 -- the line of an end is no number's
 not_printed : (m : ℕ) (end : Option End) (rest : List ℕ) → m < 256 → printed_at m (printed_line m (end_text end) ++ rest) ≡ None

@@ -1,16 +1,14 @@
 -- The pieces of a line, read from the front: what a piece says, and the bytes behind it, or nothing where the piece is wrong.
-use Rattle.std.specs.Prelude.{ℕ, ◌^◌, ◌==◌, ◌||◌, ◌&&◌, nat_lt, if◌then◌else◌, List, take, drop, slice_index, Option, Some, None}
-use Rattle.std.specs.Str.Parse.{digits_value}
-use Rattle.dump_text.specs.Pieces.{Piece, ◌>>=◌, byte_at, digit_count}
+use Rattle.std.specs.Prelude.{ℕ, ◌^◌, nat_lt, if◌then◌else◌, List, Option, Some, None}
+use Rattle.dump_text.specs.Pieces.{Piece, ◌>>=◌, byte_at, numeral_at}
 use Rattle.plain_heap.specs.declared.mark.Mark.{Mark}
 use Rattle.plain_heap.specs.declared.mark.Mark.TheVariants.{Step, Flip, Full, Traced}
 
 -- a number below this, in decimal digits of which the first is 0 in 0 alone
 unfoldable pub decimal_at : ℕ → Piece ℕ
-decimal_at limit bytes =
-    let count = digit_count bytes in
-    if (count == 0) || nat_lt 19 count || ((slice_index bytes 0 == 48) && nat_lt 1 count) then None else
-    (if nat_lt (digits_value 10 (take count bytes)) limit then Some (digits_value 10 (take count bytes), drop count bytes) else None)
+decimal_at limit bytes = do
+  number ← numeral_at 19 bytes
+  if nat_lt number.0 limit then Some (number.0, number.1) else None
 
 -- a number of pages or of words
 unfoldable pub amount_at : Piece ℕ

@@ -1,25 +1,9 @@
 //! Numbers in decimal digits.
 
-ghost use Rattle.std.specs.Prelude.{IfSome, ◌≡◌, ◌<◌, ◌≤◌, ◌^◌, IsTrue, length, option_map};
-ghost use Rattle.std.specs.Char.{is_ascii_digit};
-ghost use Rattle.std.specs.List.{list_all};
-ghost use Rattle.std.specs.Str.Parse.{digits_value};
+ghost use Rattle.std.specs.Prelude.{IfSome, ◌≡◌, ◌<◌, ◌^◌, option_map};
 ghost use Rattle.heap_audit.specs.Pieces.{decimal_at, amount_at, mutator_at, next_amount_at};
 
-use dump_text::{after, digit_count};
-
-/// The number that at most 19 digits write.
-fn value(digits: &[u8]) -> u64
-    requires digits { IsTrue (list_all is_ascii_digit digits.now) }
-    requires few { length digits.now ≤ 19 }
-    ensures { result ≡ digits_value 10 digits.now }
-{
-    let mut number: u64 = 0;
-    for b in digits {
-        number = number * 10 + u64::from(*b - b'0');
-    }
-    number
-}
+use dump_text::{after, numeral};
 
 /// The number at the front, which is below the limit.
 #[tactic(auto, unfolding(crate::specs::Pieces::decimal_at))]
@@ -27,12 +11,7 @@ fn number(limit: u64, bytes: &[u8]) -> Option<(u64, &[u8])>
     ensures read { option_map (λ x. (x.0, x.1.now)) result ≡ decimal_at limit bytes.now }
     ensures below { IfSome result (λ x. x.0 < limit) }
 {
-    let count = digit_count(bytes);
-    if count == 0 || count > 19 || bytes[0] == b'0' && count > 1 {
-        return None;
-    }
-    let (digits, rest) = bytes.split_at(count);
-    let number = value(digits);
+    let (number, rest) = numeral(19, bytes)?;
     if number < limit {
         Some((number, rest))
     } else {

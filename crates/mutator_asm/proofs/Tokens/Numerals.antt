@@ -1,32 +1,15 @@
 -- The number that digits write, digit by digit.
-use Rattle.std.proofs.Common.{◌≡◌, ℕ, ◌+◌, ◌-◌, ◌*◌, ◌^◌, ◌<◌, ◌≤◌, Bool, true, false, Err, decimal, List, length, get_or, take, ltb, IsTrue, arith, refl}
-use Rattle.std.proofs.lemmas.Bool.Decides.{nat_tests}
+use Rattle.std.proofs.Common.{◌≡◌, ℕ, ◌^◌, ◌<◌, ◌≤◌, Bool, true, false, Err, decimal, List, take, ltb, arith, refl}
 use Rattle.std.specs.Int.{IsInRange}
-use Rattle.std.specs.Char.{is_ascii_digit}
 use Rattle.std.specs.List.{All, list_all}
 use Rattle.std.specs.Str.Parse.{digits_value}
 use Rattle.std.proofs.lemmas.Bool.{le-ltb}
 use Rattle.std.proofs.lemmas.Fmt.{decimal_is_IsNumeral}
 use Rattle.std.proofs.lemmas.List.Elements.{All-from_get_or}
-use Rattle.std.proofs.lemmas.List.Sums.{AllPass-from_list_all, list_all-from_AllPass}
-use Rattle.std.proofs.lemmas.Str.{digit_value_digit}
+use Rattle.std.proofs.lemmas.List.Sums.{list_all-from_AllPass}
 use Rattle.std.proofs.lemmas.Str.Parse.{digits_value-take-le, digit_at as digit_of}
-use Rattle.std.proofs.lemmas.Int.Digits.{digits_value_more}
 use Rattle.mutator_asm.specs.declared.mistake.Mistake.TheVariants.{NumberTooBig}
 use Rattle.mutator_asm.specs.Token.{number_or}
-
-in_range : (c : ℕ) → is_ascii_digit c ≡ true → IsInRange 48 57 c
-in_range c h = (grind (arith, nat_tests), grind (arith, nat_tests))
-
--- each byte of digits is from 48 to 57
-pub digit_at : (digits : List ℕ) (i : ℕ) → IsTrue (list_all is_ascii_digit digits) → i < length digits → IsInRange 48 57 (get_or digits i 0)
-digit_at digits i h lt = in_range _ (AllPass-from_list_all is_ascii_digit digits h i 0 lt)
-
--- one more digit
-pub value_more : (digits : List ℕ) (i : ℕ) → IsTrue (list_all is_ascii_digit digits) → i < length digits → digits_value 10 (take (i + 1) digits) ≡ digits_value 10 (take i digits) * 10 + (get_or digits i 0 - 48)
-value_more digits i h lt =
-    let range = digit_at digits i h lt in
-    omega (arith, digits_value_more 10 digits i lt, digit_value_digit (get_or digits i 0) range, range.0)
 
 -- digits whose first ones write too much write no number of the language
 pub number_or-err : (digits : List ℕ) (i : ℕ) → 2 ^ 62 ≤ digits_value 10 (take i digits) → number_or digits ≡ Err NumberTooBig

@@ -1,5 +1,6 @@
 use Rattle.std.proofs.Common.{◌+◌, arith, sym}
-use Rattle.mutator_asm.proofs.Tokens.Numerals.{value_more, number_or-err}
+use Rattle.plain_state.proofs.Numerals.{value_more}
+use Rattle.mutator_asm.proofs.Tokens.Numerals.{number_or-err}
 use Rattle.program_text.proofs.text.token.value.Goals as goal
 
 pub returns-then-longer-ge-NUMBERS_END : goal.returns-then-longer-ge-NUMBERS_END

@@ -1,6 +1,6 @@
 use Rattle.std.proofs.Common.{◌≡◌, take}
 use Rattle.std.specs.Str.Parse.{digits_value}
-use Rattle.heap_audit.proofs.number.value.Given as goal
+use Rattle.dump_text.proofs.number.value.Given as goal
 
 abbrev pub invariant-loop-b : goal.invariant-loop-b
 invariant-loop-b l = l.number ≡ digits_value 10 (take l.b-index l.digits)

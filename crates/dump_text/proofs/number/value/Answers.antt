@@ -1,7 +1,7 @@
 use Rattle.std.proofs.Common.{arith}
-use Rattle.heap_audit.proofs.Numerals.{value_room}
-use Rattle.dump_text.proofs.Numerals.{digit_at, value_more}
-use Rattle.heap_audit.proofs.number.value.Goals as goal
+use Rattle.plain_state.proofs.Numerals.{digit_at, value_more}
+use Rattle.dump_text.proofs.Numerals.{value_room}
+use Rattle.dump_text.proofs.number.value.Goals as goal
 
 pub overflow_mul-number : goal.overflow_mul-number
 overflow_mul-number c = omega (arith, value_room c.args.digits.now c.loop-b.b-index c.requires.digits c.requires.few c.loop-b-test.true, c.loop-b.invariant)
