@@ -17,7 +17,7 @@ use Rattle.ael_threads.specs.ActsInRow.{ScannerActs, Series, ends_round}
 use Rattle.ael_threads.specs.Calls.{StaysSilent}
 use Rattle.ael_threads.specs.Readers.{SeatedScanner}
 use Rattle.ael_threads.proofs.ActsInRow.{some_made}
-use Rattle.ael_threads.specs.declared.refused.Refused.{Refused}
+use Rattle.ael_threads.specs.declared.mutator.refused.Refused.{Refused}
 use Rattle.ael_threads.specs.Refusals.{refusal}
 use Rattle.ael_threads.specs.Seats.{Seated}
 use Rattle.ael_c.specs.declared.answer.Answer.{Answer}

@@ -1,4 +1,8 @@
 -- The machine values of a `Handle`. Assumes `Logic`.
+-- A machine value (`Val`) is what a variable of the compiled code holds, as the prover models it: an integer, a pointer, or a struct of
+-- such values, as a handle's, which has a pointer and the allocator's value (`both`). `Logic` is the prover's separation logic, which says
+-- what memory a value owns: there a type has a row (`Row` is that of `Handle`, `R` of `Seat`, `Z` of `Global`, the allocator), by which
+-- machine values stand for a value, and own what it owns.
 use Rattle.std.proofs.Common.{◌≡◌, ℕ, List, [], ◌∷◌, ◌++◌, refl, subst, lit<}
 use seplogic.Ra.Ura.{Ura}
 use mir.Syntax.{impl, tnil, dnil}

@@ -7,8 +7,8 @@ use Rattle.mutator_asm.specs.declared.instr.Instr.TheVariants.{Li}
 use Rattle.mutator_asm.specs.Program.{is_number}
 use Rattle.gc_worker.specs.declared.calls.did.Did.{Did}
 use Rattle.gc_worker.specs.declared.calls.did.Did.TheVariants as dids
-use Rattle.ael_threads.specs.declared.refused.Refused.{Refused}
-use Rattle.ael_threads.specs.declared.refused.Refused.TheVariants as reasons
+use Rattle.ael_threads.specs.declared.mutator.refused.Refused.{Refused}
+use Rattle.ael_threads.specs.declared.mutator.refused.Refused.TheVariants as reasons
 use Rattle.ael_c.specs.declared.answer.Answer.{Answer}
 use Rattle.ael_c.specs.declared.answer.Answer.TheVariants as answers
 

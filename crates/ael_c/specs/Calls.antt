@@ -14,7 +14,7 @@ use Rattle.gc_worker.specs.Laws.Between.{with_task}
 use Rattle.gc_worker.specs.Steps.AtRest.{is_at_rest}
 use Rattle.ael_threads.specs.declared.mutator.Reg.{Reg}
 use Rattle.ael_threads.specs.declared.mutator.Reg.TheVariants as regs
-use Rattle.ael_threads.specs.declared.refused.Refused.{Refused}
+use Rattle.ael_threads.specs.declared.mutator.refused.Refused.{Refused}
 use Rattle.ael_threads.specs.ActsInRow.{MakesSome, ScannerActs, ends_round, is_answer, is_idle, is_rest}
 use Rattle.ael_threads.specs.Calls.{IsUnderWay, RegistersStand, StaysSilent, Tries}
 use Rattle.ael_threads.specs.Readers.{IsReg, SeatedScanner}

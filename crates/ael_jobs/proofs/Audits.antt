@@ -8,8 +8,8 @@ use Rattle.mutator_asm.specs.Theorems.{HasNoFault, MeansOneProgram}
 use Rattle.plain_heap.specs.Print.{lines_seen, order_line}
 use Rattle.dump_text.specs.Lines.{first_lines}
 use Rattle.dump_text.specs.Text.{dump_text}
-use Rattle.heap_audit.specs.FirstWrong.{IsFirstWrongOf}
-use Rattle.heap_audit.specs.Part.{IsPart, Output, part_text}
+use Rattle.heap_audit.specs.Texts.FirstWrong.{IsFirstWrongOf}
+use Rattle.heap_audit.specs.Texts.Part.{IsPart, Output, part_text}
 use Rattle.heap_audit.specs.Verdict.{SaysYesIfTrue, TellsVerdict}
 use Rattle.heap_audit.specs.declared.audit_error.AuditError.{AuditError}
 use Rattle.heap_audit.specs.declared.audit_error.AuditError.TheVariants as audits

@@ -28,8 +28,8 @@ use Rattle.dump_text.specs.Text.{dump_text}
 use Rattle.heap_state.specs.Meaning.Represents.{DumpRepresents}
 use Rattle.gc_core.specs.Dumped.{dumped}
 use Rattle.gc_core.specs.Run.{Ran}
-use Rattle.heap_audit.specs.Lines.{IsPrinted, SeenFits}
-use Rattle.heap_audit.specs.Part.{IsPart, Output, part_text}
+use Rattle.heap_audit.specs.Texts.Lines.{IsPrinted, SeenFits}
+use Rattle.heap_audit.specs.Texts.Part.{IsPart, Output, part_text}
 use Rattle.concordance_text.specs.Words.{ends_line, lines_of}
 use Rattle.concordance_text.proofs.Cuts.{slice_split-append}
 use Rattle.ael_jobs.specs.declared.arguments.options.RunOptions.{RunOptions}
@@ -42,7 +42,7 @@ use Rattle.ael_jobs.specs.Runs.Run.{HasFitEnd, IsRun, Scheduled, flag_lines}
 use Rattle.ael_jobs.specs.Runs.Told.{heap_lines, told_of}
 use Rattle.ael_jobs.specs.Tasks.Audit.{HasTrueOutput}
 use Rattle.ael_jobs.specs.Tasks.Division.{divide_lines, divided, output_line, preceded_by}
-use Rattle.ael_jobs.proofs.InputLines.{divides, passes}
+use Rattle.ael_jobs.proofs.Inputs.InputLines.{divides, passes}
 
 -- ---- no line of a program is `.output`
 

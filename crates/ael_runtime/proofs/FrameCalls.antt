@@ -23,7 +23,7 @@ use Rattle.plain_heap.specs.Records.{RecordShape, shape}
 use Rattle.plain_heap.proofs.Calls.Single.{call-new, call-st}
 use Rattle.gc_worker.proofs.Plain.RecordsMade.{made_of}
 use Rattle.gc_worker.specs.Workers.Fits.{FitsCall}
-use Rattle.ael_threads.specs.declared.refused.TheConstants.{MOST_RECORDS}
+use Rattle.ael_threads.specs.declared.mutator.refused.TheConstants.{MOST_RECORDS}
 use Rattle.ael_threads.specs.Seats.{Seated}
 use Rattle.ael_runtime.specs.declared.failure.Failure.{Failure}
 use Rattle.ael_runtime.specs.declared.root.Root.{Root}

@@ -11,14 +11,14 @@ use Rattle.plain_heap.specs.declared.action.Action.{Action}
 use Rattle.plain_heap.specs.declared.action.Action.TheVariants.{Loads, Stores}
 use Rattle.plain_heap.specs.Action.{action, operand, reference_in, register}
 use Rattle.plain_heap.specs.Call.{After, call, loads, performed, store_in, value_in}
-use Rattle.plain_heap.proofs.Calls.Outcomes.{if_ok-bind, if_ok-is, if_ok-then}
+use Rattle.plain_heap.proofs.Calls.CallOutcomes.{if_ok-bind, if_ok-is, if_ok-then}
 use Rattle.plain_heap.proofs.Calls.Single.{call-li, call-mov}
 use Rattle.gc_worker.specs.declared.calls.did.Did.{Did}
 use Rattle.gc_worker.specs.declared.calls.did.Did.TheVariants.{Done}
 use Rattle.ael_threads.specs.Seats.{Seated}
 use Rattle.ael_runtime.specs.declared.measured.Measured.{Measured}
 use Rattle.ael_runtime.specs.Calling.{HadEffect}
-use Rattle.ael_runtime.specs.Known.{StaysKnown, IsKnown, SparesRegister}
+use Rattle.ael_runtime.specs.KnownLengths.{StaysKnown, IsKnown, SparesRegister}
 use Rattle.ael_runtime.specs.Reading.{SeesSame, held, len_of, seen_heap, seen_mutator}
 use Rattle.ael_runtime.proofs.Effects.{after_same}
 use Rattle.ael_runtime.proofs.Lengths.{len_stays}

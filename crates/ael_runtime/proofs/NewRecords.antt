@@ -20,9 +20,9 @@ use Rattle.mutator_asm.specs.Program.{is_valid}
 use Rattle.plain_heap.specs.Alone.{is_heap_full}
 use Rattle.plain_heap.specs.Call.{allocated, call}
 use Rattle.plain_heap.proofs.Calls.Single.{call-mix, call-new, call-raw}
-use Rattle.heap_state.specs.Worker.{Account}
+use Rattle.heap_state.specs.Known.{Account}
 use Rattle.gc_worker.specs.Workers.Fits.{FitsCall}
-use Rattle.ael_threads.specs.declared.refused.TheConstants.{MOST_RECORDS}
+use Rattle.ael_threads.specs.declared.mutator.refused.TheConstants.{MOST_RECORDS}
 use Rattle.ael_threads.specs.Seats.{Seated}
 use Rattle.ael_runtime.specs.declared.root.Root.{Root}
 use Rattle.ael_runtime.specs.Calling.{HadEffect, HadEffects, WasTrapped, done}

@@ -16,10 +16,10 @@ use Rattle.mutator_asm.specs.declared.instr.Instr.TheVariants as instrs
 use Rattle.mutator_asm.specs.declared.operand.Operand.TheVariants as operands
 use Rattle.mutator_asm.specs.Program.{is_valid}
 use Rattle.plain_heap.specs.Call.{After, call, may_hold, values_of}
-use Rattle.plain_heap.proofs.Calls.Records.{held_same}
+use Rattle.plain_heap.proofs.Calls.RecordsAfterCalls.{held_same}
 use Rattle.plain_heap.proofs.Calls.Single.{call-ld, call-len, call-st, call-st_not}
 use Rattle.gc_worker.proofs.Plain.RecordsMade.{made_of}
-use Rattle.heap_state.specs.Worker.{Account}
+use Rattle.heap_state.specs.Known.{Account}
 use Rattle.gc_worker.specs.Plain.Seen.{seen}
 use Rattle.gc_worker.specs.Workers.Fits.{FitsCall}
 use Rattle.ael_threads.specs.Seats.{Seated}

@@ -7,7 +7,7 @@ use Rattle.std.proofs.lemmas.Option.{get_or_from_slice_get, slice_get_within}
 use Rattle.plain_state.specs.declared.end.End.{End}
 use Rattle.plain_state.specs.State.{Mutator, Plain, Record}
 use Rattle.plain_heap.specs.Action.{register}
-use Rattle.plain_state.proofs.Lists.{slice_get-set_same}
+use Rattle.plain_state.proofs.Elements.{slice_get-set_same}
 use Rattle.mutator_asm.specs.declared.instr.Instr.{Instr}
 use Rattle.plain_heap.specs.Call.{After, call}
 use Rattle.plain_heap.specs.Order.{fresh}

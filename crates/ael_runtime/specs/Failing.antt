@@ -11,7 +11,7 @@ use Rattle.mutator_asm.specs.declared.operand.Operand.TheVariants as operands
 use Rattle.plain_heap.specs.Action.{is_reference}
 use Rattle.plain_heap.specs.Alone.{is_heap_full}
 use Rattle.plain_heap.specs.Call.{may_hold}
-use Rattle.ael_threads.specs.declared.refused.TheConstants.{MOST_RECORDS}
+use Rattle.ael_threads.specs.declared.mutator.refused.TheConstants.{MOST_RECORDS}
 use Rattle.ael_threads.specs.Seats.{Seated}
 use Rattle.ael_runtime.specs.declared.failure.Failure.{Failure}
 use Rattle.ael_runtime.specs.declared.failure.Failure.TheVariants.{Ended, RecordsOut, NotRecord, OutOfRange, TooLarge}

@@ -1,5 +1,5 @@
 pub mod Reading
 pub mod Calling
-pub mod Known
+pub mod KnownLengths
 pub mod Failing
 pub mod Making

@@ -12,7 +12,7 @@ use Rattle.mutator_asm.specs.declared.instr.Instr.TheVariants as instrs
 use Rattle.mutator_asm.specs.declared.operand.Operand.TheVariants as operands
 use Rattle.gc_worker.specs.declared.calls.did.Did.TheVariants.{Done}
 use Rattle.gc_worker.specs.declared.task.Task.TheVariants.{Calls}
-use Rattle.ael_threads.specs.declared.refused.TheConstants.{MOST_RECORDS}
+use Rattle.ael_threads.specs.declared.mutator.refused.TheConstants.{MOST_RECORDS}
 use Rattle.ael_threads.specs.Calls.{Called}
 use Rattle.ael_threads.specs.Seats.{Seated}
 use Rattle.ael_runtime.specs.declared.root.TheConstants.{FRAMES, SCRATCH}

@@ -36,7 +36,7 @@ pub struct Local<'h> {
 impl<'h> Model for Local<'h> {
     ghost use Rattle.std.specs.Prelude.{◌≡◌, None};
     ghost use Rattle.ael_threads.specs.Seats.{IsMine, Seated};
-    ghost use Rattle.ael_runtime.specs.Known.{IsKnown};
+    ghost use Rattle.ael_runtime.specs.KnownLengths.{IsKnown};
 
     ghost Value = { Seated };
 

@@ -1,7 +1,7 @@
 //! The length that is known of a record, so that it need not be looked at each time.
 
 ghost use Rattle.std.specs.Prelude.{◌≡◌, true};
-ghost use Rattle.ael_runtime.specs.Known.{StaysKnown, SparesRegister};
+ghost use Rattle.ael_runtime.specs.KnownLengths.{StaysKnown, SparesRegister};
 
 use ael_threads::Did;
 use mutator_asm::Instr;

@@ -5,7 +5,7 @@ ghost use Rattle.plain_state.specs.declared.sizes.TheConstants.{NUMBERS, REGISTE
 ghost use Rattle.mutator_asm.specs.declared.instr.Instr.TheVariants.{Ld, Len, St};
 ghost use Rattle.mutator_asm.specs.declared.operand.Operand.TheVariants as operands;
 ghost use Rattle.plain_heap.specs.Action.{is_reference};
-ghost use Rattle.ael_threads.specs.declared.refused.TheConstants.{MOST_RECORDS};
+ghost use Rattle.ael_threads.specs.declared.mutator.refused.TheConstants.{MOST_RECORDS};
 ghost use Rattle.ael_runtime.specs.declared.root.TheConstants.{SCRATCH};
 ghost use Rattle.ael_runtime.specs.Calling.{HadEffects, HadEffectsOnceSeen, done};
 ghost use Rattle.ael_runtime.specs.Failing.{MakeFails, RecordFails, StoreFails, WordFails};

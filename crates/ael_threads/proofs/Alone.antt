@@ -1,5 +1,5 @@
 pub mod Sparing
 pub mod Matching
-pub mod Going
+pub mod LoneHistories
 pub mod Replying
-pub mod Whole
+pub mod LoneCalls

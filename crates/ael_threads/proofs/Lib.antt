@@ -2,7 +2,7 @@ pub mod Lists
 pub mod TableRule
 pub mod WorkerSeats
 pub mod WholeCalls
-pub mod Looks
+pub mod BegunLooks
 pub mod Callers
 pub mod ProgramRuns
 pub mod Alone

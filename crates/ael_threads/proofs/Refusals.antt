@@ -14,8 +14,8 @@ use Rattle.gc_worker.specs.Plain.Seen.{making_in, seen}
 use Rattle.gc_worker.specs.Workers.Fits.{MayBegin}
 use Rattle.gc_worker.specs.Steps.Stepped.{MayExecute, MayIf, is_output}
 use Rattle.gc_worker.proofs.Plain.RecordsMade.{made_of, makes_of}
-use Rattle.ael_threads.specs.declared.refused.Refused.TheVariants.{Operand, Printing, Records}
-use Rattle.ael_threads.specs.declared.refused.TheConstants.{MOST_RECORDS}
+use Rattle.ael_threads.specs.declared.mutator.refused.Refused.TheVariants.{Operand, Printing, Records}
+use Rattle.ael_threads.specs.declared.mutator.refused.TheConstants.{MOST_RECORDS}
 use Rattle.ael_threads.specs.Seats.{Seated}
 use Rattle.ael_threads.specs.Refusals.{lacks_serial, makes_record, may_not_print, refusal, refusal_by}
 

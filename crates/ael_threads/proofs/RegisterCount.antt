@@ -6,14 +6,14 @@ use Rattle.std.proofs.lemmas.Option.{slice_get_within}
 use Rattle.plain_state.specs.declared.end.End.{End}
 use Rattle.plain_state.specs.declared.sizes.TheConstants.{REGISTERS}
 use Rattle.plain_state.specs.State.{Heap, Mutator, Plain, record_of}
-use Rattle.plain_state.proofs.Lists.{set-found, slice_get-replicate, slice_get-set_other}
+use Rattle.plain_state.proofs.Elements.{set-found, slice_get-replicate, slice_get-set_other}
 use Rattle.mutator_asm.specs.declared.instr.Instr.{Instr}
 use Rattle.plain_heap.specs.declared.action.Action.{Action}
-use Rattle.plain_heap.specs.declared.action.Action.TheVariants.{Sets, Links, Makes, Measures, Loads, Stores, Exchanges, Gets, Swaps}
+use Rattle.plain_heap.specs.declared.action.Action.TheVariants.{Sets, Links, Makes, Measures, Loads, Stores, Compares, Gets, Swaps}
 use Rattle.plain_heap.specs.Action.{action}
 use Rattle.plain_heap.specs.Call.{After, call, performed, store_in, value_in}
 use Rattle.plain_heap.specs.Step.{settled}
-use Rattle.plain_heap.proofs.Calls.Outcomes.{if_ok-bind, performed_exchange}
+use Rattle.plain_heap.proofs.Calls.CallOutcomes.{if_ok-bind, performed_exchange}
 use Rattle.heap_laws.specs.Opening.{opening_mutator, opening_plain}
 use Rattle.gc_worker.specs.declared.calls.did.Did.{Did}
 use Rattle.gc_worker.specs.declared.calls.did.Did.TheVariants.{Done, Trap}
@@ -37,7 +37,7 @@ module _ (m : ℕ) (heap : Heap) (k : Mutator) where
   performed-count (Measures d i) = length-set k.registers d _
   performed-count (Loads d i x) = if_ok-bind AsMany (value_in heap i x) _ (λ v. length-set k.registers d v)
   performed-count (Stores i x v) = if_ok-bind AsMany (value_in heap i x) _ (λ old. if_ok-bind AsMany (store_in heap i (record_of heap i) x v) _ (λ h. refl))
-  performed-count (Exchanges d i x expected v) =
+  performed-count (Compares d i x expected v) =
       performed_exchange m heap k d i x expected v AsMany (length-set k.registers d _) (if_ok-bind AsMany (store_in heap i (record_of heap i) x v) _ (λ h. length-set k.registers d _))
   performed-count (Gets d x) = length-set k.registers d _
   performed-count (Swaps d x v) = length-set k.registers d _

@@ -7,4 +7,4 @@ pub mod FullCalls
 pub mod StepKeeps
 pub mod AllowedSteps
 pub mod GateLooks
-pub mod Opening
+pub mod OpenedRule

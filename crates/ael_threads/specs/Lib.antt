@@ -7,9 +7,7 @@ pub mod Readers
 pub mod Calls
 pub mod CallsByActs
 pub mod Opened
-pub mod Programs
-pub mod Running
-pub mod Outputs
+pub mod Runs
 pub mod Alone
 pub mod Unread
 pub mod Refusals

@@ -6,9 +6,9 @@ use Rattle.mutator_asm.specs.declared.instr.Instr.TheVariants.{New, Raw, Mix, We
 use Rattle.mutator_asm.specs.Program.{is_valid}
 use Rattle.gc_worker.specs.declared.task.Task.{Task}
 use Rattle.gc_worker.specs.Steps.Stepped.{is_output}
-use Rattle.ael_threads.specs.declared.refused.Refused.{Refused}
-use Rattle.ael_threads.specs.declared.refused.Refused.TheVariants.{Ended, Calling, Operand, Records, Printing}
-use Rattle.ael_threads.specs.declared.refused.TheConstants.{MOST_RECORDS}
+use Rattle.ael_threads.specs.declared.mutator.refused.Refused.{Refused}
+use Rattle.ael_threads.specs.declared.mutator.refused.Refused.TheVariants.{Ended, Calling, Operand, Records, Printing}
+use Rattle.ael_threads.specs.declared.mutator.refused.TheConstants.{MOST_RECORDS}
 use Rattle.ael_threads.specs.Seats.{Seated}
 
 -- the instruction makes a record, if it doesn't end its mutator

@@ -13,10 +13,7 @@ mod mutator;
 mod opening;
 mod pace;
 mod programs;
-mod refused;
-mod refusing;
 mod rounds;
-mod safepoints;
 mod scanner;
 mod seats;
 mod shared;
@@ -32,6 +29,7 @@ pub use gc_worker::{
 pub use laws::{
     acts_make_calls, board_words_stay, lone_calls_come_to_the_same, unread_boards_share_nothing,
 };
+pub use mutator::refused::{MOST_RECORDS, Refused};
 pub use mutator::{Mutator, Reg};
 pub use mutator_asm::{Instr, Operand, Program};
 pub use opening::Seats;
@@ -39,7 +37,6 @@ pub use pace::{NoPace, Pace};
 pub use plain_state::End;
 pub use programs::outputs::{Outputs, Printed, RunError};
 pub use programs::running::run;
-pub use refused::{MOST_RECORDS, Refused};
 pub use rounds::Round;
 pub use scanner::Scanner;
 pub use shared::{Rule, Shared};

@@ -1,5 +1,9 @@
 //! A mutator of the heap.
 
+pub mod refused;
+pub mod refusing;
+pub mod safepoints;
+
 ghost use Rattle.std.specs.Prelude.{◌≡◌, ◌<◌, Some, None, true, is_some, slice_index};
 ghost use Rattle.plain_state.specs.declared.end.End.{End};
 ghost use Rattle.plain_state.specs.declared.sizes.TheConstants.{REGISTERS};

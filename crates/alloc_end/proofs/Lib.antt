@@ -1,4 +1,4 @@
 pub mod Placing
 pub mod Marking
 pub mod Reserving
-pub mod RowsFit
+pub mod AllocationRows

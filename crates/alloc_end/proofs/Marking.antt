@@ -10,7 +10,7 @@ use Rattle.atom_store.specs.Acts.{MakesStep, after_next_step}
 use Rattle.atom_store.specs.Step.{words_after}
 use Rattle.atom_store.specs.StepOn.{Store}
 use Rattle.atom_store.proofs.Acting.{no_step}
-use Rattle.atom_store.proofs.Steps.{slice_index-words_after, slice_index-stored}
+use Rattle.atom_store.proofs.StepWords.{slice_index-words_after, slice_index-stored}
 use Rattle.heap_words.specs.declared.kind.Kind.{Kind}
 use Rattle.heap_words.specs.declared.kind.Kind.TheVariants.{Fields}
 use Rattle.space_map.specs.declared.area_word.AreaWord.{AreaWord}

@@ -7,7 +7,7 @@ use Rattle.atom_store.specs.declared.turn.Turn.{Turn}
 use Rattle.atom_store.specs.declared.turn.Turn.TheVariants.{Finished}
 use Rattle.atom_store.specs.Acts.{MakesStep}
 use Rattle.atom_store.proofs.Acting.{no_step}
-use Rattle.atom_store.proofs.Steps.{slice_index-words_after, slice_index-won, won_exactly}
+use Rattle.atom_store.proofs.StepWords.{slice_index-words_after, slice_index-won, won_exactly}
 use Rattle.space_map.specs.declared.area_word.AreaWord.{AreaWord}
 use Rattle.space_map.specs.AreaWord.{decode_area, encode_area, part_end}
 use Rattle.space_map.specs.Spaces.{to_space}

@@ -1,6 +1,6 @@
 pub mod Bounds
 pub mod Faultless
-pub mod Reading
+pub mod ReadLines
 pub mod Sections
 pub mod Tokens
-pub mod Words
+pub mod SeedWords

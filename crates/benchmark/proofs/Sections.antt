@@ -12,7 +12,7 @@ use Rattle.mutator_asm.specs.Program.{is_number}
 use Rattle.mutator_asm.proofs.Listings.Split.{is_token, line_length, lines_split}
 use Rattle.benchmark.specs.declared.keys.Keys.{Keys}
 use Rattle.benchmark.specs.Text.{keys_by, keys_of, sections_text}
-use Rattle.benchmark.proofs.Reading.{are_tokens, says, section_lines}
+use Rattle.benchmark.proofs.ReadLines.{are_tokens, says, section_lines}
 use Rattle.benchmark.proofs.Tokens.{section_is, section_tokens}
 
 -- ---- numbers

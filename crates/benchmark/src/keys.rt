@@ -46,7 +46,7 @@ pub fn key_count(depth: u32) -> u32
 }
 
 /// The seed whose words are those that the text doesn't take.
-#[tactic(auto, using(crate::proofs::Words::iterate_two))]
+#[tactic(auto, using(crate::proofs::SeedWords::iterate_two))]
 pub fn seed_behind(seed: u64) -> u64
     ensures { result ≡ seed_behind seed }
 {

@@ -1,11 +1,11 @@
 mod FirstWords
 pub mod Along
 pub mod Turns
-pub mod Targets
+pub mod ReplacedTargets
 pub mod Sound
-pub mod GoingOn
+pub mod WalkGoesOn
 pub mod Runs
 pub mod Chains
 pub mod PassedWords
 pub mod WorkedOut
-pub mod RowsFit
+pub mod WalkRows

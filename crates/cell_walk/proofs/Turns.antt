@@ -7,7 +7,7 @@ use Rattle.atom_store.specs.declared.turn.Turn.TheVariants.{Finished}
 use Rattle.atom_store.specs.Acts.{MakesStep}
 use Rattle.atom_store.specs.Step.{reply_of}
 use Rattle.atom_store.proofs.Acting.{no_step}
-use Rattle.atom_store.proofs.Steps.{lost_tells_another, words_after-lost}
+use Rattle.atom_store.proofs.StepWords.{lost_tells_another, words_after-lost}
 use Rattle.heap_words.specs.Decoded.{decode}
 use Rattle.space_map.specs.Spaces.{Layout}
 use Rattle.space_map.specs.Table.{WeakHead, WeakTurn, HeapWord, place_of}

@@ -14,7 +14,7 @@ use Rattle.checkpoint_text.specs.declared.saved_record.SavedRecord.{SavedRecord}
 use Rattle.checkpoint_text.specs.Heap.{saved_word}
 use Rattle.checkpoint_text.specs.Records.{record_there, record_by}
 use Rattle.checkpoint_text.specs.Reached.{times_listed}
-use Rattle.checkpoint_text.proofs.Places.{beyond_is}
+use Rattle.checkpoint_text.proofs.CheckpointPlaces.{beyond_is}
 
 -- a pointer, by the address that it has
 pub pointer_is : (d : Decoded) (address : ℕ) → pointer_in d ≡ Some address → d ≡ PointerWord address

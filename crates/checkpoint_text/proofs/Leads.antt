@@ -11,7 +11,7 @@ use Rattle.plain_state.specs.declared.value.Identity.{Identity}
 use Rattle.plain_state.specs.declared.value.Value.TheVariants.{Number, Reference}
 use Rattle.plain_state.specs.Layout.{is_field, word_of_value}
 use Rattle.plain_state.specs.State.{Record, Snapped}
-use Rattle.plain_heap.specs.Checkpoint.{BoardRefers, FieldRefers, ReachedFrom, kept_record}
+use Rattle.plain_heap.specs.Checkpoints.Checkpoint.{BoardRefers, FieldRefers, ReachedFrom, kept_record}
 use Rattle.heap_state.specs.Meaning.Values.{value_of, value_said}
 use Rattle.checkpoint_text.specs.declared.saved_record.SavedRecord.{SavedRecord}
 use Rattle.checkpoint_text.specs.Records.{denoted_count, first_value, record_there}

@@ -1,4 +1,4 @@
-pub mod Places
+pub mod CheckpointPlaces
 pub mod Finds
 pub mod Meets
 pub mod Scans
@@ -7,4 +7,4 @@ pub mod Pieces
 pub mod RecordKinds
 pub mod Pictures
 pub mod Leads
-pub mod Checkpoints
+pub mod CheckpointLines

@@ -19,7 +19,7 @@ use Rattle.plain_state.specs.Layout.{is_field, is_raw, word_of_value, values_at 
 use Rattle.plain_state.specs.State.{Record, Snapped}
 use Rattle.space_map.specs.Spaces.{board_page, first_word, page_of}
 use Rattle.space_map.specs.Table.{HeapWord, ImageOf, is_save_row, place_of, save_place_of}
-use Rattle.plain_heap.specs.Checkpoint.{identity_text, kept_record, kind_text, record_line, values_text}
+use Rattle.plain_heap.specs.Checkpoints.Checkpoint.{identity_text, kept_record, kind_text, record_line, values_text}
 use Rattle.heap_state.specs.Memory.Table.{is_row, table_of, word_in}
 use Rattle.heap_state.specs.Invariant.Ghost.{header_kind}
 use Rattle.heap_state.specs.Meaning.Values.{CountShows, Shows, value_of, value_said}

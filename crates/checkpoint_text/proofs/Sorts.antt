@@ -8,7 +8,7 @@ use Rattle.std.proofs.lemmas.Cmp.{nat_cmp_total, on_total, then_total}
 use Rattle.std.proofs.lemmas.List.Sorted.{All-permutation, Contains-permutation, IsPermutation-sym, ranks_by, sorted_far, sum_by-IsPermutation}
 use Rattle.std.proofs.lemmas.List.Sums.{sum_by-cons}
 use Rattle.plain_state.specs.declared.value.Identity.{Identity}
-use Rattle.plain_heap.specs.Checkpoint.{IsListedBefore}
+use Rattle.plain_heap.specs.Checkpoints.Checkpoint.{IsListedBefore}
 use Rattle.checkpoint_text.specs.declared.saved_record.SavedRecord.{SavedRecord}
 use Rattle.checkpoint_text.specs.Reached.{AreReached, AreListed, Reaches, times_listed, is_before}
 use Rattle.checkpoint_text.proofs.Finds.{as_count}

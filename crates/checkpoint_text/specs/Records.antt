@@ -9,7 +9,7 @@ use Rattle.plain_state.specs.declared.value.Value.{Value}
 use Rattle.plain_state.specs.declared.value.Value.TheVariants.{Number}
 use Rattle.record_layout.specs.declared.header.Header.{Header}
 use Rattle.record_layout.specs.Layout.{header_in}
-use Rattle.plain_heap.specs.Checkpoint.{KeptRecord}
+use Rattle.plain_heap.specs.Checkpoints.Checkpoint.{KeptRecord}
 use Rattle.checkpoint_text.specs.declared.saved_record.SavedRecord.{SavedRecord}
 use Rattle.checkpoint_text.specs.Heap.{identity_by, field_value}
 

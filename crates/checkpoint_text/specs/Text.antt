@@ -1,7 +1,7 @@
 -- The text of the last checkpoint.
 use Rattle.std.specs.Prelude.{◌≡◌, ℕ, List, [], ◌++◌}
 use Rattle.plain_state.specs.State.{Snapped}
-use Rattle.plain_heap.specs.Checkpoint.{checkpoint_lines}
+use Rattle.plain_heap.specs.Checkpoints.Checkpoint.{checkpoint_lines}
 use Rattle.heap_state.specs.Saving.Said.{SaysCheckpoint}
 use Rattle.checkpoint_text.specs.Heap.{AreWholeTable}
 

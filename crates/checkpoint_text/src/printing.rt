@@ -4,7 +4,7 @@
 
 ghost use Rattle.std.specs.Prelude.{◌≡◌, ◌+◌, ◌^◌, ◌<◌, ◌++◌, OnOk, string_bytes};
 ghost use Rattle.space_map.specs.Spaces.{board_page, first_word};
-ghost use Rattle.plain_heap.specs.Checkpoint.{board_line, identity_text, kind_text, number_line, record_line, value_text, values_text};
+ghost use Rattle.plain_heap.specs.Checkpoints.Checkpoint.{board_line, identity_text, kind_text, number_line, record_line, value_text, values_text};
 ghost use Rattle.checkpoint_text.specs.Records.{content_of, kind_with, values_read};
 ghost use Rattle.checkpoint_text.specs.Words.{saved_heap};
 

@@ -74,7 +74,7 @@ impl<'t> SavedWords<'t> {
     fn finished(&self) -> u64
         ensures { result ≡ (saves_of self.now.spaces.pages self.now.words.now).done }
     {
-        self.words[self.spaces.done_place()]
+        self.words[self.spaces.last_saved_place()]
     }
 
     /// Whether a page's words are read where they are saved.

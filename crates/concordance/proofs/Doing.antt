@@ -21,11 +21,11 @@ use Rattle.plain_heap.specs.Action.{action, register}
 use Rattle.plain_heap.specs.Alone.{leaves_board}
 use Rattle.plain_heap.specs.Call.{After, allocated, call, is_cell, loads, may_hold, set_register, went_on}
 use Rattle.plain_heap.specs.Step.{new_record, pages_for, pages_of}
-use Rattle.heap_state.specs.Worker.{Account}
+use Rattle.heap_state.specs.Known.{Account}
 use Rattle.gc_worker.specs.Plain.Seen.{making_in, seen}
 use Rattle.gc_worker.specs.Workers.Fits.{FitsCall}
 use Rattle.gc_worker.proofs.Plain.RecordsMade.{made_of}
-use Rattle.plain_heap.proofs.Calls.Records.{held_same}
+use Rattle.plain_heap.proofs.Calls.RecordsAfterCalls.{held_same}
 use Rattle.plain_heap.proofs.Calls.Single.{call-li, call-mov, call-new, call-raw}
 use Rattle.concordance.specs.Desk.{CanDo, CanMake, Desk, HasWord, LeadsTo, MayTake, desk_after, desk_at, desk_size_made, desk_values, desk_with_record, desk_with_word, desk_word, own}
 use Rattle.concordance.proofs.Gathered.Reads.{record_none}

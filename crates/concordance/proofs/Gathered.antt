@@ -1,5 +1,5 @@
 pub mod Reads
-pub mod Places
+pub mod NotedPlaces
 pub mod Walks
 pub mod NewRows
-pub mod Parts
+pub mod TextParts

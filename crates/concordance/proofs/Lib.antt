@@ -8,7 +8,7 @@ pub mod Notes
 pub mod Desks
 pub mod FoundFull
 pub mod LoneHeaps
-pub mod Whole
+pub mod WholeClerk
 pub mod Gathered
 pub mod Pieces
 pub mod Working

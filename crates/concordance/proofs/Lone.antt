@@ -30,7 +30,7 @@ use Rattle.ael_threads.specs.Alone.{ComesToTheSame, LeavesBoard, alone_history}
 use Rattle.ael_threads.specs.Calls.{Called, call_by, end_by_did}
 use Rattle.ael_threads.specs.Histories.{Each, HasOwnCalls, first_plain, hand}
 use Rattle.ael_threads.specs.Seats.{Seated, first_number, first_own}
-use Rattle.ael_threads.proofs.Alone.Whole.{lone_calls_come_to_the_same}
+use Rattle.ael_threads.proofs.Alone.LoneCalls.{lone_calls_come_to_the_same}
 use Rattle.ael_threads.proofs.WholeCalls.OneMore.{makers}
 use Rattle.concordance.specs.Desk.{CanDo, CanMake, Desk, desk_after, desk_at, desk_in, desk_size_made}
 use Rattle.concordance.specs.Lone.{FindsFull, IsLone, alone_by, desk_of}

@@ -14,7 +14,7 @@ use Rattle.plain_heap.specs.Emptied.{emptied_cell, emptied_record}
 use Rattle.plain_heap.specs.Step.{settled}
 use Rattle.plain_heap.specs.Tracing.{is_weak}
 use Rattle.plain_heap.proofs.Alone.Owned.{read_all}
-use Rattle.plain_heap.proofs.Calls.Cells.{no_cells_come}
+use Rattle.plain_heap.proofs.Calls.MadeCells.{no_cells_come}
 use Rattle.heap_laws.specs.Opening.{opening_plain}
 use Rattle.gc_worker.specs.declared.calls.call.Call.{Call}
 use Rattle.gc_worker.specs.declared.calls.did.Did.{Did}

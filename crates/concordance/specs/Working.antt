@@ -13,7 +13,7 @@ use Rattle.gc_worker.specs.History.Legal.{IsLegal}
 use Rattle.ael_threads.specs.declared.view.Plan.{Plan}
 use Rattle.ael_threads.specs.Calls.{call_by}
 use Rattle.ael_threads.specs.Histories.{Each, first_plain, hand}
-use Rattle.ael_threads.specs.Running.{EachFrom}
+use Rattle.ael_threads.specs.Runs.Running.{EachFrom}
 use Rattle.ael_threads.specs.Seats.{IsMine, Seated, first_number, first_own}
 use Rattle.concordance_text.specs.declared.part.Part.{Part}
 use Rattle.concordance_text.specs.Parts.{IsNumbered, mentions_of_part}

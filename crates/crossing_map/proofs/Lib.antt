@@ -1,6 +1,6 @@
-pub mod Parts
+pub mod WalkedParts
 pub mod Spaces
 pub mod FirstWords
 pub mod Reserving
-pub mod Steps
+pub mod WalkSteps
 pub mod WorkedOut

@@ -9,7 +9,7 @@ use Rattle.crossing_map.specs.declared.walked.Walked.{Walked as Next}
 use Rattle.crossing_map.specs.declared.walked.Walked.TheVariants as next
 use Rattle.crossing_map.specs.Theorems.{EndsInPart, IsBrokenAt, IsOrdered}
 use Rattle.crossing_map.specs.Walking.{ReadsFrom, next_in, next_walked, nothing_reserved, or_next, passes_closed, passes_none, walk_from}
-use Rattle.crossing_map.proofs.Parts.{item, is_first, is_ended, is_broken}
+use Rattle.crossing_map.proofs.WalkedParts.{item, is_first, is_ended, is_broken}
 
 nothing_left : (xs ys : List Walked) → xs ++ ys ≡ [] → (xs ≡ []) × (ys ≡ [])
 nothing_left [] ys is = (refl, is)

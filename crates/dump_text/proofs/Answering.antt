@@ -10,7 +10,7 @@ use Rattle.dump_text.specs.Pieces.{head_at}
 use Rattle.dump_text.specs.Text.{BeginsDump, Counts, Dumped, IsDump, dump_text}
 use Rattle.dump_text.proofs.FirstLine.{head_piece}
 use Rattle.dump_text.proofs.Laid.{head_is}
-use Rattle.dump_text.proofs.Whole.{dump_takes, dump_again, dump_fault}
+use Rattle.dump_text.proofs.WholeDump.{dump_takes, dump_again, dump_fault}
 
 pub is_found : (bytes : List ℕ) (r : Result Dump DumpError) → GivesReading dump_view r (dump_at bytes) → IfOk r (λ d. IsDump (dump_view d) × (bytes ≡ dump_text (dump_view d)))
 is_found bytes (Ok d) given = dump_takes bytes (dump_view d) given

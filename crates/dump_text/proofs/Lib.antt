@@ -8,6 +8,6 @@ pub mod Exact
 pub mod Loop
 pub mod Row
 pub mod FirstLine
-pub mod Whole
+pub mod WholeDump
 pub mod Answering
 pub mod Laid

@@ -51,8 +51,8 @@ use Rattle.fault_duty.specs.Duty
 use Rattle.fault_duty.specs.Duty.{Round, at_stage, duty_machine, taken_at}
 use Rattle.fault_duty.specs.Soundness.{IsOwnWalk, IsSoundRound}
 use Rattle.fault_duty.specs.Theorems.{word_of_row, HasRoundTurn, PassesCells, WinsTurn}
-use Rattle.fault_duty.proofs.Lowering.{by_test}
-use Rattle.fault_duty.proofs.Rounds.{Exchanged, won_on}
+use Rattle.fault_duty.proofs.RoundMeasure.{by_test}
+use Rattle.fault_duty.proofs.RoundEffects.{Exchanged, won_on}
 
 -- the round hasn't the turn
 abbrev IsTurnless : DutyStage → Type 0

@@ -11,7 +11,7 @@ use Rattle.forwarding.specs.declared.reserved.Reserved.{Reserved}
 use Rattle.forwarding.specs.Evacuation.{Evacuation, is_cell, link_of, wanted_at}
 use Rattle.forwarding.specs.Taken.{taken}
 use Rattle.forwarding.specs.Theorems.{StoresLinksFirst, LinksToHead, LinksPublished, ClearsBehindLinks, linking, place, publishing}
-use Rattle.forwarding.proofs.Stages.{IsBeingCopied, of_each_way}
+use Rattle.forwarding.proofs.CopyStages.{IsBeingCopied, of_each_way}
 
 -- a stage behind the store of the forward, at which the machine has not ended
 abbrev IsBehindForward : EvacStage → Type 0

@@ -20,7 +20,7 @@ use Rattle.forwarding.specs.Taken.{by_first_word, told}
 use Rattle.forwarding.specs.Theorems.{FollowsForwards, EndsBehindForwards, ReadsHeaders, TakesByExchange, AnnouncesFirst, ReservesByExchange, place}
 use Rattle.forwarding.specs.declared.reserved.Reserved.{Reserved}
 use Rattle.atom_store.specs.declared.turn.Turn.{Turn}
-use Rattle.forwarding.proofs.Stages.{IsBeingCopied, of_each_way}
+use Rattle.forwarding.proofs.CopyStages.{IsBeingCopied, of_each_way}
 
 -- ---- forwards
 

@@ -1,7 +1,7 @@
 pub mod FirstWords
-pub mod Stages
+pub mod CopyStages
 pub mod Finding
 pub mod CellLinks
 pub mod Ordering
 pub mod WorkedOut
-pub mod RowsFit
+pub mod CopyRows

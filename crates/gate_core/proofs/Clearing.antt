@@ -6,7 +6,7 @@ use Rattle.atom_store.specs.declared.turn.Turn.TheVariants.{Finished}
 use Rattle.atom_store.specs.Acts.{MakesStep}
 use Rattle.atom_store.specs.Step.{reply_of}
 use Rattle.atom_store.proofs.Acting.{no_step}
-use Rattle.atom_store.proofs.Steps.{won_exactly}
+use Rattle.atom_store.proofs.StepWords.{won_exactly}
 use Rattle.space_map.specs.declared.gate_word.GateWord.{GateWord}
 use Rattle.space_map.specs.GateWord.{decode_gate, encode_gate}
 use Rattle.space_map.specs.Table as row

@@ -10,7 +10,7 @@ use Rattle.atom_store.specs.Acts.{MakesStep}
 use Rattle.atom_store.specs.Runs.{after_step}
 use Rattle.atom_store.specs.Step.{reply_of, words_after}
 use Rattle.atom_store.proofs.Acting.{no_step}
-use Rattle.atom_store.proofs.Steps.{slice_index-words_after, slice_index-stored, slice_index-won}
+use Rattle.atom_store.proofs.StepWords.{slice_index-words_after, slice_index-stored, slice_index-won}
 use Rattle.space_map.specs.declared.area_word.AreaWord.{AreaWord}
 use Rattle.space_map.specs.declared.gate_word.GateWord.{GateWord}
 use Rattle.space_map.specs.AreaWord.{decode_area, encode_area, part_end}

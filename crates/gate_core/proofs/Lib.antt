@@ -3,4 +3,4 @@ pub mod Flipping
 pub mod Recalling
 pub mod Snapping
 pub mod Clearing
-pub mod RowsFit
+pub mod GateRows

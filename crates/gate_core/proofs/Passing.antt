@@ -10,7 +10,7 @@ use Rattle.atom_store.specs.declared.turn.Turn.TheVariants.{Finished}
 use Rattle.atom_store.specs.Acts.{MakesStep}
 use Rattle.atom_store.specs.Step.{reply_of}
 use Rattle.atom_store.proofs.Acting.{no_step}
-use Rattle.atom_store.proofs.Steps.{slice_index-words_after, slice_index-won, won_exactly}
+use Rattle.atom_store.proofs.StepWords.{slice_index-words_after, slice_index-won, won_exactly}
 use Rattle.space_map.specs.declared.gate_word.GateWord.{GateWord}
 use Rattle.space_map.specs.GateWord.{GateFits, decode_gate, encode_gate}
 use Rattle.space_map.specs.Table as row

@@ -81,7 +81,7 @@ module _ (layout : Layout) (met : ℕ → List ℕ) where
   snap_met n = row_word layout.pages row.SnapNumber (met n)
 
   abbrev done_met : ℕ → ℕ
-  done_met n = row_word layout.pages row.DoneNumber (met n)
+  done_met n = row_word layout.pages row.LastSaved (met n)
 
   -- a step before met this number of the last checkpoint begun
   record WasLoaded (n number : ℕ) : Type 0 where

@@ -11,7 +11,7 @@ use Rattle.atom_store.specs.Acts.{MakesStep}
 use Rattle.atom_store.specs.Runs.{after_step}
 use Rattle.atom_store.specs.Step.{reply_of, words_after}
 use Rattle.atom_store.proofs.Acting.{no_step}
-use Rattle.atom_store.proofs.Steps.{slice_index-words_after, slice_index-won, won_exactly}
+use Rattle.atom_store.proofs.StepWords.{slice_index-words_after, slice_index-won, won_exactly}
 use Rattle.space_map.specs.declared.gate_word.GateWord.{GateWord}
 use Rattle.space_map.specs.GateWord.{decode_gate}
 use Rattle.space_map.specs.Table as row

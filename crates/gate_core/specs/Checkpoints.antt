@@ -33,8 +33,8 @@ pub record Recalls (layout : Layout) (met : ℕ → List ℕ) (steps : ℕ) (res
   pub earlier : snap_at < done_at
   pub within : done_at < steps
   pub number : result.number ≡ row_word layout.pages row.SnapNumber (met snap_at)
-  pub none_runs : row_word layout.pages row.DoneNumber (met done_at) ≡ result.number → result.running ≡ 0
-  pub it_runs : row_word layout.pages row.DoneNumber (met done_at) ≢ result.number → result.running ≡ result.number
+  pub none_runs : row_word layout.pages row.LastSaved (met done_at) ≡ result.number → result.running ≡ 0
+  pub it_runs : row_word layout.pages row.LastSaved (met done_at) ≢ result.number → result.running ≡ result.number
 
 -- whatever words each step meets, whoever wrote them
 abbrev pub RecallsTellWhatTheyRead : Type 0

@@ -9,7 +9,7 @@ use Rattle.atom_store.specs.declared.turn.Turn.TheVariants.{More, Finished}
 use Rattle.atom_store.specs.Machine.{Machine}
 use Rattle.atom_store.specs.StepOn.{StepOn, Load, step_at}
 use Rattle.space_map.specs.Spaces.{Layout}
-use Rattle.space_map.specs.Table.{Row, SnapNumber, DoneNumber, place_of}
+use Rattle.space_map.specs.Table.{Row, SnapNumber, LastSaved, place_of}
 use Rattle.gate_core.specs.declared.recall.recalled.Recalled.{Recalled}
 use Rattle.gate_core.specs.declared.recall.recall_stage.RecallStage.{RecallStage}
 use Rattle.gate_core.specs.declared.recall.recall_stage.RecallStage.TheVariants.{LoadsSnap, LoadsDone, Ended}
@@ -37,7 +37,7 @@ running_of number done = if done == number then 0 else number
 -- by the row that it is on
 abbrev pub wants_at : RecallStage → Option (StepOn Row)
 wants_at LoadsSnap = Some (Load SnapNumber)
-wants_at (LoadsDone number) = Some (Load DoneNumber)
+wants_at (LoadsDone number) = Some (Load LastSaved)
 wants_at (Ended result) = None
 
 abbrev pub wanted_at : Recalling → RecallStage → Option Step

@@ -53,7 +53,7 @@ impl Recall {
     {
         match self.stage {
             RecallStage::LoadsSnap => Step::Load(self.spaces.snap_place()),
-            RecallStage::LoadsDone(_) => Step::Load(self.spaces.done_place()),
+            RecallStage::LoadsDone(_) => Step::Load(self.spaces.last_saved_place()),
             RecallStage::Ended(_) => unreachable!(),
         }
     }

@@ -1,6 +1,6 @@
 pub mod Kept
 pub mod Filling
 pub mod Flips
-pub mod Sizes
+pub mod SizesByEvents
 pub mod Aside
-pub mod Whole
+pub mod CyclesOfRuns

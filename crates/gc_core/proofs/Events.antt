@@ -1,7 +1,7 @@
 pub mod Readied
 pub mod Law
-pub mod Opening
+pub mod OpenedCore
 pub mod Lawful
 pub mod Tasks
-pub mod Steps
-pub mod Ends
+pub mod CoreSteps
+pub mod ToldEnds

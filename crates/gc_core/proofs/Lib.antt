@@ -1,5 +1,5 @@
 pub mod Events
 pub mod Told
 pub mod Runs
-pub mod Whole
+pub mod EventLaws
 pub mod Cycles

@@ -2,4 +2,4 @@ pub mod Dumps
 pub mod PlaceByPlace
 pub mod Readers
 pub mod WhatStands
-pub mod Checkpoints
+pub mod ToldCheckpoints

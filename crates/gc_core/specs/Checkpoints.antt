@@ -2,7 +2,7 @@
 use Rattle.std.specs.Prelude.{◌≡◌, ℕ, List, true}
 use Rattle.mutator_asm.specs.declared.instr.Instr.{Instr}
 use Rattle.plain_heap.specs.declared.mark.Mark.{Mark}
-use Rattle.plain_heap.specs.LastCheckpoint.{IsLastCheckpoint}
+use Rattle.plain_heap.specs.Checkpoints.LastCheckpoint.{IsLastCheckpoint}
 use Rattle.plain_heap.specs.Order.{plain}
 use Rattle.gc_worker.specs.Laws.Checkpoints.{TellsKept}
 use Rattle.gc_core.specs.Core.{CoreState}

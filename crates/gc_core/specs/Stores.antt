@@ -3,7 +3,7 @@ use Rattle.std.specs.Prelude.{◌≡◌, ℕ, List, [], ◌∷◌, ◌++◌, Som
 use Rattle.plain_state.specs.declared.value.Identity.{Identity}
 use Rattle.plain_state.specs.declared.value.Value.{Value}
 use Rattle.plain_state.specs.State.{Mutator}
-use Rattle.plain_heap.specs.declared.action.Action.TheVariants.{Loads, Exchanges}
+use Rattle.plain_heap.specs.declared.action.Action.TheVariants.{Loads, Compares}
 use Rattle.plain_heap.specs.declared.mark.Mark.{Mark}
 use Rattle.plain_heap.specs.declared.mark.Mark.TheVariants.{Step}
 use Rattle.plain_heap.specs.Call.{set_register, went_on}
@@ -23,6 +23,6 @@ LoadsOfRunsGetTheLastStore = InEveryRun (λ code turns config schedule n. (front
 abbrev pub ExchangesOfRunsFindTheLastStore : Type 0
 ExchangesOfRunsFindTheLastStore = InEveryRun (λ code turns config schedule n. (front rest : List Mark) (m : ℕ) (own : Mutator) (register : ℕ) (identity : Identity) (index : ℕ) (expected new : Value)
     → (run_of code turns config schedule n).order ≡ front ++ Step m ∷ rest
-    → StepDoes code turns (plain code turns front) m own (Exchanges register identity index expected new)
+    → StepDoes code turns (plain code turns front) m own (Compares register identity index expected new)
     → slice_get (plain code turns (front ++ Step m ∷ [])).mutators m
     ≡ Some (went_on (set_register own register (success (last_store code turns front identity index) expected))))

@@ -1,4 +1,4 @@
-pub mod Standing
+pub mod StandingHeaps
 pub mod Pages
 pub mod Begun
 pub mod Readying
@@ -6,6 +6,6 @@ pub mod Beginning
 pub mod Wanting
 pub mod Gone
 pub mod Last
-pub mod Opening
-pub mod GoingOn
+pub mod OpenedHeap
+pub mod KeptTasks
 pub mod Others

@@ -1,5 +1,5 @@
 pub mod Lows
-pub mod Sizes
+pub mod SizesOfSpaces
 pub mod NewFlips
 pub mod FlipReads
 pub mod NextSizes

@@ -7,7 +7,7 @@ use Rattle.plain_state.specs.State.{Plain}
 use Rattle.atom_store.specs.declared.reply.Reply.{Reply}
 use Rattle.atom_store.specs.declared.step.Step.{Step}
 use Rattle.atom_store.specs.Step.{words_after, reply_of}
-use Rattle.atom_store.proofs.Steps.{length-words_after}
+use Rattle.atom_store.proofs.StepWords.{length-words_after}
 use Rattle.gate_core.specs.declared.flip_stage.FlipStage.{FlipStage}
 use Rattle.gate_core.specs.declared.flip_stage.FlipStage.TheVariants as flip_stage
 use Rattle.gate_core.specs.declared.gate_stage.GateStage.{GateStage}
@@ -38,28 +38,28 @@ use Rattle.gc_worker.specs.Laws.Step.{Heap, read, nobody, held_at, layout_of, St
 use Rattle.gc_worker.specs.Steps.Turned.{Told, Silent, Empties, Answers, Marks, PageWon, epoch_in_gate, turned, told, won}
 use Rattle.gc_worker.specs.Steps.Wanted.{wanted}
 use Rattle.gc_worker.proofs.Stages.Gate.Exchanging.{exchanges_gate}
-use Rattle.gc_worker.proofs.Stages.Look.Looking.{looks}
-use Rattle.gc_worker.proofs.Stages.Access.Stages.{accesses}
-use Rattle.gc_worker.proofs.Stages.Gate.Words.{gate_says}
+use Rattle.gc_worker.proofs.Stages.Look.LookAtGate.{looks}
+use Rattle.gc_worker.proofs.Stages.Access.AccessStages.{accesses}
+use Rattle.gc_worker.proofs.Stages.Gate.GateWords.{gate_says}
 use Rattle.gc_worker.proofs.Stages.Gate.Passing.{loads_gate}
 use Rattle.gc_worker.proofs.Stages.Flip.Resetting as resetting
 use Rattle.gc_worker.proofs.Stages.Flip.Flipping.{flips_gate}
-use Rattle.gc_worker.proofs.Plain.Followed.{follows_empty}
+use Rattle.gc_worker.proofs.Plain.CellTargets.Followed.{follows_empty}
 use Rattle.gc_worker.proofs.Plain.Represented.{kept_by}
 use Rattle.gc_worker.proofs.Saving.Keeping.{saving_kept}
 use Rattle.gc_worker.proofs.Words.TracedWord.{traced_goes}
 use Rattle.gc_worker.proofs.Workers.Members.{member}
 use Rattle.gc_worker.proofs.Stages.OpenedPage.{opens}
-use Rattle.gc_worker.proofs.Stages.Rounds.Whole.{serves}
-use Rattle.gc_worker.proofs.Stages.Rounds.Words.{page_age, traced_word}
-use Rattle.gc_worker.proofs.Stages.Copies.Whole.{evacuates, forwards}
-use Rattle.gc_worker.proofs.Stages.Place.Stages.{places}
-use Rattle.gc_worker.proofs.Stages.Scan.Stages.{scans}
+use Rattle.gc_worker.proofs.Stages.Rounds.WholeRounds.{serves}
+use Rattle.gc_worker.proofs.Stages.Rounds.RoundWords.{page_age, traced_word}
+use Rattle.gc_worker.proofs.Stages.Copies.WholeCopies.{evacuates, forwards}
+use Rattle.gc_worker.proofs.Stages.Place.AllocationStages.{places}
+use Rattle.gc_worker.proofs.Stages.Scan.ScanStages.{scans}
 use Rattle.gc_worker.proofs.Stages.Recalls.Recalling.{recalls}
-use Rattle.gc_worker.proofs.Stages.Guards.Looking.{guards}
-use Rattle.gc_worker.proofs.Stages.Checkpoints.Rounds.{checkpoints}
+use Rattle.gc_worker.proofs.Stages.Guards.GuardLooks.{guards}
+use Rattle.gc_worker.proofs.Stages.Checkpoints.SaveRounds.{checkpoints}
 use Rattle.gc_worker.proofs.Stages.Snaps.Beginning.{snaps}
-use Rattle.gc_worker.proofs.Between.GoingOn.{workers_go_on}
+use Rattle.gc_worker.proofs.Between.KeptTasks.{workers_go_on}
 use Rattle.page_scan.specs.Scanning.{Scanning}
 use Rattle.page_slots.specs.declared.open_stage.OpenStage.{OpenStage}
 use Rattle.page_slots.specs.declared.open_stage.OpenStage.TheVariants as open_stage

@@ -16,10 +16,10 @@ use Rattle.gc_worker.specs.Plain.Stories.{story_told}
 use Rattle.gc_worker.specs.Steps.Turned.{Told, Silent, Empties, Answers, Marks, told}
 use Rattle.gc_worker.specs.Steps.Wanted.{wanted}
 use Rattle.gc_worker.specs.Workers.Held.{Held}
-use Rattle.gc_worker.proofs.Between.Opening.{heaps_open}
-use Rattle.gc_worker.proofs.Plain.Emptied.{kept_if}
-use Rattle.gc_worker.proofs.Plain.Followed.{follows_lost}
-use Rattle.gc_worker.proofs.Plain.KeptCells.{answer_cells, lost_cells, made_cells, opening_cells}
+use Rattle.gc_worker.proofs.Between.OpenedHeap.{heaps_open}
+use Rattle.gc_worker.proofs.Plain.CellTargets.Emptied.{kept_if}
+use Rattle.gc_worker.proofs.Plain.CellTargets.Followed.{follows_lost}
+use Rattle.gc_worker.proofs.Plain.CellTargets.KeptCells.{answer_cells, lost_cells, made_cells, opening_cells}
 use Rattle.gc_worker.proofs.StepKeeps.{steps_keep, traces_heap}
 
 module _ (h : Heap) (p o : Plain) (k : ℕ) (x : Held) (q : Step) (story : StoryStands h p o) (below : k < length h.workers) (holds : held_at h k ≡ x) (asked : wanted x ≡ Some q) where

@@ -1,10 +1,10 @@
 pub mod RowSteps
 pub mod Eras
 pub mod Areas
-pub mod Sizes
+pub mod GrownSizes
 pub mod Pointers
 pub mod TableRows
-pub mod Rows
+pub mod WorkerRows
 pub mod Read
 pub mod Said
 pub mod TracedWord

@@ -1,9 +1,9 @@
-pub mod Parts
+pub mod KeptParts
 pub mod Guarded
 pub mod Checkpointing
 pub mod Fitting
 pub mod Answered
-pub mod GoingOn
+pub mod ResumedMutators
 pub mod BeginningAnew
 pub mod GoingBack
 pub mod Members

@@ -9,7 +9,7 @@ use Rattle.plain_state.proofs.Numerals.{AreDigits, in_range, numerals}
 use Rattle.dump_text.specs.Pieces.{numeral_at}
 use Rattle.dump_text.proofs.Numerals.{Stops, numeral_takes, numeral_again}
 use Rattle.dump_text.proofs.Options.{some_bind, some_if}
-use Rattle.heap_audit.specs.Pieces.{decimal_at}
+use Rattle.heap_audit.specs.Texts.Pieces.{decimal_at}
 
 pub decimal_takes : (limit : ℕ) (bytes : List ℕ) (n : ℕ) (rest : List ℕ) → decimal_at limit bytes ≡ Some (n, rest) → (bytes ≡ decimal n ++ rest) × (n < limit)
 unfolding decimal_at

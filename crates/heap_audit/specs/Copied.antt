@@ -12,7 +12,7 @@ use Rattle.heap_state.specs.Meaning.Represents.{IsInHeap}
 use Rattle.heap_state.specs.Memory.Walk.{Walked}
 use Rattle.heap_audit.specs.Records.{key_of}
 use Rattle.heap_audit.specs.Told.{MayHaveEmptied}
-use Rattle.heap_audit.specs.declared.copied_records.CopiedRecords.{CopiedRecords}
+use Rattle.heap_audit.specs.declared.records.copied_records.CopiedRecords.{CopiedRecords}
 use Rattle.heap_audit.specs.declared.told_heap.Extent.{Extent}
 
 -- the header in its place of a record at an address, if it lies among the copies of this space

@@ -1,10 +1,4 @@
-pub mod Pieces
-pub mod Order
-pub mod Ends
-pub mod Lines
-pub mod FirstWrong
-pub mod Part
-pub mod FirstOther
+pub mod Texts
 pub mod Breaks
 pub mod Places
 pub mod Told

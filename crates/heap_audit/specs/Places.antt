@@ -7,8 +7,8 @@ use Rattle.heap_state.specs.Meaning.Dump.{Dump}
 use Rattle.heap_state.specs.Meaning.Represents.{BoardWordShows, DumpRepresents, HeadShows, IsInHeap, IsInOrder, IsWalkedSpace, RegisterShows, WordShows}
 use Rattle.heap_state.specs.Memory.Walk.{Walked}
 use Rattle.heap_audit.specs.Breaks.{BreaksAt}
-use Rattle.heap_audit.specs.declared.place.Place.{Place}
-use Rattle.heap_audit.specs.declared.place.Place.TheVariants.{Size, Area, Register, Board, Word}
+use Rattle.heap_audit.specs.declared.places.place.Place.{Place}
+use Rattle.heap_audit.specs.declared.places.place.Place.TheVariants.{Size, Area, Register, Board, Word}
 
 -- ---- places
 

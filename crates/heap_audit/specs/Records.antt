@@ -16,7 +16,7 @@ use Rattle.heap_state.specs.Meaning.Dump.{Dump}
 use Rattle.heap_state.specs.Meaning.Represents.{HeadShows, IsEmptied, IsInHeap, LeadsToRecord, WordShows, denoted_in_dump, own_header}
 use Rattle.heap_state.specs.Memory.Walk.{Walked}
 use Rattle.heap_audit.specs.Firsts.{TellsFirst}
-use Rattle.heap_audit.specs.declared.owners.Owners.{Owners}
+use Rattle.heap_audit.specs.declared.records.owners.Owners.{Owners}
 
 -- the record shows what it should by this word: by its first word, or by another one that it has
 pub record WordOfRecordShows (d : Dump) (p : plain.Plain) (w : Walked) (i : ℕ) : Type 0 where

@@ -9,14 +9,14 @@ use Rattle.dump_text.specs.Text.{Dumped}
 use Rattle.heap_state.specs.Meaning.Represents.{DumpRepresents}
 use Rattle.plain_heap.specs.Order.{plain}
 use Rattle.plain_heap.specs.Print.{lines_seen, print_of}
-use Rattle.heap_audit.specs.FirstOther.{IsFirstOther}
-use Rattle.heap_audit.specs.FirstWrong.{IsFirstWrongOf}
-use Rattle.heap_audit.specs.Part.{IsPart, Output, part_text}
+use Rattle.heap_audit.specs.Texts.FirstOther.{IsFirstOther}
+use Rattle.heap_audit.specs.Texts.FirstWrong.{IsFirstWrongOf}
+use Rattle.heap_audit.specs.Texts.Part.{IsPart, Output, part_text}
 use Rattle.heap_audit.specs.Places.{IsFirstUnseen}
 use Rattle.heap_audit.specs.declared.audit_error.AuditError.{AuditError}
 use Rattle.heap_audit.specs.declared.audit_error.AuditError.TheVariants as errors
-use Rattle.heap_audit.specs.declared.place.Place.{Place}
-use Rattle.heap_audit.specs.declared.place.Place.TheVariants as place
+use Rattle.heap_audit.specs.declared.places.place.Place.{Place}
+use Rattle.heap_audit.specs.declared.places.place.Place.TheVariants as place
 use Rattle.heap_audit.specs.declared.verdict.Verdict.{Verdict}
 use Rattle.heap_audit.specs.declared.verdict.Verdict.TheVariants.{Yes, No}
 use Rattle.heap_audit.specs.declared.verdict.At.{At}

@@ -9,8 +9,8 @@ use Rattle.heap_state.specs.Memory.Walk.{Walked, is_protected, old_walk_in, walk
 use Rattle.heap_audit.specs.Breaks.{BreaksAt, BreaksSpace, break_in}
 use Rattle.heap_audit.specs.Firsts.{TellsFirst}
 use Rattle.heap_audit.specs.Told.{extent_of}
-use Rattle.heap_audit.specs.declared.stretch.Stretch.{Stretch}
-use Rattle.heap_audit.specs.declared.stretch.Stretch.TheVariants.{Copies, New}
+use Rattle.heap_audit.specs.declared.walks.stretch.Stretch.{Stretch}
+use Rattle.heap_audit.specs.declared.walks.stretch.Stretch.TheVariants.{Copies, New}
 use Rattle.heap_audit.specs.declared.walks.RecordAt.{RecordAt}
 use Rattle.heap_audit.specs.declared.walks.Walks.{Walks}
 

@@ -4,7 +4,7 @@ ghost use Rattle.std.specs.Prelude.{◌≡◌};
 ghost use Rattle.heap_audit.specs.declared.audit_error.AuditError.TheVariants as errors;
 ghost use Rattle.heap_audit.specs.Audit.{audit_error};
 
-use crate::reading_error::ReadingError;
+use crate::reading::reading_error::ReadingError;
 use plain_state::NoMemory;
 
 /// Why nothing is said of an output.

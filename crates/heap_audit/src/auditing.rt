@@ -10,10 +10,10 @@ ghost use Rattle.heap_audit.specs.Places.{HasForm, IsShort};
 ghost use Rattle.heap_audit.specs.Verdict.{SaysYesIfTrue, TellsPlace, TellsVerdict, at_told};
 
 use crate::audit_error::{AuditError, from_reading};
-use crate::first_other::first_other;
-use crate::first_place::first_place;
-use crate::part::read_part;
-use crate::place::Place;
+use crate::places::first_place::first_place;
+use crate::places::place::Place;
+use crate::reading::first_other::first_other;
+use crate::reading::part::read_part;
 use crate::told_heap::ToldHeap;
 use crate::verdict::{At, Verdict};
 use dump_text::{Dump, Kept};

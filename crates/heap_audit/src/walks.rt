@@ -1,5 +1,7 @@
 //! The walks over the heap's records.
 
+pub mod stretch;
+
 ghost use Rattle.std.specs.Prelude.{◌≡◌, ◌<◌, ◌++◌, ◌↔◌, ℕ, All, Contains, false, true, IfOk, IsTrue, OnOk, map, slice_index_or};
 ghost use Rattle.heap_state.specs.Meaning.Represents.{IsCopying, IsInOrder, IsWalkedSpace, LeadsToRecord};
 ghost use Rattle.heap_state.specs.Memory.Walk.{old_walk_in, walk_in};
@@ -8,8 +10,8 @@ ghost use Rattle.heap_audit.specs.Firsts.{TellsFirst, least};
 ghost use Rattle.heap_audit.specs.Told.{dump_told};
 ghost use Rattle.heap_audit.specs.Walks.{AreWalks, BreaksOver, epoch_before, space_walked, walked};
 
-use crate::stretch::{Stretch, walk_stretch};
 use crate::told_heap::ToldHeap;
+use crate::walks::stretch::{Stretch, walk_stretch};
 use heap_words::Word;
 use plain_state::NoMemory;
 use space_map::PAGE_WORDS;

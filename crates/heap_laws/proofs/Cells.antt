@@ -1,6 +1,6 @@
 pub mod Carried
-pub mod Rows
-pub mod Parts
+pub mod ChainRows
+pub mod ChainParts
 pub mod Linked
 pub mod Reserved
 pub mod Published

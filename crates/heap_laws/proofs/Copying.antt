@@ -1,7 +1,7 @@
 pub mod Found
 pub mod UnreadWords
 pub mod InProgress
-pub mod Words
+pub mod WordsOfCopies
 pub mod Roots
 pub mod Header
 pub mod Knowledge
@@ -12,4 +12,4 @@ pub mod Room
 pub mod Reserving
 pub mod Reserved
 pub mod Laws
-pub mod Cells
+pub mod CopiedCells

@@ -1,4 +1,4 @@
-pub mod GoingOn
+pub mod RunningMutators
 pub mod Slots
 pub mod Stored
 pub mod Cycle

@@ -1,7 +1,7 @@
 pub mod Sums
-pub mod Parts
-pub mod Workers
+pub mod FlippedParts
+pub mod FlippedWorkers
 pub mod Flipped
 pub mod Registers
 pub mod Reset
-pub mod Sizes
+pub mod StoredSizes

@@ -1,6 +1,6 @@
-pub mod Counts
+pub mod GateCounts
 pub mod Worker
 pub mod Team
 pub mod Scanner
 pub mod Passages
-pub mod Reading
+pub mod GateReads

@@ -1,2 +1,2 @@
-pub mod Workers
+pub mod FreshWorkers
 pub mod Heap

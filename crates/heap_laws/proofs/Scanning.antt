@@ -2,6 +2,6 @@ pub mod Scanners
 pub mod Claimed
 pub mod Opened
 pub mod Claims
-pub mod GoingOn
+pub mod ScanInProgress
 pub mod Fields
-pub mod Records
+pub mod ScannedRecords

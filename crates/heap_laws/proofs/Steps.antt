@@ -1,4 +1,4 @@
-pub mod Rows
+pub mod RowPlaces
 pub mod Learning
 pub mod Composing
 pub mod Forgotten

@@ -4,10 +4,10 @@ pub mod ShownPublished
 pub mod ShownWalks
 pub mod ShownEmptied
 pub mod Carried
-pub mod Rows
+pub mod TargetRows
 pub mod Reserved
 pub mod Published
 pub mod Placed
 pub mod Walked
-pub mod Traced
+pub mod TracedTargets
 pub mod Ended

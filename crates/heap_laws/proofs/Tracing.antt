@@ -1,5 +1,5 @@
-pub mod Looks
-pub mod Traced
+pub mod TracingLoads
+pub mod TracedExchange
 pub mod Copied
 pub mod Live
 pub mod Turns

@@ -13,7 +13,7 @@ use Rattle.heap_state.specs.Configuration.{Configuration, Stands, table, era, me
 use Rattle.heap_state.specs.Memory.Era.{Era, Memory}
 use Rattle.heap_state.specs.Invariant.Ghost.{Ghost, Lands}
 use Rattle.heap_state.specs.Invariant.Parts.Knowledge.{Passes}
-use Rattle.heap_state.specs.Worker.{Team, Passage, Enter, Park, Request, RequestSnap, Clear, Forwarded, Resume, Leave, Quest, Copy, SeenHeader, Scan, SeenRecord, Visit, Begins, At}
+use Rattle.heap_state.specs.Known.{Team, Passage, Enter, Park, Request, RequestSnap, Clear, Forwarded, Resume, Leave, Quest, Copy, SeenHeader, Scan, SeenRecord, Visit, Begins, At}
 use Rattle.heap_laws.specs.Gate.{gate_after}
 use Rattle.heap_laws.specs.Scanning.Words.{AtField, IsScanning}
 use Rattle.heap_laws.specs.Steps.{Ready, IsAreaNow}

@@ -4,7 +4,7 @@ use Rattle.plain_state.specs.State.{Plain}
 use Rattle.heap_state.specs.Memory.Entries.{Entry}
 use Rattle.heap_state.specs.Memory.Era.{Era, Memory}
 use Rattle.heap_state.specs.Invariant.Ghost.{Ghost}
-use Rattle.heap_state.specs.Worker.{Worker, Team, Scan, Round, is_asking, is_sized}
+use Rattle.heap_state.specs.Known.{Known, Team, Scan, Round, is_asking, is_sized}
 use Rattle.heap_laws.specs.Steps.{Ready, IsBeside, Steps, StepsTo, with_worker}
 
 -- ---- what may be forgotten
@@ -40,7 +40,7 @@ pub record IsLessRound (r : Round) (o : Option Round) : Type 0 where
 -- says of one of them.
 
 -- what others read of it is the same, and so are its searches and copies
-abbrev pub SameToOthers : (w v : Worker) → Type 0
+abbrev pub SameToOthers : (w v : Known) → Type 0
 SameToOthers w v = record {
   post : w.post ≡ v.post;
   epoch : w.epoch ≡ v.epoch;
@@ -52,7 +52,7 @@ SameToOthers w v = record {
 }
 
 -- of its run, its access and the page that it found open it knows at most as much
-abbrev pub LessAtHand : (w v : Worker) → Type 0
+abbrev pub LessAtHand : (w v : Known) → Type 0
 LessAtHand w v = record {
   stock : IsLess w.stock v.stock;
   access : IsLess w.access v.access;
@@ -60,7 +60,7 @@ LessAtHand w v = record {
 }
 
 -- and so of the page that it claims, and of its looks at pages
-abbrev pub LessAtPages : (w v : Worker) → Type 0
+abbrev pub LessAtPages : (w v : Known) → Type 0
 LessAtPages w v = record {
   claim : IsLess w.claim v.claim;
   look : IsLess w.look v.look;
@@ -69,7 +69,7 @@ LessAtPages w v = record {
 
 -- And so of the gate. Who flips still knows whether it has stored the size; whose the request is, or who is about to exchange the
 -- gate, whether the epoch is traced.
-abbrev pub LessAtGate : (w v : Worker) → Type 0
+abbrev pub LessAtGate : (w v : Known) → Type 0
 LessAtGate w v = record {
   gate_step : IsLess w.gate_step v.gate_step;
   reset : IsLess w.reset v.reset;
@@ -80,7 +80,7 @@ LessAtGate w v = record {
 }
 
 -- Of the chain of copied cells it knows the same, and if it walks over the chain, it knows the same of its second look.
-abbrev pub SameAtChain : (w v : Worker) → Type 0
+abbrev pub SameAtChain : (w v : Known) → Type 0
 SameAtChain w v = record {
   linking : w.linking ≡ v.linking;
   pass : w.pass ≡ v.pass;
@@ -88,7 +88,7 @@ SameAtChain w v = record {
 }
 
 -- worker w knows at most what v knows, and scans the same page as far, if it scans
-pub record IsAtMost (w v : Worker) : Type 0 where
+pub record IsAtMost (w v : Known) : Type 0 where
   pub others : SameToOthers w v
   pub scan : IsScanWithin w.scan v.scan
   pub hand : LessAtHand w v
@@ -98,78 +98,78 @@ pub record IsAtMost (w v : Worker) : Type 0 where
   pub chain : SameAtChain w v
 
 -- a worker whose round of the duty ends, and that doesn't walk over the chain: it forgets the round, its claim and its looks
-abbrev pub ends_round : Worker → Worker
+abbrev pub ends_round : Known → Known
 ends_round w = record w { round = None; claim = None; look = None; last_look = None }
 
 abbrev pub RoundsAreForgotten : Type 0
-RoundsAreForgotten = (w : Worker) → w.pass ≡ None → IsAtMost (ends_round w) w
+RoundsAreForgotten = (w : Known) → w.pass ≡ None → IsAtMost (ends_round w) w
 
 -- a worker whose the request isn't, and that doesn't pass the gate, forgets that the epoch is traced
-abbrev pub unaware : Worker → Worker
+abbrev pub unaware : Known → Known
 unaware w = record w { traced_seen = false }
 
 abbrev pub TracedIsForgotten : Type 0
-TracedIsForgotten = (w : Worker) → is_asking w.post ≡ false → w.gate_step ≡ None → IsAtMost (unaware w) w
+TracedIsForgotten = (w : Known) → is_asking w.post ≡ false → w.gate_step ≡ None → IsAtMost (unaware w) w
 
 -- a worker forgets the size that it has read
-abbrev pub without_size : Worker → Worker
+abbrev pub without_size : Known → Known
 without_size w = record w { size_seen = None }
 
 abbrev pub SizesAreForgotten : Type 0
-SizesAreForgotten = (w : Worker) → IsAtMost (without_size w) w
+SizesAreForgotten = (w : Known) → IsAtMost (without_size w) w
 
 -- a scan of which it is not known which record the cursor is in
 abbrev pub of_no_record : Scan → Scan
 of_no_record s = record s { over = None; headed = None; current = None }
 
 abbrev pub ScannedRecordsAreForgotten : Type 0
-ScannedRecordsAreForgotten = (w : Worker) (s : Scan) → w.scan ≡ Some s → IsAtMost (record w { scan = Some (of_no_record s) }) w
+ScannedRecordsAreForgotten = (w : Known) (s : Scan) → w.scan ≡ Some s → IsAtMost (record w { scan = Some (of_no_record s) }) w
 
 -- a round that keeps TRACED alone
 abbrev pub without_front : Round → Round
 without_front r = record r { front = None }
 
 abbrev pub RoundFrontsAreForgotten : Type 0
-RoundFrontsAreForgotten = (w : Worker) (r : Round) → w.round ≡ Some r → IsAtMost (record w { round = Some (without_front r) }) w
+RoundFrontsAreForgotten = (w : Known) (r : Round) → w.round ≡ Some r → IsAtMost (record w { round = Some (without_front r) }) w
 
 -- ---- the laws
 
 -- after a step a worker forgets
 abbrev pub StepsForget : Type 0
-StepsForget = (E : Era) (m : Memory) (team : Team) (g : Ghost) (k : ℕ) (e : Option Entry) (v w : Worker) (h : Ghost)
+StepsForget = (E : Era) (m : Memory) (team : Team) (g : Ghost) (k : ℕ) (e : Option Entry) (v w : Known) (h : Ghost)
     → Steps E m team g k e v h → IsAtMost w v → Steps E m team g k e w h
 
 -- after a step all is ready for the next one, of the same worker
 abbrev pub StepsAreReady : Type 0
-StepsAreReady = (E : Era) (m : Memory) (team : Team) (g : Ghost) (k : ℕ) (e : Option Entry) (v : Worker) (h : Ghost)
+StepsAreReady = (E : Era) (m : Memory) (team : Team) (g : Ghost) (k : ℕ) (e : Option Entry) (v : Known) (h : Ghost)
     → Ready E m team g k → (s : Steps E m team g k e v h) → Ready E s.later (with_worker team k v) h k
 
 -- a step that writes no row follows, and both are one step
 abbrev pub StepsFollow : Type 0
-StepsFollow = (E : Era) (m : Memory) (team : Team) (g : Ghost) (k : ℕ) (e : Option Entry) (v w : Worker) (h i : Ghost)
+StepsFollow = (E : Era) (m : Memory) (team : Team) (g : Ghost) (k : ℕ) (e : Option Entry) (v w : Known) (h i : Ghost)
     → (s : Steps E m team g k e v h) → Steps E s.later (with_worker team k v) h k None w i → Steps E m team g k e w i
 
 -- the same three of steps of the plain machine
 abbrev pub PlainStepsForget : Type 0
-PlainStepsForget = (E : Era) (m : Memory) (team : Team) (g : Ghost) (k : ℕ) (e : Option Entry) (v w : Worker) (h : Ghost) (q : Plain)
+PlainStepsForget = (E : Era) (m : Memory) (team : Team) (g : Ghost) (k : ℕ) (e : Option Entry) (v w : Known) (h : Ghost) (q : Plain)
     → StepsTo E m team g k e v h q → IsAtMost w v → StepsTo E m team g k e w h q
 
 abbrev pub PlainStepsAreReady : Type 0
-PlainStepsAreReady = (E : Era) (m : Memory) (team : Team) (g : Ghost) (k : ℕ) (e : Option Entry) (v : Worker) (h : Ghost) (q : Plain)
+PlainStepsAreReady = (E : Era) (m : Memory) (team : Team) (g : Ghost) (k : ℕ) (e : Option Entry) (v : Known) (h : Ghost) (q : Plain)
     → Ready E m team g k → (s : StepsTo E m team g k e v h q) → Ready E s.later (with_worker team k v) h k
 
 abbrev pub PlainStepsFollow : Type 0
-PlainStepsFollow = (E : Era) (m : Memory) (team : Team) (g : Ghost) (k : ℕ) (e : Option Entry) (v w : Worker) (h i : Ghost) (q : Plain)
+PlainStepsFollow = (E : Era) (m : Memory) (team : Team) (g : Ghost) (k : ℕ) (e : Option Entry) (v w : Known) (h i : Ghost) (q : Plain)
     → (s : StepsTo E m team g k e v h q) → Steps E s.later (with_worker team k v) h k None w i → StepsTo E m team g k e w i q
 
 -- ---- rows that the epoch doesn't see
 
 -- a step that writes no row may write one of which the epoch sees nothing
 abbrev pub StepsWriteBeside : Type 0
-StepsWriteBeside = (E : Era) (m : Memory) (team : Team) (g : Ghost) (k : ℕ) (e : Entry) (w : Worker) (h : Ghost) → IsBeside E e
+StepsWriteBeside = (E : Era) (m : Memory) (team : Team) (g : Ghost) (k : ℕ) (e : Entry) (w : Known) (h : Ghost) → IsBeside E e
     → Steps E m team g k None w h → Steps E m team g k (Some e) w h
 
 -- the same of a step of the plain machine
 abbrev pub PlainStepsWriteBeside : Type 0
-PlainStepsWriteBeside = (E : Era) (m : Memory) (team : Team) (g : Ghost) (k : ℕ) (e : Entry) (w : Worker) (h : Ghost) (q : Plain) → IsBeside E e
+PlainStepsWriteBeside = (E : Era) (m : Memory) (team : Team) (g : Ghost) (k : ℕ) (e : Entry) (w : Known) (h : Ghost) (q : Plain) → IsBeside E e
     → StepsTo E m team g k None w h q → StepsTo E m team g k (Some e) w h q

@@ -7,7 +7,7 @@ use Rattle.heap_state.specs.Memory.Entries.{AnnounceIs}
 use Rattle.heap_state.specs.Memory.Era.{Era, Memory}
 use Rattle.heap_state.specs.Functions.{put}
 use Rattle.heap_state.specs.Invariant.Ghost.{Ghost, Leads}
-use Rattle.heap_state.specs.Worker.{Worker, Team, Register, Quest, Look, is_late}
+use Rattle.heap_state.specs.Known.{Known, Team, Register, Quest, Look, is_late}
 use Rattle.heap_laws.specs.Composing.{ends_round}
 use Rattle.heap_laws.specs.Flipping.Registers.{HasFoundCopy}
 use Rattle.heap_laws.specs.Scanning.Claims.{MayClaim, claiming, claim_by_word}
@@ -29,7 +29,7 @@ abbrev pub LeadNowhere : Era → (registers : ℕ → ℕ) → (from to : ℕ) �
 LeadNowhere E registers from to = (r : ℕ) → from ≤ r → r < to → ¬ (Leads E (registers r))
 
 -- the worker has come to register j, and asks for this
-abbrev pub come_to : Worker → ℕ → Option Quest → Worker
+abbrev pub come_to : Known → ℕ → Option Quest → Known
 come_to w j q = record w { done = j; quest = q }
 
 -- a late worker that asks for nothing passes its next registers, and asks for the copy of what the first pointer leads to
@@ -39,7 +39,7 @@ RegistersArePassed = (E : Era) (m : Memory) (team : Team) (g : Ghost) (k j : ℕ
     → Steps E m team g k None (come_to (team.worker k) j q) g
 
 -- the worker whose register got the pointer v to a copy, and that has come to register j
-abbrev pub forwarded_to : Worker → (v j : ℕ) → Option Quest → Worker
+abbrev pub forwarded_to : Known → (v j : ℕ) → Option Quest → Known
 forwarded_to w v j q = record w { registers = put w.registers w.done v; done = j; quest = q }
 
 -- a register's copy is found where its old record's header was loaded: the register gets the pointer, and the next ones are passed

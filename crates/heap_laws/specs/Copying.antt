@@ -9,12 +9,12 @@ use Rattle.space_map.specs.Spaces.{to_space, page_of, first_word}
 use Rattle.heap_state.specs.Memory.Era.{Era, Memory}
 use Rattle.heap_state.specs.Functions.{put}
 use Rattle.heap_state.specs.Invariant.Ghost.{Ghost}
-use Rattle.heap_state.specs.Worker.{Worker, Team, Linking, Quest, Copy}
+use Rattle.heap_state.specs.Known.{Known, Team, Linking, Quest, Copy}
 use Rattle.heap_state.specs.Memory.Entries.{WordIs, AreaIs, WeakIs, CrossIs, AnnounceIs}
 use Rattle.heap_laws.specs.Steps.{Ready, Steps, IsAreaNow}
 
 -- the worker with this copy in progress
-abbrev pub copying : Worker → Copy → Worker
+abbrev pub copying : Known → Copy → Known
 copying w c = record w { copy = Some c }
 
 -- ---- the header
@@ -133,7 +133,7 @@ abbrev pub LinksCopy : Copy → Option Linking → Type 0
 LinksCopy c l = (KeepsCell c × (l ≡ Some (record { cell = c.to; read = None; stored = false }))) ⊎ (¬ (KeepsCell c) × (l ≡ None))
 
 -- the worker that has published a copy, and found with it what it was asked for
-abbrev pub has_published : Worker → Copy → Quest → Option Linking → Worker
+abbrev pub has_published : Known → Copy → Quest → Option Linking → Known
 has_published w c q l = record w { copy = None; quest = Some (record q { found = Some c.to }); linking = l }
 
 -- Of a whole copy, with the crossings of all pages that begin in it, the forward is stored at the old place. The worker has
@@ -147,7 +147,7 @@ CopiesArePublished = (E : Era) (m : Memory) (team : Team) (g : Ghost) (k : ℕ) 
 -- ---- the chain of copied cells
 
 -- the worker with this cell to link, or with none
-abbrev pub with_linking : Worker → Option Linking → Worker
+abbrev pub with_linking : Known → Option Linking → Known
 with_linking w l = record w { linking = l }
 
 -- WEAK is loaded, by a worker that has a cell to link

@@ -7,7 +7,7 @@ use Rattle.space_map.specs.GateWord.{GateFits}
 use Rattle.heap_state.specs.Memory.Era.{Era, Memory}
 use Rattle.heap_state.specs.Invariant.Ghost.{Ghost}
 use Rattle.heap_state.specs.Invariant.Inductive.{Invariant}
-use Rattle.heap_state.specs.Worker.{Worker, Team, Scanner, Running, Stopped, Flipping, Snapping, Gone, Passage, Enter, Park, Request, RequestSnap, Clear, Forwarded, Resume, Leave, GateStep, is_running}
+use Rattle.heap_state.specs.Known.{Known, Team, Scanner, Running, Stopped, Flipping, Snapping, Gone, Passage, Enter, Park, Request, RequestSnap, Clear, Forwarded, Resume, Leave, GateStep, is_running}
 use Rattle.heap_state.specs.Memory.Entries.{GateIs}
 use Rattle.heap_state.specs.Invariant.Parts.Knowledge.{Passes}
 use Rattle.heap_laws.specs.Steps.{Ready, Steps}
@@ -24,15 +24,15 @@ gate_after Resume gate = record gate { running = gate.running + 1 }
 gate_after Leave gate = record gate { live = gate.live - 1; running = gate.running - 1; left = gate.left + 1 }
 
 -- the worker that comes into an epoch: what it had claimed and read in an older one is of no use
-abbrev pub into_epoch : Worker → ℕ → Worker
+abbrev pub into_epoch : Known → ℕ → Known
 into_epoch w epoch = record w { epoch = epoch; done = 0; stock = None; round = None; claim = None; look = None; last_look = None; gate_step = None }
 
 -- the worker that runs no more: it knows of no page any more that it is open, and of no size
-abbrev pub out_of_run : Worker → Worker
+abbrev pub out_of_run : Known → Known
 out_of_run w = record w { access = None; opened = None; size_seen = None; gate_step = None }
 
 -- the worker after a passage, in an epoch
-abbrev pub worker_after : ℕ → Passage → Worker → Worker
+abbrev pub worker_after : ℕ → Passage → Known → Known
 worker_after epoch Enter w = record (into_epoch w epoch) { post = Running }
 worker_after epoch Park w = record (out_of_run w) { post = Stopped; traced_seen = false }
 worker_after epoch (Request asked) w = record (out_of_run w) { post = Flipping asked }

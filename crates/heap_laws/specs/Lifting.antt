@@ -10,7 +10,7 @@ use Rattle.heap_state.specs.Memory.Entries.{whole_place_of, Entry, row_of, word_
 use Rattle.heap_state.specs.Invariant.Ghost.{Ghost}
 use Rattle.heap_state.specs.Memory.Era.{from_space}
 use Rattle.heap_state.specs.Memory.Table.{Table}
-use Rattle.heap_state.specs.Worker.{Worker, Reset}
+use Rattle.heap_state.specs.Known.{Known, Reset}
 use Rattle.heap_laws.specs.Steps.{Ready, Steps, StepsTo}
 use Rattle.heap_laws.specs.Flipping.Flip.{Flips, flipped_gate, after_flip, next_ghost}
 use Rattle.heap_laws.specs.Flipping.Sizes.{after_size}
@@ -33,7 +33,7 @@ RowFits n None = ⊤
 RowFits n (Some e) = EntryFits n e
 
 -- a row is written, or none, and worker k becomes another
-abbrev pub configuration_after : Configuration → Option Entry → ℕ → Worker → Configuration
+abbrev pub configuration_after : Configuration → Option Entry → ℕ → Known → Configuration
 configuration_after c e k w = record c { words = words_after_row c.pages c.words e; workers = slice_set c.workers k w }
 
 -- ---- the lifting
@@ -50,7 +50,7 @@ pub record StandsWith (c : Configuration) (p : Plain) (g : Ghost) : Type 0 where
 
 -- The step of worker k leaves a configuration that stands for the plain state q. The row that it writes is one of the table, what
 -- a cycle kept of the earlier configuration it keeps of this, no page word's epoch fell, and the gate's epoch is as it was.
-pub record LeavesConfiguration (c : Configuration) (e : Option Entry) (k : ℕ) (w : Worker) (q : Plain) (g h : Ghost) : Type 0 where
+pub record LeavesConfiguration (c : Configuration) (e : Option Entry) (k : ℕ) (w : Known) (q : Plain) (g h : Ghost) : Type 0 where
   pub fits : RowFits c.pages e
   pub standing : StandsWith (configuration_after c e k w) q h
   pub cycle : (o : Plain) → Cycle (era c) (memory c) (team c) g o → Cycle (era (configuration_after c e k w)) (memory (configuration_after c e k w)) (team (configuration_after c e k w)) h o
@@ -59,12 +59,12 @@ pub record LeavesConfiguration (c : Configuration) (e : Option Entry) (k : ℕ) 
 
 -- what a law says of a step is so of each configuration that stands
 abbrev pub StepsAreLifted : Type 0
-StepsAreLifted = (c : Configuration) (p : Plain) (s : Stands c p) (e : Option Entry) (k : ℕ) (w : Worker) (h : Ghost) → k < length c.workers
+StepsAreLifted = (c : Configuration) (p : Plain) (s : Stands c p) (e : Option Entry) (k : ℕ) (w : Known) (h : Ghost) → k < length c.workers
     → Steps (era c) (memory c) (team c) s.ghost k e w h → LeavesConfiguration c e k w p s.ghost h
 
 -- the same of a step of the plain machine
 abbrev pub PlainStepsAreLifted : Type 0
-PlainStepsAreLifted = (c : Configuration) (p q : Plain) (s : Stands c p) (e : Option Entry) (k : ℕ) (w : Worker) (h : Ghost) → k < length c.workers
+PlainStepsAreLifted = (c : Configuration) (p q : Plain) (s : Stands c p) (e : Option Entry) (k : ℕ) (w : Known) (h : Ghost) → k < length c.workers
     → StepsTo (era c) (memory c) (team c) s.ghost k e w h q → LeavesConfiguration c e k w q s.ghost h
 
 -- The store of the other space's size leaves a configuration that stands for the same plain state.
@@ -75,7 +75,7 @@ SizesAreLifted = (c : Configuration) (p : Plain) (s : Stands c p) (k : ℕ) (r :
 
 -- The flip leaves a configuration that stands for the same plain state, of which a cycle begins. The gate's word fits and says
 -- the next epoch, and no page word changed.
-pub record Flipped (c : Configuration) (gate : GateWord) (k : ℕ) (w : Worker) (p : Plain) (h : Ghost) : Type 0 where
+pub record Flipped (c : Configuration) (gate : GateWord) (k : ℕ) (w : Known) (p : Plain) (h : Ghost) : Type 0 where
   pub fits : GateFits gate
   pub standing : StandsWith (configuration_after c (Some (GateIs gate)) k w) p h
   pub begins : Cycle (era (configuration_after c (Some (GateIs gate)) k w)) (memory (configuration_after c (Some (GateIs gate)) k w)) (team (configuration_after c (Some (GateIs gate)) k w)) h p

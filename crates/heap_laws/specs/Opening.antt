@@ -7,7 +7,7 @@ use Rattle.space_map.specs.declared.page_word.PageWord.TheVariants.{Open}
 use Rattle.heap_state.specs.Configuration.{Configuration, Stands, era, memory, team}
 use Rattle.heap_state.specs.Cycles.Cycle.{Cycle}
 use Rattle.heap_state.specs.Memory.Entries.{Entry, TracedIs, AreaIs, WeakTurnIs, SizeIs, PageIs, written}
-use Rattle.heap_state.specs.Worker.{Worker, Outside, Scanner, fresh}
+use Rattle.heap_state.specs.Known.{Known, Outside, Scanner, fresh}
 use Rattle.heap_laws.specs.Flipping.Reset.{whole_area}
 use Rattle.space_map.specs.declared.spaces.TheConstants.{PAGE_WORDS, MOST_MUTATORS, MOST_SCANNERS}
 
@@ -29,7 +29,7 @@ opening_entries n least =
 -- ---- the workers
 
 -- mutators that have not entered, then scanners
-abbrev pub opening_workers : (mutators scanners : ℕ) → List Worker
+abbrev pub opening_workers : (mutators scanners : ℕ) → List Known
 opening_workers mutators scanners = replicate mutators (fresh Outside) ++ replicate scanners (fresh Scanner)
 
 abbrev pub opening_configuration : (n least mutators scanners : ℕ) → Configuration

@@ -10,14 +10,14 @@ use Rattle.space_map.specs.PageWord.{PageFits, age_of}
 use Rattle.space_map.specs.SaveWord.{SaveFits}
 use Rattle.space_map.specs.Spaces.{to_space, page_of}
 use Rattle.heap_state.specs.Cycles.Cycle.{Cycle}
-use Rattle.heap_state.specs.Memory.Entries.{Entry, GateIs, TracedIs, AreaIs, WeakIs, WeakTurnIs, PageIs, CrossIs, WordIs, AnnounceIs, SnapIs, DoneIs, SaveIs, ImageIs}
+use Rattle.heap_state.specs.Memory.Entries.{Entry, GateIs, TracedIs, AreaIs, WeakIs, WeakTurnIs, PageIs, CrossIs, WordIs, AnnounceIs, SnapIs, LastSavedIs, SaveIs, ImageIs}
 use Rattle.heap_state.specs.Memory.Era.{Era, Memory, IsLaidOut, from_space}
 use Rattle.heap_state.specs.Functions.{put}
 use Rattle.heap_state.specs.Invariant.Ghost.{Ghost}
 use Rattle.heap_state.specs.Invariant.Inductive.{Invariant, Knows}
 use Rattle.heap_state.specs.Meaning.Values.{Shown}
 use Rattle.heap_state.specs.Cells.{KnowsCopy}
-use Rattle.heap_state.specs.Worker.{Worker, Team, is_cleared}
+use Rattle.heap_state.specs.Known.{Known, Team, is_cleared}
 use Rattle.space_map.specs.declared.spaces.TheConstants.{PAGE_WORDS, MOST_MUTATORS, MOST_SCANNERS}
 
 -- The invariant holds, the gate is of the epoch, and worker k is one of the team. This is the first premise of each law.
@@ -37,7 +37,7 @@ pub record IsAreaNow (E : Era) (m : Memory) (area : AreaWord) : Type 0 where
 -- ---- what changes
 
 -- worker k becomes another
-abbrev pub with_worker : Team → ℕ → Worker → Team
+abbrev pub with_worker : Team → ℕ → Known → Team
 with_worker team k w = record team { worker = put team.worker k w }
 
 -- the gate is stored
@@ -83,7 +83,7 @@ with_announced m worker place = record m { announced = put m.announced worker pl
 -- the row is one of checkpoints, of which the epoch sees nothing, and what is written fits its word
 abbrev pub IsBeside : Era → Entry → Type 0
 IsBeside E (SnapIs number) = ⊤
-IsBeside E (DoneIs number) = ⊤
+IsBeside E (LastSavedIs number) = ⊤
 IsBeside E (SaveIs page word) = (page ≤ page_of E.board) × SaveFits word
 IsBeside E (ImageIs addr word) = addr < E.board + PAGE_WORDS
 IsBeside E _ = ⊥
@@ -114,7 +114,7 @@ pub record Preserves (E : Era) (m later : Memory) (team after : Team) (g h : Gho
 
 -- Worker k becomes w, and what the proofs know beside the words becomes h: a row of the table is written, or none, and all is
 -- kept. This is what a law says of a step that is none of the plain machine.
-pub record Steps (E : Era) (m : Memory) (team : Team) (g : Ghost) (k : ℕ) (e : Option Entry) (w : Worker) (h : Ghost) : Type 0 where
+pub record Steps (E : Era) (m : Memory) (team : Team) (g : Ghost) (k : ℕ) (e : Option Entry) (w : Known) (h : Ghost) : Type 0 where
   pub later : Memory
   pub writes : WritesRow E m e later
   pub keeps : Preserves E m later team (with_worker team k w) g h
@@ -128,7 +128,7 @@ pub record Makes (E : Era) (m later : Memory) (team after : Team) (g h : Ghost) 
   pub ages : (page : ℕ) → age_of (m.page page) ≤ age_of (later.page page)
 
 -- the same of such a step: after it the plain state is q
-pub record StepsTo (E : Era) (m : Memory) (team : Team) (g : Ghost) (k : ℕ) (e : Option Entry) (w : Worker) (h : Ghost) (q : Plain) : Type 0 where
+pub record StepsTo (E : Era) (m : Memory) (team : Team) (g : Ghost) (k : ℕ) (e : Option Entry) (w : Known) (h : Ghost) (q : Plain) : Type 0 where
   pub later : Memory
   pub writes : WritesRow E m e later
   pub makes : Makes E m later team (with_worker team k w) g h q
@@ -137,7 +137,7 @@ pub record StepsTo (E : Era) (m : Memory) (team : Team) (g : Ghost) (k : ℕ) (e
 
 -- Worker w has the cell to link and the walk over the chain that u has. If it has a cell to link, it has still found the copy that it
 -- asks for; if it walks, it knows the same of its second look. It hasn't stored WEAK for a flip since.
-pub record SameInChain (w u : Worker) : Type 0 where
+pub record SameInChain (w u : Known) : Type 0 where
   pub linking : w.linking ≡ u.linking
   pub pass : w.pass ≡ u.pass
   pub asked : is_some u.linking ≡ true → KnowsCopy u → KnowsCopy w
@@ -146,7 +146,7 @@ pub record SameInChain (w u : Worker) : Type 0 where
 
 -- The worker w has the post, epoch, account, registers, stock and scan of u, and its part in the chain of copied cells. These are what
 -- others read of a worker.
-pub record Alike (w u : Worker) : Type 0 where
+pub record Alike (w u : Known) : Type 0 where
   pub post : w.post ≡ u.post
   pub epoch : w.epoch ≡ u.epoch
   pub account : w.account ≡ u.account
@@ -158,7 +158,7 @@ pub record Alike (w u : Worker) : Type 0 where
 
 -- a step that changes what worker k knows, and nothing else: a load
 abbrev pub KnowledgeChangesAlone : Type 0
-KnowledgeChangesAlone = (E : Era) (m : Memory) (team : Team) (g : Ghost) (k : ℕ) (w : Worker) → Ready E m team g k → Alike w (team.worker k)
+KnowledgeChangesAlone = (E : Era) (m : Memory) (team : Team) (g : Ghost) (k : ℕ) (w : Known) → Ready E m team g k → Alike w (team.worker k)
     → Knows E m.gate m.traced m.front m.low m.old_front m.old_low m.old_owed g m.page m.cross m.announced m.heap k w
     → Steps E m team g k None w g
 

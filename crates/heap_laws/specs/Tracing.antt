@@ -14,7 +14,7 @@ use Rattle.heap_state.specs.Cycles.Cycle.{Cycle}
 use Rattle.heap_state.specs.Memory.Era.{Era, Memory, IsLaidOut}
 use Rattle.heap_state.specs.Invariant.Ghost.{Ghost, Here, Leads}
 use Rattle.heap_state.specs.Invariant.Inductive.{Invariant}
-use Rattle.heap_state.specs.Worker.{Worker, Team, Copy, Scan, Round, Claim, Look, LastLook, Begins, Done, is_mutator}
+use Rattle.heap_state.specs.Known.{Known, Team, Copy, Scan, Round, Claim, Look, LastLook, Begins, Done, is_mutator}
 use Rattle.heap_state.specs.Memory.Entries.{TracedIs, WeakTurnIs}
 use Rattle.heap_state.specs.Meaning.Values.{Shown, value_of}
 use Rattle.heap_state.specs.Targets.{IsCell, IsCopied}
@@ -25,7 +25,7 @@ use Rattle.space_map.specs.declared.spaces.TheConstants.{PAGE_WORDS}
 -- ---- a round
 
 -- the worker in this round
-abbrev pub in_round : Worker → Round → Worker
+abbrev pub in_round : Known → Round → Known
 in_round w r = record w { round = Some r }
 
 -- TRACED is read, and isn't the one that says that the worker's epoch is traced
@@ -34,7 +34,7 @@ ReadingTracedKeeps = (E : Era) (m : Memory) (team : Team) (g : Ghost) (k : ℕ) 
     → Steps E m team g k None (in_round (team.worker k) (record { traced = m.traced; front = None })) g
 
 -- f is FRONT as the area of the worker's own epoch has it: a worker of a past epoch reads the area of another space
-pub record IsFrontFor (E : Era) (m : Memory) (w : Worker) (f : ℕ) : Type 0 where
+pub record IsFrontFor (E : Era) (m : Memory) (w : Known) (f : ℕ) : Type 0 where
   pub now : w.epoch ≡ E.epoch → f ≡ m.front
   pub before : w.epoch + 1 ≡ E.epoch → f ≡ m.old_front
 
@@ -46,7 +46,7 @@ ReadingRoundFrontKeeps = (E : Era) (m : Memory) (team : Team) (g : Ghost) (k : �
 -- ---- the first look
 
 -- the worker at this look
-abbrev pub looking : Worker → Look → Worker
+abbrev pub looking : Known → Look → Known
 looking w l = record w { look = Some l }
 
 -- worker k is at this look
@@ -96,7 +96,7 @@ pub record LooksAgain (E : Era) (m : Memory) (team : Team) (k : ℕ) (l : Look) 
   pub full : (l.front < first_word l.upto + PAGE_WORDS) ⊎ (l.front < l.start + PAGE_WORDS)
 
 -- the worker that may exchange TRACED
-abbrev pub about_to_trace : Worker → Look → Worker
+abbrev pub about_to_trace : Known → Look → Known
 about_to_trace w l = record w { look = None; last_look = Some (record { traced = l.traced }) }
 
 abbrev pub LookingAgainKeeps : Type 0
@@ -107,7 +107,7 @@ LookingAgainKeeps = (E : Era) (m : Memory) (team : Team) (g : Ghost) (k : ℕ) (
 abbrev pub filling_claim : ℕ → PageWord → Claim
 filling_claim p old = record { page = p; old = old; in_place = true; looked = 0; sure = true }
 
-abbrev pub about_to_fill : Worker → ℕ → PageWord → Worker
+abbrev pub about_to_fill : Known → ℕ → PageWord → Known
 about_to_fill w p old = record w { look = None; claim = Some (filling_claim p old) }
 
 abbrev pub ClaimingFillingPageKeeps : Type 0
@@ -118,7 +118,7 @@ ClaimingFillingPageKeeps = (E : Era) (m : Memory) (team : Team) (g : Ghost) (k :
 -- ---- the turn is taken
 
 -- the worker that has the turn: its walk over the chain of copied cells begins
-abbrev pub has_turn : Worker → Worker
+abbrev pub has_turn : Known → Known
 has_turn w = record w { pass = Some Begins }
 
 -- The exchange of WEAKTURN is won, from a word below the one that says that the turn of the worker's epoch is taken. The TRACED that the
@@ -136,7 +136,7 @@ pub record WinsTraced (m : Memory) (team : Team) (k : ℕ) (l : LastLook) : Type
   pub unchanged : m.traced ≡ l.traced
   pub walked : (team.worker k).pass ≡ Some Done
 
-abbrev pub has_traced : Worker → Worker
+abbrev pub has_traced : Known → Known
 has_traced w = record w { last_look = None; pass = None }
 
 -- The plain state q is p, but that cells may be empty. Each target in the epoch's space denotes the value of its cell in q.

@@ -6,12 +6,12 @@ use Rattle.heap_words.specs.Decoded.{NumberWord, PointerWord, HeaderWord, Forwar
 use Rattle.heap_state.specs.Memory.Entries.{WordIs}
 use Rattle.heap_state.specs.Memory.Era.{Era, Memory}
 use Rattle.heap_state.specs.Invariant.Ghost.{Ghost, Leads}
-use Rattle.heap_state.specs.Worker.{Worker, Team, Visit, Pass, Begins, At}
+use Rattle.heap_state.specs.Known.{Known, Team, Visit, Pass, Begins, At}
 use Rattle.heap_laws.specs.Cells.Walks.{ComesTo, passed, replacing}
 use Rattle.heap_laws.specs.Steps.{Ready, Steps}
 
 -- the worker whose walk is this
-abbrev pub walking : Worker → Pass → Worker
+abbrev pub walking : Known → Pass → Known
 walking w q = record w { pass = Some q }
 
 -- worker k has come to this cell, and hasn't done with its target

@@ -1,2 +1,2 @@
-pub mod Parts
-pub mod Standing
+pub mod FlippedInvariant
+pub mod FlippedStands

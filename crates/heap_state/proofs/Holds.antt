@@ -1,3 +1,3 @@
 pub mod Still
-pub mod Cells
+pub mod CellsHold
 pub mod Keeping

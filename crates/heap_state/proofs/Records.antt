@@ -1,4 +1,4 @@
-pub mod Headers
+pub mod KindsOfHeaders
 pub mod Layouts
 pub mod FieldSpans
 pub mod Holding

@@ -2,7 +2,7 @@ pub mod Denoting
 pub mod Owning
 pub mod Emptying
 pub mod Ordered
-pub mod Places
+pub mod ShownPlaces
 pub mod Representing
 pub mod Dropping
 pub mod Dropped

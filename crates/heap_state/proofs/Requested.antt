@@ -1,2 +1,2 @@
-pub mod Parts
-pub mod Standing
+pub mod RequestedInvariant
+pub mod RequestedStands

@@ -1,5 +1,5 @@
-pub mod Words
-pub mod Standing
+pub mod CheckpointWords
+pub mod SavingStands
 pub mod Picture
 pub mod Out
 pub mod Broken

@@ -1,7 +1,7 @@
-pub mod Places
+pub mod StoredRows
 pub mod Stores
 pub mod Spelled
 pub mod LaidOut
 pub mod Seen
-pub mod Saves
+pub mod CheckpointRows
 pub mod Writing

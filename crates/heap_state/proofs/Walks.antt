@@ -3,6 +3,6 @@ pub mod SpaceWalks
 pub mod Spaces
 pub mod Reserving
 pub mod InHeap
-pub mod Copies
+pub mod WalksBelowFront
 pub mod CopiedIdentities
 pub mod WalkPlaces

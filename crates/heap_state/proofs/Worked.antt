@@ -1,8 +1,8 @@
 pub mod Ghost
-pub mod Records
-pub mod Pages
+pub mod WorkedRecords
+pub mod WorkedPages
 pub mod Spaces
-pub mod Workers
-pub mod Standing
+pub mod WorkedWorkers
+pub mod WorkedStands
 pub mod Broken
 pub mod Out

@@ -5,7 +5,7 @@ use Rattle.plain_state.specs.declared.kind.Kind.TheVariants.{Weak}
 use Rattle.heap_words.specs.Decoded.{NumberWord, PointerWord, decode}
 use Rattle.heap_state.specs.Memory.Era.{Era, Memory}
 use Rattle.heap_state.specs.Invariant.Ghost.{Ghost, Leads}
-use Rattle.heap_state.specs.Worker.{Worker, Team, Quest, Scan, LastLook, Linking, Visit, Pass, Begins, At, Done, cell_to_link, is_late, is_cleared}
+use Rattle.heap_state.specs.Known.{Known, Team, Quest, Scan, LastLook, Linking, Visit, Pass, Begins, At, Done, cell_to_link, is_late, is_cleared}
 
 -- ---- the chain
 
@@ -39,15 +39,15 @@ pub record Linked (E : Era) (m : Memory) (weak : ℕ) (g : Ghost) (r : Ranks) : 
 -- ---- who links
 
 -- the worker copies, or may: it scans a page or is late
-abbrev pub MayCopy : Era → Worker → Type 0
+abbrev pub MayCopy : Era → Known → Type 0
 MayCopy E w = ((s : Scan) × (w.scan ≡ Some s)) ⊎ (is_late E.epoch w ≡ true)
 
 -- the worker asks for a copy, and has found it
-abbrev pub KnowsCopy : Worker → Type 0
+abbrev pub KnowsCopy : Known → Type 0
 KnowsCopy w = (q : Quest) × (w.quest ≡ Some q) × (is_some q.found ≡ true)
 
 -- a copied cell waits for its copier, who has asked for it, and knows which word the cell's link has
-pub record Links (E : Era) (m : Memory) (g : Ghost) (r : Ranks) (w : Worker) (l : Linking) : Type 0 where
+pub record Links (E : Era) (m : Memory) (g : Ghost) (r : Ranks) (w : Known) (l : Linking) : Type 0 where
   pub copying : m.traced ≤ E.epoch
   pub cell : IsCopiedCell E m.front g l.cell
   pub unlinked : r.rank l.cell ≡ 0
@@ -87,7 +87,7 @@ pub record Visits (E : Era) (m : Memory) (g : Ghost) (r : Ranks) (v : Visit) : T
 
 -- The walker is of this epoch, which isn't traced, and has the turn. TRACED is as it was at its second look. No target that it has
 -- passed leads into the old space.
-pub record Passing (E : Era) (m : Memory) (turn : ℕ) (g : Ghost) (r : Ranks) (w : Worker) (q : Pass) : Type 0 where
+pub record Passing (E : Era) (m : Memory) (turn : ℕ) (g : Ghost) (r : Ranks) (w : Known) (q : Pass) : Type 0 where
   pub now : (w.epoch ≡ E.epoch) × (m.traced ≤ E.epoch) × (turn ≡ E.epoch + 1)
   pub look : (l : LastLook) × (w.last_look ≡ Some l) × (l.traced ≡ m.traced)
   pub at : (v : Visit) → q ≡ At v → Visits E m g r v

@@ -7,7 +7,7 @@ use Rattle.heap_state.specs.Invariant.Ghost.{Ghost}
 use Rattle.heap_state.specs.Invariant.Inductive.{Invariant}
 use Rattle.heap_state.specs.Memory.Table.{Table, table_of, IsFormed}
 use Rattle.heap_state.specs.Meaning.Values.{Shown}
-use Rattle.heap_state.specs.Worker.{Worker, Team, Scanner, fresh}
+use Rattle.heap_state.specs.Known.{Known, Team, Scanner, fresh}
 
 -- the pages of a space, the words of the table, the number of mutators, and all workers: the mutators first, then the
 -- scanners
@@ -15,7 +15,7 @@ pub record Configuration : Type 0 where
   pub pages : ℕ
   pub words : List ℕ
   pub mutators : ℕ
-  pub workers : List Worker
+  pub workers : List Known
 
 abbrev pub table : Configuration → Table
 table c = table_of c.pages c.words
@@ -27,7 +27,7 @@ abbrev pub memory : Configuration → Memory
 memory c = memory_of (table c)
 
 -- the workers by their numbers
-abbrev pub team_of : ℕ → List Worker → Team
+abbrev pub team_of : ℕ → List Known → Team
 team_of mutators workers = record { mutators = mutators; count = length workers; worker = λ k. slice_index_or workers k (fresh Scanner) }
 
 abbrev pub team : Configuration → Team

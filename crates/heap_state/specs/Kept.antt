@@ -2,7 +2,7 @@
 -- reserved for the copy.
 use Rattle.std.specs.Prelude.{ℕ, ◌+◌, ◌<◌, ◌≤◌, ◌≡◌, ◌==◌, List, [], ◌∷◌, Option, Some, None, map, slice_index_or, if◌then◌else◌}
 use Rattle.heap_words.specs.Decoded.{Decoded, HeaderWord, decode}
-use Rattle.heap_state.specs.Worker.{Worker, Copy}
+use Rattle.heap_state.specs.Known.{Known, Copy}
 
 -- the header, and the reserved place and one more; each is 0 where there is none
 pub record Kept : Type 0 where
@@ -18,8 +18,8 @@ kept_by None = nothing_kept
 kept_by (Some c) = record { header = c.header; place = if c.reserved then c.to + 1 else 0 }
 
 -- what each of these workers keeps
-abbrev pub kept_of : List Worker → List Kept
-kept_of workers = map (λ (w : Worker). kept_by w.copy) workers
+abbrev pub kept_of : List Known → List Kept
+kept_of workers = map (λ (w : Known). kept_by w.copy) workers
 
 -- what the worker at a number keeps
 abbrev pub kept_at : List Kept → ℕ → Kept

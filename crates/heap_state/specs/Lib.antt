@@ -1,6 +1,6 @@
 pub mod Functions
 pub mod Memory
-pub mod Worker
+pub mod Known
 pub mod Invariant
 pub mod Meaning
 pub mod Configuration

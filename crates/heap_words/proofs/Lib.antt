@@ -3,5 +3,5 @@ pub mod KindCodes
 pub mod Decoding
 pub mod Spelling
 pub mod Ranges
-pub mod Reading
+pub mod TaggedWords
 pub mod Forwards

@@ -1,6 +1,6 @@
 pub mod Cost
-pub mod Traced
-pub mod Pages
+pub mod TracedEpochs
+pub mod EpochPages
 pub mod Growths
-pub mod Saves
+pub mod CheckpointDebt
 pub mod SavedPages

@@ -1,6 +1,6 @@
 pub mod MostSteps
-pub mod Counts
-pub mod Opening
+pub mod ExecutedCounts
+pub mod LoneOpening
 pub mod Tasks
 pub mod Progress
-pub mod Ends
+pub mod LoneRunEnds

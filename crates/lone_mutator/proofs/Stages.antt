@@ -6,6 +6,6 @@ pub mod Access
 pub mod Gate
 pub mod Recalls
 pub mod Snaps
-pub mod Saves
+pub mod SaveCosts
 pub mod Guards
 pub mod Checkpoints

@@ -1,7 +1,7 @@
-pub mod Rows
+pub mod TableSteps
 pub mod Owed
-pub mod GoingOn
+pub mod ResumedCosts
 pub mod GoingBack
 pub mod Heaps
 pub mod Law
-pub mod Sizes
+pub mod EpochSize

@@ -5,11 +5,11 @@
 //! faults (TRAP), and the collector reaches protected words by a second mapping (MAP2).
 #![tactic(auto)]
 
-mod access;
 mod page_words;
+mod primitives;
 mod protection;
 
-pub use access::Access;
 pub use page_words::{pack, read};
-pub use protection::{check, protect_all, second_map, unprotect};
+pub use primitives::{check, protect_all, second_map, unprotect};
+pub use protection::Protection;
 pub use space_map::PageWord;

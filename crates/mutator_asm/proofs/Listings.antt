@@ -4,7 +4,7 @@ pub mod Tokens
 pub mod RereadTokens
 pub mod RereadLines
 pub mod Labels
-pub mod Rows
+pub mod ErrorRows
 pub mod Clean
 pub mod Code
 pub mod TextOfProgram

@@ -32,8 +32,8 @@ use Rattle.page_saves.specs.SaveState.{state_of}
 use Rattle.page_saves.specs.SoundRound.{IsRoundPage}
 use Rattle.space_map.specs.WholeTable.{Within, Behind}
 use Rattle.page_saves.proofs.Guarding.{kept_is}
-use Rattle.page_saves.proofs.Pages.{IsOrNot, Board, Other, board_or_not}
-use Rattle.page_saves.proofs.Reading.{now, later, then_at}
+use Rattle.page_saves.proofs.PageOrder.{IsOrNot, Board, Other, board_or_not}
+use Rattle.page_saves.proofs.SaveRoundReads.{now, later, then_at}
 use Rattle.page_saves.proofs.RoundEnds.{says_state}
 
 -- ---- the pages that are passed

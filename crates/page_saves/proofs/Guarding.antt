@@ -26,7 +26,7 @@ use Rattle.page_saves.specs.SaveState.{IsKept, state_of, state_within}
 use Rattle.page_saves.specs.SoundGuard.{IsSoundGuard}
 use Rattle.page_saves.specs.Theorems.{FindsKept, WasKept, SavedIt}
 use Rattle.space_map.specs.WholeTable.{Behind, HoldsWhole, whole_word}
-use Rattle.page_saves.proofs.Saving as saving
+use Rattle.page_saves.proofs.SaveEffects as saving
 
 -- ---- what is said of a page
 

@@ -11,7 +11,7 @@ use Rattle.space_map.specs.declared.save_word.SaveWord.TheVariants as save_word
 use Rattle.space_map.specs.Table.{SaveOf}
 use Rattle.space_map.specs.WholeTable.{Behind}
 use Rattle.page_saves.proofs.Finding.{FoundAt, FoundBy, FoundBusy, as_page, holds, later_busy, said_now}
-use Rattle.page_saves.proofs.Rounds.{shows_nothing}
+use Rattle.page_saves.proofs.SaveRoundEffects.{shows_nothing}
 
 module _ (begun : SavingRound) (met : ℕ → List ℕ) where
   -- the word that the round has kept

@@ -39,7 +39,7 @@ use Rattle.page_saves.specs.SaveState.{state_of, state_within}
 use Rattle.page_saves.specs.SoundGuard.{IsSoundGuard, FitsGuardStage}
 use Rattle.page_saves.specs.SoundRound.{IsSoundSaveRound, IsRoundPage, FitsSaveRoundStage}
 use Rattle.page_saves.specs.SoundSave.{IsSoundSave, IsOwnSave, IsSaveGoing, FitsSaveStage}
-use Rattle.page_saves.proofs.Pages.{to_page-le, IsOrNot, Board, Other, board_or_not}
+use Rattle.page_saves.proofs.PageOrder.{to_page-le, IsOrNot, Board, Other, board_or_not}
 
 -- ---- the save
 

@@ -12,7 +12,7 @@ use Rattle.space_map.specs.GateWord.{decode_gate}
 use Rattle.space_map.specs.PageWord.{encode_page}
 use Rattle.space_map.specs.SaveWord.{decode_save, number_of}
 use Rattle.space_map.specs.Spaces.{Layout}
-use Rattle.space_map.specs.Table.{Gate, SnapNumber, DoneNumber, Page, SaveOf}
+use Rattle.space_map.specs.Table.{Gate, SnapNumber, LastSaved, Page, SaveOf}
 use Rattle.page_saves.specs.declared.save_caller.SaveCaller.{SaveCaller}
 use Rattle.page_saves.specs.declared.save_caller.SaveCaller.TheVariants.{Mutates, Scans}
 use Rattle.page_saves.specs.declared.save_round_end.SaveRoundEnd.TheVariants.{NoneRuns, Saved, Marked, NothingNow}
@@ -47,9 +47,9 @@ SavedPagesAreOwn = (r : SavingRound) (before after : List ℕ) → IsSoundSaveRo
 -- the checkpoint before this one was the last that was done, and then this one is; no other word changes
 pub record MarksDone (r : SavingRound) (before after : List ℕ) : Type 0 where
   pub last : r.stage ≡ ExchangesDone
-  pub was : word_of_row r (Within DoneNumber) before ≡ r.number - 1
-  pub is : word_of_row r (Within DoneNumber) after ≡ r.number
-  pub others : ChangesWholeOnly r.layout.pages (Within DoneNumber) before after
+  pub was : word_of_row r (Within LastSaved) before ≡ r.number - 1
+  pub is : word_of_row r (Within LastSaved) after ≡ r.number
+  pub others : ChangesWholeOnly r.layout.pages (Within LastSaved) before after
 
 abbrev pub MarkedCheckpointsAreDone : Type 0
 MarkedCheckpointsAreDone = (r : SavingRound) (before after : List ℕ) → IsSoundSaveRound r → HoldsWhole r.layout before
@@ -94,7 +94,7 @@ ShowsNothingToSave r (LoadsPage page busy) words word =
     (word_of_row r (Within (Page page)) words ≢ encode_page (Open r.epoch)) × (busy ≡ Some word) × IsLastPage r page
 ShowsNothingToSave r (LoadsSave page busy) words word = ShowsByPage r page busy (word_of_row r (Behind (SaveOf page)) words) word
 ShowsNothingToSave r (Saves s) words word = ShowsSaveTaken s words word
-ShowsNothingToSave r ExchangesDone words word = (word ≡ word_of_row r (Within DoneNumber) words) × (word ≢ r.number - 1)
+ShowsNothingToSave r ExchangesDone words word = (word ≡ word_of_row r (Within LastSaved) words) × (word ≢ r.number - 1)
 ShowsNothingToSave r (Ended result) words word = ⊥
 
 abbrev pub NothingToSaveIsShown : Type 0
@@ -136,7 +136,7 @@ pub record HasReadSnap (begun : SavingRound) (met : ℕ → List ℕ) (n : ℕ) 
 
 -- and then that of the checkpoint done last, which is another
 pub record HasReadDone (begun : SavingRound) (met : ℕ → List ℕ) (n : ℕ) (pages epoch number : ℕ) (caller : SaveCaller) : Type 0 where
-  pub load : HasLoaded begun met n pages (Within DoneNumber)
+  pub load : HasLoaded begun met n pages (Within LastSaved)
   pub other : loaded load ≢ number
   pub earlier : HasReadSnap begun met load.at pages epoch number caller
 
@@ -157,7 +157,7 @@ HasReadAll begun met n pages epoch number (Scans mutators) = HasReadGateAgain be
 pub record ShowsNoneRuns (begun : SavingRound) (met : ℕ → List ℕ) (n : ℕ) (r : SavingRound) (after : List ℕ) (number : ℕ) : Type 0 where
   pub last : r.stage ≡ LoadsDone
   pub begun_last : HasReadSnap begun met n r.layout.pages r.epoch number r.caller
-  pub done_last : number ≡ word_of_row r (Within DoneNumber) (met n)
+  pub done_last : number ≡ word_of_row r (Within LastSaved) (met n)
   pub same : number ≡ r.number
   pub stays : after ≡ met n
 

@@ -14,7 +14,7 @@ use Rattle.space_map.specs.GateWord.{decode_gate}
 use Rattle.space_map.specs.PageWord.{encode_page}
 use Rattle.space_map.specs.SaveWord.{decode_save}
 use Rattle.space_map.specs.Spaces.{Layout, to_space, space_start, page_of, board_page}
-use Rattle.space_map.specs.Table.{Gate, SnapNumber, DoneNumber, Page, SaveOf}
+use Rattle.space_map.specs.Table.{Gate, SnapNumber, LastSaved, Page, SaveOf}
 use Rattle.page_saves.specs.declared.save_caller.SaveCaller.{SaveCaller}
 use Rattle.page_saves.specs.declared.save_caller.SaveCaller.TheVariants.{Mutates, Scans}
 use Rattle.page_saves.specs.declared.save_end.SaveEnd.{SaveEnd}
@@ -69,12 +69,12 @@ page_after r page = if page == board_page r.layout.pages then to_page r else pag
 abbrev pub wants_at : SavingRound → SaveRoundStage → Option (StepOn WholeRow)
 wants_at r LoadsGate = Some (Load (Within Gate))
 wants_at r LoadsSnap = Some (Load (Within SnapNumber))
-wants_at r LoadsDone = Some (Load (Within DoneNumber))
+wants_at r LoadsDone = Some (Load (Within LastSaved))
 wants_at r LoadsGateAgain = Some (Load (Within Gate))
 wants_at r (LoadsPage page busy) = Some (Load (Within (Page page)))
 wants_at r (LoadsSave page busy) = Some (Load (Behind (SaveOf page)))
 wants_at r (Saves s) = save.wants_at s s.stage
-wants_at r ExchangesDone = Some (Exchange (Within DoneNumber) (r.number - 1) r.number)
+wants_at r ExchangesDone = Some (Exchange (Within LastSaved) (r.number - 1) r.number)
 wants_at r (Ended result) = None
 
 -- a save has a layout of its own

@@ -105,12 +105,12 @@ impl SaveRound {
                 Step::Load(spaces.gate_place())
             }
             SaveRoundStage::LoadsSnap => Step::Load(spaces.snap_place()),
-            SaveRoundStage::LoadsDone => Step::Load(spaces.done_place()),
+            SaveRoundStage::LoadsDone => Step::Load(spaces.last_saved_place()),
             SaveRoundStage::LoadsPage(page, _) => Step::Load(spaces.page_place(page)),
             SaveRoundStage::LoadsSave(page, _) => Step::Load(spaces.save_place(page)),
             SaveRoundStage::Saves(save) => save.want(),
             SaveRoundStage::ExchangesDone => Step::Exchange(
-                spaces.done_place(),
+                spaces.last_saved_place(),
                 u64::from(self.number.saturating_sub(1)),
                 u64::from(self.number),
             ),
@@ -238,7 +238,7 @@ impl SaveRound {
     }
 
     /// Saves the page, of which this was said.
-    #[tactic(auto, using(crate::proofs::Pages::pages_left_gt))]
+    #[tactic(auto, using(crate::proofs::PageOrder::pages_left_gt))]
     fn save(&mut self, page: u32, says: SaveWord) -> Turn<SaveRoundEnd>
         requires page { IsRoundPage self.old page }
         requires earlier { number_of says < self.old.number }
@@ -278,7 +278,7 @@ impl SaveRound {
 
     /// Goes on behind a page that is not to be saved.
     #[inline(always)]
-    #[tactic(auto, using(crate::proofs::Pages::further, crate::proofs::Pages::pages_left_gt))]
+    #[tactic(auto, using(crate::proofs::PageOrder::further, crate::proofs::PageOrder::pages_left_gt))]
     fn pass(&mut self, page: u32, busy: Option<u64>) -> Turn<SaveRoundEnd>
         requires { IsRoundPage self.old page }
         ensures state { self.new ≡ at_stage self.old (round.passed_page self.old page busy) }

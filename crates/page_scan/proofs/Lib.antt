@@ -1,11 +1,11 @@
-pub mod Headers
-mod Words
-pub mod Lowering
-pub mod Looking
+pub mod ReadHeaders
+mod ReadWords
+pub mod ScanMeasure
+pub mod ScanSteps
 pub mod Replacing
 pub mod Packed
-pub mod Pages
+pub mod ScannedPages
 pub mod Boards
 pub mod WorkedOut
 pub mod WorkedPacked
-pub mod RowsFit
+pub mod ScanRows

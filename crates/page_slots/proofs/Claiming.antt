@@ -8,7 +8,7 @@ use Rattle.atom_store.specs.declared.turn.Turn.TheVariants.{Finished}
 use Rattle.atom_store.specs.Acts.{MakesStep}
 use Rattle.atom_store.specs.Step.{reply_of}
 use Rattle.atom_store.proofs.Acting.{no_step}
-use Rattle.atom_store.proofs.Steps.{slice_index-words_after, slice_index-won, won_exactly, lost_tells_another, words_after-lost}
+use Rattle.atom_store.proofs.StepWords.{slice_index-words_after, slice_index-won, won_exactly, lost_tells_another, words_after-lost}
 use Rattle.space_map.specs.declared.spaces.TheConstants.{LAST_WORKER}
 use Rattle.space_map.specs.declared.gate_word.GateWord.{GateWord}
 use Rattle.space_map.specs.declared.page_word.PageWord.TheVariants.{Scanning}

@@ -1,4 +1,4 @@
 pub mod ClaimsLeft
 pub mod Claiming
-pub mod Opening
-pub mod RowsFit
+pub mod OpeningEffects
+pub mod ClaimRows

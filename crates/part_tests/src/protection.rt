@@ -1,6 +1,6 @@
 use crate::asserting::assert_same;
 use crate::memory::smallest;
-use mmu_model::{Access, PageWord, check, pack, protect_all, read, second_map, unprotect};
+use mmu_model::{PageWord, Protection, check, pack, protect_all, read, second_map, unprotect};
 
 /// Page words, each with its one spelling.
 const SPELLINGS: [(PageWord, u64); 4] = [
@@ -32,7 +32,11 @@ fn pages_are_open_in_their_epoch_alone(rt: HostRuntime) {
         check(5, open, protect_all(6)),
         check(5, scanning, 6),
     ];
-    let wanted = [Access::Allowed, Access::Fault(5), Access::Fault(5)];
+    let wanted = [
+        Protection::Allowed,
+        Protection::Fault(5),
+        Protection::Fault(5),
+    ];
     assert_same(&rt, &answers, &wanted);
     assert_same(&rt, &second_map(smallest(&rt), 192), &(33 + 192));
 }

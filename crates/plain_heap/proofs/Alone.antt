@@ -1,5 +1,5 @@
 pub mod Owned
-pub mod Marks
+pub mod MarksAlone
 pub mod Alike
 pub mod Runs
 pub mod Apart

@@ -1,11 +1,11 @@
-pub mod Outcomes
+pub mod CallOutcomes
 pub mod Single
 pub mod Rest
-pub mod Records
-pub mod Cells
+pub mod RecordsAfterCalls
+pub mod MadeCells
 pub mod KeptCells
 pub mod Named
-pub mod Counts
+pub mod CountedCalls
 pub mod Consistency
-pub mod Checkpoints
+pub mod BegunCheckpoints
 pub mod OnlySnap

@@ -2,7 +2,7 @@ pub mod States
 pub mod Alone
 pub mod Calls
 mod Examples
-pub mod Checkpoints
+pub mod OneCheckpoint
 pub mod WorkedCheckpoints
 pub mod Orders
 pub mod Reaching

@@ -1,6 +1,6 @@
 pub mod Stories
-pub mod Marks
-pub mod Words
-pub mod Checkpoints
-pub mod Cells
+pub mod EachMark
+pub mod LastStores
+pub mod CheckpointsOfOrders
+pub mod NoCells
 pub mod Tracing

@@ -1,4 +1,4 @@
 pub mod Members
 pub mod Closure
 pub mod Emptying
-pub mod Targets
+pub mod TargetsOfCells

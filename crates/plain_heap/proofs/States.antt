@@ -1,4 +1,4 @@
-pub mod Opening
-pub mod Steps
+pub mod OpeningState
+pub mod MutatorSteps
 pub mod Reached
 pub mod SameMutators

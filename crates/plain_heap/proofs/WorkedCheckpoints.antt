@@ -9,9 +9,9 @@ use Rattle.plain_state.specs.declared.value.Identity.{Identity}
 use Rattle.plain_state.specs.declared.value.Value.TheVariants.{Number, Reference}
 use Rattle.plain_state.specs.Layout.{is_field, word_of_value}
 use Rattle.plain_state.specs.State.{Record, Snapped}
-use Rattle.plain_state.proofs.Lists.{slice_get-replicate}
-use Rattle.plain_heap.specs.Checkpoint.{ReachedFrom, BoardRefers, FieldRefers, IsListedBefore, KeptRecord, identities_of, IsCheckpoint, kept_record}
-use Rattle.plain_heap.specs.WorkedCheckpoint.{ArePrinted, one_cell, one_record, three_of_four}
+use Rattle.plain_state.proofs.Elements.{slice_get-replicate}
+use Rattle.plain_heap.specs.Checkpoints.Checkpoint.{ReachedFrom, BoardRefers, FieldRefers, IsListedBefore, KeptRecord, identities_of, IsCheckpoint, kept_record}
+use Rattle.plain_heap.specs.Checkpoints.WorkedCheckpoint.{ArePrinted, one_cell, one_record, three_of_four}
 
 abbrev named : (mutator serial : ℕ) → Identity
 named mutator serial = record { mutator = mutator; serial = serial }

@@ -18,7 +18,7 @@ use Rattle.mutator_asm.specs.declared.instr.Instr.TheVariants as instrs
 use Rattle.mutator_asm.specs.declared.operand.Operand.{Operand}
 use Rattle.mutator_asm.specs.declared.operand.Operand.TheVariants as operands
 use Rattle.plain_heap.specs.declared.action.Action.{Action}
-use Rattle.plain_heap.specs.declared.action.Action.TheVariants.{Sets, Jumps, Links, Prints, Makes, Measures, Loads, Stores, Exchanges, Gets, Puts, Swaps, Snaps}
+use Rattle.plain_heap.specs.declared.action.Action.TheVariants.{Sets, Jumps, Links, Prints, Makes, Measures, Loads, Stores, Compares, Gets, Puts, Swaps, Snaps}
 
 -- the first end of two steps is the end of both
 infixl 10 ◌>>=◌
@@ -144,7 +144,7 @@ action k (instrs.St a x b) = do
 action k (instrs.Cas d a x b c) = do
   i ← reference_in (register k a)
   x ← operand k x
-  Ok (Exchanges d i x (register k b) (register k c))
+  Ok (Compares d i x (register k b) (register k c))
 action k (instrs.Len d a) = do
   i ← reference_in (register k a)
   Ok (Measures d i)

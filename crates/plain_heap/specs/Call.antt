@@ -14,7 +14,7 @@ pub use Rattle.plain_state.specs.Writing.{filled}
 use Rattle.plain_state.specs.Writing.{stored, with_board, gained, took}
 use Rattle.mutator_asm.specs.declared.instr.Instr.{Instr}
 use Rattle.plain_heap.specs.declared.action.Action.{Action}
-use Rattle.plain_heap.specs.declared.action.Action.TheVariants.{Sets, Jumps, Links, Prints, Makes, Measures, Loads, Stores, Exchanges, Gets, Puts, Swaps, Snaps}
+use Rattle.plain_heap.specs.declared.action.Action.TheVariants.{Sets, Jumps, Links, Prints, Makes, Measures, Loads, Stores, Compares, Gets, Puts, Swaps, Snaps}
 use Rattle.plain_heap.specs.Action.{◌>>=◌, action, are_same, next_of, in_record}
 
 -- what an instruction leaves: the heap, and the mutator that executed it
@@ -90,7 +90,7 @@ performed m heap k (Stores i x v) = do
   old ← value_in heap i x
   heap ← store_in heap i (record_of heap i) x v
   Ok (record { heap = heap; mutator = went_on k })
-performed m heap k (Exchanges d i x expected new) = do
+performed m heap k (Compares d i x expected new) = do
   found ← value_in heap i x
   later ← store_in heap i (record_of heap i) x new
   Ok (if are_same found expected then loads later k d (Number 1) else loads heap k d (Number 0))

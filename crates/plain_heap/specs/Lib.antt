@@ -9,9 +9,7 @@ pub mod Emptied
 pub mod Order
 pub mod Tracing
 pub mod Print
-pub mod Checkpoint
-pub mod WorkedCheckpoint
+pub mod Checkpoints
 pub mod Alone
 pub mod Consistent
 pub mod Stores
-pub mod LastCheckpoint

@@ -10,7 +10,7 @@ use Rattle.plain_state.specs.Operation.{one_if}
 use Rattle.plain_state.specs.State.{Record, Heap, Mutator, record_of}
 use Rattle.mutator_asm.specs.declared.instr.Instr.{Instr}
 use Rattle.plain_heap.specs.declared.action.Action.{Action}
-use Rattle.plain_heap.specs.declared.action.Action.TheVariants.{Loads, Stores, Exchanges}
+use Rattle.plain_heap.specs.declared.action.Action.TheVariants.{Loads, Stores, Compares}
 use Rattle.plain_heap.specs.Action.{action, are_same}
 use Rattle.plain_heap.specs.Call.{After, is_cell, values_of, words_in, set_register, went_on, loads, call}
 
@@ -27,7 +27,7 @@ is_word target at identity index = are_same (Reference target) (Reference identi
 -- What an action leaves in that word, in which this stands: what it stores there, else the same. An exchange stores if this is what it expects.
 abbrev pub word_after : Result Action End → Identity → (index : ℕ) → Value → Value
 word_after (Ok (Stores target at value)) identity index now = if is_word target at identity index then value else now
-word_after (Ok (Exchanges register target at expected value)) identity index now = if is_word target at identity index && are_same now expected then value else now
+word_after (Ok (Compares register target at expected value)) identity index now = if is_word target at identity index && are_same now expected then value else now
 word_after _ identity index now = now
 
 -- an instruction leaves each word of each record as it was, but for the one in which it stores
@@ -61,7 +61,7 @@ pub record IsExchanged (heap : Heap) (mutator : Mutator) (register : ℕ) (found
 -- an instruction that exchanges finds the word
 abbrev pub ExchangesFindTheWord : Type 0
 ExchangesFindTheWord = (number : ℕ) (heap : Heap) (mutator : Mutator) (instr : Instr) (after : After) (register : ℕ) (identity : Identity) (index : ℕ) (expected new : Value)
-    → action mutator instr ≡ Ok (Exchanges register identity index expected new) → call number heap mutator instr ≡ Ok after
+    → action mutator instr ≡ Ok (Compares register identity index expected new) → call number heap mutator instr ≡ Ok after
     → IsExchanged heap mutator register (record_word heap identity index) expected after
 
 -- ---- kinds and lengths

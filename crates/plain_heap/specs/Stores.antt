@@ -9,7 +9,7 @@ use Rattle.plain_state.specs.declared.value.Value.TheVariants.{Number}
 use Rattle.plain_state.specs.State.{Heap, Mutator, Plain}
 use Rattle.mutator_asm.specs.declared.instr.Instr.{Instr}
 use Rattle.plain_heap.specs.declared.action.Action.{Action}
-use Rattle.plain_heap.specs.declared.action.Action.TheVariants.{Loads, Exchanges}
+use Rattle.plain_heap.specs.declared.action.Action.TheVariants.{Loads, Compares}
 use Rattle.plain_heap.specs.declared.mark.Mark.{Mark}
 use Rattle.plain_heap.specs.declared.mark.Mark.TheVariants.{Step, Flip, Full, Traced}
 use Rattle.plain_heap.specs.Action.{◌>>=◌, action}
@@ -72,5 +72,5 @@ StepsLoadTheLastStore = (code : List (List Instr)) (turns : ℕ) (front : List M
 -- An exchange finds what was stored there last before it: if that is what it expects, its mutator goes on with 1 in the register, else with 0.
 abbrev pub StepsCompareTheLastStore : Type 0
 StepsCompareTheLastStore = (code : List (List Instr)) (turns : ℕ) (front : List Mark) (m : ℕ) (own : Mutator) (register : ℕ) (identity : Identity) (index : ℕ) (expected new : Value)
-    → StepDoes code turns (plain code turns front) m own (Exchanges register identity index expected new)
+    → StepDoes code turns (plain code turns front) m own (Compares register identity index expected new)
     → slice_get (plain code turns (front ++ Step m ∷ [])).mutators m ≡ Some (went_on (set_register own register (success (last_store code turns front identity index) expected)))

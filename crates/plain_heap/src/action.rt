@@ -23,7 +23,7 @@ pub enum Action {
     /// A word of a record takes a value.
     Stores(Identity, u64, Value),
     /// A word of a record takes the second value if it is the first, and a register takes whether it was.
-    Exchanges(u8, Identity, u64, Value, Value),
+    Compares(u8, Identity, u64, Value, Value),
     /// A register takes a word of the board.
     Gets(u8, u64),
     /// A word of the board takes a value.

@@ -1,8 +1,8 @@
 //! What holds of all runs. Each function here does nothing: its contract is what is proved.
 
 ghost use Rattle.plain_heap.specs.Calls.{CallLeavesOthers, CallKeepsCount, CallMakesNewRecord, NewRecordIsMade, ElseNoneIsMade, AsksForNewRecord, OnlySnapBegins};
-ghost use Rattle.plain_heap.specs.Checkpoint.{OneCheckpoint, OneText, SameIsPrinted, SameIsReached};
-ghost use Rattle.plain_heap.specs.LastCheckpoint.{OrdersCountCheckpoints, OrdersKeepTheLastCheckpoint};
+ghost use Rattle.plain_heap.specs.Checkpoints.Checkpoint.{OneCheckpoint, OneText, SameIsPrinted, SameIsReached};
+ghost use Rattle.plain_heap.specs.Checkpoints.LastCheckpoint.{OrdersCountCheckpoints, OrdersKeepTheLastCheckpoint};
 ghost use Rattle.plain_heap.specs.Consistent.{OpensConsistent, MarksKeepConsistent, RunsStayConsistent};
 ghost use Rattle.plain_heap.specs.Records.{CellsStay, ExchangesFindTheWord, LoadsTakeTheWord, OnlyStoresChangeWords, ShapesStay};
 ghost use Rattle.plain_heap.specs.Emptied.{EmptiedOfLostCells};
@@ -11,7 +11,7 @@ ghost use Rattle.plain_heap.specs.Tracing.{TracingIsDoneOnce, TracingNeedsCells,
 ghost use Rattle.plain_heap.specs.Order.{StoryHasOpening, StoryHasLastFlip};
 ghost use Rattle.plain_heap.specs.Stores.{OrdersStoreWords, StepsCompareTheLastStore, StepsLoadTheLastStore};
 ghost use Rattle.plain_heap.specs.Alone.{AlwaysTheSame, EndsAlone};
-ghost use Rattle.plain_heap.specs.WorkedCheckpoint.{ArePrinted};
+ghost use Rattle.plain_heap.specs.Checkpoints.WorkedCheckpoint.{ArePrinted};
 
 /// In a program without `get`, `put`, `swap` and `weak`, whatever the order, each mutator has printed the
 /// first of the numbers that it prints alone, and all of them where it has its end and that isn't

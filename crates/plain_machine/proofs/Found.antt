@@ -1,6 +1,6 @@
-pub mod Lists
-pub mod Marks
+pub mod ListedCells
+pub mod SetMarks
 pub mod Fields
 pub mod Following
 pub mod Closed
-pub mod Cells
+pub mod FoundCells

@@ -50,7 +50,7 @@ pub fn perform(
             heap.store(i, x, value)?;
             mutator.go_on();
         }
-        Action::Exchanges(d, i, x, expected, new) => {
+        Action::Compares(d, i, x, expected, new) => {
             exchange(heap, mutator, d, i, x, expected, new)?;
         }
         Action::Gets(d, x) => mutator.load(d, heap.board_word(x)),
@@ -78,7 +78,7 @@ fn exchange(
     new: Value,
 ) -> Result<(), End>
     requires has_turns { mutator.old.executed + 1 < 2 ^ 32 }
-    ensures executed { (m : ℕ) → IsExecuted (performed m heap.old mutator.old (Action.Exchanges d i x expected new)) result heap.old mutator.old heap.new mutator.new }
+    ensures executed { (m : ℕ) → IsExecuted (performed m heap.old mutator.old (Action.Compares d i x expected new)) result heap.old mutator.old heap.new mutator.new }
     ensures as_many { length heap.new.records ≡ length heap.old.records }
 {
     let found = heap.word(i, x)?;

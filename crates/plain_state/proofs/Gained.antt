@@ -6,7 +6,7 @@ use Rattle.std.proofs.lemmas.List.{length-append}
 use Rattle.plain_state.specs.State.{Record, Heap, made_by, record_of, serial_of, IsMade}
 use Rattle.plain_state.specs.Writing.{gained}
 use Rattle.plain_state.specs.declared.value.Identity.{Identity}
-use Rattle.plain_state.proofs.Lists.{at_serial-append_end, at_serial-append_front}
+use Rattle.plain_state.proofs.Elements.{at_serial-append_end, at_serial-append_front}
 
 module _ (heap : Heap) (k : ℕ) (r : Record) (within : k < length heap.records) where
   abbrev grown : List Record

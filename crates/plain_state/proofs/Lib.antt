@@ -1,4 +1,4 @@
-pub mod Lists
+pub mod Elements
 pub mod Numerals
 pub mod Gained
 pub mod Stored

@@ -7,7 +7,7 @@ use Rattle.plain_state.specs.State.{Record, Heap, made_by, record_of, serial_of,
 use Rattle.plain_state.specs.declared.value.Identity.{Identity}
 use Rattle.plain_state.specs.declared.value.Value.{Value}
 use Rattle.plain_state.specs.Writing.{stored, with_value}
-use Rattle.plain_state.proofs.Lists.{at_serial_within, at_serial-set_same, at_serial-set_other}
+use Rattle.plain_state.proofs.Elements.{at_serial_within, at_serial-set_same, at_serial-set_other}
 
 -- an identity that has a record is one of a mutator that there is
 pub maker_within : (heap : Heap) (i : Identity) (r : Record) → record_of heap i ≡ Some r → i.mutator < length heap.records

@@ -1,2 +1,2 @@
 pub mod Written
-pub mod Targets
+pub mod JumpTargets

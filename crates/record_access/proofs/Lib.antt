@@ -1,4 +1,4 @@
 pub mod Read
 pub mod StoredWords
-pub mod RowsFit
-pub mod Lowering
+pub mod AccessRows
+pub mod AccessMeasure

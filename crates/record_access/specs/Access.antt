@@ -21,10 +21,10 @@ use Rattle.space_map.specs.declared.spaces.TheConstants.{PAGE_WORDS}
 use Rattle.space_map.specs.Spaces.{Layout, IsPageCount, board_page, first_word, page_of}
 use Rattle.space_map.specs.PageWord.{decode_page}
 use Rattle.space_map.specs.Table.{Row, Page, HeapWord, place_of}
-use Rattle.mmu_model.specs.declared.access.Access as protection
-use Rattle.mmu_model.specs.declared.access.Access.TheVariants.{Allowed, Fault}
-use Rattle.mmu_model.specs.Access.{access_of}
-use Rattle.heap_state.specs.Worker as workers
+use Rattle.mmu_model.specs.declared.protection.Protection.{Protection}
+use Rattle.mmu_model.specs.declared.protection.Protection.TheVariants.{Allowed, Fault}
+use Rattle.mmu_model.specs.Protection.{protection_of}
+use Rattle.heap_state.specs.Known as workers
 use Rattle.heap_state.specs.Meaning.Loaded.{word_held, FitsRole}
 use Rattle.record_access.specs.declared.access.Access.{Access}
 use Rattle.record_access.specs.declared.access_stage.AccessStage.{AccessStage}
@@ -135,18 +135,18 @@ pub data Answered : Type 0 where
   Comes : Accessed → Answered
 
 -- by what the protection says of the page
-abbrev pub let_through : protection.Access → AccessStage → Answered
+abbrev pub let_through : Protection → AccessStage → Answered
 let_through Allowed next = GoesTo next
 let_through (Fault page) next = Comes (Faults page)
 
 -- a page whose word was read
 abbrev pub looked : (page epoch word : ℕ) → AccessStage → Answered
-looked page epoch word next = let_through (access_of page (decode_page word) epoch) next
+looked page epoch word next = let_through (protection_of page (decode_page word) epoch) next
 
 abbrev pub uses_field : FieldAccess → FieldUse → AccessStage
 uses_field f (field_uses.Loads into) = LoadsField f into
 uses_field f (field_uses.Stores new) = StoresField f new
-uses_field f (field_uses.Exchanges e) = LoadsForCas f e
+uses_field f (field_uses.Compares e) = LoadsForCas f e
 
 -- a field on the page of the word that was read last needs no other look
 abbrev pub goes_to_field : FieldAccess → FieldUse → AccessStage
@@ -191,7 +191,7 @@ to_field usage f = goes_at f.role (goes_to_field f usage)
 abbrev pub with_new : FieldUse → (new : ℕ) → FieldUse
 with_new (field_uses.Loads into) new = field_uses.Loads into
 with_new (field_uses.Stores register) new = field_uses.Stores new
-with_new (field_uses.Exchanges e) new = field_uses.Exchanges (record e { new = new })
+with_new (field_uses.Compares e) new = field_uses.Compares (record e { new = new })
 
 -- a register's word is to be stored, for which something else may stand there
 abbrev pub storing : FieldAccess → FieldUse → Result Value End → Answered
@@ -212,7 +212,7 @@ abbrev pub used_by : RecordAccess → Role → (len : ℕ) → RecordUse → Ans
 used_by r role len (record_uses.TellsLength into) = Comes (Brings into (number_word len))
 used_by r role len (record_uses.Loads into) = loading (field_of r.at 1 role r.value) into (in_record len r.value)
 used_by r role len (record_uses.Stores new) = storing (field_of r.at 1 role r.value) (field_uses.Stores new) (may_store role new (in_record len r.value))
-used_by r role len (record_uses.Exchanges e) = storing (field_of r.at 1 role r.value) (field_uses.Exchanges e) (may_store role e.new (in_record len r.value))
+used_by r role len (record_uses.Compares e) = storing (field_of r.at 1 role r.value) (field_uses.Compares e) (may_store role e.new (in_record len r.value))
 
 -- a mixed record: which role the value has, the count says
 abbrev pub counting : (at : ℕ) → FieldUse → Result ℕ End → Answered
@@ -223,7 +223,7 @@ abbrev pub counted_by : RecordAccess → (len : ℕ) → RecordUse → Answered
 counted_by r len (record_uses.TellsLength into) = Comes (Brings into (number_word len))
 counted_by r len (record_uses.Loads into) = counting r.at (field_uses.Loads into) (in_record len r.value)
 counted_by r len (record_uses.Stores new) = counting r.at (field_uses.Stores new) (in_record len r.value)
-counted_by r len (record_uses.Exchanges e) = counting r.at (field_uses.Exchanges e) (in_record len r.value)
+counted_by r len (record_uses.Compares e) = counting r.at (field_uses.Compares e) (in_record len r.value)
 
 -- by the header: a mixed record's count and a cell's link are no values
 abbrev pub by_kind : RecordAccess → Kind → (len : ℕ) → Answered
@@ -250,7 +250,7 @@ is_header decoded = false
 abbrev pub valued : MixedAccess → Role → FieldUse → Answered
 valued m role (field_uses.Loads into) = to_field (field_uses.Loads into) (field_of m.at 2 role m.value)
 valued m role (field_uses.Stores new) = storing (field_of m.at 2 role m.value) (field_uses.Stores new) (may_hold (kind_of role) m.value (value_seen new))
-valued m role (field_uses.Exchanges e) = storing (field_of m.at 2 role m.value) (field_uses.Exchanges e) (may_hold (kind_of role) m.value (value_seen e.new))
+valued m role (field_uses.Compares e) = storing (field_of m.at 2 role m.value) (field_uses.Compares e) (may_hold (kind_of role) m.value (value_seen e.new))
 
 -- what is no number can't be there, and leaves it where it is
 abbrev pub read_count : MixedAccess → Option ℕ → Answered
@@ -350,18 +350,18 @@ abbrev pub FitsRecordUse : RecordUse → Type 0
 FitsRecordUse (record_uses.TellsLength into) = IsRegister into
 FitsRecordUse (record_uses.Loads into) = IsRegister into
 FitsRecordUse (record_uses.Stores new) = IsValueWord new
-FitsRecordUse (record_uses.Exchanges e) = IsRegister e.into × IsValueWord e.new
+FitsRecordUse (record_uses.Compares e) = IsRegister e.into × IsValueWord e.new
 
 -- of a mixed record's value, for which a register's word is still to be stored
 abbrev pub FitsMixedUse : FieldUse → Type 0
 FitsMixedUse (field_uses.Loads into) = IsRegister into
 FitsMixedUse (field_uses.Stores new) = IsValueWord new
-FitsMixedUse (field_uses.Exchanges e) = IsRegister e.into × IsValueWord e.new
+FitsMixedUse (field_uses.Compares e) = IsRegister e.into × IsValueWord e.new
 
 abbrev pub FitsFieldUse : FieldUse → Type 0
 FitsFieldUse (field_uses.Loads into) = IsRegister into
 FitsFieldUse (field_uses.Stores new) = ⊤
-FitsFieldUse (field_uses.Exchanges e) = IsRegister e.into
+FitsFieldUse (field_uses.Compares e) = IsRegister e.into
 
 abbrev pub FitsBoardUse : BoardUse → Type 0
 FitsBoardUse (board_uses.Loads into) = IsRegister into

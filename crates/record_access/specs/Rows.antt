@@ -14,7 +14,7 @@ use Rattle.record_access.specs.declared.access_stage.AccessStage.TheVariants.{Lo
 use Rattle.record_access.specs.declared.accessed.Accessed.{Accessed}
 use Rattle.record_access.specs.declared.accessed.Accessed.TheVariants.{Faults, Awaits, Brings, Stored, Fails}
 use Rattle.record_access.specs.declared.board_access.BoardUse.TheVariants.{Swaps}
-use Rattle.record_access.specs.declared.record_access.RecordUse.TheVariants.{Loads, Stores, Exchanges}
+use Rattle.record_access.specs.declared.record_access.RecordUse.TheVariants.{Loads, Stores, Compares}
 use Rattle.record_access.specs.Access.{taken, told, wanted}
 
 -- an access, and what it told last
@@ -48,7 +48,7 @@ LostSwapIsTriedAgain =
 -- is expected.
 abbrev pub LostExchangeIsComparedAgain : Type 0
 LostExchangeIsComparedAgain =
-    RunsTo access_machine (begins_at (LooksAtRecord (record { at = 192; value = 0; usage = Exchanges (record { into = 2; expected = 12; new = 28 }) })))
+    RunsTo access_machine (begins_at (LooksAtRecord (record { at = 192; value = 0; usage = Compares (record { into = 2; expected = 12; new = 28 }) })))
     ((Load 19, Value 1) ∷ (Load 225, Value 65570) ∷ (Load 226, Value 12) ∷ (Exchange 226 12 28, Lost 20) ∷ (Load 226, Value 20) ∷ []) (Brings 2 0)
 
 -- value 1 of a record whose header is the last word but one of page 3: its page is looked at too

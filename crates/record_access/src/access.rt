@@ -16,7 +16,7 @@ use crate::field_access::{FieldAccess, FieldExchange, FieldUse};
 use crate::record_access::RecordAccess;
 use atom_store::{Reply, Step, Turn};
 use heap_words::Word;
-use mmu_model::{Access as Protection, check};
+use mmu_model::{Protection, check};
 use record_layout::read;
 use space_map::Spaces;
 

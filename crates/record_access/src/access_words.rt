@@ -104,7 +104,7 @@ pub fn using_field(f: FieldAccess, usage: FieldUse) -> AccessStage
     match usage {
         FieldUse::Loads(into) => AccessStage::LoadsField(f, into),
         FieldUse::Stores(new) => AccessStage::StoresField(f, new),
-        FieldUse::Exchanges(e) => AccessStage::LoadsForCas(f, e),
+        FieldUse::Compares(e) => AccessStage::LoadsForCas(f, e),
     }
 }
 

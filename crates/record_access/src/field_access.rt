@@ -50,7 +50,7 @@ pub enum FieldUse {
     Loads(u8),
     /// This will stand there.
     Stores(u64),
-    Exchanges(FieldExchange),
+    Compares(FieldExchange),
 }
 
 impl FieldUse {
@@ -65,7 +65,7 @@ impl FieldUse {
         match self {
             FieldUse::Loads(into) => FieldUse::Loads(into),
             FieldUse::Stores(_) => FieldUse::Stores(new),
-            FieldUse::Exchanges(e) => FieldUse::Exchanges(FieldExchange { new, ..e }),
+            FieldUse::Compares(e) => FieldUse::Compares(FieldExchange { new, ..e }),
         }
     }
 }

@@ -10,7 +10,7 @@ pub enum RecordUse {
     /// This word becomes a value of it.
     Stores(u64),
     /// This word becomes a value of it, if that is what is expected.
-    Exchanges(FieldExchange),
+    Compares(FieldExchange),
 }
 
 /// The access to a record whose header isn't read yet.

@@ -1,4 +1,4 @@
 pub mod Rereading
 pub mod Joining
 pub mod Apart
-pub mod Parts
+pub mod WordParts

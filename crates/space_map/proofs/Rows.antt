@@ -2,7 +2,7 @@
 use Rattle.std.proofs.Common.{◌≡◌, ◌≢◌, ℕ, ◌==◌, ◌<◌, ◌≤◌, Bool, true, false, Decides, refl, arith, ap}
 use Rattle.std.proofs.lemmas.Bool.Decides.{Decides-eqb, Decides-like, nat_tests}
 use Rattle.space_map.specs.Spaces.{Layout}
-use Rattle.space_map.specs.Table.{Row, Gate, Traced, Area, WeakHead, WeakTurn, Size, SnapNumber, DoneNumber, Page, Cross, HeapWord, Announce, IsRow, is_row, place_of, table_length}
+use Rattle.space_map.specs.Table.{Row, Gate, Traced, Area, WeakHead, WeakTurn, Size, SnapNumber, LastSaved, Page, Cross, HeapWord, Announce, IsRow, is_row, place_of, table_length}
 use Rattle.space_map.specs.Table.{SaveRow, SaveOf, ImageOf, IsSaveRow, is_save_row, save_place_of, whole_length}
 
 -- the test tells whether the table has the row
@@ -12,7 +12,7 @@ is_row-decides n Traced = (λ test. tt, λ is. refl)
 is_row-decides n WeakHead = (λ test. tt, λ is. refl)
 is_row-decides n WeakTurn = (λ test. tt, λ is. refl)
 is_row-decides n SnapNumber = (λ test. tt, λ is. refl)
-is_row-decides n DoneNumber = (λ test. tt, λ is. refl)
+is_row-decides n LastSaved = (λ test. tt, λ is. refl)
 is_row-decides n _ = (λ test. grind (arith, nat_tests), λ is. grind (arith, nat_tests))
 
 -- ---- two rows
@@ -24,7 +24,7 @@ row_eq Traced Traced = true
 row_eq WeakHead WeakHead = true
 row_eq WeakTurn WeakTurn = true
 row_eq SnapNumber SnapNumber = true
-row_eq DoneNumber DoneNumber = true
+row_eq LastSaved LastSaved = true
 row_eq (Area x) (Area y) = x == y
 row_eq (Size x) (Size y) = x == y
 row_eq (Page x) (Page y) = x == y
@@ -39,7 +39,7 @@ row_eq-decides Traced Traced = (λ test. refl, λ same. refl)
 row_eq-decides WeakHead WeakHead = (λ test. refl, λ same. refl)
 row_eq-decides WeakTurn WeakTurn = (λ test. refl, λ same. refl)
 row_eq-decides SnapNumber SnapNumber = (λ test. refl, λ same. refl)
-row_eq-decides DoneNumber DoneNumber = (λ test. refl, λ same. refl)
+row_eq-decides LastSaved LastSaved = (λ test. refl, λ same. refl)
 row_eq-decides (Area x) (Area y) = Decides-like (x == y) (ap Area) (λ same. cc) (Decides-eqb x y)
 row_eq-decides (Size x) (Size y) = Decides-like (x == y) (ap Size) (λ same. cc) (Decides-eqb x y)
 row_eq-decides (Page x) (Page y) = Decides-like (x == y) (ap Page) (λ same. cc) (Decides-eqb x y)
@@ -58,7 +58,7 @@ same_row n Traced Traced a b same = refl
 same_row n WeakHead WeakHead a b same = refl
 same_row n WeakTurn WeakTurn a b same = refl
 same_row n SnapNumber SnapNumber a b same = refl
-same_row n DoneNumber DoneNumber a b same = refl
+same_row n LastSaved LastSaved a b same = refl
 same_row n (Area x) (Area y) a b same = let e : x ≡ y = omega arith in ap Area e
 same_row n (Size x) (Size y) a b same = let e : x ≡ y = omega arith in ap Size e
 same_row n (Page x) (Page y) a b same = let e : x ≡ y = omega arith in ap Page e

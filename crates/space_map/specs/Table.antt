@@ -12,7 +12,7 @@ pub data Row : Type 0 where
   WeakTurn : Row
   Size : (space : ℕ) → Row
   SnapNumber : Row
-  DoneNumber : Row
+  LastSaved : Row
   Page : (page : ℕ) → Row
   Cross : (page : ℕ) → Row
   HeapWord : (addr : ℕ) → Row
@@ -27,7 +27,7 @@ IsRow n WeakHead = ⊤
 IsRow n WeakTurn = ⊤
 IsRow n (Size space) = space < 2
 IsRow n SnapNumber = ⊤
-IsRow n DoneNumber = ⊤
+IsRow n LastSaved = ⊤
 IsRow n (Page page) = page ≤ 2 * n
 IsRow n (Cross page) = page < 2 * n
 IsRow n (HeapWord addr) = addr ≤ 128 * n + 63
@@ -42,7 +42,7 @@ is_row n WeakHead = true
 is_row n WeakTurn = true
 is_row n (Size space) = nat_lt space 2
 is_row n SnapNumber = true
-is_row n DoneNumber = true
+is_row n LastSaved = true
 is_row n (Page page) = nat_le page (2 * n)
 is_row n (Cross page) = nat_lt page (2 * n)
 is_row n (HeapWord addr) = nat_le addr (128 * n + 63)
@@ -57,7 +57,7 @@ place_of n WeakHead = 6
 place_of n WeakTurn = 7
 place_of n (Size space) = 12 + space
 place_of n SnapNumber = 14
-place_of n DoneNumber = 15
+place_of n LastSaved = 15
 place_of n (Page page) = 16 + page
 place_of n (Cross page) = 17 + 2 * n + page
 place_of n (HeapWord addr) = 17 + 4 * n + addr

@@ -1,6 +1,6 @@
 ghost use Rattle.std.specs.Prelude.{◌≡◌, ◌<◌, ◌≤◌, ◌+◌, ◌*◌, ◌↔◌, IsTrue, IsOk, IfOk, true, false};
 ghost use Rattle.space_map.specs.Spaces.{IsPageCount, IsInSpace, board_page, first_word, page_of, space_start, to_space};
-ghost use Rattle.space_map.specs.Table.{Gate, Traced, Area, WeakHead, WeakTurn, Size, SnapNumber, DoneNumber, Page, Cross, HeapWord, Announce, SaveOf, ImageOf, IsRow, place_of, save_place_of, table_length, whole_length};
+ghost use Rattle.space_map.specs.Table.{Gate, Traced, Area, WeakHead, WeakTurn, Size, SnapNumber, LastSaved, Page, Cross, HeapWord, Announce, SaveOf, ImageOf, IsRow, place_of, save_place_of, table_length, whole_length};
 
 use crate::bad_pages::BadPages;
 use std::marker::Model;
@@ -37,7 +37,7 @@ const SIZE_START: usize = 12;
 
 const SNAP_PLACE: usize = 14;
 
-const DONE_PLACE: usize = 15;
+const LAST_SAVED_PLACE: usize = 15;
 
 const PAGE_START: usize = 16;
 
@@ -241,11 +241,11 @@ impl Spaces {
     }
 
     /// The place of the number of the last checkpoint that was finished.
-    pub fn done_place(self) -> usize
-        ensures place { result ≡ place_of self.pages DoneNumber }
+    pub fn last_saved_place(self) -> usize
+        ensures place { result ≡ place_of self.pages LastSaved }
         ensures in_table { result < table_length self.pages }
     {
-        DONE_PLACE
+        LAST_SAVED_PLACE
     }
 
     /// The place of a page's word. The board has one too.

@@ -6,7 +6,7 @@ ghost use Rattle.gc_worker.specs.declared.task.Task.TheVariants.{Calls};
 ghost use Rattle.gc_worker.specs.Laws.Between.{with_task};
 ghost use Rattle.mutator_asm.specs.Program.{is_valid};
 ghost use Rattle.ael_threads.specs.Histories.{Each};
-ghost use Rattle.ael_threads.specs.declared.refused.TheConstants.{MOST_RECORDS};
+ghost use Rattle.ael_threads.specs.declared.mutator.refused.TheConstants.{MOST_RECORDS};
 
 use crate::asserting::assert_same;
 use ael_threads::{Did, MOST_RECORDS, Mutator, Reg, Round, Scanner, Shared};

@@ -1,7 +1,7 @@
-pub mod Lowering
-pub mod Copies
+pub mod ProgressMeasure
+pub mod CopyProgress
 pub mod Replies
-pub mod Saves
-pub mod Looks
-pub mod Whole
+pub mod CheckpointReads
+pub mod LooksAgain
+pub mod WholeProgress
 pub mod Epochs

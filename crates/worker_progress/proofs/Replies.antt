@@ -24,7 +24,7 @@ use Rattle.fault_duty.specs.declared.caller.Caller.{Caller}
 use Rattle.fault_duty.specs.declared.caller.Caller.TheVariants.{Faulted}
 use Rattle.fault_duty.specs.declared.duty_stage.DutyStage.{DutyStage}
 use Rattle.fault_duty.specs.declared.duty_stage.DutyStage.TheVariants as duty_stage
-use Rattle.cell_walk.proofs.GoingOn as walk_going
+use Rattle.cell_walk.proofs.WalkGoesOn as walk_going
 use Rattle.fault_duty.specs.Duty as duty
 use Rattle.fault_duty.specs.Soundness.{FitsCaller, IsSoundRound}
 use Rattle.forwarding.specs.declared.evac_stage.EvacStage.{EvacStage}
@@ -50,7 +50,7 @@ use Rattle.page_slots.specs.Claim as claim
 use Rattle.page_slots.specs.Open as open_page
 use Rattle.heap_state.specs.Configuration.{Configuration, Stands, era, memory}
 use Rattle.heap_state.specs.Memory.Table.{word_in}
-use Rattle.heap_state.proofs.Table.Places.{word_in-row}
+use Rattle.heap_state.proofs.Table.StoredRows.{word_in-row}
 use Rattle.heap_laws.specs.Answers.{OldHeader, InPlace, KeptBy, Forwards}
 use Rattle.record_access.specs.declared.access.Access.{Access}
 use Rattle.record_access.specs.declared.access_stage.AccessStage.{AccessStage}
@@ -62,9 +62,9 @@ use Rattle.record_access.specs.declared.mixed_access.MixedAccess.{MixedAccess}
 use Rattle.record_access.specs.declared.record_access.RecordAccess.{RecordAccess}
 use Rattle.record_access.specs.Access as access
 use Rattle.gc_worker.proofs.Words.Areas.{area_says, is_space}
-use Rattle.gc_worker.proofs.Stages.Scan.Headers.{heap_word}
-use Rattle.gc_worker.proofs.Stages.Gate.Words.{gate_says}
-use Rattle.gc_worker.proofs.Stages.Rounds.Words.{page_says}
+use Rattle.gc_worker.proofs.Stages.Scan.ScannedHeaders.{heap_word}
+use Rattle.gc_worker.proofs.Stages.Gate.GateWords.{gate_says}
+use Rattle.gc_worker.proofs.Stages.Rounds.RoundWords.{page_says}
 
 -- the reply takes the machine on, the exchange is lost, or this is so
 pub data TakesOn (advances : Reply → Bool) (r : Reply) (kept : Type 0) : Type 0 where

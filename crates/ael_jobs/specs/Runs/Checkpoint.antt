@@ -2,8 +2,8 @@
 use Rattle.std.specs.Prelude.{◌≡◌, ℕ, Bool, true, false, List, []}
 use Rattle.mutator_asm.specs.declared.instr.Instr.{Instr}
 use Rattle.plain_heap.specs.declared.mark.Mark.{Mark}
-use Rattle.plain_heap.specs.Checkpoint.{checkpoint_lines}
-use Rattle.plain_heap.specs.LastCheckpoint.{IsLastCheckpoint}
+use Rattle.plain_heap.specs.Checkpoints.Checkpoint.{checkpoint_lines}
+use Rattle.plain_heap.specs.Checkpoints.LastCheckpoint.{IsLastCheckpoint}
 use Rattle.plain_heap.specs.Order.{plain}
 
 -- The bytes are the lines of what the plain machine has kept that executes an order: its number, and the board and the records reached from

@@ -8,7 +8,7 @@ use Rattle.space_map.specs.declared.spaces.TheConstants.{MOST_MUTATORS, MOST_SCA
 use Rattle.space_map.specs.Table.{table_length, whole_length}
 use Rattle.gc_core.specs.Run.{Ran}
 use Rattle.ael_threads.specs.declared.programs.outputs.Outputs.{Outputs}
-use Rattle.ael_threads.specs.Outputs.{as_kept, printed_by}
+use Rattle.ael_threads.specs.Runs.Outputs.{as_kept, printed_by}
 use Rattle.ael_jobs.specs.declared.arguments.options.RunOptions.{RunOptions}
 use Rattle.ael_jobs.specs.Runs.Run.{IsRunOf, Threaded}
 use Rattle.ael_jobs.specs.Runs.Told.{RunReport, told_of}

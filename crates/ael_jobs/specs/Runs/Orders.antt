@@ -2,7 +2,7 @@
 use Rattle.std.specs.Prelude.{◌≡◌, List, if◌then◌else◌}
 use Rattle.std.specs.List.{AllByRecursion}
 use Rattle.mutator_asm.specs.declared.instr.Instr.{Instr}
-use Rattle.heap_audit.specs.Order.{MarkFits}
+use Rattle.heap_audit.specs.Texts.Order.{MarkFits}
 use Rattle.plain_heap.specs.declared.mark.Mark.{Mark}
 use Rattle.plain_heap.specs.Tracing.{has_weak, untraced}
 

@@ -12,8 +12,8 @@ use Rattle.gc_core.specs.Cycles.{KeepsWhatIsLive}
 use Rattle.gc_core.specs.Dumped.{dumped}
 use Rattle.gc_core.specs.Run.{Ran}
 use Rattle.dump_text.specs.Text.{IsDump}
-use Rattle.heap_audit.specs.Ends.{EndFits}
-use Rattle.heap_audit.specs.Order.{MarkFits}
+use Rattle.heap_audit.specs.Texts.Ends.{EndFits}
+use Rattle.heap_audit.specs.Texts.Order.{MarkFits}
 use Rattle.ael_jobs.specs.declared.arguments.options.RunOptions.{RunOptions}
 use Rattle.ael_jobs.specs.declared.arguments.options.SimOptions.{SimOptions}
 use Rattle.ael_jobs.specs.declared.status.Status.{Status}

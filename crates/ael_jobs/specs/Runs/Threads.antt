@@ -4,7 +4,7 @@ use Rattle.mutator_asm.specs.declared.instr.Instr.{Instr}
 use Rattle.gc_core.specs.Run.{Ran}
 use Rattle.ael_threads.specs.declared.programs.outputs.Outputs.{Outputs}
 use Rattle.ael_threads.specs.Opened.{plan_of}
-use Rattle.ael_threads.specs.Outputs.{Runs}
+use Rattle.ael_threads.specs.Runs.Outputs.{Runs}
 use Rattle.gc_worker.specs.History.Order.{order_of}
 use Rattle.ael_threads.specs.Rule.{heap_of}
 use Rattle.ael_jobs.specs.declared.arguments.options.RunOptions.{RunOptions}

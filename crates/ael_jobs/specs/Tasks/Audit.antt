@@ -5,8 +5,8 @@ use Rattle.mutator_asm.specs.declared.item.Item.{Item}
 use Rattle.mutator_asm.specs.Text.{IsFault, IsText}
 use Rattle.dump_text.specs.Said.{dump_said}
 use Rattle.heap_state.specs.Meaning.Represents.{DumpRepresents}
-use Rattle.heap_audit.specs.FirstWrong.{IsFirstWrongOf}
-use Rattle.heap_audit.specs.Part.{IsPart, Output, part_text}
+use Rattle.heap_audit.specs.Texts.FirstWrong.{IsFirstWrongOf}
+use Rattle.heap_audit.specs.Texts.Part.{IsPart, Output, part_text}
 use Rattle.heap_audit.specs.Verdict.{PrintsLines, SaysYesIfTrue, TellsVerdict, plain_of}
 use Rattle.heap_audit.specs.declared.verdict.At.TheVariants.{Line, Register, Word}
 use Rattle.heap_audit.specs.declared.verdict.Verdict.{Verdict}

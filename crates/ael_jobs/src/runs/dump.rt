@@ -18,7 +18,7 @@ fn push_head(out: &mut String, pages: u32, mutators: u8, workers: u8) -> Result<
 }
 
 /// Adds a word by its 16 hexadecimal digits.
-#[tactic(auto, using(crate::proofs::Hex::hex_word))]
+#[tactic(auto, using(crate::proofs::Printed::Hex::hex_word))]
 fn push_word(out: &mut String, word: u64) -> Result<(), NoMemory>
     ensures text { OnOk result (string_bytes out.new ≡ string_bytes out.old ++ word_text word) }
     ensures word { IsWord word }

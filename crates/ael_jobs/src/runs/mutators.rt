@@ -3,7 +3,7 @@
 ghost use Rattle.std.specs.Prelude.{◌≡◌, ◌++◌, OnOk, string_bytes};
 ghost use Rattle.std.specs.List.{AllByRecursion, list_all};
 ghost use Rattle.plain_heap.specs.Print.{lines_seen, printed_lines};
-ghost use Rattle.heap_audit.specs.Ends.{EndFits};
+ghost use Rattle.heap_audit.specs.Texts.Ends.{EndFits};
 ghost use Rattle.ael_jobs.specs.Runs.Run.{HasFitEnd};
 ghost use Rattle.ael_jobs.specs.Runs.Verdict.{is_halt, has_halted, status_seen};
 

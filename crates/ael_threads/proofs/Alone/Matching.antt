@@ -13,7 +13,7 @@ use Rattle.plain_state.specs.declared.value.Value.TheVariants.{Number}
 use Rattle.plain_state.specs.Cells.{is_cell}
 use Rattle.plain_state.specs.State.{Heap, Record, Mutator, Plain, at_serial, made_by, none_snapped, record_of}
 use Rattle.plain_state.specs.Writing.{stored}
-use Rattle.plain_state.proofs.Lists.{set-found, slice_get-replicate, slice_get-set_other, slice_get-set_same}
+use Rattle.plain_state.proofs.Elements.{set-found, slice_get-replicate, slice_get-set_other, slice_get-set_same}
 use Rattle.mutator_asm.specs.declared.instr.Instr.{Instr}
 use Rattle.plain_heap.specs.Alone.{leaves_board}
 use Rattle.plain_heap.specs.Call.{After, call}
@@ -21,11 +21,11 @@ use Rattle.plain_heap.specs.Step.{ended, settled}
 use Rattle.plain_heap.proofs.Alone.Alike.{GoAlike, HasRecords, Same, call-alike, unchanged}
 use Rattle.plain_heap.proofs.Alone.Apart.{IsMoved}
 use Rattle.plain_heap.proofs.Alone.Owned.{AllOf, LeadsToOwn, OwnsRecords, read_all}
-use Rattle.plain_heap.proofs.Calls.Cells.{no_cells_come}
+use Rattle.plain_heap.proofs.Calls.MadeCells.{no_cells_come}
 use Rattle.plain_heap.proofs.Reaching.Emptying.{NoCells, all-keep}
-use Rattle.plain_heap.proofs.Alone.Marks.{leaves-no_weak}
+use Rattle.plain_heap.proofs.Alone.MarksAlone.{leaves-no_weak}
 use Rattle.gc_worker.specs.Plain.Answer.{with_emptied}
-use Rattle.gc_worker.proofs.Plain.Emptied.{same_makers}
+use Rattle.gc_worker.proofs.Plain.CellTargets.Emptied.{same_makers}
 use Rattle.ael_threads.proofs.Alone.Sparing.{AllElse, IsElse, IsSpared, Spares, call-spares, emptied-spares}
 
 -- Mutator m of state p is that of state u, with the same records; it is led to these alone, and nobody else in p is led to one of them.

@@ -6,7 +6,7 @@ use Rattle.std.proofs.lemmas.Option.{get_or_from_slice_get, same_Some, slice_get
 use Rattle.plain_state.specs.declared.end.End.{End}
 use Rattle.plain_state.specs.declared.end.End.TheVariants.{HeapFull}
 use Rattle.plain_state.specs.State.{Heap, Mutator, Plain}
-use Rattle.plain_state.proofs.Lists.{slice_get-set_same}
+use Rattle.plain_state.proofs.Elements.{slice_get-set_same}
 use Rattle.mutator_asm.specs.declared.instr.Instr.{Instr}
 use Rattle.plain_heap.specs.Alone.{is_heap_full}
 use Rattle.plain_heap.specs.Call.{After, call}
@@ -22,7 +22,7 @@ use Rattle.gc_worker.specs.declared.calls.entry.Entry.TheVariants.{Made, Exchang
 use Rattle.ael_threads.specs.Alone.{EndIsLast, alone_history, before_full, did_by, is_full_did, replied, replies_alone, replies_of, reply_by, tasks_of}
 use Rattle.gc_worker.specs.History.Legal.{IsLegal, after_call, calls_of}
 use Rattle.ael_threads.specs.Histories.{Each}
-use Rattle.ael_threads.proofs.Alone.Going.{after_is, apart, is_by}
+use Rattle.ael_threads.proofs.Alone.LoneHistories.{after_is, apart, is_by}
 
 -- calls of mutator m alone
 abbrev pub AllBy : ℕ → List Call → Type 0

@@ -20,13 +20,13 @@ use Rattle.plain_state.specs.Writing.{with_board, with_records, with_value, stor
 use Rattle.mutator_asm.specs.declared.instr.Instr.{Instr}
 use Rattle.mutator_asm.specs.declared.instr.Instr.TheVariants as instrs
 use Rattle.plain_heap.specs.declared.action.Action.{Action}
-use Rattle.plain_heap.specs.declared.action.Action.TheVariants.{Sets, Jumps, Links, Prints, Makes, Measures, Loads, Stores, Exchanges, Gets, Puts, Swaps, Snaps}
+use Rattle.plain_heap.specs.declared.action.Action.TheVariants.{Sets, Jumps, Links, Prints, Makes, Measures, Loads, Stores, Compares, Gets, Puts, Swaps, Snaps}
 use Rattle.plain_heap.specs.Action.{◌>>=◌, action, in_record, next_of, register}
 use Rattle.plain_heap.specs.Call.{After, board_word, call, jumped, may_hold, performed, set_register, store_in, value_in, values_of, went_on, filled}
 use Rattle.plain_heap.proofs.Calls.Named.{FillsKind, Names, Spells, named}
-use Rattle.plain_heap.proofs.Calls.Outcomes.{if_ok-bind, if_ok-then, performed_exchange, computed}
+use Rattle.plain_heap.proofs.Calls.CallOutcomes.{if_ok-bind, if_ok-then, performed_exchange, computed}
 use Rattle.plain_heap.proofs.Alone.Owned.{found_serial, read_all}
-use Rattle.plain_heap.proofs.Calls.Records.{held_same}
+use Rattle.plain_heap.proofs.Calls.RecordsAfterCalls.{held_same}
 
 -- a number, or a reference to a record of another than mutator m
 abbrev pub IsElse : ℕ → Value → Type 0
@@ -148,7 +148,7 @@ module _ (m j : ℕ) (other : j ≢ m) (heap : Heap) (k : Mutator) (spared : IsS
   performed_spares (Measures d i) is = loads_so d (next_of k) (Number (length (values_of heap i))) tt
   performed_spares (Loads d i x) is = if_ok-then (IsElse m) (Spares m heap) (value_in heap i x) _ (word_else i x is) (λ v is_v. loads_so d (next_of k) v is_v)
   performed_spares (Stores i x v) is = if_ok-bind (Spares m heap) (value_in heap i x) _ (λ old. stores_so (went_on k) registers i (record_of heap i) x v is.0 refl is.1)
-  performed_spares (Exchanges d i x expected v) is =
+  performed_spares (Compares d i x expected v) is =
       performed_exchange j heap k d i x expected v (Spares m heap) (loads_so d (next_of k) (Number 0) tt)
       (stores_so (went_on (set_register k d (Number 1))) (All-set (IsElse m) k.registers d (Number 1) tt registers) i (record_of heap i) x v is.0 refl is.2)
   performed_spares (Gets d x) is = loads_so d (next_of k) (board_word heap x) (board_else x)

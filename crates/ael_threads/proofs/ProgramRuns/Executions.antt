@@ -25,9 +25,9 @@ use Rattle.ael_threads.specs.declared.view.Plan.{Plan}
 use Rattle.ael_threads.specs.Calls.{Called, StaysSilent, KnowsWorker, call_by}
 use Rattle.gc_worker.specs.History.Legal.{IsLegal, after_all, worker_call, calls_of, extra, last_flip}
 use Rattle.ael_threads.specs.Histories.{HasOwnCalls, first_plain, hand}
-use Rattle.ael_threads.specs.Programs.{HasExecuted, count_after_call, fetched_at}
+use Rattle.ael_threads.specs.Runs.Programs.{HasExecuted, count_after_call, fetched_at}
 use Rattle.ael_threads.specs.Rule.{StandsAs, heap_of}
-use Rattle.ael_threads.specs.Running.{Executed, Executing, FoundFull, EndFoundFull, HasRun, RunsAsScanner, Work}
+use Rattle.ael_threads.specs.Runs.Running.{Executed, Executing, FoundFull, EndFoundFull, HasRun, RunsAsScanner, Work}
 use Rattle.ael_threads.specs.Seats.{Acts, IsMine, IsShown, Seated, ShowsSeen, first_number, first_own, plain_after_seen, seen_after}
 use Rattle.ael_threads.specs.Began.{FlippedSinceBegun}
 use Rattle.ael_threads.proofs.WholeCalls.FromActs.{found_is, quiet_first, quiet_more}

@@ -13,12 +13,12 @@ use Rattle.plain_state.specs.declared.end.End.{End}
 use Rattle.plain_state.specs.State.{Mutator, Plain}
 use Rattle.mutator_asm.specs.declared.instr.Instr.{Instr}
 use Rattle.plain_heap.specs.Order.{first_story, opening}
-use Rattle.plain_heap.proofs.Orders.Checkpoints.{orders_keep_the_last_checkpoint}
+use Rattle.plain_heap.proofs.Orders.CheckpointsOfOrders.{orders_keep_the_last_checkpoint}
 use Rattle.heap_state.specs.Cycles.Copies.{CopiedIsLive}
 use Rattle.heap_state.specs.Kept as kept
 use Rattle.heap_state.specs.Memory.Table.{word_in}
-use Rattle.heap_state.specs.Worker.{Worker}
-use Rattle.heap_state.proofs.Table.Places.{word_in-row}
+use Rattle.heap_state.specs.Known.{Known}
+use Rattle.heap_state.proofs.Table.StoredRows.{word_in-row}
 use Rattle.std.proofs.lemmas.List.{length-replicate}
 use Rattle.heap_laws.specs.Opening.{opening_mutator, opening_plain}
 use Rattle.space_map.specs.Spaces.{to_space}
@@ -36,8 +36,8 @@ use Rattle.gc_worker.specs.Workers.Knows.{copy_in, knows}
 use Rattle.gc_worker.specs.Laws.Step.{Heap, WorkersStand, held_at, nobody, read}
 use Rattle.gc_worker.specs.Readers.{kept_in, live_said, mutators_in, registers_in, seen_in}
 use Rattle.gc_worker.specs.Steps.Stepped.{header_kept, place_kept, uncounted}
-use Rattle.gc_worker.proofs.Between.Standing.{what_stands_is_so}
-use Rattle.gc_worker.proofs.Plain.Outcomes.{opens_so}
+use Rattle.gc_worker.proofs.Between.StandingHeaps.{what_stands_is_so}
+use Rattle.gc_worker.proofs.Plain.TaskOutcomes.{opens_so}
 use Rattle.ael_threads.specs.declared.programs.outputs.Outputs.{Outputs}
 use Rattle.gc_worker.specs.declared.calls.entry.Entry.{Entry}
 use Rattle.ael_threads.specs.declared.view.Hand.{Hand}
@@ -45,11 +45,11 @@ use Rattle.ael_threads.specs.declared.view.Plan.{Plan}
 use Rattle.gc_worker.specs.History.Legal.{IsLegal, after_all, calls_of, last_flip}
 use Rattle.ael_threads.specs.Histories.{Each, first_plain, hand}
 use Rattle.ael_threads.specs.Opened.{plan_of}
-use Rattle.ael_threads.specs.Outputs.{IsToldOnClose, Runs, Tells, TellsRegisters, as_kept, seat_kept, seat_registers, seat_seen}
-use Rattle.ael_threads.specs.Programs.{Executes}
+use Rattle.ael_threads.specs.Runs.Outputs.{IsToldOnClose, Runs, Tells, TellsRegisters, as_kept, seat_kept, seat_registers, seat_seen}
+use Rattle.ael_threads.specs.Runs.Programs.{Executes}
 use Rattle.ael_threads.specs.Readers.{SeatedScanner, seated}
 use Rattle.ael_threads.specs.Rule.{StandsAs, heap_of}
-use Rattle.ael_threads.specs.Running.{EachFrom, EndFoundFull, FullIn, HasRun, HaveRun, HaveScanned, Work}
+use Rattle.ael_threads.specs.Runs.Running.{EachFrom, EndFoundFull, FullIn, HasRun, HaveRun, HaveScanned, Work}
 use Rattle.ael_threads.specs.Seats.{Closes, Seated, Stays, all_hands, first_number, first_own}
 use Rattle.ael_threads.proofs.Lists.Elements.{each_apart, each_both}
 use Rattle.gc_worker.specs.History.Needs.{EachFullIs, EachMayCome}
@@ -60,7 +60,7 @@ use Rattle.ael_threads.specs.Histories.{opening_tally}
 use Rattle.gc_worker.proofs.History.Lone.{lone_is_never_full}
 use Rattle.gc_worker.proofs.History.Needs.{large_is_never_full, orders_fill}
 use Rattle.gc_worker.proofs.History.Orders.{IsProgramOrder, fetched_each, orders_program}
-use Rattle.gc_worker.proofs.History.Tallies.{empties_lost}
+use Rattle.gc_worker.proofs.History.Counted.Tallies.{empties_lost}
 use Rattle.ael_threads.proofs.Lists.Reads.{get_of}
 use Rattle.ael_threads.proofs.ProgramRuns.Programs.{executed_all, shown_all}
 
@@ -94,11 +94,11 @@ module _ (workers : List Held) (log : List Entry) where
   stays (s ∷ ss) h = let both = each_apart (Stays workers log) (all_hands ss) s.knows.hands h in (both.1, stays ss both.0)
 
 -- what is known of a caller and its workers, and that all that it saw is of this history
-abbrev Known : List Held → List Entry → Seated → Type 0
-Known workers log s = Each (Stays workers log) s.knows.hands × IsPrefix s.knows.seen log
+abbrev KnowsHere : List Held → List Entry → Seated → Type 0
+KnowsHere workers log s = Each (Stays workers log) s.knows.hands × IsPrefix s.knows.seen log
 
 -- a caller that has its worker alone
-alone : (workers : List Held) (log : List Entry) (s : Seated) (h : Hand) → s.knows.hands ≡ h ∷ [] → Known workers log s → Stays workers log h
+alone : (workers : List Held) (log : List Entry) (s : Seated) (h : Hand) → s.knows.hands ≡ h ∷ [] → KnowsHere workers log s → Stays workers log h
 alone workers log s h is k = (subst (Each (Stays workers log)) is k.0).0
 
 -- ---- the workers, numbered
@@ -109,16 +109,16 @@ StandsHere workers k s = StandsAs workers k s.worker
 module _ (w : Work) (workers : List Held) (log : List Entry) where
   -- of a mutator that has run
   abbrev RanHere : (k : ℕ) → Seated → Type 0
-  RanHere k s = HasRun w k s × Known workers log s
+  RanHere k s = HasRun w k s × KnowsHere workers log s
 
-  ran_here : (n : ℕ) (ms : List Seated) → HaveRun w n ms → Each (Known workers log) ms → EachFrom RanHere n ms
+  ran_here : (n : ℕ) (ms : List Seated) → HaveRun w n ms → Each (KnowsHere workers log) ms → EachFrom RanHere n ms
   ran_here n [] h k = tt
   ran_here n (s ∷ ss) h k = ((h.0, k.0), ran_here (n + 1) ss h.1 k.1)
 
   mutator_stands : (k : ℕ) (s : Seated) → RanHere k s → StandsHere workers k s
   mutator_stands k s h = (alone workers log s (hand k s.worker h.0.executed.own) h.0.executed.hands h.1).state
 
-  scanners_stand : (n : ℕ) (ss : List SeatedScanner) → HaveScanned w n ss → Each (Known workers log) (map seated ss) → EachFrom (StandsHere workers) n (map seated ss)
+  scanners_stand : (n : ℕ) (ss : List SeatedScanner) → HaveScanned w n ss → Each (KnowsHere workers log) (map seated ss) → EachFrom (StandsHere workers) n (map seated ss)
   scanners_stand n [] h k = tt
   scanners_stand n (s ∷ ss) h k = ((alone workers log s.seated (hand n s.seated.worker []) h.0.scanning.hands k.0).state, scanners_stand (n + 1) ss h.1 k.1)
 
@@ -177,8 +177,8 @@ module _ (code : List (List Instr)) (turns : ℕ) (config : Config) (t : TableId
 
     -- ---- what is known of all callers
 
-    known : Each (Known c.workers c.log) (map seated ss) × Each (Known c.workers c.log) ms
-    known = each_apart (Known c.workers c.log) (map seated ss) ms
+    known : Each (KnowsHere c.workers c.log) (map seated ss) × Each (KnowsHere c.workers c.log) ms
+    known = each_apart (KnowsHere c.workers c.log) (map seated ss) ms
         (each_both (λ (s : Seated). Each (Stays c.workers c.log) s.knows.hands) (λ (s : Seated). IsPrefix s.knows.seen c.log) (map seated ss ++ ms) (stays c.workers c.log (map seated ss ++ ms) c.hands) c.seen)
 
     ran : EachFrom (RanHere work c.workers c.log) 0 ms
@@ -234,7 +234,7 @@ module _ (code : List (List Instr)) (turns : ℕ) (config : Config) (t : TableId
         let told = first_told (λ x. kept.kept_by (knows x).copy) (λ s. as_kept (seat_kept s)) c.workers seats
         (from_map Left (TellsIn (λ x. kept.kept_by (knows x).copy) (λ s. as_kept (seat_kept s)) c.workers) (λ k s l. (l.0.held, l.0.is, kept_gone l.0.held s l.0.shown l.1)) 0 seats
         all_left) in
-        map-map as_kept seat_kept seats ∙ (sym told ∙ (ap (map (λ x. kept.kept_by (knows x).copy)) all ∙ sym (map-map (λ (x : Worker). kept.kept_by x.copy) knows c.workers)))
+        map-map as_kept seat_kept seats ∙ (sym told ∙ (ap (map (λ x. kept.kept_by (knows x).copy)) all ∙ sym (map-map (λ (x : Known). kept.kept_by x.copy) knows c.workers)))
 
     -- ---- its order
 

@@ -23,7 +23,7 @@ use Rattle.ael_threads.specs.Calls.{Called, Rests, call_by}
 use Rattle.gc_worker.specs.History.Legal.{after_all, calls_of}
 use Rattle.ael_threads.specs.Histories.{HasOwnCalls, first_plain}
 use Rattle.gc_worker.specs.History.Order.{IsShort}
-use Rattle.ael_threads.specs.Programs.{Executes, HasExecuted, count_after_call}
+use Rattle.ael_threads.specs.Runs.Programs.{Executes, HasExecuted, count_after_call}
 use Rattle.ael_threads.specs.Readers.{IsThere}
 use Rattle.ael_threads.specs.Seats.{IsMine, IsShown, Seated, ShowsSeen, first_number, first_own, new_seated, plain_after_seen}
 use Rattle.ael_threads.proofs.WholeCalls.OneMore.{OneMore, executes_all, executes_first, executes_more, one_more}

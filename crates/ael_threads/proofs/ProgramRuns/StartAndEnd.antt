@@ -8,9 +8,9 @@ use Rattle.gc_worker.specs.Laws.Between.{fresh_mutator, fresh_scanner}
 use Rattle.ael_threads.specs.declared.view.Plan.{Plan}
 use Rattle.ael_threads.specs.Histories.{Each}
 use Rattle.ael_threads.specs.Opened.{new_scanner, new_scanners}
-use Rattle.ael_threads.specs.Outputs.{HasEnd}
+use Rattle.ael_threads.specs.Runs.Outputs.{HasEnd}
 use Rattle.ael_threads.specs.Readers.{SeatedScanner}
-use Rattle.ael_threads.specs.Running.{AreReady, AreScanning, EachFrom, Executing, ScannerIsGone, HaveRun, HaveScanned, RunsAsScanner, Work}
+use Rattle.ael_threads.specs.Runs.Running.{AreReady, AreScanning, EachFrom, Executing, ScannerIsGone, HaveRun, HaveScanned, RunsAsScanner, Work}
 use Rattle.ael_threads.specs.Seats.{Seated, new_callers, new_seated}
 use Rattle.ael_threads.proofs.ProgramRuns.Programs.{executed_first}
 use Rattle.ael_threads.proofs.ProgramRuns.Outputs.{from_append}

@@ -3,7 +3,7 @@ use Rattle.std.proofs.Common.{◌≡◌, ℕ, ◌<◌, ◌≤◌, ◌-◌, ◌^�
 use mathlib.Core.List.{IsPrefix}
 use Rattle.plain_state.specs.State.{Plain}
 use Rattle.heap_state.specs.Configuration.{era, team}
-use Rattle.heap_state.specs.Worker.{Worker}
+use Rattle.heap_state.specs.Known.{Known}
 use Rattle.gc_worker.specs.declared.stage.back.Back.TheVariants.{ToAccess, ToTarget, ToPlace, ToScanner, ToSnap}
 use Rattle.gc_worker.specs.declared.calls.entry.Entry.{Entry}
 use Rattle.gc_worker.specs.declared.calls.entry.Entry.TheVariants.{Exchanged, Made, Emptied}
@@ -17,9 +17,9 @@ use Rattle.gc_worker.specs.History.Tally.{Tally, after_entry, tally}
 use Rattle.gc_worker.specs.Workers.Knows.{epoch_in, post_in}
 use Rattle.gc_worker.specs.Laws.Step.{Heap, WorkersStand, epoch_of, held_at, read}
 use Rattle.gc_worker.specs.Steps.Turned.{epoch_in_gate}
-use Rattle.gc_worker.proofs.Between.Standing.{what_stands_is_so}
-use Rattle.gc_worker.proofs.Stages.Gate.Words.{gate_says}
-use Rattle.gc_worker.proofs.History.Tallies.{tally_append}
+use Rattle.gc_worker.proofs.Between.StandingHeaps.{what_stands_is_so}
+use Rattle.gc_worker.proofs.Stages.Gate.GateWords.{gate_says}
+use Rattle.gc_worker.proofs.History.Counted.Tallies.{tally_append}
 use Rattle.gc_worker.proofs.Workers.Members.{member}
 use Rattle.ael_threads.specs.declared.view.Plan.{Plan}
 use Rattle.ael_threads.specs.Began.{HasFlipped, flips_of}
@@ -50,7 +50,7 @@ module _ (h : Heap) (p o : Plain) (st : WorkersStand h p o) (k : ℕ) (below : k
   timely =
       let there = member h p o k x st below refl in
       let past = (st.stands.invariant.workers k there.below).timely.past in
-      let own : ((team (read h)).worker k).epoch ≡ epoch_in x.epoch x.stage = ap (λ (v : Worker). v.epoch) there.as_known in
+      let own : ((team (read h)).worker k).epoch ≡ epoch_in x.epoch x.stage = ap (λ (v : Known). v.epoch) there.as_known in
       let gate : epoch_of h.pages h.words ≡ (era (read h)).epoch = ap (epoch_in_gate 0) (gate_says (read h) p st.stands) in
       omega (arith, past, own, gate)
 

@@ -14,8 +14,8 @@ use Rattle.gc_worker.specs.Laws.Step.{WorkersStand, held_at, nobody}
 use Rattle.gc_worker.specs.declared.calls.entry.Entry.{Entry}
 use Rattle.gc_worker.specs.History.Legal.{after_all, last_flip}
 use Rattle.gc_worker.proofs.Between.Readying.{readying_stands}
-use Rattle.gc_worker.proofs.History.Tasks.{task_tallied}
-use Rattle.gc_worker.proofs.Plain.LostCells.{lost_cells_are_empty}
+use Rattle.gc_worker.proofs.History.Counted.TalliedTasks.{task_tallied}
+use Rattle.gc_worker.proofs.Plain.CellTargets.LostCells.{lost_cells_are_empty}
 use Rattle.ael_threads.specs.declared.view.Hand.{Hand}
 use Rattle.ael_threads.specs.declared.view.Plan.{Plan}
 use Rattle.ael_threads.specs.declared.view.View.{View}

@@ -28,12 +28,12 @@ use Rattle.gc_worker.specs.Steps.Stepped.{IsBeginningCheckpoint, uncounted}
 use Rattle.gc_worker.specs.declared.calls.did.Did.TheVariants.{Done, Trap}
 use Rattle.gc_worker.specs.Steps.Turned.{Told, Silent, Empties, Answers, Marks, told, turned, won}
 use Rattle.gc_worker.specs.Steps.Wanted.{wanted}
-use Rattle.gc_worker.proofs.Between.GoingOn.{workers_go_on}
+use Rattle.gc_worker.proofs.Between.KeptTasks.{workers_go_on}
 use Rattle.gc_worker.proofs.Between.Last.{scanners_last_with, scanners_stay_last}
 use Rattle.gc_worker.proofs.Between.Readying.{readying_stands}
-use Rattle.gc_worker.proofs.Between.Standing.{what_stands_is_so}
+use Rattle.gc_worker.proofs.Between.StandingHeaps.{what_stands_is_so}
 use Rattle.gc_worker.proofs.Workers.ApartFromCount.{counted_fit, counts_are_apart}
-use Rattle.gc_worker.proofs.Plain.LostCells.{lost_cells_are_empty}
+use Rattle.gc_worker.proofs.Plain.CellTargets.LostCells.{lost_cells_are_empty}
 use Rattle.gc_worker.proofs.StepKeeps.{steps_keep}
 use Rattle.gc_worker.proofs.StoriesKeep.{stories_keep}
 use Rattle.gc_worker.specs.declared.calls.call.Call.{Call}
@@ -50,15 +50,15 @@ use Rattle.ael_threads.specs.Rule.{FitsView, HasHand, RuleHolds, crew, heap_of, 
 use Rattle.ael_threads.specs.Seats.{BeginsBySnap, Follows, IsPresent, IsRunning, IsShown, Moves, Sees, ShowsSeen, StandWith, plain_after_seen, seen_after, with_claim, LiveByEnd, LiveWhereTold}
 use Rattle.ael_threads.specs.Began.{BegunWithin, FlippedIfFull, HasLooked, begun_held}
 use Rattle.ael_threads.proofs.WholeCalls.Began.{given_none}
-use Rattle.ael_threads.proofs.Looks.{begun_later, flipped_aside, flipped_more, looked}
+use Rattle.ael_threads.proofs.BegunLooks.{begun_later, flipped_aside, flipped_more, looked}
 use Rattle.ael_threads.proofs.Lists.Reads.{at_inside, at_set, get_of, set_else, set_here}
 use Rattle.ael_threads.proofs.Lists.Elements.{each_map, prefix_more, prefix_self}
-use Rattle.gc_worker.proofs.History.Steps.{step_tallied}
+use Rattle.gc_worker.proofs.History.Counted.TalliedSteps.{step_tallied}
 use Rattle.ael_threads.proofs.TableRule.Flips.{flips_by}
 use Rattle.gc_worker.proofs.History.Extensions.{Agrees, after_more, calls_more, calls_other, flip_more, legal_more, seen_keeps}
 use Rattle.ael_threads.proofs.WorkerSeats.Shown.{alike_by, begins_by, ends_with, full_by, lands_by, live_by, mutator_at, present_aside, rests_present, rests_run, shown_by}
-use Rattle.gc_worker.proofs.History.Tallies.{tally_flip, tally_now}
-use Rattle.gc_worker.proofs.History.Tasks.{task_tallied}
+use Rattle.gc_worker.proofs.History.Counted.Tallies.{tally_flip, tally_now}
+use Rattle.gc_worker.proofs.History.Counted.TalliedTasks.{task_tallied}
 use Rattle.ael_threads.proofs.TableRule.Views.{all_fit, my_fit}
 use Rattle.ael_threads.proofs.TableRule.WonPages.{LeavesPagesOut, won_after}
 

@@ -17,12 +17,12 @@ use Rattle.mutator_asm.specs.declared.instr.Instr.{Instr}
 use Rattle.mutator_asm.specs.declared.instr.Instr.TheVariants as instrs
 use Rattle.mutator_asm.specs.declared.operand.Operand.TheVariants as operands
 use Rattle.plain_heap.specs.declared.action.Action.{Action}
-use Rattle.plain_heap.specs.declared.action.Action.TheVariants.{Loads, Stores, Exchanges, Puts, Swaps}
+use Rattle.plain_heap.specs.declared.action.Action.TheVariants.{Loads, Stores, Compares, Puts, Swaps}
 use Rattle.plain_heap.specs.Action.{◌>>=◌, action, register}
 use Rattle.plain_heap.specs.Call.{After, board_word, call, may_hold, performed, store_in, value_in}
 use Rattle.plain_heap.specs.Step.{settled}
 use Rattle.plain_heap.proofs.Alone.Alike.{Same}
-use Rattle.plain_heap.proofs.Calls.Outcomes.{if_ok-bind, if_ok-then, performed_exchange}
+use Rattle.plain_heap.proofs.Calls.CallOutcomes.{if_ok-bind, if_ok-then, performed_exchange}
 use Rattle.heap_laws.specs.Opening.{opening_plain}
 use Rattle.gc_worker.specs.declared.task.Task.{Task}
 use Rattle.gc_worker.specs.declared.task.Task.TheVariants.{Calls, Stops}
@@ -33,11 +33,11 @@ use Rattle.gc_worker.specs.declared.calls.entry.Entry.{Entry}
 use Rattle.gc_worker.specs.declared.calls.entry.Entry.TheVariants.{Made, Exchanged, Emptied}
 use Rattle.gc_worker.specs.History.Legal.{IsLegal, after_all, after_call}
 use Rattle.gc_worker.specs.Plain.Answer.{ComesTo, MayCome, after_answer, after_outcome, with_emptied}
-use Rattle.gc_worker.proofs.Plain.Emptied.{same_board}
+use Rattle.gc_worker.proofs.Plain.CellTargets.Emptied.{same_board}
 use Rattle.gc_worker.proofs.History.Extensions.{after_append}
 use Rattle.ael_threads.specs.Alone.{task_leaves_board}
 use Rattle.ael_threads.specs.Unread.{BoardWordsStay, IsPut, LastPutStands, LeavesWord}
-use Rattle.ael_threads.proofs.Alone.Going.{after_is}
+use Rattle.ael_threads.proofs.Alone.LoneHistories.{after_is}
 use Rattle.ael_threads.proofs.Unread.OtherBoards.{KeepsBoard, call-same}
 
 -- ---- a call that leaves the word
@@ -107,7 +107,7 @@ module _ (m : ℕ) (heap : Heap) (k : Mutator) where
   performed-long (Loads d i x) = if_ok-bind (λ (a : After). AsLong a.heap) (value_in heap i x) _ (λ v. refl)
   performed-long (Stores i x v) = if_ok-bind (λ (a : After). AsLong a.heap) (value_in heap i x) _
       (λ old. if_ok-then AsLong (λ (a : After). AsLong a.heap) (store_in heap i (record_of heap i) x v) _ (stored-long i x v (record_of heap i)) (λ h same. same))
-  performed-long (Exchanges d i x expected v) =
+  performed-long (Compares d i x expected v) =
       performed_exchange m heap k d i x expected v (λ (a : After). AsLong a.heap) refl
       (if_ok-then AsLong (λ (a : After). AsLong a.heap) (store_in heap i (record_of heap i) x v) _ (stored-long i x v (record_of heap i)) (λ h same. same))
   performed-long (Puts x v) = length-set heap.board x v

@@ -28,7 +28,7 @@ use Rattle.gc_worker.specs.History.Legal.{after_call, worker_call}
 use Rattle.gc_worker.specs.Plain.Answer.{ComesTo, MayCome, after_outcome, with_emptied}
 use Rattle.ael_threads.specs.Alone.{LeavesBoard, task_leaves_board}
 use Rattle.ael_threads.specs.Unread.{IsPut, LeavesUnread, as_move, instr_as_move, task_as_move}
-use Rattle.ael_threads.proofs.Alone.Going.{after_is, ended_too, executed_too, may_end_too}
+use Rattle.ael_threads.proofs.Alone.LoneHistories.{after_is, ended_too, executed_too, may_end_too}
 use Rattle.ael_threads.proofs.Unread.OtherBoards.{KeepsBoard, call-same, with_records_of}
 
 -- the state with another heap, which has the same records

@@ -12,13 +12,13 @@ use Rattle.plain_state.specs.Writing.{stored}
 use Rattle.mutator_asm.specs.declared.instr.Instr.{Instr}
 use Rattle.mutator_asm.specs.declared.instr.Instr.TheVariants as instrs
 use Rattle.plain_heap.specs.declared.action.Action.{Action}
-use Rattle.plain_heap.specs.declared.action.Action.TheVariants.{Loads, Stores, Exchanges, Gets, Puts, Swaps}
+use Rattle.plain_heap.specs.declared.action.Action.TheVariants.{Loads, Stores, Compares, Gets, Puts, Swaps}
 use Rattle.plain_heap.specs.Action.{◌>>=◌, action, are_same}
 use Rattle.plain_heap.specs.Alone.{leaves_board}
 use Rattle.plain_heap.specs.Call.{After, call, loads, may_hold, performed, store_in, value_in, went_on}
 use Rattle.plain_heap.proofs.Alone.Alike.{Same, same-bind}
 use Rattle.plain_heap.proofs.Calls.Named.{Names, Spells, named}
-use Rattle.plain_heap.proofs.Calls.Outcomes.{computed}
+use Rattle.plain_heap.proofs.Calls.CallOutcomes.{computed}
 
 -- the heap there with the records of this one
 abbrev pub with_records_of : Heap → (there : Heap) → Heap
@@ -64,7 +64,7 @@ module _ (m : ℕ) (heap there : Heap) (k : Mutator) where
   performed-same : (act : Action) → Names (λ v. ⊤) ⊥ k act → DoTheSame (performed m heap k act) (performed m other k act)
   performed-same (Loads d i x) is = same-bind (KeepsBoard heap) (value_in heap i x) _ _ (λ v at. record { mutator = refl; records = refl; board = refl })
   performed-same (Stores i x v) is = same-bind (KeepsBoard heap) (value_in heap i x) _ _ (λ old at. stores_same i (record_of heap i) x v)
-  performed-same (Exchanges d i x expected v) is = same-bind (KeepsBoard heap) (value_in heap i x) _ _ (λ found at. exchanges_same d i (record_of heap i) x v (are_same found expected))
+  performed-same (Compares d i x expected v) is = same-bind (KeepsBoard heap) (value_in heap i x) _ _ (λ found at. exchanges_same d i (record_of heap i) x v (are_same found expected))
   performed-same (Gets d x) is = absurd is.0
   performed-same (Puts x v) is = absurd is.0
   performed-same (Swaps d x v) is = absurd is.0

@@ -12,7 +12,7 @@ use Rattle.gc_worker.specs.History.Legal.{IsLegal, after_all, after_call, calls_
 use Rattle.ael_threads.specs.Alone.{ComesToTheSame, LeavesBoard, task_leaves_board}
 use Rattle.ael_threads.specs.Histories.{Each}
 use Rattle.ael_threads.specs.Unread.{EachCall, LeavesUnread, UnreadBoardsShareNothing, as_move, task_as_move}
-use Rattle.ael_threads.proofs.Alone.Whole.{lone_calls_come_to_the_same}
+use Rattle.ael_threads.proofs.Alone.LoneCalls.{lone_calls_come_to_the_same}
 use Rattle.ael_threads.proofs.Unread.OneCall.{IsMovedTo, emptied-beside, moved_to, same_as_move, unread-same}
 
 -- ---- the history

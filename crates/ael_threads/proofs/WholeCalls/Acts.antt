@@ -15,7 +15,7 @@ use Rattle.gc_worker.specs.Steps.Stepped.{stepped_by, uncounted}
 use Rattle.gc_worker.specs.declared.calls.did.Did.TheVariants.{Done}
 use Rattle.gc_worker.specs.Steps.Turned.{Told, Answers, told, turned}
 use Rattle.gc_worker.specs.Steps.Wanted.{wanted}
-use Rattle.gc_worker.proofs.Between.GoingOn.{workers_go_on}
+use Rattle.gc_worker.proofs.Between.KeptTasks.{workers_go_on}
 use Rattle.ael_threads.specs.declared.view.Hand.{Hand}
 use Rattle.ael_threads.specs.declared.view.Plan.{Plan}
 use Rattle.ael_threads.specs.Histories.{first_plain}

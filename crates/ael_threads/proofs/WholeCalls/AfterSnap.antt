@@ -7,7 +7,7 @@ use Rattle.plain_state.specs.State.{Mutator, Plain}
 use Rattle.plain_heap.specs.Order.{fresh}
 use Rattle.mutator_asm.specs.declared.instr.Instr.{Instr}
 use Rattle.mutator_asm.specs.declared.instr.Instr.TheVariants.{Snap}
-use Rattle.heap_state.specs.Worker.{is_running}
+use Rattle.heap_state.specs.Known.{is_running}
 use Rattle.gc_worker.specs.declared.calls.did.Did.{Did}
 use Rattle.gc_worker.specs.declared.calls.did.Did.TheVariants.{Done, Trap}
 use Rattle.gc_worker.specs.declared.stage.Stage.{Stage}

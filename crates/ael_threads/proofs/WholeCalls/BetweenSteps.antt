@@ -17,9 +17,9 @@ use Rattle.gc_worker.specs.Laws.Step.{Heap, held_at, nobody}
 use Rattle.gc_worker.specs.Steps.Stepped.{uncounted}
 use Rattle.gc_worker.specs.Steps.Turned.{turned}
 use Rattle.gc_worker.proofs.Between.Beginning.{tasks_may_begin}
-use Rattle.gc_worker.proofs.Between.GoingOn.{workers_go_on}
-use Rattle.gc_worker.proofs.Between.Opening.{heaps_open, mutator_fits, scanner_fits}
-use Rattle.gc_worker.proofs.Between.Standing.{what_stands_is_so}
+use Rattle.gc_worker.proofs.Between.KeptTasks.{workers_go_on}
+use Rattle.gc_worker.proofs.Between.OpenedHeap.{heaps_open, mutator_fits, scanner_fits}
+use Rattle.gc_worker.proofs.Between.StandingHeaps.{what_stands_is_so}
 use Rattle.gc_worker.proofs.Workers.ApartFromCount.{beginning, counted_fit}
 use Rattle.gc_worker.specs.declared.calls.entry.Entry.{Entry}
 use Rattle.ael_threads.specs.declared.view.Hand.{Hand}
@@ -32,7 +32,7 @@ use Rattle.ael_threads.specs.Seats.{Absorbs, Follows, HasHeardAllSeen, Heads, Fi
 use Rattle.ael_threads.proofs.Lists.Elements.{prefix_trans}
 use Rattle.ael_threads.proofs.Lists.Reads.{get_of}
 use Rattle.gc_worker.proofs.History.Extensions.{seen_keeps}
-use Rattle.ael_threads.proofs.TableRule.Opening.{uncounted_first, worker_at}
+use Rattle.ael_threads.proofs.TableRule.OpenedRule.{uncounted_first, worker_at}
 use Rattle.ael_threads.proofs.WholeCalls.Acts.{heads_fit}
 use Rattle.ael_threads.proofs.WorkerSeats.Shown.{shown_by}
 

@@ -11,9 +11,9 @@ use Rattle.std.specs.Option.{is_some}
 use Rattle.ael_threads.proofs.TableRule.Flips.{answers_in_epoch}
 use Rattle.gc_worker.proofs.History.Extensions.{legal_last}
 use Rattle.ael_threads.proofs.WorkerSeats.Shown.{present_uncounted, runs_uncounted}
-use Rattle.gc_worker.proofs.History.Tallies.{entry_at}
+use Rattle.gc_worker.proofs.History.Counted.Tallies.{entry_at}
 use Rattle.plain_state.specs.declared.end.End.{End}
-use Rattle.heap_state.specs.Worker.{Account}
+use Rattle.heap_state.specs.Known.{Account}
 use Rattle.mutator_asm.specs.declared.instr.Instr.TheVariants.{Halt, Snap}
 use Rattle.gc_worker.specs.declared.steps.stepped.Stepped.{Stepped}
 use Rattle.gc_worker.specs.declared.steps.stepped.Stepped.TheVariants as stepped

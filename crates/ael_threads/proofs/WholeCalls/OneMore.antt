@@ -11,22 +11,22 @@ use Rattle.plain_state.specs.declared.value.Value.{Value}
 use Rattle.plain_state.specs.State.{Record, Heap, Mutator, Plain, made_by, record_of, serial_of}
 use Rattle.plain_state.specs.State as plain
 use Rattle.plain_state.specs.Writing.{filled}
-use Rattle.plain_state.proofs.Lists.{slice_get-replicate, slice_get-set_same}
+use Rattle.plain_state.proofs.Elements.{slice_get-replicate, slice_get-set_same}
 use Rattle.mutator_asm.specs.declared.instr.Instr.{Instr}
 use Rattle.plain_heap.specs.declared.action.Action.{Action}
-use Rattle.plain_heap.specs.declared.action.Action.TheVariants.{Makes, Loads, Stores, Exchanges}
+use Rattle.plain_heap.specs.declared.action.Action.TheVariants.{Makes, Loads, Stores, Compares}
 use Rattle.plain_heap.specs.Action.{action}
 use Rattle.plain_heap.specs.Call.{After, call, may_hold, performed, store_in, value_in}
 use Rattle.plain_heap.specs.Step.{ended, fetch, settled}
-use Rattle.plain_heap.proofs.Calls.Counts.{Went, call-went}
-use Rattle.plain_heap.proofs.Calls.Outcomes.{if_ok-bind, if_ok-then, performed_exchange}
+use Rattle.plain_heap.proofs.Calls.CountedCalls.{Went, call-went}
+use Rattle.plain_heap.proofs.Calls.CallOutcomes.{if_ok-bind, if_ok-then, performed_exchange}
 use Rattle.heap_laws.specs.Opening.{opening_mutator, opening_plain}
 use Rattle.gc_worker.specs.declared.task.Task.{Task}
 use Rattle.gc_worker.specs.declared.task.Task.TheVariants.{Calls, Stops}
 use Rattle.gc_worker.specs.Plain.Answer.{ComesTo, MayCome, after_answer, after_outcome, with_emptied}
 use Rattle.gc_worker.specs.Workers.Held.{Held}
 use Rattle.gc_worker.specs.Plain.Marks.{task_of}
-use Rattle.gc_worker.proofs.Plain.Outcomes.{call-counted}
+use Rattle.gc_worker.proofs.Plain.TaskOutcomes.{call-counted}
 use Rattle.gc_worker.specs.declared.calls.call.Call.{Call}
 use Rattle.gc_worker.specs.declared.calls.did.Did.{Did}
 use Rattle.gc_worker.specs.declared.calls.did.Did.TheVariants.{Done, Trap}
@@ -36,9 +36,9 @@ use Rattle.ael_threads.specs.declared.view.Hand.{Hand}
 use Rattle.ael_threads.specs.declared.view.Plan.{Plan}
 use Rattle.gc_worker.specs.History.Legal.{IsLegal, after_all, after_call, calls_of}
 use Rattle.gc_worker.specs.History.Order.{AreFetched, AreShort, IsShort}
-use Rattle.ael_threads.specs.Programs.{HasCount, Executes, count_after_call, fetched_at}
+use Rattle.ael_threads.specs.Runs.Programs.{HasCount, Executes, count_after_call, fetched_at}
 use Rattle.ael_threads.specs.Seats.{Extends, IsShown}
-use Rattle.gc_worker.proofs.Plain.Emptied.{same_makers}
+use Rattle.gc_worker.proofs.Plain.CellTargets.Emptied.{same_makers}
 use Rattle.gc_worker.proofs.History.Orders.{fetched_append, fetched_none, short_append, short_none}
 use Rattle.gc_worker.proofs.History.Extensions.{legal_last, no_more, Agrees, after_append, calls_append, seen_keeps}
 
@@ -57,7 +57,7 @@ module _ (m : ℕ) (heap : Heap) (k : Mutator) where
   performed-makers (Loads d i x) = if_ok-bind (λ (a : After). AsMany a.heap) (value_in heap i x) _ (λ v. refl)
   performed-makers (Stores i x v) = if_ok-bind (λ (a : After). AsMany a.heap) (value_in heap i x) _
       (λ old. if_ok-then AsMany (λ (a : After). AsMany a.heap) (store_in heap i (record_of heap i) x v) _ (stores-makers i x v (record_of heap i)) (λ h same. same))
-  performed-makers (Exchanges d i x expected v) =
+  performed-makers (Compares d i x expected v) =
       performed_exchange m heap k d i x expected v (λ (a : After). AsMany a.heap) refl
       (if_ok-then AsMany (λ (a : After). AsMany a.heap) (store_in heap i (record_of heap i) x v) _ (stores-makers i x v (record_of heap i)) (λ h same. same))
   performed-makers _ = refl

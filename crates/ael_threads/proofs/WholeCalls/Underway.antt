@@ -31,7 +31,7 @@ use Rattle.ael_threads.specs.Calls.{FlippedByOutcome, FlippedInCall, HasBegun, I
 use Rattle.ael_threads.specs.Histories.{first_plain}
 use Rattle.ael_threads.specs.Rule.{StandsAs, heap_of}
 use Rattle.ael_threads.specs.Seats.{ActsBy, Moves, Seated, first_number, first_own}
-use Rattle.ael_threads.proofs.Looks.{begun_here, begun_later, flipped_full}
+use Rattle.ael_threads.proofs.BegunLooks.{begun_here, begun_later, flipped_full}
 use Rattle.ael_threads.proofs.WholeCalls.Began.{answers_in_call, was_in_call}
 use Rattle.ael_threads.proofs.Lists.Elements.{prefix_more, prefix_trans}
 use Rattle.ael_threads.proofs.TableRule.Epochs.{flips_rise, no_later}

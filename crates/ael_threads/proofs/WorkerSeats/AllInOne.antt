@@ -10,14 +10,14 @@ use Rattle.gc_worker.specs.Workers.Held.{Held}
 use Rattle.gc_worker.specs.Laws.Step.{epoch_of}
 use Rattle.gc_worker.specs.Laws.Stories.{StoryStands}
 use Rattle.gc_worker.proofs.Between.Pages.Copied.{copied_was_live}
-use Rattle.gc_worker.proofs.Plain.LostCells.{lost_cells_are_empty}
+use Rattle.gc_worker.proofs.Plain.CellTargets.LostCells.{lost_cells_are_empty}
 use Rattle.gc_worker.proofs.Saving.Won.{checkpoints_are_kept}
 use Rattle.space_map.specs.Table.{whole_length}
 use Rattle.ael_threads.specs.declared.view.WonClaim.{WonClaim}
 use Rattle.ael_threads.specs.declared.view.Hand.{Hand}
 use Rattle.ael_threads.specs.declared.view.Plan.{Plan}
 use Rattle.ael_threads.specs.Histories.{AreBy, opening_tally, Each, IsOnce, first_plain, hand_number}
-use Rattle.gc_worker.proofs.History.Checkpoints.{histories_keep_the_last_checkpoint}
+use Rattle.gc_worker.proofs.History.CheckpointsOfHistories.{histories_keep_the_last_checkpoint}
 use Rattle.gc_worker.proofs.History.Large.{large_has_no_full}
 use Rattle.gc_worker.specs.History.Large.{HasNoFullCall, IsLargeFor}
 use Rattle.gc_worker.specs.History.Tally.{size_now, tally, tasks_held}
@@ -26,7 +26,7 @@ use Rattle.gc_worker.specs.History.Legal.{IsLegal, after_all, last_flip}
 use Rattle.ael_threads.specs.Rule.{HasHand, RuleHolds, crew, heap_of}
 use Rattle.ael_threads.specs.Seats.{Absorbs, Closes, FitsTable, Gathers, HasFlippedIfFull, Seated, Stays, all_hands}
 use Rattle.ael_threads.proofs.Callers.{are_by, each_is_there}
-use Rattle.ael_threads.proofs.Looks.{hand_flipped}
+use Rattle.ael_threads.proofs.BegunLooks.{hand_flipped}
 use Rattle.ael_threads.proofs.Lists.Elements.{each_at, each_map, each_to_map, prefix_self, prefix_trans}
 use Rattle.ael_threads.proofs.Lists.Reads.{at_inside}
 use Rattle.ael_threads.proofs.TableRule.PagesInUse.{tallied_sizes}

@@ -16,7 +16,7 @@ use Rattle.ael_threads.specs.Histories.{AreSizesOf, opening_tally, Each, IsOnce,
 use Rattle.gc_worker.specs.History.Legal.{IsLegal, calls_of}
 use Rattle.ael_threads.specs.Rule.{FitsView, HasHand, RuleHolds, Won, spent_view, view}
 use Rattle.ael_threads.specs.Seats.{HasFlippedIfFull, Learns, Me, both_of}
-use Rattle.ael_threads.proofs.Looks.{hand_flipped}
+use Rattle.ael_threads.proofs.BegunLooks.{hand_flipped}
 use Rattle.ael_threads.proofs.TableRule.PagesInUse.{tallied_sizes}
 use Rattle.ael_threads.proofs.Lists.Reads.{at_set, set_else}
 use Rattle.ael_threads.proofs.Lists.Elements.{each_append, each_map, each_to_map, prefix_self}

@@ -4,9 +4,9 @@ use Rattle.std.specs.Option.{is_some}
 use Rattle.plain_state.specs.declared.end.End.{End}
 use Rattle.plain_state.specs.declared.end.End.TheVariants.{HeapFull}
 use Rattle.plain_state.specs.State.{Mutator, Plain}
-use Rattle.plain_state.proofs.Lists.{slice_get-set_same}
+use Rattle.plain_state.proofs.Elements.{slice_get-set_same}
 use Rattle.std.proofs.lemmas.Option.{same_Some, slice_get_within}
-use Rattle.heap_state.specs.Worker.{is_running}
+use Rattle.heap_state.specs.Known.{is_running}
 use Rattle.gc_worker.specs.declared.stage.Stage.{Stage}
 use Rattle.gc_worker.specs.declared.stage.back.Back.{Back}
 use Rattle.gc_worker.specs.declared.stage.back.Back.TheVariants.{ToScanner}

@@ -5,7 +5,7 @@ ghost use Rattle.space_map.specs.declared.spaces.TheConstants.{MOST_MUTATORS};
 ghost use Rattle.gc_worker.specs.declared.task.Task.TheVariants.{Stops};
 ghost use Rattle.gc_worker.specs.Workers.Fits.{MayStop};
 ghost use Rattle.ael_threads.specs.Calls.{Called};
-ghost use Rattle.ael_threads.specs.Running.{Executed, Executing, HasRun, ScannerIsGone, RunsAsScanner};
+ghost use Rattle.ael_threads.specs.Runs.Running.{Executed, Executing, HasRun, ScannerIsGone, RunsAsScanner};
 
 use crate::mutator::Mutator;
 use crate::pace::Pace;

@@ -21,7 +21,7 @@ pub(crate) struct Job<'a, R, P> {
 }
 
 impl<'a, R, P> Model for Job<'a, R, P> {
-    ghost use Rattle.ael_threads.specs.Running.{Work};
+    ghost use Rattle.ael_threads.specs.Runs.Running.{Work};
 
     ghost Value = { Work };
 

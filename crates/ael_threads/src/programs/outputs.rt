@@ -2,7 +2,7 @@
 
 ghost use Rattle.std.specs.Prelude.{◌≡◌, ◌++◌, IfOk, map};
 ghost use Rattle.ael_threads.specs.Histories.{Each};
-ghost use Rattle.ael_threads.specs.Outputs.{HasEnd, seat_kept, printed_by, seat_registers, seat_seen};
+ghost use Rattle.ael_threads.specs.Runs.Outputs.{HasEnd, seat_kept, printed_by, seat_registers, seat_seen};
 ghost use Rattle.ael_threads.specs.Readers.{seated};
 
 use crate::mutator::Mutator;
@@ -48,7 +48,7 @@ pub enum RunError {
 
 impl From<OpenError> for RunError {
     ghost use Rattle.std.specs.Prelude.{◌≡◌};
-    ghost use Rattle.ael_threads.specs.Outputs.{as_run_error};
+    ghost use Rattle.ael_threads.specs.Runs.Outputs.{as_run_error};
 
     ghost from_gives = { λ why e. e ≡ as_run_error why };
 

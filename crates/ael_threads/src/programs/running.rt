@@ -7,9 +7,9 @@ ghost use Rattle.space_map.specs.Table.{whole_length};
 ghost use Rattle.gc_worker.specs.Config.{has_sizes};
 ghost use Rattle.gc_worker.specs.declared.config.TheConstants.{MOST_TURNS};
 ghost use Rattle.ael_threads.specs.Histories.{Each};
-ghost use Rattle.ael_threads.specs.Outputs.{HasEnd, IsToldOnClose, Runs};
+ghost use Rattle.ael_threads.specs.Runs.Outputs.{HasEnd, IsToldOnClose, Runs};
 ghost use Rattle.ael_threads.specs.Readers.{SeatedScanner};
-ghost use Rattle.ael_threads.specs.Running.{AreReady, AreScanning, Executing, HasRun, ScannerIsGone, HaveRun, HaveScanned, RunsAsScanner};
+ghost use Rattle.ael_threads.specs.Runs.Running.{AreReady, AreScanning, Executing, HasRun, ScannerIsGone, HaveRun, HaveScanned, RunsAsScanner};
 ghost use Rattle.ael_threads.specs.Seats.{Seated};
 
 use crate::mutator::Mutator;

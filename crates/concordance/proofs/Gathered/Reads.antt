@@ -6,7 +6,7 @@ use Rattle.std.proofs.lemmas.Bool.{and_parts, lt-ltb, ltb-true}
 use Rattle.std.proofs.lemmas.List.{get_or-set_other, get_or-set_same}
 use Rattle.std.proofs.lemmas.Option.{get_or_from_slice_get, slice_get-get_or, slice_get_within}
 use Rattle.heap_words.specs.Decoded.{NumberWord, PointerWord, decode}
-use Rattle.heap_state.specs.Worker.{Account}
+use Rattle.heap_state.specs.Known.{Account}
 use Rattle.plain_state.specs.declared.end.End.{End}
 use Rattle.plain_state.specs.declared.end.End.TheVariants.{HeapFull}
 use Rattle.plain_state.specs.declared.sizes.TheConstants.{REGISTERS}
@@ -41,7 +41,7 @@ use Rattle.concordance.specs.Gathering.{CanGet, HasAll, HasGot, HasRead, HasValu
 use Rattle.concordance.specs.Lone.{KeepsSeat}
 use Rattle.concordance.specs.Whole.{CallsWhole}
 use Rattle.ael_threads.proofs.RegisterCount.{have_registers}
-use Rattle.concordance.proofs.Whole.{whole_calls}
+use Rattle.concordance.proofs.WholeClerk.{whole_calls}
 
 -- ---- the plain machine's call
 

@@ -10,7 +10,7 @@ use Rattle.ael_threads.specs.Seats.{Seated}
 use Rattle.concordance_text.specs.Rows.{WordRow, with_lines}
 use Rattle.concordance.specs.Gathering.{HasGot, HasRead, HasSmallNumbers, HasValueAt, LeadsToEntries, LeadsToEntry, values_at, whole_desk_of, whole_register, with_notes}
 use Rattle.concordance.specs.Notes.Records.{AreEntries, AreLines, IsEntry, IsLetters, IsLine, Note}
-use Rattle.concordance.proofs.Gathered.Places.{FirstEntry, FirstLine, before_got, carried, entry_has, first_entry, first_line, letter_got, line_before_got, line_has, line_number_got, no_entry, no_line}
+use Rattle.concordance.proofs.Gathered.NotedPlaces.{FirstEntry, FirstLine, before_got, carried, entry_has, first_entry, first_line, letter_got, line_before_got, line_has, line_number_got, no_entry, no_line}
 
 abbrev reg : Seated → ℕ → Value
 reg s r = whole_register (whole_desk_of s) r

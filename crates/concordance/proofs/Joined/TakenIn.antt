@@ -10,7 +10,7 @@ use Rattle.gc_worker.specs.Workers.Held.{Held}
 use Rattle.ael_threads.specs.declared.view.Hand.{Hand}
 use Rattle.ael_threads.specs.declared.view.Plan.{Plan}
 use Rattle.ael_threads.specs.Histories.{HasOwnCalls, first_plain, hand}
-use Rattle.ael_threads.specs.Running.{EachFrom}
+use Rattle.ael_threads.specs.Runs.Running.{EachFrom}
 use Rattle.ael_threads.specs.Seats.{Absorbs, Seated, all_hands, first_number, first_own, plain_after_seen}
 use Rattle.ael_threads.proofs.Lists.Elements.{each_apart}
 use Rattle.concordance_text.specs.declared.part.Part.{Part}

@@ -1,6 +1,6 @@
 -- Facts of each element of a list and its number.
 use Rattle.std.proofs.Common.{ℕ, ◌+◌, List, [], ◌∷◌, ◌++◌, length, subst, arith}
-use Rattle.ael_threads.specs.Running.{EachFrom}
+use Rattle.ael_threads.specs.Runs.Running.{EachFrom}
 
 module _ {A : Type 0} (P : ℕ → A → Type 0) where
   pub from_last : (n : ℕ) (xs : List A) (x : A) → EachFrom P n (xs ++ x ∷ []) → EachFrom P n xs × P (n + length xs) x

@@ -4,7 +4,7 @@ use Rattle.std.specs.List.{sum_by}
 use Rattle.std.proofs.lemmas.List.Sums.{sum_by-cons}
 use Rattle.plain_state.specs.Layout.{size_of}
 use Rattle.plain_state.specs.State.{Record, at_serial}
-use Rattle.plain_state.proofs.Lists.{at_serial_within, at_serial-set_same, at_serial-set_other}
+use Rattle.plain_state.proofs.Elements.{at_serial_within, at_serial-set_same, at_serial-set_other}
 
 -- ---- more records behind them
 

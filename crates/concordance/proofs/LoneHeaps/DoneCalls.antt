@@ -9,7 +9,7 @@ use Rattle.ael_threads.specs.Alone.{ComesToTheSame, EndIsLast, LeavesBoard, alon
 use Rattle.ael_threads.specs.Histories.{Each, first_plain}
 use Rattle.ael_threads.specs.Seats.{first_number, first_own, plain_after_seen}
 use Rattle.ael_threads.proofs.Alone.Replying.{AllBy, calls_by, end_is}
-use Rattle.ael_threads.proofs.Alone.Whole.{lone_calls_come_to_the_same}
+use Rattle.ael_threads.proofs.Alone.LoneCalls.{lone_calls_come_to_the_same}
 use Rattle.concordance.specs.Full.{LoneCallsAreDone}
 use Rattle.concordance.specs.OneMutator.{WasDone}
 

@@ -26,7 +26,7 @@ use Rattle.gc_worker.specs.Laws.Growth.{Grows}
 use Rattle.gc_worker.specs.Plain.Answer.{ComesTo, MayCome, after_answer, after_outcome}
 use Rattle.ael_threads.specs.Histories.{opening_tally}
 use Rattle.ael_threads.specs.Unread.{EachCall}
-use Rattle.gc_worker.proofs.Plain.Emptied.{same_makers, same_serial}
+use Rattle.gc_worker.proofs.Plain.CellTargets.Emptied.{same_makers, same_serial}
 use Rattle.ael_threads.proofs.WholeCalls.OneMore.{makers}
 use Rattle.concordance.specs.OneMutator.{LoneFlipsAreFew, WasDone}
 use Rattle.concordance.proofs.LoneHeaps.OneMutator.{apart, by_first, one_still}

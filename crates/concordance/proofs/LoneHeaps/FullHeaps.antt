@@ -18,7 +18,7 @@ use Rattle.gc_worker.specs.History.Tally.{EachEntry, EntryIs, Sizes, Tally, Task
 use Rattle.gc_worker.specs.Steps.Turned.{Told}
 use Rattle.gc_worker.specs.Plain.Answer.{with_emptied}
 use Rattle.gc_worker.proofs.History.Extensions.{as_many, calls_append}
-use Rattle.gc_worker.proofs.History.Tallies.{tally_now}
+use Rattle.gc_worker.proofs.History.Counted.Tallies.{tally_now}
 use Rattle.ael_threads.specs.declared.view.Plan.{Plan}
 use Rattle.ael_threads.specs.Alone.{LeavesBoard, alone_history}
 use Rattle.ael_threads.specs.Calls.{Called, call_by}

@@ -9,7 +9,7 @@ use Rattle.plain_state.specs.declared.value.Value.TheVariants.{Number}
 use Rattle.plain_state.specs.Layout.{size_of}
 use Rattle.plain_state.specs.State.{Record}
 use Rattle.plain_state.specs.Writing.{with_value}
-use Rattle.plain_state.proofs.Lists.{at_serial_within}
+use Rattle.plain_state.proofs.Elements.{at_serial_within}
 use Rattle.concordance_text.specs.declared.letters.TheConstants.{MOST_LETTERS}
 use Rattle.concordance_text.specs.Rows.{IsElementOf, TellsMention}
 use Rattle.concordance_text.specs.Words.{Mention, mention}

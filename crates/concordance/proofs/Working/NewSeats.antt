@@ -10,7 +10,7 @@ use Rattle.ael_threads.specs.declared.view.Plan.{Plan}
 use Rattle.ael_threads.specs.Histories.{Each}
 use Rattle.ael_threads.specs.Opened.{new_scanner, new_scanners}
 use Rattle.ael_threads.specs.Readers.{SeatedScanner}
-use Rattle.ael_threads.specs.Running.{EachFrom}
+use Rattle.ael_threads.specs.Runs.Running.{EachFrom}
 use Rattle.ael_threads.specs.Seats.{Seated, new_callers, new_seated}
 use Rattle.ael_threads.proofs.Lists.Elements.{each_append}
 use Rattle.ael_threads.proofs.ProgramRuns.Outputs.{from_append}

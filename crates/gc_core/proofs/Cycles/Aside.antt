@@ -23,11 +23,11 @@ use Rattle.gc_worker.specs.Steps.Turned.{Told, Answers, told, turned}
 use Rattle.gc_worker.specs.Steps.Wanted.{wanted}
 use Rattle.gc_worker.specs.Workers.Fits.{Fits}
 use Rattle.gc_worker.specs.Workers.Held.{Held}
-use Rattle.gc_worker.proofs.Between.Standing.{what_stands_is_so}
+use Rattle.gc_worker.proofs.Between.StandingHeaps.{what_stands_is_so}
 use Rattle.gc_worker.proofs.Cycles.SetAside.{claims_are_set_aside}
 use Rattle.gc_worker.proofs.History.Aside.{aside_of_others}
 use Rattle.gc_worker.proofs.History.Needs.{IsNext, making_most, order_turns}
-use Rattle.gc_worker.proofs.History.Tallies.{tally_now}
+use Rattle.gc_worker.proofs.History.Counted.Tallies.{tally_now}
 use Rattle.gc_core.specs.Core.{CoreState, size_in}
 use Rattle.gc_core.specs.Event.{event_by, event_of, readied, ready}
 use Rattle.gc_core.proofs.Cycles.Filling.{HasClaimed}

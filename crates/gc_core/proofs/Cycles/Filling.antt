@@ -21,7 +21,7 @@ use Rattle.gc_worker.specs.Steps.Turned.{Told, Answers, Marks, epoch_in_gate, to
 use Rattle.gc_worker.specs.Steps.Wanted.{wanted}
 use Rattle.gc_worker.proofs.Between.Pages.Copied.{full_tells_live}
 use Rattle.gc_worker.proofs.Cycles.Lows.{low_falls_by_claims}
-use Rattle.gc_worker.proofs.Cycles.Sizes.{sizes_stay}
+use Rattle.gc_worker.proofs.Cycles.SizesOfSpaces.{sizes_stay}
 use Rattle.gc_core.specs.Core.{CoreState, size_in}
 use Rattle.gc_core.specs.Cycles.{FillsTheSpace, HasGrown, claims_after, claims_next}
 use Rattle.gc_core.specs.Event.{core_after, event_of, readied, ready}

@@ -15,7 +15,7 @@ use Rattle.gc_worker.specs.Steps.Turned.{Told, Silent, Empties, Answers, Marks, 
 use Rattle.gc_worker.specs.Steps.Wanted.{wanted}
 use Rattle.gc_worker.specs.Workers.Held.{Held}
 use Rattle.gc_worker.proofs.Cycles.Flips.{flips_are_first}
-use Rattle.gc_worker.proofs.History.Tallies.{tally_append}
+use Rattle.gc_worker.proofs.History.Counted.Tallies.{tally_append}
 use Rattle.gc_core.specs.Core.{CoreState, size_in}
 use Rattle.gc_core.specs.Cycles.{flips_after, flips_next}
 use Rattle.gc_core.specs.Event.{event_of, readied, ready}

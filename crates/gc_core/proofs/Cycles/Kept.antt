@@ -16,7 +16,7 @@ use Rattle.gc_worker.specs.Laws.Copied.{CopiedWasLive, IsTraced}
 use Rattle.gc_worker.specs.Laws.Step.{read, WorkersStand}
 use Rattle.gc_worker.specs.Steps.Turned.{epoch_in_gate}
 use Rattle.gc_worker.proofs.Words.Areas.{area_now, area_says, is_space}
-use Rattle.gc_worker.proofs.Stages.Gate.Words.{gate_says}
+use Rattle.gc_worker.proofs.Stages.Gate.GateWords.{gate_says}
 use Rattle.gc_core.specs.Core.{CoreState}
 use Rattle.gc_core.specs.Cycles.{KeepsWhatIsLive}
 use Rattle.gc_core.specs.Readers.{cycles_of, live_of}

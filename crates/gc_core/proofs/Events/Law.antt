@@ -15,7 +15,7 @@ use Rattle.heap_state.specs.Meaning.Values.{Accounts}
 use Rattle.heap_state.proofs.Puts.{none≢some}
 use Rattle.atom_store.specs.declared.step.Step.{Step}
 use Rattle.atom_store.specs.Step.{words_after, reply_of}
-use Rattle.atom_store.proofs.Steps.{length-words_after}
+use Rattle.atom_store.proofs.StepWords.{length-words_after}
 use Rattle.gc_worker.specs.declared.stage.Stage.TheVariants.{Gone}
 use Rattle.gc_worker.specs.declared.task.Task.{Task}
 use Rattle.gc_worker.specs.Plain.Stories.{story_told}
@@ -45,9 +45,9 @@ use Rattle.gc_core.specs.Law.{AllHaveLeft, IsLawful, IsOnTask, IsScanner, IsStea
 use Rattle.gc_core.specs.Whole.{MissingWorkersAreIdle}
 use Rattle.gc_worker.proofs.Between.Last.{scanners_last_with, scanners_stay_last}
 use Rattle.gc_worker.proofs.Cycles.NextSizes.{next_sizes_stay, next_sizes_with}
-use Rattle.gc_worker.proofs.Plain.Emptied.{emptied_is, same_serial}
+use Rattle.gc_worker.proofs.Plain.CellTargets.Emptied.{emptied_is, same_serial}
 use Rattle.gc_worker.proofs.Plain.Represented.{represented_workers}
-use Rattle.gc_worker.proofs.Plain.Outcomes.{comes, end_then, asks_then, counted_then, no_flip, now_marked, was_running}
+use Rattle.gc_worker.proofs.Plain.TaskOutcomes.{comes, end_then, asks_then, counted_then, no_flip, now_marked, was_running}
 use Rattle.gc_core.proofs.Events.Readied.{ReadyToStep, readied_stands, same_task, ready_task, ready_account, ready_found, ready_stage}
 
 -- ---- idle

@@ -14,7 +14,7 @@ use Rattle.gc_worker.specs.Laws.Step.{held_at, moved}
 use Rattle.gc_worker.specs.Steps.Turned.{turned, told}
 use Rattle.gc_worker.specs.Steps.Wanted.{wanted}
 use Rattle.gc_worker.proofs.Between.Beginning.{tasks_may_begin}
-use Rattle.gc_worker.proofs.Between.Opening.{heaps_open}
+use Rattle.gc_worker.proofs.Between.OpenedHeap.{heaps_open}
 use Rattle.gc_worker.proofs.Between.Readying.{readying_stands}
 use Rattle.gc_worker.proofs.StepKeeps.{steps_keep}
 use Rattle.gc_worker.specs.declared.config.Config.{Config}
@@ -22,9 +22,9 @@ use Rattle.gc_core.specs.Core.{CoreState, opening_core, workers_of, has_sizes}
 use Rattle.gc_core.specs.Event.{Event, event_of, event_by, core_after, ready, fetched_task}
 use Rattle.gc_worker.specs.Steps.Stepped.{stepped_by}
 use Rattle.gc_core.specs.Law.{IsLawful, story_met}
-use Rattle.gc_core.proofs.Events.Opening.{opening_lawful}
+use Rattle.gc_core.proofs.Events.OpenedCore.{opening_lawful}
 use Rattle.gc_core.proofs.Events.Readied.{readied_stands, looks_idle, may_begin}
-use Rattle.gc_core.proofs.Whole.{events_stand}
+use Rattle.gc_core.proofs.EventLaws.{events_stand}
 
 -- ---- it stays lawful
 

@@ -5,7 +5,7 @@ use Rattle.std.specs.Prelude.{IsTrue}
 use Rattle.plain_state.specs.declared.end.End.{End}
 use Rattle.mutator_asm.specs.declared.instr.Instr.{Instr}
 use Rattle.mutator_asm.specs.Program.{is_valid}
-use Rattle.heap_state.specs.Worker.{Account}
+use Rattle.heap_state.specs.Known.{Account}
 use Rattle.gc_worker.specs.declared.stage.Stage.{Stage}
 use Rattle.gc_worker.specs.declared.stage.Stage.TheVariants.{Looks}
 use Rattle.gc_worker.specs.declared.task.Task.{Task}

@@ -28,16 +28,16 @@ use Rattle.gc_worker.specs.Steps.Stepped.{stepped_by}
 use Rattle.gc_worker.specs.Steps.Turned.{Told, Answers, told}
 use Rattle.gc_worker.specs.Steps.Wanted.{wanted}
 use Rattle.gc_worker.proofs.Between.Beginning.{tasks_may_begin}
-use Rattle.gc_worker.proofs.Between.GoingOn.{workers_go_on}
+use Rattle.gc_worker.proofs.Between.KeptTasks.{workers_go_on}
 use Rattle.gc_worker.proofs.Between.Readying.{readying_stands}
-use Rattle.gc_worker.proofs.Between.Standing.{what_stands_is_so}
+use Rattle.gc_worker.proofs.Between.StandingHeaps.{what_stands_is_so}
 use Rattle.gc_worker.proofs.Between.Wanting.{workers_want}
 use Rattle.gc_worker.proofs.History.Extensions.{legal_more}
 use Rattle.gc_worker.proofs.History.Needs.{IsNext, order_makes, orders_fill}
 use Rattle.gc_worker.proofs.History.Orders.{fetched_append}
-use Rattle.gc_worker.proofs.History.Steps.{step_tallied}
-use Rattle.gc_worker.proofs.History.Tallies.{empties_lost, tally_append, tally_more-flip, tally_more-now, tally_now}
-use Rattle.gc_worker.proofs.History.Tasks.{task_tallied}
+use Rattle.gc_worker.proofs.History.Counted.TalliedSteps.{step_tallied}
+use Rattle.gc_worker.proofs.History.Counted.Tallies.{empties_lost, tally_append, tally_more-flip, tally_more-now, tally_now}
+use Rattle.gc_worker.proofs.History.Counted.TalliedTasks.{task_tallied}
 use Rattle.gc_worker.proofs.StepKeeps.{steps_keep}
 use Rattle.gc_worker.proofs.StoriesKeep.{stories_keep}
 use Rattle.gc_core.specs.Core.{CoreState}
@@ -47,7 +47,7 @@ use Rattle.gc_core.specs.Law.{IsSteady, KeepsStory}
 use Rattle.gc_core.specs.Run.{all_ended, run_from}
 use Rattle.gc_core.proofs.Events.Law.{event_is, own_task, ready_story}
 use Rattle.gc_core.proofs.Events.Readied.{ReadyToStep, ready_begins, readied_stands}
-use Rattle.gc_core.proofs.Whole.{events_keep}
+use Rattle.gc_core.proofs.EventLaws.{events_keep}
 
 -- ---- what an event adds
 

@@ -9,7 +9,7 @@ use Rattle.plain_state.specs.declared.end.End.TheVariants as ends
 use Rattle.plain_state.specs.State as plain
 use Rattle.plain_heap.specs.Order.{Story, story_after}
 use Rattle.plain_heap.specs.Print.{Seen, plain_seen}
-use Rattle.plain_heap.proofs.Orders.Marks.{EachMark-append}
+use Rattle.plain_heap.proofs.Orders.EachMark.{EachMark-append}
 use Rattle.plain_heap.proofs.Orders.Stories.{story_after-append}
 use Rattle.gc_worker.specs.Laws.Between.{WhatStandsIsSo}
 use Rattle.gc_worker.specs.Workers.Held.{Held}

@@ -13,7 +13,7 @@ use Rattle.heap_state.specs.Meaning.Dump.{Dump, dump_of}
 use Rattle.heap_state.specs.Meaning.Represents.{DumpRepresents, RegisterShows, HeadShows, WordShows, RecordShows, IsEmptied, IsOwn, HasOwn, Names, LeadsToRecord, denoted_in_dump}
 use Rattle.heap_state.specs.Memory.Table.{Table, table_by, table_of, word_in}
 use Rattle.heap_state.specs.Memory.Walk.{Walked}
-use Rattle.heap_state.specs.Worker.{Scanner, Worker, fresh}
+use Rattle.heap_state.specs.Known.{Scanner, Known, fresh}
 use Rattle.dump_text.specs.Said.{dump_said, register_told}
 use Rattle.gc_worker.specs.Workers.Held.{Held}
 use Rattle.gc_worker.specs.Workers.Knows.{knows}
@@ -126,7 +126,7 @@ register_is : (s : CoreState) (m j : ℕ) → s.heap.mutators ≤ workers_of s �
 register_is s m j enough few =
     let there : m < length s.heap.workers = omega (arith, enough, few) in
     ap (λ (rs : List ℕ). get_or rs j 0) (registers_at s m enough few)
-    ∙ sym (ap (λ (x : Worker). x.registers j) (get_or-map knows s.heap.workers m nobody (fresh Scanner) there))
+    ∙ sym (ap (λ (x : Known). x.registers j) (get_or-map knows s.heap.workers m nobody (fresh Scanner) there))
 
 pub told_represents : (s : CoreState) (p : plain.Plain) → s.heap.mutators ≤ workers_of s → DumpRepresents (dump_of (read s.heap)) p → DumpRepresents (dump_said (dumped s)) p
 told_represents s p enough r =

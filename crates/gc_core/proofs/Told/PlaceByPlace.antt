@@ -6,7 +6,7 @@ use Rattle.std.proofs.lemmas.List.{get_or-take, length-take-le, length-map}
 use Rattle.std.proofs.lemmas.Option.{slice_get-map, slice_get-get_or}
 use Rattle.plain_heap.specs.Print.{Seen}
 use Rattle.heap_state.specs.Kept.{Kept, kept_by}
-use Rattle.heap_state.specs.Worker.{Worker}
+use Rattle.heap_state.specs.Known.{Known}
 use Rattle.gc_worker.specs.Workers.Held.{Held}
 use Rattle.forwarding.specs.declared.evac_stage.EvacStage.{EvacStage}
 use Rattle.forwarding.specs.declared.evac_stage.EvacStage.TheVariants as evac_stage
@@ -46,8 +46,8 @@ module _ (s : CoreState) (enough : s.heap.mutators ≤ workers_of s) where
 -- what a worker keeps
 kept_there : (s : CoreState) (w : ℕ) → w < workers_of s → slice_get (kept_in s) w ≡ Some (kept_by (knows (held_at s.heap w)).copy)
 kept_there s w below =
-    slice_get-map (λ (x : Worker). kept_by x.copy) (map knows s.heap.workers) w
-    ∙ ap (λ (o : Option Worker). option_map (λ (x : Worker). kept_by x.copy) o) (slice_get-map knows s.heap.workers w ∙ ap (λ (o : Option Held). option_map knows o) (slice_get-get_or s.heap.workers w nobody below))
+    slice_get-map (λ (x : Known). kept_by x.copy) (map knows s.heap.workers) w
+    ∙ ap (λ (o : Option Known). option_map (λ (x : Known). kept_by x.copy) o) (slice_get-map knows s.heap.workers w ∙ ap (λ (o : Option Held). option_map knows o) (slice_get-get_or s.heap.workers w nobody below))
 
 -- ---- by the worker's stage
 

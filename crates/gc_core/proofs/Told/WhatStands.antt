@@ -1,6 +1,6 @@
 -- What is told of a core that stands for a plain state is so.
 use Rattle.gc_worker.proofs.Between.Pages.Copied.{copied_was_live}
-use Rattle.gc_worker.proofs.Between.Standing.{what_stands_is_so}
+use Rattle.gc_worker.proofs.Between.StandingHeaps.{what_stands_is_so}
 use Rattle.gc_core.specs.Told.{WhatStandsIsTold}
 use Rattle.gc_core.proofs.Cycles.Kept.{keeps_what_is_live}
 use Rattle.gc_core.proofs.Told.Dumps.{told_represents}

@@ -69,7 +69,7 @@ use Rattle.gc_worker.specs.Workers.Held.{Held, at_stage, making_for, may_snap}
 use Rattle.gc_worker.specs.Plain.Seen.{Making, seen}
 use Rattle.gc_worker.specs.declared.calls.did.Did.TheVariants.{Done, Trap}
 use Rattle.gc_worker.specs.Steps.Turned.{Answers, Pointed, Silent, Told, acted, acts, asks_flip, begins, checkpoints, end_by_shortage, ended, epoch_said, first_pointer, forwards_from, forwards_it, full_by, goes_back, goes_on, in_epoch, is_full, looked_by, of_round, passed_by, passes, recalled, rounded, runs_on, served_by, serves_snap, started, told_acted, told_action, told_at, told_gate, told_look, told_start, traced_by, turned_access, turned_at, turned_copy, turned_flip, turned_gate, turned_guard, turned_look, turned_opening, turned_place, turned_recall, turned_register, turned_round, turned_save_round, turned_scan, turned_snap, went_on, with_copy, with_evac, with_record}
-use Rattle.gc_worker.proofs.Stages.Look.Ends.{Stops as StopsRight, action_stops}
+use Rattle.gc_worker.proofs.Stages.Look.StoppingInstructions.{Stops as StopsRight, action_stops}
 use Rattle.gc_worker.proofs.Plain.Quiet.{IsQuiet, rounds_are_quiet}
 
 -- ---- past the look

@@ -30,7 +30,7 @@ use Rattle.fault_duty.specs.declared.round_end.RoundEnd.{RoundEnd}
 use Rattle.fault_duty.specs.declared.round_end.RoundEnd.TheVariants.{ScanPage, ScanInPlace, Marked, Traced, AllLeft, NothingNow}
 use Rattle.fault_duty.specs.Duty as duty
 use Rattle.fault_duty.specs.Theorems.{SeesAllLeft}
-use Rattle.fault_duty.proofs.Rounds.{sees_left}
+use Rattle.fault_duty.proofs.RoundEffects.{sees_left}
 use Rattle.forwarding.specs.declared.to.To.{To}
 use Rattle.forwarding.specs.Evacuation as evac
 use Rattle.forwarding.specs.Taken as evac_taken
@@ -62,7 +62,7 @@ use Rattle.page_scan.specs.Taken as scan_taken
 use Rattle.page_slots.specs.declared.opened.Opened.{Opened}
 use Rattle.page_slots.specs.Open as open_page
 use Rattle.plain_heap.specs.declared.action.Action.{Action}
-use Rattle.plain_heap.specs.declared.action.Action.TheVariants.{Makes, Loads, Exchanges, Snaps}
+use Rattle.plain_heap.specs.declared.action.Action.TheVariants.{Makes, Loads, Compares, Snaps}
 use Rattle.plain_heap.specs.Action.{action}
 use Rattle.record_access.specs.declared.access.Access.{Access}
 use Rattle.record_access.specs.declared.accessed.Accessed.{Accessed}

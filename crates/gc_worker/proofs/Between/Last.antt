@@ -15,10 +15,10 @@ use Rattle.gate_core.specs.declared.passage.Passage.TheVariants.{Look}
 use Rattle.heap_state.specs.Configuration.{Configuration, table, team}
 use Rattle.heap_state.specs.Functions.{sum_below, count_one}
 use Rattle.heap_state.specs.Memory.Table.{word_in}
-use Rattle.heap_state.specs.Worker.{Worker, Post, is_gone, is_mutator}
-use Rattle.heap_state.specs.Worker as workers
-use Rattle.heap_state.proofs.Table.Places.{word_in-row}
-use Rattle.heap_laws.proofs.Gate.Counts.{ones}
+use Rattle.heap_state.specs.Known.{Known, Post, is_gone, is_mutator}
+use Rattle.heap_state.specs.Known as workers
+use Rattle.heap_state.proofs.Table.StoredRows.{word_in-row}
+use Rattle.heap_laws.proofs.Gate.GateCounts.{ones}
 use Rattle.gc_worker.specs.declared.stage.back.Back.{Back}
 use Rattle.gc_worker.specs.declared.stage.back.Back.TheVariants.{ToAccess}
 use Rattle.gc_worker.specs.declared.stage.goal.Goal.{Goal}
@@ -35,8 +35,8 @@ use Rattle.gc_worker.specs.Laws.Step.{Heap, WorkersStand, held_at, moved, nobody
 use Rattle.gc_worker.specs.Steps.Turned.{turned}
 use Rattle.gc_worker.specs.Steps.Wanted.{wanted, wanted_at}
 use Rattle.gc_worker.proofs.Between.Gone.{who_is_gone_saw_why}
-use Rattle.gc_worker.proofs.Between.Opening.{is_there, many}
-use Rattle.gc_worker.proofs.Stages.Gate.Words.{gate_says}
+use Rattle.gc_worker.proofs.Between.OpenedHeap.{is_there, many}
+use Rattle.gc_worker.proofs.Stages.Gate.GateWords.{gate_says}
 use Rattle.gc_worker.proofs.Workers.Members.{member}
 
 -- ---- counts
@@ -106,7 +106,7 @@ module _ (h : Heap) (p o : Plain) (st : WorkersStand h p o) where
       let below : m < length c.workers = (let f = staffed.few in omega (arith, l, f)) in
       let there : m < length h.workers = (let n = length-map h.workers knows in omega (arith, n, below)) in
       let is : Is c m (held_at h m) = member h p o m (held_at h m) st there refl in
-      gone_stage (held_at h m) (held_at h m).stage (ap (λ (w : Worker). is_gone w.post) (sym is.as_known) ∙ gone)
+      gone_stage (held_at h m) (held_at h m).stage (ap (λ (w : Known). is_gone w.post) (sym is.as_known) ∙ gone)
 
 -- ---- a step
 

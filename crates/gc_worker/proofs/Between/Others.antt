@@ -2,7 +2,7 @@
 use Rattle.std.proofs.Common.{◌≡◌, ◌≢◌, ℕ, [], ◌∷◌, ◌++◌, length, slice_get, Option, Some, None, Result, Ok, Err, refl, sym, ap, subst, length-set, get_or-set_other}
 use Rattle.plain_state.specs.declared.end.End.{End}
 use Rattle.plain_state.specs.State.{Mutator, Plain, Record, made_by, serial_of}
-use Rattle.plain_state.proofs.Lists.{slice_get-set_other}
+use Rattle.plain_state.proofs.Elements.{slice_get-set_other}
 use Rattle.mutator_asm.specs.declared.instr.Instr.{Instr}
 use Rattle.plain_heap.specs.Action.{action}
 use Rattle.plain_heap.specs.Call.{After, call, filled}
@@ -16,7 +16,7 @@ use Rattle.gc_worker.specs.Laws.Between.{AnswersLeaveTheOthers, LeavesTheOthers}
 use Rattle.gc_worker.specs.declared.calls.did.Did.{Did}
 use Rattle.gc_worker.specs.declared.calls.did.Did.TheVariants.{Done, Trap}
 use Rattle.gc_worker.specs.Steps.Turned.{Silent, Empties, Answers, Marks}
-use Rattle.gc_worker.proofs.Plain.Emptied.{same_others}
+use Rattle.gc_worker.proofs.Plain.CellTargets.Emptied.{same_others}
 
 module _ (p : Plain) (k : ℕ) where
   as_it_was : LeavesTheOthers p p k

@@ -8,7 +8,7 @@ use Rattle.heap_state.specs.Configuration.{Configuration, Stands, table, era, me
 use Rattle.heap_state.specs.Cycles.Cycle.{Cycle}
 use Rattle.heap_state.specs.Saving.Parts.{SavingStands}
 use Rattle.heap_state.specs.Saving.Savers.{Saver}
-use Rattle.heap_state.specs.Worker.{Worker, Scanner, fresh}
+use Rattle.heap_state.specs.Known.{Known, Scanner, fresh}
 use Rattle.gc_worker.specs.Laws.Between.{Readies, ReadyingStands, with_worker}
 use Rattle.gc_worker.specs.Workers.Fits.{Fits}
 use Rattle.gc_worker.specs.Workers.Held.{Held}
@@ -32,12 +32,12 @@ all_fit n mutators workers k y l fit own = all_after (Fits n mutators) workers k
 module _ (h : Heap) (p o : Plain) (k : ℕ) (now : Held) (s : WorkersStand h p o) (l : k < length h.workers) (r : Readies h.pages h.mutators k (held_at h k) now) where
   same : map knows h.workers ≡ map knows (set h.workers k now)
   same = sym (map-set knows h.workers k now
-      ∙ (ap (λ (w : Worker). set (map knows h.workers) k w) (r.same ∙ sym (get_or-map knows h.workers k nobody (fresh Scanner) l)) ∙ set-get_or (map knows h.workers) k (fresh Scanner)))
+      ∙ (ap (λ (w : Known). set (map knows h.workers) k w) (r.same ∙ sym (get_or-map knows h.workers k nobody (fresh Scanner) l)) ∙ set-get_or (map knows h.workers) k (fresh Scanner)))
 
-  abbrev with_workers : List Worker → Configuration
+  abbrev with_workers : List Known → Configuration
   with_workers ws = record { pages = h.pages; words = h.words; mutators = h.mutators; workers = ws }
 
-  abbrev InCycle : List Worker → Type 0
+  abbrev InCycle : List Known → Type 0
   InCycle ws = (t : Stands (with_workers ws) p) × Cycle (era (with_workers ws)) (memory (with_workers ws)) (team (with_workers ws)) t.ghost o
 
   stands : InCycle (map knows (set h.workers k now))

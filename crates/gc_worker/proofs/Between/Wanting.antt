@@ -3,7 +3,7 @@ use Rattle.std.proofs.Common.{◌≡◌, sym, ap, ◌∙◌, ⊎_elim}
 use Rattle.gc_worker.specs.declared.stage.Stage.TheVariants.{Gone}
 use Rattle.gc_worker.specs.Laws.Between.{WorkersWant}
 use Rattle.gc_worker.specs.Steps.Wanted.{wanted, wanted_at}
-use Rattle.gc_worker.proofs.Words.Rows.{IsOnRow, rows_fit}
+use Rattle.gc_worker.proofs.Words.WorkerRows.{IsOnRow, rows_fit}
 
 pub workers_want : WorkersWant
 workers_want n mutators k x f = (

@@ -12,7 +12,7 @@ use Rattle.gate_core.specs.declared.reset.Reset as resets
 use Rattle.gate_core.specs.Flip.{Flipping}
 use Rattle.heap_state.specs.Configuration.{Configuration, era, memory, table, team}
 use Rattle.heap_state.specs.Memory.Table.{word_in}
-use Rattle.heap_state.specs.Worker.{Reset, Worker}
+use Rattle.heap_state.specs.Known.{Reset, Known}
 use Rattle.heap_laws.proofs.Steps.Answers.{areas_are_read}
 use Rattle.gc_worker.specs.declared.stage.Stage.TheVariants.{Flips}
 use Rattle.gc_worker.specs.Laws.Cycles.{front_of, front_said, low_of, low_said, reset_of, size_of}
@@ -23,7 +23,7 @@ use Rattle.gc_worker.specs.Workers.Knows.{reset_at, reset_in}
 use Rattle.gc_worker.proofs.Between.Pages.Claims.{of_now}
 use Rattle.gc_worker.proofs.Words.Areas.{area_says, is_space}
 use Rattle.gc_worker.proofs.Words.Eras.{span_is}
-use Rattle.gc_worker.proofs.Words.Sizes.{size_now}
+use Rattle.gc_worker.proofs.Words.GrownSizes.{size_now}
 
 module _ (h : Heap) (p o : Plain) (st : WorkersStand h p o) where
   abbrev c : Configuration
@@ -57,7 +57,7 @@ module _ (h : Heap) (p o : Plain) (st : WorkersStand h p o) where
 
     module _ (f : Flipping) (staged : y.stage ≡ Flips f) (r : resets.Reset) where
       knows_it : (s : FlipStage) → f.stage ≡ s → ((team c).worker j).reset ≡ reset_at s
-      knows_it s e = ap (λ (w : Worker). w.reset) is.as_known ∙ (ap reset_in staged ∙ ap reset_at e)
+      knows_it s e = ap (λ (w : Known). w.reset) is.as_known ∙ (ap reset_in staged ∙ ap reset_at e)
 
       by_stage : (s : FlipStage) → f.stage ≡ s → reset_of s ≡ Some r → r.used + low_of n h.words ≡ 64 * size_of n h.words + front_of n h.words
       by_stage (flip_stage.StoresSize z) e has =
@@ -98,4 +98,4 @@ module _ (h : Heap) (p o : Plain) (st : WorkersStand h p o) where
     flips_now f staged =
         let t = (st.stands.invariant.workers j is.below).timely in
         let own : Is c j (at_stage y (Flips f)) = subst (Is c j) (ap (at_stage y) staged) is in
-        sym (ap (λ (w : Worker). w.epoch) own.as_known) ∙ t.asking (rw own.as_known refl)
+        sym (ap (λ (w : Known). w.epoch) own.as_known) ∙ t.asking (rw own.as_known refl)

@@ -7,7 +7,7 @@ use Rattle.atom_store.specs.declared.step.Step.{Step}
 use Rattle.atom_store.specs.Step.{words_after, reply_of}
 use Rattle.space_map.specs.Spaces.{to_space}
 use Rattle.heap_state.specs.Configuration.{Configuration, Stands, era}
-use Rattle.heap_state.specs.Worker.{Worker, is_running}
+use Rattle.heap_state.specs.Known.{Known, is_running}
 use Rattle.atom_store.specs.declared.reply.Reply.{Reply}
 use Rattle.atom_store.specs.declared.turn.Turn.{Turn}
 use Rattle.atom_store.specs.declared.turn.Turn.TheVariants.{More, Finished}
@@ -35,10 +35,10 @@ use Rattle.gc_worker.specs.Workers.Held.{Held, at_stage}
 use Rattle.gc_worker.specs.Steps.Turned.{Told, Marks, told, told_at, told_flip, turned, turned_at, turned_flip}
 use Rattle.gc_worker.proofs.Between.Pages.Claims.{flips_at}
 use Rattle.gc_worker.proofs.Cycles.Lows.{of_now}
-use Rattle.gc_worker.proofs.Cycles.Sizes.{sizes_are_within, sizes_stay}
+use Rattle.gc_worker.proofs.Cycles.SizesOfSpaces.{sizes_are_within, sizes_stay}
 use Rattle.gc_worker.proofs.StepKeeps.{steps_keep}
 use Rattle.gc_worker.proofs.Words.Eras.{span_is}
-use Rattle.gc_worker.proofs.Words.Sizes.{size_now}
+use Rattle.gc_worker.proofs.Words.GrownSizes.{size_now}
 use Rattle.gc_worker.proofs.Workers.Members.{member}
 use Rattle.gc_worker.proofs.Cycles.SizesRead.{sized}
 use Rattle.gc_worker.proofs.Cycles.FirstSteps.{IsRead, by_stage}
@@ -82,13 +82,13 @@ module _ (c : Configuration) (p : Plain) (s : Stands c p) (j : ℕ) (y : Held) w
   by_passage : (g : gate.Passing) (after : After) (passage : Passage) → g.passage ≡ passage → Is c j (at_stage y (Passes g after)) → Asks passage → y.epoch ≡ (era c).epoch
   by_passage g after Request e is asks =
       let t = (s.invariant.workers j is.below).timely in
-      sym (ap (λ (w : Worker). w.epoch) is.as_known) ∙ t.running (ap (λ (w : Worker). is_running w.post) is.as_known ∙ ap (λ (q : Passage). is_running (post_before q)) e)
+      sym (ap (λ (w : Known). w.epoch) is.as_known) ∙ t.running (ap (λ (w : Known). is_running w.post) is.as_known ∙ ap (λ (q : Passage). is_running (post_before q)) e)
   by_passage g after _ e is asks = absurd asks
 
   by_goal : (r : save_round.SavingRound) (goal : Goal) → Is c j (at_stage y (Checkpoints r goal)) → AsksFor goal → y.epoch ≡ (era c).epoch
   by_goal r ForFlip is asks =
       let t = (s.invariant.workers j is.below).timely in
-      sym (ap (λ (w : Worker). w.epoch) is.as_known) ∙ t.running (ap (λ (w : Worker). is_running w.post) is.as_known)
+      sym (ap (λ (w : Known). w.epoch) is.as_known) ∙ t.running (ap (λ (w : Known). is_running w.post) is.as_known)
   by_goal r ForSnap is asks = absurd asks
   by_goal r ForScanner is asks = absurd asks
 
@@ -96,7 +96,7 @@ module _ (c : Configuration) (p : Plain) (s : Stands c p) (j : ℕ) (y : Held) w
   asks_now (Passes g after) is asks = by_passage g after g.passage refl is asks
   asks_now (Flips f) is asks =
       let t = (s.invariant.workers j is.below).timely in
-      sym (ap (λ (w : Worker). w.epoch) is.as_known) ∙ t.asking (rw is.as_known refl)
+      sym (ap (λ (w : Known). w.epoch) is.as_known) ∙ t.asking (rw is.as_known refl)
   asks_now (Checkpoints r goal) is asks = by_goal r goal is asks
   asks_now _ is asks = absurd asks
 
@@ -146,7 +146,7 @@ module _ (h : Heap) (p o : Plain) (k : ℕ) (x : Held) (q : Step) (st : WorkersS
 
       seen : (found : ℕ) → size_at z.stage ≡ Some found → found ≡ size
       seen found is =
-          let knows_it = ((st.stands.invariant.workers k is_there.below).size_seen found (ap (λ (w : Worker). w.size_seen) is_there.as_known ∙ is)).1 in
+          let knows_it = ((st.stands.invariant.workers k is_there.below).size_seen found (ap (λ (w : Known). w.size_seen) is_there.as_known ∙ is)).1 in
           let span = span_is (read h) in
           let here : size_now (read h) (to_space (era (read h)).epoch) ≡ size = ap (λ (e : ℕ). size_now (read h) (to_space e)) (of_now h p o k x st) in
           omega (arith, knows_it, span, here)

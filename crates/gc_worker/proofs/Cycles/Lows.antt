@@ -27,7 +27,7 @@ use Rattle.alloc_end.specs.Place.{Placing, words_for, kept_room, area_after}
 use Rattle.alloc_end.specs.Place as place
 use Rattle.alloc_end.specs.Soundness.{AreaHoldsClaim}
 use Rattle.fault_duty.specs.Duty as duty
-use Rattle.fault_duty.proofs.RowsFit as duty_rows
+use Rattle.fault_duty.proofs.RoundRows as duty_rows
 use Rattle.forwarding.specs.declared.evac_stage.EvacStage.{EvacStage}
 use Rattle.forwarding.specs.declared.evac_stage.EvacStage.TheVariants.{Reserves}
 use Rattle.forwarding.specs.Evacuation.{Evacuation, area_past, size_of}
@@ -44,17 +44,17 @@ use Rattle.gate_core.specs.Recall as recall
 use Rattle.gate_core.specs.Snap as snap
 use Rattle.page_saves.specs.Guard as guard
 use Rattle.page_saves.specs.SaveRound as save_round
-use Rattle.page_saves.proofs.RowsFit.{guard_by_rows, guard_writes, round_by_rows, round_writes}
-use Rattle.gate_core.proofs.RowsFit.{passage_writes, recall_writes, snap_writes}
+use Rattle.page_saves.proofs.SaveRows.{guard_by_rows, guard_writes, round_by_rows, round_writes}
+use Rattle.gate_core.proofs.GateRows.{passage_writes, recall_writes, snap_writes}
 use Rattle.page_scan.specs.Scanning as scan
-use Rattle.page_scan.proofs.RowsFit as scan_rows
+use Rattle.page_scan.proofs.ScanRows as scan_rows
 use Rattle.page_slots.specs.Open as open_page
-use Rattle.page_slots.proofs.RowsFit.{opening_writes}
+use Rattle.page_slots.proofs.ClaimRows.{opening_writes}
 use Rattle.heap_state.specs.Configuration.{Configuration, table, era}
 use Rattle.heap_state.specs.Memory.Era.{from_space}
 use Rattle.heap_state.specs.Memory.Table.{word_in}
-use Rattle.heap_state.specs.Worker.{Reset, Worker}
-use Rattle.heap_state.proofs.Table.Places.{word_in-row, word_in-same, word_in-other}
+use Rattle.heap_state.specs.Known.{Reset, Known}
+use Rattle.heap_state.proofs.Table.StoredRows.{word_in-row, word_in-same, word_in-other}
 use Rattle.gc_worker.specs.Laws.Cycles.{words_claimed, claimed_at, claimed_by_placing, low_said, low_at, low_of, size_of as size_in_use, LowGoes, LowFallsByClaims}
 use Rattle.record_access.specs.Access as access
 use Rattle.gc_worker.specs.declared.stage.Stage.{Stage}
@@ -64,13 +64,13 @@ use Rattle.gc_worker.specs.Workers.Held.{Held, at_stage}
 use Rattle.gc_worker.specs.Laws.Step.{Heap, FlipsWhereTold, WorkersStand, read, held_at, epoch_of}
 use Rattle.gc_worker.specs.Steps.Turned.{Told, Marks, epoch_in_gate, told, told_at, told_flip}
 use Rattle.gc_worker.specs.Steps.Wanted.{wanted, wanted_at}
-use Rattle.record_access.proofs.RowsFit as access_rows
+use Rattle.record_access.proofs.AccessRows as access_rows
 use Rattle.gc_worker.proofs.Words.Areas.{area_says, is_space}
 use Rattle.gc_worker.proofs.Between.Pages.Claims.{NoMark, flips_at}
 use Rattle.gc_worker.proofs.Between.Pages.Written.{Elsewhere, IsNoArea, IsNoSize, area_stays, size_stays, whole_area_stays}
 use Rattle.gc_worker.proofs.Words.Eras.{old_span_is}
-use Rattle.gc_worker.proofs.Words.Sizes.{size_now}
-use Rattle.gc_worker.proofs.Stages.Gate.Words.{gate_says}
+use Rattle.gc_worker.proofs.Words.GrownSizes.{size_now}
+use Rattle.gc_worker.proofs.Stages.Gate.GateWords.{gate_says}
 use Rattle.gc_worker.proofs.Workers.Members.{member}
 use Rattle.gc_worker.proofs.StepKeeps.{steps_keep}
 
@@ -192,7 +192,7 @@ module _ (h : Heap) (p o : Plain) (k : ℕ) (x : Held) (st : WorkersStand h p o)
     of_epoch : to_space z.epoch ≡ here
     of_epoch =
         let t = (st.stands.invariant.workers k is.below).timely in
-        ap to_space (is.fits.stage.epoch ∙ (sym (ap (λ (w : Worker). w.epoch) is.as_known) ∙ (t.running (rw is.as_known refl) ∙ of_now)))
+        ap to_space (is.fits.stage.epoch ∙ (sym (ap (λ (w : Known). w.epoch) is.as_known) ∙ (t.running (rw is.as_known refl) ∙ of_now)))
 
     old_fits : AreaFits f.area
     old_fits =
@@ -249,7 +249,7 @@ module _ (h : Heap) (p o : Plain) (k : ℕ) (x : Held) (st : WorkersStand h p o)
     flips_now : f.epoch ≡ epoch_of n words
     flips_now =
         let t = (st.stands.invariant.workers k is.below).timely in
-        is.fits.stage.epoch ∙ (sym (ap (λ (w : Worker). w.epoch) is.as_known) ∙ (t.asking (rw is.as_known refl) ∙ of_now))
+        is.fits.stage.epoch ∙ (sym (ap (λ (w : Known). w.epoch) is.as_known) ∙ (t.asking (rw is.as_known refl) ∙ of_now))
 
     apart : here ≢ to_space (f.epoch + 1)
     apart same = let e = flips_now in omega (arith, e, same)
@@ -306,7 +306,7 @@ module _ (h : Heap) (p o : Plain) (k : ℕ) (x : Held) (st : WorkersStand h p o)
         let space = from_space (era c).epoch in
         let small = is_space ((era c).epoch + 1) in
         let found : Reset = record { read = r.gate; size = Some r.size; grown = Some r.next; used = Some r.used; sized = true; stored = true; cleared = true } in
-        let reset = (st.stands.invariant.workers k is.below).reset found (ap (λ (w : Worker). w.reset) is.as_known) in
+        let reset = (st.stands.invariant.workers k is.below).reset found (ap (λ (w : Known). w.reset) is.as_known) in
         let stored = (reset.stored refl).2 in
         let says : low_at n words space ≡ ((table c).area space).low = ap low_said (area_says c p st.stands space small) in
         let span = old_span_is c in

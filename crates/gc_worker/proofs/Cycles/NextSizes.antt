@@ -22,9 +22,9 @@ use Rattle.gate_core.specs.Flip.{Flipping, next_size}
 use Rattle.gate_core.specs.Flip as flip
 use Rattle.heap_state.specs.Configuration.{era, memory, table, team}
 use Rattle.heap_state.specs.Memory.Table.{word_in}
-use Rattle.heap_state.specs.Worker.{Reset, Worker, is_running}
-use Rattle.heap_state.proofs.Table.Places.{word_in-row}
-use Rattle.heap_laws.proofs.Allocation.Claimed.{runs_counted}
+use Rattle.heap_state.specs.Known.{Reset, Known, is_running}
+use Rattle.heap_state.proofs.Table.StoredRows.{word_in-row}
+use Rattle.heap_laws.proofs.Allocation.StockPages.Claimed.{runs_counted}
 use Rattle.gc_worker.specs.declared.stage.Stage.{Stage}
 use Rattle.gc_worker.specs.declared.stage.Stage.TheVariants.{Flips, Places}
 use Rattle.gc_worker.specs.Laws.Between.{fresh_mutator, fresh_scanner, opening_words, with_worker}
@@ -38,12 +38,12 @@ use Rattle.gc_worker.specs.Steps.Turned.{Told, Silent, Marks, told, told_at, tol
 use Rattle.gc_worker.specs.Steps.Wanted.{wanted, wanted_at}
 use Rattle.gc_worker.specs.Workers.Held.{Held, at_stage, has_seen_flip}
 use Rattle.gc_worker.specs.Workers.Knows.{reset_at, reset_in}
-use Rattle.gc_worker.proofs.Between.Opening.{is_there, many}
+use Rattle.gc_worker.proofs.Between.OpenedHeap.{is_there, many}
 use Rattle.gc_worker.proofs.Between.Pages.Claims.{of_now}
 use Rattle.gc_worker.proofs.Cycles.FlipReads.{flips_now, nobody_runs, says, size_is, used_now}
 use Rattle.gc_worker.proofs.Cycles.Lows.{low_falls_by_claims}
 use Rattle.gc_worker.proofs.Cycles.NewFlips.{IsUnread, new_flips_are_unread}
-use Rattle.gc_worker.proofs.Cycles.Sizes.{flip_sets, sizes_stay}
+use Rattle.gc_worker.proofs.Cycles.SizesOfSpaces.{flip_sets, sizes_stay}
 use Rattle.gc_worker.proofs.StepKeeps.{steps_keep}
 use Rattle.gc_worker.proofs.Words.Areas.{is_space}
 use Rattle.gc_worker.proofs.Words.Eras.{span_is}
@@ -76,7 +76,7 @@ module _ (h : Heap) (p o : Plain) (k : ℕ) (x : Held) (q : Step) (st : WorkersS
   -- who allocates runs, so nobody claims words while a flipper has read all
   none_claimed : (memory (read h)).gate.running ≡ 0 → (stage : Stage) → x.stage ≡ stage → words_claimed x reply ≡ 0
   none_claimed still (Places z) e =
-      let runs : is_running ((team (read h)).worker k).post ≡ true = ap (λ (w : Worker). is_running w.post) there.as_known ∙ rw e refl in
+      let runs : is_running ((team (read h)).worker k).post ≡ true = ap (λ (w : Known). is_running w.post) there.as_known ∙ rw e refl in
       absurd (let some = runs_counted (memory (read h)).gate (team (read h)).count (team (read h)).worker k st.stands.invariant.counted there.below runs in omega (arith, some, still))
   none_claimed still _ e = rw e refl
 
@@ -212,7 +212,7 @@ module _ (h : Heap) (p o : Plain) (k : ℕ) (x : Held) (q : Step) (st : WorkersS
       size_same : size ≡ size_of h.pages h.words
       size_same =
           let so_far : Reset = record { read = gate; size = Some size; grown = None; used = None; sized = false; stored = false; cleared = false } in
-          let reset = (st.stands.invariant.workers k there.below).reset so_far (ap (λ (w : Worker). w.reset) there.as_known ∙ (ap reset_in flips ∙ ap reset_at e)) in
+          let reset = (st.stands.invariant.workers k there.below).reset so_far (ap (λ (w : Known). w.reset) there.as_known ∙ (ap reset_in flips ∙ ap reset_at e)) in
           let read_it = reset.size size refl in
           let span = span_is (read h) in
           let is = size_is h p o st in

@@ -21,7 +21,7 @@ use Rattle.alloc_end.specs.Soundness.{IsPlacingGoing}
 use Rattle.page_saves.specs.declared.may_write.MayWrite.{MayWrite}
 use Rattle.page_saves.specs.Guard.{Guarding}
 use Rattle.page_saves.specs.Guard as guard
-use Rattle.heap_state.specs.Worker.{is_running}
+use Rattle.heap_state.specs.Known.{is_running}
 use Rattle.gc_worker.specs.Laws.Cycles.{MakesRecord, IsForRecord, SetAsideIsForRecords, ClaimsAreSetAside, SetsAside, words_claimed, claimed_at, set_aside, set_aside_at, set_aside_by}
 use Rattle.gc_worker.specs.declared.stage.Stage.{Stage}
 use Rattle.gc_worker.specs.declared.stage.Stage.TheVariants.{Places, Guards}

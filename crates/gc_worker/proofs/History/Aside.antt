@@ -13,11 +13,11 @@ use Rattle.gc_worker.specs.Laws.Cycles.{IsForRecord, MakesRecord, set_aside}
 use Rattle.gc_worker.specs.Workers.Held.{Held}
 use Rattle.gc_worker.specs.Laws.Step.{Heap, WorkersStand, held_at, moved, nobody}
 use Rattle.gc_worker.specs.Steps.Turned.{turned}
-use Rattle.gc_worker.proofs.Between.Standing.{what_stands_is_so}
+use Rattle.gc_worker.proofs.Between.StandingHeaps.{what_stands_is_so}
 use Rattle.gc_worker.proofs.Cycles.SetAside.{set_aside_is_for_records}
 use Rattle.gc_worker.specs.History.Tally.{Tasks, aside_in, asked_by_task, made_next, pages_by_task, tasks_held}
-use Rattle.gc_worker.proofs.History.Tallies.{asks_as}
-use Rattle.gc_worker.proofs.History.Sums.{sum_below-most, sum_below-past, sum_below-times}
+use Rattle.gc_worker.proofs.History.Counted.Tallies.{asks_as}
+use Rattle.gc_worker.proofs.History.Counted.Sums.{sum_below-most, sum_below-past, sum_below-times}
 
 -- ---- a step
 

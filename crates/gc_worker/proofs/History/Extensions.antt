@@ -16,7 +16,7 @@ use Rattle.gc_worker.specs.declared.calls.call.Call.{Call}
 use Rattle.gc_worker.specs.declared.calls.entry.Entry.{Entry}
 use Rattle.gc_worker.specs.declared.calls.entry.Entry.TheVariants.{Made, Exchanged, Emptied}
 use Rattle.gc_worker.specs.History.Legal.{IsLegal, after_all, after_call, worker_call, calls_of, extra, flip_from, own_after}
-use Rattle.gc_worker.proofs.Plain.Emptied.{same_serial}
+use Rattle.gc_worker.proofs.Plain.CellTargets.Emptied.{same_serial}
 
 pub legal_more : (p o : Plain) (log : List Entry) (m : ℕ) (t : Told) → IsLegal p log → IsAnswered (after_all p log) m t → IsLegal p (log ++ extra o m t)
 legal_more p o [] m (Answers task Done) h e = (e, tt)

@@ -21,9 +21,9 @@ use Rattle.gc_worker.specs.Workers.Held.{Held}
 use Rattle.gc_worker.specs.declared.calls.did.Did.TheVariants.{Trap}
 use Rattle.gc_worker.specs.Steps.Turned.{Answers, told, told_at}
 use Rattle.gc_worker.proofs.Between.Begun.{full_is_found_later}
-use Rattle.gc_worker.proofs.Between.GoingOn.{workers_go_on}
+use Rattle.gc_worker.proofs.Between.KeptTasks.{workers_go_on}
 use Rattle.gc_worker.specs.History.Tally.{asked_by_task}
-use Rattle.gc_worker.proofs.History.Tallies.{asks_as}
+use Rattle.gc_worker.proofs.History.Counted.Tallies.{asks_as}
 use Rattle.gc_worker.proofs.Plain.Quiet.{IsQuiet, rounds_are_quiet}
 
 -- ---- who is in a call has begun its instruction

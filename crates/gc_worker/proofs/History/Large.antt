@@ -9,8 +9,8 @@ use Rattle.gc_worker.specs.declared.calls.entry.Entry.TheVariants.{Made}
 use Rattle.gc_worker.specs.History.Large.{HasNoFullCall, IsLargeFor, MayFindFull, pages_full}
 use Rattle.gc_worker.specs.History.Legal.{worker_call}
 use Rattle.gc_worker.specs.History.Tally.{EachEntry, EntryIs, IsFilled, Sizes, Tally, size_now, Tasks, asked_by_task, made_next, next_task, pages_by_task, tally}
-use Rattle.gc_worker.proofs.History.Sums.{sum_below-most}
-use Rattle.gc_worker.proofs.History.Tallies.{entry_at}
+use Rattle.gc_worker.proofs.History.Counted.Sums.{sum_below-most}
+use Rattle.gc_worker.proofs.History.Counted.Tallies.{entry_at}
 
 -- what the others make next does not depend on whether a call of mutator m is still to come
 next_of_others : (t : Tally) (tasks : Tasks) (c : Call) (es : List Entry) → made_next t.now tasks c.by es ≤ made_next t.now tasks c.by (Made c ∷ es)

@@ -6,16 +6,16 @@ use Rattle.plain_state.specs.declared.end.End.{End}
 use Rattle.plain_state.specs.declared.value.Identity.{Identity}
 use Rattle.plain_state.specs.declared.value.Value.{Value}
 use Rattle.plain_state.specs.State.{Mutator, Plain}
-use Rattle.plain_state.proofs.Lists.{slice_get-set_same}
+use Rattle.plain_state.proofs.Elements.{slice_get-set_same}
 use Rattle.mutator_asm.specs.declared.instr.Instr.{Instr}
 use Rattle.plain_heap.specs.declared.action.Action.{Action}
-use Rattle.plain_heap.specs.declared.action.Action.TheVariants.{Loads, Exchanges}
+use Rattle.plain_heap.specs.declared.action.Action.TheVariants.{Loads, Compares}
 use Rattle.plain_heap.specs.Action.{action}
 use Rattle.plain_heap.specs.Call.{After, call, set_register, went_on}
 use Rattle.plain_heap.specs.Records.{RecordShape, loaded_there, record_word, shape_of, success, word_after}
 use Rattle.plain_heap.specs.Step.{settled}
-use Rattle.plain_heap.proofs.Orders.Words.{no_words}
-use Rattle.plain_heap.proofs.Calls.Records.{exchanges_find_the_word, loads_take_the_word, only_stores_change_words, shapes_stay}
+use Rattle.plain_heap.proofs.Orders.LastStores.{no_words}
+use Rattle.plain_heap.proofs.Calls.RecordsAfterCalls.{exchanges_find_the_word, loads_take_the_word, only_stores_change_words, shapes_stay}
 use Rattle.heap_laws.specs.Opening.{opening_plain}
 use Rattle.gc_worker.specs.Plain.Answer.{ComesTo, MayCome, after_answer, after_outcome, with_emptied}
 use Rattle.gc_worker.specs.declared.calls.call.Call.{Call}
@@ -27,7 +27,7 @@ use Rattle.gc_worker.specs.declared.task.Task.{Task}
 use Rattle.gc_worker.specs.declared.task.Task.TheVariants.{Calls, Stops}
 use Rattle.gc_worker.specs.History.Legal.{IsLegal, after_all, after_call}
 use Rattle.gc_worker.specs.History.Loads.{CallDoes, ExchangesFindTheLastStore, LoadsGetTheLastStore, RecordsKeepTheirShape, WordsAreStored, WordsBeginAsZero, last_stored, word_after_call, word_after_task}
-use Rattle.gc_worker.proofs.Plain.Emptied.{same_shape, same_word}
+use Rattle.gc_worker.proofs.Plain.CellTargets.Emptied.{same_shape, same_word}
 use Rattle.gc_worker.proofs.History.Extensions.{after_append}
 
 -- ---- words
@@ -103,7 +103,7 @@ exchanges_find_the_last_store p front rest c q d i x expected new legal exchange
     let at = legal_at p front rest c legal in
     let here = after_all p front in
     ap (λ (z : Plain). slice_get z.mutators c.by) (after_append p front (Made c ∷ []))
-    ∙ (goes_on here c q (Exchanges d i x expected new) exchange at.1 (went_on (set_register q d (success (record_word here.heap i x) expected)))
+    ∙ (goes_on here c q (Compares d i x expected new) exchange at.1 (went_on (set_register q d (success (record_word here.heap i x) expected)))
     (λ after is. (exchanges_find_the_word c.by here.heap q exchange.instr after d i x expected new exchange.does is).mutator_is)
     ∙ ap (λ (v : Value). Some (went_on (set_register q d (success v expected)))) (words_are_stored p front i x at.0))
 

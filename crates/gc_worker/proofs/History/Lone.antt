@@ -7,7 +7,7 @@ use Rattle.std.proofs.lemmas.Option.{slice_get_within}
 use Rattle.plain_state.specs.declared.end.End.TheVariants.{HeapFull}
 use Rattle.plain_state.specs.Reachable.{IsLive}
 use Rattle.plain_state.specs.State.{Mutator, Plain}
-use Rattle.plain_state.proofs.Lists.{slice_get-set_same}
+use Rattle.plain_state.proofs.Elements.{slice_get-set_same}
 use Rattle.mutator_asm.specs.declared.instr.Instr.{Instr}
 use Rattle.plain_heap.specs.declared.mark.Mark.{Mark}
 use Rattle.plain_heap.specs.declared.mark.Mark.TheVariants.{Step, Flip, Full, Traced}

@@ -30,8 +30,8 @@ use Rattle.gc_worker.specs.Steps.Turned.{Answers}
 use Rattle.gc_worker.proofs.Between.Others.{answers_leave_the_others}
 use Rattle.gc_worker.proofs.History.Extensions.{as_many}
 use Rattle.gc_worker.proofs.History.Orders.{call_turns, tracing_turns}
-use Rattle.gc_worker.proofs.History.Sums.{sum_below-most}
-use Rattle.gc_worker.proofs.Plain.Outcomes.{Sort, IsFull, IsStep, asks, sort}
+use Rattle.gc_worker.proofs.History.Counted.Sums.{sum_below-most}
+use Rattle.gc_worker.proofs.Plain.TaskOutcomes.{Sort, IsFull, IsStep, asks, sort}
 
 -- ---- what mutators do next
 

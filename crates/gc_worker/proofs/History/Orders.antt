@@ -15,7 +15,7 @@ use Rattle.heap_laws.specs.Opening.{opening_mutator, opening_plain}
 use Rattle.gc_worker.specs.declared.task.Task.{Task}
 use Rattle.gc_worker.specs.Plain.Answer.{ComesTo, MayCome, with_emptied}
 use Rattle.gc_worker.specs.Plain.Marks.{MarkActs, EachActs, task_of, mark_by}
-use Rattle.gc_worker.proofs.Plain.Outcomes.{Sort, IsFull, IsStep, sort, comes, asks_then, no_flip, now_marked, opens_so, was_running}
+use Rattle.gc_worker.proofs.Plain.TaskOutcomes.{Sort, IsFull, IsStep, sort, comes, asks_then, no_flip, now_marked, opens_so, was_running}
 use Rattle.gc_worker.specs.declared.calls.call.Call.{Call}
 use Rattle.gc_worker.specs.declared.calls.did.Did.{Did}
 use Rattle.gc_worker.specs.declared.calls.did.Did.TheVariants.{Done, Trap}
@@ -23,7 +23,7 @@ use Rattle.gc_worker.specs.declared.calls.entry.Entry.{Entry}
 use Rattle.gc_worker.specs.declared.calls.entry.Entry.TheVariants.{Made, Exchanged, Emptied}
 use Rattle.gc_worker.specs.History.Legal.{EmptiesLost, IsLegal, after_all, after_call, calls_of, flip_from, last_flip}
 use Rattle.gc_worker.specs.History.Order.{AreFetched, AreShort, IsShort, order_of}
-use Rattle.gc_worker.proofs.Plain.Emptied.{emptied_is}
+use Rattle.gc_worker.proofs.Plain.CellTargets.Emptied.{emptied_is}
 use Rattle.gc_worker.proofs.History.Extensions.{as_many, none_first, none_past}
 
 -- ---- a history in two parts

@@ -20,7 +20,7 @@ use Rattle.mutator_asm.specs.declared.operand.Operand.{Operand}
 use Rattle.mutator_asm.specs.declared.operand.Operand.TheVariants as operands
 use Rattle.mutator_asm.specs.Program.{is_valid, is_register, is_operand}
 use Rattle.plain_heap.specs.declared.action.Action.{Action}
-use Rattle.plain_heap.specs.declared.action.Action.TheVariants.{Sets, Jumps, Links, Prints, Makes, Measures, Loads, Stores, Exchanges, Gets, Puts, Swaps, Snaps}
+use Rattle.plain_heap.specs.declared.action.Action.TheVariants.{Sets, Jumps, Links, Prints, Makes, Measures, Loads, Stores, Compares, Gets, Puts, Swaps, Snaps}
 use Rattle.plain_heap.specs.Action.{◌>>=◌, register, as_number, reference_in, is_zero, is_reference, are_same, operand, next_of, length_of, on_board, board_place, computes, allocates, prints, action, mixed_length, mixes}
 
 -- ---- what the plain machine has for what a worker sees
@@ -39,7 +39,7 @@ plain_action identity (Makes kind d n v) = Makes kind d n (plain_value identity 
 plain_action identity (Measures d i) = Measures d (identity i.serial)
 plain_action identity (Loads d i x) = Loads d (identity i.serial) x
 plain_action identity (Stores i x v) = Stores (identity i.serial) x (plain_value identity v)
-plain_action identity (Exchanges d i x expected v) = Exchanges d (identity i.serial) x (plain_value identity expected) (plain_value identity v)
+plain_action identity (Compares d i x expected v) = Compares d (identity i.serial) x (plain_value identity expected) (plain_value identity v)
 plain_action identity (Gets d x) = Gets d x
 plain_action identity (Puts x v) = Puts x (plain_value identity v)
 plain_action identity (Swaps d x v) = Swaps d x (plain_value identity v)
@@ -177,7 +177,7 @@ module _ (identity : ℕ → Identity) (m q : Mutator) (alike : AreAlikeBy ident
       let l = and_parts (is_register d && is_register a && is_operand x) (is_register b) all.0 in
       let n = and_parts (is_register d && is_register a) (is_operand x) l.0 in
       with_reference a (is_small a (second d (is_register a) n.0)) _ _ (λ i. with_operand x n.1 _ _ (λ y.
-      λ t. Ok (Exchanges d (identity i.serial) y (alike.values b (is_small b l.1) t) (alike.values c (is_small c all.1) t))))
+      λ t. Ok (Compares d (identity i.serial) y (alike.values b (is_small b l.1) t) (alike.values c (is_small c all.1) t))))
   acts_alike (instrs.Len d a) valid = with_reference a (is_small a (second d _ valid)) _ _ (λ i. refl)
   acts_alike (instrs.Isp d a) valid =
       ap (λ (is : Bool). Ok (Sets d (Number (one_if is)))) (ap is_reference (alike.values a (is_small a (second d _ valid))) ∙ same_reference identity (register m a))

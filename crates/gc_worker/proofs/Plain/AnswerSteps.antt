@@ -6,13 +6,13 @@ use Rattle.atom_store.specs.declared.reply.Reply.{Reply}
 use Rattle.heap_state.specs.Configuration.{Configuration, Stands, era, memory, team}
 use Rattle.heap_state.specs.Memory.Entries.{IsWholeRow, Entry, row_of}
 use Rattle.heap_state.specs.Invariant.Ghost.{Ghost}
-use Rattle.heap_state.specs.Worker.{Account, Worker, is_mutator, is_running}
+use Rattle.heap_state.specs.Known.{Account, Known, is_mutator, is_running}
 use Rattle.heap_laws.specs.Fields.Effects.{IsLikePlain, RegisterHolds}
 use Rattle.heap_laws.specs.Fields.Held.{MutatorGoesOn, MayHold, going_on}
 use Rattle.heap_laws.specs.Fields.Stores.{IsAs}
 use Rattle.heap_laws.specs.Steps as law
 use Rattle.heap_laws.proofs.Fields.Effects.{mutators_are_shown, registers_hold}
-use Rattle.heap_laws.proofs.Fields.GoingOn.{runs, timely}
+use Rattle.heap_laws.proofs.Fields.RunningMutators.{runs, timely}
 use Rattle.heap_laws.proofs.Fields.Laws.{goes_on_so}
 use Rattle.heap_laws.proofs.Lifting.Laws.{plain_steps_are_lifted}
 use Rattle.gc_worker.specs.declared.task.Task.{Task}
@@ -29,11 +29,11 @@ use Rattle.heap_state.proofs.Table.Stores.{entry_has_row}
 
 module _ (c : Configuration) (p : Plain) (s : Stands c p) (k : ℕ) (x : Held) where
   -- what a law of the heap says of a step of worker k that is one of the plain machine
-  abbrev pub LawTo : (e : Option Entry) (w : Worker) (h : Ghost) (q : Plain) → Type 0
+  abbrev pub LawTo : (e : Option Entry) (w : Known) (h : Ghost) (q : Plain) → Type 0
   LawTo e w h q = law.StepsTo (era c) (memory c) (team c) s.ghost k e w h q
 
   -- the row that it says is written is one of the table, or one of those behind it
-  pub row_fits_to : (e : Entry) (w : Worker) (h : Ghost) (q : Plain) → k < length c.workers → LawTo (Some e) w h q → IsWholeRow c.pages (row_of e)
+  pub row_fits_to : (e : Entry) (w : Known) (h : Ghost) (q : Plain) → k < length c.workers → LawTo (Some e) w h q → IsWholeRow c.pages (row_of e)
   row_fits_to e w h q below l = entry_has_row c.pages e (plain_steps_are_lifted c p q s (Some e) k w h below l).fits
 
   -- a step that answers the task, after which the worker is this
@@ -63,25 +63,25 @@ module _ (c : Configuration) (p : Plain) (s : Stands c p) (k : ℕ) (x : Held) w
     pub no_end : q.end ≡ None
     pub same : IsAs s.ghost p.heap k (knows x) q
 
-  abbrev w : Worker
+  abbrev w : Known
   w = (team c).worker k
 
   its : Is c k x → x.account.end ≡ None → (q : Mutator) → IsLikePlain (era c) (memory c) (team c) s.ghost p k q → IsIts q
   its is unended q m = record {
     is = m.is;
-    no_end = sym m.same.account.end ∙ (ap (λ (v : Worker). v.account.end) is.as_known ∙ unended);
-    same = subst (λ (v : Worker). IsAs s.ghost p.heap k v q) is.as_known m.same;
+    no_end = sym m.same.account.end ∙ (ap (λ (v : Known). v.account.end) is.as_known ∙ unended);
+    same = subst (λ (v : Known). IsAs s.ghost p.heap k v q) is.as_known m.same;
   }
 
   -- a mutator has one, whether it runs or not
   pub own_mutator : Is c k x → x.account.end ≡ None → is_mutator (post_in x x.stage) ≡ true → (q : Mutator) × IsIts q
   own_mutator is unended mutator =
-      let m = mutators_are_shown (era c) (memory c) (team c) s.ghost p k (prepared c p s k x is) s.shown (ap (λ (v : Worker). is_mutator v.post) is.as_known ∙ mutator) in
+      let m = mutators_are_shown (era c) (memory c) (team c) s.ghost p k (prepared c p s k x is) s.shown (ap (λ (v : Known). is_mutator v.post) is.as_known ∙ mutator) in
       (m.0, its is unended m.0 m.1)
 
   module _ (is : Is c k x) (running : is_running (post_in x x.stage) ≡ true) (unended : x.account.end ≡ None) where
     as_running : is_running w.post ≡ true
-    as_running = ap (λ (v : Worker). is_running v.post) is.as_known ∙ running
+    as_running = ap (λ (v : Known). is_running v.post) is.as_known ∙ running
 
     pub its_mutator : (q : Mutator) × IsIts q
     its_mutator = own_mutator is unended (runs (post_in x x.stage) running).mutator
@@ -91,10 +91,10 @@ module _ (c : Configuration) (p : Plain) (s : Stands c p) (k : ℕ) (x : Held) w
         → (y : Value) × (slice_get q.registers j ≡ Some y) × RegisterHolds (era c) s.ghost (slice_index x.registers j) y
     holds q m j small =
         let late = timely (era c) w as_running ((s.invariant.workers k is.below).timely.running) in
-        let own : IsLikePlain (era c) (memory c) (team c) s.ghost p k q = record { is = m.is; same = subst (λ (v : Worker). IsAs s.ghost p.heap k v q) (sym is.as_known) m.same } in
-        subst (λ (v : Worker). (y : Value) × (slice_get q.registers j ≡ Some y) × RegisterHolds (era c) s.ghost (v.registers j) y) is.as_known
+        let own : IsLikePlain (era c) (memory c) (team c) s.ghost p k q = record { is = m.is; same = subst (λ (v : Known). IsAs s.ghost p.heap k v q) (sym is.as_known) m.same } in
+        subst (λ (v : Known). (y : Value) × (slice_get q.registers j ≡ Some y) × RegisterHolds (era c) s.ghost (v.registers j) y) is.as_known
         (registers_hold (era c) (memory c) (team c) s.ghost p k q j (prepared c p s k x is) own (runs w.post as_running).mutator late
-        (ap (λ (v : Worker). v.account.end) is.as_known ∙ unended) small)
+        (ap (λ (v : Known). v.account.end) is.as_known ∙ unended) small)
 
     pub may_hold : (j : ℕ) → j < 8 → MayHold (era c) s.ghost.size s.ghost.writer (slice_index x.registers j)
     may_hold j small = (holds its_mutator.0 its_mutator.1 j small).2.holds.held
@@ -104,9 +104,9 @@ module _ (c : Configuration) (p : Plain) (s : Stands c p) (k : ℕ) (x : Held) w
         → ((j : ℕ) → j < 8 → MayHold (era c) s.ghost.size s.ghost.writer (registers j))
         → MutatorGoesOn (era c) (memory c) s.ghost w (going_on (knows x) account registers None None false)
     going account registers serial held =
-        subst (λ (v : Worker). MutatorGoesOn (era c) (memory c) s.ghost w (going_on v account registers None None false)) is.as_known
+        subst (λ (v : Known). MutatorGoesOn (era c) (memory c) s.ghost w (going_on v account registers None None false)) is.as_known
         (goes_on_so (era c) (memory c) (team c) s.ghost k account registers None None false (prepared c p s k x is)
-        (serial ∙ sym (ap (λ (v : Worker). v.account.serial) is.as_known)) (λ f e. absurd (let e = e in cc)) (λ page e. absurd (let e = e in cc)) (λ none j small. held j small) (λ e. absurd (let e = e in cc)))
+        (serial ∙ sym (ap (λ (v : Known). v.account.serial) is.as_known)) (λ f e. absurd (let e = e in cc)) (λ page e. absurd (let e = e in cc)) (λ none j small. held j small) (λ e. absurd (let e = e in cc)))
 
   -- it has what the plain mutator has that goes on so
   pub next_as : (q : Mutator) → IsIts q → (n m : ℕ) (l o : List ℕ) → n ≡ m → l ≡ o

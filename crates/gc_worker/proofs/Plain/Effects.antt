@@ -7,7 +7,7 @@ use Rattle.plain_state.specs.declared.end.End.{End}
 use Rattle.plain_state.specs.declared.sizes.TheConstants.{NUMBERS}
 use Rattle.plain_state.specs.declared.value.Value.{Value}
 use Rattle.plain_state.specs.State.{Mutator, Plain}
-use Rattle.plain_state.proofs.Lists.{slice_get-set_same, slice_get-set_other}
+use Rattle.plain_state.proofs.Elements.{slice_get-set_same, slice_get-set_other}
 use Rattle.mutator_asm.specs.declared.instr.Instr.{Instr}
 use Rattle.plain_heap.specs.Call as plain
 use Rattle.plain_heap.specs.Call.{call}
@@ -16,7 +16,7 @@ use Rattle.atom_store.specs.declared.reply.Reply.{Reply}
 use Rattle.heap_state.specs.Configuration.{Configuration, Stands, era, memory, team}
 use Rattle.heap_state.specs.Memory.Entries.{Entry}
 use Rattle.heap_state.specs.Meaning.Values.{value_of}
-use Rattle.heap_state.specs.Worker.{Account, Worker, is_running}
+use Rattle.heap_state.specs.Known.{Account, Known, is_running}
 use Rattle.heap_laws.specs.Fields.Held.{MutatorGoesOn, MayHold, HoldsValue, going_on, with_mutator}
 use Rattle.heap_laws.specs.Fields.Stores.{IsAs}
 use Rattle.heap_laws.specs.Fields.Stores as stores
@@ -53,7 +53,7 @@ module _ (c : Configuration) (p : Plain) (s : Stands c p) (k : ℕ) (x : Held) (
   counted = record x.account { counter = next_of x; executed = x.account.executed + 1 }
 
   -- with these registers
-  abbrev pub moved : List ℕ → Worker
+  abbrev pub moved : List ℕ → Known
   moved registers = going_on (knows x) counted (λ (j : ℕ). slice_index registers j) None None false
 
   module _ (q : Mutator) (its : IsIts c p s k x q) where
@@ -112,10 +112,10 @@ module _ (c : Configuration) (p : Plain) (s : Stands c p) (k : ℕ) (x : Held) (
         → MayEnd k p.heap q instr why → FullByEnd c.pages c.words x why → knows (ended x why) ≡ stores.with_end (knows x) why → Takes x reply → Fits c.pages c.mutators k (ended x why) → Goes c p s k None x reply
     ends reply instr why task same tells none may full known takes fits =
         let law : LawTo c p s k x None (stores.with_end (knows x) why) s.ghost (with_mutator p k (record q { end = Some why })) =
-        subst (λ (w : Worker). LawTo c p s k x None (stores.with_end w why) s.ghost (with_mutator p k (record q { end = Some why }))) is.as_known
-        (mutators_end (era c) (memory c) (team c) s.ghost p k q why (prepared c p s k x is) (ap (λ (w : Worker). is_running w.post) is.as_known ∙ running) s.shown its.is) in
+        subst (λ (w : Known). LawTo c p s k x None (stores.with_end w why) s.ghost (with_mutator p k (record q { end = Some why }))) is.as_known
+        (mutators_end (era c) (memory c) (team c) s.ghost p k q why (prepared c p s k x is) (ap (λ (w : Known). is_running w.post) is.as_known ∙ running) s.shown its.is) in
         answers c p s k x None reply (ended x why) s.ghost q (Calls instr) (Trap why) same (tells ∙ ap (λ task. told_end task why) task) none is.below its.is its.no_end may
-        (subst (λ (w : Worker). LawTo c p s k x None w s.ghost (with_mutator p k (record q { end = Some why }))) (sym known) law) full takes fits
+        (subst (λ (w : Known). LawTo c p s k x None w s.ghost (with_mutator p k (record q { end = Some why }))) (sym known) law) full takes fits
 
   -- ---- its soundness
 

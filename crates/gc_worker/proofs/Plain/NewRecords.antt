@@ -20,7 +20,7 @@ use Rattle.plain_heap.specs.declared.action.Action.TheVariants.{Makes}
 use Rattle.plain_heap.specs.Action.{action}
 use Rattle.plain_heap.specs.Step.{new_record, record_made, pages_of}
 use Rattle.plain_heap.proofs.Calls.Named.{FitsKind, FillsKind, Spells, Names, named}
-use Rattle.plain_heap.proofs.Calls.Outcomes.{computed}
+use Rattle.plain_heap.proofs.Calls.CallOutcomes.{computed}
 use Rattle.record_layout.specs.declared.header.Header.{Header}
 use Rattle.record_layout.proofs.Rereading.{header_in-header_says}
 use Rattle.alloc_end.specs.Place.{size_of, pages_for}

@@ -28,7 +28,7 @@ use Rattle.plain_heap.specs.Action.{register, are_same, action}
 use Rattle.plain_heap.proofs.Calls.Named.{Spells, Names, named}
 use Rattle.heap_state.specs.Configuration.{Configuration, Stands, era, memory, team}
 use Rattle.heap_state.specs.Meaning.Values.{value_of, value_said}
-use Rattle.heap_state.specs.Worker.{is_running}
+use Rattle.heap_state.specs.Known.{is_running}
 use Rattle.heap_state.proofs.Puts.{none≢some}
 use Rattle.heap_laws.specs.Fields.Effects.{RegisterHolds}
 use Rattle.heap_laws.specs.Fields.Held.{HoldsValue}
@@ -43,7 +43,7 @@ use Rattle.gc_worker.proofs.Plain.Actions.{plain_value, plain_outcome, AreAlikeB
 use Rattle.gc_worker.proofs.Plain.AnswerSteps.{IsIts, holds}
 use Rattle.record_access.proofs.Read.{word_of_value_seen}
 use Rattle.gc_worker.proofs.Words.RowSteps.{prepared}
-use Rattle.gc_worker.proofs.Plain.Targets.{WritesRegister, writes_register}
+use Rattle.gc_worker.proofs.Plain.WrittenRegisters.{WritesRegister, writes_register}
 
 -- ---- words
 

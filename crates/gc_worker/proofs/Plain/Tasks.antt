@@ -18,7 +18,7 @@ use Rattle.mutator_asm.specs.declared.operand.Operand.TheVariants as operands
 use Rattle.plain_heap.specs.declared.action.Action.{Action}
 use Rattle.plain_heap.specs.declared.action.Action.TheVariants.{Makes}
 use Rattle.plain_heap.specs.Action.{◌>>=◌, action, allocates, length_of, mixed_length, operand, reference_in, register, as_number, is_reference}
-use Rattle.heap_state.specs.Worker.{Account}
+use Rattle.heap_state.specs.Known.{Account}
 use Rattle.gc_worker.proofs.Plain.OnlySnap.{snap_acts, snaps_alone}
 use Rattle.gc_worker.proofs.Plain.RecordsMade.{makes_of, made_of}
 use Rattle.gc_worker.specs.declared.stage.after.After.{After}

@@ -1,4 +1,4 @@
-pub mod Ends
+pub mod CheckpointRoundEnds
 pub mod First
-pub mod Pages
-pub mod Stages
+pub mod CheckpointPages
+pub mod CheckpointStages

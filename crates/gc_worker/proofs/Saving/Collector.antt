@@ -1,4 +1,4 @@
-pub mod Copies
+pub mod KeptCopies
 pub mod Scans
 pub mod Opens
-pub mod Rounds
+pub mod DutyRounds

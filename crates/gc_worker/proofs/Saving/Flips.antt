@@ -22,7 +22,7 @@ use Rattle.heap_state.specs.Memory.Entries.{Entry, AreaIs, EntryFits, GateIs, Si
 use Rattle.heap_state.specs.Saving.Frozen.{Frozen}
 use Rattle.heap_state.specs.Saving.Parts.{SavingStands}
 use Rattle.heap_state.specs.Saving.Savers.{Saver}
-use Rattle.heap_state.specs.Worker.{Reset}
+use Rattle.heap_state.specs.Known.{Reset}
 use Rattle.heap_laws.specs.Lifting.{table_after}
 use Rattle.heap_laws.specs.Saving.Rounds.{KnowsNoMore}
 use Rattle.heap_laws.specs.Saving.Rows.{Spares, SparesArea, SparesSize, SparesWeak, saver_after_flip}
@@ -34,10 +34,10 @@ use Rattle.gc_worker.specs.Steps.Wanted.{wanted}
 use Rattle.gc_worker.specs.Workers.Held.{Held, at_stage, has_seen_flip}
 use Rattle.gc_worker.specs.Workers.Saves.{saver_of}
 use Rattle.gc_worker.proofs.Saving.Frame.Answers.{keeps_snaps}
-use Rattle.gc_worker.proofs.Saving.Collector.Copies.{stopped_saver}
+use Rattle.gc_worker.proofs.Saving.Collector.KeptCopies.{stopped_saver}
 use Rattle.gc_worker.proofs.Saving.Frame.Forgetting.{SavesSo}
-use Rattle.gc_worker.proofs.Saving.Frame.Rows.{SavedBy, exchanges_so, forgets_by, kept_by, loads_so, stores_by, stores_so}
-use Rattle.gc_worker.proofs.Saving.Mutators.Saves.{asked_so}
+use Rattle.gc_worker.proofs.Saving.Frame.StepRows.{SavedBy, exchanges_so, forgets_by, kept_by, loads_so, stores_by, stores_so}
+use Rattle.gc_worker.proofs.Saving.Mutators.KeptSaves.{asked_so}
 use Rattle.gc_worker.proofs.Saving.Frame.Step.{Before, KeepsSnaps, prepared, saves}
 use Rattle.gc_worker.proofs.Stages.Flip.Flipping as flipping_proofs
 use Rattle.gc_worker.proofs.Stages.Flip.Resetting as resetting

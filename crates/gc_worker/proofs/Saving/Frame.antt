@@ -1,7 +1,7 @@
 pub mod Step
 pub mod Answers
 pub mod Running
-pub mod Rows
+pub mod StepRows
 pub mod Read
 pub mod Rounding
 pub mod Forgetting

@@ -23,8 +23,8 @@ use Rattle.heap_state.specs.Memory.Entries.{Entry, GateIs, Within}
 use Rattle.heap_state.specs.Saving.Frozen.{Frozen}
 use Rattle.heap_state.specs.Saving.Parts.{SavingStands}
 use Rattle.heap_state.specs.Saving.Savers.{Saver}
-use Rattle.heap_state.specs.Worker.{GateStep, Worker}
-use Rattle.heap_state.specs.Worker as workers
+use Rattle.heap_state.specs.Known.{GateStep, Known}
+use Rattle.heap_state.specs.Known as workers
 use Rattle.heap_laws.specs.Gate as laws
 use Rattle.heap_laws.specs.Lifting.{table_after}
 use Rattle.heap_laws.specs.Saving.Rounds.{KnowsNoMore}
@@ -42,13 +42,13 @@ use Rattle.gc_worker.specs.Workers.Held.{Held, at_stage, pages_needed}
 use Rattle.gc_worker.specs.Workers.Knows.{knows, request_for}
 use Rattle.gc_worker.specs.Workers.Saves.{saver_at, saver_of, unfound_gate}
 use Rattle.gc_worker.proofs.Saving.Frame.Answers.{keeps_snaps}
-use Rattle.gc_worker.proofs.Saving.Collector.Copies.{stopped_saver, stopped_less}
+use Rattle.gc_worker.proofs.Saving.Collector.KeptCopies.{stopped_saver, stopped_less}
 use Rattle.gc_worker.proofs.Saving.Frame.Forgetting.{SavesSo}
-use Rattle.gc_worker.proofs.Saving.Frame.Rows.{SavedBy, by_won, exchanges_so, forgets_by, kept_by, loads_so, reads_any}
+use Rattle.gc_worker.proofs.Saving.Frame.StepRows.{SavedBy, by_won, exchanges_so, forgets_by, kept_by, loads_so, reads_any}
 use Rattle.gc_worker.proofs.Saving.Frame.Running.{running_saver, goes_on_runs, parks_run, runs_forgetting}
-use Rattle.gc_worker.proofs.Saving.Mutators.Saves.{asked_so}
+use Rattle.gc_worker.proofs.Saving.Mutators.KeptSaves.{asked_so}
 use Rattle.gc_worker.proofs.Saving.Frame.Step.{Before, prepared, saves}
-use Rattle.gc_worker.proofs.Stages.Gate.Words.{gate_is, gate_now, gate_word}
+use Rattle.gc_worker.proofs.Stages.Gate.GateWords.{gate_is, gate_now, gate_word}
 
 -- ---- what a worker holds of checkpoints at the gate
 
@@ -238,12 +238,12 @@ module _ (c : Configuration) (p : Plain) (z : Frozen) (saver : ℕ → Saver) (k
 
       module _ (now : (table c).gate ≡ gate) where
         wins_gate : laws.WinsGate (memory c) (team c) k step
-        wins_gate = record { step = ap (λ (w : Worker). w.gate_step) b.is.as_known ∙ steps; unchanged = now }
+        wins_gate = record { step = ap (λ (w : Known). w.gate_step) b.is.as_known ∙ steps; unchanged = now }
 
         fits : GateFits (gate_after passage gate)
         fits =
             rw same (steps_are_lifted c p b.stands (Some (GateIs (laws.gate_after q gate))) k (laws.worker_after gate.epoch q ((team c).worker k)) b.stands.ghost b.is.below
-            (passes_gate (era c) (memory c) (team c) b.stands.ghost k step ready_now (ap (λ (w : Worker). w.pass) b.is.as_known) wins_gate)).fits
+            (passes_gate (era c) (memory c) (team c) b.stands.ghost k step ready_now (ap (λ (w : Known). w.pass) b.is.as_known) wins_gate)).fits
 
         stands : SavingStands (table_after (table c) (Some entry)) (saves c) z (team c).count (put saver k (saver_of (turned x Won)))
         stands =

@@ -11,7 +11,7 @@ use Rattle.heap_state.specs.Functions.{put}
 use Rattle.heap_state.specs.Memory.Table.{table_of}
 use Rattle.heap_state.specs.Saving.Savers.{Saver}
 use Rattle.heap_state.specs.Saving.Words.{saves_of, AreFormedSaves}
-use Rattle.heap_state.specs.Worker.{Worker, Scanner, fresh, is_running, is_asking}
+use Rattle.heap_state.specs.Known.{Known, Scanner, fresh, is_running, is_asking}
 use Rattle.heap_state.proofs.Puts.{put_is}
 use Rattle.heap_laws.specs.Lifting.{table_after}
 use Rattle.heap_laws.specs.Saving.Snapping.{FollowPosts}
@@ -25,7 +25,7 @@ use Rattle.gc_worker.specs.Steps.Wanted.{wanted}
 use Rattle.gc_worker.specs.Workers.Held.{Held}
 use Rattle.gc_worker.specs.Workers.Knows.{knows}
 use Rattle.gc_worker.specs.Workers.Saves.{saver_of}
-use Rattle.gc_worker.proofs.Plain.Emptied.{kept_if}
+use Rattle.gc_worker.proofs.Plain.CellTargets.Emptied.{kept_if}
 use Rattle.gc_worker.proofs.Plain.Represented.{kept_by}
 use Rattle.gc_worker.proofs.Saving.Kinds.{kinds}
 use Rattle.gc_worker.proofs.Saving.Frame.Step.{Before, SavesStep}
@@ -55,8 +55,8 @@ module _ (h : Heap) (p o : Plain) (k : ℕ) (x : Held) (q : Step) (st : WorkersS
 
   posts : FollowPosts (team c).count (team c).worker saver
   posts = record {
-    runs = λ j in_team. ap (λ (w : Worker). is_running w.post) (sym (known j (rw (sym as_many) in_team)));
-    asks = λ j in_team. ap (λ (w : Worker). is_asking w.post) (sym (known j (rw (sym as_many) in_team)));
+    runs = λ j in_team. ap (λ (w : Known). is_running w.post) (sym (known j (rw (sym as_many) in_team)));
+    asks = λ j in_team. ap (λ (w : Known). is_asking w.post) (sym (known j (rw (sym as_many) in_team)));
   }
 
   before : Before c p before_it.frozen saver k x

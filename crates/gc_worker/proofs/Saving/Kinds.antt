@@ -10,16 +10,16 @@ use Rattle.gc_worker.specs.declared.stage.Stage.TheVariants.{Looks, Passes, Flip
 use Rattle.gc_worker.specs.Steps.Wanted.{wanted}
 use Rattle.gc_worker.specs.Workers.Held.{Held, at_stage}
 use Rattle.gc_worker.proofs.Saving.Mutators.Accesses.{accesses}
-use Rattle.gc_worker.proofs.Saving.Checkpoints.Stages.{checkpoints}
-use Rattle.gc_worker.proofs.Saving.Collector.Copies.{evacuates, forwards}
+use Rattle.gc_worker.proofs.Saving.Checkpoints.CheckpointStages.{checkpoints}
+use Rattle.gc_worker.proofs.Saving.Collector.KeptCopies.{evacuates, forwards}
 use Rattle.gc_worker.proofs.Saving.Flips.{flips}
 use Rattle.gc_worker.proofs.Saving.Gates.{gates}
 use Rattle.gc_worker.proofs.Saving.Mutators.Guards.{guards}
-use Rattle.gc_worker.proofs.Saving.Mutators.Looks.{looks}
+use Rattle.gc_worker.proofs.Saving.Mutators.KeptLooks.{looks}
 use Rattle.gc_worker.proofs.Saving.Collector.Opens.{opens}
-use Rattle.gc_worker.proofs.Saving.Mutators.Places.{places}
+use Rattle.gc_worker.proofs.Saving.Mutators.KeptAllocations.{places}
 use Rattle.gc_worker.proofs.Saving.Mutators.Recalls.{recalls}
-use Rattle.gc_worker.proofs.Saving.Collector.Rounds.{serves}
+use Rattle.gc_worker.proofs.Saving.Collector.DutyRounds.{serves}
 use Rattle.gc_worker.proofs.Saving.Collector.Scans.{scans}
 use Rattle.gc_worker.proofs.Saving.Snaps.{begins_checkpoint}
 use Rattle.gc_worker.proofs.Saving.Frame.Step.{Before, SavesStep}

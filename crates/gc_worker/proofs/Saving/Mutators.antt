@@ -1,6 +1,6 @@
-pub mod Looks
-pub mod Saves
+pub mod KeptLooks
+pub mod KeptSaves
 pub mod Guards
 pub mod Recalls
 pub mod Accesses
-pub mod Places
+pub mod KeptAllocations

@@ -20,7 +20,7 @@ use Rattle.heap_laws.specs.Saving.Rounds.{round_past}
 use Rattle.heap_laws.specs.Saving.Rows.{HasPassedAll}
 use Rattle.heap_laws.proofs.Saving.Pages.Images.{on_page}
 use Rattle.heap_laws.proofs.Saving.PassedRounds.{passed_rounds_have_saved}
-use Rattle.heap_laws.proofs.Saving.Rounds.{rounds_follow}
+use Rattle.heap_laws.proofs.Saving.LearntSaves.{rounds_follow}
 use Rattle.page_saves.specs.declared.save_round_stage.SaveRoundStage.TheVariants.{ExchangesDone}
 use Rattle.page_saves.specs.SaveRound.{SavingRound}
 use Rattle.gc_worker.specs.declared.stage.after.After.TheVariants as afters
@@ -35,7 +35,7 @@ use Rattle.gc_worker.specs.Workers.Fits.{FitsStage}
 use Rattle.gc_worker.specs.Workers.Saves.{guarded_by, guarded_in, save_round_at, saver_at, saver_of, settled_in, snap_in}
 use Rattle.gc_worker.proofs.Between.Pages.Claims.{of_now}
 use Rattle.gc_worker.proofs.Saving.Won.{kept}
-use Rattle.gc_worker.proofs.Stages.Rounds.Words.{page_says, traced_word}
+use Rattle.gc_worker.proofs.Stages.Rounds.RoundWords.{page_says, traced_word}
 
 -- ---- stages
 

@@ -47,10 +47,10 @@ use Rattle.gc_worker.specs.Workers.Saves.{saver_of}
 use Rattle.gc_worker.proofs.Plain.AnswerSteps.{IsIts, own_mutator}
 use Rattle.gc_worker.proofs.Plain.OnlySnap.{snap_takes, snaps_alone}
 use Rattle.gc_worker.proofs.Saving.Frame.Read.{With, becomes_by, loads_row, own_stands, snap_now, stays_by, wants_so}
-use Rattle.gc_worker.proofs.Saving.Frame.Rows.{SavedBy, exchanges_so}
+use Rattle.gc_worker.proofs.Saving.Frame.StepRows.{SavedBy, exchanges_so}
 use Rattle.gc_worker.proofs.Saving.Frame.Step.{Before, SavesStep, prepared, saves}
 use Rattle.gc_worker.proofs.Stages.Gate.Resuming.{end_none}
-use Rattle.gc_worker.proofs.Stages.Gate.Words.{gate_now, gate_says}
+use Rattle.gc_worker.proofs.Stages.Gate.GateWords.{gate_now, gate_says}
 
 second_by : (a b : Bool) → (a && b) ≡ true → b ≡ true
 second_by true b both = both

@@ -19,7 +19,7 @@ use Rattle.heap_state.specs.Memory.Table.{word_in}
 use Rattle.heap_state.specs.Saving.Parts.{KnowsSaving}
 use Rattle.heap_state.specs.Saving.Words.{saves_of}
 use Rattle.heap_state.proofs.Saving.Read.{checkpoints_are_said}
-use Rattle.heap_state.proofs.Table.Places.{word_in-row}
+use Rattle.heap_state.proofs.Table.StoredRows.{word_in-row}
 use Rattle.gc_worker.specs.declared.stage.Stage.{Stage}
 use Rattle.gc_worker.specs.declared.stage.Stage.TheVariants.{Passes, BeginsCheckpoint}
 use Rattle.gc_worker.specs.Laws.Step.{Heap, read, held_at, saves_in, CheckpointsStand, StandIf, WorkersStand, SnapsAreWon, ClearsAreWon, CheckpointsAreKept}
@@ -27,9 +27,9 @@ use Rattle.gc_worker.specs.Steps.Goes.{Is}
 use Rattle.gc_worker.specs.Steps.Wanted.{wanted}
 use Rattle.gc_worker.specs.Workers.Held.{Held, at_stage}
 use Rattle.gc_worker.specs.Workers.Saves.{saver_of}
-use Rattle.gc_worker.proofs.Stages.Gate.Words.{gate_now, gate_word}
+use Rattle.gc_worker.proofs.Stages.Gate.GateWords.{gate_now, gate_word}
 use Rattle.gc_worker.proofs.Workers.Members.{member}
-use Rattle.gc_worker.proofs.Workers.Parts.{has_room}
+use Rattle.gc_worker.proofs.Workers.KeptParts.{has_room}
 use Rattle.space_map.proofs.GateWords.{encode_gate-gate_in}
 
 -- where checkpoints can be begun

@@ -1,3 +1,3 @@
 pub mod Rounded
-pub mod Going
-pub mod Rounds
+pub mod NextCheckpointStage
+pub mod SaveRounds

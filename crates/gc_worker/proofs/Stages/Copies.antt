@@ -1,8 +1,8 @@
 pub mod Hosts
-pub mod Words
+pub mod CopiedWords
 pub mod Publishing
 pub mod Linking
 pub mod Placing
 pub mod Finding
 pub mod Registers
-pub mod Whole
+pub mod WholeCopies

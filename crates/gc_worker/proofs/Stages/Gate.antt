@@ -1,4 +1,4 @@
-pub mod Words
+pub mod GateWords
 pub mod Resuming
 pub mod Passing
 pub mod Exchanging

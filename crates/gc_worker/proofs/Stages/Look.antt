@@ -1,5 +1,5 @@
 pub mod Begun
-pub mod Ends
+pub mod StoppingInstructions
 pub mod Effects
 pub mod Beginnings
-pub mod Looking
+pub mod LookAtGate

@@ -13,7 +13,7 @@ use Rattle.page_scan.specs.declared.scan_stage.ScanStage.{ScanStage}
 use Rattle.page_scan.specs.declared.scan_stage.ScanStage.TheVariants as scan_stage
 use Rattle.heap_state.specs.Configuration.{Configuration, Stands, era, memory, team}
 use Rattle.heap_state.specs.Memory.Entries.{Entry, PageIs}
-use Rattle.heap_state.specs.Worker.{Worker}
+use Rattle.heap_state.specs.Known.{Known}
 use Rattle.heap_laws.specs.Scanning.Claims.{ends_scan}
 use Rattle.heap_laws.proofs.Scanning.Opened as opened
 use Rattle.gc_worker.specs.declared.stage.back.Back.{Back}
@@ -24,9 +24,9 @@ use Rattle.gc_worker.specs.Steps.Goes.{Is, Goes, StepsSo}
 use Rattle.gc_worker.specs.Workers.Held.{Held, header_for}
 use Rattle.gc_worker.specs.Workers.Knows.{knows, scan_of}
 use Rattle.gc_worker.specs.Steps.Turned.{back_from}
-use Rattle.gc_worker.proofs.Workers.GoingOn.{places_known}
+use Rattle.gc_worker.proofs.Workers.ResumedMutators.{places_known}
 use Rattle.gc_worker.proofs.Workers.GoingBack.{back_fits}
-use Rattle.gc_worker.proofs.Stages.Gate.Words.{wants}
+use Rattle.gc_worker.proofs.Stages.Gate.GateWords.{wants}
 use Rattle.gc_worker.proofs.Words.RowSteps.{Law, quiet, stores, row_fits, prepared}
 
 -- a scan that has ended has nothing left to pass
@@ -55,7 +55,7 @@ module _ (c : Configuration) (p : Plain) (s : Stands c p) (k : ℕ) (y : Held) (
 
     as_it_was : Law c p s k x (Some (PageIs (scan_of scan scan.stage).page (Open ((team c).worker k).epoch))) (ends_scan ((team c).worker k)) s.ghost
     as_it_was = (opened.opens (era c) (memory c) (team c) s.ghost k (scan_of scan scan.stage) (prepared c p s k x is)
-        (record { scans = ap (λ (w : Worker). w.scan) is.as_known; ended = has_ended scan scan.stage is.fits.stage.2 })).steps
+        (record { scans = ap (λ (w : Known). w.scan) is.as_known; ended = has_ended scan scan.stage is.fits.stage.2 })).steps
 
     law : Law c p s k x (Some entry) (ends_scan (knows x)) s.ghost
     law = rw (of_page scan scan.stage, is.as_known) at as_it_was

@@ -7,5 +7,5 @@ pub mod Header
 pub mod Full
 pub mod Opened
 pub mod Areas
-pub mod Traced
-pub mod Stages
+pub mod TracedAreas
+pub mod AllocationStages

@@ -1,11 +1,11 @@
-pub mod GoingOn
+pub mod ScanKnowledge
 pub mod Passing
 pub mod Crossing
 pub mod Front
 pub mod Entering
-pub mod Headers
-pub mod Counts
+pub mod ScannedHeaders
+pub mod ScannedCounts
 pub mod Spots
-pub mod Words
+pub mod ScannedWords
 pub mod Stored
-pub mod Stages
+pub mod ScanStages

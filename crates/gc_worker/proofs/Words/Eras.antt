@@ -6,7 +6,7 @@ use Rattle.space_map.specs.Spaces.{to_space, space_start}
 use Rattle.heap_state.specs.Configuration.{Configuration, Stands, era}
 use Rattle.heap_state.specs.Memory.Era.{from_space}
 use Rattle.heap_state.specs.Memory.Table.{table_of}
-use Rattle.gc_worker.proofs.Words.Sizes.{size_now, size_within}
+use Rattle.gc_worker.proofs.Words.GrownSizes.{size_now, size_within}
 
 pub board_is : (c : Configuration) → (era c).board ≡ 64 * (2 * c.pages)
 unfolding table_of

@@ -9,7 +9,7 @@ use Rattle.std.proofs.Math.Decide.{dec_le, dec_lt}
 use Rattle.record_layout.proofs.Rereading.{header_in-header_says}
 use Rattle.record_access.specs.Seen.{by_address, seen_as, value_seen}
 use Rattle.gc_worker.specs.Plain.Seen.{making_in, seen}
-use Rattle.heap_state.specs.Worker.{Account}
+use Rattle.heap_state.specs.Known.{Account}
 use Rattle.plain_heap.specs.Action.{action, register}
 use Rattle.mutator_asm.specs.declared.instr.Instr.{Instr}
 use Rattle.gc_worker.specs.Workers.Fits.{FitsStage, IsMaking}

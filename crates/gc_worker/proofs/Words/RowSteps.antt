@@ -14,7 +14,7 @@ use Rattle.heap_state.specs.Configuration.{Configuration, Stands, era, memory, t
 use Rattle.heap_state.specs.Memory.Entries.{WholeRow, Within, Behind, whole_place_of, IsWholeRow, word_in_whole, Entry, row_of, word_of}
 use Rattle.heap_state.specs.Invariant.Ghost.{Ghost}
 use Rattle.heap_state.specs.Memory.Table.{word_in}
-use Rattle.heap_state.specs.Worker.{Worker}
+use Rattle.heap_state.specs.Known.{Known}
 use Rattle.heap_laws.specs.Composing.{IsAtMost}
 use Rattle.heap_laws.specs.Steps.{Ready, IsBeside}
 use Rattle.heap_laws.specs.Steps as law
@@ -22,7 +22,7 @@ use Rattle.heap_laws.proofs.Copying.Laws.{nothing_else_changes}
 use Rattle.heap_laws.proofs.Lifting.Configurations.{ready}
 use Rattle.heap_laws.proofs.Lifting.Laws.{steps_are_lifted}
 use Rattle.heap_laws.proofs.Steps.Composing.{steps_forget, steps_write_beside}
-use Rattle.heap_state.proofs.Table.Places.{word_in-row}
+use Rattle.heap_state.proofs.Table.StoredRows.{word_in-row}
 use Rattle.heap_state.proofs.Table.Stores.{entry_has_row}
 use Rattle.gc_worker.specs.Workers.Fits.{Fits, Takes}
 use Rattle.gc_worker.specs.Steps.Goes.{Is, Goes, StepsInTable, TracesEpoch, Wins}
@@ -42,7 +42,7 @@ in_any n (Behind row) is = absurd is
 
 module _ (c : Configuration) (p : Plain) (s : Stands c p) (k : ℕ) (x : Held) where
   -- what a law of the heap says of a step of worker k
-  abbrev pub Law : (e : Option Entry) (w : Worker) (h : Ghost) → Type 0
+  abbrev pub Law : (e : Option Entry) (w : Known) (h : Ghost) → Type 0
   Law e w h = law.Steps (era c) (memory c) (team c) s.ghost k e w h
 
   -- a step that is none of the plain machine, by the law that says of it what the worker then knows
@@ -81,7 +81,7 @@ module _ (c : Configuration) (p : Plain) (s : Stands c p) (k : ℕ) (x : Held) w
   }
 
   -- the row that a law says is written is one of the table, or one of those behind it
-  pub row_fits : (e : Entry) (w : Worker) (h : Ghost) → k < length c.workers → Law (Some e) w h → IsWholeRow c.pages (row_of e)
+  pub row_fits : (e : Entry) (w : Known) (h : Ghost) → k < length c.workers → Law (Some e) w h → IsWholeRow c.pages (row_of e)
   row_fits e w h below l = entry_has_row c.pages e (steps_are_lifted c p s (Some e) k w h below l).fits
 
   in_table : (row : Row) → IsRow c.pages row → place_of c.pages row < length c.words
@@ -143,15 +143,15 @@ module _ (c : Configuration) (p : Plain) (s : Stands c p) (k : ℕ) (x : Held) w
     prepared = ready c p s k is.below
 
     -- a step that teaches nothing: what the worker then knows it knew
-    pub nothing : (w : Worker) → knows x ≡ w → Law None w s.ghost
-    nothing w same = subst (λ (v : Worker). Law None v s.ghost) (is.as_known ∙ same) (nothing_else_changes (era c) (memory c) (team c) s.ghost k prepared)
+    pub nothing : (w : Known) → knows x ≡ w → Law None w s.ghost
+    nothing w same = subst (λ (v : Known). Law None v s.ghost) (is.as_known ∙ same) (nothing_else_changes (era c) (memory c) (team c) s.ghost k prepared)
 
     -- the same if a row beside the table is written
-    pub nothing_beside : (e : Entry) (w : Worker) → IsBeside (era c) e → knows x ≡ w → Law (Some e) w s.ghost
+    pub nothing_beside : (e : Entry) (w : Known) → IsBeside (era c) e → knows x ≡ w → Law (Some e) w s.ghost
     nothing_beside e w beside same = steps_write_beside (era c) (memory c) (team c) s.ghost k e w s.ghost beside (nothing w same)
 
     -- or it knows less
-    pub less : (w : Worker) → IsAtMost w (knows x) → Law None w s.ghost
+    pub less : (w : Known) → IsAtMost w (knows x) → Law None w s.ghost
     less w most = steps_forget (era c) (memory c) (team c) s.ghost k None (knows x) w s.ghost (nothing (knows x) refl) most
 
   -- ---- rows of the whole table, if there is room for checkpoints

@@ -3,7 +3,7 @@ use Rattle.std.proofs.Common.{◌≡◌, ℕ, List, get_or, ap, sym, ◌∙◌, 
 use Rattle.space_map.specs.Spaces.{to_space}
 use Rattle.space_map.specs.Table.{Row, IsRow, Gate, Traced, Area, place_of}
 use Rattle.heap_state.specs.Memory.Table.{word_in}
-use Rattle.heap_state.proofs.Table.Places.{word_in-row}
+use Rattle.heap_state.proofs.Table.StoredRows.{word_in-row}
 use Rattle.gc_worker.specs.Laws.Step.{Heap}
 use Rattle.gc_worker.specs.Readers.{cycles_in, live_in, live_said}
 use Rattle.gc_worker.specs.Steps.Turned.{epoch_said}

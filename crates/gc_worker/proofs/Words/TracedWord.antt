@@ -13,12 +13,12 @@ use Rattle.alloc_end.specs.declared.place_stage.PlaceStage.{PlaceStage}
 use Rattle.alloc_end.specs.declared.place_stage.PlaceStage.TheVariants as place_stage
 use Rattle.alloc_end.specs.Place.{Placing}
 use Rattle.alloc_end.specs.Place as place
-use Rattle.cell_walk.proofs.RowsFit as walk_rows
+use Rattle.cell_walk.proofs.WalkRows as walk_rows
 use Rattle.fault_duty.specs.declared.duty_stage.DutyStage.{DutyStage}
 use Rattle.fault_duty.specs.declared.duty_stage.DutyStage.TheVariants as duty_stage
 use Rattle.fault_duty.specs.Duty as duty
 use Rattle.fault_duty.specs.Soundness.{FitsDutyStage}
-use Rattle.fault_duty.proofs.RowsFit as duty_rows
+use Rattle.fault_duty.proofs.RoundRows as duty_rows
 use Rattle.forwarding.specs.declared.evac_stage.EvacStage.{EvacStage}
 use Rattle.forwarding.specs.declared.evac_stage.EvacStage.TheVariants as evac_stage
 use Rattle.forwarding.specs.Evacuation.{Evacuation}
@@ -30,14 +30,14 @@ use Rattle.gate_core.specs.Flip as flip
 use Rattle.gate_core.specs.Gate as gate
 use Rattle.gate_core.specs.Recall as recall
 use Rattle.gate_core.specs.Snap as snap
-use Rattle.gate_core.proofs.RowsFit.{passage_writes, recall_writes, snap_writes}
+use Rattle.gate_core.proofs.GateRows.{passage_writes, recall_writes, snap_writes}
 use Rattle.page_saves.specs.Guard as guard
 use Rattle.page_saves.specs.SaveRound as save_round
-use Rattle.page_saves.proofs.RowsFit.{guard_by_rows, guard_writes, round_by_rows, round_writes}
+use Rattle.page_saves.proofs.SaveRows.{guard_by_rows, guard_writes, round_by_rows, round_writes}
 use Rattle.page_scan.specs.Scanning as scan
-use Rattle.page_scan.proofs.RowsFit as scan_rows
+use Rattle.page_scan.proofs.ScanRows as scan_rows
 use Rattle.page_slots.specs.Open as open_page
-use Rattle.page_slots.proofs.RowsFit.{claim_writes, opening_writes}
+use Rattle.page_slots.proofs.ClaimRows.{claim_writes, opening_writes}
 use Rattle.heap_state.specs.Configuration.{Configuration}
 use Rattle.heap_state.specs.Memory.Table.{word_in}
 use Rattle.gc_worker.specs.declared.stage.Stage.{Stage}
@@ -48,7 +48,7 @@ use Rattle.gc_worker.specs.Steps.Turned.{Empties, told, told_at, told_round}
 use Rattle.gc_worker.specs.Steps.Wanted.{wanted, wanted_at}
 use Rattle.gc_worker.specs.Workers.Held.{Held, at_stage}
 use Rattle.gc_worker.proofs.Between.Pages.Written.{Elsewhere, row_stays}
-use Rattle.record_access.proofs.RowsFit as access_rows
+use Rattle.record_access.proofs.AccessRows as access_rows
 
 -- ---- rows
 

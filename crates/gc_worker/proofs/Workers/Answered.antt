@@ -6,14 +6,14 @@ use Rattle.plain_state.specs.declared.end.End.{End}
 use Rattle.plain_state.specs.declared.sizes.TheConstants.{REGISTERS, MOST_PRINTED}
 use Rattle.alloc_end.specs.declared.run.Run.{Run}
 use Rattle.heap_state.specs.Functions.{put}
-use Rattle.heap_state.specs.Worker.{Account}
+use Rattle.heap_state.specs.Known.{Account}
 use Rattle.heap_state.proofs.Puts.{put_is}
 use Rattle.gc_worker.specs.declared.stage.Stage.TheVariants.{Looks}
 use Rattle.gc_worker.specs.Workers.Fits.{AreValues, Fits, FitsRun}
 use Rattle.gc_worker.specs.Workers.Held.{Held}
 use Rattle.record_access.specs.Seen.{IsValueWord}
 use Rattle.gc_worker.specs.Steps.Turned.{ended}
-use Rattle.gc_worker.proofs.Workers.Parts.{with_parts, page_count}
+use Rattle.gc_worker.proofs.Workers.KeptParts.{with_parts, page_count}
 
 -- a register changed in the list is changed in the function
 pub registers_put : (registers : List ℕ) (r v : ℕ) → r < length registers → (λ (j : ℕ). slice_index (slice_set registers r v) j) ≡ put (λ (j : ℕ). slice_index registers j) r v

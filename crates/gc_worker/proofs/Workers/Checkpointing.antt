@@ -8,7 +8,7 @@ use Rattle.gc_worker.specs.declared.stage.goal.Goal.TheVariants.{ForFlip, ForSna
 use Rattle.gc_worker.specs.Workers.Fits.{Fits, IsMaking, IsSnapping}
 use Rattle.gc_worker.specs.Workers.Held.{Held, at_stage, may_snap}
 use Rattle.gc_worker.specs.Steps.Turned.{checkpoints}
-use Rattle.gc_worker.proofs.Workers.Parts.{refit, page_count}
+use Rattle.gc_worker.proofs.Workers.KeptParts.{refit, page_count}
 
 first_by : (a b : Bool) → (a && b) ≡ true → a ≡ true
 first_by true b both = refl

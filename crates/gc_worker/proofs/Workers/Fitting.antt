@@ -5,7 +5,7 @@ use Rattle.atom_store.specs.declared.reply.Reply.{Reply}
 use Rattle.atom_store.specs.declared.turn.Turn.TheVariants.{More}
 use Rattle.fault_duty.specs.Duty.{Round}
 use Rattle.forwarding.specs.Evacuation.{Evacuation}
-use Rattle.heap_state.specs.Worker.{Account}
+use Rattle.heap_state.specs.Known.{Account}
 use Rattle.page_saves.specs.SaveRound.{SavingRound}
 use Rattle.page_scan.specs.Scanning.{Scanning}
 use Rattle.gc_worker.specs.declared.stage.back.Back.{Back}

@@ -5,8 +5,8 @@ use Rattle.gc_worker.specs.declared.stage.back.Back.TheVariants.{ToAccess, ToTar
 use Rattle.gc_worker.specs.Workers.Fits.{Fits, FitsBack, FitsTaskBack, IsOnSideBack}
 use Rattle.gc_worker.specs.Workers.Held.{Held}
 use Rattle.gc_worker.specs.Steps.Turned.{goes_back, back_from}
-use Rattle.gc_worker.proofs.Workers.Parts.{refit, page_count}
-use Rattle.gc_worker.proofs.Workers.GoingOn.{places_fit, snaps_fit, targets_fit}
+use Rattle.gc_worker.proofs.Workers.KeptParts.{refit, page_count}
+use Rattle.gc_worker.proofs.Workers.ResumedMutators.{places_fit, snaps_fit, targets_fit}
 
 module _ (n mutators k : ℕ) (x : Held) (f : Fits n mutators k x) (unended : is_some x.account.end ≡ false) where
   pub back_fits : (back : Back) → FitsBack x back → IsOnSideBack back (nat_lt x.number x.mutators) → FitsTaskBack x back → Fits n mutators k (back_from x back)

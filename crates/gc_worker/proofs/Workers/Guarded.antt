@@ -22,7 +22,7 @@ use Rattle.gc_worker.specs.Steps.Turned.{guards, guards_access, guards_place, wr
 use Rattle.gc_worker.specs.Workers.Fits.{Fits, FitsEnd, FitsPlace, FitsTask, FitsWrite, IsOnSide}
 use Rattle.gc_worker.specs.Workers.Held.{Held, at_stage}
 use Rattle.gc_worker.specs.Workers.Knows.{knows, known_at}
-use Rattle.gc_worker.proofs.Workers.Parts.{page_count}
+use Rattle.gc_worker.proofs.Workers.KeptParts.{page_count}
 
 -- ---- the page
 

@@ -6,7 +6,7 @@ use Rattle.plain_state.specs.State.{Plain}
 use Rattle.space_map.specs.Table.{SnapNumber, whole_length}
 use Rattle.heap_state.specs.Memory.Table.{word_in}
 use Rattle.heap_state.specs.Saving.Words.{saves_of}
-use Rattle.heap_state.specs.Worker.{Scanner, fresh, is_running}
+use Rattle.heap_state.specs.Known.{Scanner, fresh, is_running}
 use Rattle.gc_worker.specs.Steps.Goes.{Is}
 use Rattle.gc_worker.specs.Workers.Held.{Held}
 use Rattle.gc_worker.specs.Workers.Knows.{knows, post_in}

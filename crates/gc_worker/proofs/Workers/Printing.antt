@@ -8,7 +8,7 @@ use Rattle.gc_worker.specs.Workers.Held.{Held}
 use Rattle.gc_worker.specs.Steps.Made.{step_made, step_made_by}
 use Rattle.gc_worker.specs.Steps.Stepped.{IsSound, MayExecute, MayIf, is_output, uncounted}
 use Rattle.gc_worker.specs.Steps.Wanted.{wanted}
-use Rattle.gc_worker.proofs.Between.GoingOn.{workers_go_on}
+use Rattle.gc_worker.proofs.Between.KeptTasks.{workers_go_on}
 
 -- who may print may execute all
 pub may_execute_all : (prints : Bool) (instr : Instr) → prints ≡ true → MayExecute prints instr

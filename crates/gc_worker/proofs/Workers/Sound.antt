@@ -12,7 +12,7 @@ use Rattle.gc_worker.specs.Steps.Made.{AllowsStep, MayMake, step_made, step_made
 use Rattle.gc_worker.specs.Steps.Stepped.{IsSound, uncounted}
 use Rattle.gc_worker.specs.Steps.Wanted.{wanted}
 use Rattle.gc_worker.proofs.Between.Beginning.{tasks_may_begin}
-use Rattle.gc_worker.proofs.Between.Opening.{mutator_fits, scanner_fits}
+use Rattle.gc_worker.proofs.Between.OpenedHeap.{mutator_fits, scanner_fits}
 use Rattle.gc_worker.proofs.Workers.ApartFromCount.{counted_fit}
 
 pub mutators_are_sound : (prints : Bool) (s : Layout) (mutators k : ℕ) (y : Held) → y ≡ fresh_mutator prints s mutators k → IsPageCount s.pages → k < mutators → mutators ≤ MOST_MUTATORS → IsSound y

@@ -4,7 +4,7 @@ use Rattle.std.specs.Option.{option_map_or}
 use Rattle.plain_state.specs.declared.sizes.TheConstants.{MOST_CHECKPOINTS}
 use Rattle.plain_state.specs.State.{Plain, Snapped}
 use Rattle.mutator_asm.specs.declared.instr.Instr.TheVariants.{Snap}
-use Rattle.plain_heap.specs.LastCheckpoint.{BeginsBetween, is_snap}
+use Rattle.plain_heap.specs.Checkpoints.LastCheckpoint.{BeginsBetween, is_snap}
 use Rattle.gc_worker.specs.declared.calls.call.Call.{Call}
 use Rattle.gc_worker.specs.declared.calls.did.Did.{Did}
 use Rattle.gc_worker.specs.declared.calls.did.Did.TheVariants.{Done}

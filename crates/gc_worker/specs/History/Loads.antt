@@ -7,7 +7,7 @@ use Rattle.plain_state.specs.declared.value.Value.TheVariants.{Number}
 use Rattle.plain_state.specs.State.{Mutator, Plain}
 use Rattle.mutator_asm.specs.declared.instr.Instr.{Instr}
 use Rattle.plain_heap.specs.declared.action.Action.{Action}
-use Rattle.plain_heap.specs.declared.action.Action.TheVariants.{Loads, Exchanges}
+use Rattle.plain_heap.specs.declared.action.Action.TheVariants.{Loads, Compares}
 use Rattle.plain_heap.specs.Action.{action}
 use Rattle.plain_heap.specs.Call.{set_register, went_on}
 use Rattle.plain_heap.specs.Records.{RecordShape, loaded_there, record_word, shape_of, success, word_after}
@@ -70,7 +70,7 @@ LoadsGetTheLastStore = (plain : Plain) (front rest : List Entry) (call : Call) (
 -- An exchange finds what was stored there last before it: if that is what it expects, its mutator goes on with 1 in the register, else with 0.
 abbrev pub ExchangesFindTheLastStore : Type 0
 ExchangesFindTheLastStore = (plain : Plain) (front rest : List Entry) (call : Call) (own : Mutator) (register : ℕ) (identity : Identity) (index : ℕ) (expected new : Value)
-    → IsLegal plain (front ++ Made call ∷ rest) → CallDoes (after_all plain front) call own (Exchanges register identity index expected new)
+    → IsLegal plain (front ++ Made call ∷ rest) → CallDoes (after_all plain front) call own (Compares register identity index expected new)
     → slice_get (after_all plain (front ++ Made call ∷ [])).mutators call.by
     ≡ Some (went_on (set_register own register (success (last_stored plain front identity index (record_word plain.heap identity index)) expected)))
 

@@ -19,7 +19,7 @@ use Rattle.heap_state.specs.Memory.Table.{word_in}
 use Rattle.heap_state.specs.Saving.Written.{written_whole}
 use Rattle.heap_state.specs.Theorems.Standing.{IsSound}
 use Rattle.heap_state.specs.Meaning.Values.{Accounts}
-use Rattle.heap_state.specs.Worker.{Post, is_asking, is_running}
+use Rattle.heap_state.specs.Known.{Post, is_asking, is_running}
 use Rattle.heap_laws.specs.Opening.{opening_entries, opening_plain}
 use Rattle.gc_worker.specs.declared.stage.after.After.TheVariants as afters
 use Rattle.gc_worker.specs.declared.stage.back.Back.TheVariants.{ToScanner}

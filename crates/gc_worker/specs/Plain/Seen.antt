@@ -12,7 +12,7 @@ use Rattle.mutator_asm.specs.declared.operand.Operand.{Operand}
 use Rattle.plain_heap.specs.declared.action.Action.{Action}
 use Rattle.plain_heap.specs.declared.action.Action.TheVariants.{Makes}
 use Rattle.plain_heap.specs.Action.{◌>>=◌, length_of, mixed_length, operand, reference_in, register}
-use Rattle.heap_state.specs.Worker.{Account}
+use Rattle.heap_state.specs.Known.{Account}
 use Rattle.record_access.specs.Seen.{value_seen}
 pub use Rattle.gc_worker.specs.declared.steps.allocating.Making.{Making}
 

@@ -3,7 +3,7 @@ use Rattle.std.specs.Prelude.{◌≡◌, Option, Some, None, Ok}
 use Rattle.plain_state.specs.Holding.{may_hold}
 use Rattle.heap_state.specs.Meaning.Loaded.{word_held}
 use Rattle.plain_heap.specs.declared.action.Action.{Action}
-use Rattle.plain_heap.specs.declared.action.Action.TheVariants.{Sets, Jumps, Links, Prints, Makes, Measures, Loads, Stores, Exchanges, Gets, Puts, Swaps, Snaps}
+use Rattle.plain_heap.specs.declared.action.Action.TheVariants.{Sets, Jumps, Links, Prints, Makes, Measures, Loads, Stores, Compares, Gets, Puts, Swaps, Snaps}
 use Rattle.record_access.specs.declared.access_stage.AccessStage.{AccessStage}
 use Rattle.record_access.specs.declared.access_stage.AccessStage.TheVariants.{LooksAtRecord, LoadsHeader, LooksAtCount, LoadsCount, LooksAtField, LoadsField, StoresField, LoadsForCas, ExchangesField, LooksAtBoard, LoadsBoard, StoresBoard, LoadsForSwap, SwapsBoard}
 use Rattle.record_access.specs.declared.board_access.BoardUse.TheVariants as board_uses
@@ -22,8 +22,8 @@ abbrev pub begun : Action → Option AccessStage
 begun (Measures d i) = Some (LooksAtRecord (record { at = i.serial; value = 0; usage = record_uses.TellsLength d }))
 begun (Loads d i x) = Some (LooksAtRecord (record { at = i.serial; value = x; usage = record_uses.Loads d }))
 begun (Stores i x v) = Some (LooksAtRecord (record { at = i.serial; value = x; usage = record_uses.Stores (word_for v) }))
-begun (Exchanges d i x expected v) =
-    Some (LooksAtRecord (record { at = i.serial; value = x; usage = record_uses.Exchanges (record { into = d; expected = word_for expected; new = word_for v }) }))
+begun (Compares d i x expected v) =
+    Some (LooksAtRecord (record { at = i.serial; value = x; usage = record_uses.Compares (record { into = d; expected = word_for expected; new = word_for v }) }))
 begun (Gets d x) = Some (LooksAtBoard (record { word = x; usage = board_uses.Loads d }))
 begun (Puts x v) = Some (LooksAtBoard (record { word = x; usage = board_uses.Stores (word_for v) }))
 begun (Swaps d x v) = Some (LooksAtBoard (record { word = x; usage = board_uses.Swaps d (word_for v) }))
@@ -38,15 +38,15 @@ begun (Makes kind d n v) = None
 abbrev pub IsFieldOfAction : Action → FieldAccess → FieldUse → Type 0
 IsFieldOfAction (Loads d i x) f usage = (f ≡ field_of i.serial f.first f.role x) × (usage ≡ field_uses.Loads d)
 IsFieldOfAction (Stores i x v) f usage = (f ≡ field_of i.serial f.first f.role x) × (may_hold (kind_of f.role) x v ≡ Ok v) × (usage ≡ field_uses.Stores (word_as f.role v))
-IsFieldOfAction (Exchanges d i x expected v) f usage =
-    (f ≡ field_of i.serial f.first f.role x) × (may_hold (kind_of f.role) x v ≡ Ok v) × (usage ≡ field_uses.Exchanges (record { into = d; expected = word_for expected; new = word_as f.role v }))
+IsFieldOfAction (Compares d i x expected v) f usage =
+    (f ≡ field_of i.serial f.first f.role x) × (may_hold (kind_of f.role) x v ≡ Ok v) × (usage ≡ field_uses.Compares (record { into = d; expected = word_for expected; new = word_as f.role v }))
 IsFieldOfAction act f usage = ⊥
 
 -- the use of a record that a use of a value is
 abbrev pub record_use : FieldUse → RecordUse
 record_use (field_uses.Loads into) = record_uses.Loads into
 record_use (field_uses.Stores new) = record_uses.Stores new
-record_use (field_uses.Exchanges e) = record_uses.Exchanges e
+record_use (field_uses.Compares e) = record_uses.Compares e
 
 -- the access to a mixed record, as it was before its header was read
 abbrev pub before_header : MixedAccess → RecordAccess
@@ -61,8 +61,8 @@ IsAccessOf act (LoadsCount m) = begun act ≡ Some (LooksAtRecord (before_header
 IsAccessOf act (LooksAtField f usage) = IsFieldOfAction act f usage
 IsAccessOf act (LoadsField f into) = IsFieldOfAction act f (field_uses.Loads into)
 IsAccessOf act (StoresField f new) = IsFieldOfAction act f (field_uses.Stores new)
-IsAccessOf act (LoadsForCas f e) = IsFieldOfAction act f (field_uses.Exchanges e)
-IsAccessOf act (ExchangesField f e old) = IsFieldOfAction act f (field_uses.Exchanges e) × (word_held (role_of f.role) old ≡ e.expected)
+IsAccessOf act (LoadsForCas f e) = IsFieldOfAction act f (field_uses.Compares e)
+IsAccessOf act (ExchangesField f e old) = IsFieldOfAction act f (field_uses.Compares e) × (word_held (role_of f.role) old ≡ e.expected)
 IsAccessOf act (LooksAtBoard b) = begun act ≡ Some (LooksAtBoard b)
 IsAccessOf act (LoadsBoard x into) = begun act ≡ Some (LooksAtBoard (record { word = x; usage = board_uses.Loads into }))
 IsAccessOf act (StoresBoard x new) = begun act ≡ Some (LooksAtBoard (record { word = x; usage = board_uses.Stores new }))

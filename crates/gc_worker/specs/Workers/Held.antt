@@ -13,7 +13,7 @@ use Rattle.plain_heap.specs.Action.{action}
 use Rattle.alloc_end.specs.declared.run.Run.{Run}
 use Rattle.alloc_end.specs.Place.{size_of, pages_for}
 use Rattle.heap_state.specs.Invariant.Ghost.{header_kind, header_len}
-use Rattle.heap_state.specs.Worker.{Account}
+use Rattle.heap_state.specs.Known.{Account}
 use Rattle.gc_worker.specs.Plain.Seen.{Making, making_in, seen}
 use Rattle.gc_worker.specs.declared.stage.Stage.{Stage}
 use Rattle.gc_worker.specs.declared.task.Task.{Task}

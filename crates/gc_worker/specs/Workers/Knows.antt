@@ -45,9 +45,9 @@ use Rattle.page_slots.specs.declared.claim_stage.ClaimStage.TheVariants as claim
 use Rattle.page_slots.specs.Claim.{Claiming}
 use Rattle.heap_laws.specs.Allocation.Records.{stored_ahead}
 use Rattle.heap_laws.specs.Copying.{begun}
-use Rattle.heap_state.specs.Worker.{Worker, Post, Outside, Running, Stopped, Flipping, Snapping, Passage, Enter, Park, Request, RequestSnap, Clear, Forwarded, Resume, Leave, GateStep, Reset, Stock, SeenHeader, SeenRecord, UnknownRole, Origin, Register, Scanned, Quest, Copy, Scan, Round, Claim, Look, LastLook, Linking, Visit, Pass, Begins, At, Done}
-use Rattle.heap_state.specs.Worker as workers
-use Rattle.heap_state.specs.Worker.{Access}
+use Rattle.heap_state.specs.Known.{Known, Post, Outside, Running, Stopped, Flipping, Snapping, Passage, Enter, Park, Request, RequestSnap, Clear, Forwarded, Resume, Leave, GateStep, Reset, Stock, SeenHeader, SeenRecord, UnknownRole, Origin, Register, Scanned, Quest, Copy, Scan, Round, Claim, Look, LastLook, Linking, Visit, Pass, Begins, At, Done}
+use Rattle.heap_state.specs.Known as workers
+use Rattle.heap_state.specs.Known.{Access}
 use Rattle.record_access.specs.declared.access_stage.AccessStage.{AccessStage}
 use Rattle.record_access.specs.declared.access_stage.AccessStage.TheVariants.{LooksAtRecord, LoadsHeader, LooksAtCount, LoadsCount, LooksAtField, LoadsField, StoresField, LoadsForCas, ExchangesField, LooksAtBoard, LoadsBoard, StoresBoard, LoadsForSwap, SwapsBoard}
 use Rattle.gc_worker.specs.declared.stage.back.Back.{Back}
@@ -586,7 +586,7 @@ pass_in stage = None
 -- ---- the whole
 
 -- what its number, account, registers and run are, at a stage
-abbrev pub known_at : Held → Stage → Worker
+abbrev pub known_at : Held → Stage → Known
 known_at x stage = record {
   post = post_in x stage;
   epoch = epoch_in x.epoch stage;
@@ -611,5 +611,5 @@ known_at x stage = record {
   reset = reset_in stage;
 }
 
-abbrev pub knows : Held → Worker
+abbrev pub knows : Held → Known
 knows x = known_at x x.stage

@@ -16,7 +16,7 @@ use Rattle.gate_core.specs.declared.recall.recall_stage.RecallStage.TheVariants 
 use Rattle.gate_core.specs.declared.snap.snap_stage.SnapStage.{SnapStage}
 use Rattle.gate_core.specs.declared.snap.snap_stage.SnapStage.TheVariants as snap_stage
 use Rattle.heap_state.specs.Saving.Savers.{Saver, SaveStep, SaveRound, FirstReads, NoReads, GateRead, SnapRead, DoneRead}
-use Rattle.heap_state.specs.Worker.{is_running, is_asking}
+use Rattle.heap_state.specs.Known.{is_running, is_asking}
 use Rattle.heap_laws.specs.Saving.Rounds.{round_begun, round_past}
 use Rattle.page_saves.specs.declared.guard_stage.GuardStage.{GuardStage}
 use Rattle.page_saves.specs.declared.guard_stage.GuardStage.TheVariants as guard_stage

@@ -212,7 +212,7 @@ impl State {
         ensures state { self.new ≡ uncounted (acted self.old (action (seen_by self.old) (Instr.Cas d a x b c))) }
         ensures tells { (task : Task) → result ≡ stepped_by self.old.number (told_acted self.old task (action (seen_by self.old) (Instr.Cas d a x b c))) }
     {
-        let exchange = RecordUse::Exchanges(FieldExchange {
+        let exchange = RecordUse::Compares(FieldExchange {
             into: d,
             expected: word_of(self.value(b)),
             new: word_of(self.value(c)),

@@ -3,19 +3,19 @@ use Rattle.std.proofs.Common.{◌≡◌, ◌≢◌, ℕ, ◌+◌, ◌<◌, ◌�
 use Rattle.std.proofs.lemmas.Bool.{cases_lt}
 use Rattle.std.proofs.lemmas.List.{length-append}
 use Rattle.std.proofs.lemmas.Option.{slice_get_within}
-use Rattle.plain_state.proofs.Lists.{slice_get-append_end, slice_get-append_front}
+use Rattle.plain_state.proofs.Elements.{slice_get-append_end, slice_get-append_front}
 use Rattle.heap_state.specs.Memory.Era.{Era, Memory}
 use Rattle.heap_state.specs.Functions.{put}
 use Rattle.heap_state.specs.Invariant.Ghost.{Ghost}
 use Rattle.heap_state.specs.Invariant.Inductive.{Invariant}
 use Rattle.heap_state.specs.Invariant.Parts.Records.{NewArea, WalkComesTo}
 use Rattle.heap_state.specs.Invariant.Parts.Stocks.{Stocked}
-use Rattle.heap_state.specs.Worker.{Team, Stock, IsNotAhead}
+use Rattle.heap_state.specs.Known.{Team, Stock, IsNotAhead}
 use Rattle.heap_state.proofs.Puts.{put_at, put_other, some_same}
 use Rattle.heap_laws.specs.Allocation.Stocks.{StoresAhead, WordsAreStoredAhead, with_ahead}
 use Rattle.heap_laws.specs.Steps.{InWord}
-use Rattle.heap_laws.proofs.Allocation.Stocks.{Owns, owns}
-use Rattle.heap_laws.proofs.Allocation.StockWords.{words_are_stored}
+use Rattle.heap_laws.proofs.Allocation.StockPages.Stocks.{Owns, owns}
+use Rattle.heap_laws.proofs.Allocation.StockPages.StockWords.{words_are_stored}
 
 module _ (E : Era) (m : Memory) (team : Team) (g : Ghost) (k v : ℕ) (q : Stock) (inv : Invariant E m team g) (own : Owns E team k q) (stores : StoresAhead team k q) where
   abbrev x : ℕ

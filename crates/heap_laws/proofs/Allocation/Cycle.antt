@@ -12,16 +12,16 @@ use Rattle.heap_state.specs.Functions.{put}
 use Rattle.heap_state.specs.Invariant.Ghost.{Ghost}
 use Rattle.heap_state.specs.Invariant.Inductive.{Invariant}
 use Rattle.heap_state.specs.Meaning.Values.{value_of, Shows}
-use Rattle.heap_state.specs.Worker.{Worker, Team, Stock, is_mutator, is_late}
+use Rattle.heap_state.specs.Known.{Known, Team, Stock, is_mutator, is_late}
 use Rattle.heap_state.proofs.Puts.{each_put, put_at, put_other, proj_put}
 use Rattle.heap_state.proofs.Records.Layouts.{value_within}
 use Rattle.heap_state.specs.Targets.{IsCopied}
 use Rattle.heap_laws.specs.Allocation.Records.{next_identity, allocated}
-use Rattle.heap_laws.proofs.Allocation.Stocks.{Places}
+use Rattle.heap_laws.proofs.Allocation.StockPages.Stocks.{Places}
 use Rattle.heap_laws.specs.Steps.{with_word, with_worker}
 use Rattle.heap_laws.proofs.Allocation.FreeWords.{IsFree, word_same, copying_free, rooted_free}
 use Rattle.heap_laws.proofs.Allocation.Header.{placed, new_place, free, mutator, zeros}
-use Rattle.heap_laws.proofs.Allocation.Parts.{NewPlace, unused, was, same_size, same_writer, old_other, below_other, here_was}
+use Rattle.heap_laws.proofs.Allocation.NewRecordParts.{NewPlace, unused, was, same_size, same_writer, old_other, below_other, here_was}
 use Rattle.heap_laws.proofs.Allocation.Values.{field_lands, value_allocated}
 use Rattle.heap_laws.proofs.Frames.Values.{still_leads, zero_clean}
 
@@ -40,7 +40,7 @@ module _ (E : Era) (m : Memory) (team : Team) (g : Ghost) (p : plain.Plain) (k :
   abbrev g' : Ghost
   g' = allocated g q.at z c j
 
-  abbrev w : Worker
+  abbrev w : Known
   w = placed team k q z
 
   is_free : IsFree E g.size q.at
@@ -124,7 +124,7 @@ module _ (E : Era) (m : Memory) (team : Team) (g : Ghost) (p : plain.Plain) (k :
         (λ (e : a ≡ q.at). rw (put_at g.identity q.at j a e) (none_past (plain.made_by p.heap k) j.serial (let n = y.grown k (mutator E m team g k q c z v lay inv places) in omega (arith, n))))
         (λ (d : a ≢ q.at). rw (put_other g.identity q.at j a d) (y.new a (was is_new_place a d st) l u))
         (cases_eq a q.at);
-    grown = λ a l. let n = y.grown a l in each_put (λ b (u : Worker). b ≡ a → plain.serial_of p.heap a ≤ u.account.serial) team.worker k w a
+    grown = λ a l. let n = y.grown a l in each_put (λ b (u : Known). b ≡ a → plain.serial_of p.heap a ≤ u.account.serial) team.worker k w a
         (λ _ _. n)
         (λ e _. let t : (team.worker a).account.serial ≡ (team.worker k).account.serial = ap (λ b. (team.worker b).account.serial) e in omega (arith, n, t))
         refl;

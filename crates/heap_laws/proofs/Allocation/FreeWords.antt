@@ -17,7 +17,7 @@ use Rattle.heap_state.specs.Invariant.Parts.OldSpace.{OldSpace}
 use Rattle.heap_state.specs.Invariant.Parts.Records.{Headed, RawWords, Counts}
 use Rattle.heap_state.specs.Invariant.Parts.Scanning.{Scans}
 use Rattle.heap_state.specs.Meaning.Values.{value_of, Shows, ShowsAll, BoardShows}
-use Rattle.heap_state.specs.Worker.{Worker, Copy, Scan, Origin, Register, Scanned, is_late, Quest}
+use Rattle.heap_state.specs.Known.{Known, Copy, Scan, Origin, Register, Scanned, is_late, Quest}
 use Rattle.heap_state.proofs.Puts.{put_other}
 use Rattle.plain_state.specs.Layout.{word_of_value}
 use Rattle.heap_laws.proofs.Frames.OtherWords.{has_place, headed_same, old_space_same, scans_same, copies_same, shows_same}
@@ -110,7 +110,7 @@ module _ {E : Era} {size : ℕ → ℕ} {x : ℕ} (fr : IsFree E size x) (writer
     only = c.only;
   }
 
-  pub rooted_free : (front count : ℕ) (identity : ℕ → Identity) (worker : ℕ → Worker) (p : plain.Plain) → Rooted E front count size writer identity h worker p → Rooted E front count size writer identity (put h x v) worker p
+  pub rooted_free : (front count : ℕ) (identity : ℕ → Identity) (worker : ℕ → Known) (p : plain.Plain) → Rooted E front count size writer identity h worker p → Rooted E front count size writer identity (put h x v) worker p
   rooted_free front count identity worker p r = record {
     roots = λ i root. ⊎_elim (λ c. inl c) (λ t. inr (leads i t)) (r.roots i root);
     sound = r.sound;
@@ -121,7 +121,7 @@ module _ {E : Era} {size : ℕ → ℕ} {x : ℕ} (fr : IsFree E size x) (writer
       leads i (ByRegister k j a b t d s) = ByRegister k j a b t d s
 
 -- a worker knows what it knew
-pub worker_free : (E : Era) (m : Memory) (g : Ghost) (x v k : ℕ) (w : Worker) → IsFree E g.size x
+pub worker_free : (E : Era) (m : Memory) (g : Ghost) (x v k : ℕ) (w : Known) → IsFree E g.size x
     → Knows E m.gate m.traced m.front m.low m.old_front m.old_low m.old_owed g m.page m.cross m.announced m.heap k w
     → Knows E m.gate m.traced m.front m.low m.old_front m.old_low m.old_owed g m.page m.cross m.announced (put m.heap x v) k w
 worker_free E m g x v k w fr p =

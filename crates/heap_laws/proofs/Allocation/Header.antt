@@ -16,23 +16,23 @@ use Rattle.heap_state.specs.Invariant.Inductive.{Invariant, Knows}
 use Rattle.heap_state.specs.Invariant.Parts.Stocks.{Stocks, Stocked, Numbered}
 use Rattle.heap_state.specs.Meaning.Values.{CountShows, value_of}
 use Rattle.heap_state.specs.Memory.FieldSpan.{fields_end}
-use Rattle.heap_state.specs.Worker.{Worker, Team, Stock}
+use Rattle.heap_state.specs.Known.{Known, Team, Stock}
 use Rattle.heap_state.proofs.Workers.Frames.{counted_put, staffed_put, scanned_put, stocks_anew}
 use Rattle.heap_state.proofs.Records.Layouts.{field_is_value}
 use Rattle.heap_state.proofs.Puts.{put_at, put_other, put_same, each_put, team_put, none≢some, some_same}
 use Rattle.heap_laws.specs.Allocation.Records.{next_identity, allocated}
 use Rattle.heap_laws.specs.Fields.Held.{HoldsValue}
-use Rattle.heap_laws.proofs.Allocation.Stocks.{Places, ahead_of_values, count_ahead, small_ahead, zero_behind}
+use Rattle.heap_laws.proofs.Allocation.StockPages.Stocks.{Places, ahead_of_values, count_ahead, small_ahead, zero_behind}
 use Rattle.plain_state.specs.declared.value.Value.TheVariants.{Reference}
 use Rattle.heap_laws.specs.Steps.{with_word, with_worker}
 use Rattle.heap_laws.proofs.Allocation.FreeWords.{IsFree, headed_free, raw_free, counts_free, opened_free, landing_free, older_free, old_space_free, worker_free}
-use Rattle.heap_laws.proofs.Allocation.Parts.{NewPlace, was, is, same_size, laid_allocated, kept_allocated, room_allocated, area_allocated, old_space_allocated, new_written_allocated, shut_allocated, crossing_allocated, opened_allocated, landing_allocated, older_allocated, raw_allocated, counts_allocated, headed_allocated, copied_allocated, once_allocated}
-use Rattle.heap_laws.proofs.Allocation.Workers.{worker_allocated}
-use Rattle.heap_laws.proofs.Fields.GoingOn.{runs}
+use Rattle.heap_laws.proofs.Allocation.NewRecordParts.{NewPlace, was, is, same_size, laid_allocated, kept_allocated, room_allocated, area_allocated, old_space_allocated, new_written_allocated, shut_allocated, crossing_allocated, opened_allocated, landing_allocated, older_allocated, raw_allocated, counts_allocated, headed_allocated, copied_allocated, once_allocated}
+use Rattle.heap_laws.proofs.Allocation.PlacingWorkers.{worker_allocated}
+use Rattle.heap_laws.proofs.Fields.RunningMutators.{runs}
 use Rattle.heap_laws.proofs.Frames.OtherWords.{ahead_zeroed}
 
 -- worker k has one record more, and its run begins behind it
-abbrev pub placed : Team → ℕ → Stock → ℕ → Worker
+abbrev pub placed : Team → ℕ → Stock → ℕ → Known
 placed team k q z = record (team.worker k) {
   stock = Some (record q { at = q.at + z; ahead = [] });
   account = record (team.worker k).account { serial = (team.worker k).account.serial + 1 };
@@ -51,7 +51,7 @@ module _ (E : Era) (m : Memory) (team : Team) (g : Ghost) (k : ℕ) (q : Stock) 
   abbrev next : Stock
   next = record q { at = q.at + z; ahead = [] }
 
-  abbrev w : Worker
+  abbrev w : Known
   w = placed team k q z
 
   ok : Stocked E m.low g.size m.heap m.page q
@@ -201,7 +201,7 @@ module _ (E : Era) (m : Memory) (team : Team) (g : Ghost) (k : ℕ) (q : Stock) 
   }
     where
       more : (x : ℕ) → (team.worker x).account.serial ≤ (put team.worker k w x).account.serial
-      more x = each_put (λ a (u : Worker). a ≡ x → (team.worker x).account.serial ≤ u.account.serial) team.worker k w x
+      more x = each_put (λ a (u : Known). a ≡ x → (team.worker x).account.serial ≤ u.account.serial) team.worker k w x
           (λ _ _. omega arith)
           (λ e _. let y : (team.worker x).account.serial ≡ (team.worker k).account.serial = ap (λ a. (team.worker a).account.serial) e in omega (arith, y))
           refl
@@ -209,7 +209,7 @@ module _ (E : Era) (m : Memory) (team : Team) (g : Ghost) (k : ℕ) (q : Stock) 
   -- ---- the whole
 
   -- what a worker knows of the heap, before and after
-  known : (j : ℕ) (u : Worker) → Knows E m.gate m.traced m.front m.low m.old_front m.old_low m.old_owed g m.page m.cross m.announced m.heap j u
+  known : (j : ℕ) (u : Known) → Knows E m.gate m.traced m.front m.low m.old_front m.old_low m.old_owed g m.page m.cross m.announced m.heap j u
       → Knows E m.gate m.traced m.front m.low m.old_front m.old_low m.old_owed g' m.page m.cross m.announced heap j u
   known j u p = worker_allocated E m g q.at z c i heap j u new_place zeros (worker_free E m g q.at v j u free p)
 

@@ -9,13 +9,13 @@ use Rattle.heap_state.specs.Memory.Entries.{AreaIs, PageIs}
 use Rattle.heap_state.specs.Memory.Era.{Era, Memory}
 use Rattle.heap_state.specs.Invariant.Ghost.{Ghost}
 use Rattle.heap_state.specs.Targets.{Targets}
-use Rattle.heap_state.specs.Worker.{Team, Stock, is_running}
+use Rattle.heap_state.specs.Known.{Team, Stock, is_running}
 use Rattle.heap_laws.specs.Allocation.Stocks.{HasRoomForPages, StocksAreClaimed, StocksAreZeroed, StocksAreOpened, claimed, lowered, owed_beside, stocked, opened_further, RoomIsSeen}
 use Rattle.heap_laws.specs.Steps.{Ready, IsAreaNow, Steps, Preserves, WritesRow, InArea, InPage, InWord, with_area, with_page, with_worker}
-use Rattle.heap_laws.proofs.Allocation.Claimed.{FitsPages, below_low, with_low, stocks_are_claimed}
-use Rattle.heap_laws.proofs.Allocation.Opened.{stocks_are_opened}
-use Rattle.heap_laws.proofs.Allocation.Stocks.{owns, opens_of, with_stock}
-use Rattle.heap_laws.proofs.Allocation.Zeroed.{stocks_are_zeroed}
+use Rattle.heap_laws.proofs.Allocation.StockPages.Claimed.{FitsPages, below_low, with_low, stocks_are_claimed}
+use Rattle.heap_laws.proofs.Allocation.StockPages.Opened.{stocks_are_opened}
+use Rattle.heap_laws.proofs.Allocation.StockPages.Stocks.{owns, opens_of, with_stock}
+use Rattle.heap_laws.proofs.Allocation.StockPages.Zeroed.{stocks_are_zeroed}
 use Rattle.heap_laws.proofs.Targets.Placed.{claiming_carries_targets}
 
 -- ---- pages claimed

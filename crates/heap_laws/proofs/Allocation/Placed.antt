@@ -19,7 +19,7 @@ use Rattle.heap_state.specs.Memory.Era.{Era, Memory}
 use Rattle.heap_state.specs.Invariant.Ghost.{Ghost}
 use Rattle.heap_state.specs.Meaning.Values.{Shown, Shows, value_of}
 use Rattle.heap_state.specs.Invariant.Parts.Knowledge.{Accesses}
-use Rattle.heap_state.specs.Worker.{Worker, Team, Stock, Access}
+use Rattle.heap_state.specs.Known.{Known, Team, Stock, Access}
 use Rattle.heap_state.proofs.Puts.{put_at, put_other, put_same, put_twice}
 use Rattle.heap_laws.specs.Fields.Held.{MayHold, HoldsValue, MutatorGoesOn}
 use Rattle.heap_laws.specs.Fields.Stores.{HoldsTarget, IsAs, MutatorsPlace, with_record, with_reference, plain_next}
@@ -28,20 +28,20 @@ use Rattle.heap_laws.specs.Steps.{Ready, WritesRow, InWord, with_word, with_work
 use Rattle.heap_laws.specs.Targets.Records.{MayBeTarget}
 use Rattle.heap_laws.proofs.Allocation.Header.{placed, new_place, records_are_placed, placed_is_held}
 use Rattle.heap_laws.proofs.Allocation.Cycle.{placing_keeps_cycle}
-use Rattle.heap_laws.proofs.Allocation.Parts.{NewPlace, lands_on, unused}
+use Rattle.heap_laws.proofs.Allocation.NewRecordParts.{NewPlace, lands_on, unused}
 use Rattle.heap_laws.proofs.Allocation.Shown.{placing_shows, within as maker_there}
-use Rattle.heap_laws.proofs.Allocation.Stocks.{Places, places_of, stocked_in_chain}
+use Rattle.heap_laws.proofs.Allocation.StockPages.Stocks.{Places, places_of, stocked_in_chain}
 use Rattle.heap_laws.proofs.Allocation.Values.{value_allocated}
-use Rattle.heap_laws.proofs.Allocation.Workers.{accesses_allocated}
+use Rattle.heap_laws.proofs.Allocation.PlacingWorkers.{accesses_allocated}
 use Rattle.heap_laws.proofs.Cells.Kept.{of_chain}
 use Rattle.heap_laws.proofs.Cells.Placed.{placing_carries_chain}
 use Rattle.heap_laws.proofs.Fields.Laws.{both, goes_as}
 use Rattle.heap_laws.proofs.Frames.Values.{pointer_from_value}
 use Rattle.heap_laws.proofs.Targets.Placed.{placing_carries_targets, new_targets_are_stored}
 use Rattle.plain_state.proofs.Gained.{gained_serial}
-use Rattle.plain_state.proofs.Lists.{slice_get-set_same, slice_get-set_other}
+use Rattle.plain_state.proofs.Elements.{slice_get-set_same, slice_get-set_other}
 
-module _ (E : Era) (m : Memory) (team : Team) (g : Ghost) (p : plain.Plain) (k : ℕ) (next : Worker) (q : plain.Mutator) (s : Stock) (c : Kind) (z v d pointer : ℕ) {target : ℕ} (r : plain.Record)
+module _ (E : Era) (m : Memory) (team : Team) (g : Ghost) (p : plain.Plain) (k : ℕ) (next : Known) (q : plain.Mutator) (s : Stock) (c : Kind) (z v d pointer : ℕ) {target : ℕ} (r : plain.Record)
     (ready : Ready E m team g k) (shown : Shown E m team g p) (places : Places E team k s c z v target) (behind : Shows (value_of g.identity) m.heap s.at c z r) (holds : c ≡ Weak → HoldsTarget E g target r) (small : d < 8) (points : decode pointer ≡ PointerWord s.at)
     (goes : MutatorGoesOn E m g (team.worker k) next) (same : IsAs g p.heap k next q) where
   abbrev i : Identity
@@ -53,7 +53,7 @@ module _ (E : Era) (m : Memory) (team : Team) (g : Ghost) (p : plain.Plain) (k :
   abbrev m' : Memory
   m' = with_word m s.at v
 
-  abbrev taken : Worker
+  abbrev taken : Known
   taken = with_record next s z d pointer
 
   cr : NewPlace E m.front m.low g.size g.copy g.keeper s.at z
@@ -131,7 +131,7 @@ cells_after : (E : Era) (m : Memory) (team : Team) (g : Ghost) (k : ℕ) (s : St
     → Cells E (with_word m s.at v) (with_worker team k (placed team k s z)) (allocated g s.at z c (next_identity team k))
 cells_after E m team g k s c z v target r ready next_one places three holds =
     let before = ready.invariant.cells in
-    let w : Worker = placed team k s z in
+    let w : Known = placed team k s z in
     let writes = writes_header E m team g k s c z v ready places in
     let held : c ≡ Weak → MayBeTarget E g (m.heap (s.at + 1)) = λ e. rw (new_targets_are_stored E m team g k s z v target ready (rw e at next_one)) (inr (holds e).2.held) in
     of_chain {m = m} (record { weak = refl; weak_turn = refl })

@@ -14,23 +14,23 @@ use Rattle.heap_state.specs.Functions.{put}
 use Rattle.heap_state.specs.Invariant.Ghost.{Ghost, Lands}
 use Rattle.heap_state.specs.Invariant.Inductive.{Invariant}
 use Rattle.heap_state.specs.Meaning.Values.{value_of, Shows, ShowsAll, Accounts, RegistersShow, BoardShows, Shown}
-use Rattle.heap_state.specs.Worker.{Worker, Team, Stock}
+use Rattle.heap_state.specs.Known.{Known, Team, Stock}
 use Rattle.heap_state.proofs.Puts.{put_at, put_other, put_same, proj_put}
 use Rattle.heap_state.proofs.Records.Layouts.{count_stays, value_within, values_behind_header}
 use Rattle.heap_laws.specs.Opening.{opening_mutator}
 use Rattle.heap_laws.specs.Allocation.Records.{next_identity, allocated, ZerosShow}
-use Rattle.heap_laws.proofs.Allocation.Stocks.{Places, ahead_of_values, count_ahead, owns, zero_behind as zero_behind_ahead}
-use Rattle.heap_laws.proofs.Allocation.Targets.{placing_shows_targets}
+use Rattle.heap_laws.proofs.Allocation.StockPages.Stocks.{Places, ahead_of_values, count_ahead, owns, zero_behind as zero_behind_ahead}
+use Rattle.heap_laws.proofs.Allocation.PlacedTargets.{placing_shows_targets}
 use Rattle.heap_laws.specs.Fields.Stores.{HoldsTarget}
 use Rattle.heap_state.specs.Invariant.Parts.Stocks.{Stocked}
 use Rattle.plain_state.specs.declared.kind.Kind.TheVariants.{Weak}
 use Rattle.heap_laws.specs.Steps.{with_word, with_worker}
 use Rattle.heap_laws.proofs.Allocation.FreeWords.{IsFree, word_same, board_same}
 use Rattle.heap_laws.proofs.Allocation.Header.{placed, new_place, free, mutator, zeros}
-use Rattle.heap_laws.proofs.Allocation.Parts.{NewPlace, unused as unused_place, was, same_size, same_writer}
+use Rattle.heap_laws.proofs.Allocation.NewRecordParts.{NewPlace, unused as unused_place, was, same_size, same_writer}
 use Rattle.heap_laws.proofs.Allocation.Values.{field_lands, value_allocated}
 use Rattle.plain_state.proofs.Gained.{gained_there, gained_elsewhere, gained_serial, gained_serial_other, gained_makers}
-use Rattle.plain_state.proofs.Lists.{slice_get-of_replicate}
+use Rattle.plain_state.proofs.Elements.{slice_get-of_replicate}
 use Rattle.heap_laws.proofs.Frames.Values.{board_here, zero_value}
 
 module _ (E : Era) (m : Memory) (team : Team) (g : Ghost) (p : plain.Plain) (k : ℕ) (q : Stock) (c : Kind) (z v : ℕ) {target : ℕ} (new : plain.Record) (lay : IsLaidOut E) (inv : Invariant E m team g) (places : Places E team k q c z v target) (behind : Shows (value_of g.identity) m.heap q.at c z new)
@@ -44,7 +44,7 @@ module _ (E : Era) (m : Memory) (team : Team) (g : Ghost) (p : plain.Plain) (k :
   abbrev g' : Ghost
   g' = allocated g q.at z c i
 
-  abbrev w : Worker
+  abbrev w : Known
   w = placed team k q z
 
   abbrev after : plain.Heap

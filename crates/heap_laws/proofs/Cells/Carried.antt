@@ -5,7 +5,7 @@ use Rattle.heap_state.specs.Cells.{Ranks, IsCopiedCell, MayCopy, KnowsCopy, Link
 use Rattle.heap_state.specs.Memory.Era.{Era, Memory}
 use Rattle.heap_state.specs.Functions.{put}
 use Rattle.heap_state.specs.Invariant.Ghost.{Ghost}
-use Rattle.heap_state.specs.Worker.{Worker, Team, Linking, Pass, cell_to_link, is_cleared}
+use Rattle.heap_state.specs.Known.{Known, Team, Linking, Pass, cell_to_link, is_cleared}
 use Rattle.heap_state.proofs.Puts.{each_put, proj_put}
 use Rattle.heap_laws.specs.Cells.Frames.{GoesOnInChain, CarriesChain, ChainIsCarried}
 use Rattle.heap_laws.specs.Steps.{with_worker}
@@ -13,7 +13,7 @@ use Rattle.heap_laws.specs.Steps.{with_worker}
 -- ---- one worker's part
 
 -- what a copier knows of its cell
-pub links_stay : (E : Era) (m later : Memory) (g h : Ghost) (r : Ranks) (w u : Worker) (l : Linking) → later.traced ≡ m.traced → ((a : ℕ) → IsCopiedCell E m.front g a → IsCopiedCell E later.front h a)
+pub links_stay : (E : Era) (m later : Memory) (g h : Ghost) (r : Ranks) (w u : Known) (l : Linking) → later.traced ≡ m.traced → ((a : ℕ) → IsCopiedCell E m.front g a → IsCopiedCell E later.front h a)
     → later.heap (l.cell + 2) ≡ m.heap (l.cell + 2) → (KnowsCopy u → MayCopy E u → MayCopy E w × KnowsCopy w) → Links E m g r u l → Links E later h r w l
 links_stay E m later g h r w u l traced cells same licence o = record {
   copying = rw traced o.copying;
@@ -25,7 +25,7 @@ links_stay E m later g h r w u l traced cells same licence o = record {
 }
 
 -- what the walker knows
-pub passing_stays : (E : Era) (m later : Memory) (turn : ℕ) (g h : Ghost) (r : Ranks) (w u : Worker) (q : Pass) → later.traced ≡ m.traced → ((a : ℕ) → 0 < r.rank a → later.heap (a + 1) ≡ m.heap (a + 1))
+pub passing_stays : (E : Era) (m later : Memory) (turn : ℕ) (g h : Ghost) (r : Ranks) (w u : Known) (q : Pass) → later.traced ≡ m.traced → ((a : ℕ) → 0 < r.rank a → later.heap (a + 1) ≡ m.heap (a + 1))
     → h.copy ≡ g.copy → ((b : ℕ) → 0 < g.size b → 0 < h.size b) → w.epoch ≡ u.epoch → w.last_look ≡ u.last_look → Passing E m turn g r u q → Passing E later turn h r w q
 passing_stays E m later turn g h r w u q traced targets copy stands epoch look o = record {
   now = (epoch ∙ o.now.0, rw traced o.now.1, o.now.2);
@@ -46,7 +46,7 @@ passing_stays E m later turn g h r w u q traced targets copy stands epoch look o
 
 -- The same cells are copied ones, the links of linked ones stay, and each worker's part is right. Worker k has the cell to link that it
 -- had, and walks if it did.
-pub record Goes (E : Era) (m later : Memory) (turn : ℕ) (team : Team) (g h : Ghost) (r : Ranks) (k : ℕ) (w : Worker) : Type 0 where
+pub record Goes (E : Era) (m later : Memory) (turn : ℕ) (team : Team) (g h : Ghost) (r : Ranks) (k : ℕ) (w : Known) : Type 0 where
   pub traced : later.traced ≡ m.traced
   pub fewer : (a : ℕ) → IsCopiedCell E later.front h a → IsCopiedCell E m.front g a
   pub cells : (a : ℕ) → IsCopiedCell E m.front g a → IsCopiedCell E later.front h a
@@ -60,15 +60,15 @@ pub record Goes (E : Era) (m later : Memory) (turn : ℕ) (team : Team) (g h : G
   pub cleared : is_cleared w.reset ≡ true → is_cleared (team.worker k).reset ≡ true
   pub three : (a : ℕ) → 0 < h.size a → h.kind a ≡ Weak → h.size a ≡ 3
 
-module _ (E : Era) (m later : Memory) (weak turn : ℕ) (team : Team) (g h : Ghost) (r : Ranks) (k : ℕ) (w : Worker) (goes : Goes E m later turn team g h r k w) (chain : Chain E m weak turn team g r) where
-  abbrev then : ℕ → Worker
+module _ (E : Era) (m later : Memory) (weak turn : ℕ) (team : Team) (g h : Ghost) (r : Ranks) (k : ℕ) (w : Known) (goes : Goes E m later turn team g h r k w) (chain : Chain E m weak turn team g r) where
+  abbrev then : ℕ → Known
   then = put team.worker k w
 
   cell_then : (j : ℕ) → cell_to_link (then j).linking ≡ cell_to_link (team.worker j).linking
-  cell_then j = proj_put (λ (x : Worker). cell_to_link x.linking) team.worker k w j goes.same_cell
+  cell_then j = proj_put (λ (x : Known). cell_to_link x.linking) team.worker k w j goes.same_cell
 
   pass_then : (j : ℕ) → is_some (then j).pass ≡ is_some (team.worker j).pass
-  pass_then j = proj_put (λ (x : Worker). is_some x.pass) team.worker k w j goes.same_pass
+  pass_then j = proj_put (λ (x : Known). is_some x.pass) team.worker k w j goes.same_pass
 
   before : later.traced ≤ E.epoch → m.traced ≤ E.epoch
   before l = rw goes.traced at l
@@ -89,27 +89,27 @@ module _ (E : Era) (m later : Memory) (weak turn : ℕ) (team : Team) (g h : Gho
     turned = λ e. chain.turned (sym goes.traced ∙ e);
     linked = linked_then;
     all = λ l a c z. let o = chain.all (before l) a (goes.fewer a c) z in record { worker = o.worker; member = o.member; links = cell_then o.worker ∙ o.links };
-    linking = λ j l y e. each_put (λ (j : ℕ) (x : Worker). x.linking ≡ Some l → Links E later h r x l) team.worker k w j (λ d. goes.others_link j l y d) (λ i. goes.own_link l (rw i at y)) e;
+    linking = λ j l y e. each_put (λ (j : ℕ) (x : Known). x.linking ≡ Some l → Links E later h r x l) team.worker k w j (λ d. goes.others_link j l y d) (λ i. goes.own_link l (rw i at y)) e;
     apart = λ i j a y z e f. chain.apart i j a y z (sym (cell_then i) ∙ e) (sym (cell_then j) ∙ f);
-    pass = λ j q y e. each_put (λ (j : ℕ) (x : Worker). x.pass ≡ Some q → Passing E later turn h r x q) team.worker k w j (λ d. goes.others_pass j q y d) (λ i. goes.own_pass q (rw i at y)) e;
+    pass = λ j q y e. each_put (λ (j : ℕ) (x : Known). x.pass ≡ Some q → Passing E later turn h r x q) team.worker k w j (λ d. goes.others_pass j q y d) (λ i. goes.own_pass q (rw i at y)) e;
     one = λ i j y z e f. chain.one i j y z (sym (pass_then i) ∙ e) (sym (pass_then j) ∙ f);
     walker = λ l t. let o = chain.walker (before l) t in record { worker = o.worker; member = o.member; walks = pass_then o.worker ∙ o.walks };
-    reset = λ j y e. each_put (λ (j : ℕ) (x : Worker). is_cleared x.reset ≡ true → weak ≡ 0) team.worker k w j (λ d. chain.reset j y) (λ i f. chain.reset k (rw i at y) (goes.cleared f)) e;
+    reset = λ j y e. each_put (λ (j : ℕ) (x : Known). is_cleared x.reset ≡ true → weak ≡ 0) team.worker k w j (λ d. chain.reset j y) (λ i f. chain.reset k (rw i at y) (goes.cleared f)) e;
     three = goes.three;
   }
 
 -- ---- a step that leaves all that the chain reads
 
-module _ (E : Era) (m later : Memory) (weak turn : ℕ) (team : Team) (g h : Ghost) (r : Ranks) (k : ℕ) (w : Worker) (carries : CarriesChain E m later team g h) (on : GoesOnInChain E w (team.worker k))
+module _ (E : Era) (m later : Memory) (weak turn : ℕ) (team : Team) (g h : Ghost) (r : Ranks) (k : ℕ) (w : Known) (carries : CarriesChain E m later team g h) (on : GoesOnInChain E w (team.worker k))
     (chain : Chain E m weak turn team g r) where
   -- while one walks the epoch isn't traced, and ranks are those of copied cells
-  passes : (j : ℕ) (q : Pass) (x : Worker) → j < team.count → (team.worker j).pass ≡ Some q → x.epoch ≡ (team.worker j).epoch → x.last_look ≡ (team.worker j).last_look → Passing E later turn h r x q
+  passes : (j : ℕ) (q : Pass) (x : Known) → j < team.count → (team.worker j).pass ≡ Some q → x.epoch ≡ (team.worker j).epoch → x.last_look ≡ (team.worker j).last_look → Passing E later turn h r x q
   passes j q x y e epoch look =
       let o = chain.pass j q y e in
       passing_stays E m later turn g h r x (team.worker j) q carries.traced (λ a p. carries.targets a ((chain.linked o.now.1).ranked a p).0)
       (carries.copies (record { worker = j; member = y; walks = ap is_some e })) carries.stands epoch look o
 
-  links : (j : ℕ) (l : Linking) (x : Worker) → j < team.count → (team.worker j).linking ≡ Some l → (KnowsCopy (team.worker j) → MayCopy E (team.worker j) → MayCopy E x × KnowsCopy x) → Links E later h r x l
+  links : (j : ℕ) (l : Linking) (x : Known) → j < team.count → (team.worker j).linking ≡ Some l → (KnowsCopy (team.worker j) → MayCopy E (team.worker j) → MayCopy E x × KnowsCopy x) → Links E later h r x l
   links j l x y e licence =
       let o = chain.linking j l y e in
       links_stay E m later g h r x (team.worker j) l carries.traced carries.cells (carries.links l.cell o.cell) licence o

@@ -5,17 +5,17 @@ use Rattle.plain_state.specs.declared.kind.Kind.TheVariants.{Weak}
 use Rattle.heap_state.specs.Cells.{Ranks, no_ranks, Chain}
 use Rattle.heap_state.specs.Memory.Era.{Era, Memory}
 use Rattle.heap_state.specs.Invariant.Ghost.{Ghost}
-use Rattle.heap_state.specs.Worker.{Worker, Team, Linking, Pass, Reset, cell_to_link, is_cleared}
+use Rattle.heap_state.specs.Known.{Known, Team, Linking, Pass, Reset, cell_to_link, is_cleared}
 use Rattle.heap_laws.specs.Cells.Flips.{SizesCarryChain, ClearingWeakCarriesChain, FlippingCarriesChain}
 use Rattle.heap_laws.specs.Flipping.Flip.{Flips, next_era, next_memory, next_ghost, after_flip}
 use Rattle.heap_laws.specs.Flipping.Sizes.{sized_era, after_size}
 use Rattle.heap_laws.specs.Steps.{Ready, with_weak, with_worker}
 use Rattle.heap_laws.proofs.Cells.Linked.{weak_memory}
-use Rattle.heap_laws.proofs.Cells.Parts.{chain_of, cell_in, value_in, flipper_traced, none_links, none_passes}
+use Rattle.heap_laws.proofs.Cells.ChainParts.{chain_of, cell_in, value_in, flipper_traced, none_links, none_passes}
 use Rattle.heap_laws.proofs.Flipping.Sums.{stood}
 
 -- the others and worker k have nothing to link and don't walk
-module _ (E : Era) (later : Memory) (weak turn : ℕ) (team : Team) (h : Ghost) (r : Ranks) (k : ℕ) (w : Worker) (traced : later.traced ≡ E.epoch + 1) (turned : turn ≡ E.epoch + 1)
+module _ (E : Era) (later : Memory) (weak turn : ℕ) (team : Team) (h : Ghost) (r : Ranks) (k : ℕ) (w : Known) (traced : later.traced ≡ E.epoch + 1) (turned : turn ≡ E.epoch + 1)
     (apart : (i j a : ℕ) → i < team.count → j < team.count → cell_to_link (team.worker i).linking ≡ Some a → cell_to_link (team.worker j).linking ≡ Some a → i ≡ j)
     (one : (i j : ℕ) → i < team.count → j < team.count → is_some (team.worker i).pass ≡ true → is_some (team.worker j).pass ≡ true → i ≡ j)
     (none_link : (j : ℕ) (l : Linking) → j < team.count → j ≢ k → ¬ ((team.worker j).linking ≡ Some l)) (own_none : (l : Linking) → k < team.count → ¬ (w.linking ≡ Some l))
@@ -57,7 +57,7 @@ module _ (E : Era) (m : Memory) (weak turn : ℕ) (team : Team) (g : Ghost) (r :
       (λ j l y _. links_none j l y) (λ l y e. links_none k l y e) (λ j q y _. passes_none j q y) (λ q y e. passes_none k q y e)
       (λ j y _. chain.reset j y) (λ y e. chain.reset k y (rw has e)) chain.three
 
-  pub clears : (w : Worker) → w.linking ≡ (team.worker k).linking → w.pass ≡ (team.worker k).pass → Chain E (with_weak m 0) 0 turn (with_worker team k w) g r
+  pub clears : (w : Known) → w.linking ≡ (team.worker k).linking → w.pass ≡ (team.worker k).pass → Chain E (with_weak m 0) 0 turn (with_worker team k w) g r
   clears w linking pass = ended E (with_weak m 0) 0 turn team g r k w traced (chain.turned traced) chain.apart chain.one
       (λ j l y _. links_none j l y) (λ l y e. links_none k l y (sym linking ∙ e)) (λ j q y _. passes_none j q y) (λ q y e. passes_none k q y (sym pass ∙ e))
       (λ _ _ _ _. refl) (λ _ _. refl) chain.three
@@ -65,7 +65,7 @@ module _ (E : Era) (m : Memory) (weak turn : ℕ) (team : Team) (g : Ghost) (r :
   -- ---- the exchange of the gate
 
   module _ (flips : Flips E team k z) (cleared : z.cleared ≡ true) where
-    abbrev u : Worker
+    abbrev u : Known
     u = after_flip (team.worker k)
 
     empty : m.old_front ≡ E.old_start

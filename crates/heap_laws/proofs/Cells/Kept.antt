@@ -8,15 +8,15 @@ use Rattle.heap_state.specs.Memory.Era.{Era, Memory}
 use Rattle.heap_state.specs.Invariant.Ghost.{Ghost, IsField, Here}
 use Rattle.heap_state.specs.Invariant.Parts.Cells.{Cells}
 use Rattle.heap_state.specs.Targets.{IsCell, Targets}
-use Rattle.heap_state.specs.Worker.{Worker, Team, Quest, Scan, Linking, Reset, is_cleared}
+use Rattle.heap_state.specs.Known.{Known, Team, Quest, Scan, Linking, Reset, is_cleared}
 use Rattle.heap_state.proofs.Puts.{some_same, none≢some, true_false}
 use Rattle.heap_laws.specs.Cells.Frames.{SameCells, GoesOnInChain, IsUnreadRow, IsNoCellWord, WordsAreUnread}
 use Rattle.heap_laws.specs.Composing.{IsLess, SameAtChain}
 use Rattle.heap_laws.specs.Steps.{Ready, SameInChain, WritesRow, InWeak, InWeakTurn, with_worker}
 use Rattle.heap_laws.specs.Targets.Frames.{IsNoTarget, IsNoTargetRow, WordsAreNoTargets}
 use Rattle.heap_laws.proofs.Cells.Carried.{carried}
-use Rattle.heap_laws.proofs.Cells.Rows.{SameMemory, SameWords, unread, by_words, unread_words_carry_chain, no_cell_words}
-use Rattle.heap_laws.proofs.Targets.Rows.{by_targets, unread_rows_carry_targets, unread_words_carry_targets, no_target_words}
+use Rattle.heap_laws.proofs.Cells.ChainRows.{SameMemory, SameWords, unread, by_words, unread_words_carry_chain, no_cell_words}
+use Rattle.heap_laws.proofs.Targets.TargetRows.{by_targets, unread_rows_carry_targets, unread_words_carry_targets, no_target_words}
 
 -- ---- WEAK and WEAKTURN
 
@@ -46,7 +46,7 @@ of_chain {E} {m} {later} {team} {g} {r} s chain targets = record {
 -- ---- a worker's part
 
 -- a worker that stands as before and scans if it did, and has the same part in the chain, goes on in it
-pub still_in_chain : (E : Era) (w u : Worker) → w.post ≡ u.post → w.epoch ≡ u.epoch → ((s : Scan) → u.scan ≡ Some s → (t : Scan) × (w.scan ≡ Some t)) → SameInChain w u → GoesOnInChain E w u
+pub still_in_chain : (E : Era) (w u : Known) → w.post ≡ u.post → w.epoch ≡ u.epoch → ((s : Scan) → u.scan ≡ Some s → (t : Scan) × (w.scan ≡ Some t)) → SameInChain w u → GoesOnInChain E w u
 still_in_chain E w u post epoch scan s = record {
   linking = s.linking;
   pass = s.pass;
@@ -56,7 +56,7 @@ still_in_chain E w u post epoch scan s = record {
 }
 
 -- one that scans as before
-pub in_chain : (E : Era) (w u : Worker) → w.post ≡ u.post → w.epoch ≡ u.epoch → w.scan ≡ u.scan → SameInChain w u → GoesOnInChain E w u
+pub in_chain : (E : Era) (w u : Known) → w.post ≡ u.post → w.epoch ≡ u.epoch → w.scan ≡ u.scan → SameInChain w u → GoesOnInChain E w u
 in_chain E w u post epoch scan s = still_in_chain E w u post epoch (λ t e. (t, scan ∙ e)) s
 
 -- what isn't known of a flip hasn't been stored for it
@@ -65,7 +65,7 @@ less_cleared None p less e = absurd (cc)
 less_cleared (Some r) p less e = ap is_cleared (less r refl) ∙ e
 
 -- a worker that asks for the same copy, knows the same of the chain and knows at most as much of a flip has the same part in the chain
-pub less_in_chain : (w u : Worker) → w.quest ≡ u.quest → IsLess w.reset u.reset → SameAtChain w u → SameInChain w u
+pub less_in_chain : (w u : Known) → w.quest ≡ u.quest → IsLess w.reset u.reset → SameAtChain w u → SameInChain w u
 less_in_chain w u quest reset same = record {
   linking = same.linking;
   pass = same.pass;
@@ -75,7 +75,7 @@ less_in_chain w u quest reset same = record {
 }
 
 -- who asks for no copy has none to link
-pub idle_in_chain : (w u : Worker) → u.quest ≡ None → w.linking ≡ u.linking → w.pass ≡ u.pass → w.last_look ≡ u.last_look → w.reset ≡ u.reset → SameInChain w u
+pub idle_in_chain : (w u : Known) → u.quest ≡ None → w.linking ≡ u.linking → w.pass ≡ u.pass → w.last_look ≡ u.last_look → w.reset ≡ u.reset → SameInChain w u
 idle_in_chain w u idle linking pass look reset = record {
   linking = linking;
   pass = pass;
@@ -95,24 +95,24 @@ same_cells g = record { size = refl; writer = refl; kind = refl; copy = refl }
 -- ---- the frames
 
 -- TRACED, FRONT, WEAK, WEAKTURN and the heap words are as they were, and the targets stand, whatever else is another
-pub same_words_keep : (E : Era) (m later : Memory) (team : Team) (g h : Ghost) (k : ℕ) (w : Worker) → SameWeak m later → SameMemory m later → later.heap ≡ m.heap → SameCells g h → GoesOnInChain E w (team.worker k)
+pub same_words_keep : (E : Era) (m later : Memory) (team : Team) (g h : Ghost) (k : ℕ) (w : Known) → SameWeak m later → SameMemory m later → later.heap ≡ m.heap → SameCells g h → GoesOnInChain E w (team.worker k)
     → Targets E later h → Cells E m team g → Cells E later (with_worker team k w) h
 same_words_keep E m later team g h k w weak memory heap same goes targets c =
     of_chain weak (carried E m later m.weak m.weak_turn team g h c.ranks k w (by_words E m later m.weak m.weak_turn team g h c.ranks same memory c.chain (λ a y. (rw heap refl, rw heap refl))) goes c.chain) targets
 
 -- what is read of the memory is as it was, whichever rows are written
-pub same_keeps : (E : Era) (m later : Memory) (team : Team) (g h : Ghost) (k : ℕ) (w : Worker) → SameWords m later → SameWeak m later → SameCells g h → GoesOnInChain E w (team.worker k)
+pub same_keeps : (E : Era) (m later : Memory) (team : Team) (g h : Ghost) (k : ℕ) (w : Known) → SameWords m later → SameWeak m later → SameCells g h → GoesOnInChain E w (team.worker k)
     → Cells E m team g → Cells E later (with_worker team k w) h
 same_keeps E m later team g h k w words weak same goes c =
     same_words_keep E m later team g h k w weak words.memory words.heap same goes (by_targets E m later g h same words.memory words.low c.targets (λ a y. rw words.heap refl)) c
 
 -- a row is written that isn't read, or none
-pub unread_keeps : (E : Era) (m later : Memory) (team : Team) (g h : Ghost) (k : ℕ) (e : Option Entry) (w : Worker) → WritesRow E m e later → IsUnreadRow E e → IsNotWeak e → SameCells g h → GoesOnInChain E w (team.worker k)
+pub unread_keeps : (E : Era) (m later : Memory) (team : Team) (g h : Ghost) (k : ℕ) (e : Option Entry) (w : Known) → WritesRow E m e later → IsUnreadRow E e → IsNotWeak e → SameCells g h → GoesOnInChain E w (team.worker k)
     → Cells E m team g → Cells E later (with_worker team k w) h
 unread_keeps E m later team g h k e w writes none other same goes c = same_keeps E m later team g h k w (unread writes none) (same_weak writes other) same goes c
 
 -- a heap word is written that is no target, and no link of a copied cell
-pub word_keeps : (E : Era) (m later : Memory) (team : Team) (g h : Ghost) (k x v : ℕ) (w : Worker) → WritesRow E m (Some (WordIs x v)) later → IsNoCellWord E m g x → IsNoTarget g x → SameCells g h
+pub word_keeps : (E : Era) (m later : Memory) (team : Team) (g h : Ghost) (k x v : ℕ) (w : Known) → WritesRow E m (Some (WordIs x v)) later → IsNoCellWord E m g x → IsNoTarget g x → SameCells g h
     → GoesOnInChain E w (team.worker k) → Cells E m team g → Cells E later (with_worker team k w) h
 word_keeps E m later team g h k x v w writes none no_target same goes c =
     of_chain (same_weak writes tt) (unread_words_carry_chain E m later m.weak m.weak_turn team g h c.ranks k x v w writes none same goes c.chain) (unread_words_carry_targets E m later g h x v writes no_target same c.targets)
@@ -144,7 +144,7 @@ field_is_unread E m team g k x ready (inl u) =
 
 -- ---- who has nothing to link
 
-pub finds_nothing : (w : Worker) (q : Quest) → w.quest ≡ Some q → q.found ≡ None → ¬ (KnowsCopy w)
+pub finds_nothing : (w : Known) (q : Quest) → w.quest ≡ Some q → q.found ≡ None → ¬ (KnowsCopy w)
 finds_nothing w q asks none knows =
     let same : knows.0 ≡ q = some_same (sym knows.1 ∙ asks) in
     true_false {b = is_some q.found} (ap is_some none) (ap (λ (x : Quest). is_some x.found) (sym same) ∙ knows.2)

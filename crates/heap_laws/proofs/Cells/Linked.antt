@@ -5,23 +5,23 @@ use Rattle.heap_state.specs.Cells.{Ranks, IsCopiedCell, LeadsToRank, MayCopy, Kn
 use Rattle.heap_state.specs.Memory.Entries.{Entry, WeakIs}
 use Rattle.heap_state.specs.Memory.Era.{Era, Memory}
 use Rattle.heap_state.specs.Invariant.Ghost.{Ghost}
-use Rattle.heap_state.specs.Worker.{Worker, Team, Linking, Pass, cell_to_link}
+use Rattle.heap_state.specs.Known.{Known, Team, Linking, Pass, cell_to_link}
 use Rattle.heap_state.proofs.Puts.{put_at, put_other, put_same, some_same, none≢some, true_false}
 use Rattle.heap_laws.specs.Cells.Links.{SameBesideLinking, ReadingWeakCarriesChain, StoringLinkCarriesChain, LinkingCarriesChain, one_more}
 use Rattle.heap_laws.specs.Steps.{Ready, WritesRow, NoRow, InWeak, Beside, with_weak, with_worker}
 use Rattle.heap_laws.proofs.Cells.Carried.{goes_on, links_stay}
-use Rattle.heap_laws.proofs.Cells.Parts.{chain_of, value_in, none_walks, no_walker, none_cleared}
-use Rattle.heap_laws.proofs.Cells.Rows.{StoresWord, stores_word}
+use Rattle.heap_laws.proofs.Cells.ChainParts.{chain_of, value_in, none_walks, no_walker, none_cleared}
+use Rattle.heap_laws.proofs.Cells.ChainRows.{StoresWord, stores_word}
 use Rattle.heap_laws.proofs.Frames.Values.{one_place}
 
 -- who scans or is late still does
-pub may_copy_now : (E : Era) (w u : Worker) → w.post ≡ u.post → w.epoch ≡ u.epoch → w.scan ≡ u.scan → MayCopy E u → MayCopy E w
+pub may_copy_now : (E : Era) (w u : Known) → w.post ≡ u.post → w.epoch ≡ u.epoch → w.scan ≡ u.scan → MayCopy E u → MayCopy E w
 may_copy_now E w u post epoch scan may = ⊎_elim (λ s. inl (s.0, scan ∙ s.1)) (λ l. inr (rw (post, epoch) l)) may
 
-pub may_copy_still : (E : Era) (w u : Worker) → w.post ≡ u.post → w.epoch ≡ u.epoch → w.scan ≡ u.scan → (KnowsCopy u → KnowsCopy w) → KnowsCopy u → MayCopy E u → MayCopy E w × KnowsCopy w
+pub may_copy_still : (E : Era) (w u : Known) → w.post ≡ u.post → w.epoch ≡ u.epoch → w.scan ≡ u.scan → (KnowsCopy u → KnowsCopy w) → KnowsCopy u → MayCopy E u → MayCopy E w × KnowsCopy w
 may_copy_still E w u post epoch scan asked knows may = (may_copy_now E w u post epoch scan may, asked knows)
 
-pub may_copy : (E : Era) (w u : Worker) → SameBesideLinking w u → KnowsCopy u → MayCopy E u → MayCopy E w × KnowsCopy w
+pub may_copy : (E : Era) (w u : Known) → SameBesideLinking w u → KnowsCopy u → MayCopy E u → MayCopy E w × KnowsCopy w
 may_copy E w u same knows may = may_copy_still E w u same.post same.epoch same.scan same.asked knows may
 
 -- ---- rows
@@ -39,7 +39,7 @@ weak_memory _ is = absurd (cc)
 -- ---- what the copier knows of its cell changes
 
 -- Worker k knows something else of the cell that it has to link, whose link alone may change.
-module _ (E : Era) (m later : Memory) (weak turn : ℕ) (team : Team) (g : Ghost) (r : Ranks) (k : ℕ) (l n : Linking) (w : Worker) (ready : Ready E m team g k) (has : (team.worker k).linking ≡ Some l) (gets : w.linking ≡ Some n)
+module _ (E : Era) (m later : Memory) (weak turn : ℕ) (team : Team) (g : Ghost) (r : Ranks) (k : ℕ) (l n : Linking) (w : Known) (ready : Ready E m team g k) (has : (team.worker k).linking ≡ Some l) (gets : w.linking ≡ Some n)
     (cell : n.cell ≡ l.cell) (like : SameBesideLinking w (team.worker k)) (chain : Chain E m weak turn team g r) (traced : later.traced ≡ m.traced) (front : later.front ≡ m.front)
     (links : (a : ℕ) → IsCopiedCell E m.front g a → a ≢ l.cell → later.heap (a + 2) ≡ m.heap (a + 2))
     (targets : (a : ℕ) → IsCopiedCell E m.front g a → later.heap (a + 1) ≡ m.heap (a + 1))
@@ -105,7 +105,7 @@ storing_link_carries_chain E m later weak turn team g r k l v w ready has gets w
 
 -- ---- the exchange of WEAK
 
-module _ (E : Era) (m : Memory) (weak turn : ℕ) (team : Team) (g : Ghost) (r : Ranks) (k : ℕ) (l : Linking) (w : Worker) (ready : Ready E m team g k) (has : (team.worker k).linking ≡ Some l)
+module _ (E : Era) (m : Memory) (weak turn : ℕ) (team : Team) (g : Ghost) (r : Ranks) (k : ℕ) (l : Linking) (w : Known) (ready : Ready E m team g k) (has : (team.worker k).linking ≡ Some l)
     (read : l.read ≡ Some weak) (stored : l.stored ≡ true) (gets : w.linking ≡ None) (like : SameBesideLinking w (team.worker k)) (chain : Chain E m weak turn team g r) where
   abbrev c : ℕ
   c = l.cell

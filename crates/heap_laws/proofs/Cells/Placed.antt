@@ -7,21 +7,21 @@ use Rattle.plain_state.specs.Layout.{values_at}
 use Rattle.heap_state.specs.Cells.{Ranks, IsCopiedCell, Chain}
 use Rattle.heap_state.specs.Memory.Era.{Era, Memory}
 use Rattle.heap_state.specs.Invariant.Ghost.{Ghost}
-use Rattle.heap_state.specs.Worker.{Worker, Team, Stock}
+use Rattle.heap_state.specs.Known.{Known, Team, Stock}
 use Rattle.heap_state.proofs.Puts.{put_at, put_other, each_put}
 use Rattle.heap_laws.specs.Allocation.Records.{PlacesNext, allocated, next_identity}
 use Rattle.heap_laws.specs.Cells.Flips.{PlacingCarriesChain}
 use Rattle.heap_laws.specs.Cells.Frames.{GoesOnInChain}
 use Rattle.heap_laws.specs.Steps.{Ready, with_worker}
 use Rattle.heap_laws.proofs.Cells.Carried.{carried}
-use Rattle.heap_laws.proofs.Cells.Rows.{StoresWord, stores_word, no_cell_words}
+use Rattle.heap_laws.proofs.Cells.ChainRows.{StoresWord, stores_word, no_cell_words}
 
 -- a record's values begin behind its header
 pub some_values : (c : Kind) → 0 < values_at c
 some_values Fields = omega arith
 some_values _ = omega arith
 
-module _ (E : Era) (m later : Memory) (weak turn : ℕ) (team : Team) (g : Ghost) (r : Ranks) (k : ℕ) (s : Stock) (c : Kind) (z v target : ℕ) (w : Worker) (ready : Ready E m team g k) (places : PlacesNext team k s c z v target) (small : c ≡ Weak → z ≡ 3)
+module _ (E : Era) (m later : Memory) (weak turn : ℕ) (team : Team) (g : Ghost) (r : Ranks) (k : ℕ) (s : Stock) (c : Kind) (z v target : ℕ) (w : Known) (ready : Ready E m team g k) (places : PlacesNext team k s c z v target) (small : c ≡ Weak → z ≡ 3)
     (stores : StoresWord m later s.at v) (on : GoesOnInChain E w (team.worker k)) (chain : Chain E m weak turn team g r) where
   abbrev h : Ghost
   h = allocated g s.at z c (next_identity team k)

@@ -9,19 +9,19 @@ use Rattle.heap_state.specs.Memory.Era.{Era, Memory}
 use Rattle.heap_state.specs.Invariant.Ghost.{Ghost, header_kind}
 use Rattle.heap_state.specs.Invariant.Inductive.{Invariant, Knows}
 use Rattle.heap_state.specs.Invariant.Parts.Copying.{Copies}
-use Rattle.heap_state.specs.Worker.{Worker, Team, Pass, Copy, cell_to_link}
+use Rattle.heap_state.specs.Known.{Known, Team, Pass, Copy, cell_to_link}
 use Rattle.heap_state.proofs.Puts.{put_at, put_other, each_put, some_same, none≢some}
-use Rattle.heap_state.proofs.Records.Headers.{weak_header}
+use Rattle.heap_state.proofs.Records.KindsOfHeaders.{weak_header}
 use Rattle.heap_laws.specs.Cells.Links.{SameBesideLinking, PublishingCarriesChain}
 use Rattle.heap_laws.specs.Copying.{KeepsCell, published}
 use Rattle.heap_laws.specs.Steps.{Ready, with_worker}
 use Rattle.heap_laws.proofs.Cells.Carried.{carried, links_stay}
 use Rattle.heap_laws.proofs.Cells.Linked.{may_copy_now}
-use Rattle.heap_laws.proofs.Cells.Parts.{chain_of, none_walks, no_walker, value_in, cell_in}
-use Rattle.heap_laws.proofs.Cells.Rows.{StoresWord, stores_word, no_cell_words}
+use Rattle.heap_laws.proofs.Cells.ChainParts.{chain_of, none_walks, no_walker, value_in, cell_in}
+use Rattle.heap_laws.proofs.Cells.ChainRows.{StoresWord, stores_word, no_cell_words}
 use Rattle.heap_laws.proofs.Copying.Room.{untraced}
 
-module _ (E : Era) (m later : Memory) (weak turn : ℕ) (team : Team) (g : Ghost) (r : Ranks) (k : ℕ) (c : Copy) (v : ℕ) (w : Worker) (ready : Ready E m team g k) (has : (team.worker k).copy ≡ Some c) (res : c.reserved ≡ true)
+module _ (E : Era) (m later : Memory) (weak turn : ℕ) (team : Team) (g : Ghost) (r : Ranks) (k : ℕ) (c : Copy) (v : ℕ) (w : Known) (ready : Ready E m team g k) (has : (team.worker k).copy ≡ Some c) (res : c.reserved ≡ true)
     (free : (team.worker k).linking ≡ None) (s : StoresWord m later c.from v) (knows : KnowsCopy w) (like : SameBesideLinking w (team.worker k)) (chain : Chain E m weak turn team g r) where
   abbrev inv : Invariant E m team g
   inv = ready.invariant
@@ -146,7 +146,7 @@ module _ (E : Era) (m later : Memory) (weak turn : ℕ) (team : Team) (g : Ghost
 
     all : (a : ℕ) → IsCopiedCell E later.front h a → r.rank a ≡ 0 → HasCopier (with_worker team k w) a
     all a z e = ⊎_elim
-        (λ (x : a ≡ c.to). record { worker = k; member = ready.member; links = ap (λ (u : Worker). cell_to_link u.linking) (put_at team.worker k w k refl) ∙ (ap cell_to_link gets ∙ ap Some (sym x)) })
+        (λ (x : a ≡ c.to). record { worker = k; member = ready.member; links = ap (λ (u : Known). cell_to_link u.linking) (put_at team.worker k w k refl) ∙ (ap cell_to_link gets ∙ ap Some (sym x)) })
         (λ (d : a ≢ c.to).
         let o = chain.all still_copies a (gone a d z) e in
         let n : o.worker ≢ k = λ i. none≢some (sym (ap cell_to_link free) ∙ (rw i at o.links)) in

@@ -8,18 +8,18 @@ use Rattle.heap_state.specs.Memory.Era.{Era, Memory}
 use Rattle.heap_state.specs.Invariant.Ghost.{Ghost}
 use Rattle.heap_state.specs.Invariant.Inductive.{Invariant, Knows}
 use Rattle.heap_state.specs.Invariant.Parts.Copying.{Copies}
-use Rattle.heap_state.specs.Worker.{Worker, Team, Copy}
+use Rattle.heap_state.specs.Known.{Known, Team, Copy}
 use Rattle.heap_state.proofs.Puts.{put_at, put_other, each_put}
 use Rattle.heap_laws.specs.Cells.Frames.{GoesOnInChain}
 use Rattle.heap_laws.specs.Cells.Links.{ReservationsCarryChain}
 use Rattle.heap_laws.specs.Copying.{reserved, moved_by}
 use Rattle.heap_laws.specs.Steps.{Ready, IsAreaNow, with_worker}
 use Rattle.heap_laws.proofs.Cells.Carried.{carried}
-use Rattle.heap_laws.proofs.Cells.Parts.{no_walker}
-use Rattle.heap_laws.proofs.Cells.Rows.{StoresArea, stores_area}
+use Rattle.heap_laws.proofs.Cells.ChainParts.{no_walker}
+use Rattle.heap_laws.proofs.Cells.ChainRows.{StoresArea, stores_area}
 use Rattle.heap_laws.proofs.Copying.Room.{copies_have_room}
 
-module _ (E : Era) (m later : Memory) (weak turn : ℕ) (team : Team) (g : Ghost) (r : Ranks) (k : ℕ) (c : Copy) (area : AreaWord) (w : Worker) (ready : Ready E m team g k) (has : (team.worker k).copy ≡ Some c)
+module _ (E : Era) (m later : Memory) (weak turn : ℕ) (team : Team) (g : Ghost) (r : Ranks) (k : ℕ) (c : Copy) (area : AreaWord) (w : Known) (ready : Ready E m team g k) (has : (team.worker k).copy ≡ Some c)
     (loose : c.reserved ≡ false) (at_front : c.to ≡ m.front) (now : IsAreaNow E m area) (s : StoresArea E m later (moved_by c.size area)) (on : GoesOnInChain E w (team.worker k)) (chain : Chain E m weak turn team g r) where
   abbrev inv : Invariant E m team g
   inv = ready.invariant

@@ -5,7 +5,7 @@ use Rattle.heap_state.specs.Cells.{Ranks, Linked, Chain}
 use Rattle.heap_state.specs.Functions.{put, sum_below}
 use Rattle.heap_state.specs.Memory.Era.{Era, Memory}
 use Rattle.heap_state.specs.Invariant.Ghost.{Ghost}
-use Rattle.heap_state.specs.Worker.{Team}
+use Rattle.heap_state.specs.Known.{Team}
 use Rattle.heap_state.proofs.Puts.{put_at, put_other, put_same, sum_below-change, sum_below-none}
 use Rattle.heap_laws.specs.Cells.Walks.{ChainIsShort}
 use Rattle.heap_laws.specs.Steps.{Ready}

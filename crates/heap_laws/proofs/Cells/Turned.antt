@@ -5,14 +5,14 @@ use Rattle.heap_state.specs.Cells.{Ranks, Passing, Chain}
 use Rattle.heap_state.specs.Memory.Entries.{Entry, TracedIs, WeakTurnIs}
 use Rattle.heap_state.specs.Memory.Era.{Era, Memory}
 use Rattle.heap_state.specs.Invariant.Ghost.{Ghost}
-use Rattle.heap_state.specs.Worker.{Worker, Team, LastLook, Linking, Pass, Begins, Done, cell_to_link}
+use Rattle.heap_state.specs.Known.{Known, Team, LastLook, Linking, Pass, Begins, Done, cell_to_link}
 use Rattle.heap_state.proofs.Puts.{put_at, proj_put, some_same, none≢some}
 use Rattle.heap_laws.specs.Cells.Walks.{SameBesidePass, TakingTurnCarriesChain, IsWalked, WalkIsDone, TracingCarriesChain}
 use Rattle.heap_laws.specs.Steps.{Ready, WritesRow, InTraced, InWeakTurn, Beside, with_worker, with_traced, with_weak_turn}
 use Rattle.heap_laws.proofs.Cells.Carried.{links_stay}
 use Rattle.heap_laws.proofs.Cells.Ended.{ended}
 use Rattle.heap_laws.proofs.Cells.Linked.{may_copy_still}
-use Rattle.heap_laws.proofs.Cells.Parts.{chain_of, cell_in, value_in, none_copies}
+use Rattle.heap_laws.proofs.Cells.ChainParts.{chain_of, cell_in, value_in, none_copies}
 
 -- ---- rows
 
@@ -28,7 +28,7 @@ traced_memory _ is = absurd (cc)
 
 -- ---- the turn is taken
 
-module _ (E : Era) (m : Memory) (weak turn : ℕ) (team : Team) (g : Ghost) (r : Ranks) (k : ℕ) (l : LastLook) (w : Worker) (ready : Ready E m team g k) (looks : (team.worker k).last_look ≡ Some l)
+module _ (E : Era) (m : Memory) (weak turn : ℕ) (team : Team) (g : Ghost) (r : Ranks) (k : ℕ) (l : LastLook) (w : Known) (ready : Ready E m team g k) (looks : (team.worker k).last_look ≡ Some l)
     (of_epoch : (team.worker k).epoch ≤ l.traced) (free : turn < (team.worker k).epoch + 1) (gets : w.pass ≡ Some Begins) (like : SameBesidePass w (team.worker k)) (chain : Chain E m weak turn team g r) where
   past : (team.worker k).epoch ≤ E.epoch
   past = (ready.invariant.workers k ready.member).timely.past
@@ -59,7 +59,7 @@ module _ (E : Era) (m : Memory) (weak turn : ℕ) (team : Team) (g : Ghost) (r :
   turned = (team.worker k).epoch + 1
 
   cell_then : (j : ℕ) → cell_to_link ((with_worker team k w).worker j).linking ≡ cell_to_link (team.worker j).linking
-  cell_then j = proj_put (λ (x : Worker). cell_to_link x.linking) team.worker k w j (ap cell_to_link like.linking)
+  cell_then j = proj_put (λ (x : Known). cell_to_link x.linking) team.worker k w j (ap cell_to_link like.linking)
 
   abbrev later : Memory
   later = with_weak_turn m turned
@@ -84,7 +84,7 @@ module _ (E : Era) (m : Memory) (weak turn : ℕ) (team : Team) (g : Ghost) (r :
     others_pass = λ j q y _ e. absurd (nobody j q y e);
     own_pass = λ q _ e. rw (← some_same (sym gets ∙ e)) own;
     own_one = λ j y _ _ _ e. let q = value_in (team.worker j).pass e in nobody j q.0 y q.1;
-    walker = λ _ _. record { worker = k; member = ready.member; walks = ap (λ (x : Worker). is_some x.pass) (put_at team.worker k w k refl) ∙ ap is_some gets };
+    walker = λ _ _. record { worker = k; member = ready.member; walks = ap (λ (x : Known). is_some x.pass) (put_at team.worker k w k refl) ∙ ap is_some gets };
     others_reset = λ j y _ e. chain.reset j y e;
     own_reset = λ y e. chain.reset k y (rw like.reset at e);
     three = chain.three;
@@ -116,7 +116,7 @@ module _ (E : Era) (m : Memory) (weak turn : ℕ) (team : Team) (g : Ghost) (r :
         (cases_lt 0 (r.rank a));
   }
 
-  pub traces : (w : Worker) → w.pass ≡ None → w.linking ≡ (team.worker k).linking → w.reset ≡ (team.worker k).reset → Chain E (with_traced m ((team.worker k).epoch + 1)) weak turn (with_worker team k w) g r
+  pub traces : (w : Known) → w.pass ≡ None → w.linking ≡ (team.worker k).linking → w.reset ≡ (team.worker k).reset → Chain E (with_traced m ((team.worker k).epoch + 1)) weak turn (with_worker team k w) g r
   traces w pass linking reset = ended E (with_traced m ((team.worker k).epoch + 1)) weak turn team g r k w (ap (λ z. z + 1) knows.now.0) knows.now.2 chain.apart chain.one
       (λ j l y _. none_link j l y) (λ l y e. none_link k l y (sym linking ∙ e))
       (λ j q y d e. d (chain.one j k y ready.member (ap is_some e) (ap is_some has))) (λ q _ e. none≢some (sym pass ∙ e))

@@ -5,20 +5,20 @@ use Rattle.heap_words.specs.Decoded.{HeaderWord, BusyWord, ForwardWord}
 use Rattle.heap_state.specs.Cells.{Ranks, KnowsCopy, IsCopiedCell, LeadsToRank, Linked, Links, TargetsOld, ReplacesTarget, Visits, Passing, passed_from, Chain}
 use Rattle.heap_state.specs.Memory.Era.{Era, Memory}
 use Rattle.heap_state.specs.Invariant.Ghost.{Ghost, Leads, header_kind}
-use Rattle.heap_state.specs.Worker.{Worker, Team, Linking, Visit, Pass, Begins, At, Done, cell_to_link}
+use Rattle.heap_state.specs.Known.{Known, Team, Linking, Visit, Pass, Begins, At, Done, cell_to_link}
 use Rattle.heap_state.proofs.Puts.{put_at, put_other, some_same, none≢some}
 use Rattle.heap_state.proofs.Records.Holding.{First, OwnHeader, KeptBy, GoneTo, first}
 use Rattle.heap_laws.specs.Cells.Walks.{SameBesidePass, ComesTo, visit, passed as has_passed, replacing, HeaderReplaces, BeginningWalkCarriesChain, GoingOnCarriesChain, FindingTargetCarriesChain, HeadersReplaceTargets, FindingWordCarriesChain, ReplacingTargetCarriesChain}
 use Rattle.heap_laws.specs.Steps.{Ready, with_worker}
 use Rattle.heap_laws.proofs.Cells.Carried.{goes_on, links_stay}
 use Rattle.heap_laws.proofs.Cells.Linked.{same_memory, may_copy_still}
-use Rattle.heap_laws.proofs.Cells.Rows.{StoresWord, stores_word}
+use Rattle.heap_laws.proofs.Cells.ChainRows.{StoresWord, stores_word}
 use Rattle.heap_laws.proofs.Frames.Values.{one_place, pointer_same}
 
 -- ---- a step of the walker
 
 -- The walker goes on with another part of its walk, and no link and no cell changes.
-module _ (E : Era) (m later : Memory) (weak turn : ℕ) (team : Team) (g : Ghost) (r : Ranks) (k : ℕ) (p q : Pass) (w : Worker) (below : k < team.count) (has : (team.worker k).pass ≡ Some p) (gets : w.pass ≡ Some q)
+module _ (E : Era) (m later : Memory) (weak turn : ℕ) (team : Team) (g : Ghost) (r : Ranks) (k : ℕ) (p q : Pass) (w : Known) (below : k < team.count) (has : (team.worker k).pass ≡ Some p) (gets : w.pass ≡ Some q)
     (like : SameBesidePass w (team.worker k)) (chain : Chain E m weak turn team g r) (traced : later.traced ≡ m.traced) (front : later.front ≡ m.front)
     (links : (a : ℕ) → IsCopiedCell E m.front g a → later.heap (a + 2) ≡ m.heap (a + 2))
     (at : (v : Visit) → q ≡ At v → Visits E later g r v)
@@ -29,7 +29,7 @@ module _ (E : Era) (m later : Memory) (weak turn : ℕ) (team : Team) (g : Ghost
   others : (j : ℕ) (x : Pass) → j < team.count → j ≢ k → ¬ ((team.worker j).pass ≡ Some x)
   others j x y d e = d (chain.one j k y below (ap is_some e) (ap is_some has))
 
-  keeps_links : (j : ℕ) (l : Linking) (x : Worker) → j < team.count → (team.worker j).linking ≡ Some l → x.post ≡ (team.worker j).post → x.epoch ≡ (team.worker j).epoch → x.scan ≡ (team.worker j).scan → (KnowsCopy (team.worker j) → KnowsCopy x) → Links E later g r x l
+  keeps_links : (j : ℕ) (l : Linking) (x : Known) → j < team.count → (team.worker j).linking ≡ Some l → x.post ≡ (team.worker j).post → x.epoch ≡ (team.worker j).epoch → x.scan ≡ (team.worker j).scan → (KnowsCopy (team.worker j) → KnowsCopy x) → Links E later g r x l
   keeps_links j l x y e post epoch scan asked =
       let o = chain.linking j l y e in
       links_stay E m later g g r x (team.worker j) l traced (λ a c. rw front c) (links l.cell o.cell) (may_copy_still E x (team.worker j) post epoch scan asked) o
@@ -79,7 +79,7 @@ module _ (E : Era) (m : Memory) (g : Ghost) (r : Ranks) where
 -- ---- from cell to cell
 
 -- the word leads to the rank below which all is passed
-module _ (E : Era) (m : Memory) (weak turn : ℕ) (team : Team) (g : Ghost) (r : Ranks) (k word more n : ℕ) (p q : Pass) (w : Worker) (below : k < team.count) (has : (team.worker k).pass ≡ Some p) (from : passed_from r p ≡ n + 1)
+module _ (E : Era) (m : Memory) (weak turn : ℕ) (team : Team) (g : Ghost) (r : Ranks) (k word more n : ℕ) (p q : Pass) (w : Known) (below : k < team.count) (has : (team.worker k).pass ≡ Some p) (from : passed_from r p ≡ n + 1)
     (leads : LeadsToRank r word n) (few : n ≤ more) (comes : ComesTo word more q) (gets : w.pass ≡ Some q) (like : SameBesidePass w (team.worker k)) (chain : Chain E m weak turn team g r) where
   old : Passing E m turn g r (team.worker k) p
   old = chain.pass k p below has
@@ -124,7 +124,7 @@ going_on_carries_chain E m later weak turn team g r k v q w below has past comes
 
 -- ---- a cell's target
 
-module _ (E : Era) (m : Memory) (weak turn : ℕ) (team : Team) (g : Ghost) (r : Ranks) (k : ℕ) (v u : Visit) (w : Worker) (below : k < team.count) (has : (team.worker k).pass ≡ Some (At v))
+module _ (E : Era) (m : Memory) (weak turn : ℕ) (team : Team) (g : Ghost) (r : Ranks) (k : ℕ) (v u : Visit) (w : Known) (below : k < team.count) (has : (team.worker k).pass ≡ Some (At v))
     (gets : w.pass ≡ Some (At u)) (like : SameBesidePass w (team.worker k)) (chain : Chain E m weak turn team g r) where
   abbrev knew : Passing E m turn g r (team.worker k) (At v)
   knew = chain.pass k (At v) below has
@@ -200,7 +200,7 @@ headers_replace_targets E m team g k b ready st from to = by_first (first E m te
 
 -- ---- the target is replaced
 
-module _ (E : Era) (m later : Memory) (weak turn : ℕ) (team : Team) (g : Ghost) (r : Ranks) (k : ℕ) (v : Visit) (x : ℕ) (w : Worker) (ready : Ready E m team g k) (has : (team.worker k).pass ≡ Some (At v)) (before : v.past ≡ false)
+module _ (E : Era) (m later : Memory) (weak turn : ℕ) (team : Team) (g : Ghost) (r : Ranks) (k : ℕ) (v : Visit) (x : ℕ) (w : Known) (ready : Ready E m team g k) (has : (team.worker k).pass ≡ Some (At v)) (before : v.past ≡ false)
     (word : v.word ≡ Some x) (gets : w.pass ≡ Some (At (has_passed v))) (s : StoresWord m later (v.cell + 1) x) (like : SameBesidePass w (team.worker k)) (chain : Chain E m weak turn team g r) where
   was : Passing E m turn g r (team.worker k) (At v)
   was = chain.pass k (At v) ready.member has

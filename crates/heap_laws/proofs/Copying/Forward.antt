@@ -19,7 +19,7 @@ use Rattle.heap_state.specs.Invariant.Parts.Leading.{Opened, Landing, Older}
 use Rattle.heap_state.specs.Invariant.Parts.Pages.{Shut}
 use Rattle.heap_state.specs.Invariant.Parts.Records.{Headed, RawWords, Counts}
 use Rattle.heap_state.specs.Invariant.Parts.Scanning.{Scans, Stepping, Claims}
-use Rattle.heap_state.specs.Worker.{Worker, Team, Quest, Copy, Scan, Claim, Access, Origin, Register, Scanned, Linking, is_late, is_mutator}
+use Rattle.heap_state.specs.Known.{Known, Team, Quest, Copy, Scan, Claim, Access, Origin, Register, Scanned, Linking, is_late, is_mutator}
 use Rattle.heap_state.proofs.Workers.Frames.{counted_put, staffed_put, scanned_put, stocks_put, numbered_put}
 use Rattle.heap_state.proofs.Puts.{put_at, put_other, put_same, team_put, each_put, some_same, none≢some}
 use Rattle.heap_laws.specs.Copying.{LinksCopy, has_published, published}
@@ -28,8 +28,8 @@ use Rattle.heap_laws.proofs.Cells.Kept.{of_chain, finds_nothing, nothing_to_link
 use Rattle.heap_laws.proofs.Cells.Published.{publishing_carries_chain}
 use Rattle.heap_laws.proofs.Targets.Published.{publishing_carries_targets}
 use Rattle.heap_laws.proofs.Copying.UnreadWords.{UnreadWord, opened_unread, landing_unread, older_unread, new_unread, space_unread, raw_unread, counts_unread, stocks_unread, origin_unread, scans_unread}
-use Rattle.heap_laws.proofs.Copying.Words.{knows_unread}
-use Rattle.heap_laws.proofs.Steps.Rows.{below_board}
+use Rattle.heap_laws.proofs.Copying.WordsOfCopies.{knows_unread}
+use Rattle.heap_laws.proofs.Steps.RowPlaces.{below_board}
 
 -- a whole copy, and the forward to it
 pub record Publishing (E : Era) (m : Memory) (team : Team) (g : Ghost) (k : ℕ) (c : Copy) (q : Quest) (v : ℕ) (l : Option Linking) : Type 0 where
@@ -54,7 +54,7 @@ module _ {E : Era} {m : Memory} {team : Team} {g : Ghost} {k : ℕ} {c : Copy} {
   abbrev pub found : Quest
   found = record q { found = Some c.to }
 
-  abbrev pub w' : Worker
+  abbrev pub w' : Known
   w' = has_published (team.worker k) c q l
 
   abbrev pub g' : Ghost

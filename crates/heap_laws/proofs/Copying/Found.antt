@@ -9,7 +9,7 @@ use Rattle.heap_state.specs.Invariant.Ghost.{Ghost, Leads, Lands}
 use Rattle.heap_state.specs.Invariant.Inductive.{Invariant}
 use Rattle.heap_state.specs.Invariant.Parts.Copying.{Seeks}
 use Rattle.heap_state.specs.Meaning.Values.{value_of}
-use Rattle.heap_state.specs.Worker.{Team, Quest, Copy}
+use Rattle.heap_state.specs.Known.{Team, Quest, Copy}
 use Rattle.heap_state.proofs.Puts.{some_same, none≢some}
 use Rattle.heap_state.specs.Targets.{IsCopied}
 use Rattle.heap_laws.proofs.Frames.Values.{pointer_same, value_from_pointer}

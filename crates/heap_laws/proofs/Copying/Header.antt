@@ -15,7 +15,7 @@ use Rattle.heap_state.specs.Invariant.Parts.Copies.{Copied, Keepers}
 use Rattle.heap_state.specs.Invariant.Parts.Copying.{IsOrigin, Copies, Licensed, Keeps}
 use Rattle.heap_state.specs.Invariant.Parts.OldSpace.{OldSpace}
 use Rattle.heap_state.specs.Invariant.Parts.Records.{Headed}
-use Rattle.heap_state.specs.Worker.{Worker, Team, Quest, Copy, Scan, Origin, Register, Scanned, is_late}
+use Rattle.heap_state.specs.Known.{Known, Team, Quest, Copy, Scan, Origin, Register, Scanned, is_late}
 use Rattle.heap_state.proofs.Workers.Frames.{counted_put, staffed_put, scanned_put, stocks_put, numbered_put, accounts_put, registers_put, rooted_put}
 use Rattle.heap_state.proofs.Records.Holding.{First, OwnHeader, KeptBy, GoneTo, first}
 use Rattle.heap_state.proofs.Puts.{put_at, put_other, put_same, team_put, some_same, none≢some}
@@ -25,8 +25,8 @@ use Rattle.heap_laws.proofs.Cells.Kept.{word_keeps, words_no_targets, words_unre
 use Rattle.heap_laws.proofs.Copying.InProgress.{copies_in_chain}
 use Rattle.heap_laws.proofs.Copying.Roots.{asked_reachable}
 use Rattle.heap_laws.proofs.Copying.UnreadWords.{UnreadWord, opened_unread, landing_unread, older_unread, new_unread, space_unread, raw_unread, counts_unread, stocks_unread, origin_unread, scans_unread, objects_unread, board_unread}
-use Rattle.heap_laws.proofs.Copying.Words.{knows_unread, copying_unread, rooted_unread}
-use Rattle.heap_laws.proofs.Steps.Rows.{below_board}
+use Rattle.heap_laws.proofs.Copying.WordsOfCopies.{knows_unread, copying_unread, rooted_unread}
+use Rattle.heap_laws.proofs.Steps.RowPlaces.{below_board}
 use Rattle.heap_laws.proofs.Targets.Frames.{made_put, shown_beside}
 use Rattle.heap_laws.proofs.Targets.ShownCopies.{shown_taken}
 
@@ -57,7 +57,7 @@ module _ (E : Era) (m : Memory) (team : Team) (g : Ghost) (k : ℕ) (q : Quest) 
   abbrev c : Copy
   c = begun (m.heap a) a (len + 1)
 
-  abbrev w' : Worker
+  abbrev w' : Known
   w' = copying (team.worker k) c
 
   abbrev g' : Ghost

@@ -7,14 +7,14 @@ use Rattle.heap_state.specs.Invariant.Ghost.{Ghost}
 use Rattle.heap_state.specs.Invariant.Inductive.{Knows}
 use Rattle.heap_state.specs.Invariant.Parts.Copying.{IsOrigin, Copies, Keeps, Licensed}
 use Rattle.heap_state.specs.Invariant.Parts.Scanning.{Scans}
-use Rattle.heap_state.specs.Worker.{Worker, Quest, Copy, Scan, is_late}
+use Rattle.heap_state.specs.Known.{Known, Quest, Copy, Scan, is_late}
 use Rattle.heap_state.proofs.Puts.{some_same, none≢some}
 use Rattle.heap_laws.specs.Cells.Frames.{GoesOnInChain}
 use Rattle.heap_laws.specs.Copying.{copying}
 use Rattle.heap_laws.proofs.Cells.Kept.{in_chain}
 
 -- who goes on copying the same record knows the rest as before, where the heap still has what the rest speaks of
-pub knows_copying : (E : Era) (gate : GateWord) (traced front low old_front old_low old_owed : ℕ) (g : Ghost) (page : ℕ → PageWord) (cross announced heap crossed claimed stored : ℕ → ℕ) (k : ℕ) (w : Worker) (c d : Copy)
+pub knows_copying : (E : Era) (gate : GateWord) (traced front low old_front old_low old_owed : ℕ) (g : Ghost) (page : ℕ → PageWord) (cross announced heap crossed claimed stored : ℕ → ℕ) (k : ℕ) (w : Known) (c d : Copy)
     → w.copy ≡ Some c → d.from ≡ c.from → Knows E gate traced front low old_front old_low old_owed g page cross announced heap k w
     → Copies E front g.size g.writer g.copy g.keeper g.kept claimed crossed stored k d → Keeps g.kind g.identity stored d
     → ((q : Quest) → w.quest ≡ Some q → IsOrigin E g.size g.writer g.kind stored (is_late E.epoch w) w.done w.registers w.scan q.old q.origin)
@@ -32,5 +32,5 @@ knows_copying E gate traced front low old_front old_low old_owed g page cross an
     assumption
 
 -- and it has the same part in the chain of copied cells
-pub copies_in_chain : (E : Era) (w : Worker) (c : Copy) → GoesOnInChain E (copying w c) w
+pub copies_in_chain : (E : Era) (w : Known) (c : Copy) → GoesOnInChain E (copying w c) w
 copies_in_chain E w c = in_chain E (copying w c) w refl refl refl (record { linking = refl; pass = refl; asked = λ _ y. y; look = λ _. refl; cleared = λ e. e })

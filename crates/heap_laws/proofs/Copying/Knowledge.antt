@@ -9,7 +9,7 @@ use Rattle.heap_state.specs.Invariant.Ghost.{Ghost, header_kind}
 use Rattle.heap_state.specs.Invariant.Inductive.{Invariant, Knows}
 use Rattle.heap_state.specs.Invariant.Parts.Copying.{Copies, IsOrigin, Seeks, Licensed}
 use Rattle.heap_state.specs.Invariant.Parts.Crossing.{Crossing}
-use Rattle.heap_state.specs.Worker.{Worker, Team, Quest, Copy, is_late}
+use Rattle.heap_state.specs.Known.{Known, Team, Quest, Copy, is_late}
 use Rattle.heap_state.proofs.Records.Holding.{First, OwnHeader, KeptBy, GoneTo, first}
 use Rattle.heap_state.proofs.Puts.{put_at, put_other, put_same, some_same, none≢some, true_false}
 use Rattle.heap_laws.specs.Copying.{copying}
@@ -26,13 +26,13 @@ module _ (E : Era) (m : Memory) (team : Team) (g : Ghost) (k : ℕ) (ready : Rea
   me = inv.workers k ready.member
 
   -- announced places and crossings are others, and worker k knows something else
-  learns : (w : Worker) → Alike w (team.worker k) → (crossed claimed : ℕ → ℕ) → Crossing E m.front g.size g.writer crossed
+  learns : (w : Known) → Alike w (team.worker k) → (crossed claimed : ℕ → ℕ) → Crossing E m.front g.size g.writer crossed
       → ((j : ℕ) (c : Copy) → j < team.count → j ≢ k → (team.worker j).copy ≡ Some c → Copies E m.front g.size g.writer g.copy g.keeper g.kept claimed crossed m.heap j c)
       → Knows E m.gate m.traced m.front m.low m.old_front m.old_low m.old_owed g m.page crossed claimed m.heap k w
       → Preserves E m (record m { cross = crossed; announced = claimed }) team (with_worker team k w) g g
   learns w alike = marks E m team g k w inv (record { post = alike.post; epoch = alike.epoch; account = alike.account; registers = alike.registers; done = alike.done; stock = alike.stock; chain = alike.chain }) (λ s e. (s, alike.scan ∙ e, refl))
 
-  pub learns_alone : (w : Worker) → Alike w (team.worker k) → Knows E m.gate m.traced m.front m.low m.old_front m.old_low m.old_owed g m.page m.cross m.announced m.heap k w
+  pub learns_alone : (w : Known) → Alike w (team.worker k) → Knows E m.gate m.traced m.front m.low m.old_front m.old_low m.old_owed g m.page m.cross m.announced m.heap k w
       → Preserves E m m team (with_worker team k w) g g
   learns_alone w alike own = learns w alike m.cross m.announced inv.crossing (λ j c l d e. (inv.workers j l).copy c e) own
 

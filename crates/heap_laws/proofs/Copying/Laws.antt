@@ -5,7 +5,7 @@ use Rattle.space_map.specs.AreaWord.{AreaFits}
 use Rattle.heap_state.specs.Memory.Era.{Era, Memory}
 use Rattle.heap_state.specs.Invariant.Ghost.{Ghost}
 use Rattle.heap_state.specs.Invariant.Parts.Copying.{Copies}
-use Rattle.heap_state.specs.Worker.{Copy, Team}
+use Rattle.heap_state.specs.Known.{Copy, Team}
 use Rattle.heap_laws.specs.Copying.{IsNextWord, moved_by, HasRoomForCopy, HeadersAreTaken, ForwardsAreFound, PlacesAreAimed, PlacesAreAnnounced, PlacesAreReserved, AnnouncesAreCleared, OldWordsAreLoaded, WordsAreCopied, CrossingsAreStored, CopiesArePublished}
 use Rattle.heap_laws.specs.Steps.{Ready, IsAreaNow, NoRow, InArea, InCross, InWord, InAnnounce, with_area, with_word, with_crossing, with_announced, KnowledgeChangesAlone, NothingChanges}
 use Rattle.heap_laws.proofs.Copying.Header.{header_taken}
@@ -13,8 +13,8 @@ use Rattle.heap_laws.proofs.Copying.Knowledge.{learns_alone, nothing_changes, fo
 use Rattle.heap_laws.proofs.Copying.Published.{copy_published_by}
 use Rattle.heap_laws.proofs.Copying.Reserved.{place_reserved}
 use Rattle.heap_laws.proofs.Copying.Room.{copies_have_room}
-use Rattle.heap_laws.proofs.Copying.Words.{word_copied}
-use Rattle.heap_laws.proofs.Steps.Rows.{below_board, few}
+use Rattle.heap_laws.proofs.Copying.WordsOfCopies.{word_copied}
+use Rattle.heap_laws.proofs.Steps.RowPlaces.{below_board, few}
 
 pub knowledge_changes_alone : KnowledgeChangesAlone
 knowledge_changes_alone E m team g k w ready alike own = record { later = m; writes = NoRow; keeps = learns_alone E m team g k ready w alike own }

@@ -14,7 +14,7 @@ use Rattle.heap_state.specs.Functions.{put}
 use Rattle.heap_state.specs.Invariant.Ghost.{Ghost, Here}
 use Rattle.heap_state.specs.Invariant.Inductive.{Invariant}
 use Rattle.heap_state.specs.Meaning.Values.{ShowsAll, Shows, value_of}
-use Rattle.heap_state.specs.Worker.{Worker, Team, Quest, Copy, Linking}
+use Rattle.heap_state.specs.Known.{Known, Team, Quest, Copy, Linking}
 use Rattle.heap_state.proofs.Workers.Frames.{accounts_put, registers_put, rooted_put}
 use Rattle.heap_state.proofs.Puts.{put_at, put_other, some_same}
 use Rattle.heap_state.proofs.Records.Layouts.{count_stays, field_is_value, field_within, value_within, values_behind_header}
@@ -23,7 +23,7 @@ use Rattle.heap_laws.specs.Copying.{LinksCopy, has_published, published}
 use Rattle.heap_laws.specs.Steps.{with_worker, with_word, Preserves, Ready}
 use Rattle.heap_laws.proofs.Copying.Forward.{Publishing, mine, placed, from_written, unread_word, twin, copied_word, was_written, written_on, here_cases, old_target, invariant}
 use Rattle.heap_laws.proofs.Copying.UnreadWords.{here_same, inner_same, shows_unread, objects_unread, board_unread}
-use Rattle.heap_laws.proofs.Copying.Words.{rooted_unread}
+use Rattle.heap_laws.proofs.Copying.WordsOfCopies.{rooted_unread}
 use Rattle.heap_laws.proofs.Frames.Values.{pointer_from_value, value_from_pointer, copied_within}
 use Rattle.heap_laws.proofs.Targets.Frames.{made_put}
 use Rattle.heap_laws.proofs.Targets.ShownPublished.{shown_published}
@@ -35,7 +35,7 @@ module _ {E : Era} {m : Memory} {team : Team} {g : Ghost} {k : ℕ} {c : Copy} {
   abbrev heap' : ℕ → ℕ
   heap' = put m.heap (c.from + 0) v
 
-  abbrev w' : Worker
+  abbrev w' : Known
   w' = has_published (team.worker k) c q l
 
   abbrev g' : Ghost

@@ -11,7 +11,7 @@ use Rattle.heap_state.specs.Invariant.Parts.Leading.{Opened, Landing, Older}
 use Rattle.heap_state.specs.Invariant.Parts.Records.{Laid, Headed, NewArea, NewWritten, SpaceOf, RawWords, WalkComesTo, Counts}
 use Rattle.heap_state.specs.Invariant.Parts.Stocks.{Stocked, Stocks, Numbered}
 use Rattle.heap_state.specs.Meaning.Values.{value_of}
-use Rattle.heap_state.specs.Worker.{Worker, Stock}
+use Rattle.heap_state.specs.Known.{Known, Stock}
 use Rattle.heap_state.proofs.Puts.{put_at, put_other, put_same, put_cases}
 use Rattle.heap_state.proofs.Walks.WalkPlaces.{comes_to_more}
 use Rattle.heap_laws.specs.Copying.{reserved}
@@ -252,10 +252,10 @@ module _ {E : Era} {front low : ℕ} {g : Ghost} {k a f z : ℕ} (reservation : 
     after = ⊎_elim (λ e. inl e) (λ (y : (b : ℕ) × (0 < g.size b) × (b + g.size b ≡ q.at)). inr (y.0, is y.0 y.1, rw (put_other g.size f z (y.0) (not_new y.0 y.1)) (y.2))) p.after;
   }
 
-  pub stocks_reserved : (count : ℕ) (heap : ℕ → ℕ) (page : ℕ → PageWord) (worker : ℕ → Worker) → Stocks E low count g.size heap page worker → Stocks E low count g'.size heap page worker
+  pub stocks_reserved : (count : ℕ) (heap : ℕ → ℕ) (page : ℕ → PageWord) (worker : ℕ → Known) → Stocks E low count g.size heap page worker → Stocks E low count g'.size heap page worker
   stocks_reserved count heap page worker p = record { stocked = λ j l q e n. stocked_reserved heap page q (p.stocked j l q e n); apart = p.apart }
 
-  pub numbered_reserved : (mutators : ℕ) (worker : ℕ → Worker) → Numbered mutators g.size g.identity worker → Numbered mutators g'.size g'.identity worker
+  pub numbered_reserved : (mutators : ℕ) (worker : ℕ → Known) → Numbered mutators g.size g.identity worker → Numbered mutators g'.size g'.identity worker
   numbered_reserved mutators worker p = record {
     maker = λ b st. ⊎_elim
         (λ (e : b ≡ f). rw (put_at g.identity f (g.identity a) b e) (p.maker a source))

@@ -14,7 +14,7 @@ use Rattle.heap_state.specs.Functions.{put}
 use Rattle.heap_state.specs.Invariant.Ghost.{Ghost, Here, IsField, Lands}
 use Rattle.heap_state.specs.Invariant.Inductive.{Invariant, Knows}
 use Rattle.heap_state.specs.Meaning.Values.{Shown, ShowsAll, Shows, RegistersShow, value_of}
-use Rattle.heap_state.specs.Worker.{Team, Copy, is_mutator}
+use Rattle.heap_state.specs.Known.{Team, Copy, is_mutator}
 use Rattle.heap_state.proofs.Workers.Frames.{accounts_put, registers_put, rooted_put}
 use Rattle.heap_state.proofs.Puts.{put_at, put_other}
 use Rattle.heap_state.proofs.Records.Layouts.{value_within}

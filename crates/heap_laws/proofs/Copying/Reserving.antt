@@ -14,7 +14,7 @@ use Rattle.heap_state.specs.Invariant.Parts.Copying.{IsOrigin, Seeks, Copies, Ke
 use Rattle.heap_state.specs.Invariant.Parts.Knowledge.{Clean, Accesses, Resets}
 use Rattle.heap_state.specs.Invariant.Parts.Pages.{Shut, Quiet, Filling, Tracing}
 use Rattle.heap_state.specs.Invariant.Parts.Scanning.{Scans, Stepping, Rounds, Claims, Looks, LastLooks}
-use Rattle.heap_state.specs.Worker.{Worker, Team, Quest, Copy, Scan, Claim, Look, LastLook, Round, Reset, Access, Origin, Register, Scanned, is_late, is_mutator}
+use Rattle.heap_state.specs.Known.{Known, Team, Quest, Copy, Scan, Claim, Look, LastLook, Round, Reset, Access, Origin, Register, Scanned, is_late, is_mutator}
 use Rattle.heap_state.proofs.Workers.Frames.{counted_put, staffed_put, scanned_put, stocks_put, numbered_put}
 use Rattle.heap_state.proofs.Puts.{put_at, put_other, put_same, team_put, some_same, none≢some, sum_below-change}
 use Rattle.heap_state.proofs.Holds.Still.{open_scanning, still}
@@ -22,7 +22,7 @@ use Rattle.heap_laws.specs.Copying.{copying, moved_by, reserved}
 use Rattle.heap_laws.specs.Steps.{Ready, IsAreaNow, with_worker, with_area}
 use Rattle.heap_laws.proofs.Cells.Kept.{of_chain}
 use Rattle.heap_laws.proofs.Cells.Reserved.{reserves}
-use Rattle.heap_laws.proofs.Cells.Rows.{StoresArea}
+use Rattle.heap_laws.proofs.Cells.ChainRows.{StoresArea}
 use Rattle.heap_laws.proofs.Copying.InProgress.{copies_in_chain}
 use Rattle.heap_laws.proofs.Copying.Reservation.{Reservation, empty, not_new, was, is, source_other, old_side, laid_reserved, headed_reserved, copied_reserved, once_reserved, written_on, here_back, here_on, lands_reserved, opened_reserved, landing_reserved, older_reserved, raw_reserved, counts_reserved, new_reserved, written_reserved, space_reserved, crossing_reserved, stocks_reserved, numbered_reserved}
 use Rattle.heap_laws.proofs.Copying.Room.{untraced, alone, goes_on, at_source, has_room}
@@ -48,7 +48,7 @@ module _ {E : Era} {m : Memory} {team : Team} {g : Ghost} {k : ℕ} {c : Copy} (
   abbrev got : Copy
   got = record c { reserved = true; crossed = (c.to + 63) / 64 }
 
-  abbrev pub w' : Worker
+  abbrev pub w' : Known
   w' = copying (team.worker k) got
 
   abbrev pub g' : Ghost

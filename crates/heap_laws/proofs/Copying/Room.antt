@@ -8,7 +8,7 @@ use Rattle.heap_state.specs.Invariant.Inductive.{Invariant, Knows}
 use Rattle.heap_state.specs.Invariant.Parts.Copies.{owing}
 use Rattle.heap_state.specs.Invariant.Parts.Copying.{IsOrigin}
 use Rattle.heap_state.specs.Invariant.Parts.Pages.{Quiet}
-use Rattle.heap_state.specs.Worker.{Team, Copy, Scan, Origin, Register, Scanned, is_late}
+use Rattle.heap_state.specs.Known.{Team, Copy, Scan, Origin, Register, Scanned, is_late}
 use Rattle.heap_state.proofs.Puts.{some_same}
 use Rattle.heap_state.proofs.Holds.Still.{still, nobody_copies}
 use Rattle.heap_laws.specs.Copying.{HasRoomForCopy, CopiesHaveRoom}

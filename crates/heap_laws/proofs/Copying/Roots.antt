@@ -9,14 +9,14 @@ use Rattle.heap_state.specs.Memory.Era.{Era, Memory}
 use Rattle.heap_state.specs.Invariant.Ghost.{Ghost}
 use Rattle.heap_state.specs.Invariant.Inductive.{Invariant, Knows}
 use Rattle.heap_state.specs.Invariant.Parts.Copying.{IsOrigin}
-use Rattle.heap_state.specs.Worker.{Worker, Team, Post, Scanner, Quest, Origin, Register, Scanned, is_mutator, is_live, is_running, is_gone, is_late}
+use Rattle.heap_state.specs.Known.{Known, Team, Post, Scanner, Quest, Origin, Register, Scanned, is_mutator, is_live, is_running, is_gone, is_late}
 
 left_of : (x y : Bool) → x && y ≡ true → (x ≡ true) × (y ≡ true)
 left_of true y e = (refl, e)
 left_of false y e = absurd (cc)
 
 -- who is late is live
-pub late_lives : (e : ℕ) (w : Worker) → is_late e w ≡ true → is_live w.post ≡ true
+pub late_lives : (e : ℕ) (w : Known) → is_late e w ≡ true → is_live w.post ≡ true
 late_lives e w h = (left_of (is_live w.post) (eqb (w.epoch + 1) e) h).0
 
 live_mutator : (post : Post) → is_live post ≡ true → is_mutator post ≡ true
@@ -32,7 +32,7 @@ no_end None f = refl
 no_end (Some x) f = absurd (f refl)
 
 module _ (E : Era) (m : Memory) (team : Team) (g : Ghost) (k : ℕ) (inv : Invariant E m team g) (l : k < team.count) where
-  abbrev w : Worker
+  abbrev w : Known
   w = team.worker k
 
   knows : Knows E m.gate m.traced m.front m.low m.old_front m.old_low m.old_owed g m.page m.cross m.announced m.heap k w

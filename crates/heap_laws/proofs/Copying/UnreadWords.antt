@@ -15,7 +15,7 @@ use Rattle.heap_state.specs.Invariant.Parts.Records.{Laid, NewArea, SpaceOf, Raw
 use Rattle.heap_state.specs.Invariant.Parts.Scanning.{Scans}
 use Rattle.heap_state.specs.Invariant.Parts.Stocks.{Stocked, Stocks}
 use Rattle.heap_state.specs.Meaning.Values.{Shows, ShowsAll, BoardShows, value_of}
-use Rattle.heap_state.specs.Worker.{Worker, Copy, Scan, Stock, Register, Scanned, Origin}
+use Rattle.heap_state.specs.Known.{Known, Copy, Scan, Stock, Register, Scanned, Origin}
 use Rattle.heap_state.proofs.Puts.{put_other}
 use Rattle.heap_laws.proofs.Frames.OtherWords.{has_place, area_same, stocked_same, scans_same, copies_same, shows_same}
 use Rattle.heap_laws.proofs.Frames.Values.{one_place}
@@ -90,7 +90,7 @@ module _ {E : Era} {front low : ℕ} {size writer : ℕ → ℕ} {k a0 i0 : ℕ}
   pub stocked_unread : (page : ℕ → PageWord) (q : Stock) → Stocked E low size heap page q → Stocked E low size stored page q
   stocked_unread page q p = stocked_same q (λ x l m. put_other heap (a0 + i0) v x (λ e. let y = p.empty a0 (omega (arith, inside)) in omega (arith, y, inside, e, p.so_far, l, m))) p
 
-  pub stocks_unread : (count : ℕ) (page : ℕ → PageWord) (worker : ℕ → Worker) → Stocks E low count size heap page worker → Stocks E low count size stored page worker
+  pub stocks_unread : (count : ℕ) (page : ℕ → PageWord) (worker : ℕ → Known) → Stocks E low count size heap page worker → Stocks E low count size stored page worker
   stocks_unread count page worker p = record { stocked = λ j l q e n. stocked_unread page q (p.stocked j l q e n); apart = p.apart }
 
   -- ---- what other workers know

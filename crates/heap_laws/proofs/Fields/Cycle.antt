@@ -14,7 +14,7 @@ use Rattle.heap_state.specs.Functions.{put}
 use Rattle.heap_state.specs.Invariant.Ghost.{Ghost, Here}
 use Rattle.heap_state.specs.Invariant.Inductive.{Invariant}
 use Rattle.heap_state.specs.Meaning.Values.{value_of, Shows}
-use Rattle.heap_state.specs.Worker.{Team}
+use Rattle.heap_state.specs.Known.{Team}
 use Rattle.heap_state.proofs.Puts.{put_other, each_put}
 use Rattle.heap_state.proofs.Records.Layouts.{values_behind_header}
 use Rattle.heap_state.specs.Targets.{IsCopied}

@@ -20,8 +20,8 @@ use Rattle.heap_state.specs.Invariant.Ghost.{Ghost, header_kind}
 use Rattle.heap_state.specs.Invariant.Parts.Knowledge.{HasRole, Accesses}
 use Rattle.heap_state.specs.Meaning.Values.{value_of, MayBeEmptied, Shown, Shows}
 use Rattle.heap_state.specs.Targets.{IsCell}
-use Rattle.heap_state.specs.Worker.{Team, Role, FieldRole, NumberRole, TargetRole, UnknownRole, Access}
-use Rattle.heap_state.proofs.Records.Headers.{said_there}
+use Rattle.heap_state.specs.Known.{Team, Role, FieldRole, NumberRole, TargetRole, UnknownRole, Access}
+use Rattle.heap_state.proofs.Records.KindsOfHeaders.{said_there}
 use Rattle.heap_state.proofs.Records.Holding.{uncopied_here}
 use Rattle.heap_state.proofs.Records.Layouts.{raw_is_no_field, field_within, number_within}
 use Rattle.heap_state.proofs.Puts.{some_same, true_false, none≢some}
@@ -33,7 +33,7 @@ use Rattle.heap_laws.specs.Steps.{Ready}
 use Rattle.heap_laws.proofs.Fields.Shown.{headers_are_read, registers_are_held, numbers_are_held}
 use Rattle.heap_laws.proofs.Fields.Stored.{accesses_are_allowed, words_are_loaded, board_is_loaded}
 use Rattle.heap_laws.proofs.Frames.Values.{value_from_pointer}
-use Rattle.heap_laws.proofs.Targets.Traced.{traced_targets_are_held}
+use Rattle.heap_laws.proofs.Targets.TracedTargets.{traced_targets_are_held}
 
 -- ---- words
 

@@ -10,7 +10,7 @@ use Rattle.heap_state.specs.Memory.Era.{Era, Memory}
 use Rattle.heap_state.specs.Invariant.Ghost.{Ghost}
 use Rattle.heap_state.specs.Invariant.Inductive.{Invariant}
 use Rattle.heap_state.specs.Meaning.Values.{Accounts, Shown}
-use Rattle.heap_state.specs.Worker.{Worker, Team, Account, is_running}
+use Rattle.heap_state.specs.Known.{Known, Team, Account, is_running}
 use Rattle.heap_state.proofs.Puts.{none≢some}
 use Rattle.heap_state.proofs.Represents.Snapped.{snaps_show}
 use Rattle.heap_laws.specs.Fields.Held.{MutatorGoesOn, with_mutator, GoesOnSo}
@@ -21,12 +21,12 @@ use Rattle.heap_laws.proofs.Fields.Cycle.{stores_keep_cycle, board_stores_keep_c
 use Rattle.heap_laws.proofs.Fields.Shown.{stores_show, board_stores_show}
 use Rattle.heap_laws.proofs.Fields.Stored.{words_are_stored, board_is_stored}
 use Rattle.plain_state.proofs.Stored.{stored_serial}
-use Rattle.heap_laws.proofs.Fields.GoingOn.{mutators_go_on, going_on_shows, going_on_keeps_cycle}
+use Rattle.heap_laws.proofs.Fields.RunningMutators.{mutators_go_on, going_on_shows, going_on_keeps_cycle}
 use Rattle.heap_laws.proofs.Steps.Learning.{shown_put}
 use Rattle.space_map.specs.declared.spaces.TheConstants.{PAGE_WORDS}
 
 -- a step that stores nothing, of a team of which a part was changed before
-pub goes_as : (E : Era) (m : Memory) (team : Team) (g : Ghost) (p : plain.Plain) (k : ℕ) (next : Worker) (q : plain.Mutator) → Invariant E m team g → k < team.count
+pub goes_as : (E : Era) (m : Memory) (team : Team) (g : Ghost) (p : plain.Plain) (k : ℕ) (next : Known) (q : plain.Mutator) → Invariant E m team g → k < team.count
     → is_running (team.worker k).post ≡ true → Shown E m team g p → MutatorGoesOn E m g (team.worker k) next → IsAs g p.heap k next q
     → Makes E m m team (with_worker team k next) g g (with_mutator p k q)
 goes_as E m team g p k next q inv member runs s goes same = record {
@@ -63,7 +63,7 @@ pub both : {E : Era} {m n : Memory} {team mid after : Team} {g h : Ghost} {q : p
 both cycle ages y = record { invariant = y.invariant; shown = y.shown; cycle = λ o cy. y.cycle o (cycle o cy); ages = ages }
 
 -- what is so of the state before a store of a heap word is so after it
-goes_on : {E : Era} {m : Memory} {g : Ghost} {w next : Worker} (addr word : ℕ) → MutatorGoesOn E m g w next → MutatorGoesOn E (with_word m addr word) g w next
+goes_on : {E : Era} {m : Memory} {g : Ghost} {w next : Known} (addr word : ℕ) → MutatorGoesOn E m g w next → MutatorGoesOn E (with_word m addr word) g w next
 goes_on addr word goes = assumption
 
 -- an account agrees with a plain heap in which the mutator has made as many records

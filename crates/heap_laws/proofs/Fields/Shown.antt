@@ -15,7 +15,7 @@ use Rattle.heap_state.specs.Functions.{put}
 use Rattle.heap_state.specs.Invariant.Ghost.{Ghost, Leads, Lands}
 use Rattle.heap_state.specs.Invariant.Inductive.{Invariant}
 use Rattle.heap_state.specs.Meaning.Values.{value_of, Shows, Shown, TargetsShow}
-use Rattle.heap_state.specs.Worker.{Team}
+use Rattle.heap_state.specs.Known.{Team}
 use Rattle.heap_state.proofs.Puts.{put_at, put_other, some_same}
 use Rattle.heap_state.proofs.Records.Layouts.{count_stays}
 use Rattle.heap_laws.specs.Fields.Words.{IsWordOf, StandsFor, IsLedTo, HeadersAreRead, RegistersAreHeld, NumbersAreHeld}
@@ -26,7 +26,7 @@ use Rattle.heap_laws.specs.Targets.Frames.{IsNoTarget}
 use Rattle.heap_laws.proofs.Fields.PlainCells.{stored_keeps_cells}
 use Rattle.heap_laws.proofs.Frames.OtherWords.{shows_same}
 use Rattle.plain_state.proofs.Stored.{stored_there, stored_elsewhere, stored_serial, stored_makers}
-use Rattle.plain_state.proofs.Lists.{slice_get-set_same, slice_get-set_other}
+use Rattle.plain_state.proofs.Elements.{slice_get-set_same, slice_get-set_other}
 use Rattle.heap_laws.proofs.Frames.Values.{one_place}
 use Rattle.heap_laws.proofs.Targets.Frames.{shown_beside, shown_of_others}
 

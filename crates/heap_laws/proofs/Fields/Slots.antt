@@ -16,7 +16,7 @@ use Rattle.heap_state.specs.Invariant.Parts.Records.{Laid, Headed, RawWords, Cou
 use Rattle.heap_state.specs.Invariant.Parts.Scanning.{Scans}
 use Rattle.heap_state.specs.Invariant.Parts.Stocks.{Stocks, Stocked}
 use Rattle.heap_state.specs.Meaning.Values.{Shows, ShowsAll, BoardShows, value_of}
-use Rattle.heap_state.specs.Worker.{Worker, Copy, Scan, Stock, Origin, Register, Scanned}
+use Rattle.heap_state.specs.Known.{Known, Copy, Scan, Stock, Origin, Register, Scanned}
 use Rattle.heap_state.proofs.Puts.{put_other, each_put}
 use Rattle.heap_state.proofs.Records.Layouts.{count_stays, raw_is_no_field, value_within}
 use Rattle.heap_laws.specs.Fields.Held.{MayHold}
@@ -160,7 +160,7 @@ module _ {E : Era} {front low : ℕ} {size writer : ℕ → ℕ} {kind : ℕ →
   pub old_space_slot : {page : ℕ → PageWord} {traced old_front old_low : ℕ} → OldSpace E traced old_front old_low size h page → OldSpace E traced old_front old_low size (put h x v) page
   old_space_slot p = old_space_same (λ y l u free. old_same y l u) p
 
-  pub stocks_slot : {page : ℕ → PageWord} {count : ℕ} {worker : ℕ → Worker} → Stocks E low count size h page worker → Stocks E low count size (put h x v) page worker
+  pub stocks_slot : {page : ℕ → PageWord} {count : ℕ} {worker : ℕ → Known} → Stocks E low count size h page worker → Stocks E low count size (put h x v) page worker
   stocks_slot {page} p = record { apart = p.apart; stocked = λ k l q e n. stock q (p.stocked k l q e n) }
     where
       stock : (q : Stock) → Stocked E low size h page q → Stocked E low size (put h x v) page q

@@ -8,7 +8,7 @@ use Rattle.heap_state.specs.Memory.Era.{Era, IsLaidOut, Memory}
 use Rattle.heap_state.specs.Functions.{put}
 use Rattle.heap_state.specs.Invariant.Ghost.{Ghost, InRecord, OnBoard, Here}
 use Rattle.heap_state.specs.Invariant.Inductive.{Invariant, Knows}
-use Rattle.heap_state.specs.Worker.{Worker, Team, Quest, Copy, Scan, Linking, Pass, is_late}
+use Rattle.heap_state.specs.Known.{Known, Team, Quest, Copy, Scan, Linking, Pass, is_late}
 use Rattle.heap_state.proofs.Workers.Frames.{counted_put, staffed_put, scanned_put, stocks_put, numbered_put}
 use Rattle.heap_state.proofs.Puts.{put_is, team_put}
 use Rattle.heap_state.proofs.Records.Layouts.{values_behind_header}
@@ -20,7 +20,7 @@ use Rattle.heap_laws.specs.Targets.Frames.{IsNoTarget}
 use Rattle.heap_laws.proofs.Cells.Kept.{in_chain, word_keeps, words_no_targets, words_unread}
 use Rattle.heap_laws.proofs.Fields.Slots.{Slot, here_slot, headed_slot, raw_slot, counts_slot, opened_slot, landing_slot, older_slot, new_slot, old_space_slot, stocks_slot, scans_slot, copies_slot, keeps_slot, origin_slot}
 use Rattle.heap_laws.proofs.Frames.Values.{one_place, board_here, field_here}
-use Rattle.heap_laws.proofs.Steps.Rows.{below_board}
+use Rattle.heap_laws.proofs.Steps.RowPlaces.{below_board}
 
 -- a store on an open page, or in a word that mutators don't read
 pub record Stores (E : Era) (m : Memory) (g : Ghost) (x v : ℕ) : Type 0 where
@@ -30,7 +30,7 @@ pub record Stores (E : Era) (m : Memory) (g : Ghost) (x v : ℕ) : Type 0 where
 -- ---- the invariant
 
 -- a worker knows what it knew
-pub worker_slot : (E : Era) (m : Memory) (g : Ghost) (x v k : ℕ) (w : Worker) → Stores E m g x v
+pub worker_slot : (E : Era) (m : Memory) (g : Ghost) (x v k : ℕ) (w : Known) → Stores E m g x v
     → Knows E m.gate m.traced m.front m.low m.old_front m.old_low m.old_owed g m.page m.cross m.announced m.heap k w
     → Knows E m.gate m.traced m.front m.low m.old_front m.old_low m.old_owed g m.page m.cross m.announced (put m.heap x v) k w
 worker_slot E m g x v k w st p =
@@ -52,16 +52,16 @@ worker_slot E m g x v k w st p =
         st.opens
 
 -- the worker with this cell to link, and this walk over the chain
-abbrev pub with_chain_part : Worker → Option Linking → Option Pass → Worker
+abbrev pub with_chain_part : Known → Option Linking → Option Pass → Known
 with_chain_part w l p = record w { linking = l; pass = p }
 
 -- The invariant is kept if what is known of the cells is. Worker k may have another cell to link then, or walk elsewhere.
 module _ (E : Era) (m : Memory) (team : Team) (g : Ghost) (k x v : ℕ) (l : Option Linking) (p : Option Pass) (st : Stores E m g x v) (ready : Ready E m team g k)
     (cells : Cells E (with_word m x v) (with_worker team k (with_chain_part (team.worker k) l p)) g) where
-  abbrev w : Worker
+  abbrev w : Known
   w = with_chain_part (team.worker k) l p
 
-  abbrev KnowsThen : ℕ → Worker → Type 0
+  abbrev KnowsThen : ℕ → Known → Type 0
   KnowsThen = Knows E m.gate m.traced m.front m.low m.old_front m.old_low m.old_owed g m.page m.cross m.announced (put m.heap x v)
 
   knows : (j : ℕ) → j < team.count → KnowsThen j (team.worker j)
@@ -92,8 +92,8 @@ module _ (E : Era) (m : Memory) (team : Team) (g : Ghost) (k x v : ℕ) (l : Opt
 -- a word is stored that is no cell's, and no worker changes
 pub slot_stays : (E : Era) (m : Memory) (team : Team) (g : Ghost) (k x v : ℕ) → Stores E m g x v → Ready E m team g k → IsNoCellWord E m g x → IsNoTarget g x → x < E.board + 64 → Invariant E (with_word m x v) team g
 slot_stays E m team g k x v st ready none no_target below =
-    let w : Worker = team.worker k in
-    subst (λ (f : ℕ → Worker). Invariant E (with_word m x v) (record team { worker = f }) g) (sym (put_is team.worker team.worker k w refl (λ _ _. refl)))
+    let w : Known = team.worker k in
+    subst (λ (f : ℕ → Known). Invariant E (with_word m x v) (record team { worker = f }) g) (sym (put_is team.worker team.worker k w refl (λ _ _. refl)))
     (slot_keeps E m team g k x v w.linking w.pass st ready
     (word_keeps E m (with_word m x v) team g g k x v w (InWord x v below) none no_target (assumption) (in_chain E w w refl refl refl (assumption)) ready.invariant.cells))
 

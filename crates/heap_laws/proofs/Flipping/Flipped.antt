@@ -19,7 +19,7 @@ use Rattle.heap_state.specs.Invariant.Parts.Gate.{Counted, Staffed}
 use Rattle.heap_state.specs.Invariant.Parts.Stocks.{Stocks, Numbered}
 use Rattle.heap_state.specs.Memory.Table.{Table}
 use Rattle.heap_state.specs.Meaning.Values.{MayBeEmptied, Shown, TargetsShow, value_of}
-use Rattle.heap_state.specs.Worker.{Worker, Team, Post, Stopped, Reset, is_mutator, is_live, is_running, is_gone, is_behind, is_late, is_asking}
+use Rattle.heap_state.specs.Known.{Known, Team, Post, Stopped, Reset, is_mutator, is_live, is_running, is_gone, is_behind, is_late, is_asking}
 use Rattle.heap_state.proofs.Table.Seen.{follows}
 use Rattle.heap_state.proofs.Records.Holding.{uncopied_here}
 use Rattle.heap_state.proofs.Puts.{each_put, proj_put, team_put, sum_below-same, sum_below-none}
@@ -29,9 +29,9 @@ use Rattle.heap_laws.specs.Flipping.Flip.{next_era, next_memory, next_ghost, fli
 use Rattle.heap_laws.specs.Steps.{with_worker}
 use Rattle.heap_laws.proofs.Cells.Ended.{flipping_carries_chain}
 use Rattle.heap_laws.proofs.Targets.Ended.{flipping_carries_targets}
-use Rattle.heap_laws.proofs.Flipping.Parts.{ReadyToFlip, nothing, was, laid, headed, copied, once, kept, room, raw_words, counts, shut, filling, tracing, aged, scanned, old_area, old_pages, lands_on, here_board, board_here, opened, landing, older, new, new_written, crossing, old_space}
+use Rattle.heap_laws.proofs.Flipping.FlippedParts.{ReadyToFlip, nothing, was, laid, headed, copied, once, kept, room, raw_words, counts, shut, filling, tracing, aged, scanned, old_area, old_pages, lands_on, here_board, board_here, opened, landing, older, new, new_written, crossing, old_space}
 use Rattle.heap_laws.proofs.Flipping.Reset.{one_asks}
-use Rattle.heap_laws.proofs.Flipping.Workers.{late_is, done_none, other, flipper, none_true, not_live}
+use Rattle.heap_laws.proofs.Flipping.FlippedWorkers.{late_is, done_none, other, flipper, none_true, not_live}
 use Rattle.heap_laws.proofs.Frames.Values.{pointer_from_value, value_from_pointer, pointer_lands, zero_word}
 
 some_of : {X : Type 0} (xs : List X) (i : ℕ) → i < length xs → (x : X) × (slice_get xs i ≡ Some x)
@@ -46,7 +46,7 @@ module _ (E : Era) (m : Memory) (team : Team) (g : Ghost) (k : ℕ) (r : Reset) 
   abbrev inv : Invariant E m team g
   inv = start.invariant
 
-  abbrev w' : Worker
+  abbrev w' : Known
   w' = after_flip (team.worker k)
 
   me : Knows E m.gate m.traced m.front m.low m.old_front m.old_low m.old_owed g m.page m.cross m.announced m.heap k (team.worker k)

@@ -16,7 +16,7 @@ use Rattle.heap_state.specs.Invariant.Inductive.{Invariant, Knows}
 use Rattle.heap_state.specs.Invariant.Parts.Copying.{IsOrigin, Seeks, Licensed}
 use Rattle.heap_state.specs.Invariant.Parts.Knowledge.{Clean, Passes, Timely}
 use Rattle.heap_state.specs.Meaning.Values.{Shown, RegistersShow, value_of}
-use Rattle.heap_state.specs.Worker.{Worker, Team, Post, Passage, Outside, Forwarded, Origin, Register, Quest, Copy, is_mutator, is_live, is_late, GateStep}
+use Rattle.heap_state.specs.Known.{Known, Team, Post, Passage, Outside, Forwarded, Origin, Register, Quest, Copy, is_mutator, is_live, is_late, GateStep}
 use Rattle.heap_state.proofs.Workers.Frames.{counted_put, staffed_put, scanned_put, stocks_put, numbered_put, accounts_put}
 use Rattle.heap_state.proofs.Puts.{put_at, put_other, put_same, each_put, team_put, none≢some, some_same, put_is}
 use Rattle.heap_state.specs.Targets.{IsCopied}
@@ -27,7 +27,7 @@ use Rattle.heap_laws.proofs.Cells.Kept.{idle_in_chain, none_is_some, unread_keep
 use Rattle.heap_laws.proofs.Copying.Roots.{late_lives, late_mutator, late_unended}
 use Rattle.heap_laws.proofs.Copying.Found.{found_copy}
 use Rattle.heap_laws.proofs.Steps.Learning.{learns, learnt}
-use Rattle.heap_laws.proofs.Scanning.GoingOn.{no_copy}
+use Rattle.heap_laws.proofs.Scanning.ScanInProgress.{no_copy}
 use Rattle.heap_laws.proofs.Frames.Values.{still_leads, pointer_lands}
 use Rattle.heap_laws.proofs.Targets.Frames.{made_put}
 
@@ -54,7 +54,7 @@ module _ (E : Era) (m : Memory) (team : Team) (g : Ghost) (k : ℕ) (inv : Invar
   -- the register becomes v, which leads nowhere old, and denotes what the register denoted
   module _ (v : ℕ) (fine : ¬ (Leads E v)) (lands : Lands g.size g.writer v) (same : value_of g.identity v ≡ value_of g.identity ((team.worker k).registers (team.worker k).done))
       (idle : (c : Copy) → (team.worker k).copy ≡ Some c → ⊥) (none_links : is_some (team.worker k).linking ≡ true → KnowsCopy (team.worker k) → ⊥) (seen : (i : Identity) → StillLeads E g.identity ((team.worker k).registers (team.worker k).done) i → IsCopied E m.front g.size g.writer g.identity i) where
-    abbrev w' : Worker
+    abbrev w' : Known
     w' = forwarded (team.worker k) v
 
     abbrev registers' : ℕ → ℕ

@@ -9,7 +9,7 @@ use Rattle.heap_state.specs.Invariant.Inductive.{Invariant, Knows}
 use Rattle.heap_state.specs.Invariant.Parts.Knowledge.{Resets}
 use Rattle.heap_state.specs.Invariant.Parts.OldSpace.{OldSpace, OldArea}
 use Rattle.heap_state.specs.Invariant.Parts.Pages.{OldPages}
-use Rattle.heap_state.specs.Worker.{Worker, Team, Reset, is_flipper, is_sized, is_cleared, is_asking}
+use Rattle.heap_state.specs.Known.{Known, Team, Reset, is_flipper, is_sized, is_cleared, is_asking}
 use Rattle.heap_state.proofs.Workers.Frames.{counted_put, staffed_put, scanned_put, stocks_put, numbered_put, rooted_put}
 use Rattle.heap_state.proofs.Puts.{team_put, some_same, none≢some, true_false}
 use Rattle.heap_laws.specs.Flipping.Reset.{resetting, found_still, FindingStillKeeps, ReadingSizeKeeps, ReadingUsedKeeps, StoringAreaKeeps, ClearingWeakKeeps, whole_area}
@@ -131,7 +131,7 @@ clears_weak E m team g k r ready e =
 
 module _ (E : Era) (m : Memory) (team : Team) (g : Ghost) (k : ℕ) (r : Reset) (front low u : ℕ) (out : IsLaidOut E) (inv : Invariant E m team g) (below : k < team.count)
     (has : (team.worker k).reset ≡ Some r) (sized : r.sized ≡ true) (used : r.used ≡ Some u) (at_start : front ≡ E.old_start) (at_end : low ≡ E.old_start + E.old_span) where
-  abbrev w' : Worker
+  abbrev w' : Known
   w' = resetting (team.worker k) (record r { stored = true })
 
   me : Knows E m.gate m.traced m.front m.low m.old_front m.old_low m.old_owed g m.page m.cross m.announced m.heap k (team.worker k)
@@ -143,7 +143,7 @@ module _ (E : Era) (m : Memory) (team : Team) (g : Ghost) (k : ℕ) (r : Reset) 
   traced : m.traced ≡ E.epoch + 1
   traced = (me.seen_traced (me.asks (flips_ask (team.worker k).post flips))).1
 
-  abbrev KnowsNow : ℕ → Worker → Type 0
+  abbrev KnowsNow : ℕ → Known → Type 0
   KnowsNow = Knows E m.gate m.traced m.front m.low front low u g m.page m.cross m.announced m.heap
 
   new : Resets E m.gate m.front m.low front low u (record r { stored = true })

@@ -7,7 +7,7 @@ use Rattle.heap_state.specs.Memory.Era.{Era, IsLaidOut}
 use Rattle.heap_state.specs.Functions.{put}
 use Rattle.heap_state.specs.Invariant.Parts.Records.{NewArea}
 use Rattle.heap_state.specs.Invariant.Parts.Stocks.{Stocks, Stocked}
-use Rattle.heap_state.specs.Worker.{Worker, Stock}
+use Rattle.heap_state.specs.Known.{Known, Stock}
 use Rattle.heap_state.proofs.Puts.{put_other}
 use Rattle.heap_laws.proofs.Frames.PageWords.{Turns, stays}
 
@@ -43,7 +43,7 @@ module _ {E : Era} {front low : ℕ} {page : ℕ → PageWord} {p : ℕ} {v : Pa
     blank = λ x l m w o. n.blank x l m w (rw (put_other page p v (x / 64) (not_new_word x l m)) at o);
   }
 
-  pub stocks_turn : {count : ℕ} {size heap : ℕ → ℕ} {worker : ℕ → Worker} → Stocks E low count size heap page worker → Stocks E low count size heap page' worker
+  pub stocks_turn : {count : ℕ} {size heap : ℕ → ℕ} {worker : ℕ → Known} → Stocks E low count size heap page worker → Stocks E low count size heap page' worker
   stocks_turn {count} {size} {heap} s = record { apart = s.apart; stocked = λ k l q e n. turns q (s.stocked k l q e n) }
     where
       turns : (q : Stock) → Stocked E low size heap page q → Stocked E low size heap page' q

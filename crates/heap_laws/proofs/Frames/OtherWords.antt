@@ -17,7 +17,7 @@ use Rattle.heap_state.specs.Invariant.Parts.Records.{Headed, NewArea, SpaceOf}
 use Rattle.heap_state.specs.Invariant.Parts.Scanning.{Scans}
 use Rattle.heap_state.specs.Invariant.Parts.Stocks.{Stocked}
 use Rattle.heap_state.specs.Meaning.Values.{Shows}
-use Rattle.heap_state.specs.Worker.{Copy, Scan, Stock, IsNotAhead}
+use Rattle.heap_state.specs.Known.{Copy, Scan, Stock, IsNotAhead}
 
 -- a copy that has words is in a place that is reserved
 pub has_place : {E : Era} {front : ℕ} {size writer copy keeper kept announced cross heap : ℕ → ℕ} (j : ℕ) (c : Copy) → Copies E front size writer copy keeper kept announced cross heap j c → 0 < c.done → c.reserved ≡ true

@@ -13,7 +13,7 @@ use Rattle.heap_state.specs.Invariant.Parts.OldSpace.{OldSpace}
 use Rattle.heap_state.specs.Invariant.Parts.Pages.{Quiet, Tracing, Aged, OldPages}
 use Rattle.heap_state.specs.Invariant.Parts.Records.{SpaceOf}
 use Rattle.heap_state.specs.Invariant.Parts.Scanning.{Scans, Claims, Looks, LastLooks}
-use Rattle.heap_state.specs.Worker.{Worker, Scan, Claim, Look, LastLook, is_running}
+use Rattle.heap_state.specs.Known.{Known, Scan, Claim, Look, LastLook, is_running}
 use Rattle.heap_state.proofs.Puts.{put_other, each_put}
 
 pub record Turns (E : Era) (page : ℕ → PageWord) (p : ℕ) (v : PageWord) : Type 0 where
@@ -103,7 +103,7 @@ module _ {E : Era} {page : ℕ → PageWord} {p : ℕ} {v : PageWord} (t : Turns
   pub scans_beside : {front : ℕ} {size writer : ℕ → ℕ} {kind : ℕ → Kind} {heap : ℕ → ℕ} (j : ℕ) (s : Scan) → s.page ≢ p → Scans E front size writer kind heap page j s → Scans E front size writer kind heap page' j s
   scans_beside j s d o = let c : page' s.page ≡ Scanning E.epoch j = rw (put_other page p v s.page d) o.claimed in assumption
 
-  pub knows_turns : {gate : GateWord} {traced front low old_front old_low old_owed : ℕ} {g : Ghost} {cross announced heap : ℕ → ℕ} {k : ℕ} {w : Worker}
+  pub knows_turns : {gate : GateWord} {traced front low old_front old_low old_owed : ℕ} {g : Ghost} {cross announced heap : ℕ → ℕ} {k : ℕ} {w : Known}
       → ((s : Scan) → w.scan ≡ Some s → Scans E front g.size g.writer g.kind heap page k s → Scans E front g.size g.writer g.kind heap page' k s)
       → Knows E gate traced front low old_front old_low old_owed g page cross announced heap k w → Knows E gate traced front low old_front old_low old_owed g page' cross announced heap k w
   knows_turns {k = k} {w = w} scans u =

@@ -8,7 +8,7 @@ use Rattle.heap_state.specs.Invariant.Ghost.{Ghost}
 use Rattle.heap_state.specs.Invariant.Inductive.{Invariant, Knows}
 use Rattle.heap_state.specs.Invariant.Parts.Leading.{Opened}
 use Rattle.heap_state.specs.Invariant.Parts.Pages.{Shut, Filling, ScannedBy}
-use Rattle.heap_state.specs.Worker.{Worker, Team, Scan, Claim}
+use Rattle.heap_state.specs.Known.{Known, Team, Scan, Claim}
 use Rattle.heap_state.proofs.Puts.{team_put}
 use Rattle.heap_state.proofs.Workers.Frames.{counted_put, staffed_put, stocks_put, numbered_put, rooted_put}
 use Rattle.heap_laws.specs.Cells.Frames.{GoesOnInChain}
@@ -23,10 +23,10 @@ module _ (E : Era) (m : Memory) (team : Team) (g : Ghost) (k p : ℕ) (v : PageW
   abbrev page' : ℕ → PageWord
   page' = put m.page p v
 
-  abbrev w' : Worker
+  abbrev w' : Known
   w' = record (team.worker k) { scan = scan; claim = claim }
 
-  abbrev KnowsNow : ℕ → Worker → Type 0
+  abbrev KnowsNow : ℕ → Known → Type 0
   KnowsNow = Knows E m.gate m.traced m.front m.low m.old_front m.old_low m.old_owed g page' m.cross m.announced m.heap
 
   pub keeps_turned : ScannedBy E team.count page' (put team.worker k w') → Shut E m.front m.low g.size g.writer page' → Opened E g.size g.writer g.kind m.heap page' → Filling E m.gate.behind m.front page'

@@ -12,7 +12,7 @@ use Rattle.heap_state.specs.Invariant.Parts.Copying.{IsOrigin, Licensed}
 use Rattle.heap_state.specs.Invariant.Parts.Knowledge.{Accesses, Clean, Ends, Passes, Resets}
 use Rattle.heap_state.specs.Invariant.Parts.Pages.{Quiet, Sizes}
 use Rattle.heap_state.specs.Invariant.Parts.Scanning.{Claims, Looks, LastLooks}
-use Rattle.heap_state.specs.Worker.{Worker, Team, Post, Outside, Running, Stopped, Flipping, Gone, Passage, Enter, Park, Request, Forwarded, Resume, Leave, Origin, Register, Scanned, Quest, Claim, Look, LastLook, GateStep, Reset, Access, is_mutator, is_flipper, is_gone, is_live, is_running, is_late, Snapping, RequestSnap, Clear, is_asking}
+use Rattle.heap_state.specs.Known.{Known, Team, Post, Outside, Running, Stopped, Flipping, Gone, Passage, Enter, Park, Request, Forwarded, Resume, Leave, Origin, Register, Scanned, Quest, Claim, Look, LastLook, GateStep, Reset, Access, is_mutator, is_flipper, is_gone, is_live, is_running, is_late, Snapping, RequestSnap, Clear, is_asking}
 use Rattle.heap_state.proofs.Puts.{none≢some, true_false}
 use Rattle.heap_state.specs.Memory.Entries.{GateIs}
 use Rattle.heap_laws.specs.Cells.Frames.{GoesOnInChain}
@@ -20,14 +20,14 @@ use Rattle.heap_laws.specs.Gate.{gate_after, into_epoch, worker_after, WinsGate,
 use Rattle.heap_laws.specs.Steps.{with_worker, Ready, Steps, InGate, with_gate, Preserves}
 use Rattle.heap_laws.proofs.Cells.Kept.{none_is_some}
 use Rattle.heap_laws.proofs.Flipping.Sums.{sum_below-term, sum_below-two, one_of}
-use Rattle.heap_laws.proofs.Gate.Counts.{counted_moves, fits}
+use Rattle.heap_laws.proofs.Gate.GateCounts.{counted_moves, fits}
 use Rattle.heap_laws.proofs.Gate.Team.{passing_keeps, usual}
 use Rattle.heap_laws.proofs.Gate.Worker.{no_reset, none_at_pages, knows_then, NoneFlips}
 use Rattle.heap_laws.proofs.Scanning.Scanners.{now_not_late}
 use Rattle.space_map.specs.declared.spaces.TheConstants.{PAGE_WORDS}
 use Rattle.heap_state.proofs.Workers.Posts.{flips_ask}
 use Rattle.heap_laws.proofs.Flipping.Reset.{one_asks}
-use Rattle.heap_laws.proofs.Fields.GoingOn.{none_sized}
+use Rattle.heap_laws.proofs.Fields.RunningMutators.{none_sized}
 
 runs : (p : Post) → is_running p ≡ true → p ≡ Running
 runs Running e = refl
@@ -37,7 +37,7 @@ module _ (E : Era) (m : Memory) (team : Team) (g : Ghost) (k : ℕ) (s : GateSte
   abbrev inv : Invariant E m team g
   inv = ready.invariant
 
-  abbrev w : Worker
+  abbrev w : Known
   w = team.worker k
 
   me : Knows E m.gate m.traced m.front m.low m.old_front m.old_low m.old_owed g m.page m.cross m.announced m.heap k w
@@ -71,7 +71,7 @@ module _ (E : Era) (m : Memory) (team : Team) (g : Ghost) (k : ℕ) (s : GateSte
   clean_now now mu end = let c = me.registers mu end in record { clean = λ j l f. c.clean j l (λ t. not_late now t); lands = c.lands; old = λ t. true_false refl t }
 
   -- who was not late, or has nothing to link, has the same part in the chain of copied cells
-  goes : (u : Worker) → u.linking ≡ w.linking → u.pass ≡ w.pass → u.reset ≡ w.reset → u.quest ≡ w.quest → u.scan ≡ w.scan
+  goes : (u : Known) → u.linking ≡ w.linking → u.pass ≡ w.pass → u.reset ≡ w.reset → u.quest ≡ w.quest → u.scan ≡ w.scan
       → (is_late E.epoch w ≡ true → KnowsCopy w → ⊥) → (is_some w.pass ≡ true → (u.epoch ≡ w.epoch) × (u.last_look ≡ w.last_look)) → GoesOnInChain E u w
   goes u linking pass reset quest scan none_links look = record {
     linking = linking;
@@ -136,7 +136,7 @@ module _ (E : Era) (m : Memory) (team : Team) (g : Ghost) (k : ℕ) (s : GateSte
       → Sizes E request → (is_asking q ≡ true → E.old_span ≤ E.span)
       → Preserves E m (with_gate m (record m.gate { live = live; running = running; left = left; request = request })) team (with_worker team k (record w { post = q; access = access; opened = opened; size_seen = size; traced_seen = seen; gate_step = None })) g g
   stays p q access opened size seen live running left request now at mutator mutates none lives runs leaves requests still inside ends accesses opens sizes sees asks smaller unsized =
-      let w' : Worker = record w { post = q; access = access; opened = opened; size_seen = size; traced_seen = seen; gate_step = None } in
+      let w' : Known = record w { post = q; access = access; opened = opened; size_seen = size; traced_seen = seen; gate_step = None } in
       let gate' : GateWord = record m.gate { live = live; running = running; left = left; request = request } in
       let gate_now : w.epoch ≡ m.gate.epoch = now ∙ sym ready.at_gate in
       let was : is_mutator w.post ≡ true = rw at mutator in

@@ -4,19 +4,19 @@ use Rattle.heap_state.specs.Memory.Era.{Era, Memory}
 use Rattle.heap_state.specs.Invariant.Ghost.{Ghost}
 use Rattle.heap_state.specs.Invariant.Inductive.{Invariant, Knows}
 use Rattle.heap_state.specs.Invariant.Parts.Copying.{IsOrigin}
-use Rattle.heap_state.specs.Worker.{Worker, Team, Scanner, Origin, Register, Scanned, Quest, is_mutator, is_flipper, is_late, is_asking}
+use Rattle.heap_state.specs.Known.{Known, Team, Scanner, Origin, Register, Scanned, Quest, is_mutator, is_flipper, is_late, is_asking}
 use Rattle.heap_state.proofs.Puts.{none≢some, true_false}
 use Rattle.heap_laws.specs.Gate.{TakingEpochKeeps, into_epoch}
 use Rattle.heap_laws.specs.Steps.{with_worker, Preserves}
 use Rattle.heap_laws.proofs.Cells.Kept.{none_is_some}
-use Rattle.heap_laws.proofs.Gate.Counts.{counted_moves}
+use Rattle.heap_laws.proofs.Gate.GateCounts.{counted_moves}
 use Rattle.heap_laws.proofs.Gate.Team.{passing_keeps}
 use Rattle.heap_laws.proofs.Gate.Worker.{none_at_pages, knows_then}
 use Rattle.heap_laws.proofs.Steps.Learning.{learnt}
 
 module _ (E : Era) (m : Memory) (team : Team) (g : Ghost) (k : ℕ) (inv : Invariant E m team g) (below : k < team.count) (at_gate : m.gate.epoch ≡ E.epoch) (scanner : (team.worker k).post ≡ Scanner)
     (idle : (team.worker k).scan ≡ None) (free : (team.worker k).pass ≡ None) where
-  abbrev w : Worker
+  abbrev w : Known
   w = team.worker k
 
   me : Knows E m.gate m.traced m.front m.low m.old_front m.old_low m.old_owed g m.page m.cross m.announced m.heap k w

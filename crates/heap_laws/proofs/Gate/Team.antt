@@ -8,7 +8,7 @@ use Rattle.heap_state.specs.Invariant.Inductive.{Invariant, Knows}
 use Rattle.heap_state.specs.Invariant.Parts.Gate.{Counted}
 use Rattle.heap_state.specs.Invariant.Parts.Knowledge.{Resets}
 use Rattle.heap_state.specs.Invariant.Parts.Pages.{Filling, Tracing, Sizes}
-use Rattle.heap_state.specs.Worker.{Worker, Team, Stock, Reset, is_mutator, is_late}
+use Rattle.heap_state.specs.Known.{Known, Team, Stock, Reset, is_mutator, is_late}
 use Rattle.heap_state.proofs.Workers.Frames.{staffed_put, scanned_put, stocks_put, numbered_put, rooted_put}
 use Rattle.heap_state.proofs.Puts.{team_put}
 use Rattle.heap_laws.specs.Cells.Frames.{GoesOnInChain}
@@ -19,7 +19,7 @@ use Rattle.heap_laws.proofs.Steps.Learning.{shown_put}
 use Rattle.heap_laws.proofs.Targets.Frames.{made_put}
 
 -- worker k, which had this to do at the gate, passes it
-pub record GoesPastGate (E : Era) (m : Memory) (team : Team) (g : Ghost) (k : ℕ) (w' : Worker) : Type 0 where
+pub record GoesPastGate (E : Era) (m : Memory) (team : Team) (g : Ghost) (k : ℕ) (w' : Known) : Type 0 where
   pub inv : Invariant E m team g
   pub below : k < team.count
   pub mutator : is_mutator w'.post ≡ is_mutator (team.worker k).post
@@ -30,7 +30,7 @@ pub record GoesPastGate (E : Era) (m : Memory) (team : Team) (g : Ghost) (k : �
   pub goes : GoesOnInChain E w' (team.worker k)
   pub none_left : (r : ℕ) → r < 8 → is_late E.epoch (team.worker k) ≡ true → (team.worker k).done ≤ r → ⊥
 
-module _ {E : Era} {m : Memory} {team : Team} {g : Ghost} {k : ℕ} {w' : Worker} (passing : GoesPastGate E m team g k w') (gate' : GateWord) where
+module _ {E : Era} {m : Memory} {team : Team} {g : Ghost} {k : ℕ} {w' : Known} (passing : GoesPastGate E m team g k w') (gate' : GateWord) where
   inv : Invariant E m team g
   inv = passing.inv
 
@@ -58,7 +58,7 @@ module _ {E : Era} {m : Memory} {team : Team} {g : Ghost} {k : ℕ} {w' : Worker
   }
 
 -- a passage that leaves as many behind as there were
-pub usual : (E : Era) (m : Memory) (team : Team) (g : Ghost) (k : ℕ) (w' : Worker) (live running left : ℕ) (request : Bool) → (passing : GoesPastGate E m team g k w') → NoneFlips E m team g passing.inv
+pub usual : (E : Era) (m : Memory) (team : Team) (g : Ghost) (k : ℕ) (w' : Known) (live running left : ℕ) (request : Bool) → (passing : GoesPastGate E m team g k w') → NoneFlips E m team g passing.inv
     → Counted (record m.gate { live = live; running = running; left = left; request = request }) team.count (put team.worker k w') → Sizes E request
     → Knows E (record m.gate { live = live; running = running; left = left; request = request }) m.traced m.front m.low m.old_front m.old_low m.old_owed g m.page m.cross m.announced m.heap k w'
     → Preserves E m (with_gate m (record m.gate { live = live; running = running; left = left; request = request })) team (with_worker team k w') g g

@@ -9,7 +9,7 @@ use Rattle.heap_state.specs.Invariant.Ghost.{Ghost}
 use Rattle.heap_state.specs.Invariant.Inductive.{Invariant, Knows, KnowsAtPages}
 use Rattle.heap_state.specs.Invariant.Parts.Copying.{IsOrigin}
 use Rattle.heap_state.specs.Invariant.Parts.Knowledge.{Ends, Clean, Accesses}
-use Rattle.heap_state.specs.Worker.{Worker, Team, Post, Outside, Origin, Register, Scanned, Quest, Stock, Access, Reset, is_mutator, is_running, is_late, is_asking}
+use Rattle.heap_state.specs.Known.{Known, Team, Post, Outside, Origin, Register, Scanned, Quest, Stock, Access, Reset, is_mutator, is_running, is_late, is_asking}
 use Rattle.heap_state.proofs.Puts.{none≢some, true_false}
 use Rattle.heap_state.proofs.Workers.Idle.{at_rest, nothing_at_pages}
 use Rattle.heap_laws.specs.Gate.{into_epoch}
@@ -42,13 +42,13 @@ module _ (E : Era) (m : Memory) (team : Team) (g : Ghost) (inv : Invariant E m t
       by_gate (inr (inr q)) = let o = u.reset r e in let z = ap (λ (w : GateWord). w.behind) o.unmoved in omega (arith, o.stopped, z, q)
 
 -- who comes into an epoch has no round of the duty
-pub none_at_pages : {E : Era} {traced front behind : ℕ} {size writer : ℕ → ℕ} {page : ℕ → PageWord} (w : Worker) (epoch : ℕ) → KnowsAtPages E traced front behind size writer page (into_epoch w epoch)
+pub none_at_pages : {E : Era} {traced front behind : ℕ} {size writer : ℕ → ℕ} {page : ℕ → PageWord} (w : Known) (epoch : ℕ) → KnowsAtPages E traced front behind size writer page (into_epoch w epoch)
 none_at_pages {E} {traced} {front} {behind} {size} {writer} {page} w epoch =
     let none : KnowsAtPages E traced front behind size writer page (at_rest (record w { epoch = epoch })) = nothing_at_pages (record w { epoch = epoch }) in
     assumption
 
 -- what it brings with it: its run and its round of the duty are those of `duty`
-pub record Brings (E : Era) (m : Memory) (g : Ghost) (behind : ℕ) (w : Worker) (post : Post) (epoch done : ℕ) (duty : Worker) (access : Option Access) (opened size_seen : Option ℕ) (traced_seen : Bool) : Type 0 where
+pub record Brings (E : Era) (m : Memory) (g : Ghost) (behind : ℕ) (w : Known) (post : Post) (epoch done : ℕ) (duty : Known) (access : Option Access) (opened size_seen : Option ℕ) (traced_seen : Bool) : Type 0 where
   pub now : epoch ≡ E.epoch
   pub done_none : done ≡ 0
   pub inside : post ≡ Outside → ⊥
@@ -65,11 +65,11 @@ pub record Brings (E : Era) (m : Memory) (g : Ghost) (behind : ℕ) (w : Worker)
   pub unsized : is_asking post ≡ true → E.old_span ≤ E.span
 
 module _ (E : Era) (m : Memory) (team : Team) (g : Ghost) (k : ℕ) (gate' : GateWord) (inv : Invariant E m team g) (below : k < team.count) (no_flip : (r : Reset) → (team.worker k).reset ≡ Some r → ⊥)
-    (post : Post) (epoch done : ℕ) (duty : Worker) (access : Option Access) (opened size_seen : Option ℕ) (traced_seen : Bool) (brings : Brings E m g gate'.behind (team.worker k) post epoch done duty access opened size_seen traced_seen) where
-  abbrev w : Worker
+    (post : Post) (epoch done : ℕ) (duty : Known) (access : Option Access) (opened size_seen : Option ℕ) (traced_seen : Bool) (brings : Brings E m g gate'.behind (team.worker k) post epoch done duty access opened size_seen traced_seen) where
+  abbrev w : Known
   w = team.worker k
 
-  abbrev passed : Worker
+  abbrev passed : Known
   passed = record duty {
     post = post;
     epoch = epoch;

@@ -9,7 +9,7 @@ use Rattle.plain_state.specs.State.{Plain}
 use Rattle.heap_state.specs.Configuration.{Configuration, Stands, table, era, team}
 use Rattle.heap_state.specs.Memory.Entries.{Entry}
 use Rattle.heap_state.specs.Memory.Table.{table_of, IsFormed, Table}
-use Rattle.heap_state.specs.Worker.{Team, Worker}
+use Rattle.heap_state.specs.Known.{Team, Known}
 use Rattle.heap_state.proofs.Table.LaidOut.{laid_out, table_pages}
 use Rattle.heap_state.proofs.Workers.Teams.{team_changes}
 use Rattle.heap_state.proofs.Table.Stores.{stores_entry}
@@ -49,7 +49,7 @@ pub record Says (c : Configuration) (t : Table) (all : Team) : Type 0 where
   pub team_said : team c ≡ all
 
 abbrev pub StepsAreSeen : Type 0
-StepsAreSeen = (c : Configuration) (e : Option Entry) (k : ℕ) (w : Worker) → IsFormed c.pages c.words → k < length c.workers → RowFits c.pages e
+StepsAreSeen = (c : Configuration) (e : Option Entry) (k : ℕ) (w : Known) → IsFormed c.pages c.words → k < length c.workers → RowFits c.pages e
     → Says (configuration_after c e k w) (table_after (table c) e) (with_worker (team c) k w)
 
 pub seen : StepsAreSeen
@@ -63,7 +63,7 @@ seen c e k w formed l fits =
 
 -- after a step by which the invariant is kept and a plain state shown the configuration stands
 abbrev pub StepsStand : Type 0
-StepsStand = (c : Configuration) (p q : Plain) (e : Option Entry) (k : ℕ) (w : Worker) (h : Ghost) → Stands c p → k < length c.workers → RowFits c.pages e
+StepsStand = (c : Configuration) (p q : Plain) (e : Option Entry) (k : ℕ) (w : Known) (h : Ghost) → Stands c p → k < length c.workers → RowFits c.pages e
     → Invariant (era_of (table_after (table c) e)) (memory_of (table_after (table c) e)) (with_worker (team c) k w) h
     → Shown (era_of (table_after (table c) e)) (memory_of (table_after (table c) e)) (with_worker (team c) k w) h q
     → StandsWith (configuration_after c e k w) q h

@@ -5,7 +5,7 @@ use Rattle.space_map.specs.Spaces.{to_space, space_start}
 use Rattle.space_map.specs.GateWord.{GateFits}
 use Rattle.space_map.specs.Table.{Size}
 use Rattle.heap_state.specs.Configuration.{Configuration, table, era, memory, team}
-use Rattle.heap_state.specs.Memory.Entries.{Entry, GateIs, SizeIs, SnapIs, DoneIs, SaveIs, ImageIs}
+use Rattle.heap_state.specs.Memory.Entries.{Entry, GateIs, SizeIs, SnapIs, LastSavedIs, SaveIs, ImageIs}
 use Rattle.heap_state.specs.Memory.Era.{Memory, IsLaidOut, era_of, era_at, memory_of, from_space}
 use Rattle.heap_state.specs.Memory.Table.{Table, word_in}
 use Rattle.heap_state.proofs.Table.LaidOut.{laid_out, table_in_use}
@@ -16,8 +16,8 @@ use Rattle.heap_laws.proofs.Lifting.Configurations.{board_at, seen, stand, ready
 use Rattle.heap_laws.specs.Flipping.Flip.{FlipKeeps, flipped_gate, after_flip, next_ghost, next_era, next_memory}
 use Rattle.heap_laws.specs.Flipping.Sizes.{sized_era, after_size}
 use Rattle.heap_laws.proofs.Flipping.Flipped.{flip_keeps, table_flips}
-use Rattle.heap_laws.proofs.Flipping.Sizes.{sizes_are_stored}
-use Rattle.heap_laws.proofs.Gate.Counts.{fits}
+use Rattle.heap_laws.proofs.Flipping.StoredSizes.{sizes_are_stored}
+use Rattle.heap_laws.proofs.Gate.GateCounts.{fits}
 
 -- ---- the row
 
@@ -49,7 +49,7 @@ memory_at t gate epoch = record {
 -- of checkpoints it sees nothing
 seen_beside : (c : Configuration) (e : Entry) → IsBeside (era c) e → RowSeen c (Some e) (memory c)
 seen_beside c (SnapIs number) beside = record { fits = tt; era_stays = refl; memory_is = refl }
-seen_beside c (DoneIs number) beside = record { fits = tt; era_stays = refl; memory_is = refl }
+seen_beside c (LastSavedIs number) beside = record { fits = tt; era_stays = refl; memory_is = refl }
 seen_beside c (SaveIs page word) beside = record { fits = (let b = board_at c in omega (arith, b, beside.0), beside.1); era_stays = refl; memory_is = refl }
 seen_beside c (ImageIs addr word) beside = record { fits = let b = board_at c in omega (arith, b, beside); era_stays = refl; memory_is = refl }
 seen_beside c _ beside = absurd beside

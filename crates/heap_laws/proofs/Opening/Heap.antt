@@ -21,14 +21,14 @@ use Rattle.heap_state.specs.Invariant.Inductive.{Invariant, Knows}
 use Rattle.heap_state.specs.Invariant.Parts.Pages.{Quiet}
 use Rattle.heap_state.specs.Memory.Table.{Table}
 use Rattle.heap_state.specs.Meaning.Values.{value_of, Accounts, RegistersShow, Shown}
-use Rattle.heap_state.specs.Worker.{Worker, Outside, Scanner, fresh}
+use Rattle.heap_state.specs.Known.{Known, Outside, Scanner, fresh}
 use Rattle.heap_state.proofs.Cells.NoCells.{no_cells}
 use Rattle.heap_state.proofs.Workers.Idle.{idle_knows}
 use Rattle.heap_state.proofs.Puts.{put_at, put_other, none≢some, true_false}
 use Rattle.heap_state.proofs.Table.Writing.{writes_tables}
 use Rattle.heap_laws.specs.Opening.{opening_entries, opening_plain, opening_mutator, OpeningStands}
-use Rattle.heap_laws.proofs.Opening.Workers.{opening_team, each_fresh, counted, staffed}
-use Rattle.plain_state.proofs.Lists.{slice_get-replicate, slice_get-of_replicate}
+use Rattle.heap_laws.proofs.Opening.FreshWorkers.{opening_team, each_fresh, counted, staffed}
+use Rattle.plain_state.proofs.Elements.{slice_get-replicate, slice_get-of_replicate}
 use Rattle.heap_laws.proofs.Frames.Values.{zero_word, zero_clean, zero_lands, zero_value}
 
 -- ---- nothing stands
@@ -102,10 +102,10 @@ module _ (n least : ℕ) where
 
   -- ---- the workers
 
-  abbrev Known : ℕ → Worker → Type 0
-  Known k w = Knows E m.gate m.traced m.front m.low m.old_front m.old_low m.old_owed nothing m.page m.cross m.announced m.heap k w
+  abbrev KnowsHere : ℕ → Known → Type 0
+  KnowsHere k w = Knows E m.gate m.traced m.front m.low m.old_front m.old_low m.old_owed nothing m.page m.cross m.announced m.heap k w
 
-  outside : (k : ℕ) → Known k (fresh Outside)
+  outside : (k : ℕ) → KnowsHere k (fresh Outside)
   outside k = idle_knows (fresh Outside) refl
       (record { past = omega arith; live = λ l. true_false refl l; running = λ r. refl; asking = λ f. refl; rest = λ r. refl; below = omega arith })
       (record { stays = λ e. true_false refl e; gone = λ e. true_false refl e })
@@ -115,7 +115,7 @@ module _ (n least : ℕ) where
       (λ e. true_false refl e)
       refl
 
-  scanner : (k : ℕ) → Known k (fresh Scanner)
+  scanner : (k : ℕ) → KnowsHere k (fresh Scanner)
   scanner k = idle_knows (fresh Scanner) refl
       (record { past = omega arith; live = λ l. true_false refl l; running = λ r. refl; asking = λ f. refl; rest = λ r. refl; below = omega arith })
       (record { stays = λ e. true_false refl e; gone = λ e. true_false refl e })
@@ -168,7 +168,7 @@ module _ (n least : ℕ) where
           stocks = record { stocked = λ k u q e. absurd (let z = no_stock k in none≢some (sym z ∙ e)); apart = λ i k u v d p q e. absurd (let z = no_stock i in none≢some (sym z ∙ e)) };
           numbered = record { maker = λ a st. absurd (omega (arith, st)); last = λ a st. absurd (omega (arith, st)) };
           cells = cells;
-          workers = λ k u. each_fresh mutators scanners k (λ w. Known k w) (outside k) (scanner k);
+          workers = λ k u. each_fresh mutators scanners k (λ w. KnowsHere k w) (outside k) (scanner k);
         }
 
     -- ---- the plain state

@@ -8,7 +8,7 @@ use Rattle.heap_state.specs.Saving.Parts.{Recalls, Guarded, ReadsTell, KnowsSavi
 use Rattle.heap_state.proofs.Puts.{true_false, none≢some}
 use Rattle.heap_laws.specs.Saving.Snapping.{saver_after_request, saver_running}
 use Rattle.heap_laws.specs.Saving.Rounds.{KnowsNoMore, SaversForget, KeepsSavingAs, RunsKeepSaving, saver_stopped, EachIsForgotten, saver_unsettled, saver_unguarded, saver_unmarked, saver_after_reads, saver_after_round}
-use Rattle.heap_laws.proofs.Saving.Workers.{has_won_as, steps_are_spared}
+use Rattle.heap_laws.proofs.Saving.SavingWorkers.{has_won_as, steps_are_spared}
 
 -- ---- by parts
 

@@ -1,5 +1,5 @@
 pub mod Safe
-pub mod Marks
+pub mod MarkedPages
 pub mod Images
-pub mod Stages
+pub mod PageSaves
 pub mod Writes

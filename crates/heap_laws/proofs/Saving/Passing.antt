@@ -14,7 +14,7 @@ use Rattle.heap_state.specs.Saving.Frozen.{Frozen}
 use Rattle.heap_state.specs.Saving.Parts.{SavingStands}
 use Rattle.heap_state.specs.Saving.Savers.{Saver}
 use Rattle.heap_state.specs.Saving.Words.{Saves}
-use Rattle.heap_state.specs.Worker.{Worker, Team, Post, Running, Snapping, Passage, Enter, Park, Request, RequestSnap, Clear, Forwarded, Resume, Leave, Reset, is_running, is_asking}
+use Rattle.heap_state.specs.Known.{Known, Team, Post, Running, Snapping, Passage, Enter, Park, Request, RequestSnap, Clear, Forwarded, Resume, Leave, Reset, is_running, is_asking}
 use Rattle.heap_state.proofs.Puts.{put_at, put_other, true_false}
 use Rattle.heap_laws.specs.Answers.{IsCounted}
 use Rattle.heap_laws.specs.Flipping.Flip.{Flips, flipped_gate, after_flip}
@@ -26,16 +26,16 @@ use Rattle.heap_laws.specs.Saving.Rounds.{saver_stopped}
 use Rattle.heap_laws.specs.Saving.Sparing.{IsAstir, NobodyAsks, SomeoneRuns, SomeoneIsBehind, NobodyIsStillWhereAstir, IsPassed, PassagesAreSpared, saver_passed, PassagesFollowPosts, PassagesKeepSaving, FlippersKeepSaving, FlippersFollowPosts}
 use Rattle.heap_laws.specs.Steps.{Ready}
 use Rattle.heap_laws.proofs.Flipping.Sums.{sum_below-term, one_of}
-use Rattle.heap_laws.proofs.Flipping.Workers.{none_true}
+use Rattle.heap_laws.proofs.Flipping.FlippedWorkers.{none_true}
 use Rattle.heap_laws.proofs.Saving.Forgotten.{runs_keep_saving}
 use Rattle.heap_laws.proofs.Saving.Requests.{runners_are_counted, askers_are_alone, requests_are_spared, runners_are_spared, clears_are_spared}
-use Rattle.heap_laws.proofs.Saving.Workers.{none_if, steps_are_spared, settled_may_flip, flips_are_spared}
+use Rattle.heap_laws.proofs.Saving.SavingWorkers.{none_if, steps_are_spared, settled_may_flip, flips_are_spared}
 use Rattle.heap_laws.proofs.Steps.Answers.{passages_fit}
 use Rattle.heap_laws.proofs.Gate.Passages.{same_epoch}
 
 -- ---- nobody is still
 
-module _ (t : Table) (s : Saves) (z : Frozen) (count : ℕ) (worker : ℕ → Worker) (saver : ℕ → Saver) (stands : SavingStands t s z count saver)
+module _ (t : Table) (s : Saves) (z : Frozen) (count : ℕ) (worker : ℕ → Known) (saver : ℕ → Saver) (stands : SavingStands t s z count saver)
     (counted : Counted t.gate count worker) (follow : FollowPosts count worker saver) where
   nobody_asks : t.gate.request ≡ false → (j : ℕ) → j < count → (saver j).asks ≡ false
   nobody_asks clear j j_in = none_true (saver j).asks (λ asks.
@@ -163,7 +163,7 @@ flippers_keep_saving t s z team g saver k r stands ready follow may settled loos
 
 -- ---- who runs and who holds the request
 
-follow_put : (count : ℕ) (worker : ℕ → Worker) (saver : ℕ → Saver) (k : ℕ) (v : Worker) (w : Saver) → FollowPosts count worker saver → w.runs ≡ is_running v.post
+follow_put : (count : ℕ) (worker : ℕ → Known) (saver : ℕ → Saver) (k : ℕ) (v : Known) (w : Saver) → FollowPosts count worker saver → w.runs ≡ is_running v.post
     → w.asks ≡ is_asking v.post → FollowPosts count (put worker k v) (put saver k w)
 follow_put count worker saver k v w follow runs asks = record {
   runs = λ j j_in. ⊎_elim
@@ -181,7 +181,7 @@ runs_idle : (post : Post) → is_running post ≡ true → is_asking post ≡ fa
 runs_idle Running is = refl
 runs_idle _ is = absurd (cc)
 
-module _ (epoch : ℕ) (v : Worker) (w : Saver) (runs : w.runs ≡ is_running v.post) (asks : w.asks ≡ is_asking v.post) where
+module _ (epoch : ℕ) (v : Known) (w : Saver) (runs : w.runs ≡ is_running v.post) (asks : w.asks ≡ is_asking v.post) where
   post_after : (read : GateWord) (p : Passage) → Passes v.post v.epoch v.done (is_some v.account.end) v.traced_seen read p
       → ((saver_passed p w).runs ≡ is_running (worker_after epoch p v).post) × ((saver_passed p w).asks ≡ is_asking (worker_after epoch p v).post)
   post_after read Enter may = (refl, asks ∙ ap is_asking may.0)

@@ -21,14 +21,14 @@ use Rattle.heap_state.specs.Memory.Table.{Table}
 use Rattle.heap_state.specs.Saving.Frozen.{Frozen, IsPageOf}
 use Rattle.heap_state.specs.Saving.Kept.{ShowsKept}
 use Rattle.heap_state.specs.Targets.{IsCell}
-use Rattle.heap_state.specs.Worker.{Team}
+use Rattle.heap_state.specs.Known.{Team}
 use Rattle.heap_state.proofs.Puts.{some_same}
 use Rattle.heap_state.proofs.Records.Holding.{uncopied_here}
 use Rattle.heap_laws.specs.Saving.Snapping.{is_page_of, is_open_in, frozen_of, FrozenHeapsShow}
 use Rattle.heap_laws.specs.Tracing.{NothingLeads}
 use Rattle.heap_laws.proofs.Flipping.Sums.{stood, inside}
 use Rattle.heap_laws.proofs.Frames.Values.{board_here, field_here, pointer_lands}
-use Rattle.heap_laws.proofs.Tracing.Traced.{leads_nowhere}
+use Rattle.heap_laws.proofs.Tracing.TracedExchange.{leads_nowhere}
 
 -- ---- which pages are held
 

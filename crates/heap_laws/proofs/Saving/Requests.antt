@@ -4,15 +4,15 @@ use Rattle.std.proofs.Common.{◌≡◌, false, Some, None, refl, sym, ◌∙◌
 use Rattle.heap_state.specs.Functions.{count_one, put}
 use Rattle.heap_state.specs.Memory.Entries.{GateIs}
 use Rattle.heap_state.specs.Saving.Savers.{Saver}
-use Rattle.heap_state.specs.Worker.{is_running, is_asking}
+use Rattle.heap_state.specs.Known.{is_running, is_asking}
 use Rattle.heap_state.proofs.Puts.{team_put, true_false, none≢some, some_same}
 use Rattle.heap_laws.specs.Saving.Rows.{SparesGate}
 use Rattle.heap_laws.specs.Saving.Snapping.{RunnersAreCounted, AskersAreAlone, RequestsAreSpared, saver_still, GatesAreFoundStill, saver_after_clear, ClearsAreSpared, RunnersAreSpared}
 use Rattle.heap_laws.proofs.Flipping.Sums.{sum_below-term, sum_below-two, one_of, at_most_one}
-use Rattle.heap_laws.proofs.Flipping.Workers.{none_true}
+use Rattle.heap_laws.proofs.Flipping.FlippedWorkers.{none_true}
 use Rattle.heap_laws.proofs.Saving.Forgotten.{runs_keep_saving}
-use Rattle.heap_laws.proofs.Saving.Rows.{rows_are_spared}
-use Rattle.heap_laws.proofs.Saving.Workers.{none_if, has_won_as, asker_knows, saver_changes}
+use Rattle.heap_laws.proofs.Saving.SparedRows.{rows_are_spared}
+use Rattle.heap_laws.proofs.Saving.SavingWorkers.{none_if, has_won_as, asker_knows, saver_changes}
 
 -- ---- who runs and who holds the request
 

@@ -11,14 +11,14 @@ use Rattle.heap_state.specs.Invariant.Inductive.{Invariant, Knows}
 use Rattle.heap_state.specs.Invariant.Parts.Knowledge.{Clean, Ends, Passes}
 use Rattle.heap_state.specs.Memory.Entries.{SnapIs}
 use Rattle.heap_state.specs.Memory.Era.{Era, Memory}
-use Rattle.heap_state.specs.Worker.{Worker, Team, Account, Post, Snapping, GateStep, is_mutator, is_running, is_gone, is_late}
+use Rattle.heap_state.specs.Known.{Known, Team, Account, Post, Snapping, GateStep, is_mutator, is_running, is_gone, is_late}
 use Rattle.heap_state.proofs.Puts.{proj_put, team_put, true_false, some_same}
 use Rattle.heap_state.proofs.Workers.Frames.{counted_put, staffed_put, scanned_put, stocks_put, numbered_put}
 use Rattle.heap_state.proofs.Represents.Snapped.{snaps_show}
 use Rattle.heap_laws.specs.Saving.Snapping.{about_to_clear, SnappersStep}
 use Rattle.heap_laws.specs.Steps.{Beside, with_worker}
 use Rattle.heap_laws.proofs.Cells.Kept.{same_keeps, in_chain}
-use Rattle.heap_laws.proofs.Fields.GoingOn.{going_on_shows}
+use Rattle.heap_laws.proofs.Fields.RunningMutators.{going_on_shows}
 use Rattle.heap_laws.proofs.Fields.Laws.{accounts_in}
 use Rattle.heap_laws.proofs.Targets.Frames.{made_put}
 
@@ -33,10 +33,10 @@ none_ended (Some why) never = absurd (never refl)
 
 module _ (E : Era) (m : Memory) (team : Team) (g : Ghost) (k : ℕ) (account : Account) (gate : GateWord) (inv : Invariant E m team g) (member : k < team.count)
     (post : (team.worker k).post ≡ Snapping) (serial : account.serial ≡ (team.worker k).account.serial) (goes : account.end ≡ None) where
-  abbrev w : Worker
+  abbrev w : Known
   w = team.worker k
 
-  abbrev next : Worker
+  abbrev next : Known
   next = about_to_clear w account gate
 
   me : Knows E m.gate m.traced m.front m.low m.old_front m.old_low m.old_owed g m.page m.cross m.announced m.heap k w
@@ -69,20 +69,20 @@ module _ (E : Era) (m : Memory) (team : Team) (g : Ghost) (k : ℕ) (account : A
   -- ---- the cycle
 
   same_registers : (j : ℕ) → (put team.worker k next j).registers ≡ (team.worker j).registers
-  same_registers j = proj_put (λ (u : Worker). u.registers) team.worker k next j refl
+  same_registers j = proj_put (λ (u : Known). u.registers) team.worker k next j refl
 
   leads : (i : Identity) → RootLeads E team.count g.identity m.heap team.worker i → RootLeads E team.count g.identity m.heap (put team.worker k next) i
   leads i (ByBoard x small led) = ByBoard x small led
   leads i (ByRegister j x in_team small late done led) =
-      ByRegister j x in_team small (proj_put (is_late E.epoch) team.worker k next j refl ∙ late) (rw (proj_put (λ (u : Worker). u.done) team.worker k next j refl) done)
+      ByRegister j x in_team small (proj_put (is_late E.epoch) team.worker k next j refl ∙ late) (rw (proj_put (λ (u : Known). u.done) team.worker k next j refl) done)
       (rw (same_registers j) led)
 
   rooted : (p : plain.Plain) → Rooted E m.front team.count g.size g.writer g.identity m.heap team.worker p → Rooted E m.front team.count g.size g.writer g.identity m.heap (put team.worker k next) p
   rooted p r = record {
     roots = λ i root. ⊎_elim (λ copied. inl copied) (λ led. inr (leads i led)) (r.roots i root);
     sound = λ j x i in_team mutator ended small led.
-        r.sound j x i in_team (sym (proj_put (λ (u : Worker). is_mutator u.post) team.worker k next j refl) ∙ mutator)
-        (sym (proj_put (λ (u : Worker). u.account.end) team.worker k next j same_end) ∙ ended) small (rw (same_registers j) at led);
+        r.sound j x i in_team (sym (proj_put (λ (u : Known). is_mutator u.post) team.worker k next j refl) ∙ mutator)
+        (sym (proj_put (λ (u : Known). u.account.end) team.worker k next j same_end) ∙ ended) small (rw (same_registers j) at led);
   }
 
 pub snappers_step : SnappersStep

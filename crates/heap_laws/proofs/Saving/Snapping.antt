@@ -14,11 +14,11 @@ use Rattle.heap_state.specs.Saving.Savers.{Saver}
 use Rattle.heap_state.specs.Saving.Words.{Saves, IsInProgress, IsAtRest}
 use Rattle.heap_state.proofs.Puts.{each_put, team_put, true_false}
 use Rattle.heap_laws.specs.Saving.Snapping.{frozen_of, next_saves, saver_after_snap, SnapsAreBegun, SnapsAreKept}
-use Rattle.heap_laws.proofs.Flipping.Workers.{none_true}
+use Rattle.heap_laws.proofs.Flipping.FlippedWorkers.{none_true}
 use Rattle.heap_laws.proofs.Saving.Pictures.{open_held, held_open, below_board, frozen_heaps_show}
 use Rattle.heap_laws.proofs.Saving.Pages.Safe.{begins_still, reads_still, round_still}
 use Rattle.heap_laws.proofs.Saving.Requests.{runners_are_counted, askers_are_alone}
-use Rattle.heap_laws.proofs.Saving.Workers.{has_won_as, asker_knows}
+use Rattle.heap_laws.proofs.Saving.SavingWorkers.{has_won_as, asker_knows}
 
 -- ---- the words and the workers
 

@@ -15,7 +15,7 @@ use Rattle.heap_state.specs.Saving.Frozen.{Frozen}
 use Rattle.heap_state.specs.Saving.Parts.{SavingWords, SavingStands, KnowsSaving}
 use Rattle.heap_state.specs.Saving.Savers.{Saver}
 use Rattle.heap_state.specs.Saving.Words.{Saves}
-use Rattle.heap_state.specs.Worker.{Team, Origin, Register, Scanned, Stock, Quest, Copy, Scan, Claim, LastLook, is_late}
+use Rattle.heap_state.specs.Known.{Team, Origin, Register, Scanned, Stock, Quest, Copy, Scan, Claim, LastLook, is_late}
 use Rattle.heap_state.proofs.Puts.{true_false}
 use Rattle.heap_laws.specs.Allocation.Stocks.{HasStock, OpensNext}
 use Rattle.heap_laws.specs.Saving.Rows.{SparesWord, SparesPage, SparesTraced}
@@ -25,7 +25,7 @@ use Rattle.heap_laws.specs.Steps.{Ready}
 use Rattle.heap_laws.specs.Tracing.{WinsTraced}
 use Rattle.heap_laws.proofs.Scanning.Claimed as claimed
 use Rattle.heap_laws.proofs.Scanning.Scanners.{open_age}
-use Rattle.heap_laws.proofs.Tracing.Traced.{leads_nowhere, traces}
+use Rattle.heap_laws.proofs.Tracing.TracedExchange.{leads_nowhere, traces}
 
 -- ---- what traces an epoch
 

@@ -5,7 +5,7 @@ use Rattle.space_map.specs.SaveWord.{decode_save}
 use Rattle.space_map.proofs.Rows.{is_save_row-decides}
 use Rattle.space_map.proofs.SaveWords.{encode_save-decode_save, SaveFits-decode_save}
 use Rattle.heap_state.specs.Saving.Words.{save_word_in, save_said_in, saves_of}
-use Rattle.heap_state.proofs.Table.Saves.{said_after}
+use Rattle.heap_state.proofs.Table.CheckpointRows.{said_after}
 use Rattle.heap_laws.specs.Saving.Stores.{SavesAreRead, BlankWordsSaveNothing, SavesFollow}
 
 -- ---- loads

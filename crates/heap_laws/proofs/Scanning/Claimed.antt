@@ -12,7 +12,7 @@ use Rattle.heap_state.specs.Invariant.Parts.Copying.{IsOrigin, Licensed}
 use Rattle.heap_state.specs.Invariant.Parts.Leading.{Opened}
 use Rattle.heap_state.specs.Invariant.Parts.Pages.{Shut, Quiet, Filling, ScannedBy}
 use Rattle.heap_state.specs.Invariant.Parts.Scanning.{Scans, Stepping, Claims}
-use Rattle.heap_state.specs.Worker.{Worker, Team, Origin, Register, Scanned, Scan, Claim, is_late, Quest}
+use Rattle.heap_state.specs.Known.{Known, Team, Origin, Register, Scanned, Scan, Claim, is_late, Quest}
 use Rattle.heap_state.proofs.Records.Holding.{writer}
 use Rattle.heap_state.proofs.Puts.{put_at, put_other, put_same, some_same, none≢some}
 use Rattle.heap_state.specs.Memory.Entries.{PageIs}
@@ -23,7 +23,7 @@ use Rattle.heap_laws.proofs.Frames.PageWords.{Turns, quiet_turns, scans_beside, 
 use Rattle.heap_laws.proofs.Frames.NewPages.{PageTurns}
 use Rattle.heap_laws.proofs.Frames.TurnedPages.{keeps_turned}
 use Rattle.heap_laws.proofs.Scanning.Scanners.{open_age, scan_age, open_scan, scan_scan, none_writes}
-use Rattle.heap_laws.proofs.Steps.Rows.{page_below, few}
+use Rattle.heap_laws.proofs.Steps.RowPlaces.{page_below, few}
 
 pub sleeper_loses : SleeperLosesPage
 sleeper_loses E m team g k q ready cl sure past won =
@@ -45,7 +45,7 @@ module _ (E : Era) (m : Memory) (team : Team) (g : Ghost) (k : ℕ) (q : Claim) 
   abbrev page' : ℕ → PageWord
   page' = put m.page q.page v
 
-  abbrev w' : Worker
+  abbrev w' : Known
   w' = begins_scan (team.worker k) q
 
   me : Knows E m.gate m.traced m.front m.low m.old_front m.old_low m.old_owed g m.page m.cross m.announced m.heap k (team.worker k)
@@ -160,7 +160,7 @@ module _ (E : Era) (m : Memory) (team : Team) (g : Ghost) (k : ℕ) (q : Claim) 
         (cases_eq p q.page);
   }
 
-  abbrev KnowsNow : ℕ → Worker → Type 0
+  abbrev KnowsNow : ℕ → Known → Type 0
   KnowsNow = Knows E m.gate m.traced m.front m.low m.old_front m.old_low m.old_owed g page' m.cross m.announced m.heap
 
   others : (j : ℕ) → j < team.count → j ≢ k → KnowsNow j (team.worker j)

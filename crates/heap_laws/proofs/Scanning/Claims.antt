@@ -5,7 +5,7 @@ use Rattle.heap_state.specs.Memory.Era.{Era, Memory}
 use Rattle.heap_state.specs.Invariant.Ghost.{Ghost}
 use Rattle.heap_state.specs.Invariant.Inductive.{Invariant}
 use Rattle.heap_state.specs.Invariant.Parts.Scanning.{Claims}
-use Rattle.heap_state.specs.Worker.{Team, Claim}
+use Rattle.heap_state.specs.Known.{Team, Claim}
 use Rattle.heap_state.proofs.Records.Holding.{writer}
 use Rattle.heap_state.proofs.Puts.{some_same}
 use Rattle.heap_laws.specs.Scanning.Claims.{claiming, claim_by_word, BeginningClaimKeeps, LookingAtPlaceKeeps, LookingAtGateKeeps}

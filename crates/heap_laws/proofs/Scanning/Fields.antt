@@ -9,7 +9,7 @@ use Rattle.heap_state.specs.Invariant.Inductive.{Invariant, Knows}
 use Rattle.heap_state.specs.Invariant.Parts.Copying.{IsOrigin, Seeks, Licensed}
 use Rattle.heap_state.specs.Invariant.Parts.Pages.{ScannedBy}
 use Rattle.heap_state.specs.Invariant.Parts.Scanning.{Stepping}
-use Rattle.heap_state.specs.Worker.{Worker, Team, Origin, Scanned, Quest, Copy, Scan, SeenRecord, is_late}
+use Rattle.heap_state.specs.Known.{Known, Team, Origin, Scanned, Quest, Copy, Scan, SeenRecord, is_late}
 use Rattle.heap_state.proofs.Workers.Frames.{counted_put, staffed_put, stocks_put, numbered_put, rooted_put}
 use Rattle.heap_state.proofs.Puts.{put_same, team_put, some_same, none≢some}
 use Rattle.heap_state.specs.Memory.FieldSpan.{next_scanned, next_from}
@@ -23,10 +23,10 @@ use Rattle.heap_laws.proofs.Fields.Cycle.{slot_keeps_cycle}
 use Rattle.heap_laws.proofs.Fields.Slots.{Slot, here_slot, headed_slot, raw_slot, counts_slot, opened_slot, landing_slot, older_slot, new_slot, old_space_slot, stocks_slot, scans_slot, copies_slot, keeps_slot, origin_slot, objects_slot, board_slot, here_field}
 use Rattle.heap_laws.proofs.Copying.Found.{FoundCopy, found_copy}
 use Rattle.heap_laws.proofs.Steps.Learning.{shown_put, scanned_on, learns, learnt}
-use Rattle.heap_laws.proofs.Scanning.GoingOn.{ScanGoesOn, stepping_on, knows_on, goes_on, same_page, no_copy}
+use Rattle.heap_laws.proofs.Scanning.ScanInProgress.{ScanGoesOn, stepping_on, knows_on, goes_on, same_page, no_copy}
 use Rattle.heap_laws.proofs.Scanning.Scanners.{scan_scan}
 use Rattle.heap_laws.proofs.Frames.Values.{pointer_lands}
-use Rattle.heap_laws.proofs.Steps.Rows.{here_below}
+use Rattle.heap_laws.proofs.Steps.RowPlaces.{here_below}
 use Rattle.heap_laws.proofs.Targets.Frames.{made_put, shown_beside}
 
 module _ (E : Era) (m : Memory) (team : Team) (g : Ghost) (k : ℕ) (s : Scan) (out : IsLaidOut E) (inv : Invariant E m team g) (below : k < team.count) (scans : (team.worker k).scan ≡ Some s) (at : AtField E s) where
@@ -135,7 +135,7 @@ module _ (E : Era) (m : Memory) (team : Team) (g : Ghost) (k : ℕ) (s : Scan) (
   abbrev t : Scan
   t = past_word E s
 
-  abbrev w' : Worker
+  abbrev w' : Known
   w' = scanning (team.worker k) (past_word E s)
 
   known : Knows E m.gate m.traced m.front m.low m.old_front m.old_low m.old_owed g m.page m.cross m.announced m.heap k (team.worker k)
@@ -160,7 +160,7 @@ module _ (E : Era) (m : Memory) (team : Team) (g : Ghost) (k : ℕ) (s : Scan) (
   on : ScanGoesOn E m.front g.size g.writer g.kind heap' s t
   on = next E m team g k s out inv ready.member has.scans has.at heap' (rw (put_same m.heap s.cursor v) copy.clean)
 
-  abbrev KnowsNow : ℕ → Worker → Type 0
+  abbrev KnowsNow : ℕ → Known → Type 0
   KnowsNow = Knows E m.gate m.traced m.front m.low m.old_front m.old_low m.old_owed g m.page m.cross m.announced (put m.heap s.cursor v)
 
   others : (j : ℕ) → j < team.count → j ≢ k → KnowsNow j (team.worker j)

@@ -12,7 +12,7 @@ use Rattle.heap_state.specs.Invariant.Parts.Copying.{IsOrigin, Licensed}
 use Rattle.heap_state.specs.Invariant.Parts.Leading.{Opened}
 use Rattle.heap_state.specs.Invariant.Parts.Pages.{Shut, Filling, ScannedBy}
 use Rattle.heap_state.specs.Invariant.Parts.Scanning.{Scans, Stepping}
-use Rattle.heap_state.specs.Worker.{Worker, Team, Origin, Register, Scanned, Copy, Scan, is_late, Quest}
+use Rattle.heap_state.specs.Known.{Known, Team, Origin, Register, Scanned, Copy, Scan, is_late, Quest}
 use Rattle.heap_state.proofs.Records.Holding.{writer}
 use Rattle.heap_state.proofs.Puts.{put_at, put_other, each_put, some_same, none≢some}
 use Rattle.heap_state.specs.Memory.Entries.{PageIs}
@@ -23,7 +23,7 @@ use Rattle.heap_laws.proofs.Frames.PageWords.{Turns, quiet_turns, scans_beside, 
 use Rattle.heap_laws.proofs.Frames.NewPages.{PageTurns}
 use Rattle.heap_laws.proofs.Frames.TurnedPages.{keeps_turned}
 use Rattle.heap_laws.proofs.Scanning.Scanners.{scan_age, open_scan, scan_scan, not_late, here_lies}
-use Rattle.heap_laws.proofs.Steps.Rows.{page_below}
+use Rattle.heap_laws.proofs.Steps.RowPlaces.{page_below}
 
 module _ (E : Era) (m : Memory) (team : Team) (g : Ghost) (k : ℕ) (s : Scan) (ready : Ready E m team g k) (has : HasScanned team k s) where
   abbrev out : IsLaidOut E
@@ -38,7 +38,7 @@ module _ (E : Era) (m : Memory) (team : Team) (g : Ghost) (k : ℕ) (s : Scan) (
   abbrev page' : ℕ → PageWord
   page' = put m.page s.page v
 
-  abbrev w' : Worker
+  abbrev w' : Known
   w' = ends_scan (team.worker k)
 
   me : Knows E m.gate m.traced m.front m.low m.old_front m.old_low m.old_owed g m.page m.cross m.announced m.heap k (team.worker k)
@@ -115,7 +115,7 @@ module _ (E : Era) (m : Memory) (team : Team) (g : Ghost) (k : ℕ) (s : Scan) (
         (cases_eq p s.page);
   }
 
-  abbrev KnowsNow : ℕ → Worker → Type 0
+  abbrev KnowsNow : ℕ → Known → Type 0
   KnowsNow = Knows E m.gate m.traced m.front m.low m.old_front m.old_low m.old_owed g page' m.cross m.announced m.heap
 
   others : (j : ℕ) → j < team.count → j ≢ k → KnowsNow j (team.worker j)

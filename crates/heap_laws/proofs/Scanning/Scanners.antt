@@ -8,7 +8,7 @@ use Rattle.heap_state.specs.Memory.Era.{Era, Memory, IsLaidOut}
 use Rattle.heap_state.specs.Invariant.Ghost.{Ghost, IsField, Here, OnBoard}
 use Rattle.heap_state.specs.Invariant.Inductive.{Invariant}
 use Rattle.heap_state.specs.Invariant.Parts.Pages.{Quiet}
-use Rattle.heap_state.specs.Worker.{Team, Worker, Post, Copy, Scan, is_live, is_behind, is_late}
+use Rattle.heap_state.specs.Known.{Team, Known, Post, Copy, Scan, is_live, is_behind, is_late}
 use Rattle.heap_state.proofs.Records.Holding.{writer}
 use Rattle.heap_state.proofs.Puts.{true_false}
 
@@ -36,7 +36,7 @@ now_not_late e own post now = both (is_live post) (eqb (own + 1) e) (ne_eqb (own
     both true b n = n
     both false b n = refl
 
-pub not_late : (e : ℕ) (w : Worker) {A : Type 0} → w.epoch ≡ e → is_late e w ≡ true → A
+pub not_late : (e : ℕ) (w : Known) {A : Type 0} → w.epoch ≡ e → is_late e w ≡ true → A
 not_late e w now late = true_false (now_not_late e w.epoch w.post now) late
 
 -- ---- who copies

@@ -15,8 +15,8 @@ use Rattle.heap_state.specs.Memory.Era.{Era, Memory, from_space}
 use Rattle.heap_state.specs.Functions.{count_one}
 use Rattle.heap_state.specs.Invariant.Ghost.{Ghost, header_kind}
 use Rattle.heap_state.specs.Invariant.Parts.Knowledge.{Passes}
-use Rattle.heap_state.specs.Worker.{Team, Post, Passage, Enter, Park, Request, Forwarded, Leave, Scan, is_live, is_running, is_late, is_gone, Running, RequestSnap, Clear}
-use Rattle.heap_state.proofs.Records.Headers.{count_there}
+use Rattle.heap_state.specs.Known.{Team, Post, Passage, Enter, Park, Request, Forwarded, Leave, Scan, is_live, is_running, is_late, is_gone, Running, RequestSnap, Clear}
+use Rattle.heap_state.proofs.Records.KindsOfHeaders.{count_there}
 use Rattle.heap_state.proofs.Records.Holding.{First, OwnHeader, KeptBy as KeptByWorker, GoneTo, first, uncopied_here}
 use Rattle.heap_state.proofs.Table.LaidOut.{table_pages, table_in_use, to_space-before}
 use Rattle.heap_state.proofs.Table.Spelled.{spelled}
@@ -27,10 +27,10 @@ use Rattle.heap_laws.specs.Gate.{gate_after}
 use Rattle.heap_laws.specs.Scanning.Words.{IsScanning}
 use Rattle.heap_laws.specs.Steps.{Ready}
 use Rattle.heap_laws.proofs.Flipping.Sums.{sum_below-term, one_of}
-use Rattle.heap_laws.proofs.Gate.Counts.{fits, ones}
-use Rattle.heap_laws.proofs.Steps.Rows.{below_board, here_below}
+use Rattle.heap_laws.proofs.Gate.GateCounts.{fits, ones}
+use Rattle.heap_laws.proofs.Steps.RowPlaces.{below_board, here_below}
 use Rattle.heap_laws.proofs.Scanning.Fields.{here}
-use Rattle.heap_laws.proofs.Scanning.Records.{place, crossing, first_lies, next_lies}
+use Rattle.heap_laws.proofs.Scanning.ScannedRecords.{place, crossing, first_lies, next_lies}
 
 -- ---- an old record
 

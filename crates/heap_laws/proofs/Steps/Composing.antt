@@ -13,7 +13,7 @@ use Rattle.heap_state.specs.Invariant.Inductive.{Invariant, Knows, KnowsAtPages}
 use Rattle.heap_state.specs.Invariant.Parts.Copying.{IsOrigin, Licensed}
 use Rattle.heap_state.specs.Invariant.Parts.Scanning.{Scans, Stepping, Rounds}
 use Rattle.heap_state.specs.Meaning.Values.{Shown}
-use Rattle.heap_state.specs.Worker.{Worker, Team, Account, Quest, Scan, Round, Origin, Register, Scanned, is_mutator, is_flipper, is_late, is_asking}
+use Rattle.heap_state.specs.Known.{Known, Team, Account, Quest, Scan, Round, Origin, Register, Scanned, is_mutator, is_flipper, is_late, is_asking}
 use Rattle.heap_state.proofs.Workers.Frames.{counted_put, staffed_put, stocks_put, numbered_put, rooted_put}
 use Rattle.heap_state.proofs.Puts.{put_same, put_twice, each_put, some_same}
 use Rattle.heap_laws.specs.Cells.Frames.{GoesOnInChain}
@@ -75,7 +75,7 @@ less_rounds : {E : Era} {traced front d : ℕ} {r u : Round} → r.traced ≡ u.
 less_rounds same less p = record { traced_then = rw same p.traced_then; front_then = λ f e n. p.front_then f (less f e) n }
 
 -- what is known of pages is so of a worker of the same epoch that has forgotten some of it
-less_at_pages : {E : Era} {traced front behind : ℕ} {size writer : ℕ → ℕ} {page : ℕ → PageWord} {w v : Worker} → w.epoch ≡ v.epoch → ((r : Round) → w.round ≡ Some r → IsLessRound r v.round) → LessAtPages w v
+less_at_pages : {E : Era} {traced front behind : ℕ} {size writer : ℕ → ℕ} {page : ℕ → PageWord} {w v : Known} → w.epoch ≡ v.epoch → ((r : Round) → w.round ≡ Some r → IsLessRound r v.round) → LessAtPages w v
     → KnowsAtPages E traced front behind size writer page v → KnowsAtPages E traced front behind size writer page w
 less_at_pages same rounds less p = record {
   round = λ r e. let z = rounds r e in rw same (less_rounds z.traced z.front (p.round z.more z.is));
@@ -85,7 +85,7 @@ less_at_pages same rounds less p = record {
 }
 
 -- a worker that knows at most what another knows is right
-module _ (E : Era) (n : Memory) (h : Ghost) (k : ℕ) (w v : Worker) (most : IsAtMost w v)
+module _ (E : Era) (n : Memory) (h : Ghost) (k : ℕ) (w v : Known) (most : IsAtMost w v)
     (me : Knows E n.gate n.traced n.front n.low n.old_front n.old_low n.old_owed h n.page n.cross n.announced n.heap k v) where
   late : is_late E.epoch w ≡ is_late E.epoch v
   late = rw (most.others.post, most.others.epoch) refl
@@ -137,11 +137,11 @@ module _ (E : Era) (n : Memory) (h : Ghost) (k : ℕ) (w v : Worker) (most : IsA
   }
 
 -- the team in which it is the other
-module _ (E : Era) (n : Memory) (team : Team) (h : Ghost) (k : ℕ) (w v : Worker) (most : IsAtMost w v) where
+module _ (E : Era) (n : Memory) (team : Team) (h : Ghost) (k : ℕ) (w v : Known) (most : IsAtMost w v) where
   abbrev before : Team
   before = with_worker team k v
 
-  abbrev KnowsThen : ℕ → Worker → Type 0
+  abbrev KnowsThen : ℕ → Known → Type 0
   KnowsThen = Knows E n.gate n.traced n.front n.low n.old_front n.old_low n.old_owed h n.page n.cross n.announced n.heap
 
   there : before.worker k ≡ v
@@ -153,18 +153,18 @@ module _ (E : Era) (n : Memory) (team : Team) (h : Ghost) (k : ℕ) (w v : Worke
   forgets_invariant : Invariant E n before h → Invariant E n (with_worker team k w) h
   forgets_invariant inv = rw twice at kept
     where
-      same : {X : Type 0} (f : Worker → X) → f w ≡ f v → f w ≡ f (before.worker k)
+      same : {X : Type 0} (f : Known → X) → f w ≡ f v → f w ≡ f (before.worker k)
       same f e = e ∙ ap f (sym there)
 
       on : (u : Scan) → (before.worker k).scan ≡ Some u → (s : Scan) × (w.scan ≡ Some s) × (s.page ≡ u.page)
-      on u e = let z = (within most.scan).has u (ap (λ (x : Worker). x.scan) (sym there) ∙ e) in (z.0, z.1, z.2.page)
+      on u e = let z = (within most.scan).has u (ap (λ (x : Known). x.scan) (sym there) ∙ e) in (z.0, z.1, z.2.page)
 
       kept : Invariant E n (with_worker before k w) h
       kept =
           let p1 = counted_put before.worker k w (same (λ u. u.post) most.others.post) (same (λ u. u.epoch) most.others.epoch) inv.counted in
           let p2 = staffed_put before.worker k w (same (λ u. is_mutator u.post) (ap is_mutator most.others.post)) inv.staffed in
           let p3 = scanned_on before.worker k w on inv.scanned in
-          let p4 = stocks_put before.worker k w (λ q e. ap (λ (u : Worker). u.stock) there ∙ most.hand.stock q e) inv.stocks in
+          let p4 = stocks_put before.worker k w (λ q e. ap (λ (u : Known). u.stock) there ∙ most.hand.stock q e) inv.stocks in
           let p5 = numbered_put before.worker k w (same (λ u. u.account.serial) (ap (λ (a : Account). a.serial) most.others.account)) inv.numbered in
           let p6 : Cells E n (with_worker before k w) h = same_keeps E n n before h h k w (assumption) (assumption) (assumption) goes inv.cells in
           let p7 : (j : ℕ) → j < before.count → KnowsThen j (put before.worker k w j) = λ j l. each_put KnowsThen before.worker k w j (λ d. inv.workers j l) (λ e. rw e (own (rw e at l))) in
@@ -179,19 +179,19 @@ module _ (E : Era) (n : Memory) (team : Team) (h : Ghost) (k : ℕ) (w v : Worke
 
   forgets_shown : (p : Plain) → Shown E n before h p → Shown E n (with_worker team k w) h p
   forgets_shown p s = rw twice at (shown_put E n n before h k w p
-      (most.others.account ∙ ap (λ (u : Worker). u.account) (sym there)) (most.others.registers ∙ ap (λ (u : Worker). u.registers) (sym there))
+      (most.others.account ∙ ap (λ (u : Known). u.account) (sym there)) (most.others.registers ∙ ap (λ (u : Known). u.registers) (sym there))
       refl refl refl (λ e. e) s)
 
   forgets_cycle : (p : Plain) → Cycle E n before h p → Cycle E n (with_worker team k w) h p
   forgets_cycle p c = record {
     copying = c.copying;
     rooted = rw twice at (rooted_put before.worker k w
-        (ap is_mutator most.others.post ∙ ap (λ (u : Worker). is_mutator u.post) (sym there))
-        (most.others.account ∙ ap (λ (u : Worker). u.account) (sym there))
-        (most.others.registers ∙ ap (λ (u : Worker). u.registers) (sym there))
+        (ap is_mutator most.others.post ∙ ap (λ (u : Known). is_mutator u.post) (sym there))
+        (most.others.account ∙ ap (λ (u : Known). u.account) (sym there))
+        (most.others.registers ∙ ap (λ (u : Known). u.registers) (sym there))
         (λ _ _ a b. let a' : is_late E.epoch v ≡ true = rw there at a in (rw (most.others.post, most.others.epoch) a', let b' = rw there at b in rw most.others.done b'))
         c.rooted);
-    made = rw twice at (made_put before.worker k w (ap (λ (a : Account). a.serial) most.others.account ∙ ap (λ (u : Worker). u.account.serial) (sym there)) c.made);
+    made = rw twice at (made_put before.worker k w (ap (λ (a : Account). a.serial) most.others.account ∙ ap (λ (u : Known). u.account.serial) (sym there)) c.made);
   }
 
 pub steps_forget : StepsForget
@@ -236,7 +236,7 @@ plain_steps_are_ready E m team g k e v h q ready s = record { laid_out = ready.l
 record KeepsOn (E : Era) (n : Memory) (team after : Team) (h i : Ghost) : Type 0 where
   keeps : Preserves E n n team after h i
 
-keeps_on : {E : Era} {n : Memory} {team : Team} {h : Ghost} {k : ℕ} {e : Option Entry} {w : Worker} {i : Ghost} → e ≡ None → (s : Steps E n team h k e w i) → KeepsOn E n team (with_worker team k w) h i
+keeps_on : {E : Era} {n : Memory} {team : Team} {h : Ghost} {k : ℕ} {e : Option Entry} {w : Known} {i : Ghost} → e ≡ None → (s : Steps E n team h k e w i) → KeepsOn E n team (with_worker team k w) h i
 keeps_on {E} {n} {team} {h} {k} {e} {w} {i} none s = by_row e s.later s.writes none s.keeps
   where
     by_row : (e : Option Entry) (later : Memory) → WritesRow E n e later → e ≡ None → Preserves E n later team (with_worker team k w) h i → KeepsOn E n team (with_worker team k w) h i

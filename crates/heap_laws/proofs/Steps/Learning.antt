@@ -12,7 +12,7 @@ use Rattle.heap_state.specs.Invariant.Parts.Copying.{Copies}
 use Rattle.heap_state.specs.Invariant.Parts.Crossing.{Crossing}
 use Rattle.heap_state.specs.Invariant.Parts.Pages.{ScannedBy}
 use Rattle.heap_state.specs.Meaning.Values.{Shown, TargetsShow}
-use Rattle.heap_state.specs.Worker.{Worker, Team, Copy, Scan, is_mutator}
+use Rattle.heap_state.specs.Known.{Known, Team, Copy, Scan, is_mutator}
 use Rattle.heap_state.proofs.Workers.Frames.{counted_put, staffed_put, stocks_put, numbered_put, accounts_put, registers_put, rooted_put}
 use Rattle.heap_state.proofs.Puts.{put_at, put_other, team_put}
 use Rattle.heap_laws.specs.Steps.{with_worker, NoRow, SameInChain, Steps, Preserves}
@@ -20,7 +20,7 @@ use Rattle.heap_laws.proofs.Cells.Kept.{same_keeps, still_in_chain}
 use Rattle.heap_laws.proofs.Targets.Frames.{made_put, shown_by_heap}
 
 -- what is shown by the same words is shown by the team after the change, if targets still show it
-pub shown_put_with : (E : Era) (m n : Memory) (team : Team) (g : Ghost) (k : ℕ) (w : Worker) (p : plain.Plain)
+pub shown_put_with : (E : Era) (m n : Memory) (team : Team) (g : Ghost) (k : ℕ) (w : Known) (p : plain.Plain)
     → w.account ≡ (team.worker k).account → w.registers ≡ (team.worker k).registers → n.heap ≡ m.heap → TargetsShow E n g p.heap
     → Shown E m team g p → Shown E n (with_worker team k w) g p
 shown_put_with E m n team g k w p account registers heap targets s = record {
@@ -34,14 +34,14 @@ shown_put_with E m n team g k w p account registers heap targets s = record {
 }
 
 -- they do if TRACED and FRONT are the same, and a turn that is taken stays taken
-pub shown_put : (E : Era) (m n : Memory) (team : Team) (g : Ghost) (k : ℕ) (w : Worker) (p : plain.Plain)
+pub shown_put : (E : Era) (m n : Memory) (team : Team) (g : Ghost) (k : ℕ) (w : Known) (p : plain.Plain)
     → w.account ≡ (team.worker k).account → w.registers ≡ (team.worker k).registers → n.heap ≡ m.heap → n.traced ≡ m.traced → n.front ≡ m.front
     → (m.weak_turn ≡ E.epoch + 1 → n.weak_turn ≡ E.epoch + 1) → Shown E m team g p → Shown E n (with_worker team k w) g p
 shown_put E m n team g k w p account registers heap traced front turn s =
     shown_put_with E m n team g k w p account registers heap (shown_by_heap E m n g traced front turn p.heap heap s.targets) s
 
 -- a page's scanner goes on with the same page, or no worker's scan changes
-pub scanned_on : {E : Era} {count : ℕ} {page : ℕ → PageWord} (worker : ℕ → Worker) (k : ℕ) (w : Worker)
+pub scanned_on : {E : Era} {count : ℕ} {page : ℕ → PageWord} (worker : ℕ → Known) (k : ℕ) (w : Known)
     → ((s : Scan) → (worker k).scan ≡ Some s → (t : Scan) × (w.scan ≡ Some t) × (t.page ≡ s.page)) → ScannedBy E count page worker → ScannedBy E count page (put worker k w)
 scanned_on {E} {count} {page} worker k w on s = record {
   scanned = λ p j e. let q = s.scanned p j e in (
@@ -57,7 +57,7 @@ scanned_on {E} {count} {page} worker k w on s = record {
     here j y p r e f = let z : (worker k).scan ≡ Some r = rw y at e in let t = on r z in (t.0, ap (λ u. u.scan) (put_at worker k w j y) ∙ t.1, t.2 ∙ f)
 
 -- w stands at the post of worker k in the same epoch, with the same account, registers and stock, and has forwarded as many registers
-pub record StandsThere (worker : ℕ → Worker) (k : ℕ) (w : Worker) : Type 0 where
+pub record StandsThere (worker : ℕ → Known) (k : ℕ) (w : Known) : Type 0 where
   pub post : w.post ≡ (worker k).post
   pub epoch : w.epoch ≡ (worker k).epoch
   pub account : w.account ≡ (worker k).account
@@ -66,7 +66,7 @@ pub record StandsThere (worker : ℕ → Worker) (k : ℕ) (w : Worker) : Type 0
   pub stock : w.stock ≡ (worker k).stock
 
 -- w stands so, and has the same part in the chain of copied cells
-pub record StandsAlike (worker : ℕ → Worker) (k : ℕ) (w : Worker) : Type 0 where
+pub record StandsAlike (worker : ℕ → Known) (k : ℕ) (w : Known) : Type 0 where
   pub post : w.post ≡ (worker k).post
   pub epoch : w.epoch ≡ (worker k).epoch
   pub account : w.account ≡ (worker k).account
@@ -76,14 +76,14 @@ pub record StandsAlike (worker : ℕ → Worker) (k : ℕ) (w : Worker) : Type 0
   pub chain : SameInChain w (worker k)
 
 -- w scans the page that worker k scans, if it does
-abbrev pub ScansOn : (worker : ℕ → Worker) (k : ℕ) (w : Worker) → Type 0
+abbrev pub ScansOn : (worker : ℕ → Known) (k : ℕ) (w : Known) → Type 0
 ScansOn worker k w = (s : Scan) → (worker k).scan ≡ Some s → (t : Scan) × (w.scan ≡ Some t) × (t.page ≡ s.page)
 
 -- the memory with other crossings and announced places, and with other words in WEAK and WEAKTURN
 abbrev pub marked : Memory → (crossed claimed : ℕ → ℕ) (weak turn : ℕ) → Memory
 marked m crossed claimed weak turn = record m { cross = crossed; announced = claimed; weak = weak; weak_turn = turn }
 
-module _ (E : Era) (m : Memory) (team : Team) (g : Ghost) (k : ℕ) (w : Worker) (inv : Invariant E m team g) (like : StandsThere team.worker k w) (on : ScansOn team.worker k w)
+module _ (E : Era) (m : Memory) (team : Team) (g : Ghost) (k : ℕ) (w : Known) (inv : Invariant E m team g) (like : StandsThere team.worker k w) (on : ScansOn team.worker k w)
     (crossed claimed : ℕ → ℕ) (weak turn : ℕ) (taken : m.weak_turn ≡ E.epoch + 1 → turn ≡ E.epoch + 1)
     (cells : Cells E (marked m crossed claimed weak turn) (with_worker team k w) g) (crossing : Crossing E m.front g.size g.writer crossed)
     (others : (j : ℕ) (c : Copy) → j < team.count → j ≢ k → (team.worker j).copy ≡ Some c
@@ -115,14 +115,14 @@ module _ (E : Era) (m : Memory) (team : Team) (g : Ghost) (k : ℕ) (w : Worker)
   }
 
 -- WEAK and WEAKTURN are others, where a turn that is taken stays taken and the cells are right
-pub links : (E : Era) (m : Memory) (team : Team) (g : Ghost) (k : ℕ) (w : Worker) → Invariant E m team g → StandsThere team.worker k w → ScansOn team.worker k w → (weak turn : ℕ)
+pub links : (E : Era) (m : Memory) (team : Team) (g : Ghost) (k : ℕ) (w : Known) → Invariant E m team g → StandsThere team.worker k w → ScansOn team.worker k w → (weak turn : ℕ)
     → (m.weak_turn ≡ E.epoch + 1 → turn ≡ E.epoch + 1) → Cells E (record m { weak = weak; weak_turn = turn }) (with_worker team k w) g
     → Knows E m.gate m.traced m.front m.low m.old_front m.old_low m.old_owed g m.page m.cross m.announced m.heap k w
     → Preserves E m (record m { weak = weak; weak_turn = turn }) team (with_worker team k w) g g
 links E m team g k w inv like on weak turn taken cells own =
     marks_all E m team g k w inv like on m.cross m.announced weak turn taken cells inv.crossing (λ j c l d e. (inv.workers j l).copy c e) own
 
-module _ (E : Era) (m : Memory) (team : Team) (g : Ghost) (k : ℕ) (w : Worker) (inv : Invariant E m team g) (like : StandsAlike team.worker k w) (on : ScansOn team.worker k w) where
+module _ (E : Era) (m : Memory) (team : Team) (g : Ghost) (k : ℕ) (w : Known) (inv : Invariant E m team g) (like : StandsAlike team.worker k w) (on : ScansOn team.worker k w) where
   -- with other crossings and announced places
   module _ (crossed claimed : ℕ → ℕ) (crossing : Crossing E m.front g.size g.writer crossed)
       (others : (j : ℕ) (c : Copy) → j < team.count → j ≢ k → (team.worker j).copy ≡ Some c
@@ -139,5 +139,5 @@ module _ (E : Era) (m : Memory) (team : Team) (g : Ghost) (k : ℕ) (w : Worker)
   learns own = marks m.cross m.announced inv.crossing (λ j c l d e. (inv.workers j l).copy c e) own
 
 -- a step that writes no row
-pub learnt : {E : Era} {m : Memory} {team : Team} {g : Ghost} {k : ℕ} {w : Worker} → Preserves E m m team (with_worker team k w) g g → Steps E m team g k None w g
+pub learnt : {E : Era} {m : Memory} {team : Team} {g : Ghost} {k : ℕ} {w : Known} → Preserves E m m team (with_worker team k w) g g → Steps E m team g k None w g
 learnt {m = m} keeps = record { later = m; writes = NoRow; keeps = keeps }

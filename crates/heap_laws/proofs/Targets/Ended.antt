@@ -6,7 +6,7 @@ use Rattle.heap_state.specs.Memory.Era.{Era, Memory, IsLaidOut}
 use Rattle.heap_state.specs.Invariant.Ghost.{Ghost, Leads}
 use Rattle.heap_state.specs.Invariant.Inductive.{Knows}
 use Rattle.heap_state.specs.Targets.{IsCell, Targets}
-use Rattle.heap_state.specs.Worker.{Team, Reset}
+use Rattle.heap_state.specs.Known.{Team, Reset}
 use Rattle.heap_state.proofs.Workers.Posts.{flips_ask}
 use Rattle.heap_laws.specs.Flipping.Flip.{next_era, next_memory, next_ghost}
 use Rattle.heap_laws.specs.Flipping.Sizes.{sized_era}
@@ -14,8 +14,8 @@ use Rattle.heap_laws.specs.Steps.{Ready}
 use Rattle.heap_laws.specs.Targets.Flips.{SizesCarryTargets, FlippingCarriesTargets}
 use Rattle.heap_laws.proofs.Flipping.Sums.{stood, inside}
 use Rattle.heap_laws.proofs.Targets.Carried.{cell_of, leads_at, led}
-use Rattle.heap_laws.proofs.Targets.Traced.{leads_inside}
-use Rattle.heap_laws.proofs.Tracing.Traced.{leads_nowhere}
+use Rattle.heap_laws.proofs.Targets.TracedTargets.{leads_inside}
+use Rattle.heap_laws.proofs.Tracing.TracedExchange.{leads_nowhere}
 
 module _ (E : Era) (m : Memory) (team : Team) (g : Ghost) (k : ℕ) (z : Reset) (ready : Ready E m team g k) (has : (team.worker k).reset ≡ Some z) (t : Targets E m g) where
   me : Knows E m.gate m.traced m.front m.low m.old_front m.old_low m.old_owed g m.page m.cross m.announced m.heap k (team.worker k)

@@ -9,7 +9,7 @@ use Rattle.heap_state.specs.Functions.{put}
 use Rattle.heap_state.specs.Memory.Era.{Era, Memory}
 use Rattle.heap_state.specs.Invariant.Ghost.{Ghost}
 use Rattle.heap_state.specs.Meaning.Values.{IsShownCell, MayBeEmptied, TargetsShow, value_of}
-use Rattle.heap_state.specs.Worker.{Worker}
+use Rattle.heap_state.specs.Known.{Known}
 use Rattle.heap_state.proofs.Puts.{proj_put, put_other}
 use Rattle.heap_laws.specs.Steps.{with_word}
 use Rattle.heap_laws.specs.Targets.Frames.{IsNoTarget}
@@ -72,6 +72,6 @@ shown_of_others E m g records others values t = record { shows = λ a v cell is.
 -- ---- what was made since the flip
 
 -- a worker that has made as many records
-pub made_put : {E : Era} {low mutators : ℕ} {size : ℕ → ℕ} {identity : ℕ → Identity} {p : plain.Plain} (worker : ℕ → Worker) (k : ℕ) (w : Worker)
+pub made_put : {E : Era} {low mutators : ℕ} {size : ℕ → ℕ} {identity : ℕ → Identity} {p : plain.Plain} (worker : ℕ → Known) (k : ℕ) (w : Known)
     → w.account.serial ≡ (worker k).account.serial → MadeSince E low mutators size identity worker p → MadeSince E low mutators size identity (put worker k w) p
 made_put worker k w serial s = record { new = s.new; grown = λ j l. rw (proj_put (λ u. u.account.serial) worker k w j serial) (s.grown j l) }

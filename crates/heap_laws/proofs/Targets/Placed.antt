@@ -9,19 +9,19 @@ use Rattle.heap_state.specs.Memory.Era.{Era, Memory}
 use Rattle.heap_state.specs.Invariant.Ghost.{Ghost, Leads, Lands}
 use Rattle.heap_state.specs.Invariant.Parts.Stocks.{Stocked}
 use Rattle.heap_state.specs.Targets.{IsCell, Targets}
-use Rattle.heap_state.specs.Worker.{Team, Stock}
+use Rattle.heap_state.specs.Known.{Team, Stock}
 use Rattle.heap_state.proofs.Puts.{put_at, put_other, each_put}
 use Rattle.heap_laws.specs.Allocation.Records.{PlacesNext, allocated, next_identity}
 use Rattle.heap_laws.specs.Allocation.Stocks.{HasRoomForPages, lowered}
 use Rattle.heap_laws.specs.Fields.Held.{MayHold}
 use Rattle.heap_laws.specs.Steps.{Ready, IsAreaNow}
 use Rattle.heap_laws.specs.Targets.Records.{ClaimingCarriesTargets, MayBeTarget, PlacingCarriesTargets, NewTargetsAreStored}
-use Rattle.heap_laws.proofs.Allocation.Stocks.{target_ahead}
+use Rattle.heap_laws.proofs.Allocation.StockPages.Stocks.{target_ahead}
 use Rattle.heap_laws.proofs.Cells.Placed.{some_values}
-use Rattle.heap_laws.proofs.Cells.Rows.{StoresWord, stores_word, StoresArea, stores_area}
+use Rattle.heap_laws.proofs.Cells.ChainRows.{StoresWord, stores_word, StoresArea, stores_area}
 use Rattle.heap_laws.proofs.Frames.Values.{zero_clean, zero_lands}
 use Rattle.heap_laws.proofs.Targets.Carried.{carried, cell_of, copied_cell, lands_still}
-use Rattle.heap_laws.proofs.Targets.Rows.{no_target_words}
+use Rattle.heap_laws.proofs.Targets.TargetRows.{no_target_words}
 
 -- ---- pages are claimed
 

@@ -8,15 +8,15 @@ use Rattle.heap_state.specs.Invariant.Ghost.{Ghost, Lands}
 use Rattle.heap_state.specs.Invariant.Inductive.{Invariant}
 use Rattle.heap_state.specs.Invariant.Parts.Copying.{Copies}
 use Rattle.heap_state.specs.Targets.{IsCell, IsOld, Targets}
-use Rattle.heap_state.specs.Worker.{Team, Copy}
+use Rattle.heap_state.specs.Known.{Team, Copy}
 use Rattle.heap_state.proofs.Puts.{put_other, each_put}
 use Rattle.heap_laws.specs.Copying.{published}
 use Rattle.heap_laws.specs.Steps.{Ready}
 use Rattle.heap_laws.specs.Targets.Copies.{PublishingCarriesTargets}
-use Rattle.heap_laws.proofs.Cells.Rows.{StoresWord, stores_word}
+use Rattle.heap_laws.proofs.Cells.ChainRows.{StoresWord, stores_word}
 use Rattle.heap_laws.proofs.Copying.Room.{untraced}
 use Rattle.heap_laws.proofs.Targets.Carried.{cell_of, copied_cell, lands_still, lands_at}
-use Rattle.heap_laws.proofs.Targets.Rows.{no_target_words}
+use Rattle.heap_laws.proofs.Targets.TargetRows.{no_target_words}
 
 module _ (E : Era) (m later : Memory) (weak turn : ℕ) (team : Team) (g : Ghost) (r : Ranks) (k : ℕ) (c : Copy) (v : ℕ) (ready : Ready E m team g k) (has : (team.worker k).copy ≡ Some c) (res : c.reserved ≡ true)
     (whole : c.done ≡ c.size) (s : StoresWord m later c.from v) (chain : Chain E m weak turn team g r) (t : Targets E m g) where

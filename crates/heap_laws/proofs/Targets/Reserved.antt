@@ -5,12 +5,12 @@ use Rattle.heap_state.specs.Memory.Era.{Era, Memory}
 use Rattle.heap_state.specs.Invariant.Ghost.{Ghost}
 use Rattle.heap_state.specs.Invariant.Inductive.{Invariant}
 use Rattle.heap_state.specs.Targets.{IsCell, Targets}
-use Rattle.heap_state.specs.Worker.{Team, Copy}
+use Rattle.heap_state.specs.Known.{Team, Copy}
 use Rattle.heap_state.proofs.Puts.{put_at, put_other, each_put}
 use Rattle.heap_laws.specs.Copying.{reserved, moved_by}
 use Rattle.heap_laws.specs.Steps.{Ready, IsAreaNow}
 use Rattle.heap_laws.specs.Targets.Copies.{ReservationsCarryTargets}
-use Rattle.heap_laws.proofs.Cells.Rows.{StoresArea, stores_area}
+use Rattle.heap_laws.proofs.Cells.ChainRows.{StoresArea, stores_area}
 use Rattle.heap_laws.proofs.Copying.Room.{copies_have_room}
 use Rattle.heap_laws.proofs.Targets.Carried.{carried, cell_of}
 

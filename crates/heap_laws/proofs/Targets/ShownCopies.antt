@@ -9,11 +9,11 @@ use Rattle.heap_state.specs.Invariant.Ghost.{Ghost, Lands}
 use Rattle.heap_state.specs.Invariant.Parts.Leading.{Older}
 use Rattle.heap_state.specs.Meaning.Values.{IsShownCell, MayBeEmptied, TargetsShow}
 use Rattle.heap_state.specs.Targets.{IsCell, Targets}
-use Rattle.heap_state.specs.Worker.{Team, Copy}
+use Rattle.heap_state.specs.Known.{Team, Copy}
 use Rattle.heap_state.proofs.Puts.{put_at, put_other}
 use Rattle.heap_laws.specs.Copying.{reserved, taken}
 use Rattle.heap_laws.specs.Steps.{Ready, with_area}
-use Rattle.heap_laws.proofs.Cells.Parts.{no_walker}
+use Rattle.heap_laws.proofs.Cells.ChainParts.{no_walker}
 use Rattle.heap_laws.proofs.Copying.Reservation.{Reservation, was, was_written, written_new, value_reserved}
 use Rattle.heap_laws.proofs.Targets.Carried.{lands_at}
 use Rattle.heap_laws.proofs.Targets.Frames.{carried_shown}

@@ -13,7 +13,7 @@ use Rattle.plain_state.specs.Writing.{with_value}
 use Rattle.heap_state.specs.Invariant.Ghost.{Ghost}
 use Rattle.heap_state.specs.Meaning.Values.{Accounts, Shown, ShowsAll, Shows, TargetsShow, value_of}
 use Rattle.heap_state.specs.Memory.Era.{Era, Memory}
-use Rattle.heap_state.specs.Worker.{Account, Team, Worker}
+use Rattle.heap_state.specs.Known.{Account, Team, Known}
 use Rattle.heap_state.proofs.Workers.Frames.{accounts_put, registers_put}
 use Rattle.heap_laws.specs.Steps.{with_traced, with_worker}
 use Rattle.heap_laws.specs.Tracing.{FollowsTargets}
@@ -79,7 +79,7 @@ module _ (E : Era) (m : Memory) (team : Team) (g : Ghost) (p q : plain.Plain) (f
   }
 
   -- TRACED is exchanged by worker k
-  pub shown_traced : (k : ℕ) (w : Worker) → w.account ≡ (team.worker k).account → w.registers ≡ (team.worker k).registers
+  pub shown_traced : (k : ℕ) (w : Known) → w.account ≡ (team.worker k).account → w.registers ≡ (team.worker k).registers
       → Shown E (with_traced m (E.epoch + 1)) (with_worker team k w) g q
   shown_traced k w same registers = record {
     objects = objects;

@@ -8,7 +8,7 @@ use Rattle.heap_state.specs.Memory.Era.{Era, Memory}
 use Rattle.heap_state.specs.Invariant.Ghost.{Ghost}
 use Rattle.heap_state.specs.Meaning.Values.{IsShownCell, MayBeEmptied, TargetsShow, value_of}
 use Rattle.heap_state.specs.Targets.{IsCell}
-use Rattle.heap_state.specs.Worker.{Team, Quest, Copy, Linking}
+use Rattle.heap_state.specs.Known.{Team, Quest, Copy, Linking}
 use Rattle.heap_state.proofs.Puts.{put_at, put_other}
 use Rattle.heap_laws.specs.Copying.{published}
 use Rattle.heap_laws.specs.Steps.{with_word}

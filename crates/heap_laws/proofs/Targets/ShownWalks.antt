@@ -12,7 +12,7 @@ use Rattle.heap_state.specs.Invariant.Ghost.{Ghost}
 use Rattle.heap_state.specs.Invariant.Inductive.{Invariant}
 use Rattle.heap_state.specs.Meaning.Values.{IsShownCell, MayBeEmptied, TargetsShow, value_of}
 use Rattle.heap_state.specs.Targets.{IsCopied}
-use Rattle.heap_state.specs.Worker.{Team, Visit, At}
+use Rattle.heap_state.specs.Known.{Team, Visit, At}
 use Rattle.heap_state.proofs.Puts.{put_at, put_other, some_same}
 use Rattle.heap_laws.specs.Steps.{Ready, with_word}
 use Rattle.heap_laws.proofs.Frames.Values.{value_from_pointer}

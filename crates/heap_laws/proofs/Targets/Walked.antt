@@ -6,14 +6,14 @@ use Rattle.heap_state.specs.Cells.{Ranks, IsCopiedCell, TargetsOld, ReplacesTarg
 use Rattle.heap_state.specs.Memory.Era.{Era, Memory}
 use Rattle.heap_state.specs.Invariant.Ghost.{Ghost, Lands}
 use Rattle.heap_state.specs.Targets.{Targets}
-use Rattle.heap_state.specs.Worker.{Team, Visit, At, Done}
+use Rattle.heap_state.specs.Known.{Team, Visit, At, Done}
 use Rattle.heap_state.proofs.Puts.{put_at, put_other}
 use Rattle.heap_state.proofs.Records.Holding.{writer}
 use Rattle.heap_laws.specs.Cells.Walks.{IsWalked}
 use Rattle.heap_laws.specs.Steps.{Ready, with_traced}
 use Rattle.heap_laws.specs.Targets.Walks.{TargetIsFound, TargetsAreFound, ReplacingCarriesTargets, TracingCarriesTargets}
-use Rattle.heap_laws.proofs.Cells.Parts.{none_copies}
-use Rattle.heap_laws.proofs.Cells.Rows.{StoresWord, stores_word}
+use Rattle.heap_laws.proofs.Cells.ChainParts.{none_copies}
+use Rattle.heap_laws.proofs.Cells.ChainRows.{StoresWord, stores_word}
 use Rattle.heap_laws.proofs.Cells.Turned.{walked, traced_memory}
 use Rattle.heap_laws.proofs.Frames.Values.{pointer_same}
 use Rattle.heap_laws.proofs.Targets.Carried.{cell_of, lands_at, landed}

@@ -11,12 +11,12 @@ use Rattle.heap_state.specs.Cycles.Cycle.{Cycle, RootLeads, ByBoard, ByRegister,
 use Rattle.heap_state.specs.Memory.Era.{Era, Memory, IsLaidOut}
 use Rattle.heap_state.specs.Invariant.Ghost.{Ghost}
 use Rattle.heap_state.specs.Invariant.Inductive.{Invariant}
-use Rattle.heap_state.specs.Worker.{Team}
+use Rattle.heap_state.specs.Known.{Team}
 use Rattle.heap_state.proofs.Puts.{some_same}
 use Rattle.heap_state.proofs.Records.Layouts.{values_behind_header}
 use Rattle.heap_state.specs.Targets.{IsCopied}
 use Rattle.heap_laws.specs.Tracing.{NothingLeads, CopiesReachable}
-use Rattle.heap_laws.proofs.Tracing.Traced.{leads_nowhere}
+use Rattle.heap_laws.proofs.Tracing.TracedExchange.{leads_nowhere}
 use Rattle.heap_laws.proofs.Frames.Values.{board_here, field_here, still_leads}
 
 module _ (E : Era) (m : Memory) (team : Team) (g : Ghost) (p : plain.Plain) (out : IsLaidOut E) (inv : Invariant E m team g) (cy : Cycle E m team g p) (traced : m.traced ≡ E.epoch + 1) where

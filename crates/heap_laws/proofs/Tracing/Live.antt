@@ -18,12 +18,12 @@ use Rattle.heap_state.specs.Theorems.Standing.{StandsInCycle}
 use Rattle.heap_state.specs.Memory.Walk.{Walked}
 use Rattle.heap_state.proofs.Table.LaidOut.{laid_out}
 use Rattle.heap_state.proofs.Walks.CopiedIdentities.{copy_named}
-use Rattle.heap_state.proofs.Walks.Copies.{copied_total, copied_once, copied_sound, copied_complete}
+use Rattle.heap_state.proofs.Walks.WalksBelowFront.{copied_total, copied_once, copied_sound, copied_complete}
 use Rattle.heap_state.proofs.Walks.Walking.{IsItem, item}
 use Rattle.heap_laws.specs.Flipping.Live.{TracedIsLive}
 use Rattle.heap_laws.specs.Tracing.{NothingLeads, CopiesReachable}
 use Rattle.heap_laws.proofs.Tracing.Copied.{copies_reachable}
-use Rattle.heap_laws.proofs.Tracing.Traced.{leads_nowhere}
+use Rattle.heap_laws.proofs.Tracing.TracedExchange.{leads_nowhere}
 use Rattle.heap_state.specs.Memory.Table.{IsFormed}
 use Rattle.heap_state.specs.Targets.{IsCopied}
 

@@ -17,7 +17,7 @@ use Rattle.heap_state.specs.Invariant.Ghost.{Ghost}
 use Rattle.heap_state.specs.Invariant.Inductive.{Invariant}
 use Rattle.heap_state.specs.Meaning.Values.{MayBeEmptied, Shown, value_of}
 use Rattle.heap_state.specs.Targets.{IsCell, IsCopied}
-use Rattle.heap_state.specs.Worker.{Team, LastLook}
+use Rattle.heap_state.specs.Known.{Team, LastLook}
 use Rattle.heap_state.proofs.Puts.{none≢some, some_same}
 use Rattle.heap_laws.specs.Cells.Walks.{IsWalked}
 use Rattle.heap_laws.specs.Steps.{Ready, with_traced, with_worker}
@@ -26,7 +26,7 @@ use Rattle.heap_laws.proofs.Cells.Turned.{walk_is_done}
 use Rattle.heap_laws.proofs.Frames.Values.{pointer_from_value}
 use Rattle.heap_laws.proofs.Targets.Carried.{copied_cell, landed, leads_at}
 use Rattle.heap_laws.proofs.Tracing.Copied.{copies_reachable}
-use Rattle.heap_laws.proofs.Tracing.Traced.{cycle, invariant}
+use Rattle.heap_laws.proofs.Tracing.TracedExchange.{cycle, invariant}
 
 -- a cell of three words has a value
 pub cell_has_value : (heap : Heap) (i : Identity) (r : Record) → record_of heap i ≡ Some r → r.kind ≡ Weak → size_of r ≡ 3 → (u : Value) × (cell_of heap i ≡ Some u)

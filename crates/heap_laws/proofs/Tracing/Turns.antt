@@ -4,7 +4,7 @@ use Rattle.heap_state.specs.Invariant.Parts.Cells.{Cells}
 use Rattle.heap_state.specs.Memory.Entries.{WeakTurnIs}
 use Rattle.heap_state.specs.Memory.Era.{Era, Memory}
 use Rattle.heap_state.specs.Invariant.Ghost.{Ghost}
-use Rattle.heap_state.specs.Worker.{Worker, Team, LastLook}
+use Rattle.heap_state.specs.Known.{Known, Team, LastLook}
 use Rattle.heap_laws.specs.Steps.{Ready, Steps, InWeakTurn, with_worker, with_weak_turn}
 use Rattle.heap_laws.specs.Tracing.{has_turn, TurnsAreTaken}
 use Rattle.heap_laws.proofs.Cells.Kept.{targets_stay}
@@ -16,7 +16,7 @@ module _ (E : Era) (m : Memory) (team : Team) (g : Ghost) (k : ℕ) (l : LastLoo
   abbrev turn : ℕ
   turn = (team.worker k).epoch + 1
 
-  abbrev next : Worker
+  abbrev next : Known
   next = has_turn (team.worker k)
 
   cells : Cells E (with_weak_turn m turn) (with_worker team k next) g

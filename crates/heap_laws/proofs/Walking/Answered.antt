@@ -5,13 +5,13 @@ use Rattle.heap_state.specs.Cells.{IsCopiedCell, LeadsToRank, Linked, TargetsOld
 use Rattle.heap_state.specs.Invariant.Parts.Cells.{Cells}
 use Rattle.heap_state.specs.Memory.Era.{Era, Memory}
 use Rattle.heap_state.specs.Invariant.Ghost.{Ghost, header_kind}
-use Rattle.heap_state.specs.Worker.{Team, Visit, Pass, Begins, At}
+use Rattle.heap_state.specs.Known.{Team, Visit, Pass, Begins, At}
 use Rattle.heap_state.proofs.Records.Holding.{First, OwnHeader, KeptBy, GoneTo, first, keeper}
 use Rattle.heap_laws.specs.Answers.{LeadsToCell, SettledHeader, NotCopied, CopiedTo, WalkAnswers, WalksAreAnswered, ChainsAreAnswered}
 use Rattle.heap_laws.specs.Steps.{Ready}
-use Rattle.heap_laws.proofs.Cells.Parts.{none_copies}
+use Rattle.heap_laws.proofs.Cells.ChainParts.{none_copies}
 use Rattle.heap_laws.proofs.Cells.Short.{chain_is_short}
-use Rattle.heap_laws.proofs.Steps.Rows.{below_board}
+use Rattle.heap_laws.proofs.Steps.RowPlaces.{below_board}
 
 -- ---- while one walks
 

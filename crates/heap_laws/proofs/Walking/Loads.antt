@@ -4,7 +4,7 @@ use Rattle.heap_state.specs.Cells.{TargetsOld, ReplacesTarget, Chain}
 use Rattle.heap_state.specs.Invariant.Parts.Cells.{Cells}
 use Rattle.heap_state.specs.Memory.Era.{Era, Memory}
 use Rattle.heap_state.specs.Invariant.Ghost.{Ghost}
-use Rattle.heap_state.specs.Worker.{Worker, Team, Visit, Pass, Begins, At}
+use Rattle.heap_state.specs.Known.{Known, Team, Visit, Pass, Begins, At}
 use Rattle.heap_laws.specs.Cells.Walks.{SameBesidePass, FindsTarget, HeaderReplaces, passed, replacing}
 use Rattle.heap_laws.specs.Steps.{Ready, NoRow, Steps, with_worker}
 use Rattle.heap_laws.specs.Walking.{walking, IsAtTarget, WalksBegin, WalksGoOn, TargetsStay, TargetsLeadOut, CopiesReplaceTargets, NothingReplacesTargets}
@@ -14,7 +14,7 @@ use Rattle.heap_laws.proofs.Steps.Learning.{links, learnt}
 use Rattle.heap_laws.proofs.Targets.Walked.{targets_are_found}
 
 -- but for its walk, the worker is as it was
-pub same_beside : (w : Worker) (q : Pass) → SameBesidePass (walking w q) w
+pub same_beside : (w : Known) (q : Pass) → SameBesidePass (walking w q) w
 same_beside w q = record { post = refl; epoch = refl; scan = refl; asked = λ y. y; last_look = refl; reset = refl; linking = refl }
 
 -- what the walker knows changes, where the chain stands after it
@@ -22,7 +22,7 @@ module _ (E : Era) (m : Memory) (team : Team) (g : Ghost) (k : ℕ) (ready : Rea
   abbrev cells : Cells E m team g
   cells = ready.invariant.cells
 
-  abbrev then : Pass → Worker
+  abbrev then : Pass → Known
   then q = walking (team.worker k) q
 
   learns_of_chain : (q : Pass) → Chain E m m.weak m.weak_turn (with_worker team k (then q)) g cells.ranks → Steps E m team g k None (then q) g

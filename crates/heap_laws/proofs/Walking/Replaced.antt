@@ -5,13 +5,13 @@ use Rattle.heap_state.specs.Invariant.Parts.Cells.{Cells}
 use Rattle.heap_state.specs.Memory.Entries.{WordIs}
 use Rattle.heap_state.specs.Memory.Era.{Era, Memory}
 use Rattle.heap_state.specs.Invariant.Ghost.{Ghost}
-use Rattle.heap_state.specs.Worker.{Worker, Team, Visit, At}
+use Rattle.heap_state.specs.Known.{Known, Team, Visit, At}
 use Rattle.heap_laws.specs.Cells.Walks.{passed}
 use Rattle.heap_laws.specs.Steps.{Ready, WritesRow, InWord, Steps, with_word, with_worker}
 use Rattle.heap_laws.specs.Walking.{walking, IsAtTarget, TargetsAreReplaced}
 use Rattle.heap_laws.proofs.Cells.Walked.{replacing_target_carries_chain}
-use Rattle.heap_laws.proofs.Copying.Cells.{cell_words_are_stored}
-use Rattle.heap_laws.proofs.Steps.Rows.{below_board}
+use Rattle.heap_laws.proofs.Copying.CopiedCells.{cell_words_are_stored}
+use Rattle.heap_laws.proofs.Steps.RowPlaces.{below_board}
 use Rattle.heap_laws.proofs.Targets.ShownWalks.{shown_replaced}
 use Rattle.heap_laws.proofs.Targets.Walked.{cell, replacing_carries_targets}
 use Rattle.heap_laws.proofs.Walking.Loads.{same_beside}
@@ -20,7 +20,7 @@ module _ (E : Era) (m : Memory) (team : Team) (g : Ghost) (k : ℕ) (v : Visit) 
   abbrev before : Cells E m team g
   before = ready.invariant.cells
 
-  abbrev then : Worker
+  abbrev then : Known
   then = walking (team.worker k) (At (passed v))
 
   abbrev later : Memory

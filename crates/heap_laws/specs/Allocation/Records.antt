@@ -14,7 +14,7 @@ use Rattle.heap_state.specs.Functions.{put}
 use Rattle.heap_state.specs.Invariant.Ghost.{Ghost, header_kind}
 use Rattle.heap_state.specs.Meaning.Values.{Shows, value_of}
 use Rattle.heap_state.specs.Memory.FieldSpan.{fields_end}
-use Rattle.heap_state.specs.Worker.{Team, Stock}
+use Rattle.heap_state.specs.Known.{Team, Stock}
 use Rattle.heap_laws.specs.Allocation.Stocks.{HasStock}
 use Rattle.space_map.specs.declared.spaces.TheConstants.{PAGE_WORDS}
 

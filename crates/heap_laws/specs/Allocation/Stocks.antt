@@ -6,12 +6,12 @@ use Rattle.space_map.specs.Spaces.{to_space, first_word}
 use Rattle.heap_state.specs.Memory.Entries.{AreaIs, PageIs, WordIs}
 use Rattle.heap_state.specs.Memory.Era.{Era, Memory}
 use Rattle.heap_state.specs.Invariant.Ghost.{Ghost}
-use Rattle.heap_state.specs.Worker.{Worker, Team, Stock, is_running}
+use Rattle.heap_state.specs.Known.{Known, Team, Stock, is_running}
 use Rattle.heap_laws.specs.Steps.{Ready, IsAreaNow, Steps}
 use Rattle.space_map.specs.declared.spaces.TheConstants.{PAGE_WORDS}
 
 -- the worker with this stock
-abbrev pub stocked : Worker → Stock → Worker
+abbrev pub stocked : Known → Stock → Known
 stocked w q = record w { stock = Some q }
 
 -- worker k runs, and has this stock

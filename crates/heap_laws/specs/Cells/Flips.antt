@@ -6,7 +6,7 @@ use Rattle.heap_state.specs.Cells.{Ranks, no_ranks, Chain}
 use Rattle.heap_state.specs.Memory.Entries.{WordIs, WeakIs}
 use Rattle.heap_state.specs.Memory.Era.{Era, Memory}
 use Rattle.heap_state.specs.Invariant.Ghost.{Ghost}
-use Rattle.heap_state.specs.Worker.{Worker, Team, Reset, Stock}
+use Rattle.heap_state.specs.Known.{Known, Team, Reset, Stock}
 use Rattle.heap_laws.specs.Allocation.Records.{PlacesNext, allocated, next_identity}
 use Rattle.heap_laws.specs.Cells.Frames.{GoesOnInChain}
 use Rattle.heap_laws.specs.Flipping.Flip.{Flips, next_era, next_memory, next_ghost, after_flip}
@@ -22,7 +22,7 @@ SizesCarryChain = (E : Era) (m : Memory) (weak turn : ℕ) (team : Team) (g : Gh
 
 -- WEAK is stored, by a worker that flips
 abbrev pub ClearingWeakCarriesChain : Type 0
-ClearingWeakCarriesChain = (E : Era) (m later : Memory) (weak turn : ℕ) (team : Team) (g : Ghost) (r : Ranks) (k : ℕ) (z : Reset) (w : Worker) → Ready E m team g k
+ClearingWeakCarriesChain = (E : Era) (m later : Memory) (weak turn : ℕ) (team : Team) (g : Ghost) (r : Ranks) (k : ℕ) (z : Reset) (w : Known) → Ready E m team g k
     → (team.worker k).reset ≡ Some z → w.linking ≡ (team.worker k).linking → w.pass ≡ (team.worker k).pass → WritesRow E m (Some (WeakIs 0)) later
     → Chain E m weak turn team g r → Chain E later 0 turn (with_worker team k w) g r
 
@@ -35,6 +35,6 @@ FlippingCarriesChain = (E : Era) (m : Memory) (weak turn : ℕ) (team : Team) (g
 
 -- the header of a new record is stored; a cell is one of three words
 abbrev pub PlacingCarriesChain : Type 0
-PlacingCarriesChain = (E : Era) (m later : Memory) (weak turn : ℕ) (team : Team) (g : Ghost) (r : Ranks) (k : ℕ) (s : Stock) (c : Kind) (z v target : ℕ) (w : Worker) → Ready E m team g k
+PlacingCarriesChain = (E : Era) (m later : Memory) (weak turn : ℕ) (team : Team) (g : Ghost) (r : Ranks) (k : ℕ) (s : Stock) (c : Kind) (z v target : ℕ) (w : Known) → Ready E m team g k
     → PlacesNext team k s c z v target → (c ≡ Weak → z ≡ 3) → WritesRow E m (Some (WordIs s.at v)) later → GoesOnInChain E w (team.worker k)
     → Chain E m weak turn team g r → Chain E later weak turn (with_worker team k w) (allocated g s.at z c (next_identity team k)) r

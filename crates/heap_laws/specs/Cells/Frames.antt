@@ -4,17 +4,17 @@ use Rattle.plain_state.specs.declared.kind.Kind.TheVariants.{Weak}
 use Rattle.space_map.specs.declared.area_word.AreaWord.{AreaWord}
 use Rattle.space_map.specs.Spaces.{to_space}
 use Rattle.heap_state.specs.Cells.{Ranks, IsCopiedCell, MayCopy, KnowsCopy, HasWalker, Chain}
-use Rattle.heap_state.specs.Memory.Entries.{Entry, GateIs, AreaIs, PageIs, CrossIs, WordIs, AnnounceIs, SnapIs, DoneIs, SaveIs, ImageIs}
+use Rattle.heap_state.specs.Memory.Entries.{Entry, GateIs, AreaIs, PageIs, CrossIs, WordIs, AnnounceIs, SnapIs, LastSavedIs, SaveIs, ImageIs}
 use Rattle.heap_state.specs.Memory.Era.{Era, Memory, from_space}
 use Rattle.heap_state.specs.Invariant.Ghost.{Ghost}
-use Rattle.heap_state.specs.Worker.{Worker, Team, is_cleared}
+use Rattle.heap_state.specs.Known.{Known, Team, is_cleared}
 use Rattle.heap_laws.specs.Steps.{Ready, WritesRow, with_worker}
 
 -- ---- what the chain reads
 
 -- The worker w has the cell to link and the walk of u. If it has a cell to link, it may still copy and has found the copy that it asks
 -- for; and if it walks it is of the same epoch and knows the same of its second look.
-pub record GoesOnInChain (E : Era) (w u : Worker) : Type 0 where
+pub record GoesOnInChain (E : Era) (w u : Known) : Type 0 where
   pub linking : w.linking ≡ u.linking
   pub pass : w.pass ≡ u.pass
   pub cleared : is_cleared w.reset ≡ true → is_cleared u.reset ≡ true
@@ -41,7 +41,7 @@ pub record CarriesChain (E : Era) (m later : Memory) (team : Team) (g h : Ghost)
   pub three : (a : ℕ) → 0 < h.size a → h.kind a ≡ Weak → h.size a ≡ 3
 
 abbrev pub ChainIsCarried : Type 0
-ChainIsCarried = (E : Era) (m later : Memory) (weak turn : ℕ) (team : Team) (g h : Ghost) (r : Ranks) (k : ℕ) (w : Worker) → CarriesChain E m later team g h
+ChainIsCarried = (E : Era) (m later : Memory) (weak turn : ℕ) (team : Team) (g h : Ghost) (r : Ranks) (k : ℕ) (w : Known) → CarriesChain E m later team g h
     → GoesOnInChain E w (team.worker k) → Chain E m weak turn team g r → Chain E later weak turn (with_worker team k w) h r
 
 -- ---- rows and words that the chain doesn't read
@@ -55,13 +55,13 @@ IsUnreadRow E (Some (PageIs page word)) = ⊤
 IsUnreadRow E (Some (CrossIs page place)) = ⊤
 IsUnreadRow E (Some (AnnounceIs worker place)) = ⊤
 IsUnreadRow E (Some (SnapIs number)) = ⊤
-IsUnreadRow E (Some (DoneIs number)) = ⊤
+IsUnreadRow E (Some (LastSavedIs number)) = ⊤
 IsUnreadRow E (Some (SaveIs page word)) = ⊤
 IsUnreadRow E (Some (ImageIs addr word)) = ⊤
 IsUnreadRow E _ = ⊥
 
 abbrev pub UnreadRowsCarryChain : Type 0
-UnreadRowsCarryChain = (E : Era) (m later : Memory) (weak turn : ℕ) (team : Team) (g h : Ghost) (r : Ranks) (k : ℕ) (e : Option Entry) (w : Worker)
+UnreadRowsCarryChain = (E : Era) (m later : Memory) (weak turn : ℕ) (team : Team) (g h : Ghost) (r : Ranks) (k : ℕ) (e : Option Entry) (w : Known)
     → WritesRow E m e later → IsUnreadRow E e → SameCells g h → GoesOnInChain E w (team.worker k)
     → Chain E m weak turn team g r → Chain E later weak turn (with_worker team k w) h r
 
@@ -70,7 +70,7 @@ abbrev pub IsNoCellWord : Era → Memory → Ghost → ℕ → Type 0
 IsNoCellWord E m g x = (a : ℕ) → IsCopiedCell E m.front g a → (x ≢ a + 1) × (x ≢ a + 2)
 
 abbrev pub UnreadWordsCarryChain : Type 0
-UnreadWordsCarryChain = (E : Era) (m later : Memory) (weak turn : ℕ) (team : Team) (g h : Ghost) (r : Ranks) (k x v : ℕ) (w : Worker)
+UnreadWordsCarryChain = (E : Era) (m later : Memory) (weak turn : ℕ) (team : Team) (g h : Ghost) (r : Ranks) (k x v : ℕ) (w : Known)
     → WritesRow E m (Some (WordIs x v)) later → IsNoCellWord E m g x → SameCells g h → GoesOnInChain E w (team.worker k)
     → Chain E m weak turn team g r → Chain E later weak turn (with_worker team k w) h r
 
@@ -85,6 +85,6 @@ NoCellWords = (E : Era) (m : Memory) (team : Team) (g : Ghost) (k weak turn : �
 
 -- the area is stored with the same FRONT
 abbrev pub SameFrontCarriesChain : Type 0
-SameFrontCarriesChain = (E : Era) (m later : Memory) (weak turn : ℕ) (team : Team) (g h : Ghost) (r : Ranks) (k : ℕ) (area : AreaWord) (w : Worker)
+SameFrontCarriesChain = (E : Era) (m later : Memory) (weak turn : ℕ) (team : Team) (g h : Ghost) (r : Ranks) (k : ℕ) (area : AreaWord) (w : Known)
     → WritesRow E m (Some (AreaIs (to_space E.epoch) area)) later → E.start + area.front ≡ m.front → SameCells g h → GoesOnInChain E w (team.worker k)
     → Chain E m weak turn team g r → Chain E later weak turn (with_worker team k w) h r

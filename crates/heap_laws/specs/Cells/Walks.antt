@@ -6,11 +6,11 @@ use Rattle.heap_state.specs.Cells.{Ranks, KnowsCopy, IsCopiedCell, TargetsOld, R
 use Rattle.heap_state.specs.Memory.Entries.{WordIs, TracedIs, WeakTurnIs}
 use Rattle.heap_state.specs.Memory.Era.{Era, Memory}
 use Rattle.heap_state.specs.Invariant.Ghost.{Ghost, Leads}
-use Rattle.heap_state.specs.Worker.{Worker, Team, LastLook, Visit, Pass, Begins, At, Done}
+use Rattle.heap_state.specs.Known.{Known, Team, LastLook, Visit, Pass, Begins, At, Done}
 use Rattle.heap_laws.specs.Steps.{Ready, WritesRow, with_worker}
 
 -- but for the walk, the chain reads of worker w what it reads of u
-pub record SameBesidePass (w u : Worker) : Type 0 where
+pub record SameBesidePass (w u : Known) : Type 0 where
   pub post : w.post ≡ u.post
   pub epoch : w.epoch ≡ u.epoch
   pub scan : w.scan ≡ u.scan
@@ -24,7 +24,7 @@ pub record SameBesidePass (w u : Worker) : Type 0 where
 -- The exchange of WEAKTURN is won, from a word below the one that says that the turn of the worker's epoch is taken. The second look
 -- has read a TRACED of that epoch.
 abbrev pub TakingTurnCarriesChain : Type 0
-TakingTurnCarriesChain = (E : Era) (m later : Memory) (weak turn : ℕ) (team : Team) (g : Ghost) (r : Ranks) (k : ℕ) (l : LastLook) (w : Worker) → Ready E m team g k
+TakingTurnCarriesChain = (E : Era) (m later : Memory) (weak turn : ℕ) (team : Team) (g : Ghost) (r : Ranks) (k : ℕ) (l : LastLook) (w : Known) → Ready E m team g k
     → (team.worker k).last_look ≡ Some l → (team.worker k).epoch ≤ l.traced → turn < (team.worker k).epoch + 1 → w.pass ≡ Some Begins
     → WritesRow E m (Some (WeakTurnIs ((team.worker k).epoch + 1))) later → SameBesidePass w (team.worker k)
     → Chain E m weak turn team g r → Chain E later weak ((team.worker k).epoch + 1) (with_worker team k w) g r
@@ -46,13 +46,13 @@ ChainIsShort = (E : Era) (m : Memory) (weak turn : ℕ) (team : Team) (g : Ghost
 
 -- WEAK is loaded, and no more cells are linked than may come
 abbrev pub BeginningWalkCarriesChain : Type 0
-BeginningWalkCarriesChain = (E : Era) (m later : Memory) (weak turn : ℕ) (team : Team) (g : Ghost) (r : Ranks) (k more : ℕ) (q : Pass) (w : Worker) → k < team.count
+BeginningWalkCarriesChain = (E : Era) (m later : Memory) (weak turn : ℕ) (team : Team) (g : Ghost) (r : Ranks) (k more : ℕ) (q : Pass) (w : Known) → k < team.count
     → (team.worker k).pass ≡ Some Begins → r.length ≤ more → ComesTo weak more q → w.pass ≡ Some q → WritesRow E m None later → SameBesidePass w (team.worker k)
     → Chain E m weak turn team g r → Chain E later weak turn (with_worker team k w) g r
 
 -- the link of a cell is loaded that the walk has done with
 abbrev pub GoingOnCarriesChain : Type 0
-GoingOnCarriesChain = (E : Era) (m later : Memory) (weak turn : ℕ) (team : Team) (g : Ghost) (r : Ranks) (k : ℕ) (v : Visit) (q : Pass) (w : Worker) → k < team.count
+GoingOnCarriesChain = (E : Era) (m later : Memory) (weak turn : ℕ) (team : Team) (g : Ghost) (r : Ranks) (k : ℕ) (v : Visit) (q : Pass) (w : Known) → k < team.count
     → (team.worker k).pass ≡ Some (At v) → v.past ≡ true → ComesTo (m.heap (v.cell + 2)) (v.more - 1) q → w.pass ≡ Some q → WritesRow E m None later → SameBesidePass w (team.worker k)
     → Chain E m weak turn team g r → Chain E later weak turn (with_worker team k w) g r
 
@@ -73,7 +73,7 @@ FindsTarget E m g v u = (¬ (Leads E (m.heap (v.cell + 1))) × (u ≡ passed v))
 
 -- the target is loaded
 abbrev pub FindingTargetCarriesChain : Type 0
-FindingTargetCarriesChain = (E : Era) (m later : Memory) (weak turn : ℕ) (team : Team) (g : Ghost) (r : Ranks) (k : ℕ) (v u : Visit) (w : Worker) → k < team.count
+FindingTargetCarriesChain = (E : Era) (m later : Memory) (weak turn : ℕ) (team : Team) (g : Ghost) (r : Ranks) (k : ℕ) (v u : Visit) (w : Known) → k < team.count
     → (team.worker k).pass ≡ Some (At v) → v.past ≡ false → FindsTarget E m g v u → w.pass ≡ Some (At u) → WritesRow E m None later → SameBesidePass w (team.worker k)
     → Chain E m weak turn team g r → Chain E later weak turn (with_worker team k w) g r
 
@@ -87,13 +87,13 @@ HeadersReplaceTargets = (E : Era) (m : Memory) (team : Team) (g : Ghost) (k b : 
 
 -- that word is known
 abbrev pub FindingWordCarriesChain : Type 0
-FindingWordCarriesChain = (E : Era) (m later : Memory) (weak turn : ℕ) (team : Team) (g : Ghost) (r : Ranks) (k : ℕ) (v : Visit) (b x : ℕ) (w : Worker) → k < team.count
+FindingWordCarriesChain = (E : Era) (m later : Memory) (weak turn : ℕ) (team : Team) (g : Ghost) (r : Ranks) (k : ℕ) (v : Visit) (b x : ℕ) (w : Known) → k < team.count
     → (team.worker k).pass ≡ Some (At v) → v.past ≡ false → v.old ≡ Some b → ReplacesTarget g b x → w.pass ≡ Some (At (replacing v x)) → WritesRow E m None later → SameBesidePass w (team.worker k)
     → Chain E m weak turn team g r → Chain E later weak turn (with_worker team k w) g r
 
 -- it is stored as the target
 abbrev pub ReplacingTargetCarriesChain : Type 0
-ReplacingTargetCarriesChain = (E : Era) (m later : Memory) (weak turn : ℕ) (team : Team) (g : Ghost) (r : Ranks) (k : ℕ) (v : Visit) (x : ℕ) (w : Worker) → Ready E m team g k
+ReplacingTargetCarriesChain = (E : Era) (m later : Memory) (weak turn : ℕ) (team : Team) (g : Ghost) (r : Ranks) (k : ℕ) (v : Visit) (x : ℕ) (w : Known) → Ready E m team g k
     → (team.worker k).pass ≡ Some (At v) → v.past ≡ false → v.word ≡ Some x → w.pass ≡ Some (At (passed v))
     → WritesRow E m (Some (WordIs (v.cell + 1) x)) later → SameBesidePass w (team.worker k)
     → Chain E m weak turn team g r → Chain E later weak turn (with_worker team k w) g r
@@ -109,7 +109,7 @@ WalkIsDone = (E : Era) (m : Memory) (weak turn : ℕ) (team : Team) (g : Ghost) 
 
 -- the exchange of TRACED is won, by who has the turn
 abbrev pub TracingCarriesChain : Type 0
-TracingCarriesChain = (E : Era) (m later : Memory) (weak turn : ℕ) (team : Team) (g : Ghost) (r : Ranks) (k : ℕ) (w : Worker) → Ready E m team g k
+TracingCarriesChain = (E : Era) (m later : Memory) (weak turn : ℕ) (team : Team) (g : Ghost) (r : Ranks) (k : ℕ) (w : Known) → Ready E m team g k
     → is_some (team.worker k).pass ≡ true → w.pass ≡ None → w.linking ≡ (team.worker k).linking → w.reset ≡ (team.worker k).reset
     → WritesRow E m (Some (TracedIs ((team.worker k).epoch + 1))) later
     → Chain E m weak turn team g r → Chain E later weak turn (with_worker team k w) g r

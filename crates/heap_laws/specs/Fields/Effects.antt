@@ -13,7 +13,7 @@ use Rattle.heap_state.specs.Invariant.Ghost.{Ghost, said_kind}
 use Rattle.heap_state.specs.Invariant.Parts.Knowledge.{HasRole, Accesses}
 pub use Rattle.heap_state.specs.Meaning.Loaded.{word_held, FitsRole}
 use Rattle.heap_state.specs.Meaning.Values.{Shown}
-use Rattle.heap_state.specs.Worker.{Team, Role, FieldRole, NumberRole, TargetRole, UnknownRole, Access, is_mutator, is_late}
+use Rattle.heap_state.specs.Known.{Team, Role, FieldRole, NumberRole, TargetRole, UnknownRole, Access, is_mutator, is_late}
 use Rattle.heap_laws.specs.Fields.Words.{IsWordOf, MayStore, StandsFor}
 use Rattle.heap_laws.specs.Fields.Held.{MayHold, HoldsValue}
 use Rattle.heap_laws.specs.Fields.Stores.{IsAs}

@@ -7,7 +7,7 @@ use Rattle.heap_state.specs.Memory.Era.{Era, Memory}
 use Rattle.heap_state.specs.Invariant.Ghost.{Ghost, Leads, Lands}
 use Rattle.heap_state.specs.Invariant.Parts.Knowledge.{Accesses}
 use Rattle.heap_state.specs.Meaning.Values.{value_of}
-use Rattle.heap_state.specs.Worker.{Worker, Stock, Access, Round, Reset, Account, Team}
+use Rattle.heap_state.specs.Known.{Known, Stock, Access, Round, Reset, Account, Team}
 use Rattle.heap_laws.specs.Composing.{LessAtPages, SameAtChain}
 use Rattle.heap_laws.specs.Steps.{Ready}
 use Rattle.space_map.specs.declared.spaces.TheConstants.{PAGE_WORDS}
@@ -29,7 +29,7 @@ SameWords = (E : Era) (m : Memory) (team : Team) (g : Ghost) (k v w : ℕ) (x y 
 -- Mutator w goes on as `next`. It stands where it stood, and copies, links and scans what it did. What it knows it knew before, but
 -- for its access, a page found open, whether the epoch is traced and its space's size, of which what it says is so. Its registers hold what a mutator may
 -- hold, as long as it has no end.
-pub record MutatorGoesOn (E : Era) (m : Memory) (g : Ghost) (w next : Worker) : Type 0 where
+pub record MutatorGoesOn (E : Era) (m : Memory) (g : Ghost) (w next : Known) : Type 0 where
   pub post : next.post ≡ w.post
   pub epoch : next.epoch ≡ w.epoch
   pub done : next.done ≡ w.done
@@ -51,7 +51,7 @@ pub record MutatorGoesOn (E : Era) (m : Memory) (g : Ghost) (w next : Worker) : 
 
 -- Worker w with another account, other registers, another access and another page found open, which has seen its epoch traced or not. It
 -- knows the rest that it knew.
-abbrev pub going_on : Worker → Account → (ℕ → ℕ) → Option Access → Option ℕ → (seen : Bool) → Worker
+abbrev pub going_on : Known → Account → (ℕ → ℕ) → Option Access → Option ℕ → (seen : Bool) → Known
 going_on w account registers access opened seen =
     record w { account = account; registers = registers; access = access; opened = opened; traced_seen = seen; gate_step = None }
 

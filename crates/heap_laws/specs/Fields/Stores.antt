@@ -19,7 +19,7 @@ use Rattle.heap_state.specs.Memory.Entries.{WordIs}
 use Rattle.heap_state.specs.Memory.Era.{Era, Memory}
 use Rattle.heap_state.specs.Invariant.Ghost.{Ghost}
 use Rattle.heap_state.specs.Meaning.Values.{Shown, Shows, Accounts, RegistersShow, value_of}
-use Rattle.heap_state.specs.Worker.{Worker, Team, Stock, is_running}
+use Rattle.heap_state.specs.Known.{Known, Team, Stock, is_running}
 use Rattle.heap_state.specs.Functions.{put}
 use Rattle.heap_laws.specs.Allocation.Stocks.{SeesRoom}
 use Rattle.heap_laws.specs.Fields.Words.{IsWordOf, MayStore, StandsFor}
@@ -30,7 +30,7 @@ use Rattle.space_map.specs.Spaces.{page_of}
 use Rattle.space_map.specs.declared.spaces.TheConstants.{PAGE_WORDS}
 
 -- the worker has what the plain mutator has, with this plain heap
-pub record IsAs (g : Ghost) (heap : plain.Heap) (k : ℕ) (w : Worker) (q : plain.Mutator) : Type 0 where
+pub record IsAs (g : Ghost) (heap : plain.Heap) (k : ℕ) (w : Known) (q : plain.Mutator) : Type 0 where
   pub account : Accounts heap k w.account q
   pub registers : RegistersShow (value_of g.identity) w.registers q
 
@@ -38,19 +38,19 @@ pub record IsAs (g : Ghost) (heap : plain.Heap) (k : ℕ) (w : Worker) (q : plai
 
 -- a running mutator learns something, and its account and registers stay: a load that is no step of the plain machine
 abbrev pub MutatorsLearn : Type 0
-MutatorsLearn = (E : Era) (m : Memory) (team : Team) (g : Ghost) (k : ℕ) (next : Worker) → Ready E m team g k
+MutatorsLearn = (E : Era) (m : Memory) (team : Team) (g : Ghost) (k : ℕ) (next : Known) → Ready E m team g k
     → is_running (team.worker k).post ≡ true → MutatorGoesOn E m g (team.worker k) next → next.account ≡ (team.worker k).account → next.registers ≡ (team.worker k).registers
     → Steps E m team g k None next g
 
 -- nothing is stored: mutator k of the plain state is the next one
 abbrev pub MutatorsStep : Type 0
-MutatorsStep = (E : Era) (m : Memory) (team : Team) (g : Ghost) (p : plain.Plain) (k : ℕ) (next : Worker) (q : plain.Mutator) → Ready E m team g k
+MutatorsStep = (E : Era) (m : Memory) (team : Team) (g : Ghost) (p : plain.Plain) (k : ℕ) (next : Known) (q : plain.Mutator) → Ready E m team g k
     → is_running (team.worker k).post ≡ true → Shown E m team g p → MutatorGoesOn E m g (team.worker k) next → IsAs g p.heap k next q
     → StepsTo E m team g k None next g (with_mutator p k q)
 
 -- a store in a word of a record that is no cell, and whose page is open: the plain heap changes at that word
 abbrev pub MutatorsStore : Type 0
-MutatorsStore = (E : Era) (m : Memory) (team : Team) (g : Ghost) (p : plain.Plain) (k : ℕ) (next : Worker) (q : plain.Mutator) (a x v : ℕ) (r : plain.Record) (y : Value)
+MutatorsStore = (E : Era) (m : Memory) (team : Team) (g : Ghost) (p : plain.Plain) (k : ℕ) (next : Known) (q : plain.Mutator) (a x v : ℕ) (r : plain.Record) (y : Value)
     → Ready E m team g k → is_running (team.worker k).post ≡ true → Shown E m team g p → ¬ (g.kind a ≡ Weak)
     → IsWordOf E g.size g.writer g.kind a x → m.page (page_of (a + word_of_value (g.kind a) x)) ≡ Open E.epoch → MayStore E g.size g.writer (g.kind a) x v
     → plain.record_of p.heap (g.identity a) ≡ Some r → StandsFor g (g.kind a) x v y
@@ -59,7 +59,7 @@ MutatorsStore = (E : Era) (m : Memory) (team : Team) (g : Ghost) (p : plain.Plai
 
 -- a store on the open board: the plain board changes at that word
 abbrev pub MutatorsStoreOnBoard : Type 0
-MutatorsStoreOnBoard = (E : Era) (m : Memory) (team : Team) (g : Ghost) (p : plain.Plain) (k : ℕ) (next : Worker) (q : plain.Mutator) (x v : ℕ) (y : Value)
+MutatorsStoreOnBoard = (E : Era) (m : Memory) (team : Team) (g : Ghost) (p : plain.Plain) (k : ℕ) (next : Known) (q : plain.Mutator) (x v : ℕ) (y : Value)
     → Ready E m team g k → is_running (team.worker k).post ≡ true → Shown E m team g p
     → x < 16 → m.page (page_of E.board) ≡ Open E.epoch → HoldsValue E g v y
     → MutatorGoesOn E m g (team.worker k) next → IsAs g p.heap k next q
@@ -67,12 +67,12 @@ MutatorsStoreOnBoard = (E : Era) (m : Memory) (team : Team) (g : Ghost) (p : pla
 
 -- a checkpoint is begun, and no row changes: the plain heap keeps its board and its records, and these stay as they are
 abbrev pub MutatorsSnap : Type 0
-MutatorsSnap = (E : Era) (m : Memory) (team : Team) (g : Ghost) (p : plain.Plain) (k : ℕ) (next : Worker) (q : plain.Mutator) → Ready E m team g k
+MutatorsSnap = (E : Era) (m : Memory) (team : Team) (g : Ghost) (p : plain.Plain) (k : ℕ) (next : Known) (q : plain.Mutator) → Ready E m team g k
     → is_running (team.worker k).post ≡ true → Shown E m team g p → MutatorGoesOn E m g (team.worker k) next → IsAs g p.heap k next q
     → StepsTo E m team g k None next g (with_mutator (with_heap p (took p.heap)) k q)
 
 -- the mutator that has placed a record of size z at the place of its stock s, with a pointer to it in register d
-abbrev pub with_record : Worker → Stock → (z d pointer : ℕ) → Worker
+abbrev pub with_record : Known → Stock → (z d pointer : ℕ) → Known
 with_record w s z d pointer = record w {
   stock = Some (record s { at = s.at + z; ahead = [] });
   account = record w.account { serial = w.account.serial + 1 };
@@ -93,7 +93,7 @@ HoldsTarget E g target r = (i : Identity) × (value_of_cell r ≡ Some (Referenc
 
 -- the store of a new record's header, of three words if it is a cell: the plain heap gains the record that the words behind it show
 abbrev pub MutatorsPlace : Type 0
-MutatorsPlace = (E : Era) (m : Memory) (team : Team) (g : Ghost) (p : plain.Plain) (k : ℕ) (next : Worker) (q : plain.Mutator) (s : Stock) (c : Kind) (z v target d pointer : ℕ) (r : plain.Record)
+MutatorsPlace = (E : Era) (m : Memory) (team : Team) (g : Ghost) (p : plain.Plain) (k : ℕ) (next : Known) (q : plain.Mutator) (s : Stock) (c : Kind) (z v target d pointer : ℕ) (r : plain.Record)
     → Ready E m team g k → Shown E m team g p → PlacesNext team k s c z v target → (c ≡ Weak → z ≡ 3) → Shows (value_of g.identity) m.heap s.at c z r
     → (c ≡ Weak → HoldsTarget E g target r)
     → d < 8 → decode pointer ≡ PointerWord s.at
@@ -104,7 +104,7 @@ MutatorsPlace = (E : Era) (m : Memory) (team : Team) (g : Ghost) (p : plain.Plai
 -- ---- ends
 
 -- the mutator with this end
-abbrev pub with_end : Worker → End → Worker
+abbrev pub with_end : Known → End → Known
 with_end w why = record w { account = record w.account { end = Some why }; access = None; opened = None; gate_step = None }
 
 -- a running mutator gets an end, and the plain one gets the same

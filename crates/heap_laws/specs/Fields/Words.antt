@@ -11,7 +11,7 @@ use Rattle.heap_state.specs.Memory.Era.{Era, Memory}
 use Rattle.heap_state.specs.Invariant.Ghost.{Ghost, header_kind}
 use Rattle.heap_state.specs.Invariant.Parts.Knowledge.{HasRole}
 use Rattle.heap_state.specs.Meaning.Values.{Shown, Shows, value_of}
-use Rattle.heap_state.specs.Worker.{Team, Access, is_mutator, is_late}
+use Rattle.heap_state.specs.Known.{Team, Access, is_mutator, is_late}
 use Rattle.heap_laws.specs.Fields.Held.{MayHold}
 use Rattle.heap_laws.specs.Steps.{Ready}
 use Rattle.space_map.specs.Spaces.{page_of}

@@ -7,7 +7,7 @@ use Rattle.heap_state.specs.Memory.Era.{Era, Memory}
 use Rattle.heap_state.specs.Invariant.Ghost.{Ghost}
 use Rattle.heap_state.specs.Invariant.Inductive.{Invariant}
 use Rattle.heap_state.specs.Meaning.Values.{Shown}
-use Rattle.heap_state.specs.Worker.{Worker, Team, Stopped, Flipping, Reset}
+use Rattle.heap_state.specs.Known.{Known, Team, Stopped, Flipping, Reset}
 use Rattle.heap_laws.specs.Steps.{with_worker, Ready}
 
 -- ---- the flip
@@ -48,7 +48,7 @@ next_ghost E g = record {
 }
 
 -- the flipper after the flip
-abbrev pub after_flip : Worker → Worker
+abbrev pub after_flip : Known → Known
 after_flip w = record w { post = Stopped; traced_seen = false; reset = None }
 
 -- Worker k flips: it has asked for it, has read a gate with nobody running and nobody behind, and has stored the other space's

@@ -4,7 +4,7 @@ use Rattle.heap_words.specs.Decoded.{PointerWord, decode}
 use Rattle.heap_state.specs.Memory.Era.{Era, Memory}
 use Rattle.heap_state.specs.Functions.{put}
 use Rattle.heap_state.specs.Invariant.Ghost.{Ghost, Leads}
-use Rattle.heap_state.specs.Worker.{Worker, Team, Register, Quest, is_late}
+use Rattle.heap_state.specs.Known.{Known, Team, Register, Quest, is_late}
 use Rattle.heap_laws.specs.Steps.{Ready, Steps}
 
 -- Worker k is late, and has not forwarded all registers.
@@ -13,7 +13,7 @@ pub record HasRegister (E : Era) (team : Team) (k : ℕ) : Type 0 where
   pub left : (team.worker k).done < 8
 
 -- a register that leads nowhere, or at least not into the old space, is passed
-abbrev pub past_register : Worker → Worker
+abbrev pub past_register : Known → Known
 past_register w = record w { done = w.done + 1 }
 
 abbrev pub PassingRegisterKeeps : Type 0
@@ -22,7 +22,7 @@ PassingRegisterKeeps = (E : Era) (m : Memory) (team : Team) (g : Ghost) (k : ℕ
     → Steps E m team g k None (past_register (team.worker k)) g
 
 -- for one that is a pointer, and so leads into the old space, the worker asks for the copy
-abbrev pub asking_for : Worker → ℕ → Worker
+abbrev pub asking_for : Known → ℕ → Known
 asking_for w a = record w { quest = Some (record { old = a; origin = Register w.done; found = None }) }
 
 abbrev pub AskingForRegisterKeeps : Type 0
@@ -38,7 +38,7 @@ pub record HasFoundCopy (E : Era) (team : Team) (k : ℕ) (q : Quest) (b : ℕ) 
   pub found : q.found ≡ Some b
 
 -- the register gets a pointer to the copy, once this is no cell that is still to be linked
-abbrev pub forwarded : Worker → ℕ → Worker
+abbrev pub forwarded : Known → ℕ → Known
 forwarded w v = record w { registers = put w.registers w.done v; done = w.done + 1; quest = None }
 
 abbrev pub ForwardingRegisterKeeps : Type 0

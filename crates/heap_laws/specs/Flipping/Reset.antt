@@ -6,13 +6,13 @@ use Rattle.space_map.specs.declared.gate_word.GateWord.{GateWord}
 use Rattle.space_map.specs.AreaWord.{AreaFits}
 use Rattle.heap_state.specs.Memory.Era.{Era, Memory, from_space}
 use Rattle.heap_state.specs.Invariant.Ghost.{Ghost}
-use Rattle.heap_state.specs.Worker.{Worker, Team, Reset, is_flipper}
+use Rattle.heap_state.specs.Known.{Known, Team, Reset, is_flipper}
 use Rattle.heap_state.specs.Memory.Entries.{AreaIs, WeakIs}
 use Rattle.heap_laws.specs.Steps.{Ready, Steps}
 use Rattle.space_map.specs.declared.spaces.TheConstants.{PAGE_WORDS}
 
 -- the worker whose flip is so far
-abbrev pub resetting : Worker → Reset → Worker
+abbrev pub resetting : Known → Reset → Known
 resetting w r = record w { reset = Some r }
 
 -- what is known of a flip once the gate is read

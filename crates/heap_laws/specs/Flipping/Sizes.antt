@@ -6,7 +6,7 @@ use Rattle.heap_state.specs.Memory.Era.{Era, Memory, IsLaidOut}
 use Rattle.heap_state.specs.Invariant.Ghost.{Ghost}
 use Rattle.heap_state.specs.Invariant.Inductive.{Invariant}
 use Rattle.heap_state.specs.Meaning.Values.{Shown}
-use Rattle.heap_state.specs.Worker.{Worker, Team, Reset}
+use Rattle.heap_state.specs.Known.{Known, Team, Reset}
 use Rattle.heap_laws.specs.Flipping.Reset.{resetting}
 use Rattle.heap_laws.specs.Steps.{with_worker, Ready}
 use Rattle.space_map.specs.declared.spaces.TheConstants.{PAGE_WORDS}
@@ -16,7 +16,7 @@ abbrev pub sized_era : Era → (pages : ℕ) → Era
 sized_era E pages = record E { old_span = PAGE_WORDS * pages }
 
 -- the worker whose flip has stored the size
-abbrev pub after_size : Worker → Reset → Worker
+abbrev pub after_size : Known → Reset → Known
 after_size w r = resetting w (record r { sized = true })
 
 -- The size that worker k's flip has found is stored. With the old space as large the invariant holds, the same plain state is shown,

@@ -17,7 +17,7 @@ use Rattle.heap_state.specs.Saving.Words.{Saves, saves_of, AreFormedSaves}
 use Rattle.heap_state.specs.Saving.Frozen.{Frozen, IsPageOf}
 use Rattle.heap_state.specs.Saving.Savers.{Saver, SaveStep}
 use Rattle.heap_state.specs.Saving.Parts.{SavingStands}
-use Rattle.heap_state.specs.Worker.{Team, Stock}
+use Rattle.heap_state.specs.Known.{Team, Stock}
 use Rattle.heap_laws.specs.Allocation.Stocks.{HasStock, OpensNext}
 use Rattle.heap_laws.specs.Lifting.{table_after}
 use Rattle.heap_laws.specs.Saving.Stores.{saves_after}

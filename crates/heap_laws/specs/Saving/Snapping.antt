@@ -20,7 +20,7 @@ use Rattle.heap_state.specs.Saving.Kept.{KeepsPicture, ShowsSnapped}
 use Rattle.heap_state.specs.Saving.Parts.{SavingStands}
 use Rattle.heap_state.specs.Saving.Savers.{Saver}
 use Rattle.heap_state.specs.Saving.Words.{Saves}
-use Rattle.heap_state.specs.Worker.{Worker, Team, Account, Snapping, Clear, is_running, is_asking}
+use Rattle.heap_state.specs.Known.{Known, Team, Account, Snapping, Clear, is_running, is_asking}
 use Rattle.heap_laws.specs.Fields.Held.{with_mutator}
 use Rattle.heap_laws.specs.Fields.Stores.{IsAs}
 use Rattle.heap_laws.specs.Flipping.Flip.{only_in}
@@ -31,7 +31,7 @@ use Rattle.heap_laws.specs.Steps.{Ready, StepsTo}
 -- ---- who runs and who holds the request
 
 -- what is known of each worker's saves says that it runs, or holds the request, as its post does
-pub record FollowPosts (count : ℕ) (worker : ℕ → Worker) (saver : ℕ → Saver) : Type 0 where
+pub record FollowPosts (count : ℕ) (worker : ℕ → Known) (saver : ℕ → Saver) : Type 0 where
   pub runs : (k : ℕ) → k < count → (saver k).runs ≡ is_running (worker k).post
   pub asks : (k : ℕ) → k < count → (saver k).asks ≡ is_asking (worker k).post
 
@@ -44,12 +44,12 @@ NobodyElseAsks count saver k = (j : ℕ) → j < count → j ≢ k → (saver j)
 
 -- nobody runs if the gate counts nobody running
 abbrev pub RunnersAreCounted : Type 0
-RunnersAreCounted = (gate : GateWord) (count : ℕ) (worker : ℕ → Worker) (saver : ℕ → Saver) → Counted gate count worker → FollowPosts count worker saver
+RunnersAreCounted = (gate : GateWord) (count : ℕ) (worker : ℕ → Known) (saver : ℕ → Saver) → Counted gate count worker → FollowPosts count worker saver
     → gate.running ≡ 0 → NobodyRuns count saver
 
 -- who holds the request is alone with it
 abbrev pub AskersAreAlone : Type 0
-AskersAreAlone = (gate : GateWord) (count : ℕ) (worker : ℕ → Worker) (saver : ℕ → Saver) (k : ℕ) → Counted gate count worker → FollowPosts count worker saver
+AskersAreAlone = (gate : GateWord) (count : ℕ) (worker : ℕ → Known) (saver : ℕ → Saver) (k : ℕ) → Counted gate count worker → FollowPosts count worker saver
     → k < count → (saver k).asks ≡ true → NobodyElseAsks count saver k
 
 -- ---- the request is made
@@ -144,7 +144,7 @@ SnapsAreKept = (t : Table) (s : Saves) (z : Frozen) (team : Team) (g : Ghost) (p
 -- ---- the mutator goes on
 
 -- the mutator that has begun a checkpoint: its account goes on, and it is about to clear the request
-abbrev pub about_to_clear : Worker → Account → GateWord → Worker
+abbrev pub about_to_clear : Known → Account → GateWord → Known
 about_to_clear w account gate = record w { account = account; gate_step = Some (record { read = gate; passage = Clear }) }
 
 -- The exchange of SNAP by worker k is a step of the plain machine too, whose heap keeps its board and its records.

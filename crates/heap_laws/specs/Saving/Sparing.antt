@@ -15,7 +15,7 @@ use Rattle.heap_state.specs.Saving.Frozen.{Frozen}
 use Rattle.heap_state.specs.Saving.Parts.{SavingStands}
 use Rattle.heap_state.specs.Saving.Savers.{Saver}
 use Rattle.heap_state.specs.Saving.Words.{Saves}
-use Rattle.heap_state.specs.Worker.{Worker, Team, Stock, Quest, Copy, Scan, Claim, LastLook, Pass, Passage, Enter, Park, Request, RequestSnap, Clear, Forwarded, Resume, Leave, GateStep, Reset}
+use Rattle.heap_state.specs.Known.{Known, Team, Stock, Quest, Copy, Scan, Claim, LastLook, Pass, Passage, Enter, Park, Request, RequestSnap, Clear, Forwarded, Resume, Leave, GateStep, Reset}
 use Rattle.heap_laws.specs.Allocation.Stocks.{HasStock, OpensNext}
 use Rattle.heap_laws.specs.Flipping.Flip.{Flips, flipped_gate, after_flip}
 use Rattle.heap_laws.specs.Gate.{WinsGate, gate_after, worker_after}
@@ -118,7 +118,7 @@ pub data IsAstir (gate : GateWord) : Type 0 where
 
 -- then nobody is still
 abbrev pub NobodyIsStillWhereAstir : Type 0
-NobodyIsStillWhereAstir = (t : Table) (s : Saves) (z : Frozen) (count : ℕ) (worker : ℕ → Worker) (saver : ℕ → Saver) → SavingStands t s z count saver
+NobodyIsStillWhereAstir = (t : Table) (s : Saves) (z : Frozen) (count : ℕ) (worker : ℕ → Known) (saver : ℕ → Saver) → SavingStands t s z count saver
     → Counted t.gate count worker → FollowPosts count worker saver → IsAstir t.gate → NobodyIsStill count saver
 
 -- the gate after a passage is of the same epoch, and nobody is still

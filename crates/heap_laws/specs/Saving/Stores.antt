@@ -1,7 +1,7 @@
 -- Rows of checkpoints: what a load there reads, and what is said of checkpoints after a row is written, or none.
 use Rattle.std.specs.Prelude.{◌≡◌, ℕ, ◌*◌, ◌≤◌, List, length, Option, Some, None, slice_index}
 use Rattle.space_map.specs.SaveWord.{SaveFits, encode_save}
-use Rattle.space_map.specs.Table.{SnapNumber, DoneNumber, SaveRow, SaveOf, IsSaveRow, save_place_of, saving_length}
+use Rattle.space_map.specs.Table.{SnapNumber, LastSaved, SaveRow, SaveOf, IsSaveRow, save_place_of, saving_length}
 use Rattle.heap_state.specs.Memory.Entries.{Entry}
 use Rattle.heap_state.specs.Memory.Table.{word_in}
 use Rattle.heap_state.specs.Saving.Words.{Saves, save_word_in, saves_of, AreFormedSaves}
@@ -25,7 +25,7 @@ pub record SaveNothing (n : ℕ) (words : List ℕ) : Type 0 where
 
 -- those in which SNAP, DONE and each SAVE are 0, as in a table without room for checkpoints each SAVE is
 abbrev pub BlankWordsSaveNothing : Type 0
-BlankWordsSaveNothing = (n : ℕ) (words : List ℕ) → word_in n words SnapNumber ≡ 0 → word_in n words DoneNumber ≡ 0
+BlankWordsSaveNothing = (n : ℕ) (words : List ℕ) → word_in n words SnapNumber ≡ 0 → word_in n words LastSaved ≡ 0
     → ((page : ℕ) → save_word_in n words (SaveOf page) ≡ 0) → SaveNothing n words
 
 -- ---- a row with what it says

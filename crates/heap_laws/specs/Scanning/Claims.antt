@@ -5,7 +5,7 @@ use Rattle.space_map.specs.declared.page_word.PageWord.TheVariants.{Open, Scanni
 use Rattle.space_map.specs.PageWord.{age_of}
 use Rattle.heap_state.specs.Memory.Era.{Era, Memory}
 use Rattle.heap_state.specs.Invariant.Ghost.{Ghost}
-use Rattle.heap_state.specs.Worker.{Worker, Team, Round, Claim, Scan}
+use Rattle.heap_state.specs.Known.{Known, Team, Round, Claim, Scan}
 use Rattle.heap_state.specs.Memory.Entries.{PageIs}
 use Rattle.heap_laws.specs.Steps.{Ready, Steps}
 use Rattle.space_map.specs.Spaces.{page_of, first_word}
@@ -14,7 +14,7 @@ use Rattle.space_map.specs.declared.spaces.TheConstants.{PAGE_WORDS}
 -- ---- a claim is made ready
 
 -- the worker with this claim
-abbrev pub claiming : Worker → Claim → Worker
+abbrev pub claiming : Known → Claim → Known
 claiming w q = record w { claim = Some q }
 
 -- Worker k has read, now or before, a page's word of an epoch before its own. Where its epoch is the current one, the page is full
@@ -65,7 +65,7 @@ abbrev pub scan_from : Claim → Scan
 scan_from q = record { page = q.page; cursor = first_word q.page; in_place = q.in_place; over = None; headed = None; current = None; inner = false; ended = false }
 
 -- the worker that scans the page that it claimed
-abbrev pub begins_scan : Worker → Claim → Worker
+abbrev pub begins_scan : Known → Claim → Known
 begins_scan w q = record w { scan = Some (scan_from q); claim = None }
 
 -- only a worker of the current epoch wins a page, and what it does keeps all
@@ -90,7 +90,7 @@ pub record HasScanned (team : Team) (k : ℕ) (s : Scan) : Type 0 where
   pub ended : s.ended ≡ true
 
 -- the worker that scans no page
-abbrev pub ends_scan : Worker → Worker
+abbrev pub ends_scan : Known → Known
 ends_scan w = record w { scan = None }
 
 -- who opens a page is of the current epoch, and what it does keeps all

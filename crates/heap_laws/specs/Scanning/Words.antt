@@ -7,7 +7,7 @@ use Rattle.plain_state.specs.declared.kind.Kind.TheVariants.{Mixed}
 use Rattle.heap_words.specs.Decoded.{NumberWord, PointerWord, HeaderWord, decode}
 use Rattle.heap_state.specs.Memory.Era.{Era, Memory}
 use Rattle.heap_state.specs.Invariant.Ghost.{Ghost, OnBoard, Leads, said_kind}
-use Rattle.heap_state.specs.Worker.{Worker, Team, SeenHeader, SeenRecord, Scanned, Quest, Scan}
+use Rattle.heap_state.specs.Known.{Known, Team, SeenHeader, SeenRecord, Scanned, Quest, Scan}
 use Rattle.heap_state.specs.Memory.FieldSpan.{next_from, seen_at, entry_of}
 use Rattle.heap_state.specs.Memory.Entries.{WordIs}
 use Rattle.heap_laws.specs.Steps.{Ready, Steps}
@@ -15,7 +15,7 @@ use Rattle.space_map.specs.Spaces.{page_of, first_word}
 use Rattle.space_map.specs.declared.spaces.TheConstants.{PAGE_WORDS}
 
 -- the worker whose scan is this, and that asks for no copy
-abbrev pub scanning : Worker → Scan → Worker
+abbrev pub scanning : Known → Scan → Known
 scanning w s = record w { scan = Some s; quest = None }
 
 -- ---- where the scan stands
@@ -102,7 +102,7 @@ PassingFieldKeeps = (E : Era) (m : Memory) (team : Team) (g : Ghost) (k : ℕ) (
     → AtField E s → ¬ (Leads E (m.heap s.cursor)) → Steps E m team g k None (scanning (team.worker k) (past_word E s)) g
 
 -- for one that does, the worker asks for the copy
-abbrev pub asking : Worker → Quest → Worker
+abbrev pub asking : Known → Quest → Known
 asking w q = record w { quest = Some q }
 
 abbrev pub AskingKeeps : Type 0

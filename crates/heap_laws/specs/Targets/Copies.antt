@@ -7,7 +7,7 @@ use Rattle.heap_state.specs.Memory.Entries.{WordIs, AreaIs}
 use Rattle.heap_state.specs.Memory.Era.{Era, Memory}
 use Rattle.heap_state.specs.Invariant.Ghost.{Ghost}
 use Rattle.heap_state.specs.Targets.{Targets}
-use Rattle.heap_state.specs.Worker.{Team, Linking, Copy}
+use Rattle.heap_state.specs.Known.{Team, Linking, Copy}
 use Rattle.heap_laws.specs.Copying.{published, reserved, moved_by}
 use Rattle.heap_laws.specs.Steps.{Ready, WritesRow, IsAreaNow}
 

@@ -3,7 +3,7 @@ use Rattle.std.specs.Prelude.{◌≡◌, ℕ, Some}
 use Rattle.heap_state.specs.Memory.Era.{Era, Memory, IsLaidOut}
 use Rattle.heap_state.specs.Invariant.Ghost.{Ghost}
 use Rattle.heap_state.specs.Targets.{Targets}
-use Rattle.heap_state.specs.Worker.{Team, Reset}
+use Rattle.heap_state.specs.Known.{Team, Reset}
 use Rattle.heap_laws.specs.Flipping.Flip.{Flips, next_era, next_memory, next_ghost}
 use Rattle.heap_laws.specs.Flipping.Sizes.{sized_era}
 use Rattle.heap_laws.specs.Steps.{Ready}

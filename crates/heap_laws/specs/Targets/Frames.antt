@@ -5,7 +5,7 @@ use Rattle.heap_state.specs.Memory.Entries.{Entry, WeakIs, WeakTurnIs, WordIs}
 use Rattle.heap_state.specs.Memory.Era.{Era, Memory}
 use Rattle.heap_state.specs.Invariant.Ghost.{Ghost}
 use Rattle.heap_state.specs.Targets.{IsCell, Targets}
-use Rattle.heap_state.specs.Worker.{Team, Stock}
+use Rattle.heap_state.specs.Known.{Team, Stock}
 use Rattle.heap_laws.specs.Allocation.Stocks.{HasStock}
 use Rattle.heap_laws.specs.Cells.Frames.{IsUnreadRow, SameCells}
 use Rattle.heap_laws.specs.Steps.{Ready, WritesRow}

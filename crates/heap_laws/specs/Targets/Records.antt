@@ -9,7 +9,7 @@ use Rattle.heap_state.specs.Memory.Entries.{WordIs, AreaIs}
 use Rattle.heap_state.specs.Memory.Era.{Era, Memory}
 use Rattle.heap_state.specs.Invariant.Ghost.{Ghost}
 use Rattle.heap_state.specs.Targets.{Targets}
-use Rattle.heap_state.specs.Worker.{Team, Stock}
+use Rattle.heap_state.specs.Known.{Team, Stock}
 use Rattle.heap_laws.specs.Allocation.Records.{PlacesNext, allocated, next_identity}
 use Rattle.heap_laws.specs.Allocation.Stocks.{HasRoomForPages, lowered}
 use Rattle.heap_laws.specs.Fields.Held.{MayHold}

@@ -6,7 +6,7 @@ use Rattle.heap_state.specs.Memory.Entries.{WordIs, TracedIs}
 use Rattle.heap_state.specs.Memory.Era.{Era, Memory}
 use Rattle.heap_state.specs.Invariant.Ghost.{Ghost, Leads}
 use Rattle.heap_state.specs.Targets.{IsCell, Targets}
-use Rattle.heap_state.specs.Worker.{Team, Visit, At, Done}
+use Rattle.heap_state.specs.Known.{Team, Visit, At, Done}
 use Rattle.heap_laws.specs.Cells.Walks.{FindsTarget, passed}
 use Rattle.heap_laws.specs.Fields.Held.{MayHold}
 use Rattle.heap_laws.specs.Steps.{Ready, WritesRow}

@@ -9,7 +9,7 @@ use Rattle.heap_state.specs.Invariant.Ghost.{Ghost}
 use Rattle.heap_state.specs.Invariant.Parts.Cells.{Cells}
 use Rattle.heap_state.specs.Meaning.Values.{TargetsShow}
 use Rattle.heap_state.specs.Targets.{IsCell, Targets}
-use Rattle.heap_state.specs.Worker.{Team, cell_to_link}
+use Rattle.heap_state.specs.Known.{Team, cell_to_link}
 use Rattle.heap_state.proofs.Puts.{none≢some, true_false}
 
 -- no target has to show anything

@@ -18,9 +18,9 @@ use Rattle.heap_state.specs.Meaning.Represents.{IsInHeap}
 use Rattle.heap_state.proofs.Walks.Reserving.{kept_there}
 use Rattle.heap_state.specs.Sums.{is_uncopied}
 use Rattle.heap_state.specs.Memory.Walk.{Walked}
-use Rattle.heap_state.specs.Worker.{Post, Running, Stopped, Flipping, Snapping, Claim, Stock, is_live, is_running, is_asking, is_late}
+use Rattle.heap_state.specs.Known.{Post, Running, Stopped, Flipping, Snapping, Claim, Stock, is_live, is_running, is_asking, is_late}
 use Rattle.heap_state.proofs.Puts.{sum_below-none}
-use Rattle.heap_state.proofs.Holds.Cells.{cells_hold}
+use Rattle.heap_state.proofs.Holds.CellsHold.{cells_hold}
 use Rattle.heap_state.proofs.Table.LaidOut.{table_in_use}
 use Rattle.heap_state.proofs.Represents.Denoting.{none_leads}
 use Rattle.heap_state.proofs.Records.Holding.{First, OwnHeader, KeptBy, GoneTo, first, keeper, writer, reserves}

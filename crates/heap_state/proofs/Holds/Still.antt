@@ -9,7 +9,7 @@ use Rattle.heap_state.specs.Invariant.Inductive.{Invariant}
 use Rattle.heap_state.specs.Invariant.Parts.Pages.{Quiet}
 use Rattle.heap_state.specs.Invariant.Parts.Scanning.{Scans}
 use Rattle.heap_state.specs.Theorems.Standing.{ScansFillingPage, StandsStill}
-use Rattle.heap_state.specs.Worker.{Team, Copy, Scan, is_late}
+use Rattle.heap_state.specs.Known.{Team, Copy, Scan, is_late}
 use Rattle.heap_state.proofs.Records.Holding.{writer}
 
 pub open_scanning : {p : PageWord} {e k : ℕ} {A : Type 0} → p ≡ Open e → p ≡ Scanning e k → A

@@ -5,7 +5,7 @@ use Rattle.plain_state.specs.declared.kind.Kind.{Kind}
 use Rattle.plain_state.specs.declared.kind.Kind.TheVariants.{Fields, Raw, Mixed, Weak}
 use Rattle.plain_state.specs.Layout.{is_field}
 use Rattle.heap_state.specs.Memory.FieldSpan.{first_field, fields_end, next_scanned, entry_of}
-use Rattle.heap_state.specs.Worker.{SeenRecord}
+use Rattle.heap_state.specs.Known.{SeenRecord}
 
 -- a word behind the header is a field exactly where it lies from the first field up to the fields' end
 pub field-span : (k : Kind) (i size : ℕ) → 0 < i → i < size → (is_field k i ≡ true) ↔ ((first_field k ≤ i) × (i < fields_end k size))

@@ -6,7 +6,7 @@ use Rattle.heap_state.specs.Memory.Era.{Era, Memory, IsLaidOut}
 use Rattle.heap_state.specs.Invariant.Ghost.{Ghost, header_kind}
 use Rattle.heap_state.specs.Invariant.Inductive.{Invariant, Knows}
 use Rattle.heap_state.specs.Memory.Walk.{Record, met_word}
-use Rattle.heap_state.specs.Worker.{Team, Copy}
+use Rattle.heap_state.specs.Known.{Team, Copy}
 
 -- the worker at k keeps the header of the record at a, and copies it to b or to nowhere yet
 pub record Keeper (g : Ghost) (team : Team) (a k : ℕ) : Type 0 where

@@ -10,7 +10,7 @@ use Rattle.heap_state.specs.Invariant.Parts.Copying.{IsOrigin, Seeks, Copies, Ke
 use Rattle.heap_state.specs.Invariant.Parts.Knowledge.{Clean, Accesses}
 use Rattle.heap_state.specs.Invariant.Parts.Scanning.{Scans, Stepping, Claims}
 use Rattle.heap_state.specs.Targets.{IsCell, Targets}
-use Rattle.heap_state.specs.Worker.{Worker, Origin, Register, Scanned, Quest, Copy, Access, Scan, Claim, is_mutator, is_late}
+use Rattle.heap_state.specs.Known.{Known, Origin, Register, Scanned, Quest, Copy, Access, Scan, Claim, is_mutator, is_late}
 use Rattle.heap_state.proofs.Holds.Still.{nobody_scans, nobody_copies}
 use Rattle.heap_state.proofs.Represents.Denoting.{target_clean}
 use Rattle.heap_state.proofs.Represents.Dropping as drop
@@ -27,7 +27,7 @@ module _ (c : Configuration) (g : Ghost) (formed : IsFormed c.pages c.words) (in
   h = without_old E g
 
   module _ (k : ℕ) (l : k < (team c).count) where
-    abbrev w : Worker
+    abbrev w : Known
     w = (team c).worker k
 
     knew : Knows E m.gate m.traced m.front m.low m.old_front m.old_low m.old_owed g m.page m.cross m.announced m.heap k w

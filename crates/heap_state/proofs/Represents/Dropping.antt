@@ -14,7 +14,7 @@ use Rattle.heap_state.specs.Invariant.Parts.OldSpace.{OldSpace}
 use Rattle.heap_state.specs.Invariant.Parts.Pages.{Shut}
 use Rattle.heap_state.specs.Invariant.Parts.Records.{Laid, Headed, NewArea, NewWritten, RawWords, Counts}
 use Rattle.heap_state.specs.Invariant.Parts.Stocks.{Stocks, Stocked, Numbered}
-use Rattle.heap_state.specs.Worker.{Stock}
+use Rattle.heap_state.specs.Known.{Stock}
 use Rattle.heap_state.proofs.Holds.Still.{nobody_writes}
 use Rattle.heap_state.proofs.Records.Holding.{uncopied_here}
 use Rattle.heap_state.proofs.Represents.Denoting.{none_leads}

@@ -12,7 +12,7 @@ use Rattle.heap_state.specs.Meaning.Represents.{IsEmptied}
 use Rattle.heap_state.specs.Meaning.Values.{MayBeEmptied}
 use Rattle.heap_state.specs.Memory.Table.{IsFormed}
 use Rattle.heap_state.specs.Memory.Walk.{Walked}
-use Rattle.heap_state.proofs.Walks.Copies.{copied_sound, copied_complete}
+use Rattle.heap_state.proofs.Walks.WalksBelowFront.{copied_sound, copied_complete}
 use Rattle.heap_state.proofs.Walks.CopiedIdentities.{no_copy, not_copied}
 use Rattle.heap_state.proofs.Walks.InHeap.{still_copying}
 use Rattle.heap_state.proofs.Walks.Walking.{item}

@@ -17,7 +17,7 @@ use Rattle.heap_state.specs.Meaning.Values.{IsShownCell}
 use Rattle.heap_state.specs.Memory.Walk.{Walked}
 use Rattle.heap_state.proofs.Represents.Denoting.{header_of, Headers, Own, Forwarded, headers}
 use Rattle.heap_state.proofs.Walks.InHeap.{StandsWritten, in_heap_sound, now_sound}
-use Rattle.heap_state.proofs.Records.Headers.{said_there}
+use Rattle.heap_state.proofs.Records.KindsOfHeaders.{said_there}
 
 abbrev pub identity_at : ℕ → ℕ → Identity
 identity_at mutator serial = record { mutator = mutator; serial = serial }

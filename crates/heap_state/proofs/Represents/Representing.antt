@@ -19,15 +19,15 @@ use Rattle.heap_state.specs.Meaning.Dump.{dump_of}
 use Rattle.heap_state.specs.Meaning.Represents.{IsBusy, IsInHeap, IsOwn, MustOwn, Names, HasOwn, IsEmptied, IsFieldOf, LeadsToRecord, RegisterShows, BoardWordShows, Represents, own_header}
 use Rattle.heap_state.specs.Meaning.Values.{value_of, Shows, Shown}
 use Rattle.heap_state.specs.Memory.Walk.{Walked}
-use Rattle.heap_state.specs.Worker.{is_mutator}
+use Rattle.heap_state.specs.Known.{is_mutator}
 use Rattle.heap_state.proofs.Represents.Denoting.{Headers, Own, Forwarded, denotes, header_of, headers, reaches, field_lands, target_lands, board_lands}
 use Rattle.heap_state.proofs.Records.Holding.{uncopied_here}
 use Rattle.heap_state.proofs.Walks.InHeap.{in_heap_complete, in_heap_sound, lay, now_sound, now_read, old_readable}
 use Rattle.heap_state.proofs.Represents.Ordered.{in_order}
 use Rattle.heap_state.proofs.Represents.Owning.{Owns, owns, field_of, cell_shown}
 use Rattle.heap_state.proofs.Represents.Emptying.{is_emptied}
-use Rattle.heap_state.proofs.Represents.Places.{record_shows}
-use Rattle.heap_state.proofs.Records.Headers.{said_there}
+use Rattle.heap_state.proofs.Represents.ShownPlaces.{record_shows}
+use Rattle.heap_state.proofs.Records.KindsOfHeaders.{said_there}
 use Rattle.heap_state.proofs.Records.Layouts.{value_within}
 
 module _ (c : Configuration) (g : Ghost) (formed : IsFormed c.pages c.words) (inv : Invariant (era c) (memory c) (team c) g) (p : plain.Plain) (shown : Shown (era c) (memory c) (team c) g p) where

@@ -16,12 +16,12 @@ use Rattle.heap_state.specs.Invariant.Ghost.{Ghost, IsField, Lands, header_kind}
 use Rattle.heap_state.specs.Invariant.Inductive.{Invariant}
 use Rattle.heap_state.specs.Meaning.Represents.{IsOwn, Names, RecordShows, Represents, own_header}
 use Rattle.heap_state.specs.Meaning.Values.{value_of, Shows, IsShownCell, MayBeEmptied, BoardShows, RegistersShow, Shown}
-use Rattle.heap_state.specs.Worker.{is_mutator}
-use Rattle.heap_state.proofs.Records.Headers.{said_there}
+use Rattle.heap_state.specs.Known.{is_mutator}
+use Rattle.heap_state.proofs.Records.KindsOfHeaders.{said_there}
 use Rattle.heap_state.proofs.Records.Layouts.{value_within}
 use Rattle.heap_state.proofs.Represents.Denoting.{Headers, Own, Forwarded, headers, header_of, denotes, field_lands, target_lands, board_lands}
 use Rattle.heap_state.proofs.Represents.Emptying.{may_be_emptied}
-use Rattle.heap_state.proofs.Represents.Places.{whole_record}
+use Rattle.heap_state.proofs.Represents.ShownPlaces.{whole_record}
 use Rattle.heap_state.proofs.Puts.{none≢some}
 use Rattle.heap_state.proofs.Records.Holding.{uncopied_here}
 use Rattle.heap_state.proofs.Walks.InHeap.{IsInReach, in_heap_complete, lay}

@@ -4,7 +4,7 @@ use Rattle.plain_state.specs.Writing.{with_heap, took}
 use Rattle.heap_state.specs.Invariant.Ghost.{Ghost}
 use Rattle.heap_state.specs.Meaning.Values.{Shown}
 use Rattle.heap_state.specs.Memory.Era.{Era, Memory}
-use Rattle.heap_state.specs.Worker.{Team}
+use Rattle.heap_state.specs.Known.{Team}
 
 pub snaps_show : (E : Era) (m : Memory) (team : Team) (g : Ghost) (p : plain.Plain) → Shown E m team g p → Shown E m team g (with_heap p (took p.heap))
 snaps_show E m team g p s = record {

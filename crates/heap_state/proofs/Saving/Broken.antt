@@ -29,7 +29,7 @@ use Rattle.heap_state.specs.Theorems.Saves.{WrittenWhole}
 use Rattle.heap_state.proofs.Puts.{some_same}
 use Rattle.heap_state.proofs.Saving.Out.{entries_fit, has_sizes}
 use Rattle.heap_state.proofs.Table.Writing.{writes_whole_tables}
-use Rattle.heap_state.proofs.Worked.Standing.{pointer_value, number_value}
+use Rattle.heap_state.proofs.Worked.WorkedStands.{pointer_value, number_value}
 
 -- the sizes are also among these entries with one more before them
 further : {e : Entry} {space : ℕ} → (pages : ℕ) × Contains saving_entries (SizeIs space pages)

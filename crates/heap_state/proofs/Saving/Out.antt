@@ -11,8 +11,8 @@ use Rattle.heap_state.specs.Saving.Words.{saves_of, save_word_in, Saves}
 use Rattle.heap_state.specs.Saving.Written.{written_whole}
 use Rattle.heap_state.specs.Theorems.Examples.{IsWorkedOutSaving}
 use Rattle.heap_state.specs.Theorems.Saves.{WrittenWhole}
-use Rattle.heap_state.proofs.Saving.Words.{saving_saves, save_2, save_3, save_8}
-use Rattle.heap_state.proofs.Saving.Standing.{stands}
+use Rattle.heap_state.proofs.Saving.CheckpointWords.{saving_saves, save_2, save_3, save_8}
+use Rattle.heap_state.proofs.Saving.SavingStands.{stands}
 use Rattle.heap_state.proofs.Saving.Picture.{picture}
 use Rattle.heap_state.proofs.Table.Writing.{writes_whole_tables}
 

@@ -10,8 +10,8 @@ use Rattle.space_map.specs.Spaces.{page_of}
 use Rattle.heap_state.specs.Examples.Saving.{frozen_heap, kept_board, kept_records}
 use Rattle.heap_state.specs.Invariant.Ghost.{header_kind}
 use Rattle.heap_state.specs.Saving.Kept.{ShowsKept, KeepsPicture}
-use Rattle.heap_state.proofs.Flipped.Parts.{zero_word}
-use Rattle.heap_state.proofs.Worked.Standing.{pointer_value, number_value}
+use Rattle.heap_state.proofs.Flipped.FlippedInvariant.{zero_word}
+use Rattle.heap_state.proofs.Worked.WorkedStands.{pointer_value, number_value}
 
 -- ---- the words
 

@@ -5,16 +5,16 @@ use Rattle.std.proofs.Math.Path.{fun_ext}
 use Rattle.std.proofs.lemmas.Bool.{cases_Bool}
 use Rattle.space_map.specs.AreaWord.{area_in, encode_area}
 use Rattle.space_map.specs.PageWord.{encode_page}
-use Rattle.space_map.specs.Table.{Row, Area, Size, SnapNumber, DoneNumber, Page, IsRow, table_length}
+use Rattle.space_map.specs.Table.{Row, Area, Size, SnapNumber, LastSaved, Page, IsRow, table_length}
 use Rattle.space_map.proofs.AreaWords.{area_in-encode_area, encode_area-lt}
 use Rattle.space_map.proofs.GateWords.{gate_in-encode_gate, encode_gate-lt}
 use Rattle.space_map.proofs.PageWords.{decode_page-encode_page}
 use Rattle.space_map.proofs.Rows.{row_eq, row_eq-decides}
-use Rattle.heap_state.specs.Memory.Entries.{WholeRow, Within, Behind, whole_place_of, IsWholeRow, Entry, GateIs, AreaIs, WeakIs, SizeIs, PageIs, SnapIs, DoneIs, SaveIs, EntryFits, row_of, word_of, with_entry}
+use Rattle.heap_state.specs.Memory.Entries.{WholeRow, Within, Behind, whole_place_of, IsWholeRow, Entry, GateIs, AreaIs, WeakIs, SizeIs, PageIs, SnapIs, LastSavedIs, SaveIs, EntryFits, row_of, word_of, with_entry}
 use Rattle.heap_state.specs.Functions.{put}
 use Rattle.heap_state.specs.Memory.Table.{HasForm, page_word_in, table_by, table_of, word_in}
 use Rattle.heap_state.specs.Theorems.Rows.{StoresBeside, StoresEntry}
-use Rattle.heap_state.proofs.Table.Places.{put_any, word_in-set_any}
+use Rattle.heap_state.proofs.Table.StoredRows.{put_any, word_in-set_any}
 
 -- ---- each family
 
@@ -26,7 +26,7 @@ entry_has_row n (WeakIs word) fits = tt
 entry_has_row n (SizeIs space pages) fits = fits.0
 entry_has_row n (PageIs page word) fits = fits.0
 entry_has_row n (SnapIs number) fits = tt
-entry_has_row n (DoneIs number) fits = tt
+entry_has_row n (LastSavedIs number) fits = tt
 entry_has_row n (SaveIs page word) fits = fits.0
 entry_has_row n _ fits = fits
 
@@ -126,7 +126,7 @@ stores_entry n words e formed fits =
 pub stores_beside : StoresBeside
 unfolding table_of
 stores_beside n words (Within SnapNumber) word formed is has = stores_entry n words (SnapIs word) formed tt
-stores_beside n words (Within DoneNumber) word formed is has = stores_entry n words (DoneIs word) formed tt
+stores_beside n words (Within LastSaved) word formed is has = stores_entry n words (LastSavedIs word) formed tt
 stores_beside n words (Within _) word formed is has = absurd is
 stores_beside n words (Behind row) word formed is has =
     let same = word_in-set_any n words (Behind row) word has formed.whole in

@@ -15,8 +15,8 @@ use Rattle.heap_state.specs.Saving.Words.{Saves, saves_of, AreFormedSaves}
 use Rattle.heap_state.specs.Saving.Written.{saves_with, blank_whole, written_whole, saves_with_all}
 use Rattle.heap_state.specs.Theorems.Rows.{WritesTables}
 use Rattle.heap_state.specs.Theorems.Saves.{WritesWholeTables}
-use Rattle.heap_state.proofs.Table.Places.{row_is, word_in-same}
-use Rattle.heap_state.proofs.Table.Saves.{said_after, blank_whole_formed, blank_whole_says}
+use Rattle.heap_state.proofs.Table.StoredRows.{row_is, word_in-same}
+use Rattle.heap_state.proofs.Table.CheckpointRows.{said_after, blank_whole_formed, blank_whole_says}
 use Rattle.heap_state.proofs.Table.Stores.{HasForms, IsSize, forms_after, says_after, size_stays}
 
 -- ---- words that are 0

@@ -14,7 +14,7 @@ use Rattle.heap_state.specs.Memory.Walk.{Walked}
 use Rattle.heap_state.specs.Targets.{IsCopied}
 use Rattle.heap_state.proofs.Puts.{some_same}
 use Rattle.heap_state.proofs.Records.Holding.{uncopied_here}
-use Rattle.heap_state.proofs.Walks.Copies.{copied_sound, copied_complete}
+use Rattle.heap_state.proofs.Walks.WalksBelowFront.{copied_sound, copied_complete}
 use Rattle.heap_state.proofs.Walks.InHeap.{lay}
 use Rattle.heap_state.proofs.Walks.Walking.{IsItem, item}
 

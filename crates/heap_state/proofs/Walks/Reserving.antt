@@ -8,7 +8,7 @@ use Rattle.heap_state.specs.Invariant.Inductive.{Invariant}
 use Rattle.heap_words.specs.Decoded.{decode}
 use Rattle.std.proofs.Math.ListN.{get_or-map, length-map}
 use Rattle.heap_state.specs.Kept.{Kept, kept_by, kept_of, kept_at, size_said, reserved_by, reserved_in}
-use Rattle.heap_state.specs.Worker.{Worker, Scanner, Team, Copy, fresh}
+use Rattle.heap_state.specs.Known.{Known, Scanner, Team, Copy, fresh}
 use Rattle.heap_state.proofs.Records.Holding.{writer, reserves}
 
 none_reserved : (a : ℕ) (kept : List Kept) → ((j : ℕ) → j < length kept → reserved_by (kept_at kept j) a ≡ 0) → reserved_in kept a ≡ 0
@@ -37,10 +37,10 @@ reserved_there (Some c) a = ⊎_elim
     (cases_Bool c.reserved)
 
 -- what is kept, by the worker that keeps it
-pub kept_there : (workers : List Worker) (k : ℕ) → kept_at (kept_of workers) k ≡ kept_by (get_or workers k (fresh Scanner)).copy
-kept_there workers k = get_or-map (λ (w : Worker). kept_by w.copy) workers k (fresh Scanner)
+pub kept_there : (workers : List Known) (k : ℕ) → kept_at (kept_of workers) k ≡ kept_by (get_or workers k (fresh Scanner)).copy
+kept_there workers k = get_or-map (λ (w : Known). kept_by w.copy) workers k (fresh Scanner)
 
-module _ (E : Era) (m : Memory) (mutators : ℕ) (workers : List Worker) (g : Ghost) (inv : Invariant E m (team_of mutators workers) g) where
+module _ (E : Era) (m : Memory) (mutators : ℕ) (workers : List Known) (g : Ghost) (inv : Invariant E m (team_of mutators workers) g) where
   abbrev team : Team
   team = team_of mutators workers
 
@@ -68,12 +68,12 @@ module _ (E : Era) (m : Memory) (mutators : ℕ) (workers : List Worker) (g : Gh
       (cases_eq (g.writer a) 0)
     where
       below : (j : ℕ) → j < length (kept_of workers) → j < length workers
-      below j l = rw (length-map {A = Worker}) at l
+      below j l = rw (length-map {A = Known}) at l
 
       by_writer : (k : ℕ) → g.writer a ≡ k + 1 → reserved_in (kept_of workers) a ≡ g.size a
       by_writer k w =
           let p = writer E m team g inv a k st w in
-          let l : k < length (kept_of workers) = rw (length-map {A = Worker}) p.below in
+          let l : k < length (kept_of workers) = rw (length-map {A = Known}) p.below in
           let said : size_said (decode p.copy.header) ≡ p.copy.size - 1 + 1 = rw ((inv.workers k p.below).keeps p.copy p.copies).keeps refl in
           one_reserved a (g.size a) (kept_of workers) k l (rw (kept_there workers k, p.copies, p.reserved, p.to, eq-eqb (a + 1) (a + 1) refl) (omega (arith, said, p.sized, st))) st
           (λ j m. ⊎_elim (λ e. inl e) (λ (c : ReservesAt a j). inr c.sized) (reserves_at a j (below j m)))

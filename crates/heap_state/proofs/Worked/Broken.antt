@@ -25,8 +25,8 @@ use Rattle.plain_state.specs.declared.value.Value.TheVariants.{Reference}
 use Rattle.plain_state.specs.State as plain
 use Rattle.heap_state.proofs.Puts.{none≢some}
 use Rattle.heap_state.specs.Examples.Worked.{worked_entries, forwarded_wrong, opened_early, short_of_room, made}
-use Rattle.heap_state.proofs.Worked.Standing.{entries_fit, has_sizes}
-use Rattle.heap_state.proofs.Represents.Places.{whole_record}
+use Rattle.heap_state.proofs.Worked.WorkedStands.{entries_fit, has_sizes}
+use Rattle.heap_state.proofs.Represents.ShownPlaces.{whole_record}
 use Rattle.heap_state.proofs.Table.Writing.{writes_tables}
 
 -- the sizes are also among these entries with one more before them

@@ -26,11 +26,11 @@ use Rattle.heap_state.specs.Cycles.Cycle.{StillLeads, IsRoot, InRegister, OnTheB
 use Rattle.heap_state.specs.Memory.Era.{era_of, memory_of}
 use Rattle.std.proofs.lemmas.Bool.{cases_eq, ne_eqb}
 use Rattle.heap_state.proofs.Worked.Ghost.{worked_table, worked_era, worked_ghost, size, writer, copy, keeper, identity, each_place, sizes}
-use Rattle.heap_state.proofs.Worked.Records.{heap, older, word_258}
+use Rattle.heap_state.proofs.Worked.WorkedRecords.{heap, older, word_258}
 use Rattle.heap_state.proofs.Worked.Broken.{second}
 use Rattle.heap_state.proofs.Holds.Keeping.{holds}
 use Rattle.heap_state.proofs.Represents.Representing.{represents}
-use Rattle.heap_state.proofs.Worked.Standing.{entries_fit, has_sizes, stands, the_mutator, objects}
+use Rattle.heap_state.proofs.Worked.WorkedStands.{entries_fit, has_sizes, stands, the_mutator, objects}
 use Rattle.heap_state.proofs.Table.Writing.{writes_tables}
 use Rattle.heap_state.specs.Targets.{IsCopied}
 

@@ -12,11 +12,11 @@ use Rattle.heap_state.specs.Invariant.Parts.Leading.{Opened}
 use Rattle.heap_state.specs.Invariant.Parts.OldSpace.{OldSpace}
 use Rattle.heap_state.specs.Invariant.Parts.Records.{NewArea, SpaceOf}
 use Rattle.heap_state.specs.Invariant.Parts.Stocks.{Stocks, Stocked, Numbered}
-use Rattle.heap_state.specs.Worker.{Stock, is_mutator}
+use Rattle.heap_state.specs.Known.{Stock, is_mutator}
 use Rattle.heap_state.proofs.Puts.{some_same, none≢some}
 use Rattle.heap_state.proofs.Worked.Ghost.{worked_table, worked_era, size, writer, identity, each_place, Sizes, sizes}
-use Rattle.heap_state.proofs.Worked.Pages.{page, workers, shut_4, page_3}
-use Rattle.heap_state.proofs.Worked.Records.{heap, blank_word, word_515, elsewhere}
+use Rattle.heap_state.proofs.Worked.WorkedPages.{page, workers, shut_4, page_3}
+use Rattle.heap_state.proofs.Worked.WorkedRecords.{heap, blank_word, word_515, elsewhere}
 use Rattle.std.specs.Prelude.{nat_lt}
 
 -- ---- where words lead

@@ -13,15 +13,15 @@ use Rattle.heap_state.specs.Invariant.Parts.Pages.{ScannedBy}
 use Rattle.heap_state.specs.Invariant.Parts.Stocks.{Stocks, Stocked, Numbered}
 use Rattle.heap_state.specs.Theorems.Workers.{FramesOfWorkers}
 use Rattle.heap_state.specs.Meaning.Values.{Accounts, RegistersShow}
-use Rattle.heap_state.specs.Worker.{Worker, Account, Stock, is_mutator, is_live, is_running, is_asking, is_gone, is_late}
+use Rattle.heap_state.specs.Known.{Known, Account, Stock, is_mutator, is_live, is_running, is_asking, is_gone, is_late}
 use Rattle.heap_state.proofs.Puts.{put_at, put_other, each_put, proj_put, sum_below-same}
 
-module _ (worker : ℕ → Worker) (k : ℕ) (w : Worker) where
-  abbrev after : ℕ → Worker
+module _ (worker : ℕ → Known) (k : ℕ) (w : Known) where
+  abbrev after : ℕ → Known
   after = put worker k w
 
   -- a count over workers that agree on what is counted
-  count_put : (count : ℕ) (is : Worker → Bool) → is w ≡ is (worker k) → sum_below count (λ j. count_one (is (worker j))) ≡ sum_below count (λ j. count_one (is (after j)))
+  count_put : (count : ℕ) (is : Known → Bool) → is w ≡ is (worker k) → sum_below count (λ j. count_one (is (worker j))) ≡ sum_below count (λ j. count_one (is (after j)))
   count_put count is e = sum_below-same count (λ j. count_one (is (worker j))) (λ j. count_one (is (after j))) (λ j l. ap count_one (sym (proj_put is worker k w j e)))
 
   pub counted_put : {gate : GateWord} {count : ℕ} → w.post ≡ (worker k).post → w.epoch ≡ (worker k).epoch → Counted gate count worker → Counted gate count after

@@ -6,14 +6,14 @@ use Rattle.heap_state.specs.Memory.Era.{Era}
 use Rattle.heap_state.specs.Invariant.Ghost.{Ghost}
 use Rattle.heap_state.specs.Invariant.Inductive.{Knows, KnowsAtPages}
 use Rattle.heap_state.specs.Invariant.Parts.Knowledge.{Timely, Ends, Clean}
-use Rattle.heap_state.specs.Worker.{Worker, Outside, Stock, fresh, is_mutator, is_asking, is_late}
+use Rattle.heap_state.specs.Known.{Known, Outside, Stock, fresh, is_mutator, is_asking, is_late}
 use Rattle.heap_state.proofs.Puts.{none≢some, true_false}
 
 -- the worker that stands where this one does, and has its account, its registers and its stock, but nothing else
-abbrev pub at_rest : Worker → Worker
+abbrev pub at_rest : Known → Known
 at_rest w = record (fresh w.post) { epoch = w.epoch; account = w.account; registers = w.registers; done = w.done; stock = w.stock }
 
-pub nothing_at_pages : {E : Era} {traced front behind : ℕ} {size writer : ℕ → ℕ} {page : ℕ → PageWord} (w : Worker) → KnowsAtPages E traced front behind size writer page (at_rest w)
+pub nothing_at_pages : {E : Era} {traced front behind : ℕ} {size writer : ℕ → ℕ} {page : ℕ → PageWord} (w : Known) → KnowsAtPages E traced front behind size writer page (at_rest w)
 nothing_at_pages w = record {
   round = λ r e. none≢some e;
   claim = λ q e. none≢some e;
@@ -21,7 +21,7 @@ nothing_at_pages w = record {
   last_look = λ l e. none≢some e;
 }
 
-pub idle_knows : {E : Era} {gate : GateWord} {traced front low old_front old_low old_owed : ℕ} {g : Ghost} {page : ℕ → PageWord} {cross announced heap : ℕ → ℕ} {k : ℕ} (w : Worker) → is_asking w.post ≡ false
+pub idle_knows : {E : Era} {gate : GateWord} {traced front low old_front old_low old_owed : ℕ} {g : Ghost} {page : ℕ → PageWord} {cross announced heap : ℕ → ℕ} {k : ℕ} (w : Known) → is_asking w.post ≡ false
     → Timely E w.post w.epoch w.done → Ends w.post (is_some w.account.end) → (w.post ≡ Outside → (j : ℕ) → j < 8 → w.registers j ≡ 0) → ((q : Stock) → w.stock ≡ Some q → q.epoch ≡ w.epoch)
     → (is_mutator w.post ≡ true → w.account.end ≡ None → Clean E g.size g.writer (is_late E.epoch w) w.done w.registers) → (is_late E.epoch w ≡ true → 0 < gate.behind) → g.kept k ≡ 0
     → Knows E gate traced front low old_front old_low old_owed g page cross announced heap k (at_rest w)

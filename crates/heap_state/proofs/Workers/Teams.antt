@@ -4,10 +4,10 @@ use Rattle.std.proofs.Math.ListN.{length-set}
 use Rattle.heap_state.specs.Configuration.{team_of}
 use Rattle.heap_state.specs.Functions.{put}
 use Rattle.heap_state.specs.Theorems.Workers.{TeamChanges, SumsByTerms}
-use Rattle.heap_state.specs.Worker.{Worker, Scanner, fresh}
+use Rattle.heap_state.specs.Known.{Known, Scanner, fresh}
 use Rattle.heap_state.proofs.Puts.{put_is, put_same, put_other, sum_below-change}
 
-pub team_changes : (mutators : ℕ) (workers : List Worker) (k : ℕ) (w : Worker) → k < length workers → TeamChanges mutators workers k w
+pub team_changes : (mutators : ℕ) (workers : List Known) (k : ℕ) (w : Known) → k < length workers → TeamChanges mutators workers k w
 team_changes mutators workers k w l = record {
   worker = put_is (team_of mutators workers).worker (team_of mutators (set workers k w)).worker k w (get_or-set_same workers k w (fresh Scanner) l) (λ j d. get_or-set_other workers k j w (fresh Scanner) d);
   count = length-set workers k w;

@@ -12,7 +12,7 @@ use Rattle.heap_state.specs.Memory.Era.{Era, Memory}
 use Rattle.heap_state.specs.Invariant.Ghost.{Ghost, Here}
 use Rattle.heap_state.specs.Meaning.Values.{value_of, Shows}
 use Rattle.heap_state.specs.Targets.{IsCopied}
-use Rattle.heap_state.specs.Worker.{Worker, Team, is_late, is_mutator}
+use Rattle.heap_state.specs.Known.{Known, Team, is_late, is_mutator}
 
 -- the word still leads into the old space, to a record of this identity
 pub record StillLeads (E : Era) (identity : ℕ → Identity) (w : ℕ) (i : Identity) : Type 0 where
@@ -22,7 +22,7 @@ pub record StillLeads (E : Era) (identity : ℕ → Identity) (w : ℕ) (i : Ide
   pub named : identity at ≡ i
 
 -- a board word, or a register that a worker has not forwarded yet, still leads to a record of this identity
-pub data RootLeads (E : Era) (count : ℕ) (identity : ℕ → Identity) (heap : ℕ → ℕ) (worker : ℕ → Worker) (i : Identity) : Type 0 where
+pub data RootLeads (E : Era) (count : ℕ) (identity : ℕ → Identity) (heap : ℕ → ℕ) (worker : ℕ → Known) (i : Identity) : Type 0 where
   ByBoard : (x : ℕ) → x < 16 → StillLeads E identity (heap (E.board + x)) i → RootLeads E count identity heap worker i
   ByRegister : (k r : ℕ) → k < count → r < 8 → is_late E.epoch (worker k) ≡ true → (worker k).done ≤ r → StillLeads E identity ((worker k).registers r) i
       → RootLeads E count identity heap worker i
@@ -49,13 +49,13 @@ pub record Copying (E : Era) (front : ℕ) (size writer copy keeper : ℕ → �
   pub only : (b : ℕ) → 0 < size b → E.start ≤ b → b < front → Reachable p (identity b)
 
 -- each root is copied, or a root's word still leads to it; and what a register leads to in the old space is reachable
-pub record Rooted (E : Era) (front count : ℕ) (size writer : ℕ → ℕ) (identity : ℕ → Identity) (heap : ℕ → ℕ) (worker : ℕ → Worker) (p : plain.Plain) : Type 0 where
+pub record Rooted (E : Era) (front count : ℕ) (size writer : ℕ → ℕ) (identity : ℕ → Identity) (heap : ℕ → ℕ) (worker : ℕ → Known) (p : plain.Plain) : Type 0 where
   pub roots : (i : Identity) → IsRoot p i → IsCopied E front size writer identity i ⊎ RootLeads E count identity heap worker i
   pub sound : (k r : ℕ) (i : Identity) → k < count → is_mutator (worker k).post ≡ true → (worker k).account.end ≡ None → r < 8
       → StillLeads E identity ((worker k).registers r) i → Reachable p i
 
 -- No record that was made since the flip was in the plain state then: none of the new area was, and no mutator had made more than now.
-pub record MadeSince (E : Era) (low mutators : ℕ) (size : ℕ → ℕ) (identity : ℕ → Identity) (worker : ℕ → Worker) (p : plain.Plain) : Type 0 where
+pub record MadeSince (E : Era) (low mutators : ℕ) (size : ℕ → ℕ) (identity : ℕ → Identity) (worker : ℕ → Known) (p : plain.Plain) : Type 0 where
   pub new : (a : ℕ) → 0 < size a → low ≤ a → a < E.start + E.span → plain.record_of p.heap (identity a) ≡ None
   pub grown : (k : ℕ) → k < mutators → plain.serial_of p.heap k ≤ (worker k).account.serial
 

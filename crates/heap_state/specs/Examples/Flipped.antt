@@ -12,7 +12,7 @@ use Rattle.space_map.specs.declared.page_word.PageWord.TheVariants.{Open}
 use Rattle.heap_state.specs.Configuration.{Configuration}
 use Rattle.heap_state.specs.Memory.Entries.{Entry, GateIs, TracedIs, AreaIs, WeakTurnIs, SizeIs, PageIs, WordIs, written}
 use Rattle.heap_state.specs.Examples.Worked.{made, zeros_after}
-use Rattle.heap_state.specs.Worker.{Worker, fresh, Stopped}
+use Rattle.heap_state.specs.Known.{Known, fresh, Stopped}
 
 -- one mutator is behind; the words in use at the flip, those of page 3, are owed
 abbrev pub flipped_entries : List Entry
@@ -32,7 +32,7 @@ flipped_entries =
     ∷ []
 
 -- it is of the epoch before, and its first register leads to the record
-abbrev pub late_mutator : Worker
+abbrev pub late_mutator : Known
 late_mutator = record (fresh Stopped) {
   account = record { counter = 12; printed = 7 ∷ []; executed = 20; serial = 1; end = None };
   registers = λ r. if r == 0 then pointer_word 192 else 0;

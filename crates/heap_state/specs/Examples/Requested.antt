@@ -14,7 +14,7 @@ use Rattle.heap_state.specs.Configuration.{Configuration}
 use Rattle.heap_state.specs.Examples.Flipped.{flipped_plain}
 use Rattle.heap_state.specs.Memory.Entries.{Entry, GateIs, TracedIs, AreaIs, WeakTurnIs, SizeIs, PageIs, WordIs, SnapIs}
 use Rattle.heap_state.specs.Saving.Written.{written_whole}
-use Rattle.heap_state.specs.Worker.{Worker, fresh, Running, Snapping, Clear}
+use Rattle.heap_state.specs.Known.{Known, fresh, Running, Snapping, Clear}
 
 -- nobody runs, and there is a request
 abbrev pub requested_gate : GateWord
@@ -38,7 +38,7 @@ requested_entries =
     ∷ []
 
 -- it has read the gate, and its first register leads to the record
-abbrev pub snapping_mutator : Worker
+abbrev pub snapping_mutator : Known
 snapping_mutator = record (fresh Snapping) {
   account = record { counter = 12; printed = 7 ∷ []; executed = 20; serial = 1; end = None };
   registers = λ r. if r == 0 then pointer_word 192 else 0;

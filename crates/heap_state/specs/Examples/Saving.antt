@@ -14,7 +14,7 @@ use Rattle.plain_state.specs.declared.value.Value.TheVariants.{Number, Reference
 use Rattle.plain_state.specs.State.{Record}
 use Rattle.space_map.specs.declared.page_word.PageWord.TheVariants.{Open}
 use Rattle.space_map.specs.declared.save_word.SaveWord.TheVariants.{Unsaved, Saving, Saved, New}
-use Rattle.heap_state.specs.Memory.Entries.{Entry, GateIs, TracedIs, AreaIs, WeakTurnIs, SizeIs, PageIs, WordIs, SnapIs, DoneIs, SaveIs, ImageIs}
+use Rattle.heap_state.specs.Memory.Entries.{Entry, GateIs, TracedIs, AreaIs, WeakTurnIs, SizeIs, PageIs, WordIs, SnapIs, LastSavedIs, SaveIs, ImageIs}
 use Rattle.heap_state.specs.Memory.Table.{table_of}
 use Rattle.heap_state.specs.Saving.Words.{saves_of}
 use Rattle.heap_state.specs.Saving.Frozen.{Frozen}
@@ -43,7 +43,7 @@ saving_entries =
     ∷ PageIs 3 (Open 0)
     ∷ PageIs 8 (Open 0)
     ∷ SnapIs 1
-    ∷ DoneIs 0
+    ∷ LastSavedIs 0
     ∷ SaveIs 2 (New 1)
     ∷ SaveIs 3 (Saved 1)
     ∷ SaveIs 8 (Saving 1 1)

@@ -15,7 +15,7 @@ use Rattle.plain_state.specs.State as plain
 use Rattle.space_map.specs.declared.page_word.PageWord.TheVariants.{Open, Scanning}
 use Rattle.heap_state.specs.Configuration.{Configuration}
 use Rattle.heap_state.specs.Memory.Entries.{Entry, GateIs, TracedIs, AreaIs, WeakTurnIs, SizeIs, PageIs, CrossIs, WordIs, AnnounceIs, written}
-use Rattle.heap_state.specs.Worker.{Worker, fresh, Running, Scanner, Scanned}
+use Rattle.heap_state.specs.Known.{Known, fresh, Running, Scanner, Scanned}
 
 -- ---- the table
 
@@ -58,7 +58,7 @@ worked_entries =
 -- ---- the workers
 
 -- mutator 0 holds the first record, and a run of three pages that it hasn't begun
-abbrev pub worked_mutator : Worker
+abbrev pub worked_mutator : Known
 worked_mutator = record (fresh Running) {
   epoch = 1;
   account = record { counter = 12; printed = 7 ∷ []; executed = 20; serial = 2; end = None };
@@ -67,7 +67,7 @@ worked_mutator = record (fresh Running) {
 }
 
 -- scanner 1 copies the second record, for the field at 258
-abbrev pub worked_scanner : Worker
+abbrev pub worked_scanner : Known
 worked_scanner = record (fresh Scanner) {
   epoch = 1;
   quest = Some (record { old = 195; origin = Scanned 258; found = None });

@@ -14,12 +14,12 @@ use Rattle.heap_state.specs.Kept.{kept_of}
 use Rattle.heap_state.specs.Meaning.Represents.{IsCopying, IsInHeap, IsOwn, IsFieldOf}
 use Rattle.heap_state.specs.Sums.{uncopied}
 use Rattle.heap_state.specs.Memory.Walk.{Walked, walk_of, old_walk_of, CrossingsHold}
-use Rattle.heap_state.specs.Worker.{Worker, Stopped, Stock, IsNotAhead, Copy, Scan, Claim, is_mutator, is_live, is_late}
+use Rattle.heap_state.specs.Known.{Known, Stopped, Stock, IsNotAhead, Copy, Scan, Claim, is_mutator, is_live, is_late}
 use Rattle.space_map.specs.Spaces.{page_of, first_word}
 use Rattle.space_map.specs.declared.spaces.TheConstants.{PAGE_WORDS}
 
 -- the worker at a number below the count
-abbrev pub worker_of : Configuration → ℕ → Worker
+abbrev pub worker_of : Configuration → ℕ → Known
 worker_of c k = (team c).worker k
 
 -- ---- what the parts speak of

@@ -12,7 +12,7 @@ use Rattle.heap_state.specs.Invariant.Ghost.{Leads}
 use Rattle.heap_state.specs.Meaning.Dump.{dump_of}
 use Rattle.heap_state.specs.Meaning.Represents.{IsCopying, IsOwn}
 use Rattle.heap_state.specs.Memory.Walk.{Walked, walk_of}
-use Rattle.heap_state.specs.Worker.{Linking, Pass, Begins, At, Done, cell_to_link}
+use Rattle.heap_state.specs.Known.{Linking, Pass, Begins, At, Done, cell_to_link}
 
 -- ---- the chain
 

@@ -7,7 +7,7 @@ use Rattle.space_map.specs.declared.spaces.TheConstants.{PAGE_WORDS}
 use Rattle.heap_state.specs.Memory.Era.{Era, Memory}
 use Rattle.heap_state.specs.Invariant.Ghost.{Ghost}
 use Rattle.heap_state.specs.Invariant.Parts.Cells.{Cells}
-use Rattle.heap_state.specs.Worker.{Worker, Team, Outside, Stock, GateStep, Reset, Access, Quest, Copy, Scan, Round, Claim, Look, LastLook, is_mutator, is_running, is_flipper, is_asking, is_late, is_sized}
+use Rattle.heap_state.specs.Known.{Known, Team, Outside, Stock, GateStep, Reset, Access, Quest, Copy, Scan, Round, Claim, Look, LastLook, is_mutator, is_running, is_flipper, is_asking, is_late, is_sized}
 use Rattle.heap_state.specs.Invariant.Parts.Records.{Laid, Headed, NewArea, NewWritten, RawWords, Counts}
 use Rattle.heap_state.specs.Invariant.Parts.Copies.{Copied, Once, Keepers, Room}
 use Rattle.heap_state.specs.Invariant.Parts.Pages.{Shut, Filling, Tracing, Aged, OldPages, Sizes, ScannedBy}
@@ -21,14 +21,14 @@ use Rattle.heap_state.specs.Invariant.Parts.Copying.{IsOrigin, Seeks, Copies, Ke
 use Rattle.heap_state.specs.Invariant.Parts.Scanning.{Scans, Stepping, Rounds, Claims, Looks, LastLooks}
 
 -- what a worker knows of pages, in a round of the duty
-pub record KnowsAtPages (E : Era) (traced front behind : ℕ) (size writer : ℕ → ℕ) (page : ℕ → PageWord) (w : Worker) : Type 0 where
+pub record KnowsAtPages (E : Era) (traced front behind : ℕ) (size writer : ℕ → ℕ) (page : ℕ → PageWord) (w : Known) : Type 0 where
   pub round : (r : Round) → w.round ≡ Some r → Rounds E traced front w.epoch r
   pub claim : (c : Claim) → w.claim ≡ Some c → Claims E front behind size writer page w.epoch c
   pub look : (l : Look) → w.look ≡ Some l → Looks E behind front page w.epoch l
   pub last_look : (l : LastLook) → w.last_look ≡ Some l → LastLooks E traced behind front page w.epoch l
 
 -- what worker k knows
-pub record Knows (E : Era) (gate : GateWord) (traced front low old_front old_low old_owed : ℕ) (g : Ghost) (page : ℕ → PageWord) (cross announced heap : ℕ → ℕ) (k : ℕ) (w : Worker) : Type 0 where
+pub record Knows (E : Era) (gate : GateWord) (traced front low old_front old_low old_owed : ℕ) (g : Ghost) (page : ℕ → PageWord) (cross announced heap : ℕ → ℕ) (k : ℕ) (w : Known) : Type 0 where
   pub timely : Timely E w.post w.epoch w.done
   pub ends : Ends w.post (is_some w.account.end)
   pub outside : w.post ≡ Outside → (j : ℕ) → j < 8 → w.registers j ≡ 0

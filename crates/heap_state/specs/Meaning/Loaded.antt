@@ -2,7 +2,7 @@
 use Rattle.std.specs.Prelude.{ℕ, ◌<◌, ⊤}
 use Rattle.heap_words.specs.Word.{number_word}
 use Rattle.plain_state.specs.declared.sizes.TheConstants.{NUMBERS}
-use Rattle.heap_state.specs.Worker.{Role, FieldRole, NumberRole, TargetRole, UnknownRole}
+use Rattle.heap_state.specs.Known.{Role, FieldRole, NumberRole, TargetRole, UnknownRole}
 
 -- the word that it holds for one that it has loaded
 abbrev pub word_held : Role → ℕ → ℕ

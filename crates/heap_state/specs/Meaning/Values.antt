@@ -15,7 +15,7 @@ use Rattle.heap_state.specs.Cells.{IsCopiedCell}
 use Rattle.heap_state.specs.Memory.Era.{Era, Memory}
 use Rattle.heap_state.specs.Invariant.Ghost.{Ghost}
 use Rattle.heap_state.specs.Targets.{IsCell, IsCopied, IsOld}
-use Rattle.heap_state.specs.Worker.{Team, Account}
+use Rattle.heap_state.specs.Known.{Team, Account}
 
 -- ---- words
 

@@ -9,7 +9,7 @@ use Rattle.space_map.specs.AreaWord.{AreaFits, encode_area}
 use Rattle.space_map.specs.GateWord.{GateFits, encode_gate}
 use Rattle.space_map.specs.PageWord.{PageFits, encode_page}
 use Rattle.space_map.specs.SaveWord.{SaveFits, encode_save}
-use Rattle.space_map.specs.Table.{Gate, Traced, Area, WeakHead, WeakTurn, Size, SnapNumber, DoneNumber, Page, Cross, HeapWord, Announce, SaveOf, ImageOf, IsRow, IsSaveRow, save_place_of, table_length}
+use Rattle.space_map.specs.Table.{Gate, Traced, Area, WeakHead, WeakTurn, Size, SnapNumber, LastSaved, Page, Cross, HeapWord, Announce, SaveOf, ImageOf, IsRow, IsSaveRow, save_place_of, table_length}
 pub use Rattle.space_map.specs.WholeTable.{WholeRow, Within, Behind, IsWholeRow, whole_place_of}
 use Rattle.heap_state.specs.Functions.{put}
 use Rattle.heap_state.specs.Memory.Table.{Table, word_in}
@@ -34,7 +34,7 @@ pub data Entry : Type 0 where
   WordIs : (addr word : ℕ) → Entry
   AnnounceIs : (worker place : ℕ) → Entry
   SnapIs : (number : ℕ) → Entry
-  DoneIs : (number : ℕ) → Entry
+  LastSavedIs : (number : ℕ) → Entry
   SaveIs : (page : ℕ) → SaveWord → Entry
   ImageIs : (addr word : ℕ) → Entry
 
@@ -50,7 +50,7 @@ row_of (CrossIs page place) = Within (Cross page)
 row_of (WordIs addr word) = Within (HeapWord addr)
 row_of (AnnounceIs worker place) = Within (Announce worker)
 row_of (SnapIs number) = Within SnapNumber
-row_of (DoneIs number) = Within DoneNumber
+row_of (LastSavedIs number) = Within LastSaved
 row_of (SaveIs page word) = Behind (SaveOf page)
 row_of (ImageIs addr word) = Behind (ImageOf addr)
 
@@ -67,7 +67,7 @@ word_of (CrossIs page place) = place
 word_of (WordIs addr word) = word
 word_of (AnnounceIs worker place) = place
 word_of (SnapIs number) = number
-word_of (DoneIs number) = number
+word_of (LastSavedIs number) = number
 word_of (SaveIs page word) = encode_save word
 word_of (ImageIs addr word) = word
 
@@ -84,7 +84,7 @@ EntryFits n (CrossIs page place) = IsRow n (Cross page)
 EntryFits n (WordIs addr word) = IsRow n (HeapWord addr)
 EntryFits n (AnnounceIs worker place) = IsRow n (Announce worker)
 EntryFits n (SnapIs number) = ⊤
-EntryFits n (DoneIs number) = ⊤
+EntryFits n (LastSavedIs number) = ⊤
 EntryFits n (SaveIs page word) = IsSaveRow n (SaveOf page) × SaveFits word
 EntryFits n (ImageIs addr word) = IsSaveRow n (ImageOf addr)
 
@@ -101,7 +101,7 @@ with_entry (CrossIs page place) t = record t { cross = put t.cross page place }
 with_entry (WordIs addr word) t = record t { heap = put t.heap addr word }
 with_entry (AnnounceIs worker place) t = record t { announced = put t.announced worker place }
 with_entry (SnapIs number) t = t
-with_entry (DoneIs number) t = t
+with_entry (LastSavedIs number) t = t
 with_entry (SaveIs page word) t = t
 with_entry (ImageIs addr word) t = t
 

@@ -2,7 +2,7 @@
 use Rattle.std.specs.Prelude.{ℕ, ◌+◌, max, nat_lt, if◌then◌else◌, Option, Some, None}
 use Rattle.plain_state.specs.declared.kind.Kind.{Kind}
 use Rattle.plain_state.specs.declared.kind.Kind.TheVariants.{Fields, Raw, Mixed, Weak}
-use Rattle.heap_state.specs.Worker.{SeenRecord}
+use Rattle.heap_state.specs.Known.{SeenRecord}
 
 -- The fields of a record are its words from the first field up to the fields' end, counted from its header.
 abbrev pub first_field : Kind → ℕ

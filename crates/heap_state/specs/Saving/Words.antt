@@ -4,7 +4,7 @@ use Rattle.space_map.specs.declared.save_word.SaveWord.{SaveWord}
 use Rattle.space_map.specs.declared.save_word.SaveWord.TheVariants.{Unsaved, Saving, Saved, New}
 use Rattle.space_map.specs.SaveWord.{decode_save}
 use Rattle.space_map.specs.Spaces.{page_of}
-use Rattle.space_map.specs.Table.{SnapNumber, DoneNumber, SaveRow, SaveOf, ImageOf, is_save_row, save_place_of, saving_length}
+use Rattle.space_map.specs.Table.{SnapNumber, LastSaved, SaveRow, SaveOf, ImageOf, is_save_row, save_place_of, saving_length}
 use Rattle.heap_state.specs.Memory.Table.{word_in}
 
 -- SNAP, the number of the last checkpoint begun; DONE, that of the last one finished; what each page's SAVE says; and the
@@ -29,7 +29,7 @@ save_said_in w = unwrap_or (decode_save w) Unsaved
 unfoldable pub saves_of : ℕ → List ℕ → Saves
 saves_of n words = record {
   snap = word_in n words SnapNumber;
-  done = word_in n words DoneNumber;
+  done = word_in n words LastSaved;
   save = λ page. save_said_in (save_word_in n words (SaveOf page));
   image = λ addr. save_word_in n words (ImageOf addr);
 }

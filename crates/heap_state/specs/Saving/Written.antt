@@ -3,13 +3,13 @@ use Rattle.std.specs.Prelude.{ℕ, List, [], ◌∷◌, replicate, slice_set}
 use Rattle.space_map.specs.Table.{saving_length}
 use Rattle.space_map.specs.declared.save_word.SaveWord.TheVariants.{Unsaved}
 use Rattle.heap_state.specs.Functions.{put}
-use Rattle.heap_state.specs.Memory.Entries.{Entry, SnapIs, DoneIs, SaveIs, ImageIs, row_of, word_of, whole_place_of}
+use Rattle.heap_state.specs.Memory.Entries.{Entry, SnapIs, LastSavedIs, SaveIs, ImageIs, row_of, word_of, whole_place_of}
 use Rattle.heap_state.specs.Saving.Words.{Saves}
 
 -- what is said of checkpoints if the row says it
 abbrev pub saves_with : Entry → Saves → Saves
 saves_with (SnapIs number) s = record s { snap = number }
-saves_with (DoneIs number) s = record s { done = number }
+saves_with (LastSavedIs number) s = record s { done = number }
 saves_with (SaveIs page v) s = record s { save = put s.save page v }
 saves_with (ImageIs addr word) s = record s { image = put s.image addr word }
 saves_with _ s = s

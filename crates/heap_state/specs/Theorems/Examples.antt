@@ -17,7 +17,7 @@ use Rattle.heap_state.specs.Saving.Written.{written_whole}
 use Rattle.space_map.specs.Table.{SaveOf}
 use Rattle.heap_state.specs.Sums.{uncopied}
 use Rattle.heap_state.specs.Memory.Walk.{walk_of, old_walk_of}
-use Rattle.heap_state.specs.Worker.{is_late}
+use Rattle.heap_state.specs.Known.{is_late}
 use Rattle.heap_state.specs.Examples.Worked.{worked, forwarded_wrong, opened_early, short_of_room, worked_plain, made}
 use Rattle.heap_state.specs.Configuration.{Stands, era, memory, team}
 use Rattle.heap_state.specs.Cycles.Cycle.{Cycle}

@@ -7,7 +7,7 @@ use Rattle.space_map.specs.declared.spaces.TheConstants.{LAST_WORKER, PAGE_WORDS
 use Rattle.space_map.specs.AreaWord.{AreaFits, encode_area}
 use Rattle.space_map.specs.GateWord.{GateFits, encode_gate}
 use Rattle.space_map.specs.PageWord.{PageFits, encode_page}
-use Rattle.space_map.specs.Table.{Row, Gate, Traced, Area, WeakHead, WeakTurn, Size, SnapNumber, DoneNumber, Page, Cross, HeapWord, Announce, IsRow, place_of}
+use Rattle.space_map.specs.Table.{Row, Gate, Traced, Area, WeakHead, WeakTurn, Size, SnapNumber, LastSaved, Page, Cross, HeapWord, Announce, IsRow, place_of}
 use Rattle.heap_state.specs.Memory.Entries.{WholeRow, Within, Behind, whole_place_of, IsWholeRow, Entry, row_of, word_of, EntryFits, with_entry, written, table_with, EachFits, HasSizes}
 use Rattle.heap_state.specs.Memory.Era.{era_of, memory_of, from_space, IsLaidOut}
 use Rattle.space_map.specs.Spaces.{to_space}
@@ -83,7 +83,7 @@ StoresAnnounce = (n : ℕ) (words : List ℕ) (worker word : ℕ) → IsFormed n
 -- the rows of checkpoints, which the decoded table doesn't show
 abbrev pub IsOfCheckpoints : WholeRow → Type 0
 IsOfCheckpoints (Within SnapNumber) = ⊤
-IsOfCheckpoints (Within DoneNumber) = ⊤
+IsOfCheckpoints (Within LastSaved) = ⊤
 IsOfCheckpoints (Within row) = ⊥
 IsOfCheckpoints (Behind row) = ⊤
 

@@ -5,7 +5,7 @@ use Rattle.plain_state.specs.State as plain
 use Rattle.space_map.specs.declared.save_word.SaveWord.{SaveWord}
 use Rattle.space_map.specs.SaveWord.{SaveFits, encode_save}
 use Rattle.space_map.specs.Spaces.{page_of}
-use Rattle.space_map.specs.Table.{Row, SnapNumber, DoneNumber, SaveOf, ImageOf, IsRow, place_of, save_place_of, table_length, saving_length}
+use Rattle.space_map.specs.Table.{Row, SnapNumber, LastSaved, SaveOf, ImageOf, IsRow, place_of, save_place_of, table_length, saving_length}
 use Rattle.heap_state.specs.Functions.{put}
 use Rattle.heap_state.specs.Memory.Entries.{Entry, EachFits, HasSizes, table_with}
 use Rattle.heap_state.specs.Memory.Table.{Table, table_of, IsFormed}
@@ -31,7 +31,7 @@ pub record ChangesSaves (n : ℕ) (words : List ℕ) (place word : ℕ) (s : Sav
 
 -- a store in a row of the table but SNAP and DONE leaves what is said of checkpoints
 abbrev pub SavesStay : Type 0
-SavesStay = (n : ℕ) (words : List ℕ) (row : Row) (word : ℕ) → IsRow n row → row ≢ SnapNumber → row ≢ DoneNumber
+SavesStay = (n : ℕ) (words : List ℕ) (row : Row) (word : ℕ) → IsRow n row → row ≢ SnapNumber → row ≢ LastSaved
     → SavesAre n words (place_of n row) word (saves_of n words)
 
 -- one in SNAP or DONE changes that number alone
@@ -39,7 +39,7 @@ pub record NumbersAreStored : Type 0 where
   pub snap : (n : ℕ) (words : List ℕ) (number : ℕ) → table_length n ≤ length words
       → ChangesSaves n words (place_of n SnapNumber) number (record (saves_of n words) { snap = number })
   pub done : (n : ℕ) (words : List ℕ) (number : ℕ) → table_length n ≤ length words
-      → ChangesSaves n words (place_of n DoneNumber) number (record (saves_of n words) { done = number })
+      → ChangesSaves n words (place_of n LastSaved) number (record (saves_of n words) { done = number })
 
 -- ---- in rows behind it
 

@@ -11,7 +11,7 @@ use Rattle.heap_state.specs.Invariant.Parts.Pages.{Quiet}
 use Rattle.space_map.specs.declared.page_word.PageWord.TheVariants.{Scanning}
 use Rattle.heap_state.specs.Invariant.Holds.{Holds}
 use Rattle.heap_state.specs.Meaning.Represents.{Represents}
-use Rattle.heap_state.specs.Worker.{Team, Copy, Scan}
+use Rattle.heap_state.specs.Known.{Team, Copy, Scan}
 use Rattle.space_map.specs.Spaces.{first_word}
 use Rattle.space_map.specs.declared.spaces.TheConstants.{PAGE_WORDS}
 

@@ -9,7 +9,7 @@ use Rattle.heap_state.specs.Invariant.Parts.Gate.{Counted, Staffed}
 use Rattle.heap_state.specs.Invariant.Parts.Pages.{ScannedBy}
 use Rattle.heap_state.specs.Invariant.Parts.Stocks.{Stocks, Numbered}
 use Rattle.plain_state.specs.declared.value.Identity.{Identity}
-use Rattle.heap_state.specs.Worker.{Worker}
+use Rattle.heap_state.specs.Known.{Known}
 
 -- ---- functions, sums and teams
 
@@ -23,17 +23,17 @@ abbrev pub SumsByTerms : Type 0
 SumsByTerms = (n : ℕ) (f : ℕ → ℕ) (a x : ℕ) → a < n → sum_below n (put f a x) + f a ≡ sum_below n f + x
 
 -- a worker changed in the list is changed in the team
-pub record TeamChanges (mutators : ℕ) (workers : List Worker) (k : ℕ) (w : Worker) : Type 0 where
+pub record TeamChanges (mutators : ℕ) (workers : List Known) (k : ℕ) (w : Known) : Type 0 where
   pub worker : (team_of mutators (slice_set workers k w)).worker ≡ put (team_of mutators workers).worker k w
   pub count : (team_of mutators (slice_set workers k w)).count ≡ (team_of mutators workers).count
 
 abbrev pub TeamsByWorkers : Type 0
-TeamsByWorkers = (mutators : ℕ) (workers : List Worker) (k : ℕ) (w : Worker) → k < length workers → TeamChanges mutators workers k w
+TeamsByWorkers = (mutators : ℕ) (workers : List Known) (k : ℕ) (w : Known) → k < length workers → TeamChanges mutators workers k w
 
 -- ---- parts that count over all workers
 
 -- the worker has the same post, epoch, stock, scan and serial
-pub record SameStanding (v w : Worker) : Type 0 where
+pub record SameStanding (v w : Known) : Type 0 where
   pub post : w.post ≡ v.post
   pub epoch : w.epoch ≡ v.epoch
   pub stock : w.stock ≡ v.stock
@@ -41,7 +41,7 @@ pub record SameStanding (v w : Worker) : Type 0 where
   pub serial : w.account.serial ≡ v.account.serial
 
 -- the parts that speak of all workers are kept where one of them changes
-pub record KeptByWorkers (worker after : ℕ → Worker) : Type 0 where
+pub record KeptByWorkers (worker after : ℕ → Known) : Type 0 where
   pub counted : (gate : GateWord) (count : ℕ) → Counted gate count worker → Counted gate count after
   pub staffed : (mutators count : ℕ) → Staffed mutators count worker → Staffed mutators count after
   pub scanned : (E : Era) (count : ℕ) (page : ℕ → PageWord) → ScannedBy E count page worker → ScannedBy E count page after
@@ -49,4 +49,4 @@ pub record KeptByWorkers (worker after : ℕ → Worker) : Type 0 where
   pub numbered : (mutators : ℕ) (size : ℕ → ℕ) (identity : ℕ → Identity) → Numbered mutators size identity worker → Numbered mutators size identity after
 
 abbrev pub FramesOfWorkers : Type 0
-FramesOfWorkers = (worker : ℕ → Worker) (k : ℕ) (w : Worker) → SameStanding (worker k) w → KeptByWorkers worker (put worker k w)
+FramesOfWorkers = (worker : ℕ → Known) (k : ℕ) (w : Known) → SameStanding (worker k) w → KeptByWorkers worker (put worker k w)

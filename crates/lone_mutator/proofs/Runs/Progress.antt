@@ -30,7 +30,7 @@ use Rattle.gc_core.specs.Core.{CoreState, opening_core, has_sizes, layout_by}
 use Rattle.gc_core.specs.Event.{Event, event_of, core_after, ready, fetched_task}
 use Rattle.gc_core.specs.Law.{IsLawful}
 use Rattle.gc_core.specs.Run.{all_ended, run_from}
-use Rattle.gc_core.proofs.Events.Opening.{limit_fits, sizes_fit}
+use Rattle.gc_core.proofs.Events.OpenedCore.{limit_fits, sizes_fit}
 use Rattle.gc_core.proofs.Events.Tasks.{at_look}
 use Rattle.gc_core.proofs.Events.Readied.{readied_awaits, readied_rests}
 use Rattle.gc_core.proofs.Events.Lawful.{event_none, event_some, lawful_after, lawful_opening, may_be_given, workers_after}
@@ -40,7 +40,7 @@ use Rattle.lone_mutator.specs.Lone.{IsLone, potential}
 use Rattle.lone_mutator.specs.Runs.{has_end, executed_by, KeepsPace, LoneMutatorsGoOn}
 use Rattle.lone_mutator.proofs.Runs.Tasks.{tasks_begin}
 use Rattle.lone_mutator.proofs.Runs.MostSteps.{costs_lt_most, most_le_most_of}
-use Rattle.lone_mutator.proofs.Runs.Opening.{heaps_open}
+use Rattle.lone_mutator.proofs.Runs.LoneOpening.{heaps_open}
 use Rattle.lone_mutator.proofs.Steps.Law.{lone_steps_lower}
 
 -- ---- its end

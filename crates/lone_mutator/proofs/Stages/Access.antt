@@ -1,6 +1,6 @@
-pub mod Outcomes
-pub mod Looking
-pub mod Headers
-pub mod Counts
-pub mod Words
-pub mod Stages
+pub mod PaidOutcomes
+pub mod LonePageLooks
+pub mod LoneHeaders
+pub mod AccessedCounts
+pub mod AccessedWords
+pub mod AccessCosts

@@ -1,4 +1,4 @@
-pub mod Going
-pub mod Pages
-pub mod Saves
-pub mod Stages
+pub mod NextCheckpointCost
+pub mod SaveRoundLoads
+pub mod RoundSaves
+pub mod CheckpointCosts

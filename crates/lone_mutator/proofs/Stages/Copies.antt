@@ -1,5 +1,5 @@
-pub mod Lowering
-pub mod Reading
-pub mod Going
+pub mod CopyMeasure
+pub mod CopyReads
+pub mod CopyCosts
 pub mod Scanned
 pub mod Registers

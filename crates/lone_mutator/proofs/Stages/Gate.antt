@@ -1,4 +1,4 @@
-pub mod Counts
+pub mod LoneGateCounts
 pub mod Passages
 pub mod Flip
 pub mod Look

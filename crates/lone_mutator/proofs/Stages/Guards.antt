@@ -41,8 +41,8 @@ use Rattle.lone_mutator.specs.Lone.{GuardStands, NobodyElseAnnounces, Remembers,
 use Rattle.lone_mutator.specs.Potential.{due_in, place_left, potential_in, size_in, write_left}
 use Rattle.lone_mutator.specs.Saving.{saving_in}
 use Rattle.lone_mutator.proofs.Epochs.SavedPages.{none_later, none_saves, saving_in-images}
-use Rattle.lone_mutator.proofs.Epochs.Saves.{saving_in-kept}
-use Rattle.lone_mutator.proofs.Stages.Saves.{OwesSave, saves_page}
+use Rattle.lone_mutator.proofs.Epochs.CheckpointDebt.{saving_in-kept}
+use Rattle.lone_mutator.proofs.Stages.SaveCosts.{OwesSave, saves_page}
 use Rattle.lone_mutator.proofs.Steps.Owed.{loads_any, wants}
 
 -- ---- the write behind it

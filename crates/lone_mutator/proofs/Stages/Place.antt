@@ -1,3 +1,3 @@
 pub mod Claiming
 pub mod Clearing
-pub mod Stages
+pub mod AllocationCosts

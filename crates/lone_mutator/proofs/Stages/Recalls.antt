@@ -4,7 +4,7 @@ use Rattle.std.proofs.lemmas.Bool.{lt-ltb}
 use Rattle.plain_state.specs.State.{Plain}
 use Rattle.atom_store.specs.declared.step.Step.TheVariants.{Load}
 use Rattle.space_map.specs.Spaces.{Layout}
-use Rattle.space_map.specs.Table.{SnapNumber, DoneNumber, place_of}
+use Rattle.space_map.specs.Table.{SnapNumber, LastSaved, place_of}
 use Rattle.gate_core.specs.declared.recall.recall_stage.RecallStage.{RecallStage}
 use Rattle.gate_core.specs.declared.recall.recall_stage.RecallStage.TheVariants.{LoadsSnap, LoadsDone, Ended}
 use Rattle.gate_core.specs.Recall.{Recalling, read_done, read_snap, running_of, told_at}
@@ -21,10 +21,10 @@ use Rattle.lone_mutator.specs.Bound.{flips_cost, growths}
 use Rattle.lone_mutator.specs.Law.{IsAlone, Lowers, SavesStand, StepsLower, saves}
 use Rattle.lone_mutator.specs.Lone.{GoesOnPlacing}
 use Rattle.lone_mutator.specs.Potential.{after_left, due_in, flips_left, growing_left, size_in}
-use Rattle.lone_mutator.proofs.Stages.Gate.Counts.{present}
-use Rattle.lone_mutator.proofs.Steps.GoingOn.{GoesAt, goes_placing}
+use Rattle.lone_mutator.proofs.Stages.Gate.LoneGateCounts.{present}
+use Rattle.lone_mutator.proofs.Steps.ResumedCosts.{GoesAt, goes_placing}
 use Rattle.lone_mutator.proofs.Steps.Owed.{loads, wants}
-use Rattle.lone_mutator.proofs.Stages.Checkpoints.Pages.{is_number}
+use Rattle.lone_mutator.proofs.Stages.Checkpoints.SaveRoundLoads.{is_number}
 
 module _ (c : Configuration) (p : Plain) (s : Stands c p) (y : Held) (l : Layout) (after : After) where
   abbrev reading : RecallStage → Recalling
@@ -45,7 +45,7 @@ module _ (c : Configuration) (p : Plain) (s : Stands c p) (y : Held) (l : Layout
     unfolding saves_of
     snap_fits = stands.words.order.2
 
-    done_fits : word_in c.pages c.words DoneNumber < 2 ^ 32
+    done_fits : word_in c.pages c.words LastSaved < 2 ^ 32
     unfolding saves_of
     done_fits = let order = stands.words.order in omega (arith, order)
 
@@ -65,7 +65,7 @@ module _ (c : Configuration) (p : Plain) (s : Stands c p) (y : Held) (l : Layout
 
     -- the mutator that has read them
     abbrev done : ℕ
-    done = word_in c.pages c.words DoneNumber
+    done = word_in c.pages c.words LastSaved
 
     abbrev z : Held
     z = recalled x (record { number = number; running = running_of number done })
@@ -96,8 +96,8 @@ module _ (c : Configuration) (p : Plain) (s : Stands c p) (y : Held) (l : Layout
 
     loads_done : StepsLower c x
     loads_done =
-        wants c p s x (Load (place_of c.pages DoneNumber)) (ap (λ n. Some (Load (place_of n DoneNumber))) (pages (LoadsDone number) a))
-        (loads c p s x DoneNumber tt
+        wants c p s x (Load (place_of c.pages LastSaved)) (ap (λ n. Some (Load (place_of n LastSaved))) (pages (LoadsDone number) a))
+        (loads c p s x LastSaved tt
         (subst (λ (o : Option ℕ). Reads (LoadsDone number) a (read_done number o)) (sym (is_number done (done_fits (LoadsDone number) a)))
         (record { remembers = goes.remembers; falls = (let within = goes.within in omega (arith, within)) })))
 

@@ -1,11 +1,11 @@
-pub mod Rounds
-pub mod Looks
-pub mod Ends
+pub mod LoneRounds
+pub mod RoundLooks
+pub mod EndLooks
 pub mod Claims
-pub mod Going
-pub mod Traced
+pub mod NextRoundCost
+pub mod TracedRoundCosts
 pub mod Loads
 pub mod Winning
 pub mod Turns
 pub mod Walks
-pub mod Stages
+pub mod RoundCosts

@@ -18,10 +18,10 @@ use Rattle.gc_worker.specs.declared.stage.Stage.TheVariants.{BeginsCheckpoint}
 use Rattle.gc_worker.specs.declared.task.Task.{Task}
 use Rattle.gc_worker.specs.Workers.Held.{Held, at_stage}
 use Rattle.gc_worker.specs.Steps.Turned.{told_effect, told_snap, turned, turned_snap}
-use Rattle.gc_worker.proofs.Stages.Gate.Words.{gate_now, gate_says}
-use Rattle.gc_worker.proofs.Workers.Parts.{has_room}
+use Rattle.gc_worker.proofs.Stages.Gate.GateWords.{gate_now, gate_says}
+use Rattle.gc_worker.proofs.Workers.KeptParts.{has_room}
 use Rattle.lone_mutator.specs.Law.{IsAlone, LowersWhereTold, PaysWhereTold, SavesStand, StepsLower, said, saves}
-use Rattle.lone_mutator.proofs.Stages.Gate.Counts.{running_is}
+use Rattle.lone_mutator.proofs.Stages.Gate.LoneGateCounts.{running_is}
 use Rattle.lone_mutator.proofs.Steps.Owed.{exchanges_any, loads, wants}
 
 module _ (c : Configuration) (p : Plain) (s : Stands c p) (y : Held) where

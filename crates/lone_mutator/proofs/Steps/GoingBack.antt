@@ -1,6 +1,6 @@
 -- What a round goes back to, by what its worker holds.
 use Rattle.std.proofs.Common.{◌≡◌, ℕ, true, refl}
-use Rattle.heap_state.specs.Worker.{is_running}
+use Rattle.heap_state.specs.Known.{is_running}
 use Rattle.gc_worker.specs.declared.stage.back.Back.{Back}
 use Rattle.gc_worker.specs.declared.stage.back.Back.TheVariants.{ToPlace, ToScanner}
 use Rattle.gc_worker.specs.Workers.Begun.{IsPastBack}

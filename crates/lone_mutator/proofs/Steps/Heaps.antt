@@ -14,7 +14,7 @@ use Rattle.space_map.specs.declared.gate_word.GateWord.{GateWord}
 use Rattle.heap_state.specs.Memory.Table.{Table}
 use Rattle.heap_state.specs.Configuration.{Configuration, Stands, table}
 use Rattle.heap_state.specs.Saving.Parts.{HasWonSave, KnowsSaving}
-use Rattle.heap_state.specs.Worker.{Account}
+use Rattle.heap_state.specs.Known.{Account}
 use Rattle.gc_worker.specs.declared.stage.after.After.TheVariants as afters
 use Rattle.gc_worker.specs.declared.stage.Stage.{Stage}
 use Rattle.gc_worker.specs.declared.stage.Stage.TheVariants.{Looks, Passes}
@@ -32,8 +32,8 @@ use Rattle.gc_worker.specs.Workers.Fits.{Fits, FitsGate, FitsStage}
 use Rattle.gc_worker.specs.Workers.Held.{Held}
 use Rattle.gc_worker.specs.Workers.Knows.{knows}
 use Rattle.gc_worker.specs.Workers.Saves.{saver_of, still_before, still_in, unfound_gate}
-use Rattle.gc_worker.proofs.Between.GoingOn.{workers_go_on}
-use Rattle.gc_worker.proofs.Between.Standing.{what_stands_is_so}
+use Rattle.gc_worker.proofs.Between.KeptTasks.{workers_go_on}
+use Rattle.gc_worker.proofs.Between.StandingHeaps.{what_stands_is_so}
 use Rattle.gc_worker.proofs.Words.Eras.{span_within}
 use Rattle.gc_worker.proofs.Workers.Members.{member}
 use Rattle.gc_worker.proofs.StepKeeps.{steps_keep}
@@ -43,8 +43,8 @@ use Rattle.lone_mutator.specs.Lone.{GateStands, IsLone, NobodyElseAnnounces, Rem
 use Rattle.lone_mutator.specs.Potential.{due_in, potential_at, potential_in}
 use Rattle.lone_mutator.specs.Saving.{saving_in}
 use Rattle.lone_mutator.proofs.Epochs.Cost.{due_le_longest}
-use Rattle.lone_mutator.proofs.Epochs.Saves.{saving_in-le}
-use Rattle.lone_mutator.proofs.Runs.Counts.{ends_not, executes_nothing, executes_one}
+use Rattle.lone_mutator.proofs.Epochs.CheckpointDebt.{saving_in-le}
+use Rattle.lone_mutator.proofs.Runs.ExecutedCounts.{ends_not, executes_nothing, executes_one}
 use Rattle.lone_mutator.proofs.Runs.MostSteps.{costs_lt_most, most_le_most_of}
 
 -- ---- what is said of checkpoints stands, as the only worker knows it

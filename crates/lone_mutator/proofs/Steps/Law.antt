@@ -12,19 +12,19 @@ use Rattle.gc_worker.specs.declared.stage.Stage.TheVariants.{Looks, Passes, Flip
 use Rattle.gc_worker.specs.Workers.Held.{Held, at_stage, has_seen_flip}
 use Rattle.gc_worker.specs.Steps.Stepped.{awaits_at}
 use Rattle.lone_mutator.specs.Law.{IsAlone, LoneStepsLower, StepsLower}
-use Rattle.lone_mutator.proofs.Stages.Access.Stages.{accesses}
-use Rattle.lone_mutator.proofs.Stages.Checkpoints.Stages.{saves_pages}
+use Rattle.lone_mutator.proofs.Stages.Access.AccessCosts.{accesses}
+use Rattle.lone_mutator.proofs.Stages.Checkpoints.CheckpointCosts.{saves_pages}
 use Rattle.lone_mutator.proofs.Stages.Copies.Registers.{forwards}
 use Rattle.lone_mutator.proofs.Stages.Copies.Scanned.{evacuates}
 use Rattle.lone_mutator.proofs.Stages.Gate.Flip.{flips_by}
 use Rattle.lone_mutator.proofs.Stages.Gate.Look.{looks}
 use Rattle.lone_mutator.proofs.Stages.Gate.Passages.{loads_gate, exchanges_gate}
 use Rattle.lone_mutator.proofs.Stages.Guards.{guards}
-use Rattle.lone_mutator.proofs.Stages.Place.Stages.{places}
+use Rattle.lone_mutator.proofs.Stages.Place.AllocationCosts.{places}
 use Rattle.lone_mutator.proofs.Stages.Recalls.{recalls}
-use Rattle.lone_mutator.proofs.Stages.Rounds.Stages.{serves}
-use Rattle.lone_mutator.proofs.Stages.Scan.Opening.{opens}
-use Rattle.lone_mutator.proofs.Stages.Scan.Stages.{scans_page}
+use Rattle.lone_mutator.proofs.Stages.Rounds.RoundCosts.{serves}
+use Rattle.lone_mutator.proofs.Stages.Scan.PageOpening.{opens}
+use Rattle.lone_mutator.proofs.Stages.Scan.ScanCosts.{scans_page}
 use Rattle.lone_mutator.proofs.Stages.Snaps.{snaps}
 use Rattle.lone_mutator.proofs.Steps.Heaps.{steps_lower}
 

@@ -18,8 +18,8 @@ use Rattle.gc_worker.specs.Steps.Turned.{Told, Silent, Empties, Answers, Marks, 
 use Rattle.gc_worker.specs.Steps.Wanted.{wanted}
 use Rattle.gc_worker.proofs.Plain.Quiet.{IsQuiet}
 use Rattle.lone_mutator.specs.Law.{Lowers, LowersWhereTold, Pays, PaysWhereTold, Said, StepsLower, said, saves}
-use Rattle.lone_mutator.proofs.Steps.Rows as steps
-use Rattle.lone_mutator.proofs.Steps.Rows.{SaysNoSaves}
+use Rattle.lone_mutator.proofs.Steps.TableSteps as steps
+use Rattle.lone_mutator.proofs.Steps.TableSteps.{SaysNoSaves}
 
 module _ (c : Configuration) (p : Plain) (s : Stands c p) (x : Held) where
   -- with this reply, where the table then is this

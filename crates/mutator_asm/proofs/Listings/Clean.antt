@@ -17,7 +17,7 @@ use Rattle.mutator_asm.proofs.Texts.Clean.{error_is, clean_none, clean_more}
 use Rattle.mutator_asm.proofs.Listings.Lines.{body_read, section_read, listed}
 use Rattle.mutator_asm.proofs.Listings.Code.{body_begins, body_counts}
 use Rattle.mutator_asm.proofs.Listings.Labels.{IsFound, not_again, body_found}
-use Rattle.mutator_asm.proofs.Listings.Rows.{schedule_row, begin_row, blank_row, section_row, IsInSection, body_in_section}
+use Rattle.mutator_asm.proofs.Listings.ErrorRows.{schedule_row, begin_row, blank_row, section_row, IsInSection, body_in_section}
 use Rattle.mutator_asm.proofs.Lists.Tests.{count_by-append, count_by-cons}
 use Rattle.mutator_asm.proofs.Lists.Seams.{later, first_on}
 

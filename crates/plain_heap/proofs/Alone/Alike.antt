@@ -14,13 +14,13 @@ use Rattle.plain_state.specs.Writing.{with_value, with_records, stored, took}
 use Rattle.mutator_asm.specs.declared.instr.Instr.{Instr}
 use Rattle.mutator_asm.specs.declared.instr.Instr.TheVariants as instrs
 use Rattle.plain_heap.specs.declared.action.Action.{Action}
-use Rattle.plain_heap.specs.declared.action.Action.TheVariants.{Sets, Jumps, Links, Prints, Makes, Measures, Loads, Stores, Exchanges, Snaps}
+use Rattle.plain_heap.specs.declared.action.Action.TheVariants.{Sets, Jumps, Links, Prints, Makes, Measures, Loads, Stores, Compares, Snaps}
 use Rattle.plain_heap.specs.Action.{◌>>=◌, are_same, next_of, action}
 use Rattle.plain_heap.specs.Call.{After, value_in, values_of, may_hold, store_in, filled, jumped, went_on, set_register, loads, allocated, performed, call}
 use Rattle.plain_heap.specs.Alone.{leaves_board}
 use Rattle.plain_heap.proofs.Calls.Named.{Spells, Names, named}
 use Rattle.plain_heap.proofs.Alone.Owned.{LeadsToOwn, OwnsRecords, register-own, word-own, held-own, loads-own, jumps-own, stores-own, fills-own, gains-own}
-use Rattle.plain_heap.proofs.Calls.Outcomes.{computed}
+use Rattle.plain_heap.proofs.Calls.CallOutcomes.{computed}
 
 -- two outcomes with the same end, or both with none
 abbrev pub Same : (After → After → Type 0) → Result After End → Result After End → Type 0
@@ -173,7 +173,7 @@ module _ (m : ℕ) (heap other : Heap) (k : Mutator) (same : made_by other m ≡
   performed-alike (Measures d i) is = owned (Measures d) i is (λ n. measures-alike d n)
   performed-alike (Loads d i x) is = owned (λ i. Loads d i x) i is (λ n. word-alike n x _ _ (λ v is_v. loads-alike d v is_v))
   performed-alike (Stores i x v) is = owned (λ i. Stores i x v) i is.0 (λ n. word-alike n x _ _ (λ old is_old. stores-alike n x v (went_on k) is.1 (jumps-own m (made_by heap m) k (next_of k) own)))
-  performed-alike (Exchanges d i x expected new) is = owned (λ i. Exchanges d i x expected new) i is.0 (λ n. word-alike n x _ _ (λ found is_found. exchange-alike d n x new (are_same found expected) is.2))
+  performed-alike (Compares d i x expected new) is = owned (λ i. Compares d i x expected new) i is.0 (λ n. word-alike n x _ _ (λ found is_found. exchange-alike d n x new (are_same found expected) is.2))
   performed-alike Snaps is = snaps-alike
   performed-alike _ is = absurd is.0
 

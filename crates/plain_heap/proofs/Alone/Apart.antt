@@ -11,7 +11,7 @@ use Rattle.plain_state.specs.State.{Record, Mutator, Plain, made_by, none_snappe
 use Rattle.mutator_asm.specs.declared.instr.Instr.{Instr}
 use Rattle.plain_heap.specs.Step.{ended}
 use Rattle.plain_heap.specs.Order.{fresh, opening}
-use Rattle.plain_heap.proofs.States.Opening.{opening-replicate}
+use Rattle.plain_heap.proofs.States.OpeningState.{opening-replicate}
 use Rattle.plain_heap.proofs.Alone.Alike.{HasRecords, unchanged}
 use Rattle.plain_heap.proofs.Alone.Owned.{LeadsToOwn, AllOf, OwnsRecords, read_all}
 use Rattle.plain_heap.proofs.Alone.Runs.{mutator_of}

@@ -16,9 +16,9 @@ use Rattle.plain_heap.specs.declared.mark.Mark.{Mark}
 use Rattle.plain_heap.specs.declared.mark.Mark.TheVariants.{Step, Flip, Full, Traced}
 use Rattle.plain_heap.specs.Order.{ended_for_want, fresh, is_asked}
 use Rattle.plain_heap.specs.Alone.{leaves_board, shares_nothing}
-use Rattle.plain_heap.proofs.States.Steps.{stepped-past}
+use Rattle.plain_heap.proofs.States.MutatorSteps.{stepped-past}
 use Rattle.plain_heap.proofs.Alone.Owned.{OwnsRecords, found_all, read_all}
-use Rattle.plain_heap.proofs.Alone.Marks.{marked}
+use Rattle.plain_heap.proofs.Alone.MarksAlone.{marked}
 use Rattle.plain_heap.proofs.Alone.Alike.{Same, GoAlike, HasRecords, call-alike, same-bind, unchanged}
 use Rattle.plain_heap.proofs.Alone.Runs.{mutator_of, stepped-rests, stepped-goes}
 use Rattle.plain_heap.proofs.Alone.Apart.{IsApart, IsMoved, MovesMutator, HasSameMutator, moves-other, moved-meets, moves-apart, moves-mutator, stays-moves, full-moves}

@@ -12,9 +12,9 @@ use Rattle.plain_heap.specs.declared.mark.Mark.{Mark}
 use Rattle.plain_heap.specs.declared.mark.Mark.TheVariants.{Step, Flip, Full, Traced}
 use Rattle.plain_heap.specs.Order.{fresh, opening, plain}
 use Rattle.plain_heap.specs.Alone.{shares_nothing, run_alone, is_heap_full, IsAsAlone}
-use Rattle.plain_heap.proofs.States.Steps.{stepped-past}
-use Rattle.plain_heap.proofs.Calls.Counts.{Grown}
-use Rattle.plain_heap.proofs.Alone.Marks.{marked, plain-alone, state_after, steps-alone}
+use Rattle.plain_heap.proofs.States.MutatorSteps.{stepped-past}
+use Rattle.plain_heap.proofs.Calls.CountedCalls.{Grown}
+use Rattle.plain_heap.proofs.Alone.MarksAlone.{marked, plain-alone, state_after, steps-alone}
 use Rattle.plain_heap.proofs.Alone.Runs.{mutator_of, after_steps, stepped-rests, steps-come, steps-end}
 use Rattle.plain_heap.proofs.Alone.Apart.{IsApart, HasSameMutator, moves-apart, full-moves, ended-mutator, opening-apart, opening-begun}
 use Rattle.plain_heap.proofs.Alone.Moves.{step-alike, mover, GetsFullEnd, fills, marked-apart, marked-other, marked-rests}

@@ -17,7 +17,7 @@ use Rattle.plain_state.specs.Writing.{with_value}
 use Rattle.plain_heap.specs.Action.{◌>>=◌, register, in_record}
 use Rattle.plain_heap.specs.Call.{values_of, value_in, may_hold, filled, jumped, set_register}
 use Rattle.plain_heap.proofs.Calls.Named.{FillsKind}
-use Rattle.plain_heap.proofs.Calls.Records.{held_same}
+use Rattle.plain_heap.proofs.Calls.RecordsAfterCalls.{held_same}
 
 -- a number, or a reference to a record of mutator m
 abbrev pub LeadsToOwn : ℕ → Value → Type 0

@@ -13,9 +13,9 @@ use Rattle.plain_heap.specs.Call.{After, call}
 use Rattle.plain_heap.specs.Step.{fetch, executes, settled, stepped_if, stepped_as, mutator_in, stepped}
 use Rattle.plain_heap.specs.declared.mark.Mark.TheVariants.{Step}
 use Rattle.plain_heap.specs.Order.{fresh}
-use Rattle.plain_heap.proofs.Alone.Marks.{state_after}
+use Rattle.plain_heap.proofs.Alone.MarksAlone.{state_after}
 use Rattle.plain_heap.proofs.Calls.Rest.{settled-count}
-use Rattle.plain_heap.proofs.Calls.Counts.{Grown, grown-refl, grown-trans, Went, call-went}
+use Rattle.plain_heap.proofs.Calls.CountedCalls.{Grown, grown-refl, grown-trans, Went, call-went}
 
 -- what mutator m is
 abbrev pub mutator_of : Plain → ℕ → Mutator

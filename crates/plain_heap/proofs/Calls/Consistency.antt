@@ -24,17 +24,17 @@ use Rattle.plain_state.specs.Operation.{one_if, applied, divided_by}
 use Rattle.plain_state.specs.State.{Record, Heap, Mutator, made_by, record_of, serial_of, IsMade, IsValue}
 use Rattle.plain_state.specs.Writing.{with_value, with_board, stored, gained, took}
 use Rattle.plain_state.proofs.Gained.{gained_made, gained_newest, gained_makers}
-use Rattle.plain_state.proofs.Lists.{slice_get-replicate, slice_get-set_other, set-found}
+use Rattle.plain_state.proofs.Elements.{slice_get-replicate, slice_get-set_other, set-found}
 use Rattle.plain_state.proofs.Stored.{stored_made, stored_makers}
 use Rattle.mutator_asm.specs.declared.instr.Instr.{Instr}
 use Rattle.mutator_asm.specs.declared.instr.Instr.TheVariants as instrs
 use Rattle.mutator_asm.specs.Program.{is_valid, is_register, is_number, is_target}
 use Rattle.plain_heap.specs.declared.action.Action.{Action}
-use Rattle.plain_heap.specs.declared.action.Action.TheVariants.{Sets, Jumps, Links, Prints, Makes, Measures, Loads, Stores, Exchanges, Gets, Puts, Swaps, Snaps}
+use Rattle.plain_heap.specs.declared.action.Action.TheVariants.{Sets, Jumps, Links, Prints, Makes, Measures, Loads, Stores, Compares, Gets, Puts, Swaps, Snaps}
 use Rattle.plain_heap.specs.Action.{◌>>=◌, register, next_of, in_record, action}
 use Rattle.plain_heap.specs.Call.{After, values_of, value_in, board_word, as_plain, may_hold, store_in, filled, jumped, went_on, set_register, loads, allocated, performed, call}
 use Rattle.plain_heap.proofs.Calls.Named.{Spells, Names, FillsKind, named, fits-short}
-use Rattle.plain_heap.proofs.Calls.Outcomes.{if_ok-bind, if_ok-then, performed_exchange}
+use Rattle.plain_heap.proofs.Calls.CallOutcomes.{if_ok-bind, if_ok-then, performed_exchange}
 use Rattle.plain_heap.proofs.Alone.Owned.{read_all, found_serial}
 
 -- ---- a heap with more records
@@ -301,7 +301,7 @@ module _ (m : ℕ) (heap : Heap) (k : Mutator) (is_heap : IsHeap heap) (is_mutat
   performed-kept (Measures d i) is = loads-kept d (Number (length (values_of heap i))) (omega (arith, (values-found heap is_heap i (record_of heap i) refl).1))
   performed-kept (Loads d i x) is = if_ok-then (IsValue heap) (AfterIsConsistent heap) (value_in heap i x) _ (value_in-value heap is_heap i x) (λ v is_v. loads-kept d v is_v)
   performed-kept (Stores i x v) is = if_ok-bind (AfterIsConsistent heap) (value_in heap i x) _ (λ old. stores-kept (went_on k) (jumps-kept (next_of k) next_of-small).mutator i (record_of heap i) x v refl is.1)
-  performed-kept (Exchanges d i x expected new) is =
+  performed-kept (Compares d i x expected new) is =
       performed_exchange m heap k d i x expected new (AfterIsConsistent heap) (loads-kept d (Number 0) (omega arith))
       (stores-kept (went_on (set_register k d (Number 1))) (loads-kept d (Number 1) (omega arith)).mutator i (record_of heap i) x new refl is.2)
   performed-kept (Gets d x) is = loads-kept d (board_word heap x) (board_word-value heap is_heap x)

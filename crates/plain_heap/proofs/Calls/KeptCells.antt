@@ -17,7 +17,7 @@ use Rattle.plain_heap.specs.Action.{◌>>=◌, action, reference_in, register}
 use Rattle.plain_heap.specs.Call.{After, call, performed}
 use Rattle.plain_heap.specs.Step.{settled}
 use Rattle.plain_heap.specs.Tracing.{is_weak}
-use Rattle.plain_heap.proofs.Calls.Cells.{cells_stay, gained_is, no_cell_comes}
+use Rattle.plain_heap.proofs.Calls.MadeCells.{cells_stay, gained_is, no_cell_comes}
 use Rattle.plain_heap.proofs.Reaching.Emptying.{has-cell}
 
 -- ---- cells stay

@@ -18,9 +18,9 @@ use Rattle.mutator_asm.specs.declared.instr.Instr.{Instr}
 use Rattle.mutator_asm.specs.declared.instr.Instr.TheVariants as instrs
 use Rattle.mutator_asm.specs.declared.operand.Operand.{Operand}
 use Rattle.plain_heap.specs.declared.action.Action.{Action}
-use Rattle.plain_heap.specs.declared.action.Action.TheVariants.{Sets, Jumps, Links, Prints, Makes, Measures, Loads, Stores, Exchanges, Gets, Puts, Swaps, Snaps}
+use Rattle.plain_heap.specs.declared.action.Action.TheVariants.{Sets, Jumps, Links, Prints, Makes, Measures, Loads, Stores, Compares, Gets, Puts, Swaps, Snaps}
 use Rattle.plain_heap.specs.Action.{◌>>=◌, register, as_number, reference_in, is_zero, is_reference, are_same, operand, next_of, length_of, in_record, on_board, board_place, computes, allocates, mixed_length, mixes, prints, action}
-use Rattle.plain_heap.proofs.Calls.Outcomes.{if_ok-bind, if_ok-then}
+use Rattle.plain_heap.proofs.Calls.CallOutcomes.{if_ok-bind, if_ok-then}
 
 -- P holds of the numbers that an instruction spells, and B where it names the board
 abbrev pub Spells : (Value → Type 0) → Type 0 → Instr → Type 0
@@ -61,7 +61,7 @@ Names P B k (Makes kind d n v) = FitsKind kind n × FillsKind P kind v
 Names P B k (Measures d i) = P (Reference i)
 Names P B k (Loads d i x) = P (Reference i)
 Names P B k (Stores i x v) = P (Reference i) × P v
-Names P B k (Exchanges d i x expected new) = P (Reference i) × P expected × P new
+Names P B k (Compares d i x expected new) = P (Reference i) × P expected × P new
 Names P B k (Gets d x) = B × (x < BOARD_WORDS)
 Names P B k (Puts x v) = B × (x < BOARD_WORDS) × P v
 Names P B k (Swaps d x v) = B × (x < BOARD_WORDS) × P v

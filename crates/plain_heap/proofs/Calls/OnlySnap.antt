@@ -18,8 +18,8 @@ use Rattle.plain_heap.specs.declared.action.Action.{Action}
 use Rattle.plain_heap.specs.declared.action.Action.TheVariants.{Snaps, Prints}
 use Rattle.plain_heap.specs.Action.{◌>>=◌, action, register, as_number, reference_in, operand, length_of, mixed_length, board_place, computes, allocates}
 use Rattle.plain_heap.specs.Call.{call, went_on}
-pub use Rattle.plain_heap.specs.LastCheckpoint.{is_snap}
-use Rattle.plain_heap.proofs.Calls.Outcomes.{if_ok-bind}
+pub use Rattle.plain_heap.specs.Checkpoints.LastCheckpoint.{is_snap}
+use Rattle.plain_heap.proofs.Calls.CallOutcomes.{if_ok-bind}
 
 abbrev pub is_snaps : Action → Bool
 is_snaps Snaps = true

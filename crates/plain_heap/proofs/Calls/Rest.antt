@@ -8,15 +8,15 @@ use Rattle.plain_state.specs.declared.value.Value.{Value}
 use Rattle.plain_state.specs.declared.value.Value.TheVariants.{Number}
 use Rattle.plain_state.specs.State.{Record, Heap, Mutator, Plain, record_of, serial_of}
 use Rattle.plain_state.specs.Writing.{stored}
-use Rattle.plain_state.proofs.Lists.{slice_get-set_other}
+use Rattle.plain_state.proofs.Elements.{slice_get-set_other}
 use Rattle.plain_state.proofs.Stored.{stored_serial}
 use Rattle.plain_heap.specs.declared.action.Action.{Action}
-use Rattle.plain_heap.specs.declared.action.Action.TheVariants.{Makes, Loads, Stores, Exchanges}
+use Rattle.plain_heap.specs.declared.action.Action.TheVariants.{Makes, Loads, Stores, Compares}
 use Rattle.plain_heap.specs.Action.{◌>>=◌, action}
 use Rattle.plain_heap.specs.Call.{After, value_in, may_hold, store_in, filled, set_register, performed, call, went_on}
 use Rattle.plain_heap.specs.Calls.{CallLeavesOthers, CallKeepsCount, CallMakesNewRecord, IsMadeBy, NewRecordIsMade, ElseNoneIsMade, AsksForNewRecord}
 use Rattle.plain_heap.specs.Step.{settled, record_made}
-use Rattle.plain_heap.proofs.Calls.Outcomes.{if_ok-bind, if_ok-is, performed_exchange}
+use Rattle.plain_heap.proofs.Calls.CallOutcomes.{if_ok-bind, if_ok-is, performed_exchange}
 
 -- ---- the other mutators
 
@@ -63,7 +63,7 @@ module _ (m j : ℕ) (heap : Heap) (k : Mutator) where
   performed-none (Makes kind d n v) none = cc
   performed-none (Loads d i x) none = if_ok-bind MakesNone (value_in heap i x) _ (λ v. refl)
   performed-none (Stores i x v) none = if_ok-bind MakesNone (value_in heap i x) _ (λ old. stores-none (went_on k) i (record_of heap i) x v refl)
-  performed-none (Exchanges d i x expected new) none =
+  performed-none (Compares d i x expected new) none =
       performed_exchange m heap k d i x expected new MakesNone refl (stores-none (went_on (set_register k d (Number 1))) i (record_of heap i) x new refl)
   performed-none _ none = refl
 

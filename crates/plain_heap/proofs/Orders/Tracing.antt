@@ -20,9 +20,9 @@ use Rattle.plain_heap.specs.Order.{Story, ended_for_want, first_story, is_asked,
 use Rattle.plain_heap.specs.Step.{asked_by, ended, fetch, mutator_in, settled, stepped, stepped_as, stepped_if}
 use Rattle.plain_heap.specs.Tracing.{TracingIsDoneOnce, TracingNeedsFlip}
 use Rattle.plain_heap.specs.Records.{RecordShape, shape, shape_of}
-use Rattle.plain_heap.proofs.Calls.Cells.{cells_stay}
-use Rattle.plain_heap.proofs.Calls.Records.{stored_shape}
-use Rattle.plain_heap.proofs.Orders.Cells.{opening-none}
+use Rattle.plain_heap.proofs.Calls.MadeCells.{cells_stay}
+use Rattle.plain_heap.proofs.Calls.RecordsAfterCalls.{stored_shape}
+use Rattle.plain_heap.proofs.Orders.NoCells.{opening-none}
 use Rattle.plain_heap.proofs.Orders.Stories.{story-no_flip, story_after-append}
 use Rattle.plain_heap.proofs.Reaching.Emptying.{AreEmptied, IsEmptied, NoCells, emptied-already, emptied-none, emptied_heap_keeps, emptied_of_lost_cells, has-cell, without-again}
 

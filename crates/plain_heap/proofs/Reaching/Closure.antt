@@ -15,7 +15,7 @@ use Rattle.plain_state.specs.declared.value.Value.TheVariants.{Number, Reference
 use Rattle.plain_state.specs.Layout.{is_field, word_of_value}
 use Rattle.plain_state.specs.Reachable.{Reachable, FromRegister, FromBoard, FromRecord}
 use Rattle.plain_state.specs.State.{Record, Heap, Mutator, Plain, made_by, record_of}
-use Rattle.plain_state.proofs.Lists.{at_serial_within}
+use Rattle.plain_state.proofs.Elements.{at_serial_within}
 use Rattle.plain_state.proofs.Stored.{maker_within}
 use Rattle.plain_heap.specs.Action.{are_same}
 use Rattle.plain_heap.specs.Reaching.{ReachesIsReachable, closure, fields_at, fields_of, held_by, identities, identities_by, is_led_to, reached_records, reaches, refer_to, roots}

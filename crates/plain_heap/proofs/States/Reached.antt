@@ -27,9 +27,9 @@ use Rattle.plain_heap.specs.declared.mark.Mark.TheVariants.{Step, Flip, Full, Tr
 use Rattle.plain_heap.specs.Order.{Story, ended_for_want, first_story, fresh, is_asked, opening, plain, story_after, story_marked}
 use Rattle.plain_heap.specs.Emptied.{emptied}
 use Rattle.plain_heap.proofs.Calls.Consistency.{AfterIsConsistent, HeapGrows, mutator-grows, call-kept, stored-kept}
-use Rattle.plain_heap.proofs.Calls.Outcomes.{if_ok-then}
+use Rattle.plain_heap.proofs.Calls.CallOutcomes.{if_ok-then}
 use Rattle.plain_heap.proofs.Reaching.Emptying.{emptied_heap_keeps, emptied_of_lost_cells}
-use Rattle.plain_heap.proofs.States.Opening.{opening-replicate}
+use Rattle.plain_heap.proofs.States.OpeningState.{opening-replicate}
 use Rattle.plain_heap.proofs.Alone.Owned.{found_all}
 
 -- ---- the opening

@@ -7,7 +7,7 @@ use Rattle.plain_state.specs.State.{Plain, Record, record_of}
 use Rattle.plain_heap.specs.Reaching.{fields_at, reaches, roots}
 use Rattle.plain_machine.specs.Search.{AreOfReachable, Search, followed, is_unset, mark_of, no_marks, unset}
 use Rattle.plain_machine.proofs.Found.Following.{Follows, IsCovered, IsFound, follows-all}
-use Rattle.plain_machine.proofs.Found.Marks.{no_mark_set, none_set}
+use Rattle.plain_machine.proofs.Found.SetMarks.{no_mark_set, none_set}
 use Rattle.plain_heap.proofs.Reaching.Closure.{In-fields_at, board-root, field-reachable, reachable-reaches, reaches-reachable, register-root, root-reachable}
 use Rattle.plain_heap.proofs.Reaching.Members.{In, In-append_cases, In-append_left}
 

@@ -4,7 +4,7 @@ use Rattle.plain_state.specs.declared.value.Identity.{Identity}
 use Rattle.plain_state.specs.declared.value.Value.{Value}
 use Rattle.plain_state.specs.declared.value.Value.TheVariants.{Number, Reference}
 use Rattle.plain_machine.specs.Search.{Search, followed, is_unset, mark_of, unset, with_mark}
-use Rattle.plain_machine.proofs.Found.Marks.{one_set, set_apart, set_there}
+use Rattle.plain_machine.proofs.Found.SetMarks.{one_set, set_apart, set_there}
 use Rattle.plain_heap.proofs.Reaching.Emptying.{IsApart, cases_same}
 use Rattle.plain_heap.proofs.Reaching.Members.{In, In-append_cases, In-append_left, In-append_right}
 

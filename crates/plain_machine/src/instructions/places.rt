@@ -119,7 +119,7 @@ pub fn exchange(
     let identity = mutator.reference(a)?;
     let x = mutator.operand(x)?;
     let expected = mutator.register(b);
-    Ok(Action::Exchanges(d, identity, x, expected, mutator.register(c)))
+    Ok(Action::Compares(d, identity, x, expected, mutator.register(c)))
 }
 
 /// `len rd ra`

@@ -52,7 +52,7 @@ impl Access {
             RecordUse::TellsLength(into) => tells_length(into, len),
             RecordUse::Loads(into) => self.load(r, role, len, into),
             RecordUse::Stores(new) => self.store(r, role, len, FieldUse::Stores(new), new),
-            RecordUse::Exchanges(e) => self.exchange(r, role, len, e),
+            RecordUse::Compares(e) => self.exchange(r, role, len, e),
         }
     }
 
@@ -105,8 +105,8 @@ impl Access {
         requires in_heap { IsHeapAddress self.old.spaces.pages r.at }
         requires short { len ≤ 4095 }
         requires is_value { IsValueWord e.new }
-        ensures state { self.new ≡ goes_by self.old (storing (field_of r.at 1 role r.value) (FieldUse.Exchanges e) (may_store role e.new (in_record len r.value))) }
-        ensures tells { result ≡ turn_by (storing (field_of r.at 1 role r.value) (FieldUse.Exchanges e) (may_store role e.new (in_record len r.value))) }
+        ensures state { self.new ≡ goes_by self.old (storing (field_of r.at 1 role r.value) (FieldUse.Compares e) (may_store role e.new (in_record len r.value))) }
+        ensures tells { result ≡ turn_by (storing (field_of r.at 1 role r.value) (FieldUse.Compares e) (may_store role e.new (in_record len r.value))) }
     {
         self.spaces.known();
         if r.value >= u64::from(len) {
@@ -123,10 +123,10 @@ impl Access {
         requires in_heap { field_at f < 2 ^ 32 }
         requires behind { (0 < f.first) × (f.first ≤ f.word) }
         requires is_value { IsValueWord e.new }
-        ensures state { (x : ℕ) → self.new ≡ goes_by self.old (storing f (FieldUse.Exchanges e) (may_hold (kind_of f.role) x (value_seen e.new))) }
-        ensures tells { (x : ℕ) → goes_on_if result ≡ turn_by (storing f (FieldUse.Exchanges e) (may_hold (kind_of f.role) x (value_seen e.new))) }
+        ensures state { (x : ℕ) → self.new ≡ goes_by self.old (storing f (FieldUse.Compares e) (may_hold (kind_of f.role) x (value_seen e.new))) }
+        ensures tells { (x : ℕ) → goes_on_if result ≡ turn_by (storing f (FieldUse.Compares e) (may_hold (kind_of f.role) x (value_seen e.new))) }
     {
-        self.store_in(f, FieldUse::Exchanges(e), e.new)
+        self.store_in(f, FieldUse::Compares(e), e.new)
     }
 
     /// A mixed record has the value or not by its header; what role it has the count says, which stands behind that.
@@ -141,7 +141,7 @@ impl Access {
             RecordUse::TellsLength(into) => tells_length(into, len),
             RecordUse::Loads(into) => self.go_to_count(r, len, FieldUse::Loads(into)),
             RecordUse::Stores(new) => self.go_to_count(r, len, FieldUse::Stores(new)),
-            RecordUse::Exchanges(e) => self.go_to_count(r, len, FieldUse::Exchanges(e)),
+            RecordUse::Compares(e) => self.go_to_count(r, len, FieldUse::Compares(e)),
         }
     }
 
@@ -156,7 +156,7 @@ impl Access {
         match r.usage {
             RecordUse::TellsLength(into) => tells_length(into, len),
             RecordUse::Loads(into) => self.load(r, Role::Target, len, into),
-            RecordUse::Stores(_) | RecordUse::Exchanges(_) => {
+            RecordUse::Stores(_) | RecordUse::Compares(_) => {
                 Turn::Finished(Accessed::Fails(refusal(r.value, len)))
             }
         }
@@ -231,7 +231,7 @@ impl Access {
                 true
             }
             FieldUse::Stores(new) => self.store_in(f, m.usage, new),
-            FieldUse::Exchanges(e) => self.store_in(f, m.usage, e.new),
+            FieldUse::Compares(e) => self.store_in(f, m.usage, e.new),
         }
     }
 

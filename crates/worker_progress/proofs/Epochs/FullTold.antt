@@ -15,7 +15,7 @@ use Rattle.alloc_end.specs.Place as place
 use Rattle.alloc_end.specs.Place.{Placing, pages_for, size_of, words_for, fits, shortage, looked_at_area}
 use Rattle.heap_state.specs.Configuration.{era}
 use Rattle.heap_state.specs.Memory.Table.{word_in}
-use Rattle.heap_state.specs.Worker.{Worker}
+use Rattle.heap_state.specs.Known.{Known}
 use Rattle.gc_worker.specs.declared.stage.Stage.TheVariants.{Places}
 use Rattle.gc_worker.specs.declared.task.Task.{Task}
 use Rattle.gc_worker.specs.declared.task.Task.TheVariants.{Calls}
@@ -28,7 +28,7 @@ use Rattle.gc_worker.specs.Laws.Step.{Heap, WorkersStand, read as as_read}
 use Rattle.gc_worker.specs.Steps.Goes.{Is}
 use Rattle.gc_worker.specs.Steps.Turned.{Silent, Answers, is_full, end_by_shortage, told_end, told_place}
 use Rattle.gc_worker.proofs.Words.Eras.{span_is}
-use Rattle.gc_worker.proofs.Words.Sizes.{size_now}
+use Rattle.gc_worker.proofs.Words.GrownSizes.{size_now}
 use Rattle.gc_worker.proofs.Workers.Members.{member}
 
 module _ (n mutators k : ℕ) (words : List ℕ) (x : Held) (z : Placing) (size room live : ℕ) (f : Fits n mutators k (at_stage x (found_traced z size))) (finds : FindsNoRoom n words x (pages_needed x) room live) (read : finds.size ≡ size) where
@@ -84,8 +84,8 @@ size_is_so : (h : Heap) (p o : Plain) (k : ℕ) (x : Held) (z : Placing) (traced
     → word_in h.pages h.words (Size (to_space x.epoch)) ≡ size
 size_is_so h p o k x z traced size st is =
     let me = st.stands.invariant.workers k is.below in
-    let known = (me.size_seen size (ap (λ (w : Worker). w.size_seen) is.as_known)).1 in
-    let now : x.epoch ≡ (era (as_read h)).epoch = sym (ap (λ (w : Worker). w.epoch) is.as_known) ∙ me.timely.running (rw is.as_known refl) in
+    let known = (me.size_seen size (ap (λ (w : Known). w.size_seen) is.as_known)).1 in
+    let now : x.epoch ≡ (era (as_read h)).epoch = sym (ap (λ (w : Known). w.epoch) is.as_known) ∙ me.timely.running (rw is.as_known refl) in
     let span = span_is (as_read h) in
     let here : size_now (as_read h) (to_space x.epoch) ≡ size_now (as_read h) (to_space (era (as_read h)).epoch) = ap (λ (e : ℕ). size_now (as_read h) (to_space e)) now in
     omega (arith, known, span, here)

@@ -23,9 +23,9 @@ use Rattle.fault_duty.specs.Duty.{Round}
 use Rattle.fault_duty.specs.Soundness.{IsOwnClaim}
 use Rattle.heap_state.specs.Configuration.{Configuration, team}
 use Rattle.heap_state.specs.Memory.Table.{page_word_in, word_in}
-use Rattle.heap_state.specs.Worker.{Worker}
+use Rattle.heap_state.specs.Known.{Known}
 use Rattle.heap_state.proofs.Puts.{none≢some}
-use Rattle.heap_state.proofs.Table.Places.{word_in-row}
+use Rattle.heap_state.proofs.Table.StoredRows.{word_in-row}
 use Rattle.gc_worker.specs.declared.stage.back.Back.{Back}
 use Rattle.gc_worker.specs.declared.stage.Stage.{Stage}
 use Rattle.gc_worker.specs.declared.stage.Stage.TheVariants.{Serves}
@@ -40,7 +40,7 @@ use Rattle.gc_worker.specs.Steps.Wanted.{wanted}
 use Rattle.gc_worker.proofs.Between.Pages.Claims.{of_now}
 use Rattle.gc_worker.proofs.Workers.Members.{member}
 use Rattle.gc_worker.proofs.Stages.Rounds.Walking.{turn_word}
-use Rattle.gc_worker.proofs.Stages.Rounds.Words.{page_age, traced_word}
+use Rattle.gc_worker.proofs.Stages.Rounds.RoundWords.{page_age, traced_word}
 
 -- ---- the words
 
@@ -87,9 +87,9 @@ module _ (h : Heap) (p o : Plain) (k : ℕ) (st : WorkersStand h p o) (y : Held)
 
     out : IsOut h.pages h.words (record { page = q.page; epoch = d.epoch })
     out =
-        let e : ((team c).worker k).epoch ≡ d.epoch = ap (λ (w : Worker). w.epoch) is.as_known in
+        let e : ((team c).worker k).epoch ≡ d.epoch = ap (λ (w : Known). w.epoch) is.as_known in
         let now = of_now h p o st in
-        let late = ((st.stands.invariant.workers k is.below).pages.claim (claim_with q (looked_all q) true) (ap (λ (w : Worker). w.claim) is.as_known)).late refl (omega (arith, now, e, past)) in
+        let late = ((st.stands.invariant.workers k is.below).pages.claim (claim_with q (looked_all q) true) (ap (λ (w : Known). w.claim) is.as_known)).late refl (omega (arith, now, e, past)) in
         let a = page_age c q.page in
         let i = own.sound.page in
         let n = pages in
@@ -132,9 +132,9 @@ module _ (h : Heap) (p o : Plain) (k : ℕ) (st : WorkersStand h p o) (y : Held)
 
     loses_traced : LosesTraced h (at_stage y (Serves (traces_next d found) back)) d back found (marks_traced d found)
     loses_traced =
-        let e : ((team c).worker k).epoch ≡ d.epoch = ap (λ (w : Worker). w.epoch) is.as_known in
+        let e : ((team c).worker k).epoch ≡ d.epoch = ap (λ (w : Known). w.epoch) is.as_known in
         let now = of_now h p o st in
-        let look = (st.stands.invariant.workers k is.below).pages.last_look (record { traced = found }) (ap (λ (w : Worker). w.last_look) is.as_known) in
+        let look = (st.stands.invariant.workers k is.below).pages.last_look (record { traced = found }) (ap (λ (w : Known). w.last_look) is.as_known) in
         let late = look.late (omega (arith, now, e, past)) in
         let earlier = look.earlier in
         let w = traced_word c in
@@ -204,7 +204,7 @@ module _ (h : Heap) (p o : Plain) (k : ℕ) (x : Held) (q : Step) (w : PageWon) 
 
   won_now : w.epoch ≡ epoch_of_heap h
   won_now =
-      let e : ((team (read h)).worker k).epoch ≡ by.d.epoch = ap (λ (v : Worker). v.epoch) is.as_known in
+      let e : ((team (read h)).worker k).epoch ≡ by.d.epoch = ap (λ (v : Known). v.epoch) is.as_known in
       let timely = (st.stands.invariant.workers k is.below).timely.past in
       let own = is.fits.stage.0.sound.stage.epoch in
       let same = by.epoch in

@@ -1,5 +1,5 @@
 use Rattle.std.proofs.Common.{ℕ, List, ap, ◌∙◌}
-use Rattle.ael_jobs.proofs.InputLines.{empty, is_divided, is_other, is_output, is_undivided, passed_none, passed_one}
+use Rattle.ael_jobs.proofs.Inputs.InputLines.{empty, is_divided, is_other, is_output, is_undivided, passed_none, passed_one}
 use Rattle.ael_jobs.proofs.division.divided.Goals as goal
 
 pub loop-line-init : goal.loop-line-init

@@ -1,6 +1,6 @@
 -- no line in front of the rest is `.output`
 use Rattle.std.proofs.Common.{length}
-use Rattle.ael_jobs.proofs.InputLines.{HasPassed}
+use Rattle.ael_jobs.proofs.Inputs.InputLines.{HasPassed}
 use Rattle.ael_jobs.proofs.division.divided.Given as goal
 
 abbrev pub invariant-loop-line : goal.invariant-loop-line

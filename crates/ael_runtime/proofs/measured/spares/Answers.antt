@@ -1,6 +1,6 @@
 use Rattle.std.proofs.Common.{subst, sym}
 use Rattle.mutator_asm.specs.declared.instr.Instr.{Instr}
-use Rattle.ael_runtime.specs.Known.{SparesRegister}
+use Rattle.ael_runtime.specs.KnownLengths.{SparesRegister}
 use Rattle.ael_runtime.proofs.KnownLengths.{spares_set, spares_st}
 use Rattle.ael_runtime.proofs.measured.spares.Goals as goal
 

@@ -1,4 +1,4 @@
-use Rattle.atom_store.proofs.Steps.{length-words_after, slice_index-words_after, slice_index-stored, won_exactly, slice_index-won, lost_tells_another, words_after-lost}
+use Rattle.atom_store.proofs.StepWords.{length-words_after, slice_index-words_after, slice_index-stored, won_exactly, slice_index-won, lost_tells_another, words_after-lost}
 use Rattle.atom_store.proofs.laws.steps_touch_one_word.Goals as goal
 
 pub returns-clause-length_stays : goal.returns-clause-length_stays

@@ -6,7 +6,7 @@ use Rattle.benchmark.specs.Text.{bench_text, sections_text}
 use Rattle.benchmark.specs.declared.keys.TheConstants.{MUTATORS}
 use Rattle.benchmark.proofs.Bounds.{pow_from_1_to_9}
 use Rattle.benchmark.proofs.Sections.{text_short}
-use Rattle.benchmark.proofs.Words.{iterate_two, one_more}
+use Rattle.benchmark.proofs.SeedWords.{iterate_two, one_more}
 use Rattle.benchmark.proofs.text.bench_text.Goals as goal
 
 pub loop-preserved : goal.loop-preserved

@@ -1,4 +1,4 @@
-use Rattle.cell_walk.proofs.Targets.{goes_along_links, replaces_by_first_words}
+use Rattle.cell_walk.proofs.ReplacedTargets.{goes_along_links, replaces_by_first_words}
 use Rattle.cell_walk.proofs.laws.targets_are_replaced_once.Goals as goal
 
 pub returns-clause-replaces_by_first_words : goal.returns-clause-replaces_by_first_words

@@ -1,4 +1,4 @@
-use Rattle.cell_walk.proofs.GoingOn.{ends_in_time, goes_on}
+use Rattle.cell_walk.proofs.WalkGoesOn.{ends_in_time, goes_on}
 use Rattle.cell_walk.proofs.laws.walks_go_on.Goals as goal
 
 pub returns-clause-goes_on : goal.returns-clause-goes_on

@@ -2,11 +2,11 @@ use Rattle.std.proofs.Common.{◌≡◌, List, ◌++◌, string_bytes, take, sym
 use Rattle.std.specs.List.{flat_map}
 use Rattle.std.proofs.lemmas.List.{take_all}
 use Rattle.space_map.specs.Spaces.{board_page, first_word}
-use Rattle.plain_heap.specs.Checkpoint.{board_line, number_line, record_line}
+use Rattle.plain_heap.specs.Checkpoints.Checkpoint.{board_line, number_line, record_line}
 use Rattle.checkpoint_text.specs.declared.saved_record.SavedRecord.{SavedRecord}
 use Rattle.checkpoint_text.specs.Records.{content_of, values_read}
 use Rattle.checkpoint_text.specs.Words.{saved_heap}
-use Rattle.checkpoint_text.proofs.Checkpoints.{none_told, some_told}
+use Rattle.checkpoint_text.proofs.CheckpointLines.{none_told, some_told}
 use Rattle.checkpoint_text.proofs.Pieces.{onto}
 use Rattle.checkpoint_text.proofs.lines.push_lines.Goals as goal
 

@@ -1,7 +1,7 @@
 use Rattle.std.proofs.Common.{◌≡◌, ◌++◌, take}
 use Rattle.std.specs.List.{flat_map}
 use Rattle.std.specs.String.{string_bytes}
-use Rattle.plain_heap.specs.Checkpoint.{record_line}
+use Rattle.plain_heap.specs.Checkpoints.Checkpoint.{record_line}
 use Rattle.checkpoint_text.specs.Records.{content_of}
 use Rattle.checkpoint_text.specs.Words.{saved_heap}
 use Rattle.checkpoint_text.proofs.lines.push_lines.Given as goal

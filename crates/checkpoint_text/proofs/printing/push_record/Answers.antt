@@ -1,6 +1,6 @@
 use Rattle.std.proofs.Common.{◌≡◌, ℕ, ◌++◌, codes, decimal, length, string_bytes, sym, ap, ◌∙◌}
 use lib.Utf8.{encode}
-use Rattle.plain_heap.specs.Checkpoint.{identity_text, kind_text, values_text}
+use Rattle.plain_heap.specs.Checkpoints.Checkpoint.{identity_text, kind_text, values_text}
 use Rattle.checkpoint_text.specs.Records.{denoted_count, first_value, kind_with, values_read}
 use Rattle.checkpoint_text.specs.Words.{saved_heap}
 use Rattle.checkpoint_text.proofs.Pieces.{length_values, onto, onto_three}

@@ -1,6 +1,6 @@
 use Rattle.std.proofs.Common.{◌≡◌, ◌++◌}
 use Rattle.std.specs.String.{string_bytes}
-use Rattle.plain_heap.specs.Checkpoint.{values_text}
+use Rattle.plain_heap.specs.Checkpoints.Checkpoint.{values_text}
 use Rattle.checkpoint_text.specs.Records.{values_read}
 use Rattle.checkpoint_text.specs.Words.{saved_heap}
 use Rattle.checkpoint_text.proofs.printing.push_values.Given as goal

@@ -1,5 +1,5 @@
 use Rattle.std.proofs.Common.{◌∙◌, sym, arith}
-use Rattle.crossing_map.proofs.Steps.{cross-word}
+use Rattle.crossing_map.proofs.WalkSteps.{cross-word}
 use Rattle.crossing_map.proofs.crossing.covers.Goals as goal
 
 pub overflow_cast-result : goal.overflow_cast-result

@@ -3,8 +3,8 @@ use Rattle.heap_state.specs.Kept.{reserved_in}
 use Rattle.heap_state.specs.Memory.Table.{table_of}
 use Rattle.crossing_map.specs.Crossing.{pairs_kept}
 use Rattle.crossing_map.specs.Walking.{next_in, passes_none}
-use Rattle.crossing_map.proofs.Parts.{next_in-end}
-use Rattle.crossing_map.proofs.Steps.{at_word, heap-word, over_blank, over_reserved}
+use Rattle.crossing_map.proofs.WalkedParts.{next_in-end}
+use Rattle.crossing_map.proofs.WalkSteps.{at_word, heap-word, over_blank, over_reserved}
 use Rattle.crossing_map.proofs.walk.next_copy.Goals as goal
 
 pub loop-next-preserved-then-reserved-ne0 : goal.loop-next-preserved-then-reserved-ne0

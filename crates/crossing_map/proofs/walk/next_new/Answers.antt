@@ -3,8 +3,8 @@ use Rattle.space_map.specs.Table.{Page, place_of}
 use Rattle.heap_state.specs.Memory.Table.{table_of}
 use Rattle.heap_state.specs.Memory.Walk.{is_protected}
 use Rattle.crossing_map.specs.Walking.{next_in, nothing_reserved, passes_closed}
-use Rattle.crossing_map.proofs.Parts.{next_in-end}
-use Rattle.crossing_map.proofs.Steps.{at_word, heap-word, over_page, page-word}
+use Rattle.crossing_map.proofs.WalkedParts.{next_in-end}
+use Rattle.crossing_map.proofs.WalkSteps.{at_word, heap-word, over_page, page-word}
 use Rattle.crossing_map.proofs.walk.next_new.Goals as goal
 use Rattle.crossing_map.proofs.walk.next_new.Goals.{else-word-ne0-via-then-word-ne0+else-is_open, else-word-ne0-via-else-word-ne0}
 

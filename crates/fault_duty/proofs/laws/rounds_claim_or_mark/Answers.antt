@@ -1,6 +1,6 @@
 use Rattle.std.proofs.Common.{true, false}
 use Rattle.fault_duty.proofs.Choosing.{claims_for}
-use Rattle.fault_duty.proofs.Rounds.{marks, claims_page}
+use Rattle.fault_duty.proofs.RoundEffects.{marks, claims_page}
 use Rattle.fault_duty.proofs.Walks.{passes_cells, turn_is_won}
 use Rattle.fault_duty.proofs.laws.rounds_claim_or_mark.Goals as goal
 

@@ -1,5 +1,5 @@
 use Rattle.fault_duty.proofs.Choosing.{traced_told}
-use Rattle.fault_duty.proofs.Rounds.{nothing, sees_traced}
+use Rattle.fault_duty.proofs.RoundEffects.{nothing, sees_traced}
 use Rattle.fault_duty.proofs.laws.rounds_without_work_show_why.Goals as goal
 
 pub returns-clause-nothing_now : goal.returns-clause-nothing_now

@@ -4,7 +4,7 @@ use Rattle.fault_duty.specs.declared.duty_stage.DutyStage.TheVariants.{LoadsGate
 use Rattle.fault_duty.specs.Duty.{at_stage}
 use Rattle.fault_duty.specs.Theorems.{word_of_row}
 use Rattle.fault_duty.proofs.RoundEnds.{left_told}
-use Rattle.fault_duty.proofs.Rounds.{sees_left}
+use Rattle.fault_duty.proofs.RoundEffects.{sees_left}
 use Rattle.fault_duty.proofs.laws.scanners_end_with_the_mutators.Goals as goal
 
 pub returns-clause-seen : goal.returns-clause-seen

@@ -1,4 +1,4 @@
-use Rattle.gc_core.proofs.Cycles.Whole.{claims_are_made_or_set_aside}
+use Rattle.gc_core.proofs.Cycles.CyclesOfRuns.{claims_are_made_or_set_aside}
 use Rattle.gc_core.proofs.laws.claims_are_made_or_set_aside.Goals as goal
 
 pub returns : goal.returns

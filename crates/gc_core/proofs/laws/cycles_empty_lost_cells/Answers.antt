@@ -1,4 +1,4 @@
-use Rattle.gc_core.proofs.Cycles.Whole.{cycles_empty_lost_cells}
+use Rattle.gc_core.proofs.Cycles.CyclesOfRuns.{cycles_empty_lost_cells}
 use Rattle.gc_core.proofs.laws.cycles_empty_lost_cells.Goals as goal
 
 pub returns : goal.returns

@@ -1,4 +1,4 @@
-use Rattle.gc_core.proofs.Cycles.Whole.{claims_are_for_records, full_heaps_are_filled, orders_are_filled_by_claims, orders_fill_the_space}
+use Rattle.gc_core.proofs.Cycles.CyclesOfRuns.{claims_are_for_records, full_heaps_are_filled, orders_are_filled_by_claims, orders_fill_the_space}
 use Rattle.gc_core.proofs.laws.full_heaps_are_filled.Goals as goal
 
 pub returns-clause-filled : goal.returns-clause-filled

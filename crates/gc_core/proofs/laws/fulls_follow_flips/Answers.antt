@@ -1,4 +1,4 @@
-use Rattle.gc_core.proofs.Cycles.Whole.{fulls_follow_flips}
+use Rattle.gc_core.proofs.Cycles.CyclesOfRuns.{fulls_follow_flips}
 use Rattle.gc_core.proofs.laws.fulls_follow_flips.Goals as goal
 
 pub returns : goal.returns

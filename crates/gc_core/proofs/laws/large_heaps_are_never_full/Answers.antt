@@ -1,4 +1,4 @@
-use Rattle.gc_core.proofs.Cycles.Whole.{large_heaps_are_never_full, lone_heaps_are_never_full}
+use Rattle.gc_core.proofs.Cycles.CyclesOfRuns.{large_heaps_are_never_full, lone_heaps_are_never_full}
 use Rattle.gc_core.proofs.laws.large_heaps_are_never_full.Goals as goal
 
 pub returns-clause-large : goal.returns-clause-large

@@ -1,4 +1,4 @@
-use Rattle.gc_core.proofs.Whole.{runs_are_plain_runs}
+use Rattle.gc_core.proofs.EventLaws.{runs_are_plain_runs}
 use Rattle.gc_core.proofs.laws.runs_are_plain_runs.Goals as goal
 
 pub returns : goal.returns

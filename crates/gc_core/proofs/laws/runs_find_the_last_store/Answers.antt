@@ -1,4 +1,4 @@
-use Rattle.plain_heap.proofs.Orders.Words.{steps_compare_the_last_store, steps_load_the_last_store}
+use Rattle.plain_heap.proofs.Orders.LastStores.{steps_compare_the_last_store, steps_load_the_last_store}
 use Rattle.gc_core.proofs.laws.runs_find_the_last_store.Goals as goal
 
 pub returns-clause-loads : goal.returns-clause-loads

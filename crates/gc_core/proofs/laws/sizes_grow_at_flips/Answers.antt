@@ -1,5 +1,5 @@
-use Rattle.gc_core.proofs.Cycles.Sizes.{sizes_grow_at_flips, sizes_never_fall}
-use Rattle.gc_core.proofs.Cycles.Whole.{sizes_are_between}
+use Rattle.gc_core.proofs.Cycles.SizesByEvents.{sizes_grow_at_flips, sizes_never_fall}
+use Rattle.gc_core.proofs.Cycles.CyclesOfRuns.{sizes_are_between}
 use Rattle.gc_core.proofs.laws.sizes_grow_at_flips.Goals as goal
 
 pub returns-clause-at_flips : goal.returns-clause-at_flips

@@ -1,6 +1,6 @@
 use Rattle.std.proofs.Common.{◌≡◌, ◌+◌, ◌∙◌, true, sym, arith}
 use Rattle.gc_worker.specs.Laws.Between.{fresh_workers}
-use Rattle.gc_core.proofs.Events.Opening.{fresh_push}
+use Rattle.gc_core.proofs.Events.OpenedCore.{fresh_push}
 use Rattle.gc_core.proofs.opening.slots.Goals as goal
 
 pub loop-k-init : goal.loop-k-init

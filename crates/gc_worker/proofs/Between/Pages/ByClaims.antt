@@ -18,7 +18,7 @@ use Rattle.gc_worker.proofs.Words.Areas.{area_says, is_space}
 use Rattle.gc_worker.proofs.Words.Eras.{board_is, start_is}
 use Rattle.gc_worker.proofs.Workers.Members.{member}
 use Rattle.gc_worker.proofs.Between.Pages.Claims.{of_now, for_copies_within}
-use Rattle.gc_worker.proofs.Stages.Rounds.Words.{page_age}
+use Rattle.gc_worker.proofs.Stages.Rounds.RoundWords.{page_age}
 use Rattle.gc_worker.proofs.StepKeeps.{steps_keep}
 use Rattle.gc_worker.proofs.Between.Pages.PageWords.{leaves}
 use Rattle.gc_worker.proofs.Between.Pages.Leaving.{ByClaim, Same, New, Wins, LeavesPages}

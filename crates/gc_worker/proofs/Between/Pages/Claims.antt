@@ -29,7 +29,7 @@ use Rattle.gate_core.specs.Flip.{Flipping}
 use Rattle.gate_core.specs.Snap as snap
 use Rattle.heap_state.specs.Configuration.{Configuration, table, era, memory, team}
 use Rattle.heap_state.specs.Invariant.Parts.Pages.{Quiet}
-use Rattle.heap_state.specs.Worker.{Worker}
+use Rattle.heap_state.specs.Known.{Known}
 use Rattle.heap_laws.specs.Answers.{AreaAnswers}
 use Rattle.heap_laws.proofs.Steps.Answers.{areas_are_read}
 use Rattle.fault_duty.specs.Duty as duty
@@ -51,9 +51,9 @@ use Rattle.gc_worker.specs.Steps.Turned.{Told, Silent, Answers, Marks, told_at, 
 use Rattle.gc_worker.specs.Steps.Turned as turning
 use Rattle.gc_worker.proofs.Words.Areas.{area_now, area_says, is_space}
 use Rattle.gc_worker.proofs.Words.Eras.{board_is, start_is}
-use Rattle.gc_worker.proofs.Stages.Gate.Words.{gate_says}
+use Rattle.gc_worker.proofs.Stages.Gate.GateWords.{gate_says}
 use Rattle.gc_worker.proofs.Workers.Members.{member}
-use Rattle.gc_worker.proofs.Stages.Rounds.Words.{page_now, page_says, traced_word}
+use Rattle.gc_worker.proofs.Stages.Rounds.RoundWords.{page_now, page_says, traced_word}
 use Rattle.gc_worker.proofs.Plain.Quiet.{IsQuiet, rounds_are_quiet}
 
 -- ---- the pages
@@ -220,6 +220,6 @@ pub flips_are_of_traced : FlipsAreOfTraced
 flips_are_of_traced h p o k x reply asked st below holds marks =
     let is = member h p o k x st below holds in
     let at = flips_at x reply asked x.stage marks in
-    let seen : ((team (read h)).worker k).traced_seen ≡ true = ap (λ (w : Worker). w.traced_seen) is.as_known ∙ ap traced_seen_in at.1 in
+    let seen : ((team (read h)).worker k).traced_seen ≡ true = ap (λ (w : Known). w.traced_seen) is.as_known ∙ ap traced_seen_in at.1 in
     let traced = ((st.stands.invariant.workers k is.below).seen_traced seen).1 in
     sym (traced_word (read h)) ∙ (traced ∙ ap (λ (e : ℕ). e + 1) (of_now h p o st))

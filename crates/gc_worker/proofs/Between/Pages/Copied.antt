@@ -16,8 +16,8 @@ use Rattle.gc_worker.specs.Workers.Held.{Held}
 use Rattle.gc_worker.specs.Laws.Step.{Heap, read, WorkersStand}
 use Rattle.gc_worker.specs.Steps.Turned.{epoch_in_gate}
 use Rattle.gc_worker.proofs.Words.Areas.{area_says, is_space}
-use Rattle.gc_worker.proofs.Stages.Gate.Words.{gate_says}
-use Rattle.gc_worker.proofs.Stages.Rounds.Words.{traced_word}
+use Rattle.gc_worker.proofs.Stages.Gate.GateWords.{gate_says}
+use Rattle.gc_worker.proofs.Stages.Rounds.RoundWords.{traced_word}
 
 pub copied_was_live : CopiedWasLive
 copied_was_live h p o st traced =

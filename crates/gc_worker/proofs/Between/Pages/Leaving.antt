@@ -24,7 +24,7 @@ use Rattle.space_map.proofs.PageWords.{decode_page-encode_page}
 use Rattle.space_map.proofs.Rows.{place_of-apart}
 use Rattle.heap_state.specs.Configuration.{Configuration, Stands, table, era, memory}
 use Rattle.heap_state.specs.Memory.Table.{page_word_in, word_in}
-use Rattle.heap_state.proofs.Table.Places.{word_in-row, word_in-same, word_in-other}
+use Rattle.heap_state.proofs.Table.StoredRows.{word_in-row, word_in-same, word_in-other}
 use Rattle.gc_worker.specs.Laws.Step.{age}
 use Rattle.gc_worker.specs.Steps.Turned.{PageWon}
 use Rattle.gc_worker.proofs.Words.Areas.{area_says, area_is, is_space}

@@ -12,7 +12,7 @@ use Rattle.space_map.specs.AreaWord.{encode_area, part_end}
 use Rattle.space_map.specs.Spaces.{Layout, to_space}
 use Rattle.space_map.specs.Table.{Gate, Area, Page, place_of}
 use Rattle.heap_state.specs.Configuration.{Configuration, Stands, table, era, team}
-use Rattle.heap_state.specs.Worker.{Worker, Stock}
+use Rattle.heap_state.specs.Known.{Known, Stock}
 use Rattle.heap_laws.proofs.Lifting.Configurations.{ready}
 use Rattle.alloc_end.specs.declared.fitting.Fitting.{Fitting}
 use Rattle.alloc_end.specs.declared.place_stage.PlaceStage.{PlaceStage}
@@ -22,7 +22,7 @@ use Rattle.fault_duty.specs.declared.duty_stage.DutyStage.{DutyStage}
 use Rattle.fault_duty.specs.declared.duty_stage.DutyStage.TheVariants as duty_stage
 use Rattle.fault_duty.specs.Duty as duty
 use Rattle.cell_walk.specs.Walking as walk
-use Rattle.cell_walk.proofs.RowsFit as walk_rows
+use Rattle.cell_walk.proofs.WalkRows as walk_rows
 use Rattle.forwarding.specs.declared.evac_stage.EvacStage.{EvacStage}
 use Rattle.forwarding.specs.declared.evac_stage.EvacStage.TheVariants as evac_stage
 use Rattle.forwarding.specs.Evacuation as evac
@@ -33,12 +33,12 @@ use Rattle.gate_core.specs.Flip as flip
 use Rattle.gate_core.specs.Gate as gate
 use Rattle.gate_core.specs.Recall as recall
 use Rattle.gate_core.specs.Snap as snap
-use Rattle.gate_core.proofs.RowsFit.{passage_writes, recall_writes, snap_writes}
+use Rattle.gate_core.proofs.GateRows.{passage_writes, recall_writes, snap_writes}
 use Rattle.page_saves.specs.Guard as guard
 use Rattle.page_saves.specs.SaveRound as save_round
-use Rattle.page_saves.proofs.RowsFit.{guard_by_rows, guard_writes, round_by_rows, round_writes}
+use Rattle.page_saves.proofs.SaveRows.{guard_by_rows, guard_writes, round_by_rows, round_writes}
 use Rattle.page_scan.specs.Scanning as scan
-use Rattle.page_scan.proofs.RowsFit as scan_rows
+use Rattle.page_scan.proofs.ScanRows as scan_rows
 use Rattle.page_slots.specs.declared.claim_stage.ClaimStage.{ClaimStage}
 use Rattle.page_slots.specs.declared.claim_stage.ClaimStage.TheVariants as claim_stage
 use Rattle.page_slots.specs.declared.open_stage.OpenStage.{OpenStage}
@@ -56,11 +56,11 @@ use Rattle.gc_worker.specs.Workers.Held.{Held, at_stage}
 use Rattle.gc_worker.specs.Workers.Knows.{opened_to, scan_of}
 use Rattle.gc_worker.specs.Steps.Turned.{PageWon, won, won_at, won_by, won_in}
 use Rattle.gc_worker.specs.Steps.Wanted.{wanted, wanted_at}
-use Rattle.record_access.proofs.RowsFit as access_rows
+use Rattle.record_access.proofs.AccessRows as access_rows
 use Rattle.gc_worker.proofs.Words.Areas.{is_space}
 use Rattle.gc_worker.proofs.Words.Eras.{board_is}
 use Rattle.gc_worker.proofs.Stages.OpenedPage.{of_page}
-use Rattle.gc_worker.proofs.Stages.Rounds.Words.{page_age}
+use Rattle.gc_worker.proofs.Stages.Rounds.RoundWords.{page_age}
 use Rattle.gc_worker.proofs.Between.Pages.Written.{Elsewhere, IsOther}
 use Rattle.gc_worker.proofs.Between.Pages.Leaving.{Same, New, Wins, LeavesPages, LeavesBy, nothing_left, this, spares, spares_whole, stores_other, exchanges_area, written, age_now, writes_page, stores_page}
 
@@ -89,7 +89,7 @@ module _ (c : Configuration) (p : Plain) (s : Stands c p) (k : ℕ) (x : Held) w
   flips : (f : flip.Flipping) (stage : FlipStage) → Is c k (at_stage x (Flips (record f { stage = stage }))) → LeavesBy c (flip.wanted_at f stage) none
   flips f (flip_stage.StoresArea r) is =
       let pages = own f.layout is.fits.stage.layout is.fits.pages in
-      let known : ((team c).worker k).epoch ≡ x.epoch = ap (λ (w : Worker). w.epoch) is.as_known in
+      let known : ((team c).worker k).epoch ≡ x.epoch = ap (λ (w : Known). w.epoch) is.as_known in
       let timely = (s.invariant.workers k is.below).timely in
       let now : x.epoch ≡ (era c).epoch = sym known ∙ timely.asking (rw is.as_known refl) in
       let e : f.epoch ≡ (era c).epoch = is.fits.stage.epoch ∙ now in
@@ -117,10 +117,10 @@ module _ (c : Configuration) (p : Plain) (s : Stands c p) (k : ℕ) (x : Held) w
       let fits = is.fits.stage.sound.stage in
       let few = is.fits.stage.sound.pages in
       let stock : Stock = opened_to (record z { stage = place_stage.OpensPage new }) new in
-      let known : ((team c).worker k).epoch ≡ x.epoch = ap (λ (w : Worker). w.epoch) is.as_known in
+      let known : ((team c).worker k).epoch ≡ x.epoch = ap (λ (w : Known). w.epoch) is.as_known in
       let timely = (s.invariant.workers k is.below).timely in
       let e : z.epoch ≡ (era c).epoch = is.fits.stage.epoch ∙ (sym known ∙ timely.running (rw is.as_known refl)) in
-      let q = s.invariant.stocks.stocked k is.below stock (ap (λ (w : Worker). w.stock) is.as_known) e in
+      let q = s.invariant.stocks.stocked k is.below stock (ap (λ (w : Known). w.stock) is.as_known) e in
       let below = (ready c p s k is.below).laid_out.below in
       let b = board_is c in
       let n = own z.layout is.fits.stage.layout is.fits.pages in
@@ -139,8 +139,8 @@ module _ (c : Configuration) (p : Plain) (s : Stands c p) (k : ℕ) (x : Held) w
       let f = is.fits.stage.0 in
       let n = own o.layout f.layout is.fits.pages in
       let within : o.page ≤ 2 * c.pages = (let a = f.sound.page in omega (arith, a, n)) in
-      let scans : ((team c).worker k).scan ≡ Some (scan_of z z.stage) = ap (λ (w : Worker). w.scan) is.as_known in
-      let known : ((team c).worker k).epoch ≡ x.epoch = ap (λ (w : Worker). w.epoch) is.as_known in
+      let scans : ((team c).worker k).scan ≡ Some (scan_of z z.stage) = ap (λ (w : Known). w.scan) is.as_known in
+      let known : ((team c).worker k).epoch ≡ x.epoch = ap (λ (w : Known). w.epoch) is.as_known in
       let knows = s.invariant.workers k is.below in
       let e : o.epoch ≡ (era c).epoch = f.epoch ∙ (sym known ∙ knows.present (scan_of z z.stage) scans) in
       let at : (scan_of z z.stage).page ≡ o.page = of_page z z.stage ∙ sym f.page in

@@ -6,11 +6,11 @@ use Rattle.atom_store.specs.declared.step.Step.{Step}
 use Rattle.atom_store.specs.declared.step.Step.TheVariants as step
 use Rattle.atom_store.specs.Step.{place_in, words_after}
 use Rattle.atom_store.specs.StepOn.{StepOn, Load, Store, Exchange, WritesOnly, step_at}
-use Rattle.atom_store.proofs.Steps.{slice_index-words_after}
+use Rattle.atom_store.proofs.StepWords.{slice_index-words_after}
 use Rattle.space_map.specs.Table.{Row, Area, Size, Page, SaveOf, ImageOf, IsRow, place_of, save_place_of}
 use Rattle.space_map.specs.WholeTable.{WholeRow, Within, Behind, whole_place_of}
 use Rattle.heap_state.specs.Memory.Table.{is_row, word_in}
-use Rattle.heap_state.proofs.Table.Places.{row_is}
+use Rattle.heap_state.proofs.Table.StoredRows.{row_is}
 
 -- ---- rows
 

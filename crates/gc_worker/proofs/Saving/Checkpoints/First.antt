@@ -9,13 +9,13 @@ use Rattle.atom_store.specs.declared.step.Step.{Step}
 use Rattle.space_map.specs.declared.gate_word.GateWord.{GateWord}
 use Rattle.space_map.specs.GateWord.{decode_gate}
 use Rattle.space_map.specs.Spaces.{board_page}
-use Rattle.space_map.specs.Table.{Gate, SnapNumber, DoneNumber}
+use Rattle.space_map.specs.Table.{Gate, SnapNumber, LastSaved}
 use Rattle.space_map.specs.WholeTable.{Within}
 use Rattle.heap_state.specs.Configuration.{Configuration, table}
 use Rattle.heap_state.specs.Memory.Table.{word_in}
 use Rattle.heap_state.specs.Saving.Frozen.{Frozen}
 use Rattle.heap_state.specs.Saving.Savers.{Saver, NoReads, GateRead, DoneRead}
-use Rattle.heap_state.specs.Worker.{Worker, is_running}
+use Rattle.heap_state.specs.Known.{Known, is_running}
 use Rattle.heap_laws.specs.Saving.Rounds.{BeginsRound, FindsRest, ReadsDone, ReadsGate, ReadsGateAgain, ReadsSnap, round_begun, saver_after_reads}
 use Rattle.page_saves.specs.declared.save_caller.SaveCaller.{SaveCaller}
 use Rattle.page_saves.specs.declared.save_caller.SaveCaller.TheVariants.{Mutates, Scans}
@@ -32,12 +32,12 @@ use Rattle.gc_worker.specs.Workers.Fits.{IsRoundOfMutator}
 use Rattle.gc_worker.specs.Workers.Held.{Held}
 use Rattle.gc_worker.specs.Workers.Knows.{knows}
 use Rattle.gc_worker.specs.Workers.Saves.{reads_for, round_to, saver_of}
-use Rattle.gc_worker.proofs.Saving.Checkpoints.Ends.{By, WithIt, comes_to, ends_reads, learnt, loads_it, table_pages, without_reads}
+use Rattle.gc_worker.proofs.Saving.Checkpoints.CheckpointRoundEnds.{By, WithIt, comes_to, ends_reads, learnt, loads_it, table_pages, without_reads}
 use Rattle.gc_worker.proofs.Saving.Frame.Read.{done_now, own_stands, snap_now}
 use Rattle.gc_worker.proofs.Saving.Frame.Step.{Before, SavesStep, saves}
-use Rattle.gc_worker.proofs.Stages.Checkpoints.Going.{round}
+use Rattle.gc_worker.proofs.Stages.Checkpoints.NextCheckpointStage.{round}
 use Rattle.gc_worker.proofs.Stages.Checkpoints.Rounded.{at}
-use Rattle.gc_worker.proofs.Stages.Gate.Words.{gate_now, gate_says}
+use Rattle.gc_worker.proofs.Stages.Gate.GateWords.{gate_now, gate_says}
 
 -- a round begins with the board
 pub round_first : (r : SavingRound) → round_to r (board_page r.layout.pages) false ≡ round_begun r.layout.pages r.number r.epoch
@@ -113,7 +113,7 @@ module _ (c : Configuration) (p : Plain) (z : Frozen) (saver : ℕ → Saver) (k
   -- ---- DONE
 
   abbrev done : ℕ
-  done = word_in c.pages c.words DoneNumber
+  done = word_in c.pages c.words LastSaved
 
   abbrev after_done : (fits none : Bool) → SaveCaller → SaveRoundStage
   after_done fits none caller = cond fits (cond none (Ended (NoneRuns done)) (save_round.when_one_runs r caller)) LoadsDone
@@ -150,11 +150,11 @@ module _ (c : Configuration) (p : Plain) (z : Frozen) (saver : ℕ → Saver) (k
       (asks : saver_of (turned_save_round (Stage goal LoadsDone) (round r (Ended (NoneRuns done))) goal (save_round.told_at (Ended (NoneRuns done)))) ≡ record (saver_of (Stage goal LoadsDone)) { settled = true }) where
     present : (table c).gate.epoch ≡ y.epoch
     present =
-        let timely = (b.stands.invariant.workers k b.is.below).timely.running (ap (λ (w : Worker). is_running w.post) b.is.as_known ∙ running) in
-        sym timely ∙ (ap (λ (w : Worker). w.epoch) b.is.as_known ∙ epoch_is)
+        let timely = (b.stands.invariant.workers k b.is.below).timely.running (ap (λ (w : Known). is_running w.post) b.is.as_known ∙ running) in
+        sym timely ∙ (ap (λ (w : Known). w.epoch) b.is.as_known ∙ epoch_is)
 
     traced : (table c).traced ≡ (table c).gate.epoch + 1
-    traced = ((b.stands.invariant.workers k b.is.below).seen_traced (ap (λ (w : Worker). w.traced_seen) b.is.as_known ∙ seen)).1
+    traced = ((b.stands.invariant.workers k b.is.below).seen_traced (ap (λ (w : Known). w.traced_seen) b.is.as_known ∙ seen)).1
 
     mutates_by : (fits none : Bool) → nat_lt done (2 ^ 32) ≡ fits → (done == r.number) ≡ none → By c p z saver k y (round r LoadsDone) goal b (Value done)
     mutates_by false none test is = again goal b Mutates own.caller test
@@ -192,7 +192,7 @@ module _ (c : Configuration) (p : Plain) (z : Frozen) (saver : ℕ → Saver) (k
       mutates_by ForSnap b b.is.fits.stage.caller.0 refl (recalls y.layout.checkpoints b.room) refl refl refl refl (nat_lt done (2 ^ 32)) (done == r.number) refl refl
 
   pub loads_done : (goal : Goal) → Begins goal LoadsDone → Kept goal LoadsDone
-  loads_done goal b = loads_it c p z saver k y (round r LoadsDone) goal b (Within DoneNumber) tt refl (done_goes goal b)
+  loads_done goal b = loads_it c p z saver k y (round r LoadsDone) goal b (Within LastSaved) tt refl (done_goes goal b)
 
   -- ---- the gate again, by a scanner
 

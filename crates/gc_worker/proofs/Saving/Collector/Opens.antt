@@ -15,7 +15,7 @@ use Rattle.heap_state.specs.Configuration.{Configuration, table, team}
 use Rattle.heap_state.specs.Memory.Entries.{EntryFits, PageIs}
 use Rattle.heap_state.specs.Saving.Frozen.{Frozen}
 use Rattle.heap_state.specs.Saving.Savers.{Saver}
-use Rattle.heap_state.specs.Worker.{Worker}
+use Rattle.heap_state.specs.Known.{Known}
 use Rattle.heap_laws.specs.Saving.Rows.{Spares}
 use Rattle.heap_laws.proofs.Saving.Sparing.{scanned_pages_are_spared}
 use Rattle.gc_worker.specs.declared.stage.back.Back.{Back}
@@ -51,7 +51,7 @@ module _ (c : Configuration) (p : Plain) (z : Frozen) (saver : ℕ → Saver) (k
     spared : Spares (table c) (saves c) z (team c).count saver (Some (PageIs o.page (Open o.epoch)))
     spared =
         let law = scanned_pages_are_spared (table c) (saves c) z (team c) b.stands.ghost saver k (scan_of s s.stage) b.saving (prepared c p z saver k x b)
-        (record { scans = ap (λ (w : Worker). w.scan) b.is.as_known; ended = has_ended s s.stage b.is.fits.stage.2 }) in
+        (record { scans = ap (λ (w : Known). w.scan) b.is.as_known; ended = has_ended s s.stage b.is.fits.stage.2 }) in
         rw (b.is.fits.stage.0.page, b.is.fits.stage.0.epoch) (rw (of_page s s.stage, b.is.as_known) at law)
 
     stores : stage ≡ StoresOpen → SavesSo c p saver k x

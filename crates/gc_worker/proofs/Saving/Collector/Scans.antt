@@ -16,7 +16,7 @@ use Rattle.heap_state.specs.Configuration.{Configuration, table, team}
 use Rattle.heap_state.specs.Memory.Entries.{WordIs}
 use Rattle.heap_state.specs.Saving.Frozen.{Frozen}
 use Rattle.heap_state.specs.Saving.Savers.{Saver}
-use Rattle.heap_state.specs.Worker.{Worker}
+use Rattle.heap_state.specs.Known.{Known}
 use Rattle.heap_laws.specs.Saving.Rows.{Spares}
 use Rattle.heap_laws.specs.Saving.Sparing.{ScansPage}
 use Rattle.heap_laws.proofs.Saving.Sparing.{traced_words_are_spared}
@@ -61,7 +61,7 @@ module _ (c : Configuration) (p : Plain) (z : Frozen) (saver : ℕ → Saver) (k
     spared : (addr word : ℕ) → Spares (table c) (saves c) z (team c).count saver (Some (WordIs addr word))
     spared addr word =
         traced_words_are_spared (table c) (saves c) z (team c) b.stands.ghost saver k addr word b.saving (prepared c p z saver k x b)
-        (ScansPage (scan_of (record u { stage = stage }) stage) (ap (λ (w : Worker). w.scan) b.is.as_known))
+        (ScansPage (scan_of (record u { stage = stage }) stage) (ap (λ (w : Known). w.scan) b.is.as_known))
 
     stores : (addr word : ℕ) → IsRow u.layout.pages (HeapWord addr) → wanted x ≡ Some (Store (place_of u.layout.pages (HeapWord addr)) word) → Owes
     stores addr word inside next =

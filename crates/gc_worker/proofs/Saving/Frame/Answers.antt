@@ -10,7 +10,7 @@ use Rattle.plain_heap.specs.declared.action.Action.TheVariants.{Snaps}
 use Rattle.plain_heap.specs.Action.{action}
 use Rattle.plain_heap.specs.Call.{After, call}
 use Rattle.plain_heap.specs.Calls.{KeepsCheckpoint, LeavesCheckpoint}
-use Rattle.plain_heap.proofs.Calls.Checkpoints.{only_snap_begins}
+use Rattle.plain_heap.proofs.Calls.BegunCheckpoints.{only_snap_begins}
 use Rattle.gc_worker.specs.declared.calls.did.Did.TheVariants.{Done, Trap}
 use Rattle.gc_worker.specs.declared.task.Task.{Task}
 use Rattle.gc_worker.specs.declared.task.Task.TheVariants.{Calls, Stops}
@@ -18,7 +18,7 @@ use Rattle.gc_worker.specs.Plain.Answer.{after_outcome, after_answer, after_told
 use Rattle.gc_worker.specs.Plain.Seen.{seen}
 use Rattle.gc_worker.specs.Steps.Turned.{Told, Answers, told_effect, told_end}
 use Rattle.gc_worker.specs.Workers.Fits.{ExecutesAction}
-use Rattle.heap_state.specs.Worker.{Account}
+use Rattle.heap_state.specs.Known.{Account}
 use Rattle.gc_worker.proofs.Plain.OnlySnap.{acts, is_snap, is_snaps, not_snap}
 use Rattle.gc_worker.proofs.Saving.Frame.Step.{KeepsSnaps}
 use Rattle.gc_worker.proofs.Plain.Quiet.{IsQuiet}

@@ -16,10 +16,10 @@ use Rattle.gc_worker.specs.Steps.Turned.{turned, told}
 use Rattle.gc_worker.specs.Steps.Wanted.{wanted}
 use Rattle.gc_worker.specs.Workers.Held.{Held}
 use Rattle.gc_worker.specs.Workers.Saves.{saver_of}
-use Rattle.gc_worker.proofs.Saving.Frame.Rows.{exchanges_so, forgets_by, loads_so, stores_by, stores_so}
+use Rattle.gc_worker.proofs.Saving.Frame.StepRows.{exchanges_so, forgets_by, loads_so, stores_by, stores_so}
 use Rattle.gc_worker.proofs.Plain.Quiet.{IsQuiet}
 use Rattle.gc_worker.proofs.Saving.Frame.Answers.{quiet_keeps}
-use Rattle.gc_worker.proofs.Saving.Mutators.Saves.{asked_so}
+use Rattle.gc_worker.proofs.Saving.Mutators.KeptSaves.{asked_so}
 use Rattle.gc_worker.proofs.Saving.Frame.Step.{Before, KeepsSnaps, SavesStep, saves}
 
 -- it is such a worker

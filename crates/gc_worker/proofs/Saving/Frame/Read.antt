@@ -6,7 +6,7 @@ use Rattle.atom_store.specs.declared.reply.Reply.{Reply}
 use Rattle.atom_store.specs.declared.reply.Reply.TheVariants.{Value}
 use Rattle.atom_store.specs.declared.step.Step.{Step}
 use Rattle.atom_store.specs.declared.step.Step.TheVariants.{Load}
-use Rattle.space_map.specs.Table.{SnapNumber, DoneNumber}
+use Rattle.space_map.specs.Table.{SnapNumber, LastSaved}
 use Rattle.heap_state.specs.Configuration.{Configuration, table, team}
 use Rattle.heap_state.specs.Functions.{put}
 use Rattle.heap_state.specs.Memory.Entries.{WholeRow, IsWholeRow, word_in_whole, whole_place_of}
@@ -21,7 +21,7 @@ use Rattle.gc_worker.specs.Steps.Wanted.{wanted}
 use Rattle.gc_worker.specs.Workers.Held.{Held}
 use Rattle.gc_worker.specs.Workers.Saves.{saver_of}
 use Rattle.gc_worker.proofs.Saving.Frame.Answers.{keeps_snaps}
-use Rattle.gc_worker.proofs.Saving.Frame.Rows.{SavedBy, learns_by, loads_so, reads_any}
+use Rattle.gc_worker.proofs.Saving.Frame.StepRows.{SavedBy, learns_by, loads_so, reads_any}
 use Rattle.gc_worker.proofs.Saving.Frame.Step.{Before, SavesStep, saves}
 
 -- ---- words
@@ -30,7 +30,7 @@ pub snap_now : (c : Configuration) → (saves c).snap ≡ word_in c.pages c.word
 unfolding saves_of
 snap_now c = refl
 
-pub done_now : (c : Configuration) → (saves c).done ≡ word_in c.pages c.words DoneNumber
+pub done_now : (c : Configuration) → (saves c).done ≡ word_in c.pages c.words LastSaved
 unfolding saves_of
 done_now c = refl
 

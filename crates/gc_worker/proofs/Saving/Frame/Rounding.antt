@@ -13,7 +13,7 @@ use Rattle.page_scan.specs.Scanning as scan
 use Rattle.page_slots.specs.declared.opened.Opened.{Opened}
 use Rattle.page_slots.specs.Open as open_page
 use Rattle.heap_state.specs.Saving.Savers.{Saver, NoReads}
-use Rattle.heap_state.specs.Worker.{is_running, is_asking}
+use Rattle.heap_state.specs.Known.{is_running, is_asking}
 use Rattle.heap_laws.specs.Saving.Rounds.{KnowsNoMore}
 use Rattle.record_access.specs.declared.access.Access.{Access}
 use Rattle.gc_worker.specs.declared.stage.back.Back.{Back}

@@ -39,9 +39,9 @@ use Rattle.gc_worker.specs.Workers.Saves.{saver_at, saver_of}
 use Rattle.gc_worker.proofs.Plain.OnlySnap.{is_snaps}
 use Rattle.gc_worker.proofs.Saving.Frame.Answers.{IsNoSnap, keeps_snaps, no_snap_effect, no_snap_end}
 use Rattle.gc_worker.proofs.Saving.Frame.Rounding.{same_still}
-use Rattle.gc_worker.proofs.Saving.Frame.Rows.{exchanges_so, forgets_by, loads_so, stores_by, stores_so}
+use Rattle.gc_worker.proofs.Saving.Frame.StepRows.{exchanges_so, forgets_by, loads_so, stores_by, stores_so}
 use Rattle.gc_worker.proofs.Saving.Frame.Running.{running_saver, runs_forgetting, accesses_run, leaves_run, looks_run}
-use Rattle.gc_worker.proofs.Saving.Mutators.Saves.{asked_so}
+use Rattle.gc_worker.proofs.Saving.Mutators.KeptSaves.{asked_so}
 use Rattle.gc_worker.proofs.Saving.Frame.Step.{Before, KeepsSnaps, SavesStep, saves}
 
 -- ---- what comes of it

@@ -21,7 +21,7 @@ use Rattle.heap_state.specs.Configuration.{Configuration, Stands, table, team, e
 use Rattle.heap_state.specs.Memory.Entries.{SaveIs}
 use Rattle.heap_state.specs.Saving.Frozen.{Frozen}
 use Rattle.heap_state.specs.Saving.Savers.{Saver}
-use Rattle.heap_state.specs.Worker.{Worker, is_running}
+use Rattle.heap_state.specs.Known.{Known, is_running}
 use Rattle.heap_laws.specs.Saving.Pages.{SavesPages, FindsKept, FindsUnsaved, LooksAgain, EndsLook, WritesOn, WritesRecord, WritesBoard, WritesStock, IsOpenNow, saver_after_save, saver_guarded, saver_in_save}
 use Rattle.heap_laws.specs.Saving.Rounds.{save_begun}
 use Rattle.heap_laws.proofs.Saving.Pages.Writes.{says_are_found, written_pages_are_open}
@@ -51,9 +51,9 @@ use Rattle.gc_worker.specs.Workers.Fits.{FitsGuard, FitsWrite}
 use Rattle.gc_worker.specs.Workers.Held.{Held, at_stage}
 use Rattle.gc_worker.specs.Workers.Knows.{access_at, known_access, knows, opened_at, stock_at}
 use Rattle.gc_worker.specs.Workers.Saves.{marked_at, saver_at, saver_of, save_step}
-use Rattle.gc_worker.proofs.Saving.Frame.Rows.{SavedBy, loads_so}
+use Rattle.gc_worker.proofs.Saving.Frame.StepRows.{SavedBy, loads_so}
 use Rattle.gc_worker.proofs.Saving.Frame.Running.{running_saver}
-use Rattle.gc_worker.proofs.Saving.Mutators.Saves.{Comes, asked_so, saves_page, saving_by}
+use Rattle.gc_worker.proofs.Saving.Mutators.KeptSaves.{Comes, asked_so, saves_page, saving_by}
 use Rattle.gc_worker.proofs.Saving.Frame.Step.{Before, SavesStep, prepared, saves}
 use Rattle.gc_worker.proofs.Words.Eras.{board_is}
 use Rattle.gc_worker.proofs.Workers.Guarded.{page_written}
@@ -61,7 +61,7 @@ use Rattle.gc_worker.proofs.Workers.Guarded.{page_written}
 -- ---- the page that is written
 
 module _ (c : Configuration) (p : Plain) (s : Stands c p) (k : ℕ) (below : k < length c.workers) where
-  abbrev It : Worker
+  abbrev It : Known
   It = (team c).worker k
 
   abbrev On : ℕ → Type 0
@@ -191,10 +191,10 @@ module _ (c : Configuration) (p : Plain) (z : Frozen) (saver : ℕ → Saver) (k
 
     written_by : (w : Write) → (team c).worker k ≡ knows (at_stage y (Guards g w)) → FitsWrite (at_stage y (Guards g w)) w g.page → WritesOn (era c) (team c) b.stands.ghost k g.page
     written_by (OfAccess a) known fits =
-        access_writes c p b.stands k b.is.below y.layout a.stage g.page b.is.fits.pages (ap (λ (w : Worker). w.access) known) (ap (λ (w : Worker). w.opened) known)
+        access_writes c p b.stands k b.is.below y.layout a.stage g.page b.is.fits.pages (ap (λ (w : Known). w.access) known) (ap (λ (w : Known). w.opened) known)
         (subst (λ (l : Layout). access.writes_on l a.stage ≡ Some g.page) fits.0.layout fits.1)
     written_by (OfPlace q) known fits =
-        place_writes c p b.stands k b.is.below y q (ap (λ (w : Worker). is_running w.post) known) q.stage g.page fits.0.sound (ap (λ (w : Worker). w.stock) known) fits.1
+        place_writes c p b.stands k b.is.below y q (ap (λ (w : Known). is_running w.post) known) q.stage g.page fits.0.sound (ap (λ (w : Known). w.stock) known) fits.1
 
     is_open : IsOpenNow (table c) g.page
     is_open = written_pages_are_open (table c) (team c) b.stands.ghost k g.page (prepared c p z saver k (at g) b) (written_by write b.is.as_known own.write)

@@ -10,16 +10,16 @@ use Rattle.gate_core.specs.declared.recall.recall_stage.RecallStage.TheVariants 
 use Rattle.gate_core.specs.declared.recall.recalled.Recalled.{Recalled}
 use Rattle.gate_core.specs.Recall.{Recalling, number_in, read_done, read_snap, running_of, told_at}
 use Rattle.space_map.specs.Spaces.{Layout}
-use Rattle.space_map.specs.Table.{Row, SnapNumber, DoneNumber, place_of}
+use Rattle.space_map.specs.Table.{Row, SnapNumber, LastSaved, place_of}
 use Rattle.heap_state.specs.Configuration.{Configuration, table, team}
 use Rattle.heap_state.specs.Functions.{put}
 use Rattle.heap_state.specs.Saving.Frozen.{Frozen}
 use Rattle.heap_state.specs.Saving.Parts.{SavingStands}
 use Rattle.heap_state.specs.Saving.Savers.{Saver}
 use Rattle.heap_state.specs.Saving.Words.{saves_of}
-use Rattle.heap_state.proofs.Table.Places.{word_in-row}
+use Rattle.heap_state.proofs.Table.StoredRows.{word_in-row}
 use Rattle.heap_laws.specs.Saving.Rounds.{LearnsOfSaves, RecallsSnap, RecallsDone, running_by}
-use Rattle.heap_laws.proofs.Saving.Rounds.{numbers_fit, savers_learn}
+use Rattle.heap_laws.proofs.Saving.LearntSaves.{numbers_fit, savers_learn}
 use Rattle.gc_worker.specs.declared.stage.after.After.{After}
 use Rattle.gc_worker.specs.declared.stage.Stage.TheVariants.{Recalls}
 use Rattle.gc_worker.specs.Steps.Turned.{Silent, recalled, turned, turned_recall}
@@ -27,9 +27,9 @@ use Rattle.gc_worker.specs.Steps.Wanted.{wanted}
 use Rattle.gc_worker.specs.Workers.Held.{Held, at_stage}
 use Rattle.gc_worker.specs.Workers.Saves.{saver_of}
 use Rattle.gc_worker.proofs.Saving.Frame.Answers.{keeps_snaps}
-use Rattle.gc_worker.proofs.Saving.Frame.Rows.{learns_by, loads_so}
+use Rattle.gc_worker.proofs.Saving.Frame.StepRows.{learns_by, loads_so}
 use Rattle.gc_worker.proofs.Saving.Frame.Running.{running_saver, goes_on_runs}
-use Rattle.gc_worker.proofs.Saving.Mutators.Saves.{asked_so}
+use Rattle.gc_worker.proofs.Saving.Mutators.KeptSaves.{asked_so}
 use Rattle.gc_worker.proofs.Saving.Frame.Step.{Before, SavesStep, saves}
 
 -- ---- the words
@@ -42,9 +42,9 @@ module _ (c : Configuration) where
   unfolding saves_of
   snap_now = word_in-row c.pages c.words SnapNumber tt
 
-  done_now : (saves c).done ≡ word_at DoneNumber
+  done_now : (saves c).done ≡ word_at LastSaved
   unfolding saves_of
-  done_now = word_in-row c.pages c.words DoneNumber tt
+  done_now = word_in-row c.pages c.words LastSaved tt
 
 number_is : (word : ℕ) → word < 2 ^ 32 → number_in word ≡ Some word
 number_is word small = ap (λ (b : Bool). cond b (Some word) None) (lt-ltb word (2 ^ 32) small)
@@ -95,11 +95,11 @@ module _ (c : Configuration) (p : Plain) (z : Frozen) (saver : ℕ → Saver) (k
       loads_done : Before c p z saver k (at second) → (q : Step) → wanted (at second) ≡ Some q → SavesStep c p saver k (at second) q
       loads_done b q asked =
           let room = b.room in
-          let word : ℕ = word_at c DoneNumber in
+          let word : ℕ = word_at c LastSaved in
           let fits = number_is word (rw (done_now c) at ((numbers_fit (table c) (saves c) z b.saving.words).1)) in
           let result : Recalled = record { number = number; running = running_of number word } in
           let same : record (saver_of (at second)) { reads_done = false; running = running_by number word; guarded = None } ≡ running_saver number (running_of number word) = rw room refl in
-          learns second b DoneNumber (recall_stage.Ended result) (record (saver k) { reads_done = false; running = running_by (saver k).snap word; guarded = None })
+          learns second b LastSaved (recall_stage.Ended result) (record (saver k) { reads_done = false; running = running_by (saver k).snap word; guarded = None })
           (ap (λ (o : Option ℕ). next second b (read_done number o)) fits)
           (ap (λ (v : Saver). record v { reads_done = false; running = running_by v.snap word; guarded = None }) b.own ∙ same
           ∙ sym (goes_on_runs (recalled (at second) result) room after))

@@ -32,7 +32,7 @@ use Rattle.gc_worker.specs.Plain.Seen.{seen}
 use Rattle.gc_worker.proofs.Plain.Actions.{plain_action, plain_outcome}
 use Rattle.gc_worker.proofs.Plain.Registers.{alike, held, small_number, Holds}
 use Rattle.gc_worker.proofs.Plain.AnswerSteps.{IsIts, its_mutator}
-use Rattle.gc_worker.proofs.Stages.Access.Going.{at, no_end, ready}
+use Rattle.gc_worker.proofs.Stages.Access.NextAccessStage.{at, no_end, ready}
 
 -- ---- numbers
 

@@ -18,7 +18,7 @@ use Rattle.space_map.specs.Table.{HeapWord, place_of}
 use Rattle.heap_state.specs.Configuration.{Configuration, Stands, era, memory, team}
 use Rattle.heap_state.specs.Memory.Entries.{WordIs}
 use Rattle.heap_state.specs.Memory.Table.{word_in}
-use Rattle.heap_state.specs.Worker as workers
+use Rattle.heap_state.specs.Known as workers
 use Rattle.heap_laws.specs.Fields.Held.{MutatorGoesOn, HoldsValue}
 use Rattle.heap_laws.specs.Fields.Stores.{IsAs}
 use Rattle.heap_laws.proofs.Fields.Effects.{board_words_are_values}
@@ -40,13 +40,13 @@ use Rattle.gc_worker.proofs.Plain.Actions.{plain_value}
 use Rattle.gc_worker.proofs.Plain.AnswerSteps.{LawTo}
 use Rattle.gc_worker.proofs.Plain.Effects.{moved_goes, moved_as, loaded_goes, loaded_as}
 use Rattle.gc_worker.proofs.Words.Eras.{board_is}
-use Rattle.gc_worker.proofs.Stages.Gate.Words.{wants}
-use Rattle.gc_worker.proofs.Stages.Scan.Headers.{heap_word}
+use Rattle.gc_worker.proofs.Stages.Gate.GateWords.{wants}
+use Rattle.gc_worker.proofs.Stages.Scan.ScannedHeaders.{heap_word}
 use Rattle.gc_worker.proofs.Words.RowSteps as steps
 use Rattle.gc_worker.proofs.Words.RowSteps.{nothing}
 use Rattle.gc_worker.proofs.Stages.Access.Acting.{q, its, names, value_word}
-use Rattle.gc_worker.proofs.Stages.Access.Going.{at, ready, running, no_end, knew_opened, goes_to}
-use Rattle.gc_worker.proofs.Stages.Access.Outcomes.{goes_bringing, goes_loading, goes_storing}
+use Rattle.gc_worker.proofs.Stages.Access.NextAccessStage.{at, ready, running, no_end, knew_opened, goes_to}
+use Rattle.gc_worker.proofs.Stages.Access.AccessOutcomes.{goes_bringing, goes_loading, goes_storing}
 
 -- ---- the action of an access to the board
 
@@ -132,7 +132,7 @@ module _ (c : Configuration) (p : Plain) (s : Stands c p) (k : ℕ) (y : Held) (
     found_value = value_word s.ghost.identity found (board_word p.heap word) there.denotes
 
     -- a word is stored there
-    stored : (next : workers.Worker) (now : Mutator) (new : ℕ) (v : Value) → HoldsValue (era c) s.ghost new v → MutatorGoesOn (era c) (memory c) s.ghost ((team c).worker k) next → IsAs s.ghost p.heap k next now
+    stored : (next : workers.Known) (now : Mutator) (new : ℕ) (v : Value) → HoldsValue (era c) s.ghost new v → MutatorGoesOn (era c) (memory c) s.ghost ((team c).worker k) next → IsAs s.ghost p.heap k next now
         → LawTo c p s k x (Some (WordIs addr new)) next s.ghost (record { heap = with_board p.heap word v; mutators = slice_set p.mutators k now })
     stored next now new v holds goes as_it =
         subst (λ (a : ℕ). LawTo c p s k x (Some (WordIs a new)) next s.ghost (record { heap = with_board p.heap word v; mutators = slice_set p.mutators k now })) addr_is

@@ -15,7 +15,7 @@ use Rattle.plain_state.specs.Layout.{is_raw, values_at, word_of_value}
 use Rattle.plain_state.specs.State.{Heap, Mutator, Plain, Record, record_of}
 use Rattle.plain_state.specs.Writing.{stored}
 use Rattle.plain_heap.specs.declared.action.Action.{Action}
-use Rattle.plain_heap.specs.declared.action.Action.TheVariants.{Loads, Stores, Exchanges}
+use Rattle.plain_heap.specs.declared.action.Action.TheVariants.{Loads, Stores, Compares}
 use Rattle.plain_heap.specs.Action.{◌>>=◌}
 use Rattle.plain_heap.specs.Call as plain
 use Rattle.plain_heap.specs.Call.{After, is_cell, performed, values_of, value_in, store_in, may_hold, went_on}
@@ -28,7 +28,7 @@ use Rattle.heap_state.specs.Configuration.{Configuration, Stands, era, memory, t
 use Rattle.heap_state.specs.Memory.Entries.{WordIs}
 use Rattle.heap_state.specs.Invariant.Parts.Knowledge as parts
 use Rattle.heap_state.specs.Memory.Table.{word_in}
-use Rattle.heap_state.specs.Worker.{Worker}
+use Rattle.heap_state.specs.Known.{Known}
 use Rattle.heap_state.proofs.Records.Layouts.{raw_is_no_field}
 use Rattle.heap_laws.specs.Fields.Effects.{IsFieldOrNumber, IsTargetOf, IsValueOf, FitsRole, word_held, word_stored}
 use Rattle.heap_laws.specs.Fields.Held.{HoldsValue, MutatorGoesOn}
@@ -54,12 +54,12 @@ use Rattle.record_access.specs.Seen.{word_for}
 use Rattle.gc_worker.proofs.Plain.Actions.{plain_value}
 use Rattle.gc_worker.proofs.Plain.AnswerSteps.{LawTo}
 use Rattle.gc_worker.proofs.Plain.Effects.{moved, moved_goes, moved_as}
-use Rattle.gc_worker.proofs.Stages.Gate.Words.{wants}
-use Rattle.gc_worker.proofs.Stages.Scan.Headers.{heap_word}
+use Rattle.gc_worker.proofs.Stages.Gate.GateWords.{wants}
+use Rattle.gc_worker.proofs.Stages.Scan.ScannedHeaders.{heap_word}
 use Rattle.gc_worker.proofs.Words.RowSteps.{loads, stores}
 use Rattle.gc_worker.proofs.Stages.Access.Acting.{q, its, names, is_small, value_word, Held_value, IsSmall, decode_number}
-use Rattle.gc_worker.proofs.Stages.Access.Going.{at, ready, running, no_end, knew_access}
-use Rattle.gc_worker.proofs.Stages.Access.Outcomes.{goes_loading, goes_storing}
+use Rattle.gc_worker.proofs.Stages.Access.NextAccessStage.{at, ready, running, no_end, knew_access}
+use Rattle.gc_worker.proofs.Stages.Access.AccessOutcomes.{goes_loading, goes_storing}
 
 -- ---- words and roles
 
@@ -135,8 +135,8 @@ module _ (c : Configuration) (p : Plain) (s : Stands c p) (k : ℕ) (y : Held) w
         (other : is_target role ≡ false) where
       pub value_is : IsValueOf (era c) (memory c) s.ghost p (known_access f) x
       value_is =
-          accesses_are_values (era c) (memory c) (team c) s.ghost p k (known_access f) x (ready c p s k y stage is) s.shown (ap (λ (w : Worker). w.access) is.as_known ∙ knows_it) (field_or_number role other)
-          (ap (λ (w : Worker). w.opened) is.as_known ∙ found) (ap (λ (n : ℕ). x + n) (knew_access c p s k y stage is (known_access f) knows_it).first)
+          accesses_are_values (era c) (memory c) (team c) s.ghost p k (known_access f) x (ready c p s k y stage is) s.shown (ap (λ (w : Known). w.access) is.as_known ∙ knows_it) (field_or_number role other)
+          (ap (λ (w : Known). w.opened) is.as_known ∙ found) (ap (λ (n : ℕ). x + n) (knew_access c p s k y stage is (known_access f) knows_it).first)
 
       held_is : (v : Value) → may_hold value_is.record_there.kind x v ≡ may_hold (kind_of role) x v
       held_is v = held_by_role value_is.record_there.kind role x v value_is.role
@@ -199,7 +199,7 @@ module _ (c : Configuration) (p : Plain) (s : Stands c p) (k : ℕ) (y : Held) w
             ∙ ap (λ (o : Result Heap End). o >>= (λ (heap : Heap). Ok (leave value_is.value heap))) store_there
 
         -- the store, after which the mutator goes on so
-        pub stored_law : (next : Worker) (now : Mutator) → MutatorGoesOn (era c) (memory c) s.ghost ((team c).worker k) next → IsAs s.ghost p.heap k next now
+        pub stored_law : (next : Known) (now : Mutator) → MutatorGoesOn (era c) (memory c) s.ghost ((team c).worker k) next → IsAs s.ghost p.heap k next now
             → LawTo c p s k (at c p s k y stage) (Some (WordIs (field_at f) (word_as role v))) next s.ghost (record { heap = heap_after; mutators = slice_set p.mutators k now })
         stored_law next now goes as_it =
             let here = there_is in
@@ -226,8 +226,8 @@ module _ (c : Configuration) (p : Plain) (s : Stands c p) (k : ℕ) (y : Held) w
       module _ (is_role : role ≡ roles.Target) where
         target_is : IsTargetOf (era c) (memory c) s.ghost p (known_access f)
         target_is =
-            targets_are_values (era c) (memory c) (team c) s.ghost p k (known_access f) (ready c p s k y loading is) s.shown (ap (λ (w : Worker). w.access) is.as_known) (ap role_of is_role)
-            (ap (λ (w : Worker). w.traced_seen) is.as_known ∙ ap is_target is_role)
+            targets_are_values (era c) (memory c) (team c) s.ghost p k (known_access f) (ready c p s k y loading is) s.shown (ap (λ (w : Known). w.access) is.as_known) (ap role_of is_role)
+            (ap (λ (w : Known). w.traced_seen) is.as_known ∙ ap is_target is_role)
 
         first_value : 0 ≡ x
         first_value =
@@ -295,7 +295,7 @@ module _ (c : Configuration) (p : Plain) (s : Stands c p) (k : ℕ) (y : Held) w
         (subst (λ (n : ℕ). Is c k (at c p s k y (LoadsField (field_of j.serial f.first f.role x) n)) → Goes c p s k None (at c p s k y (LoadsField (field_of j.serial f.first f.role x) n)) (replies.Value (word_in c.pages c.words (HeapWord (field_at (field_of j.serial f.first f.role x)))))) (sym same)
         (λ its. loads_it j f.first f.role x d its executes)) is
     loads_by into (Stores j x v) executes of is = absurd (let e = of.2 in cc)
-    loads_by into (Exchanges d j x u v) executes of is = absurd (let e = of.2 in cc)
+    loads_by into (Compares d j x u v) executes of is = absurd (let e = of.2 in cc)
     loads_by into _ executes of is = absurd of
 
     pub loads_field : (into : ℕ) → Is c k (at c p s k y (LoadsField f into)) → StepsSo c p s k (at c p s k y (LoadsField f into))
@@ -311,7 +311,7 @@ module _ (c : Configuration) (p : Plain) (s : Stands c p) (k : ℕ) (y : Held) w
         (subst (λ (n : ℕ). Is c k (at c p s k y (StoresField (field_of j.serial f.first f.role x) n)) → Goes c p s k (Some (WordIs (field_at (field_of j.serial f.first f.role x)) n)) (at c p s k y (StoresField (field_of j.serial f.first f.role x) n)) replies.Done) (sym same)
         (λ its. stores_it j f.first f.role x v its executes of.1)) is
     stores_by new (Loads d j x) executes of is = absurd (let e = of.1 in cc)
-    stores_by new (Exchanges d j x u v) executes of is = absurd (let e = of.2 in cc)
+    stores_by new (Compares d j x u v) executes of is = absurd (let e = of.2 in cc)
     stores_by new _ executes of is = absurd of
 
     pub stores_field : (new : ℕ) → Is c k (at c p s k y (StoresField f new)) → StepsSo c p s k (at c p s k y (StoresField f new))

@@ -7,7 +7,7 @@ use Rattle.plain_state.specs.declared.value.Value.{Value}
 use Rattle.plain_state.specs.declared.value.Value.TheVariants.{Reference}
 use Rattle.plain_state.specs.State.{Heap, Mutator, Record, record_of}
 use Rattle.plain_heap.specs.declared.action.Action.{Action}
-use Rattle.plain_heap.specs.declared.action.Action.TheVariants.{Stores, Exchanges}
+use Rattle.plain_heap.specs.declared.action.Action.TheVariants.{Stores, Compares}
 use Rattle.plain_heap.specs.Action.{in_record}
 use Rattle.plain_heap.specs.Call.{may_hold, performed, values_of}
 use Rattle.plain_heap.proofs.Calls.Named.{Names}
@@ -29,11 +29,11 @@ Condition = Option (ℕ × Value)
 -- v becomes value x of record j
 abbrev pub storing_action : Condition → (j : Identity) (x : ℕ) (v : Value) → Action
 storing_action None j x v = Stores j x v
-storing_action (Some e) j x v = Exchanges e.0 j x e.1 v
+storing_action (Some e) j x v = Compares e.0 j x e.1 v
 
 abbrev pub storing_use : Condition → (new : ℕ) → FieldUse
 storing_use None new = field_uses.Stores new
-storing_use (Some e) new = field_uses.Exchanges (record { into = e.0; expected = word_for e.1; new = new })
+storing_use (Some e) new = field_uses.Compares (record { into = e.0; expected = word_for e.1; new = new })
 
 -- ---- the use
 

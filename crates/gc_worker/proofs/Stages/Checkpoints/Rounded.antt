@@ -13,7 +13,7 @@ use Rattle.gc_worker.specs.Workers.Fits.{Fits}
 use Rattle.gc_worker.specs.Workers.Held.{Held, at_stage}
 use Rattle.gc_worker.specs.Workers.Knows.{knows}
 use Rattle.gc_worker.specs.Steps.Turned.{rounded}
-use Rattle.gc_worker.proofs.Workers.Parts.{before_passage}
+use Rattle.gc_worker.proofs.Workers.KeptParts.{before_passage}
 use Rattle.gc_worker.proofs.Workers.Checkpointing.{round_for_flip, round_for_snap}
 use Rattle.gc_worker.proofs.Workers.GoingBack.{back_fits}
 

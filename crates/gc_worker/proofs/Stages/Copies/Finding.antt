@@ -21,7 +21,7 @@ use Rattle.heap_state.specs.Configuration.{Configuration, Stands, era, memory, t
 use Rattle.heap_state.specs.Memory.Entries.{Entry, AnnounceIs}
 use Rattle.heap_state.specs.Invariant.Ghost.{Ghost}
 use Rattle.heap_state.specs.Memory.Table.{word_in}
-use Rattle.heap_state.specs.Worker.{Worker}
+use Rattle.heap_state.specs.Known.{Known}
 use Rattle.heap_laws.specs.Answers.{OldHeader, OldHeaderAnswers, InPlace, KeptBy, Forwards}
 use Rattle.heap_laws.proofs.Copying.Laws.{announces_are_cleared, forwards_are_found}
 use Rattle.heap_laws.proofs.Steps.Answers.{old_headers_are_read}
@@ -35,10 +35,10 @@ use Rattle.gc_worker.specs.Workers.Knows.{linking_at, knows, cursor_asked}
 use Rattle.gc_worker.specs.Steps.Turned.{turned_copy}
 use Rattle.gc_worker.proofs.Stages.Copies.Hosts.{Host, ForScan, at, machine_at, wants_its, is_sound, has_pages, is_worker, takes, with_sound, tells_nothing, wins_nothing, copy_is, quest_with, quest_is}
 use Rattle.gc_worker.proofs.Stages.Copies.Publishing.{stays}
-use Rattle.gc_worker.proofs.Stages.Scan.Headers.{heap_word}
+use Rattle.gc_worker.proofs.Stages.Scan.ScannedHeaders.{heap_word}
 use Rattle.gc_worker.proofs.Words.Eras.{board_is}
-use Rattle.gc_worker.proofs.Workers.Parts.{refit}
-use Rattle.gc_worker.proofs.Stages.Gate.Words.{wants}
+use Rattle.gc_worker.proofs.Workers.KeptParts.{refit}
+use Rattle.gc_worker.proofs.Stages.Gate.GateWords.{wants}
 use Rattle.gc_worker.proofs.Words.RowSteps.{Law, becomes, loads, stores, row_fits, prepared}
 
 -- ---- a scan is answered
@@ -53,7 +53,7 @@ module _ (y : Held) (v : Evacuation) (scan : Scanning) (back : Back) where
   -- the scan knows of the quest what the copy knew
   answer_known : (z : EvacStage) (q : ScanStage) (to : ℕ) → linking_at z ≡ None → HasAsked (record v { stage = z }) q
       → record (knows (asking z q)) { copy = None; quest = Some (quest_with y v (ForScan (record scan { stage = q }) back) (Some to)) } ≡ knows (going_on q to)
-  answer_known z (Asks asked) to none has = λ i. record (knows (going_on (Asks asked) to)) { linking = none i; quest = Some (record { old = sym has i; origin = Rattle.heap_state.specs.Worker.Scanned (cursor_asked (Asks asked)); found = Some to }) }
+  answer_known z (Asks asked) to none has = λ i. record (knows (going_on (Asks asked) to)) { linking = none i; quest = Some (record { old = sym has i; origin = Rattle.heap_state.specs.Known.Scanned (cursor_asked (Asks asked)); found = Some to }) }
   answer_known z _ to none has = absurd has
 
   back_fits : (q : ScanStage) (z : EvacStage) (to : ℕ) (b : Back) → FitsBack (asking z q) b → FitsBack (going_on q to) b
@@ -80,7 +80,7 @@ module _ (c : Configuration) (p : Plain) (s : Stands c p) (k : ℕ) (y : Held) (
   pub answers : OldHeaderAnswers (era c) (memory c) s.ghost k (quest_with y v o None)
   answers =
       old_headers_are_read (era c) (memory c) (team c) s.ghost k (quest_with y v o None) (prepared c p s k (at y o v LoadsHeader) is)
-      (ap (λ (u : Worker). u.quest) is.as_known ∙ quest_is y v o LoadsHeader) (ap (λ (u : Worker). u.copy) is.as_known ∙ copy_is y v o LoadsHeader)
+      (ap (λ (u : Known). u.quest) is.as_known ∙ quest_is y v o LoadsHeader) (ap (λ (u : Known). u.copy) is.as_known ∙ copy_is y v o LoadsHeader)
 
   by_word : (size : ℕ) (d : Decoded) → size ≡ s.ghost.size v.addr → decode first_word ≡ d → OldHeader (era c) (memory c).front k size d → Finds → Goes c p s k None (at y o v LoadsHeader) (Value first_word)
   by_word size d is_size e (InPlace kind len serial mutator of_size) finds =
@@ -109,7 +109,7 @@ module _ (c : Configuration) (p : Plain) (s : Stands c p) (k : ℕ) (y : Held) (
   abbrev for_scan : EvacStage → Held
   for_scan z = at y (ForScan scan back) v z
 
-  abbrev found_by : (to : ℕ) → Worker → Worker
+  abbrev found_by : (to : ℕ) → Known → Known
   found_by to w = record w { copy = None; quest = Some (quest_with y v (ForScan scan back) (Some to)) }
 
   answers_scan : (e : Option Entry) (z : EvacStage) (to : ℕ) (reply : Reply) (h : Ghost) → Is c k (for_scan z) → linking_at z ≡ None → stage_after v.layout v.epoch z reply ≡ Ended to → to < 2 ^ 32
@@ -118,7 +118,7 @@ module _ (c : Configuration) (p : Plain) (s : Stands c p) (k : ℕ) (y : Held) (
       let has = is.fits.stage.2 in
       becomes c p s k (for_scan z) e reply (going_on y v scan back scan.stage to) h
       (ap (λ n. turned_copy (for_scan z) (machine_at y (ForScan scan back) v n) scan back (evac_taken.told n)) next) is.below
-      (subst (λ (u : Worker). Law c p s k (for_scan z) e u h) (answer_known y v scan back z scan.stage to none has) law)
+      (subst (λ (u : Known). Law c p s k (for_scan z) e u h) (answer_known y v scan back z scan.stage to none has) law)
       (tells_nothing y v (ForScan scan back) z reply) (wins_nothing y v (ForScan scan back) z reply)
       (takes y v (ForScan scan back) z reply (subst (λ n. IsSound (record v { stage = n })) (sym next)
       (with_sound y v c.pages c.mutators k z (Ended to) (is_sound y v c.pages c.mutators k (ForScan scan back) z is.fits) short)))
@@ -130,17 +130,17 @@ module _ (c : Configuration) (p : Plain) (s : Stands c p) (k : ℕ) (y : Held) (
         loads_header c p s k y (ForScan scan back) v is
         (λ len to e. answers_scan None LoadsHeader to (Value (word_in c.pages c.words (HeapWord v.addr))) s.ghost is refl
         (ap (by_first_word (word_in c.pages c.words (HeapWord v.addr))) e) (forward_bounds (word_in c.pages c.words (HeapWord v.addr)) len to e).1
-        (subst (λ (u : Worker). Law c p s k (for_scan LoadsHeader) None (found_by to u) s.ghost) is.as_known
+        (subst (λ (u : Known). Law c p s k (for_scan LoadsHeader) None (found_by to u) s.ghost) is.as_known
         (subst (λ q. Law c p s k (for_scan LoadsHeader) None (record ((team c).worker k) { copy = q; quest = Some (quest_with y v (ForScan scan back) (Some to)) }) s.ghost)
-        (ap (λ (u : Worker). u.copy) is.as_known)
+        (ap (λ (u : Known). u.copy) is.as_known)
         (forwards_are_found (era c) (memory c) (team c) s.ghost k (quest_with y v (ForScan scan back) None) len to (prepared c p s k (for_scan LoadsHeader) is)
-        (ap (λ (u : Worker). u.copy) is.as_known) (ap (λ (u : Worker). u.quest) is.as_known) (ap decode (heap_word c v.addr) ∙ e)))))
+        (ap (λ (u : Known). u.copy) is.as_known) (ap (λ (u : Known). u.quest) is.as_known) (ap decode (heap_word c v.addr) ∙ e)))))
 
   module _ (to : ℕ) (is : Is c k (for_scan (Clears to))) where
     clear_law : Law c p s k (for_scan (Clears to)) (Some (AnnounceIs k 0)) (knows (for_scan (Clears to))) s.ghost
     clear_law =
-        subst (λ (u : Worker). Law c p s k (for_scan (Clears to)) (Some (AnnounceIs k 0)) u s.ghost) is.as_known
-        (announces_are_cleared (era c) (memory c) (team c) s.ghost k (prepared c p s k (for_scan (Clears to)) is) (ap (λ (u : Worker). u.copy) is.as_known))
+        subst (λ (u : Known). Law c p s k (for_scan (Clears to)) (Some (AnnounceIs k 0)) u s.ghost) is.as_known
+        (announces_are_cleared (era c) (memory c) (team c) s.ghost k (prepared c p s k (for_scan (Clears to)) is) (ap (λ (u : Known). u.copy) is.as_known))
 
     pub scan_clears : StepsSo c p s k (for_scan (Clears to))
     scan_clears =

@@ -8,7 +8,7 @@ use Rattle.forwarding.specs.Evacuation as evac
 use Rattle.forwarding.specs.Soundness as sound
 use Rattle.forwarding.specs.Taken as taken
 use Rattle.page_scan.specs.Scanning.{Scanning}
-use Rattle.heap_state.specs.Worker.{Copy, Quest, Origin, Register, Scanned}
+use Rattle.heap_state.specs.Known.{Copy, Quest, Origin, Register, Scanned}
 use Rattle.gc_worker.specs.declared.stage.after.After.{After}
 use Rattle.gc_worker.specs.declared.stage.back.Back.{Back}
 use Rattle.gc_worker.specs.declared.stage.back.Back.TheVariants.{ToAccess}
@@ -19,7 +19,7 @@ use Rattle.gc_worker.specs.Workers.Held.{Held}
 use Rattle.gc_worker.specs.Workers.Knows.{knows, copy_at, found_in, linking_at, cursor_asked}
 use Rattle.gc_worker.specs.Steps.Turned.{Silent, turned, turned_copy, turned_register, told, won}
 use Rattle.gc_worker.specs.Steps.Wanted.{wanted}
-use Rattle.gc_worker.proofs.Workers.Parts.{refit}
+use Rattle.gc_worker.proofs.Workers.KeptParts.{refit}
 
 -- what the copy is for
 pub data Host : Type 0 where

@@ -11,15 +11,15 @@ use Rattle.forwarding.specs.Soundness.{IsSound}
 use Rattle.heap_state.specs.Configuration.{Configuration, Stands, era, memory, team}
 use Rattle.heap_state.specs.Memory.Entries.{Entry, WeakIs, WordIs}
 use Rattle.heap_state.specs.Memory.Table.{table_of, word_in}
-use Rattle.heap_state.specs.Worker.{Worker, Linking}
+use Rattle.heap_state.specs.Known.{Known, Linking}
 use Rattle.heap_laws.specs.Copying.{with_linking}
-use Rattle.heap_laws.proofs.Copying.Cells.{cells_are_linked, links_are_stored, weak_is_loaded, weak_is_forgotten}
+use Rattle.heap_laws.proofs.Copying.CopiedCells.{cells_are_linked, links_are_stored, weak_is_loaded, weak_is_forgotten}
 use Rattle.gc_worker.specs.Steps.Goes.{Is, StepsSo}
 use Rattle.gc_worker.specs.Workers.Held.{Held}
 use Rattle.gc_worker.specs.Workers.Knows.{copy_at, found_in, linking_at}
 use Rattle.gc_worker.proofs.Stages.Copies.Hosts.{Host, at, machine_at, wants_its, is_sound, has_pages, copy_is, quest_with, quest_is, linking_is}
 use Rattle.gc_worker.proofs.Stages.Copies.Publishing.{goes}
-use Rattle.gc_worker.proofs.Stages.Gate.Words.{wants}
+use Rattle.gc_worker.proofs.Stages.Gate.GateWords.{wants}
 use Rattle.gc_worker.proofs.Words.RowSteps.{Law, exchanges, loads, stores, row_fits, prepared}
 
 -- the decoded table has WEAK's word
@@ -31,7 +31,7 @@ module _ (c : Configuration) (p : Plain) (s : Stands c p) (k : ℕ) (y : Held) (
   abbrev here : EvacStage → Held
   here z = at y o v z
 
-  abbrev w : Worker
+  abbrev w : Known
   w = (team c).worker k
 
   abbrev sound : (z : EvacStage) → Is c k (here z) → IsSound (machine_at y o v z)
@@ -41,16 +41,16 @@ module _ (c : Configuration) (p : Plain) (s : Stands c p) (k : ℕ) (y : Held) (
   still : (z q : EvacStage) (e : Option Entry) (is : Is c k (here z)) → copy_at v.layout v.addr v.epoch z ≡ None → found_in z ≡ Some to → Law c p s k (here z) e (with_linking w (linking_at q)) s.ghost
       → Law c p s k (here z) e (record w { copy = None; quest = Some (quest_with y v o (Some to)); linking = linking_at q }) s.ghost
   still z q e is none found law =
-      subst (λ (u : Worker). Law c p s k (here z) e u s.ghost)
+      subst (λ (u : Known). Law c p s k (here z) e u s.ghost)
       (λ i. record w {
-        copy = (ap (λ (u : Worker). u.copy) is.as_known ∙ copy_is y v o z ∙ none) i;
-        quest = (ap (λ (u : Worker). u.quest) is.as_known ∙ quest_is y v o z ∙ ap (λ f. Some (quest_with y v o f)) found) i;
+        copy = (ap (λ (u : Known). u.copy) is.as_known ∙ copy_is y v o z ∙ none) i;
+        quest = (ap (λ (u : Known). u.quest) is.as_known ∙ quest_is y v o z ∙ ap (λ f. Some (quest_with y v o f)) found) i;
         linking = linking_at q;
       }) law
 
   -- what the worker has to link
   to_link : (z : EvacStage) → Is c k (here z) → w.linking ≡ linking_at z
-  to_link z is = ap (λ (u : Worker). u.linking) is.as_known ∙ linking_is y v o z
+  to_link z is = ap (λ (u : Known). u.linking) is.as_known ∙ linking_is y v o z
 
   -- ---- WEAK is loaded
 

@@ -20,7 +20,7 @@ use Rattle.forwarding.specs.Taken.{by_area, by_other_area, reserved_at, stage_af
 use Rattle.heap_state.specs.Configuration.{Configuration, Stands, era, memory, team}
 use Rattle.heap_state.specs.Memory.Entries.{AnnounceIs, AreaIs}
 use Rattle.heap_state.specs.Memory.Table.{table_of, word_in}
-use Rattle.heap_state.specs.Worker.{Worker, Copy, is_late}
+use Rattle.heap_state.specs.Known.{Known, Copy, is_late}
 use Rattle.heap_state.proofs.Table.Spelled.{spelled}
 use Rattle.heap_laws.proofs.Copying.Room.{copies_have_room}
 use Rattle.heap_laws.specs.Copying as law
@@ -31,7 +31,7 @@ use Rattle.gc_worker.specs.Workers.Knows.{placing, copy_at, found_in, scan_of}
 use Rattle.gc_worker.proofs.Words.Eras.{ends_below, span_within}
 use Rattle.gc_worker.proofs.Stages.Copies.Hosts.{Host, ForScan, ForRegister, at, machine_at, wants_its, is_sound, has_pages, is_worker, copy_is, quest_with, quest_is, linking_is, nothing_to_link}
 use Rattle.gc_worker.proofs.Stages.Copies.Publishing.{goes, stays}
-use Rattle.gc_worker.proofs.Stages.Gate.Words.{wants}
+use Rattle.gc_worker.proofs.Stages.Gate.GateWords.{wants}
 use Rattle.gc_worker.proofs.Words.RowSteps.{Law, exchanges, loads, stores, row_fits, prepared}
 
 module _ (c : Configuration) (p : Plain) (s : Stands c p) (k : ℕ) (y : Held) (o : Host) (v : Evacuation) (kept : KeptHeader) where
@@ -39,7 +39,7 @@ module _ (c : Configuration) (p : Plain) (s : Stands c p) (k : ℕ) (y : Held) (
   here z = at y o v z
 
   -- the worker with this copy, which is not found
-  abbrev with_copy : Copy → Worker
+  abbrev with_copy : Copy → Known
   with_copy copy = record ((team c).worker k) { copy = Some copy; quest = Some (quest_with y v o None); linking = None }
 
   -- what a law says of a worker that seeks the copy
@@ -47,8 +47,8 @@ module _ (c : Configuration) (p : Plain) (s : Stands c p) (k : ℕ) (y : Held) (
   still_seeks z copy is not_yet =
       λ i. record ((team c).worker k) {
         copy = Some copy;
-        quest = (ap (λ (u : Worker). u.quest) is.as_known ∙ quest_is y v o z ∙ ap (λ f. Some (quest_with y v o f)) not_yet) i;
-        linking = (ap (λ (u : Worker). u.linking) is.as_known ∙ linking_is y v o z ∙ nothing_to_link z not_yet) i;
+        quest = (ap (λ (u : Known). u.quest) is.as_known ∙ quest_is y v o z ∙ ap (λ f. Some (quest_with y v o f)) not_yet) i;
+        linking = (ap (λ (u : Known). u.linking) is.as_known ∙ linking_is y v o z ∙ nothing_to_link z not_yet) i;
       }
 
   module _ (area : AreaWord) (is : Is c k (here (Announces kept area))) where
@@ -57,11 +57,11 @@ module _ (c : Configuration) (p : Plain) (s : Stands c p) (k : ℕ) (y : Held) (
 
     announce_law : Law c p s k (here (Announces kept area)) (Some (AnnounceIs k (front_of v.layout v.epoch area + 1))) (with_copy named) s.ghost
     announce_law =
-        subst (λ (u : Worker). Law c p s k (here (Announces kept area)) (Some (AnnounceIs k (front_of v.layout v.epoch area + 1))) u s.ghost)
+        subst (λ (u : Known). Law c p s k (here (Announces kept area)) (Some (AnnounceIs k (front_of v.layout v.epoch area + 1))) u s.ghost)
         (still_seeks (Announces kept area) named is refl)
         (places_are_announced (era c) (memory c) (team c) s.ghost k (placing v.addr (front_of v.layout v.epoch area) kept false)
         (prepared c p s k (here (Announces kept area)) is)
-        (ap (λ (u : Worker). u.copy) is.as_known ∙ copy_is y v o (Announces kept area)) refl refl)
+        (ap (λ (u : Known). u.copy) is.as_known ∙ copy_is y v o (Announces kept area)) refl refl)
 
     pub announces : StepsSo c p s k (here (Announces kept area))
     announces =
@@ -124,11 +124,11 @@ module _ (c : Configuration) (p : Plain) (s : Stands c p) (k : ℕ) (y : Held) (
   -- a copy is made in the epoch
   epoch_is : (o : Host) (z : EvacStage) → Is c k (at y o v z) → v.epoch ≡ (era c).epoch
   epoch_is (ForScan scan back) z is =
-      is.fits.stage.0.of_epoch ∙ sym (ap (λ (u : Worker). u.epoch) is.as_known)
-      ∙ (s.invariant.workers k is.below).present (scan_of scan scan.stage) (ap (λ (u : Worker). u.scan) is.as_known)
+      is.fits.stage.0.of_epoch ∙ sym (ap (λ (u : Known). u.epoch) is.as_known)
+      ∙ (s.invariant.workers k is.below).present (scan_of scan scan.stage) (ap (λ (u : Known). u.scan) is.as_known)
   epoch_is (ForRegister r after) z is =
-      let from = (s.invariant.workers k is.below).origin (quest_with y v (ForRegister r after) (found_in z)) (ap (λ (u : Worker). u.quest) is.as_known) in
-      is.fits.stage.copy.of_epoch ∙ eqb-true (y.epoch + 1) (era c).epoch (subst (λ (u : Worker). is_late (era c).epoch u ≡ true) is.as_known from.0)
+      let from = (s.invariant.workers k is.below).origin (quest_with y v (ForRegister r after) (found_in z)) (ap (λ (u : Known). u.quest) is.as_known) in
+      is.fits.stage.copy.of_epoch ∙ eqb-true (y.epoch + 1) (era c).epoch (subst (λ (u : Known). is_late (era c).epoch u ≡ true) is.as_known from.0)
 
 module _ (c : Configuration) (p : Plain) (s : Stands c p) (k : ℕ) (y : Held) (o : Host) (v : Evacuation) (kept : KeptHeader) where
   abbrev here_too : EvacStage → Held
@@ -153,7 +153,7 @@ module _ (c : Configuration) (p : Plain) (s : Stands c p) (k : ℕ) (y : Held) (
       subst (λ n. AreaHoldsCopy n (size_of kept) (area_read c)) (sym (has_pages y v c.pages c.mutators k o z is.fits))
       (subst (λ m. AreaHoldsCopy c.pages m (area_read c)) size
       (room c p s d (copies_have_room (era c) (memory c) (team c) s.ghost k d (prepared c p s k (here_too z) is)
-      (ap (λ (u : Worker). u.copy) is.as_known ∙ copy_is y v o z ∙ at_z) loose)))
+      (ap (λ (u : Known). u.copy) is.as_known ∙ copy_is y v o z ∙ at_z) loose)))
 
   -- FRONT is the copy's place, which is to be announced
   aims : (z : EvacStage) (d : Copy) (reply : Reply) → Is c k (here_too z) → copy_at v.layout v.addr v.epoch z ≡ Some d → found_in z ≡ None → d.reserved ≡ false → d.size ≡ size_of kept
@@ -161,10 +161,10 @@ module _ (c : Configuration) (p : Plain) (s : Stands c p) (k : ℕ) (y : Held) (
       → IsKeptHeader v.layout.pages v.addr kept → stage_after v.layout v.epoch z reply ≡ Announces kept (area_read c) → Goes c p s k None (here_too z) reply
   aims z d reply is at_z not_yet loose size same keeps next =
       goes c p s k y o v None z (Announces kept (area_read c)) reply (Some (placing v.addr (front_of v.layout v.epoch (area_read c)) kept false)) None s.ghost is next refl
-      (subst (λ (u : Worker). Law c p s k (here_too z) None u s.ghost)
+      (subst (λ (u : Known). Law c p s k (here_too z) None u s.ghost)
       (ap (law.copying ((team c).worker k)) same ∙ still_seeks c p s k y o v kept z (placing v.addr (front_of v.layout v.epoch (area_read c)) kept false) is not_yet)
       (places_are_aimed (era c) (memory c) (team c) s.ghost k d (front_of v.layout v.epoch (area_read c)) (prepared c p s k (here_too z) is)
-      (ap (λ (u : Worker). u.copy) is.as_known ∙ copy_is y v o z ∙ at_z) loose (front_is z is)))
+      (ap (λ (u : Known). u.copy) is.as_known ∙ copy_is y v o z ∙ at_z) loose (front_is z is)))
       refl refl (keeps, has_room z d is at_z loose size)
 
   module _ (is : Is c k (here_too (LoadsArea kept))) where
@@ -213,11 +213,11 @@ module _ (c : Configuration) (p : Plain) (s : Stands c p) (k : ℕ) (y : Held) (
           let copy : Copy = record announced { reserved = true; crossed = (front_of v.layout v.epoch area + 63) / 64 } in
           goes c p s k y o v (Some (AreaIs (to_space (era c).epoch) (area_past (size_of kept) area))) (Reserves kept area) (StoresHeader (reserved_at v.layout v.epoch kept area)) Won
           (Some copy) None (law.reserved s.ghost k v.addr (front_of v.layout v.epoch area) (size_of kept)) is refl refl
-          (subst (λ (u : Worker). Law c p s k (here_too (Reserves kept area)) (Some (AreaIs (to_space (era c).epoch) (area_past (size_of kept) area))) u
+          (subst (λ (u : Known). Law c p s k (here_too (Reserves kept area)) (Some (AreaIs (to_space (era c).epoch) (area_past (size_of kept) area))) u
           (law.reserved s.ghost k v.addr (front_of v.layout v.epoch area) (size_of kept)))
           (still_seeks c p s k y o v kept (Reserves kept area) copy is refl)
           (places_are_reserved (era c) (memory c) (team c) s.ghost k announced area (prepared c p s k (here_too (Reserves kept area)) is)
-          (ap (λ (u : Worker). u.copy) is.as_known ∙ copy_is y v o (Reserves kept area)) refl refl at_front now))
+          (ap (λ (u : Known). u.copy) is.as_known ∙ copy_is y v o (Reserves kept area)) refl refl at_front now))
           refl refl (record { keeps = sound_reserve.fits.0; inside = inside })
 
     -- the exchange is lost to an area with the same FRONT, which is announced already

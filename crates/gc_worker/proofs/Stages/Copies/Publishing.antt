@@ -23,15 +23,15 @@ use Rattle.heap_state.specs.Configuration.{Configuration, Stands, era, memory, t
 use Rattle.heap_state.specs.Memory.Entries.{Entry, WordIs}
 use Rattle.heap_state.specs.Invariant.Ghost.{Ghost}
 use Rattle.heap_state.specs.Memory.Table.{word_in}
-use Rattle.heap_state.specs.Worker.{Worker, Linking, Copy}
+use Rattle.heap_state.specs.Known.{Known, Linking, Copy}
 use Rattle.heap_laws.specs.Copying.{LinksCopy, begun, published, taken}
 use Rattle.heap_laws.proofs.Copying.Laws.{headers_are_taken, copies_are_published}
 use Rattle.gc_worker.specs.Steps.Goes.{Is, Goes, StepsSo}
 use Rattle.gc_worker.specs.Workers.Held.{Held}
 use Rattle.gc_worker.specs.Workers.Knows.{knows, copy_at, found_in, linking_at, moving, page_past}
 use Rattle.gc_worker.proofs.Stages.Copies.Hosts.{Host, at, machine_at, wants_its, tells_nothing, wins_nothing, turns, takes, is_sound, has_pages, is_worker, with_sound, refits, copy_is, quest_with, quest_is, linking_is, becomes_known}
-use Rattle.gc_worker.proofs.Stages.Scan.Headers.{heap_word}
-use Rattle.gc_worker.proofs.Stages.Gate.Words.{wants}
+use Rattle.gc_worker.proofs.Stages.Scan.ScannedHeaders.{heap_word}
+use Rattle.gc_worker.proofs.Stages.Gate.GateWords.{wants}
 use Rattle.gc_worker.proofs.Words.RowSteps.{Law, becomes, exchanges, nothing, stores, prepared}
 
 -- a cell's header is of the kind weak, and of two words
@@ -66,8 +66,8 @@ module _ (c : Configuration) (p : Plain) (s : Stands c p) (k : ℕ) (y : Held) (
   goes e z q reply copy found h is next more law copy_after found_after fits =
       let sound = is_sound y v c.pages c.mutators k o z is.fits in
       becomes c p s k (here z) e reply (here q) h (turns y v o z q reply next more) is.below
-      (subst (λ (u : Worker). Law c p s k (here z) e u h)
-      (ap (λ (u : Worker). record u { copy = copy; quest = Some (quest_with y v o found); linking = linking_at q }) is.as_known ∙ becomes_known y v o z q copy found copy_after found_after)
+      (subst (λ (u : Known). Law c p s k (here z) e u h)
+      (ap (λ (u : Known). record u { copy = copy; quest = Some (quest_with y v o found); linking = linking_at q }) is.as_known ∙ becomes_known y v o z q copy found copy_after found_after)
       law)
       (tells_nothing y v o z reply) (wins_nothing y v o z reply)
       (takes y v o z reply (subst (λ n. IsSound (record v { stage = n })) (sym next) (with_sound y v c.pages c.mutators k z q sound fits)))
@@ -93,7 +93,7 @@ module _ (c : Configuration) (p : Plain) (s : Stands c p) (k : ℕ) (y : Held) (
     forward = forward_word r.kept.len r.to
 
     -- the worker with the copy that it has found, and has to link if it is a cell
-    abbrev with_copy : Option Linking → Worker
+    abbrev with_copy : Option Linking → Known
     with_copy l = record ((team c).worker k) { copy = None; quest = Some (quest_with y v o (Some r.to)); linking = l }
 
     abbrev copied : Copy
@@ -108,7 +108,7 @@ module _ (c : Configuration) (p : Plain) (s : Stands c p) (k : ℕ) (y : Held) (
         let len : r.kept.len + 1 - 1 ≡ r.kept.len = omega arith in
         copies_are_published (era c) (memory c) (team c) s.ghost k copied (quest_with y v o None) forward l
         (prepared c p s k (here (StoresForward r)) is)
-        (ap (λ (u : Worker). u.copy) is.as_known ∙ copy_is y v o (StoresForward r)) (ap (λ (u : Worker). u.quest) is.as_known ∙ quest_is y v o (StoresForward r)) refl refl (omega arith)
+        (ap (λ (u : Known). u.copy) is.as_known ∙ copy_is y v o (StoresForward r)) (ap (λ (u : Known). u.quest) is.as_known ∙ quest_is y v o (StoresForward r)) refl refl (omega arith)
         (decode-forward_word r.kept.len r.to short (omega arith) ∙ ap (λ n. ForwardWord n r.to) (sym len))
         links
 
@@ -151,15 +151,15 @@ module _ (c : Configuration) (p : Plain) (s : Stands c p) (k : ℕ) (y : Held) (
         let few = is.fits.few in
         let heap : (memory c).heap v.addr ≡ kept.word = heap_word c v.addr ∙ same in
         goes (Some taking) (TakesHeader kept) (LoadsArea kept) Won (Some (begun kept.word v.addr (size_of kept))) None (taken s.ghost k v.addr) is refl refl
-        (subst (λ (u : Worker). Law c p s k (here (TakesHeader kept)) (Some taking) u (taken s.ghost k v.addr))
+        (subst (λ (u : Known). Law c p s k (here (TakesHeader kept)) (Some taking) u (taken s.ghost k v.addr))
         (λ i. record ((team c).worker k) {
           copy = Some (begun (heap i) v.addr (size_of kept));
-          quest = (ap (λ (u : Worker). u.quest) is.as_known ∙ quest_is y v o (TakesHeader kept)) i;
-          linking = (ap (λ (u : Worker). u.linking) is.as_known ∙ linking_is y v o (TakesHeader kept)) i;
+          quest = (ap (λ (u : Known). u.quest) is.as_known ∙ quest_is y v o (TakesHeader kept)) i;
+          linking = (ap (λ (u : Known). u.linking) is.as_known ∙ linking_is y v o (TakesHeader kept)) i;
         })
         (headers_are_taken (era c) (memory c) (team c) s.ghost k (quest_with y v o None) kept.kind kept.len keeps.serial keeps.mutator (busy_word kept.len k)
-        (prepared c p s k (here (TakesHeader kept)) is) (ap (λ (u : Worker). u.copy) is.as_known ∙ copy_is y v o (TakesHeader kept))
-        (ap (λ (u : Worker). u.quest) is.as_known ∙ quest_is y v o (TakesHeader kept)) refl (ap decode heap ∙ keeps.says)
+        (prepared c p s k (here (TakesHeader kept)) is) (ap (λ (u : Known). u.copy) is.as_known ∙ copy_is y v o (TakesHeader kept))
+        (ap (λ (u : Known). u.quest) is.as_known ∙ quest_is y v o (TakesHeader kept)) refl (ap decode heap ∙ keeps.says)
         (decode-busy_word kept.len k short (omega arith)))) refl refl keeps
 
     pub takes_header : StepsSo c p s k (here (TakesHeader kept))

@@ -21,7 +21,7 @@ use Rattle.gate_core.specs.declared.passage.Passage.TheVariants.{Forwarded}
 use Rattle.heap_state.specs.Configuration.{Configuration, Stands, era, memory, team}
 use Rattle.heap_state.specs.Memory.Entries.{Entry, AnnounceIs}
 use Rattle.heap_state.specs.Memory.Table.{word_in}
-use Rattle.heap_state.specs.Worker.{Worker, Quest, Register, is_late}
+use Rattle.heap_state.specs.Known.{Known, Quest, Register, is_late}
 use Rattle.heap_laws.specs.Composites.{AsksAt, AllDone, AsksNext, LeadNowhere, forwarded_to}
 use Rattle.heap_laws.proofs.Copying.Laws.{announces_are_cleared}
 use Rattle.heap_laws.proofs.Steps.Composites.{registers_find_forwards, registers_are_settled}
@@ -38,11 +38,11 @@ use Rattle.gc_worker.specs.Workers.Knows.{knows, found_in, linking_at}
 use Rattle.gc_worker.specs.Steps.Turned.{Pointed, first_pointer, passes, forwards_it, turned_register}
 use Rattle.gc_worker.proofs.Stages.Copies.Finding.{loads_header}
 use Rattle.gc_worker.proofs.Stages.Copies.Hosts.{Host, ForRegister, at, machine_at, wants_its, is_sound, has_pages, is_worker, takes, with_sound, tells_nothing, wins_nothing, quest_with, quest_is}
-use Rattle.gc_worker.proofs.Stages.Scan.Headers.{heap_word}
+use Rattle.gc_worker.proofs.Stages.Scan.ScannedHeaders.{heap_word}
 use Rattle.gc_worker.proofs.Words.Eras.{board_is}
-use Rattle.gc_worker.proofs.Workers.Parts.{with_parts, page_count}
+use Rattle.gc_worker.proofs.Workers.KeptParts.{with_parts, page_count}
 use Rattle.gc_worker.proofs.Stages.Gate.Resuming.{end_none}
-use Rattle.gc_worker.proofs.Stages.Gate.Words.{wants}
+use Rattle.gc_worker.proofs.Stages.Gate.GateWords.{wants}
 use Rattle.gc_worker.proofs.Words.Pointers.{FirstPointer, Nowhere, There, word_at, found, is_pointer, leads_nowhere}
 use Rattle.gc_worker.proofs.Words.RowSteps.{Law, becomes, stores, row_fits, prepared}
 
@@ -62,14 +62,14 @@ module _ (c : Configuration) (p : Plain) (s : Stands c p) (k : ℕ) (y : Held) (
   next_at to o = at_stage (with_it to) (forwards_it (with_it to) after o)
 
   module _ (to : ℕ) (z : EvacStage) (is : Is c k (here z)) (short : to < 2 ^ 32) where
-    abbrev w : Worker
+    abbrev w : Known
     w = (team c).worker k
 
     abbrev own : Quest
     own = quest_with y v host (found_in z)
 
     quest : w.quest ≡ Some own
-    quest = ap (λ (u : Worker). u.quest) is.as_known ∙ quest_is y v host z
+    quest = ap (λ (u : Known). u.quest) is.as_known ∙ quest_is y v host z
 
     -- whose copy it is
     origin : (is_late (era c).epoch w ≡ true) × (w.done ≡ r) × (r < 8) × (decode (w.registers r) ≡ PointerWord v.addr)
@@ -80,7 +80,7 @@ module _ (c : Configuration) (p : Plain) (s : Stands c p) (k : ℕ) (y : Held) (
 
     -- the registers behind it are as they were
     kept : (i : ℕ) → r + 1 ≤ i → w.registers i ≡ slice_index (with_it to).registers i
-    kept i l = ap (λ (u : Worker). u.registers i) is.as_known ∙ sym (get_or-set_other y.registers r i (pointer_word to) 0 (λ same. omega (arith, l, same)))
+    kept i l = ap (λ (u : Known). u.registers i) is.as_known ∙ sym (get_or-set_other y.registers r i (pointer_word to) 0 (λ same. omega (arith, l, same)))
 
     -- what the laws of the heap say of the step, whichever register is the next
     abbrev Settles : Option Entry → Type 0
@@ -91,15 +91,15 @@ module _ (c : Configuration) (p : Plain) (s : Stands c p) (k : ℕ) (y : Held) (
       inside : r < length y.registers
       inside = let n = is.fits.eight in let m = origin.2 in omega (arith, n, m)
 
-      abbrev known : (j : ℕ) → Option Quest → Worker
+      abbrev known : (j : ℕ) → Option Quest → Known
       known j q = record (knows (here z)) { copy = None; registers = (λ i. slice_index (with_it to).registers i); done = j; quest = q; linking = None }
 
       settled : (j : ℕ) (q : Option Quest) → r < j → j ≤ 8 → ((i : ℕ) → r + 1 ≤ i → i < j → word_at (with_it to).registers i ≡ None) → AsksAt w.registers j q
           → Law c p s k (here z) e (known j q) s.ghost
       settled j q from small none asks =
           let set = registers_put y.registers r (pointer_word to) inside in
-          subst (λ (u : Worker). Law c p s k (here z) e u s.ghost)
-          (ap (λ (u : Worker). forwarded_to u (pointer_word to) j q) is.as_known
+          subst (λ (u : Known). Law c p s k (here z) e u s.ghost)
+          (ap (λ (u : Known). forwarded_to u (pointer_word to) j q) is.as_known
           ∙ (λ i. record (knows (here z)) { copy = no_copy i; registers = sym set i; done = j; quest = q; linking = no_link i }))
           (law j q from small (λ i l u. leads_nowhere (era c) (w.registers i) (ap (λ n. pointer_in (decode n)) (kept i l) ∙ none i l u)) asks)
 
@@ -125,7 +125,7 @@ module _ (c : Configuration) (p : Plain) (s : Stands c p) (k : ℕ) (y : Held) (
 
       -- the task is what it was, and each register still holds a value's word
       task_after : FitsTaskAfter (with_it to) after
-      task_after = task_stays y.account y.registers r v.addr to (pointer_word to) inside (ap decode (sym (ap (λ (u : Worker). u.registers r) is.as_known)) ∙ origin.3) (decode-pointer_word to short) after y.task is.fits.task
+      task_after = task_stays y.account y.registers r v.addr to (pointer_word to) inside (ap decode (sym (ap (λ (u : Known). u.registers r) is.as_known)) ∙ origin.3) (decode-pointer_word to short) after y.task is.fits.task
 
       value_words : AreValues (with_it to).registers
       value_words = values_set y.registers r (pointer_word to) is.fits.eight (subst IsValueAs (sym (decode-pointer_word to short)) tt) is.fits.registers
@@ -185,7 +185,7 @@ module _ (c : Configuration) (p : Plain) (s : Stands c p) (k : ℕ) (y : Held) (
         let d = from.1 in
         answers_register to LoadsHeader is short None
         (λ j next l u clean asks. registers_find_forwards (era c) (memory c) (team c) s.ghost k (quest_with y v host None) len to (pointer_word to) j next (prepared c p s k (here LoadsHeader) is)
-        from.0 (ap (λ (u : Worker). u.copy) is.as_known) (ap (λ (u : Worker). u.linking) is.as_known) (quest to LoadsHeader is short) (ap Register (sym d)) (left to LoadsHeader is short)
+        from.0 (ap (λ (u : Known). u.copy) is.as_known) (ap (λ (u : Known). u.linking) is.as_known) (quest to LoadsHeader is short) (ap Register (sym d)) (left to LoadsHeader is short)
         (ap decode (heap_word c v.addr) ∙ e) (decode-pointer_word to short) (omega (arith, d, l)) u (rw d clean) asks)
         refl refl (Value first_word) (ap (by_first_word first_word) e)
 
@@ -201,8 +201,8 @@ module _ (c : Configuration) (p : Plain) (s : Stands c p) (k : ℕ) (y : Held) (
         let from = origin to (Clears to) is short in
         let d = from.1 in
         registers_are_settled (era c) (memory c) (team c) s.ghost k (quest_with y v host (Some to)) to (pointer_word to) j next (prepared c p s k (here (Clears to)) is)
-        (ap (λ (u : Worker). u.copy) is.as_known)
-        (ap (λ (u : Worker). u.linking) is.as_known)
+        (ap (λ (u : Known). u.copy) is.as_known)
+        (ap (λ (u : Known). u.linking) is.as_known)
         (record {
           register = record { late = from.0; left = left to (Clears to) is short };
           quest = quest to (Clears to) is short;
@@ -215,7 +215,7 @@ module _ (c : Configuration) (p : Plain) (s : Stands c p) (k : ℕ) (y : Held) (
     register_clears =
         let pages = has_pages y v c.pages c.mutators k host (Clears to) is.fits in
         let worker = is_worker y v c.pages c.mutators k host (Clears to) is.fits in
-        let law = announces_are_cleared (era c) (memory c) (team c) s.ghost k (prepared c p s k (here (Clears to)) is) (ap (λ (u : Worker). u.copy) is.as_known) in
+        let law = announces_are_cleared (era c) (memory c) (team c) s.ghost k (prepared c p s k (here (Clears to)) is) (ap (λ (u : Known). u.copy) is.as_known) in
         let row = row_fits c p s k (here (Clears to)) (AnnounceIs k 0) ((team c).worker k) s.ghost is.below law in
         wants c p s k (here (Clears to)) (Store (place_of c.pages (Announce k)) 0)
         (wants_its y v host (Clears to) ∙ ap (λ n. Some (Store (place_of n (Announce v.worker)) 0)) pages ∙ ap (λ n. Some (Store (place_of c.pages (Announce n)) 0)) worker)

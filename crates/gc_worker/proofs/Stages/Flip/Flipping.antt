@@ -12,7 +12,7 @@ use Rattle.gate_core.specs.declared.reset.Reset as resets
 use Rattle.gate_core.specs.Flip.{gate_flipped}
 use Rattle.heap_state.specs.Configuration.{Configuration, Stands, era, memory, team}
 use Rattle.heap_state.specs.Memory.Entries.{GateIs}
-use Rattle.heap_state.specs.Worker.{Worker, Reset}
+use Rattle.heap_state.specs.Known.{Known, Reset}
 use Rattle.heap_laws.specs.Flipping.Flip.{Flips, after_flip, flipped_gate, next_ghost}
 use Rattle.heap_laws.specs.Lifting.{Flipped}
 use Rattle.heap_laws.proofs.Flipping.Flipped.{flip_keeps}
@@ -22,9 +22,9 @@ use Rattle.gc_worker.specs.Steps.Goes.{Is, Goes, StepsSo}
 use Rattle.gc_worker.specs.Workers.Held.{Held, at_stage}
 use Rattle.gc_worker.specs.Workers.Knows.{knows}
 use Rattle.gc_worker.specs.Steps.Turned.{passes}
-use Rattle.gc_worker.proofs.Workers.Parts.{before_passage}
+use Rattle.gc_worker.proofs.Workers.KeptParts.{before_passage}
 use Rattle.gc_worker.proofs.Stages.Flip.Resetting.{at, now}
-use Rattle.gc_worker.proofs.Stages.Gate.Words.{wants, gate_now, gate_word}
+use Rattle.gc_worker.proofs.Stages.Gate.GateWords.{wants, gate_now, gate_word}
 use Rattle.gc_worker.proofs.Words.RowSteps.{exchanges, prepared}
 
 module _ (c : Configuration) (p : Plain) (s : Stands c p) (k : ℕ) (y : Held) (asked : ℕ) (r : resets.Reset) where
@@ -41,7 +41,7 @@ module _ (c : Configuration) (p : Plain) (s : Stands c p) (k : ℕ) (y : Held) (
     -- the other space got no fewer pages
     larger : (era c).span ≤ (era c).old_span
     larger =
-        let resets = (s.invariant.workers k is.below).reset q (ap (λ (w : Worker). w.reset) is.as_known) in
+        let resets = (s.invariant.workers k is.below).reset q (ap (λ (w : Known). w.reset) is.as_known) in
         let sized = resets.sized refl in
         let least = resets.grown sized.0 sized.1 in
         omega (arith, least, sized.2)
@@ -49,8 +49,8 @@ module _ (c : Configuration) (p : Plain) (s : Stands c p) (k : ℕ) (y : Held) (
     pub flips : Flips (era c) (team c) k q
     flips = record {
       asked = asked;
-      post = ap (λ (w : Worker). w.post) is.as_known;
-      reset = ap (λ (w : Worker). w.reset) is.as_known;
+      post = ap (λ (w : Known). w.post) is.as_known;
+      reset = ap (λ (w : Known). w.reset) is.as_known;
       stored = refl;
       cleared = refl;
       fits = subst (λ (n : ℕ). n + 1 < 2 ^ 32) (now c p s k y asked (Exchanges r) is) is.fits.stage.sound.epoch;
@@ -58,7 +58,7 @@ module _ (c : Configuration) (p : Plain) (s : Stands c p) (k : ℕ) (y : Held) (
     }
 
     flipped : Flipped c (gate_flipped r.gate) k (knows z) p (next_ghost (era c) s.ghost)
-    flipped = subst (λ (w : Worker). Flipped c (flipped_gate r.gate) k (after_flip w) p (next_ghost (era c) s.ghost)) is.as_known (flips_are_lifted c p s k q is.below flips)
+    flipped = subst (λ (w : Known). Flipped c (flipped_gate r.gate) k (after_flip w) p (next_ghost (era c) s.ghost)) is.as_known (flips_are_lifted c p s k q is.below flips)
 
     goes : Goes c p s k (Some (GateIs (gate_flipped r.gate))) x Won
     goes = record {

@@ -20,13 +20,13 @@ use Rattle.gate_core.specs.Soundness.{IsFlippingGoing, IsSizeWithin, FitsFlipSta
 use Rattle.heap_state.specs.Configuration.{Configuration, Stands, table, era, memory, team}
 use Rattle.heap_state.specs.Memory.Entries.{AreaIs, SizeIs, WeakIs}
 use Rattle.heap_state.specs.Memory.Era.{from_space}
-use Rattle.heap_state.specs.Worker.{Reset, Worker}
+use Rattle.heap_state.specs.Known.{Reset, Known}
 use Rattle.heap_state.proofs.Puts.{some_same}
 use Rattle.heap_laws.specs.Flipping.Reset.{found_still, resetting, whole_area}
 use Rattle.heap_laws.specs.Flipping.Sizes.{after_size}
 use Rattle.heap_laws.specs.Lifting.{LeavesConfiguration}
 use Rattle.heap_laws.proofs.Flipping.Reset as reset_laws
-use Rattle.heap_laws.proofs.Gate.Counts.{fits}
+use Rattle.heap_laws.proofs.Gate.GateCounts.{fits}
 use Rattle.heap_laws.proofs.Lifting.Laws.{sizes_are_lifted}
 use Rattle.heap_laws.proofs.Steps.Answers.{areas_are_read}
 use Rattle.gc_worker.specs.declared.stage.Stage.TheVariants.{Flips}
@@ -38,9 +38,9 @@ use Rattle.gc_worker.specs.Workers.Knows.{knows}
 use Rattle.gc_worker.specs.Steps.Turned.{Silent, turned_flip, told_flip}
 use Rattle.gc_worker.proofs.Words.Areas.{area_now, area_says, is_space}
 use Rattle.gc_worker.proofs.Words.Eras.{span_is}
-use Rattle.gc_worker.proofs.Words.Sizes.{grown_within, next_grows, size_now, size_within}
-use Rattle.gc_worker.proofs.Workers.Parts.{refit}
-use Rattle.gc_worker.proofs.Stages.Gate.Words.{wants, gate_now, gate_says}
+use Rattle.gc_worker.proofs.Words.GrownSizes.{grown_within, next_grows, size_now, size_within}
+use Rattle.gc_worker.proofs.Workers.KeptParts.{refit}
+use Rattle.gc_worker.proofs.Stages.Gate.GateWords.{wants, gate_now, gate_says}
 use Rattle.gc_worker.proofs.Words.RowSteps.{Law, becomes, loads, stores, nothing, prepared}
 
 still_says : (g : GateWord) → is_still g ≡ true → (g.running ≡ 0) × (g.behind ≡ 0)
@@ -74,7 +74,7 @@ module _ (c : Configuration) (p : Plain) (s : Stands c p) (k : ℕ) (y : Held) (
   pub now : (before : FlipStage) → Is c k (at before) → y.epoch ≡ (era c).epoch
   now before is =
       let t = (s.invariant.workers k is.below).timely in
-      sym (ap (λ (w : Worker). w.epoch) is.as_known) ∙ t.asking (rw is.as_known refl)
+      sym (ap (λ (w : Known). w.epoch) is.as_known) ∙ t.asking (rw is.as_known refl)
 
   -- ---- the gate
 
@@ -103,7 +103,7 @@ module _ (c : Configuration) (p : Plain) (s : Stands c p) (k : ℕ) (y : Held) (
         let still = still_says gate test in
         let may : MayFlip gate = record { fits = fits (era c) (memory c) (team c) s.ghost s.invariant; still = test; next_fits = subst (λ (n : ℕ). n + 1 < 2 ^ 32) (now LoadsGate is) is.fits.stage.sound.epoch } in
         goes true test (at (LoadsSize gate)) refl may
-        (subst (λ (w : Worker). Law c p s k (at LoadsGate) None (resetting w (found_still gate)) s.ghost) is.as_known
+        (subst (λ (w : Known). Law c p s k (at LoadsGate) None (resetting w (found_still gate)) s.ghost) is.as_known
         (reset_laws.finds_still (era c) (memory c) (team c) s.ghost k (prepared c p s k (at LoadsGate) is) (rw is.as_known refl) (rw is.as_known refl) still.0 still.1))
         (reflip LoadsGate (LoadsSize gate) is tt may)
     by_gate false test =
@@ -132,7 +132,7 @@ module _ (c : Configuration) (p : Plain) (s : Stands c p) (k : ℕ) (y : Held) (
 
     size_found : Law c p s k (at (LoadsSize gate)) None (knows (at (LoadsArea gate found_size))) s.ghost
     size_found =
-        subst (λ (w : Worker). Law c p s k (at (LoadsSize gate)) None (resetting w (record (found_still gate) { size = Some found_size })) s.ghost) is.as_known
+        subst (λ (w : Known). Law c p s k (at (LoadsSize gate)) None (resetting w (record (found_still gate) { size = Some found_size })) s.ghost) is.as_known
         (reset_laws.reads_size (era c) (memory c) (team c) s.ghost k (found_still gate) found_size (prepared c p s k (at (LoadsSize gate)) is) (rw is.as_known refl) is_size)
 
     by_size : Goes c p s k None (at (LoadsSize gate)) (Value found_size)
@@ -170,7 +170,7 @@ module _ (c : Configuration) (p : Plain) (s : Stands c p) (k : ℕ) (y : Held) (
     so_far = record (found_still gate) { size = Some size }
 
     has_size : (era c).span ≡ 64 * size
-    has_size = ((s.invariant.workers k is.below).reset so_far (ap (λ (w : Worker). w.reset) is.as_known)).size size refl
+    has_size = ((s.invariant.workers k is.below).reset so_far (ap (λ (w : Known). w.reset) is.as_known)).size size refl
 
     counted : used + (memory c).low ≡ (era c).span + (memory c).front
     counted =
@@ -195,7 +195,7 @@ module _ (c : Configuration) (p : Plain) (s : Stands c p) (k : ℕ) (y : Held) (
     by_area : Goes c p s k None (at (LoadsArea gate size)) (Value (area_now c space))
     by_area =
         becomes c p s k (at (LoadsArea gate size)) None (Value (area_now c space)) (at (StoresSize found)) s.ghost (ap (next (LoadsArea gate size)) reads_area) is.below
-        (subst (λ (w : Worker). Law c p s k (at (LoadsArea gate size)) None (resetting w (record so_far { grown = Some found.next; used = Some used })) s.ghost) is.as_known
+        (subst (λ (w : Known). Law c p s k (at (LoadsArea gate size)) None (resetting w (record so_far { grown = Some found.next; used = Some used })) s.ghost) is.as_known
         (reset_laws.reads_used (era c) (memory c) (team c) s.ghost k so_far used found.next (prepared c p s k (at (LoadsArea gate size)) is) (rw is.as_known refl) refl counted grows))
         (ap (λ (t : FlipStage). told_flip (told_at t)) reads_area) refl
         (record { pages = is.fits.stage.sound.pages; epoch = is.fits.stage.sound.epoch; stage = subst FitsAt (sym reads_area) found_fits })
@@ -221,7 +221,7 @@ module _ (c : Configuration) (p : Plain) (s : Stands c p) (k : ℕ) (y : Held) (
     abbrev unsized : Reset
     unsized = record { read = r.gate; size = Some r.size; grown = Some r.next; used = Some r.used; sized = false; stored = false; cleared = false }
 
-    abbrev Leads : ℕ → Worker → Type 0
+    abbrev Leads : ℕ → Known → Type 0
     Leads space w = LeavesConfiguration c (Some (SizeIs space r.next)) k (after_size w unsized) p s.ghost s.ghost
 
     is_other_space : from_space (era c).epoch ≡ other
@@ -232,7 +232,7 @@ module _ (c : Configuration) (p : Plain) (s : Stands c p) (k : ℕ) (y : Held) (
         let next = next_within r is.fits.stage.sound.stage in let n = is.fits.pages in
         subst (λ (space : ℕ). Leads space (knows (at (StoresSize r)))) is_other_space
         (subst (Leads (from_space (era c).epoch)) is.as_known
-        (sizes_are_lifted c p s k unsized r.next is.below (ap (λ (w : Worker). w.reset) is.as_known) refl refl (omega (arith, next, n))))
+        (sizes_are_lifted c p s k unsized r.next is.below (ap (λ (w : Known). w.reset) is.as_known) refl refl (omega (arith, next, n))))
 
     size_goes : Goes c p s k (Some (SizeIs other r.next)) (at (StoresSize r)) Done
     size_goes = record {
@@ -269,7 +269,7 @@ module _ (c : Configuration) (p : Plain) (s : Stands c p) (k : ℕ) (y : Held) (
     -- the other space has the pages that were stored
     is_stored : (era c).old_span ≡ 64 * r.next
     is_stored =
-        let sized = ((s.invariant.workers k is.below).reset unstored (ap (λ (w : Worker). w.reset) is.as_known)).sized refl in
+        let sized = ((s.invariant.workers k is.below).reset unstored (ap (λ (w : Known). w.reset) is.as_known)).sized refl in
         sized.2 ∙ ap (λ (n : ℕ). 64 * n) (sym (some_same sized.1))
 
     is_whole : whole_area (era c).old_span r.used ≡ fresh_area
@@ -282,7 +282,7 @@ module _ (c : Configuration) (p : Plain) (s : Stands c p) (k : ℕ) (y : Held) (
     stored =
         subst (λ (n : ℕ). Law c p s k (at (StoresArea r)) (Some (AreaIs n fresh_area)) (knows (at (ResetsWeak r))) s.ghost) is_other
         (subst (λ (a : AreaWord). Law c p s k (at (StoresArea r)) (Some (AreaIs (from_space (era c).epoch) a)) (knows (at (ResetsWeak r))) s.ghost) is_whole
-        (subst (λ (w : Worker). Law c p s k (at (StoresArea r)) (Some (AreaIs (from_space (era c).epoch) (whole_area (era c).old_span r.used))) (resetting w (record unstored { stored = true })) s.ghost) is.as_known
+        (subst (λ (w : Known). Law c p s k (at (StoresArea r)) (Some (AreaIs (from_space (era c).epoch) (whole_area (era c).old_span r.used))) (resetting w (record unstored { stored = true })) s.ghost) is.as_known
         (reset_laws.stores_area_word (era c) (memory c) (team c) s.ghost k unstored r.used (prepared c p s k (at (StoresArea r)) is) (rw is.as_known refl) refl refl
         (subst AreaFits (sym is_whole) fresh_fits))))
 
@@ -303,8 +303,8 @@ module _ (c : Configuration) (p : Plain) (s : Stands c p) (k : ℕ) (y : Held) (
 
     weak_law : Law c p s k (at (ResetsWeak r)) (Some (WeakIs 0)) (knows (at (Exchanges r))) s.ghost
     weak_law =
-        subst (λ (w : Worker). Law c p s k (at (ResetsWeak r)) (Some (WeakIs 0)) (resetting w (record unlinked { cleared = true })) s.ghost) is.as_known
-        (reset_laws.clears_weak (era c) (memory c) (team c) s.ghost k unlinked (prepared c p s k (at (ResetsWeak r)) is) (ap (λ (w : Worker). w.reset) is.as_known))
+        subst (λ (w : Known). Law c p s k (at (ResetsWeak r)) (Some (WeakIs 0)) (resetting w (record unlinked { cleared = true })) s.ghost) is.as_known
+        (reset_laws.clears_weak (era c) (memory c) (team c) s.ghost k unlinked (prepared c p s k (at (ResetsWeak r)) is) (ap (λ (w : Known). w.reset) is.as_known))
 
     pub resets_weak : StepsSo c p s k (at (ResetsWeak r))
     resets_weak =

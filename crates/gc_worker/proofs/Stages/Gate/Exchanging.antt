@@ -16,8 +16,8 @@ use Rattle.gate_core.specs.declared.passage.Passage.TheVariants.{Look, Attach, P
 use Rattle.gate_core.specs.Gate.{gate_after}
 use Rattle.heap_state.specs.Configuration.{Configuration, Stands, table, era, memory, team}
 use Rattle.heap_state.specs.Memory.Entries.{GateIs}
-use Rattle.heap_state.specs.Worker.{Worker, is_mutator}
-use Rattle.heap_state.specs.Worker as workers
+use Rattle.heap_state.specs.Known.{Known, is_mutator}
+use Rattle.heap_state.specs.Known as workers
 use Rattle.heap_laws.specs.Gate as laws
 use Rattle.heap_laws.proofs.Gate.Passages.{passes_gate}
 use Rattle.heap_laws.proofs.Steps.Forgotten.{reads_are_forgotten}
@@ -29,9 +29,9 @@ use Rattle.gc_worker.specs.Steps.Goes.{Is, Goes, StepsSo}
 use Rattle.gc_worker.specs.Workers.Held.{Held, at_stage, pages_needed}
 use Rattle.gc_worker.specs.Workers.Knows.{knows, known_at, post_gone}
 use Rattle.gc_worker.specs.Steps.Turned.{passes, runs_on, after_request, turned, in_epoch, epoch_said, epoch_in_gate}
-use Rattle.gc_worker.proofs.Workers.Parts.{refit, come, before_passage, page_count, before_snap}
-use Rattle.gc_worker.proofs.Workers.GoingOn.{runs_on_known, runs_on_fits}
-use Rattle.gc_worker.proofs.Stages.Gate.Words.{wants, gate_now, gate_is}
+use Rattle.gc_worker.proofs.Workers.KeptParts.{refit, come, before_passage, page_count, before_snap}
+use Rattle.gc_worker.proofs.Workers.ResumedMutators.{runs_on_known, runs_on_fits}
+use Rattle.gc_worker.proofs.Stages.Gate.GateWords.{wants, gate_now, gate_is}
 use Rattle.gc_worker.proofs.Words.RowSteps.{Law, becomes, exchanges, less, prepared}
 
 less_fits : (n : ℕ) → n < 2 ^ 8 → n - 1 < 2 ^ 8
@@ -58,15 +58,15 @@ module _ (c : Configuration) (p : Plain) (s : Stands c p) (k : ℕ) (y : Held) (
     module _ (q : workers.Passage) (stands : (knows x).gate_step ≡ Some (record { read = gate; passage = q })) (same : gate_after passage gate ≡ laws.gate_after q gate) where
       passed : (table c).gate ≡ gate → Law c p s k x (Some (GateIs (gate_after passage gate))) (laws.worker_after gate.epoch q (knows x)) s.ghost
       passed now =
-          rw same (subst (λ (w : Worker). Law c p s k x (Some (GateIs (laws.gate_after q gate))) (laws.worker_after gate.epoch q w) s.ghost) is.as_known
-          (passes_gate (era c) (memory c) (team c) s.ghost k (record { read = gate; passage = q }) (prepared c p s k x is) (ap (λ (w : Worker). w.pass) is.as_known)
-          (record { step = ap (λ (w : Worker). w.gate_step) is.as_known ∙ stands; unchanged = now })))
+          rw same (subst (λ (w : Known). Law c p s k x (Some (GateIs (laws.gate_after q gate))) (laws.worker_after gate.epoch q w) s.ghost) is.as_known
+          (passes_gate (era c) (memory c) (team c) s.ghost k (record { read = gate; passage = q }) (prepared c p s k x is) (ap (λ (w : Known). w.pass) is.as_known)
+          (record { step = ap (λ (w : Known). w.gate_step) is.as_known ∙ stands; unchanged = now })))
 
       wins : (z : Held) → turned x Won ≡ z → laws.worker_after gate.epoch q (knows x) ≡ knows z → Fits c.pages c.mutators k z
           → gate_now c ≡ encode_gate gate → Goes c p s k (Some (GateIs (gate_after passage gate))) x Won
       wins z turns known fits at_gate =
           becomes c p s k x (Some (GateIs (gate_after passage gate))) Won z s.ghost turns is.below
-          (subst (λ (w : Worker). Law c p s k x (Some (GateIs (gate_after passage gate))) w s.ghost) known (passed (gate_is c gate is.fits.stage.sound.stage.fits at_gate))) refl refl
+          (subst (λ (w : Known). Law c p s k x (Some (GateIs (gate_after passage gate))) w s.ghost) known (passed (gate_is c gate is.fits.stage.sound.stage.fits at_gate))) refl refl
           (record { pages = is.fits.stage.sound.pages; stage = tt }) fits
 
     exchanges_it : (gate_now c ≡ encode_gate gate → Goes c p s k (Some (GateIs (gate_after passage gate))) x Won) → Goes c p s k None x (Lost (gate_now c)) → StepsSo c p s k x
@@ -127,7 +127,7 @@ module _ (c : Configuration) (p : Plain) (s : Stands c p) (k : ℕ) (y : Held) (
   -- who leaves is a mutator
   is_member : (is : Is c k (at Leave (Exchanges gate))) → nat_lt y.number y.mutators ≡ true
   is_member is =
-      let e : is_mutator ((team c).worker k).post ≡ true = ap (λ (w : Worker). is_mutator w.post) is.as_known in
+      let e : is_mutator ((team c).worker k).post ≡ true = ap (λ (w : Known). is_mutator w.post) is.as_known in
       rw (is.fits.number, is.fits.beside) (sym (s.invariant.staffed.posts k is.below) ∙ e)
 
   gone : (b : Bool) → is_some y.account.end ≡ true → IsGoneBy b (is_some y.account.end)

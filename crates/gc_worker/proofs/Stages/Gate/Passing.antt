@@ -19,10 +19,10 @@ use Rattle.gate_core.specs.Gate.{allows, allowed, is_clear, told_at, looked}
 use Rattle.gate_core.specs.Soundness.{CountsAllow, FitsGateStage, MayPass}
 use Rattle.heap_state.specs.Configuration.{Configuration, Stands, table, era, memory, team}
 use Rattle.heap_state.specs.Invariant.Parts.Knowledge as parts
-use Rattle.heap_state.specs.Worker.{Worker, Enter, is_behind}
-use Rattle.heap_state.specs.Worker as workers
+use Rattle.heap_state.specs.Known.{Known, Enter, is_behind}
+use Rattle.heap_state.specs.Known as workers
 use Rattle.heap_laws.specs.Answers.{GateAnswers}
-use Rattle.heap_laws.proofs.Gate.Reading.{reads_gate}
+use Rattle.heap_laws.proofs.Gate.GateReads.{reads_gate}
 use Rattle.heap_laws.proofs.Steps.Answers.{passages_fit}
 use Rattle.heap_laws.proofs.Steps.Forgotten.{traced_is_forgotten}
 use Rattle.gc_worker.specs.declared.stage.after.After.{After}
@@ -33,10 +33,10 @@ use Rattle.gc_worker.specs.Steps.Goes.{Is, Goes, StepsSo}
 use Rattle.gc_worker.specs.Workers.Held.{Held, at_stage, pages_needed}
 use Rattle.gc_worker.specs.Workers.Knows.{knows, request_for}
 use Rattle.gc_worker.specs.Steps.Turned.{passes, goes_on, forwards_from, epoch_in_gate, turned_gate}
-use Rattle.gc_worker.proofs.Workers.Parts.{refit, before_passage}
-use Rattle.gc_worker.proofs.Workers.GoingOn.{goes_on_known, goes_on_fits}
+use Rattle.gc_worker.proofs.Workers.KeptParts.{refit, before_passage}
+use Rattle.gc_worker.proofs.Workers.ResumedMutators.{goes_on_known, goes_on_fits}
 use Rattle.gc_worker.proofs.Stages.Gate.Resuming.{stopped_at, stopped_law, stopped_fits}
-use Rattle.gc_worker.proofs.Stages.Gate.Words.{wants, gate_now, gate_says}
+use Rattle.gc_worker.proofs.Stages.Gate.GateWords.{wants, gate_now, gate_says}
 use Rattle.gc_worker.proofs.Words.RowSteps.{Law, becomes, loads, nothing, less, prepared}
 
 -- ---- what a test says
@@ -96,10 +96,10 @@ module _ (c : Configuration) (p : Plain) (s : Stands c p) (k : ℕ) (y : Held) (
     module _ (q : workers.Passage)
         (may : parts.Passes (knows x).post (knows x).epoch (knows x).done (is_some (knows x).account.end) (knows x).traced_seen gate q) where
       may_now : parts.Passes ((team c).worker k).post ((team c).worker k).epoch ((team c).worker k).done (is_some ((team c).worker k).account.end) ((team c).worker k).traced_seen gate q
-      may_now = subst (λ (w : Worker). parts.Passes w.post w.epoch w.done (is_some w.account.end) w.traced_seen gate q) (sym is.as_known) may
+      may_now = subst (λ (w : Known). parts.Passes w.post w.epoch w.done (is_some w.account.end) w.traced_seen gate q) (sym is.as_known) may
 
       learnt : Law c p s k x None (record (knows x) { gate_step = Some (record { read = gate; passage = q }) }) s.ghost
-      learnt = subst (λ (w : Worker). Law c p s k x None (record w { gate_step = Some (record { read = gate; passage = q }) }) s.ghost) is.as_known
+      learnt = subst (λ (w : Known). Law c p s k x None (record w { gate_step = Some (record { read = gate; passage = q }) }) s.ghost) is.as_known
           (reads_gate (era c) (memory c) (team c) s.ghost k q (prepared c p s k x is) may_now)
 
       abbrev answers : GateAnswers gate q
@@ -131,7 +131,7 @@ module _ (c : Configuration) (p : Plain) (s : Stands c p) (k : ℕ) (y : Held) (
     exchange_next q may test same stage counts known =
         let sound : MayPass passage gate = record { fits = (answers q may).fits; allowed = test; counts = counts (answers q may) } in
         goes true test (at passage (Exchanges gate)) same (subst (FitsGateStage passage) (sym stage) sound)
-        (subst (λ (w : Worker). Law c p s k x None w s.ghost) known (learnt q may))
+        (subst (λ (w : Known). Law c p s k x None w s.ghost) known (learnt q may))
         (refit c.pages c.mutators k x is.fits (Passes (record { layout = l; passage = passage; stage = Exchanges gate }) after) is.fits.end is.fits.side is.fits.task
         (record { layout = is.fits.stage.layout; passage = is.fits.stage.passage; going = tt; sound = record { pages = is.fits.stage.sound.pages; stage = sound } }))
 
@@ -181,8 +181,8 @@ module _ (c : Configuration) (p : Plain) (s : Stands c p) (k : ℕ) (y : Held) (
   late is true behind = let e = eqb-true (y.epoch + 1) (era c).epoch behind in sym e
   late is false behind =
       let t = (s.invariant.workers k is.below).timely in
-      let e : ((team c).worker k).done ≡ 8 = ap (λ (w : Worker). w.done) is.as_known in
-      let z = t.rest (ap (λ (w : Worker). is_behind (era c).epoch w.post w.epoch) is.as_known ∙ behind) in
+      let e : ((team c).worker k).done ≡ 8 = ap (λ (w : Known). w.done) is.as_known in
+      let z = t.rest (ap (λ (w : Known). is_behind (era c).epoch w.post w.epoch) is.as_known ∙ behind) in
       absurd (omega (arith, e, z))
 
   forwards : (is : Is c k (at Forwarded Loads)) → Goes c p s k None (at Forwarded Loads) (Value (gate_now c))

@@ -7,7 +7,7 @@ use Rattle.heap_words.specs.Decoded.{decode}
 use Rattle.forwarding.specs.Evacuation as evac
 use Rattle.gate_core.specs.declared.passage.Passage.TheVariants.{Resume, Forwarded}
 use Rattle.heap_state.specs.Configuration.{Configuration, Stands, era, memory, team}
-use Rattle.heap_state.specs.Worker.{Worker, Register, Quest, is_late}
+use Rattle.heap_state.specs.Known.{Known, Register, Quest, is_late}
 use Rattle.heap_laws.specs.Composites.{AsksAt, AllDone, AsksNext, come_to}
 use Rattle.heap_laws.proofs.Steps.Composites.{registers_are_passed}
 use Rattle.gc_worker.specs.declared.stage.after.After.{After}
@@ -18,7 +18,7 @@ use Rattle.gc_worker.specs.Workers.Held.{Held, at_stage}
 use Rattle.gc_worker.specs.Workers.Knows.{knows, known_at}
 use Rattle.gc_worker.specs.Steps.Turned.{Pointed, first_pointer, passes, forwards_it, forwards_from}
 use Rattle.gc_worker.proofs.Words.Eras.{board_is}
-use Rattle.gc_worker.proofs.Workers.Parts.{refit, before_passage, page_count}
+use Rattle.gc_worker.proofs.Workers.KeptParts.{refit, before_passage, page_count}
 use Rattle.gc_worker.proofs.Words.Pointers.{FirstPointer, Nowhere, There, word_at, found, is_pointer, leads_nowhere}
 use Rattle.gc_worker.proofs.Words.RowSteps.{Law, nothing, prepared}
 
@@ -28,7 +28,7 @@ end_none (Some x) e = cc
 
 module _ (c : Configuration) (p : Plain) (s : Stands c p) (k : ℕ) (x : Held) (after : After) (is : Is c k x)
     (stops : knows x ≡ known_at x (passes x (Resume x.epoch) after)) (unended : is_some x.account.end ≡ false) where
-  abbrev w : Worker
+  abbrev w : Known
   w = (team c).worker k
 
   as_stopped : w ≡ known_at x (passes x (Resume x.epoch) after)
@@ -39,7 +39,7 @@ module _ (c : Configuration) (p : Plain) (s : Stands c p) (k : ℕ) (x : Held) (
     before : x.epoch + 1 ≡ (era c).epoch
     before =
         let t = (s.invariant.workers k is.below).timely in
-        let e : w.epoch ≡ x.epoch = ap (λ (v : Worker). v.epoch) as_stopped in
+        let e : w.epoch ≡ x.epoch = ap (λ (v : Known). v.epoch) as_stopped in
         ⊎_elim
         (λ (same : w.epoch ≡ (era c).epoch). omega (arith, later, e, same))
         (λ (next : w.epoch + 1 ≡ (era c).epoch). omega (arith, e, next))
@@ -49,13 +49,13 @@ module _ (c : Configuration) (p : Plain) (s : Stands c p) (k : ℕ) (x : Held) (
     late = rw as_stopped (eq-eqb (x.epoch + 1) (era c).epoch before)
 
     registers : (j : ℕ) → w.registers j ≡ slice_index x.registers j
-    registers j = ap (λ (v : Worker). v.registers j) as_stopped
+    registers j = ap (λ (v : Known). v.registers j) as_stopped
 
     -- what the registers before this one are, the worker has passed
     come : (j : ℕ) (q : Option Quest) → j ≤ 8 → ((i : ℕ) → 0 ≤ i → i < j → word_at x.registers i ≡ None) → AsksAt w.registers j q
         → Law c p s k x None (come_to (known_at x (passes x (Resume x.epoch) after)) j q) s.ghost
     come j q small none asks =
-        subst (λ (v : Worker). Law c p s k x None (come_to v j q) s.ghost) as_stopped
+        subst (λ (v : Known). Law c p s k x None (come_to v j q) s.ghost) as_stopped
         (registers_are_passed (era c) (memory c) (team c) s.ghost k j q (prepared c p s k x is) late (rw as_stopped refl) (rw as_stopped (omega arith)) small
         (rw as_stopped (λ r l u. leads_nowhere (era c) (slice_index x.registers r) (none r l u))) asks)
 

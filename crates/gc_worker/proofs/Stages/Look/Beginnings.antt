@@ -9,7 +9,7 @@ use Rattle.plain_state.specs.State.{Mutator, Plain}
 use Rattle.heap_words.specs.Word.{pointer_word}
 use Rattle.mutator_asm.specs.declared.instr.Instr.{Instr}
 use Rattle.plain_heap.specs.declared.action.Action.{Action}
-use Rattle.plain_heap.specs.declared.action.Action.TheVariants.{Makes, Measures, Loads, Stores, Exchanges, Gets, Puts, Swaps, Snaps}
+use Rattle.plain_heap.specs.declared.action.Action.TheVariants.{Makes, Measures, Loads, Stores, Compares, Gets, Puts, Swaps, Snaps}
 use Rattle.plain_heap.specs.Action.{action}
 use Rattle.plain_heap.proofs.Calls.Named.{Names}
 use Rattle.atom_store.specs.declared.reply.Reply.{Reply}
@@ -30,12 +30,12 @@ use Rattle.heap_laws.proofs.Fields.Shown.{headers_are_read}
 use Rattle.gc_worker.proofs.Plain.Actions.{plain_value}
 use Rattle.gc_worker.proofs.Plain.AnswerSteps.{IsIts}
 use Rattle.gc_worker.proofs.Words.Eras.{board_is}
-use Rattle.gc_worker.proofs.Workers.Parts.{refit, page_count}
-use Rattle.gc_worker.proofs.Workers.GoingOn.{places_known, places_fit, snaps_fit}
+use Rattle.gc_worker.proofs.Workers.KeptParts.{refit, page_count}
+use Rattle.gc_worker.proofs.Workers.ResumedMutators.{places_known, places_fit, snaps_fit}
 use Rattle.gc_worker.proofs.Stages.Look.Begun.{begun_fits}
 use Rattle.gc_worker.proofs.Plain.Registers.{sight, Holds, is_value, names, points, writes}
 use Rattle.gc_worker.proofs.Words.RowSteps.{becomes, nothing, prepared}
-use Rattle.gc_worker.proofs.Plain.Targets.{WritesRegister}
+use Rattle.gc_worker.proofs.Plain.WrittenRegisters.{WritesRegister}
 
 module _ (c : Configuration) (p : Plain) (s : Stands c p) (k : ℕ) (y : Held) where
   abbrev x : Held
@@ -111,9 +111,9 @@ module _ (c : Configuration) (p : Plain) (s : Stands c p) (k : ℕ) (y : Held) w
     stores i n v is_act turns = let held = named (Stores i n v) is_act in
         access (Stores i n v) _ is_act refl (in_heap i held.0, value v held.1) refl turns
 
-    pub exchanges : (d : ℕ) (i : Identity) (n : ℕ) (u v : Value) → Acts (Exchanges d i n u v) → turned x reply ≡ acts (begins x) (Exchanges d i n u v) → Goes c p s k None x reply
-    exchanges d i n u v is_act turns = let held = named (Exchanges d i n u v) is_act in
-        access (Exchanges d i n u v) _ is_act refl (in_heap i held.0, (small_in (Exchanges d i n u v) is_act, value v held.2)) refl turns
+    pub exchanges : (d : ℕ) (i : Identity) (n : ℕ) (u v : Value) → Acts (Compares d i n u v) → turned x reply ≡ acts (begins x) (Compares d i n u v) → Goes c p s k None x reply
+    exchanges d i n u v is_act turns = let held = named (Compares d i n u v) is_act in
+        access (Compares d i n u v) _ is_act refl (in_heap i held.0, (small_in (Compares d i n u v) is_act, value v held.2)) refl turns
 
     pub gets : (d n : ℕ) → Acts (Gets d n) → turned x reply ≡ acts (begins x) (Gets d n) → Goes c p s k None x reply
     gets d n is_act turns = access (Gets d n) _ is_act refl ((named (Gets d n) is_act).1, small_in (Gets d n) is_act) refl turns

@@ -20,7 +20,7 @@ use Rattle.plain_heap.proofs.Calls.Named.{Names}
 use Rattle.atom_store.specs.declared.reply.Reply.{Reply}
 use Rattle.heap_words.specs.Word.{number_word}
 use Rattle.heap_state.specs.Configuration.{Configuration, Stands, era, memory, team}
-use Rattle.heap_state.specs.Worker.{Account, Worker, is_running}
+use Rattle.heap_state.specs.Known.{Account, Known, is_running}
 use Rattle.heap_laws.specs.Fields.Held.{HoldsValue, MayHold, going_on, with_mutator}
 use Rattle.heap_laws.specs.Fields.Stores.{IsAs}
 use Rattle.heap_laws.proofs.Fields.Laws.{mutators_snap, mutators_step}
@@ -41,7 +41,7 @@ use Rattle.gc_worker.proofs.Stages.Look.Begun.{begun_fits}
 use Rattle.gc_worker.proofs.Plain.Registers.{sight, Holds, holds_number, alike, is_value, names, writes}
 use Rattle.gc_worker.proofs.Workers.Answered.{values_set, settled_as, settled_fits}
 use Rattle.gc_worker.proofs.Words.RowSteps.{prepared}
-use Rattle.gc_worker.proofs.Plain.Targets.{WritesRegister}
+use Rattle.gc_worker.proofs.Plain.WrittenRegisters.{WritesRegister}
 
 module _ (c : Configuration) (p : Plain) (s : Stands c p) (k : ℕ) (y : Held) where
   abbrev x : Held
@@ -81,7 +81,7 @@ module _ (c : Configuration) (p : Plain) (s : Stands c p) (k : ℕ) (y : Held) w
         (calls : call k p.heap q instr ≡ Ok (record { heap = p.heap; mutator = next })) (same : turned x reply ≡ settled_as (begins x) account registers x.run) where
       law : LawTo c p s k x None (knows (settled_as (begins x) account registers x.run)) s.ghost (with_mutator p k next)
       law = mutators_step (era c) (memory c) (team c) s.ghost p k (knows (settled_as (begins x) account registers x.run)) next (prepared c p s k x is)
-          (ap (λ (w : Worker). is_running w.post) is.as_known) s.shown
+          (ap (λ (w : Known). is_running w.post) is.as_known) s.shown
           (going c p s k x is refl unended account (λ (j : ℕ). slice_index registers j) serial may) like
 
       goes : Goes c p s k None x reply
@@ -138,6 +138,6 @@ module _ (c : Configuration) (p : Plain) (s : Stands c p) (k : ℕ) (y : Held) w
         let next : Mutator = plain.went_on q in
         let law : LawTo c p s k x None (knows (settled_as (begins x) account x.registers x.run)) s.ghost (with_mutator (with_heap p (took p.heap)) k next) =
         mutators_snap (era c) (memory c) (team c) s.ghost p k (knows (settled_as (begins x) account x.registers x.run)) next (prepared c p s k x is)
-        (ap (λ (w : Worker). is_running w.post) is.as_known) s.shown
+        (ap (λ (w : Known). is_running w.post) is.as_known) s.shown
         (moved_goes c p s k x is refl unended q its) (moved_as c p s k x is refl unended q its) in
         leaves (took p.heap) account x.registers next unended is.fits.few_printed is.fits.eight is.fits.registers law (called Snaps is_act) same

@@ -4,7 +4,7 @@ use Rattle.plain_state.specs.State.{Mutator, Plain}
 use Rattle.plain_heap.specs.declared.action.Action.TheVariants.{Makes}
 use Rattle.plain_heap.specs.Action.{action}
 use Rattle.heap_state.specs.Configuration.{Configuration, Stands}
-use Rattle.heap_state.specs.Worker.{is_running}
+use Rattle.heap_state.specs.Known.{is_running}
 use Rattle.gc_worker.specs.Workers.Fits.{IsMaking}
 use Rattle.gc_worker.specs.Steps.Goes.{Is}
 use Rattle.gc_worker.specs.Workers.Held.{Held}

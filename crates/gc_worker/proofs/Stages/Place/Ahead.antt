@@ -14,7 +14,7 @@ use Rattle.alloc_end.specs.declared.run.Run.{Run}
 use Rattle.alloc_end.specs.Place.{size_of}
 use Rattle.heap_state.specs.Configuration.{Configuration, Stands, era, memory, team}
 use Rattle.heap_state.specs.Memory.Entries.{Entry, WordIs}
-use Rattle.heap_state.specs.Worker.{Stock, Worker, is_running}
+use Rattle.heap_state.specs.Known.{Stock, Known, is_running}
 use Rattle.heap_laws.specs.Allocation.Records.{stored_ahead}
 use Rattle.heap_laws.specs.Allocation.Stocks.{stocked, with_ahead}
 use Rattle.heap_laws.proofs.Allocation.Ahead.{stores_ahead}
@@ -24,7 +24,7 @@ use Rattle.gc_worker.specs.Workers.Held.{Held, at_stage, fields_for, target_for}
 use Rattle.gc_worker.specs.Workers.Knows.{knows, kind_with, stock_of}
 use Rattle.gc_worker.specs.Steps.Turned.{Silent, guards_place, told, turned}
 use Rattle.gc_worker.specs.Steps.Wanted.{wanted}
-use Rattle.gc_worker.proofs.Stages.Gate.Words.{wants}
+use Rattle.gc_worker.proofs.Stages.Gate.GateWords.{wants}
 use Rattle.gc_worker.proofs.Stages.Place.Claiming.{placing, at, replace}
 use Rattle.gc_worker.proofs.Workers.Guarded.{guards_place_fits, guards_place_known}
 use Rattle.gc_worker.proofs.Words.RowSteps.{Law, becomes, stores, row_fits, prepared}
@@ -68,16 +68,16 @@ module _ (c : Configuration) (p : Plain) (s : Stands c p) (k : ℕ) (y : Held) (
           let fits : run.at + 1 + length ahead < run.end = (let e = n.is_place in let r = n.room in omega (arith, e, r)) in
           let stored = stores_ahead (era c) (memory c) (team c) s.ghost k word (stock ahead) (prepared c p s k x is)
           (record { own = record { runs = rw is.as_known n.runs; has = rw is.as_known n.has }; run = (refl, refl); fits = fits; near = n.near }) in
-          subst (λ (v : Worker). Law c p s k x (Some entry) v s.ghost) n.then
+          subst (λ (v : Known). Law c p s k x (Some entry) v s.ghost) n.then
           (subst (λ (a : ℕ). Law c p s k x (Some (WordIs a word)) (stocked (knows x) (with_ahead (stock ahead) word)) s.ghost) n.is_place
-          (subst (λ (v : Worker). Law c p s k x (Some (WordIs (run.at + 1 + length ahead) word)) (stocked v (with_ahead (stock ahead) word)) s.ghost) is.as_known stored))
+          (subst (λ (v : Known). Law c p s k x (Some (WordIs (run.at + 1 + length ahead) word)) (stocked v (with_ahead (stock ahead) word)) s.ghost) is.as_known stored))
 
       stores_next : Takes x Done → Fits c.pages c.mutators k next → StepsSo c p s k x
       stores_next takes fits =
           wants c p s k x (Store (place_of c.pages (HeapWord place)) word) (n.wants_it ∙ ap (λ (m : ℕ). Some (Store (place_of m (HeapWord place)) word)) is.fits.pages)
           (stores c p s k x entry (row_fits c p s k x entry (knows (here after)) s.ghost is.below law)
           (becomes c p s k x (Some entry) Done next s.ghost n.turns is.below
-          (subst (λ (v : Worker). Law c p s k x (Some entry) v s.ghost) (sym (guards_place_known y (placing c p s k y run header after))) law) n.silent refl takes fits))
+          (subst (λ (v : Known). Law c p s k x (Some entry) v s.ghost) (sym (guards_place_known y (placing c p s k y run header after))) law) n.silent refl takes fits))
 
   -- ---- the count of a mixed record's fields
 

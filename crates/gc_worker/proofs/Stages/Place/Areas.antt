@@ -29,8 +29,8 @@ use Rattle.gc_worker.specs.Workers.Held.{Held, at_stage}
 use Rattle.gc_worker.specs.Workers.Knows.{knows}
 use Rattle.gc_worker.specs.Steps.Turned.{Silent, turned_place, told_place}
 use Rattle.gc_worker.proofs.Words.Areas.{area_now, area_says, is_space}
-use Rattle.gc_worker.proofs.Workers.Parts.{refit, page_count}
-use Rattle.gc_worker.proofs.Stages.Gate.Words.{wants}
+use Rattle.gc_worker.proofs.Workers.KeptParts.{refit, page_count}
+use Rattle.gc_worker.proofs.Stages.Gate.GateWords.{wants}
 use Rattle.gc_worker.proofs.Stages.Place.Claiming.{placing, at, replace}
 use Rattle.gc_worker.proofs.Words.RowSteps.{becomes, loads, less}
 

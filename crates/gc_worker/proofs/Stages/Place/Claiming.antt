@@ -19,13 +19,13 @@ use Rattle.alloc_end.specs.Soundness.{FitsPlaceStage, AreaHoldsClaim, IsPlacingG
 use Rattle.heap_state.specs.Configuration.{Configuration, Stands, table, era, memory, team}
 use Rattle.heap_state.specs.Memory.Entries.{AreaIs}
 use Rattle.heap_state.specs.Memory.Table.{word_in}
-use Rattle.heap_state.specs.Worker.{Worker, Stock}
+use Rattle.heap_state.specs.Known.{Known, Stock}
 use Rattle.heap_laws.specs.Allocation.Stocks.{SeesRoom, owed_beside, lowered, claimed, stocked}
 use Rattle.heap_laws.specs.Allocation.Stocks as room_laws
 use Rattle.heap_laws.specs.Composing.{unaware}
 use Rattle.heap_laws.specs.Steps.{IsAreaNow}
 use Rattle.heap_laws.proofs.Allocation.Laws.{room_is_seen, claims_pages}
-use Rattle.heap_laws.proofs.Gate.Reading.{sees_size, sees_traced}
+use Rattle.heap_laws.proofs.Gate.GateReads.{sees_size, sees_traced}
 use Rattle.heap_laws.proofs.Steps.Answers.{areas_are_read}
 use Rattle.heap_laws.proofs.Steps.Composing.{steps_forget}
 use Rattle.heap_laws.proofs.Steps.Forgotten.{traced_is_forgotten}
@@ -36,9 +36,9 @@ use Rattle.gc_worker.specs.Workers.Held.{Held, at_stage, fields_for, target_for}
 use Rattle.gc_worker.specs.Workers.Knows.{knows, zeroed_to}
 use Rattle.gc_worker.proofs.Words.Areas.{area_now, area_is, is_space}
 use Rattle.gc_worker.proofs.Words.Eras.{ends_below, start_is, span_is}
-use Rattle.gc_worker.proofs.Workers.Parts.{refit}
-use Rattle.gc_worker.proofs.Stages.Gate.Words.{wants}
-use Rattle.gc_worker.proofs.Stages.Rounds.Words.{traced_now, traced_word}
+use Rattle.gc_worker.proofs.Workers.KeptParts.{refit}
+use Rattle.gc_worker.proofs.Stages.Gate.GateWords.{wants}
+use Rattle.gc_worker.proofs.Stages.Rounds.RoundWords.{traced_now, traced_word}
 use Rattle.gc_worker.proofs.Words.RowSteps.{Law, becomes, loads, exchanges, nothing, less, prepared}
 
 module _ (c : Configuration) (p : Plain) (s : Stands c p) (k : ℕ) (y : Held) (run : Run) (header : Header) where
@@ -58,7 +58,7 @@ module _ (c : Configuration) (p : Plain) (s : Stands c p) (k : ℕ) (y : Held) (
   pub now : (before : PlaceStage) → Is c k (at before) → y.epoch ≡ (era c).epoch
   now before is =
       let t = (s.invariant.workers k is.below).timely in
-      sym (ap (λ (w : Worker). w.epoch) is.as_known) ∙ t.running (rw is.as_known refl)
+      sym (ap (λ (w : Known). w.epoch) is.as_known) ∙ t.running (rw is.as_known refl)
 
   -- ---- TRACED
 
@@ -72,7 +72,7 @@ module _ (c : Configuration) (p : Plain) (s : Stands c p) (k : ℕ) (y : Held) (
         learnt : (b : Bool) → (traced_now c == y.epoch + 1) ≡ b → Law c p s k (at LoadsTraced) None (knows (at (LoadsSize b))) s.ghost
         learnt false test = nothing c p s k (at LoadsTraced) is (knows (at (LoadsSize false))) refl
         learnt true test =
-            subst (λ (w : Worker). Law c p s k (at LoadsTraced) None (record w { traced_seen = true }) s.ghost) is.as_known
+            subst (λ (w : Known). Law c p s k (at LoadsTraced) None (record w { traced_seen = true }) s.ghost) is.as_known
             (sees_traced (era c) (memory c) (team c) s.ghost k (prepared c p s k (at LoadsTraced) is) (rw is.as_known refl)
             (rw is.as_known (traced_word c ∙ eqb-true (traced_now c) (y.epoch + 1) test)))
 
@@ -96,7 +96,7 @@ module _ (c : Configuration) (p : Plain) (s : Stands c p) (k : ℕ) (y : Held) (
 
     size_learnt : Law c p s k (at (LoadsSize traced)) None (knows (at (LoadsArea traced size_now))) s.ghost
     size_learnt =
-        subst (λ (w : Worker). Law c p s k (at (LoadsSize traced)) None (record w { size_seen = Some size_now }) s.ghost) is.as_known
+        subst (λ (w : Known). Law c p s k (at (LoadsSize traced)) None (record w { size_seen = Some size_now }) s.ghost) is.as_known
         (sees_size (era c) (memory c) (team c) s.ghost k size_now (prepared c p s k (at (LoadsSize traced)) is) (rw is.as_known refl) is_size)
 
     found : Goes c p s k None (at (LoadsSize traced)) (Value size_now)
@@ -171,11 +171,11 @@ module _ (c : Configuration) (p : Plain) (s : Stands c p) (k : ℕ) (y : Held) (
 
       claims : Law c p s k x (Some (AreaIs (to_space (era c).epoch) word)) (stocked (knows x) stock) s.ghost
       claims =
-          let seen : ((team c).worker k).traced_seen ≡ f.traced = ap (λ (v : Worker). v.traced_seen) is.as_known in
+          let seen : ((team c).worker k).traced_seen ≡ f.traced = ap (λ (v : Known). v.traced_seen) is.as_known in
           let ready = prepared c p s k x is in
           let has = subst (λ (b : Bool). room_laws.HasRoomForPages (era c) (memory c) f.area asked (owed_beside b f.area)) seen
           (room_is_seen (era c) (memory c) (team c) s.ghost k asked f.area ready (subst (λ (b : Bool). SeesRoom b f.area asked) (sym seen) sees)) in
-          subst (λ (v : Worker). Law c p s k x (Some (AreaIs (to_space (era c).epoch) word)) (stocked v (claimed v.epoch (era c).start f.area asked)) s.ghost) is.as_known
+          subst (λ (v : Known). Law c p s k x (Some (AreaIs (to_space (era c).epoch) word)) (stocked v (claimed v.epoch (era c).start f.area asked)) s.ghost) is.as_known
           (claims_pages (era c) (memory c) (team c) s.ghost k asked (owed_beside f.traced f.area) f.area ready (rw is.as_known refl) is_now has)
 
       stocks : Law c p s k x (Some (AreaIs space (area_after (words_for header) f))) (knows (at (StoresZero new_pages))) s.ghost

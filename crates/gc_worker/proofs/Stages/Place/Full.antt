@@ -22,7 +22,7 @@ use Rattle.alloc_end.specs.Place.{size_of, pages_for, words_for, looked_at_area,
 use Rattle.alloc_end.specs.Soundness.{FitsPlaceStage}
 use Rattle.heap_state.specs.Configuration.{Configuration, Stands, era, memory, table, team}
 use Rattle.heap_state.specs.Memory.Table.{word_in}
-use Rattle.heap_state.specs.Worker.{Worker}
+use Rattle.heap_state.specs.Known.{Known}
 use Rattle.heap_laws.specs.Fields.Stores.{EndsFull, with_end}
 use Rattle.heap_laws.specs.Composing.{unaware}
 use Rattle.heap_laws.specs.Steps.{IsAreaNow}
@@ -44,10 +44,10 @@ use Rattle.gc_worker.specs.Steps.Turned as turning
 use Rattle.gc_worker.proofs.Plain.AnswerSteps.{LawTo, IsIts, answers}
 use Rattle.gc_worker.proofs.Words.Areas.{area_now, area_says, is_space}
 use Rattle.gc_worker.proofs.Words.Eras.{span_is}
-use Rattle.gc_worker.proofs.Stages.Gate.Words.{gate_says}
+use Rattle.gc_worker.proofs.Stages.Gate.GateWords.{gate_says}
 use Rattle.gc_worker.proofs.Plain.NewRecords.{header_made, plain_pages}
 use Rattle.gc_worker.proofs.Stages.Place.Claiming.{placing, at, now}
-use Rattle.gc_worker.proofs.Stages.Rounds.Words.{traced_word}
+use Rattle.gc_worker.proofs.Stages.Rounds.RoundWords.{traced_word}
 use Rattle.gc_worker.proofs.Workers.Answered.{ended_fits}
 use Rattle.gc_worker.proofs.Words.RowSteps.{prepared}
 
@@ -111,7 +111,7 @@ module _ (c : Configuration) (p : Plain) (s : Stands c p) (k : ℕ) (y : Held) (
           let done = with_end (knows x) end in
           plain_steps_forget (era c) (memory c) (team c) s.ghost k None (unaware done) (knows after) s.ghost (after_outcome p k q (Calls instr) (Trap end))
           (plain_steps_forget (era c) (memory c) (team c) s.ghost k None done (unaware done) s.ghost (after_outcome p k q (Calls instr) (Trap end))
-          (subst (λ (w : Worker). LawTo c p s k x None (with_end w end) s.ghost (after_outcome p k q (Calls instr) (Trap end))) is.as_known finds.ends)
+          (subst (λ (w : Known). LawTo c p s k x None (with_end w end) s.ghost (after_outcome p k q (Calls instr) (Trap end))) is.as_known finds.ends)
           (traced_is_forgotten done refl refl))
           (sizes_are_forgotten (unaware done))
 

@@ -39,7 +39,7 @@ use Rattle.heap_state.specs.Configuration.{Configuration, Stands, era, memory, t
 use Rattle.heap_state.specs.Memory.Entries.{Entry, WordIs}
 use Rattle.heap_state.specs.Invariant.Ghost.{Ghost, header_kind}
 use Rattle.heap_state.specs.Meaning.Values.{Shows, value_of}
-use Rattle.heap_state.specs.Worker.{Account, Stock, Worker}
+use Rattle.heap_state.specs.Known.{Account, Stock, Known}
 use Rattle.heap_laws.specs.Allocation.Records.{PlacesNext, allocated, next_identity, stored_ahead}
 use Rattle.heap_laws.specs.Fields.Held.{HoldsValue}
 use Rattle.heap_laws.specs.Fields.Stores.{HoldsTarget, with_record}
@@ -60,14 +60,14 @@ use Rattle.gc_worker.proofs.Plain.Actions.{plain_value}
 use Rattle.gc_worker.proofs.Plain.AnswerSteps.{LawTo, IsIts, answers, holds, its_mutator, row_fits_to}
 use Rattle.gc_worker.proofs.Plain.Effects.{moved, moved_goes, moved_as}
 use Rattle.gc_worker.proofs.Stages.Gate.Resuming.{end_none}
-use Rattle.gc_worker.proofs.Stages.Gate.Words.{wants}
+use Rattle.gc_worker.proofs.Stages.Gate.GateWords.{wants}
 use Rattle.gc_worker.proofs.Plain.NewRecords.{cell_size, made, made_is, fields_held, fields_is, fits_kind, header_made, kind_said, makes_named, sized}
 use Rattle.gc_worker.proofs.Plain.RecordsMade.{names_target}
 use Rattle.gc_worker.proofs.Stages.Place.Acts.{makes_alike}
 use Rattle.gc_worker.proofs.Stages.Place.Claiming.{placing, at}
 use Rattle.gc_worker.proofs.Workers.Answered.{registers_put, values_set, settled_as, settled_fits}
 use Rattle.gc_worker.proofs.Words.RowSteps.{stores, prepared}
-use Rattle.gc_worker.proofs.Plain.Targets.{WritesRegister, writes_register}
+use Rattle.gc_worker.proofs.Plain.WrittenRegisters.{WritesRegister, writes_register}
 use Rattle.std.proofs.lemmas.List.{length-replicate}
 
 -- a call is its action, performed
@@ -172,7 +172,7 @@ module _ (c : Configuration) (p : Plain) (s : Stands c p) (k : ℕ) (y : Held) (
     says : decode word ≡ HeaderWord (header_kind m.kind) (size - 1) (((team c).worker k).account.serial + 1) k
     says =
         let len : header.len ≡ size - 1 = omega arith in
-        let serial : y.account.serial ≡ ((team c).worker k).account.serial = sym (ap (λ (w : Worker). w.account.serial) is.as_known) in
+        let serial : y.account.serial ≡ ((team c).worker k).account.serial = sym (ap (λ (w : Known). w.account.serial) is.as_known) in
         decode-header_word header.kind header.len header.serial header.mutator header.short header.counted
         ∙ (λ i. HeaderWord (header_kind m.kind) (len i) (serial i + 1) (is.fits.number i))
 
@@ -199,7 +199,7 @@ module _ (c : Configuration) (p : Plain) (s : Stands c p) (k : ℕ) (y : Held) (
     unended = end_none y.account.end is.fits.end
 
     -- what it knows when the record stands
-    abbrev next : Worker
+    abbrev next : Known
     next = moved c p s k x is refl unended y.registers
 
     known : with_record next stock size m.into (pointer_word run.at) ≡ knows after
@@ -228,7 +228,7 @@ module _ (c : Configuration) (p : Plain) (s : Stands c p) (k : ℕ) (y : Held) (
           let placed = mutators_place (era c) (memory c) (team c) s.ghost p k next (went_on q) stock m.kind size word (target_for y) m.into (pointer_word run.at) (filled m.kind m.len v)
           (prepared c p s k x is) s.shown places (cell_size m.kind m.len (fits_kind y making)) (shows v (makes_named q instr m v acts).1) holds_target small points (moved_goes c p s k x is refl unended q its) (moved_as c p s k x is refl unended q its) in
           subst (λ (o : Result After End). LawTo c p s k x (Some entry) (knows after) ghost_after (settled p k q o)) (sym calls)
-          (subst (λ (w : Worker). LawTo c p s k x (Some entry) w ghost_after (settled p k q (Ok (plain_allocated k p.heap q m.kind m.into m.len v)))) known placed)
+          (subst (λ (w : Known). LawTo c p s k x (Some entry) w ghost_after (settled p k q (Ok (plain_allocated k p.heap q m.kind m.into m.len v)))) known placed)
 
       goes : Goes c p s k (Some entry) x replies.Done
       goes =

@@ -23,7 +23,7 @@ use Rattle.gc_worker.specs.Workers.Fits.{LeavesShortRun}
 use Rattle.gc_worker.specs.Workers.Held.{Held}
 use Rattle.gc_worker.specs.Workers.Knows.{knows}
 use Rattle.gc_worker.specs.Steps.Turned.{Told, Silent, turned_place, told_place}
-use Rattle.gc_worker.proofs.Stages.Gate.Words.{wants}
+use Rattle.gc_worker.proofs.Stages.Gate.GateWords.{wants}
 use Rattle.gc_worker.proofs.Stages.Place.Claiming.{placing, at, replace}
 use Rattle.gc_worker.proofs.Words.TableRows.{marks_with_room}
 use Rattle.gc_worker.proofs.Words.RowSteps.{TeachesNothing, untaught_beside, stores_whole, page_in_era}

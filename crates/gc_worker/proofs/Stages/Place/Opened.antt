@@ -20,7 +20,7 @@ use Rattle.alloc_end.specs.Place.{Placing, size_of, pages_for, readies, words_fo
 use Rattle.alloc_end.specs.Soundness.{IsSoundPlacing}
 use Rattle.heap_state.specs.Configuration.{Configuration, Stands, era, memory, team}
 use Rattle.heap_state.specs.Memory.Entries.{Entry, PageIs}
-use Rattle.heap_state.specs.Worker.{Worker, Stock}
+use Rattle.heap_state.specs.Known.{Known, Stock}
 use Rattle.heap_laws.specs.Allocation.Records.{stored_ahead}
 use Rattle.heap_laws.specs.Allocation.Stocks.{stocked, opened_further}
 use Rattle.heap_laws.proofs.Allocation.Laws.{opens_pages}
@@ -30,9 +30,9 @@ use Rattle.gc_worker.specs.Steps.Goes.{Is, Goes, StepsSo}
 use Rattle.gc_worker.specs.Workers.Held.{Held, at_stage, fields_for, target_for}
 use Rattle.gc_worker.specs.Workers.Knows.{knows, kind_with, opened_to}
 use Rattle.gc_worker.specs.Steps.Turned.{Silent, guards_place, turned_place, told_place}
-use Rattle.gc_worker.proofs.Workers.GoingOn.{first_fits, first_going, first_rest}
-use Rattle.gc_worker.proofs.Workers.Parts.{refit}
-use Rattle.gc_worker.proofs.Stages.Gate.Words.{wants}
+use Rattle.gc_worker.proofs.Workers.ResumedMutators.{first_fits, first_going, first_rest}
+use Rattle.gc_worker.proofs.Workers.KeptParts.{refit}
+use Rattle.gc_worker.proofs.Stages.Gate.GateWords.{wants}
 use Rattle.gc_worker.proofs.Stages.Place.Claiming.{placing, at, now}
 use Rattle.gc_worker.proofs.Stages.Place.Marking.{readied_comes, readied_silent, readied_going, readied_rest, readied_known, readied_fits}
 use Rattle.gc_worker.proofs.Workers.Guarded.{guards_place_fits, guards_place_known}
@@ -70,7 +70,7 @@ module _ (c : Configuration) (p : Plain) (s : Stands c p) (k : ℕ) (y : Held) (
     law : Law c p s k x (Some entry) (stocked (knows x) (opened_further stock)) s.ghost
     law =
         let f = is.fits.stage.sound.stage in
-        subst (λ (v : Worker). Law c p s k x (Some (PageIs new.next (Open v.epoch))) (stocked v (opened_further stock)) s.ghost) is.as_known
+        subst (λ (v : Known). Law c p s k x (Some (PageIs new.next (Open v.epoch))) (stocked v (opened_further stock)) s.ghost) is.as_known
         (opens_pages (era c) (memory c) (team c) s.ghost k new.next stock (prepared c p s k x is)
         (record { own = record { runs = rw is.as_known refl; has = rw is.as_known refl }; blank = refl; at = refl; more = omega (arith, f) }))
 
@@ -163,7 +163,7 @@ module _ (c : Configuration) (p : Plain) (s : Stands c p) (k : ℕ) (y : Held) (
     goes : (b : Bool) → test_of ≡ b → Goes c p s k (Some entry) x Done
     goes b test =
         becomes c p s k x (Some entry) Done (then b) s.ghost (ap (λ (t : Bool). by (pick t)) test ∙ comes header.kind b) is.below
-        (subst (λ (v : Worker). Law c p s k x (Some entry) v s.ghost) (stock_then b test) law) (ap (λ (t : Bool). told_place x (told (pick t))) test ∙ silent header.kind b) refl
+        (subst (λ (v : Known). Law c p s k x (Some entry) v s.ghost) (stock_then b test) law) (ap (λ (t : Bool). told_place x (told (pick t))) test ∙ silent header.kind b) refl
         (subst (λ (t : Bool). IsSoundPlacing (pick t)) (sym test) (sound b test)) (fits b test)
 
     pub opens_page : StepsSo c p s k x

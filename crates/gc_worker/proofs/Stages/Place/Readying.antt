@@ -16,7 +16,7 @@ use Rattle.alloc_end.specs.Place.{size_of, pages_for, readies, words_for, told}
 use Rattle.alloc_end.specs.Soundness.{FitsPlaceStage, IsPlacingGoing}
 use Rattle.heap_state.specs.Configuration.{Configuration, Stands, era, memory, team}
 use Rattle.heap_state.specs.Memory.Entries.{WordIs}
-use Rattle.heap_state.specs.Worker.{Worker, Stock}
+use Rattle.heap_state.specs.Known.{Known, Stock}
 use Rattle.heap_laws.specs.Allocation.Stocks.{stocked, zeroed_further}
 use Rattle.heap_laws.proofs.Allocation.Laws.{zeroes_words}
 use Rattle.gc_worker.specs.Steps.Goes.{Is, Goes, StepsSo}
@@ -24,7 +24,7 @@ use Rattle.gc_worker.specs.Workers.Fits.{LeavesShortRun}
 use Rattle.gc_worker.specs.Workers.Held.{Held}
 use Rattle.gc_worker.specs.Workers.Knows.{knows, zeroed_to}
 use Rattle.gc_worker.specs.Steps.Turned.{Told, Silent, turned_place, told_place}
-use Rattle.gc_worker.proofs.Stages.Gate.Words.{wants}
+use Rattle.gc_worker.proofs.Stages.Gate.GateWords.{wants}
 use Rattle.gc_worker.proofs.Stages.Place.Claiming.{placing, at, replace, now}
 use Rattle.gc_worker.proofs.Stages.Place.Marking.{readied_comes, readied_silent, readied_going, readied_rest, readied_known, readied_fits}
 use Rattle.gc_worker.proofs.Words.RowSteps.{Law, becomes, stores, row_fits, prepared}
@@ -50,7 +50,7 @@ module _ (c : Configuration) (p : Plain) (s : Stands c p) (k : ℕ) (y : Held) (
 
     law : Law c p s k x (Some (WordIs new.next 0)) (stocked (knows x) (zeroed_further stock)) s.ghost
     law =
-        subst (λ (v : Worker). Law c p s k x (Some (WordIs new.next 0)) (stocked v (zeroed_further stock)) s.ghost) is.as_known
+        subst (λ (v : Known). Law c p s k x (Some (WordIs new.next 0)) (stocked v (zeroed_further stock)) s.ghost) is.as_known
         (zeroes_words (era c) (memory c) (team c) s.ghost k stock (prepared c p s k x is) (record { runs = rw is.as_known refl; has = rw is.as_known refl }) is.fits.stage.sound.stage.2)
 
     -- the pages begin at a page's first word
@@ -103,7 +103,7 @@ module _ (c : Configuration) (p : Plain) (s : Stands c p) (k : ℕ) (y : Held) (
     goes : (b : Bool) → nat_lt (new.next + 1) (new.first + words) ≡ b → Goes c p s k (Some (WordIs new.next 0)) x Done
     goes b test =
         becomes c p s k x (Some (WordIs new.next 0)) Done (here (next b)) s.ghost (ap (λ (t : Bool). by (next t)) test ∙ comes b) is.below
-        (subst (λ (v : Worker). Law c p s k x (Some (WordIs new.next 0)) v s.ghost) (stock_then b test) law) (ap (λ (t : Bool). tells (next t)) test ∙ silent b) refl
+        (subst (λ (v : Known). Law c p s k x (Some (WordIs new.next 0)) v s.ghost) (stock_then b test) law) (ap (λ (t : Bool). tells (next t)) test ∙ silent b) refl
         (record { pages = is.fits.stage.sound.pages; run = is.fits.stage.sound.run; fields = is.fits.stage.sound.fields; cell = is.fits.stage.sound.cell; epoch = is.fits.stage.sound.epoch; snap = is.fits.stage.sound.snap; room = is.fits.stage.sound.room; stage = subst (FitsPlaceStage y.layout.pages asked y.snap run header) (ap next (sym test)) (fits b test) })
         (replace c p s k y run header (StoresZero new) (next b) is (going b) (rest b) (fits b test))
 

@@ -12,7 +12,7 @@ use Rattle.gate_core.specs.Recall.{Recalling, next_stage, number_in, read_done, 
 use Rattle.gate_core.specs.Soundness.{IsRecallGoing, IsSoundRecalling}
 use Rattle.gate_core.proofs.Recalling.{recall_stays_sound}
 use Rattle.space_map.specs.Spaces.{Layout}
-use Rattle.space_map.specs.Table.{Row, SnapNumber, DoneNumber, IsRow, place_of}
+use Rattle.space_map.specs.Table.{Row, SnapNumber, LastSaved, IsRow, place_of}
 use Rattle.heap_state.specs.Configuration.{Configuration, Stands}
 use Rattle.gc_worker.specs.declared.stage.after.After.{After}
 use Rattle.gc_worker.specs.declared.stage.Stage.TheVariants.{Recalls}
@@ -22,9 +22,9 @@ use Rattle.gc_worker.specs.Workers.Fits.{AreNumbers, Fits, FitsRecall}
 use Rattle.gc_worker.specs.Steps.Wanted.{wanted}
 use Rattle.gc_worker.specs.Workers.Held.{Held, at_stage}
 use Rattle.gc_worker.specs.Workers.Knows.{knows}
-use Rattle.gc_worker.proofs.Stages.Gate.Words.{wants}
+use Rattle.gc_worker.proofs.Stages.Gate.GateWords.{wants}
 use Rattle.gc_worker.proofs.Words.RowSteps.{TeachesNothing, loads, untaught}
-use Rattle.gc_worker.proofs.Workers.GoingOn.{goes_on_fits, goes_on_known}
+use Rattle.gc_worker.proofs.Workers.ResumedMutators.{goes_on_fits, goes_on_known}
 
 -- the checkpoint in progress is the last one begun, or none
 abbrev IsRecalled : RecallStage → Type 0
@@ -133,7 +133,7 @@ module _ (c : Configuration) (p : Plain) (s : Stands c p) (k : ℕ) (y : Held) (
 
   by_stage : (r : Recalling) (stage : RecallStage) → Is c k (at (record r { stage = stage })) → StepsSo c p s k (at (record r { stage = stage }))
   by_stage r recall_stage.LoadsSnap is = reads (record r { stage = recall_stage.LoadsSnap }) is SnapNumber tt refl
-  by_stage r (recall_stage.LoadsDone number) is = reads (record r { stage = recall_stage.LoadsDone number }) is DoneNumber tt refl
+  by_stage r (recall_stage.LoadsDone number) is = reads (record r { stage = recall_stage.LoadsDone number }) is LastSaved tt refl
   by_stage r (recall_stage.Ended result) is = absurd is.fits.stage.going
 
   pub recalls : (r : Recalling) → Is c k (at r) → StepsSo c p s k (at r)

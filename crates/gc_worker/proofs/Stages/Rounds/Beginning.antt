@@ -17,11 +17,11 @@ use Rattle.fault_duty.specs.Duty.{Round}
 use Rattle.fault_duty.specs.Soundness as duty_sound
 use Rattle.fault_duty.specs.Soundness.{IsSoundRound, IsHindrance, BehindGate}
 use Rattle.heap_state.specs.Configuration.{Configuration, Stands, table, era, memory, team}
-use Rattle.heap_state.specs.Worker.{Worker, is_mutator}
+use Rattle.heap_state.specs.Known.{Known, is_mutator}
 use Rattle.heap_laws.specs.Gate as gate_laws
 use Rattle.heap_laws.specs.Tracing.{in_round}
 use Rattle.heap_laws.proofs.Gate.Scanner.{takes_epoch_of_gate}
-use Rattle.heap_laws.proofs.Tracing.Looks.{reads_traced}
+use Rattle.heap_laws.proofs.Tracing.TracingLoads.{reads_traced}
 use Rattle.gc_worker.specs.declared.stage.back.Back.{Back}
 use Rattle.gc_worker.specs.declared.stage.back.Back.TheVariants.{ToAccess, ToTarget, ToPlace, ToSnap, ToScanner}
 use Rattle.gc_worker.specs.declared.stage.Stage.TheVariants.{Serves, Gone}
@@ -29,11 +29,11 @@ use Rattle.gc_worker.specs.Steps.Goes.{Is, Goes, StepsSo}
 use Rattle.gc_worker.specs.Workers.Held.{Held, at_stage}
 use Rattle.gc_worker.specs.Workers.Knows.{knows, own_stock, post_gone}
 use Rattle.gc_worker.specs.Steps.Turned.{turned_round, told_round}
-use Rattle.gc_worker.proofs.Workers.Parts.{refit}
-use Rattle.gc_worker.proofs.Stages.Gate.Words.{gate_now, gate_says}
-use Rattle.gc_worker.proofs.Stages.Rounds.Going.{round, at, sound_at, goes_on, ends, loads_it}
-use Rattle.gc_worker.proofs.Stages.Rounds.Traced.{finds_traced}
-use Rattle.gc_worker.proofs.Stages.Rounds.Words.{traced_now, traced_word}
+use Rattle.gc_worker.proofs.Workers.KeptParts.{refit}
+use Rattle.gc_worker.proofs.Stages.Gate.GateWords.{gate_now, gate_says}
+use Rattle.gc_worker.proofs.Stages.Rounds.NextRoundStage.{round, at, sound_at, goes_on, ends, loads_it}
+use Rattle.gc_worker.proofs.Stages.Rounds.TracedRounds.{finds_traced}
+use Rattle.gc_worker.proofs.Stages.Rounds.RoundWords.{traced_now, traced_word}
 use Rattle.gc_worker.proofs.Words.RowSteps.{Law, becomes, nothing, prepared}
 
 module _ (c : Configuration) (p : Plain) (s : Stands c p) (k : ℕ) (y : Held) where
@@ -88,7 +88,7 @@ module _ (c : Configuration) (p : Plain) (s : Stands c p) (k : ℕ) (y : Held) w
     no_mutator : nat_lt y.number y.mutators ≡ false
     no_mutator =
         let posts = s.invariant.staffed.posts k is.below in
-        let here_is : is_mutator ((team c).worker k).post ≡ false = ap (λ (w : Worker). is_mutator w.post) is.as_known in
+        let here_is : is_mutator ((team c).worker k).post ≡ false = ap (λ (w : Known). is_mutator w.post) is.as_known in
         ap (λ n. nat_lt n y.mutators) is.fits.number ∙ ap (nat_lt k) is.fits.beside ∙ sym posts ∙ here_is
 
     -- all mutators have left
@@ -112,8 +112,8 @@ module _ (c : Configuration) (p : Plain) (s : Stands c p) (k : ℕ) (y : Held) w
     takes : duty.taken_at (round c p s k y d ToScanner LoadsGate) LoadsGate (Value (gate_now c)) ≡ with_gate → Goes c p s k None scanner (Value (gate_now c))
     takes taken = becomes c p s k scanner None (Value (gate_now c)) taking s.ghost
         (ap (λ (r : Round). turned_round scanner r ToScanner (duty.told r)) taken) is.below
-        (subst (λ (w : Worker). Law c p s k scanner None w s.ghost) (ap (λ (w : Worker). gate_laws.into_epoch w gate.epoch) is.as_known ∙ knows_taking)
-        (takes_epoch_of_gate (era c) (memory c) (team c) s.ghost k (prepared c p s k scanner is) (ap (λ (w : Worker). w.post) is.as_known) (ap (λ (w : Worker). w.scan) is.as_known) (ap (λ (w : Worker). w.pass) is.as_known)))
+        (subst (λ (w : Known). Law c p s k scanner None w s.ghost) (ap (λ (w : Known). gate_laws.into_epoch w gate.epoch) is.as_known ∙ knows_taking)
+        (takes_epoch_of_gate (era c) (memory c) (team c) s.ghost k (prepared c p s k scanner is) (ap (λ (w : Known). w.post) is.as_known) (ap (λ (w : Known). w.scan) is.as_known) (ap (λ (w : Known). w.pass) is.as_known)))
         (ap (λ (r : Round). told_round (duty.told r)) taken) refl (subst IsSoundRound (sym taken) sound_taking)
         (refit c.pages c.mutators k scanner is.fits (Serves with_gate ToScanner) is.fits.end is.fits.side is.fits.task
         (record { layout = is.fits.stage.0.layout; worker = is.fits.stage.0.worker; caller = is.fits.stage.0.caller; epoch = tt; going = tt; sound = sound_taking }, no_run))
@@ -156,10 +156,10 @@ module _ (c : Configuration) (p : Plain) (s : Stands c p) (k : ℕ) (y : Held) w
     -- the worker is in a round
     in_it : traced_now c ≢ d.epoch + 1 → Law c p s k before None (in_round (knows before) (record { traced = traced_now c; front = None })) s.ghost
     in_it other =
-        subst (λ (w : Worker). Law c p s k before None (in_round w (record { traced = traced_now c; front = None })) s.ghost) is.as_known
+        subst (λ (w : Known). Law c p s k before None (in_round w (record { traced = traced_now c; front = None })) s.ghost) is.as_known
         (subst (λ t. Law c p s k before None (in_round ((team c).worker k) (record { traced = t; front = None })) s.ghost) (traced_word c)
         (reads_traced (era c) (memory c) (team c) s.ghost k (prepared c p s k before is)
-        (λ e. other (sym (traced_word c) ∙ e ∙ ap (λ (w : Worker). w.epoch + 1) is.as_known))))
+        (λ e. other (sym (traced_word c) ∙ e ∙ ap (λ (w : Known). w.epoch + 1) is.as_known))))
 
     fits_found : traced_now c ≢ d.epoch + 1 → duty_sound.FitsFindings d.epoch found
     fits_found other = record { untraced = (no_earlier, other); hindrance = is.fits.stage.0.sound.stage }
@@ -168,7 +168,7 @@ module _ (c : Configuration) (p : Plain) (s : Stands c p) (k : ℕ) (y : Held) w
         no_earlier =
             let a = s.invariant.tracing.bottom in
             let b = (s.invariant.workers k is.below).timely.past in
-            let e : ((team c).worker k).epoch ≡ d.epoch = ap (λ (w : Worker). w.epoch) is.as_known in
+            let e : ((team c).worker k).epoch ≡ d.epoch = ap (λ (w : Known). w.epoch) is.as_known in
             let t = traced_word c in
             omega (arith, a, b, e, t)
 

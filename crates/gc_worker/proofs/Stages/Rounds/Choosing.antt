@@ -20,25 +20,25 @@ use Rattle.fault_duty.specs.Duty as duty
 use Rattle.fault_duty.specs.Duty.{Round}
 use Rattle.fault_duty.specs.Soundness as duty_sound
 use Rattle.fault_duty.specs.Soundness.{FitsFront, IsChoice, PageInScan}
-use Rattle.fault_duty.proofs.Lowering.{to_start-le, to_start-to_page}
+use Rattle.fault_duty.proofs.RoundMeasure.{to_start-le, to_start-to_page}
 use Rattle.fault_duty.proofs.RoundEnds.{says_state}
 use Rattle.heap_state.specs.Configuration.{Configuration, Stands, table, era, memory, team}
-use Rattle.heap_state.specs.Worker.{Worker}
-use Rattle.heap_state.specs.Worker as workers
+use Rattle.heap_state.specs.Known.{Known}
+use Rattle.heap_state.specs.Known as workers
 use Rattle.heap_laws.specs.Composing.{IsAtMost}
 use Rattle.heap_laws.specs.Scanning.Claims.{MayClaim}
 use Rattle.heap_laws.specs.Tracing.{IsFrontFor, in_round}
 use Rattle.heap_laws.proofs.Steps.Answers.{areas_are_read}
 use Rattle.heap_laws.proofs.Steps.Forgotten.{round_fronts_are_forgotten}
-use Rattle.heap_laws.proofs.Tracing.Looks.{reads_front}
+use Rattle.heap_laws.proofs.Tracing.TracingLoads.{reads_front}
 use Rattle.gc_worker.specs.declared.stage.back.Back.{Back}
 use Rattle.gc_worker.specs.Steps.Goes.{Is, Goes, StepsSo}
 use Rattle.gc_worker.specs.Workers.Held.{Held}
 use Rattle.gc_worker.specs.Workers.Knows.{knows}
 use Rattle.gc_worker.proofs.Words.Areas.{area_now, area_says, is_space}
 use Rattle.gc_worker.proofs.Stages.Rounds.Claiming.{begins, earlier_now, start_now, board_now}
-use Rattle.gc_worker.proofs.Stages.Rounds.Going.{round, at, goes_on, ends, loads_it, same_pages}
-use Rattle.gc_worker.proofs.Stages.Rounds.Words.{page_now, page_says}
+use Rattle.gc_worker.proofs.Stages.Rounds.NextRoundStage.{round, at, goes_on, ends, loads_it, same_pages}
+use Rattle.gc_worker.proofs.Stages.Rounds.RoundWords.{page_now, page_says}
 use Rattle.gc_worker.proofs.Words.RowSteps.{Law, nothing, less, prepared}
 
 full_le : (front page : ℕ) → duty.is_full front page ≡ true → 64 * (page + 1) ≤ front
@@ -88,7 +88,7 @@ module _ (c : Configuration) (p : Plain) (s : Stands c p) (k : ℕ) (y : Held) (
     area = (table c).area space
 
     of_worker : ((team c).worker k).epoch ≡ d.epoch
-    of_worker = ap (λ (v : Worker). v.epoch) is.as_known ∙ own
+    of_worker = ap (λ (v : Known). v.epoch) is.as_known ∙ own
 
     -- FRONT as the round reads it is the one that its worker may read
     pub front_for : IsFrontFor (era c) (memory c) ((team c).worker k) (duty.front_of d area)
@@ -122,8 +122,8 @@ module _ (c : Configuration) (p : Plain) (s : Stands c p) (k : ℕ) (y : Held) (
     learnt : Law c p s k x None (knows (at c p s k y d back chosen)) s.ghost
     learnt =
         let r : workers.Round = record { traced = found.traced; front = None } in
-        subst (λ (w : Worker). Law c p s k x None (in_round w (record r { front = Some front })) s.ghost) is.as_known
-        (reads_front (era c) (memory c) (team c) s.ghost k r front (prepared c p s k x is) (ap (λ (w : Worker). w.round) is.as_known) (front_for (LoadsFront found) is refl))
+        subst (λ (w : Known). Law c p s k x None (in_round w (record r { front = Some front })) s.ghost) is.as_known
+        (reads_front (era c) (memory c) (team c) s.ghost k r front (prepared c p s k x is) (ap (λ (w : Known). w.round) is.as_known) (front_for (LoadsFront found) is refl))
 
     pub loads_front : StepsSo c p s k x
     loads_front = loads_it c p s k y d back (LoadsFront found) is (Area (to_space d.epoch)) (is_space d.epoch) refl
@@ -162,7 +162,7 @@ module _ (c : Configuration) (p : Plain) (s : Stands c p) (k : ℕ) (y : Held) (
     may : duty.state_of says d.epoch ≡ Waits → MayClaim (era c) (memory c) (team c) k page says
     may waits = record {
       earlier = earlier_now c p s k y d back (LoadsPage choice page) is page says refl refl waits;
-      full = λ now. by_board (sym (ap (λ (v : Worker). v.epoch) is.as_known) ∙ now) (cases_eq page (board_page d.layout.pages));
+      full = λ now. by_board (sym (ap (λ (v : Known). v.epoch) is.as_known) ∙ now) (cases_eq page (board_page d.layout.pages));
     }
       where
         by_board : d.epoch ≡ (era c).epoch → (page ≡ board_page d.layout.pages) ⊎ (page ≢ board_page d.layout.pages)
@@ -176,7 +176,7 @@ module _ (c : Configuration) (p : Plain) (s : Stands c p) (k : ℕ) (y : Held) (
             let full = is_choice.full other in
             inr (
               omega (arith, start, to, low),
-              inr (record { traced = choice.seen.traced; front = Some choice.front }, choice.front, ap (λ (v : Worker). v.round) is.as_known, refl, omega (arith, full)),
+              inr (record { traced = choice.seen.traced; front = Some choice.front }, choice.front, ap (λ (v : Known). v.round) is.as_known, refl, omega (arith, full)),
             )
 
     -- what it has found after this page: whether this one forbids to end the tracing

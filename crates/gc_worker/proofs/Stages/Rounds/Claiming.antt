@@ -19,7 +19,7 @@ use Rattle.fault_duty.specs.declared.duty_stage.DutyStage.TheVariants.{Claims}
 use Rattle.fault_duty.specs.Duty as duty
 use Rattle.fault_duty.specs.Duty.{Round}
 use Rattle.heap_state.specs.Configuration.{Configuration, Stands, era, memory, team}
-use Rattle.heap_state.specs.Worker.{Worker}
+use Rattle.heap_state.specs.Known.{Known}
 use Rattle.heap_laws.specs.Composing.{ends_round}
 use Rattle.heap_laws.specs.Scanning.Claims.{MayClaim, claiming, claim_by_word}
 use Rattle.heap_laws.proofs.Steps.Composites.{claims_begin}
@@ -29,7 +29,7 @@ use Rattle.gc_worker.specs.Workers.Held.{Held}
 use Rattle.gc_worker.specs.Workers.Knows.{pass_at, knows, claim_at, epoch_at}
 use Rattle.gc_worker.specs.Steps.Turned.{won_in}
 use Rattle.gc_worker.proofs.Words.Eras.{board_is, start_is}
-use Rattle.gc_worker.proofs.Stages.Rounds.Going.{round, at, goes_on, same_pages}
+use Rattle.gc_worker.proofs.Stages.Rounds.NextRoundStage.{round, at, goes_on, same_pages}
 use Rattle.gc_worker.proofs.Words.RowSteps.{Law, prepared}
 
 -- ---- a page's word that waits is of an earlier epoch
@@ -111,9 +111,9 @@ module _ (c : Configuration) (p : Plain) (s : Stands c p) (k : ℕ) (y : Held) (
               stage = fits_first (nat_eq page (board_page d.layout.pages)) refl;
             };
           })
-          (subst (λ (w : Worker). Law c p s k x None w s.ghost) (ap (λ (w : Worker). claiming (ends_round w) (claim_by_word says page)) is.as_known ∙ knows_claim)
-          (claims_begin (era c) (memory c) (team c) s.ghost k page says (prepared c p s k x is) (ap (λ (w : Worker). w.pass) is.as_known ∙ still) may))
+          (subst (λ (w : Known). Law c p s k x None w s.ghost) (ap (λ (w : Known). claiming (ends_round w) (claim_by_word says page)) is.as_known ∙ knows_claim)
+          (claims_begin (era c) (memory c) (team c) s.ghost k page says (prepared c p s k x is) (ap (λ (w : Known). w.pass) is.as_known ∙ still) may))
 
       -- the word is of an epoch before the worker's
       pub earlier_now : duty.state_of says d.epoch ≡ Waits → age_of says ≤ ((team c).worker k).epoch
-      earlier_now waits = let e = ap (λ (w : Worker). w.epoch) is.as_known in let a = waits_earlier says d.epoch waits in omega (arith, e, a, own)
+      earlier_now waits = let e = ap (λ (w : Known). w.epoch) is.as_known in let a = waits_earlier says d.epoch waits in omega (arith, e, a, own)

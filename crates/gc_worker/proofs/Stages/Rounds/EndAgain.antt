@@ -20,18 +20,18 @@ use Rattle.fault_duty.specs.declared.round_end.RoundEnd.TheVariants.{NothingNow}
 use Rattle.fault_duty.specs.Duty as duty
 use Rattle.fault_duty.specs.Duty.{Round}
 use Rattle.heap_state.specs.Configuration.{Configuration, Stands, table, era, memory, team}
-use Rattle.heap_state.specs.Worker.{Worker, Look}
+use Rattle.heap_state.specs.Known.{Known, Look}
 use Rattle.heap_laws.specs.Tracing.{LooksAgain, IsFrontFor, about_to_trace, about_to_fill}
-use Rattle.heap_laws.proofs.Tracing.Looks.{looks_again, claims_filling}
+use Rattle.heap_laws.proofs.Tracing.TracingLoads.{looks_again, claims_filling}
 use Rattle.gc_worker.specs.declared.stage.back.Back.{Back}
 use Rattle.gc_worker.specs.Steps.Goes.{Is, Goes, StepsSo}
 use Rattle.gc_worker.specs.Workers.Held.{Held}
 use Rattle.gc_worker.specs.Workers.Knows.{look_with, upto_all, is_open_state}
 use Rattle.gc_worker.proofs.Words.Areas.{area_now, area_says, is_space}
-use Rattle.fault_duty.proofs.Lowering.{to_start-le, to_start-to_page}
+use Rattle.fault_duty.proofs.RoundMeasure.{to_start-le, to_start-to_page}
 use Rattle.gc_worker.proofs.Stages.Rounds.Choosing.{front_for}
 use Rattle.gc_worker.proofs.Stages.Rounds.Claiming.{waits_earlier}
-use Rattle.gc_worker.proofs.Stages.Rounds.Going.{round, at, goes_on, ends, loads_it}
+use Rattle.gc_worker.proofs.Stages.Rounds.NextRoundStage.{round, at, goes_on, ends, loads_it}
 use Rattle.gc_worker.proofs.Words.RowSteps.{Law, prepared}
 
 module _ (c : Configuration) (p : Plain) (s : Stands c p) (k : ℕ) (y : Held) (d : Round) (back : Back) (look : EndLook) (filling : PageWord)
@@ -64,7 +64,7 @@ module _ (c : Configuration) (p : Plain) (s : Stands c p) (k : ℕ) (y : Held) (
   module _ (same : duty.front_of d area ≡ look.front) (state : PageState) (e : duty.state_of filling d.epoch ≡ state) where
     again : LooksAgain (era c) (memory c) (team c) k (seen state)
     again = record {
-      looks = ap (λ (w : Worker). w.look) is.as_known ∙ ap (λ (t : PageState). Some (seen t)) e;
+      looks = ap (λ (w : Known). w.look) is.as_known ∙ ap (λ (t : PageState). Some (seen t)) e;
       front = subst (IsFrontFor (era c) (memory c) ((team c).worker k)) same (front_for c p s k y d back (EndAreaAgain look filling) is refl);
       board = refl;
       full = all_by (nat_lt look.front (duty.to_start d + 64)) refl;
@@ -79,8 +79,8 @@ module _ (c : Configuration) (p : Plain) (s : Stands c p) (k : ℕ) (y : Held) (
   traces same e taken =
       goes_on c p s k y d back (EndAreaAgain look filling) is None (Value reply) next_walk s.ghost taken refl refl
       (is.fits.stage.0.sound.stage.0, record { layout = refl; epoch = refl; going = tt; sound = record { pages = is.fits.stage.0.sound.pages; fits = tt } })
-      (subst (λ (w : Worker). Law c p s k x None (about_to_trace w (seen Opened)) s.ghost) is.as_known
-      (looks_again (era c) (memory c) (team c) s.ghost k (seen Opened) (prepared c p s k x is) (ap (λ (w : Worker). w.pass) is.as_known) (again same Opened e) refl))
+      (subst (λ (w : Known). Law c p s k x None (about_to_trace w (seen Opened)) s.ghost) is.as_known
+      (looks_again (era c) (memory c) (team c) s.ghost k (seen Opened) (prepared c p s k x is) (ap (λ (w : Known). w.pass) is.as_known) (again same Opened e) refl))
 
   -- the filling page is claimed
   module _ (same : duty.front_of d area ≡ look.front) (e : duty.state_of filling d.epoch ≡ Waits) where
@@ -102,7 +102,7 @@ module _ (c : Configuration) (p : Plain) (s : Stands c p) (k : ℕ) (y : Held) (
         let l = to_start-le d in
         let m = to_start-to_page d in
         let a = waits_earlier filling d.epoch e in
-        let own = ap (λ (w : Worker). w.epoch) is.as_known in
+        let own = ap (λ (w : Known). w.epoch) is.as_known in
         goes_on c p s k y d back (EndAreaAgain look filling) is None (Value reply) next s.ghost taken refl refl
         (record {
           layout = refl;
@@ -111,7 +111,7 @@ module _ (c : Configuration) (p : Plain) (s : Stands c p) (k : ℕ) (y : Held) (
           going = tt;
           sound = record { pages = sound.pages; page = omega (arith, high, l); worker = sound.worker; epoch = sound.epoch; found = sound.stage.2; earlier = a; stage = tt };
         })
-        (subst (λ (w : Worker). Law c p s k x None (about_to_fill w page filling) s.ghost) is.as_known
+        (subst (λ (w : Known). Law c p s k x None (about_to_fill w page filling) s.ghost) is.as_known
         (claims_filling (era c) (memory c) (team c) s.ghost k (seen Waits) page filling (prepared c p s k x is) (again same Waits e)
         (omega (arith, low, m)) (omega (arith, inside)) (omega arith) (omega (arith, a, own))))
 

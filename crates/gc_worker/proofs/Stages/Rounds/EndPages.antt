@@ -18,22 +18,22 @@ use Rattle.fault_duty.specs.Duty as duty
 use Rattle.fault_duty.specs.Duty.{Round}
 use Rattle.fault_duty.specs.Soundness.{IsChoice, FitsFront}
 use Rattle.heap_state.specs.Configuration.{Configuration, Stands, table, era, memory, team}
-use Rattle.heap_state.specs.Worker.{Worker, Look}
+use Rattle.heap_state.specs.Known.{Known, Look}
 use Rattle.heap_laws.specs.Steps.{with_worker}
 use Rattle.heap_laws.specs.Steps as law
 use Rattle.heap_laws.specs.Tracing.{looking}
 use Rattle.heap_state.proofs.Puts.{put_same}
 use Rattle.heap_laws.proofs.Steps.Composing.{steps_follow, steps_are_ready}
-use Rattle.heap_laws.proofs.Tracing.Looks.{looks_at_board, looks_at_page, looks_at_filling}
+use Rattle.heap_laws.proofs.Tracing.TracingLoads.{looks_at_board, looks_at_page, looks_at_filling}
 use Rattle.gc_worker.specs.declared.stage.back.Back.{Back}
 use Rattle.gc_worker.specs.Steps.Goes.{Is, Goes, StepsSo}
 use Rattle.gc_worker.specs.Workers.Held.{Held}
 use Rattle.gc_worker.specs.Workers.Knows.{knows, look_with, is_past_board, upto_before, upto_all}
-use Rattle.fault_duty.proofs.Lowering.{to_start-le, to_start-to_page}
+use Rattle.fault_duty.proofs.RoundMeasure.{to_start-le, to_start-to_page}
 use Rattle.gc_worker.proofs.Stages.Rounds.Choosing.{next_choice, at_another}
 use Rattle.gc_worker.proofs.Stages.Rounds.Claiming.{board_now}
-use Rattle.gc_worker.proofs.Stages.Rounds.Going.{round, at, goes_on, ends, loads_it, same_pages}
-use Rattle.gc_worker.proofs.Stages.Rounds.Words.{page_now, page_says}
+use Rattle.gc_worker.proofs.Stages.Rounds.NextRoundStage.{round, at, goes_on, ends, loads_it, same_pages}
+use Rattle.gc_worker.proofs.Stages.Rounds.RoundWords.{page_now, page_says}
 use Rattle.gc_worker.proofs.Words.RowSteps.{Law, prepared}
 
 module _ (c : Configuration) (p : Plain) (s : Stands c p) (k : ℕ) (y : Held) (d : Round) (back : Back) (look : EndLook) (page : ℕ) (is : Is c k (at c p s k y d back (EndPage look page))) where
@@ -66,10 +66,10 @@ module _ (c : Configuration) (p : Plain) (s : Stands c p) (k : ℕ) (y : Held) (
   is_open e = same_Some ((table c).page page) (Open d.epoch) (sym (page_says c p s page in_table) ∙ ap decode_page e ∙ decode_page-encode_page (Open d.epoch) is.fits.stage.0.sound.epoch)
 
   abbrev of_worker : ((team c).worker k).epoch ≡ d.epoch
-  of_worker = ap (λ (w : Worker). w.epoch) is.as_known
+  of_worker = ap (λ (w : Known). w.epoch) is.as_known
 
   has_look : ((team c).worker k).look ≡ Some before
-  has_look = ap (λ (w : Worker). w.look) is.as_known
+  has_look = ap (λ (w : Known). w.look) is.as_known
 
   looked : (table c).page page ≡ Open d.epoch → Law c p s k x None (looking (knows x) (after false)) s.ghost
   looked open_now = ⊎_elim at_board at_page (cases_eq page (board_page d.layout.pages))
@@ -77,7 +77,7 @@ module _ (c : Configuration) (p : Plain) (s : Stands c p) (k : ℕ) (y : Held) (
       at_board : page ≡ board_page d.layout.pages → Law c p s k x None (looking (knows x) (after false)) s.ghost
       at_board e =
           let q = eq-eqb page (board_page d.layout.pages) e in
-          let t = subst (λ (w : Worker). Law c p s k x None (looking w (record before { board = true })) s.ghost) is.as_known
+          let t = subst (λ (w : Known). Law c p s k x None (looking w (record before { board = true })) s.ghost) is.as_known
           (looks_at_board (era c) (memory c) (team c) s.ghost k before (prepared c p s k x is) (record { looks = has_look })
           (ap (λ z. (table c).page z) (sym (board_now c p s k y d back (EndPage look page) is) ∙ sym e) ∙ open_now ∙ ap Open (sym of_worker))) in
           rw q (rw q at t)
@@ -85,7 +85,7 @@ module _ (c : Configuration) (p : Plain) (s : Stands c p) (k : ℕ) (y : Held) (
       at_page : page ≢ board_page d.layout.pages → Law c p s k x None (looking (knows x) (after false)) s.ghost
       at_page n =
           let q = ne_eqb page (board_page d.layout.pages) n in
-          let t = subst (λ (w : Worker). Law c p s k x None (looking w (record before { upto = page + 1 })) s.ghost) is.as_known
+          let t = subst (λ (w : Known). Law c p s k x None (looking w (record before { upto = page + 1 })) s.ghost) is.as_known
           (looks_at_page (era c) (memory c) (team c) s.ghost k before page (prepared c p s k x is) (record { looks = has_look })
           (rw q (first_by (page == duty.to_page d) refl)) (open_now ∙ ap Open (sym of_worker))) in
           rw q (rw q at t)
@@ -172,10 +172,10 @@ module _ (c : Configuration) (p : Plain) (s : Stands c p) (k : ℕ) (y : Held) (
       let there : (with_worker (team c) k (looking (knows x) (after false))).worker k ≡ looking (knows x) (after false) = put_same (team c).worker k (looking (knows x) (after false)) in
       let second = looks_at_filling (era c) first.later (with_worker (team c) k (looking (knows x) (after false))) s.ghost k (after false)
       (steps_are_ready (era c) (memory c) (team c) s.ghost k None (looking (knows x) (after false)) s.ghost (prepared c p s k x is) first)
-      (record { looks = ap (λ (w : Worker). w.look) there })
+      (record { looks = ap (λ (w : Known). w.look) there })
       (λ q low high. absurd (omega (arith, low, high, none))) in
       steps_follow (era c) (memory c) (team c) s.ghost k None (looking (knows x) (after false)) (looking (knows x) (after true)) s.ghost s.ghost first
-      (subst (λ (w : Worker). law.Steps (era c) first.later (with_worker (team c) k (looking (knows x) (after false))) s.ghost k None (looking w (after true)) s.ghost) there second)
+      (subst (λ (w : Known). law.Steps (era c) first.later (with_worker (team c) k (looking (knows x) (after false))) s.ghost k None (looking w (after true)) s.ghost) there second)
 
   goes_again : duty.is_full look.front next ≡ false → loaded ≡ encode_page (Open d.epoch) → look.front % 64 ≡ 0
       → duty.taken_at rd (EndPage look page) (Value loaded) ≡ round c p s k y d back (EndAreaAgain look (Open d.epoch)) → Goes c p s k None x (Value loaded)

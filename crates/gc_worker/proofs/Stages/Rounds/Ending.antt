@@ -23,30 +23,30 @@ use Rattle.fault_duty.specs.Duty.{Round}
 use Rattle.heap_state.specs.Configuration.{Configuration, Stands, table, era, memory, team}
 use Rattle.heap_state.specs.Memory.Entries.{Entry, TracedIs}
 use Rattle.heap_state.specs.Cells.{Passing}
-use Rattle.heap_state.specs.Worker.{Worker, Look, LastLook, Done}
+use Rattle.heap_state.specs.Known.{Known, Look, LastLook, Done}
 use Rattle.heap_state.proofs.Puts.{some_same}
-use Rattle.heap_state.specs.Worker as workers
+use Rattle.heap_state.specs.Known as workers
 use Rattle.heap_state.proofs.Table.LaidOut.{table_pages}
 use Rattle.heap_laws.specs.Tracing.{FollowsTargets, WinsTraced, look_begun, looking, has_traced}
 use Rattle.heap_laws.proofs.Lifting.Laws.{plain_steps_are_lifted}
 use Rattle.heap_laws.proofs.Steps.Composing.{steps_forget}
 use Rattle.heap_laws.proofs.Steps.Forgotten.{of_round}
-use Rattle.heap_laws.proofs.Tracing.Looks.{begins_look, looks_at_front, looks_at_filling}
+use Rattle.heap_laws.proofs.Tracing.TracingLoads.{begins_look, looks_at_front, looks_at_filling}
 use Rattle.heap_laws.proofs.Tracing.Lost.{lost_targets_are_zero}
-use Rattle.heap_laws.proofs.Tracing.Traced as tracing
+use Rattle.heap_laws.proofs.Tracing.TracedExchange as tracing
 use Rattle.gc_worker.specs.declared.stage.back.Back.{Back}
 use Rattle.gc_worker.specs.Steps.Goes.{Is, Goes, StepsSo, TracesEpoch}
 use Rattle.gc_worker.specs.Workers.Held.{Held}
 use Rattle.gc_worker.specs.Workers.Knows.{knows, look_with, upto_all, is_open_state}
 use Rattle.gc_worker.specs.Steps.Turned.{back_from}
 use Rattle.gc_worker.proofs.Words.Areas.{area_now, area_says, is_space}
-use Rattle.gc_worker.proofs.Stages.Gate.Words.{wants, gate_now, gate_says}
-use Rattle.fault_duty.proofs.Lowering.{to_start-le}
+use Rattle.gc_worker.proofs.Stages.Gate.GateWords.{wants, gate_now, gate_says}
+use Rattle.fault_duty.proofs.RoundMeasure.{to_start-le}
 use Rattle.gc_worker.proofs.Stages.Rounds.Choosing.{front_for, first_choice}
-use Rattle.gc_worker.proofs.Stages.Rounds.Going.{rests, round, at, done, goes_on, ends, ends_marked, ended_known, own_stock_same, loads_it, same_pages}
-use Rattle.gc_worker.proofs.Stages.Rounds.Words.{traced_now, traced_word, page_now, page_says}
+use Rattle.gc_worker.proofs.Stages.Rounds.NextRoundStage.{rests, round, at, done, goes_on, ends, ends_marked, ended_known, own_stock_same, loads_it, same_pages}
+use Rattle.gc_worker.proofs.Stages.Rounds.RoundWords.{traced_now, traced_word, page_now, page_says}
 use Rattle.gc_worker.proofs.Plain.AnswerSteps.{LawTo}
-use Rattle.gc_worker.proofs.Plain.EmptyCells.{same_empty, traced_after}
+use Rattle.gc_worker.proofs.Plain.CellTargets.EmptyCells.{same_empty, traced_after}
 use Rattle.gc_worker.proofs.Words.RowSteps.{Law, exchanges, nothing, prepared}
 
 -- a page that is found open is open in the round's epoch
@@ -76,10 +76,10 @@ module _ (c : Configuration) (p : Plain) (s : Stands c p) (k : ℕ) (y : Held) (
     entry = TracedIs (d.epoch + 1)
 
     walked : ((team c).worker k).pass ≡ Some Done
-    walked = ap (λ (w : Worker). w.pass) is.as_known
+    walked = ap (λ (w : Known). w.pass) is.as_known
 
     looked : ((team c).worker k).last_look ≡ Some (record { traced = traced })
-    looked = ap (λ (w : Worker). w.last_look) is.as_known
+    looked = ap (λ (w : Known). w.last_look) is.as_known
 
     -- who has walked over the chain has the turn, and nobody else changes TRACED
     turn : Passing (era c) (memory c) (memory c).weak_turn s.ghost s.invariant.cells.ranks ((team c).worker k) Done
@@ -100,7 +100,7 @@ module _ (c : Configuration) (p : Plain) (s : Stands c p) (k : ℕ) (y : Held) (
     known = ended_known c p s k y d back (Traces traced) is refl (own_stock_same c p s k y d back (Traces traced) is)
 
     now : d.epoch ≡ (era c).epoch
-    now = ap (λ (w : Worker). w.epoch) (sym is.as_known) ∙ turn.now.0
+    now = ap (λ (w : Known). w.epoch) (sym is.as_known) ∙ turn.now.0
 
     -- each state that follows the targets is stood for
     follows : (q : Plain) → FollowsTargets (era c) (memory c) s.ghost p q → LawTo c p s k x (Some entry) (knows y') s.ghost q
@@ -108,15 +108,15 @@ module _ (c : Configuration) (p : Plain) (s : Stands c p) (k : ℕ) (y : Held) (
         let t : LawTo c p s k x (Some (TracedIs (((team c).worker k).epoch + 1))) (has_traced ((team c).worker k)) s.ghost q =
         (tracing.traces (era c) (memory c) (team c) s.ghost k (record { traced = traced }) (prepared c p s k x is) wins).steps p q s.shown of_targets in
         let u : LawTo c p s k x (Some entry) (rests (knows x)) s.ghost q =
-        subst (λ (w : Worker). LawTo c p s k x (Some (TracedIs (w.epoch + 1))) (has_traced w) s.ghost q) is.as_known t in
-        subst (λ (w : Worker). LawTo c p s k x (Some entry) w s.ghost q) (sym known) u
+        subst (λ (w : Known). LawTo c p s k x (Some (TracedIs (w.epoch + 1))) (has_traced w) s.ghost q) is.as_known t in
+        subst (λ (w : Known). LawTo c p s k x (Some entry) w s.ghost q) (sym known) u
 
     traces : TracesEpoch c p s.ghost k (Some entry) y' s.ghost
     traces = record {
       settles = λ o cycle keeps. lost_targets_are_zero (era c) (memory c) (team c) s.ghost k (record { traced = traced }) p o (prepared c p s k x is) wins s.shown cycle keeps;
       before = turn.now.1;
       traced = traced_after c k (knows y') (d.epoch + 1) s.formed is.below ∙ ap (λ (e : ℕ). e + 1) now;
-      empty = same_empty c k (knows y') (d.epoch + 1) s.formed is.below (ap (λ (w : Worker). w.copy) (known ∙ ap rests (sym is.as_known)));
+      empty = same_empty c k (knows y') (d.epoch + 1) s.formed is.below (ap (λ (w : Known). w.copy) (known ∙ ap rests (sym is.as_known)));
       leaves = λ q of_targets. plain_steps_are_lifted c p q s (Some entry) k (knows y') s.ghost is.below (follows q of_targets);
     }
 
@@ -143,8 +143,8 @@ module _ (c : Configuration) (p : Plain) (s : Stands c p) (k : ℕ) (y : Held) (
     learnt =
         let l : Look = look_with d traced (duty.to_start d) false 0 false in
         let t : Law c p s k x2 None (looking (knows x2) (record l { front = front })) s.ghost =
-        subst (λ (w : Worker). Law c p s k x2 None (looking w (record l { front = front })) s.ghost) is.as_known
-        (looks_at_front (era c) (memory c) (team c) s.ghost k l front (prepared c p s k x2 is) (record { looks = ap (λ (w : Worker). w.look) is.as_known }) refl refl
+        subst (λ (w : Known). Law c p s k x2 None (looking w (record l { front = front })) s.ghost) is.as_known
+        (looks_at_front (era c) (memory c) (team c) s.ghost k l front (prepared c p s k x2 is) (record { looks = ap (λ (w : Known). w.look) is.as_known }) refl refl
         (front_for c p s k y d back (EndArea traced) is refl)) in
         rw (eq-eqb (board_page d.layout.pages) (board_page d.layout.pages) refl) t
 
@@ -174,9 +174,9 @@ module _ (c : Configuration) (p : Plain) (s : Stands c p) (k : ℕ) (y : Held) (
         let start : duty.to_start d ≡ (era c).start =
         let n : (table c).pages ≡ c.pages = table_pages c.pages c.words in rw (← of_now, n, same_pages c p s k y d back (EndGate traced) is) refl in
         let t : Law c p s k x3 None (looking (knows x3) (look_begun (era c) r)) s.ghost =
-        subst (λ (w : Worker). Law c p s k x3 None (looking w (look_begun (era c) r)) s.ghost) is.as_known
+        subst (λ (w : Known). Law c p s k x3 None (looking w (look_begun (era c) r)) s.ghost) is.as_known
         (begins_look (era c) (memory c) (team c) s.ghost k r (prepared c p s k x3 is)
-        (record { round = ap (λ (w : Worker). w.round) is.as_known; same = of_now ∙ ap (λ (w : Worker). w.epoch) (sym is.as_known); none = none })) in
+        (record { round = ap (λ (w : Known). w.round) is.as_known; same = of_now ∙ ap (λ (w : Known). w.epoch) (sym is.as_known); none = none })) in
         steps_forget (era c) (memory c) (team c) s.ghost k None (looking (knows x3) (look_begun (era c) r)) (knows (at c p s k y d back (EndArea traced))) s.ghost t
         (of_round (looking (knows x3) (look_begun (era c) r)) None (knows (at c p s k y d back (EndArea traced))).look refl (λ _ e. absurd (cc)) (λ l e. (rw (← start) refl) ∙ e))
 
@@ -228,10 +228,10 @@ module _ (c : Configuration) (p : Plain) (s : Stands c p) (k : ℕ) (y : Held) (
         let l : Look = look_with d look.traced look.front true (upto_all d look.front) false in
         let open_now : says ≡ Open d.epoch = open_said says d.epoch state in
         let t : Law c p s k x4 None (looking (knows x4) (record l { filled = true })) s.ghost =
-        subst (λ (w : Worker). Law c p s k x4 None (looking w (record l { filled = true })) s.ghost) is.as_known
-        (looks_at_filling (era c) (memory c) (team c) s.ghost k l (prepared c p s k x4 is) (record { looks = ap (λ (w : Worker). w.look) is.as_known })
+        subst (λ (w : Known). Law c p s k x4 None (looking w (record l { filled = true })) s.ghost) is.as_known
+        (looks_at_filling (era c) (memory c) (team c) s.ghost k l (prepared c p s k x4 is) (record { looks = ap (λ (w : Known). w.look) is.as_known })
         (λ q low high. let e : q ≡ page = omega (arith, low, high) in
-        ap (λ z. (table c).page z) e ∙ open_now ∙ ap (λ (w : Worker). Open w.epoch) (sym is.as_known))) in
+        ap (λ z. (table c).page z) e ∙ open_now ∙ ap (λ (w : Known). Open w.epoch) (sym is.as_known))) in
         rw state t
 
     other : (state : PageState) → duty.state_of says d.epoch ≡ state → is_open_state state ≡ false → knows x4 ≡ knows (at c p s k y d back next)

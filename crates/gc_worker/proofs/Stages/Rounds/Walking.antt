@@ -30,8 +30,8 @@ use Rattle.heap_state.specs.Invariant.Ghost.{Leads}
 use Rattle.heap_state.specs.Memory.Entries.{Entry, WordIs, WeakTurnIs}
 use Rattle.heap_state.specs.Memory.Era.{from_space}
 use Rattle.heap_state.specs.Memory.Table.{table_of, word_in}
-use Rattle.heap_state.specs.Worker.{Worker, LastLook, Visit, Pass, Begins, At}
-use Rattle.heap_state.specs.Worker as workers
+use Rattle.heap_state.specs.Known.{Known, LastLook, Visit, Pass, Begins, At}
+use Rattle.heap_state.specs.Known as workers
 use Rattle.heap_laws.specs.Answers.{LeadsToCell, SettledHeader, NotCopied, CopiedTo, WalkAnswers}
 use Rattle.heap_laws.specs.Cells.Walks.{ComesTo, passed, replacing, visit}
 use Rattle.heap_laws.specs.Tracing.{has_turn}
@@ -45,9 +45,9 @@ use Rattle.gc_worker.specs.declared.stage.back.Back.{Back}
 use Rattle.gc_worker.specs.Steps.Goes.{Is, Goes, StepsSo}
 use Rattle.gc_worker.specs.Workers.Held.{Held}
 use Rattle.gc_worker.specs.Workers.Knows.{knows, pass_of, visited}
-use Rattle.gc_worker.proofs.Stages.Scan.Headers.{heap_word}
-use Rattle.gc_worker.proofs.Stages.Gate.Words.{wants}
-use Rattle.gc_worker.proofs.Stages.Rounds.Going.{round, at, goes_on, ends, same_pages}
+use Rattle.gc_worker.proofs.Stages.Scan.ScannedHeaders.{heap_word}
+use Rattle.gc_worker.proofs.Stages.Gate.GateWords.{wants}
+use Rattle.gc_worker.proofs.Stages.Rounds.NextRoundStage.{round, at, goes_on, ends, same_pages}
 use Rattle.gc_worker.proofs.Words.Eras.{board_is, start_is, old_start_is, spaces_apart, span_within, old_span_within}
 use Rattle.gc_worker.proofs.Words.RowSteps.{Law, exchanges, loads, nothing, prepared, row_fits, stores}
 
@@ -125,11 +125,11 @@ module _ (c : Configuration) (p : Plain) (s : Stands c p) (k : ℕ) (y : Held) (
     ends_by reply word after still = ends c p s k y d back (stage_at z) is reply word (went z (Ended (Another word)) reply after) refl still refl
 
     walks_so : ((team c).worker k).pass ≡ pass_of z
-    walks_so = ap (λ (u : Worker). u.pass) is.as_known
+    walks_so = ap (λ (u : Known). u.pass) is.as_known
 
     -- a law of the worker whose walk is so
     of_walk : (e : Option Entry) (q : Pass) → Law c p s k x e (walking ((team c).worker k) q) s.ghost → Law c p s k x e (walking (knows x) q) s.ghost
-    of_walk e q law = subst (λ (u : Worker). Law c p s k x e (walking u q) s.ghost) is.as_known law
+    of_walk e q law = subst (λ (u : Known). Law c p s k x e (walking u q) s.ghost) is.as_known law
 
     loads_row : (row : Row) → IsRow c.pages row
         → duty.wanted (round c p s k y d back (stage_at z)) ≡ Some (Load (place_of w.layout.pages row))
@@ -170,12 +170,12 @@ module _ (c : Configuration) (p : Plain) (s : Stands c p) (k : ℕ) (y : Held) (
     wins same =
         let l : LastLook = record { traced = traced } in
         let mine = own (TakesTurn turn) is in
-        let epoch : ((team c).worker k).epoch ≡ w.epoch = ap (λ (u : Worker). u.epoch) is.as_known ∙ sym mine.epoch in
+        let epoch : ((team c).worker k).epoch ≡ w.epoch = ap (λ (u : Known). u.epoch) is.as_known ∙ sym mine.epoch in
         let met = turn_word c ∙ same in
-        let law = turns_are_taken (era c) (memory c) (team c) s.ghost k l (prepared c p s k (here (TakesTurn turn)) is) (ap (λ (u : Worker). u.last_look) is.as_known)
+        let law = turns_are_taken (era c) (memory c) (team c) s.ghost k l (prepared c p s k (here (TakesTurn turn)) is) (ap (λ (u : Known). u.last_look) is.as_known)
         (let e = (untraced (TakesTurn turn) is).0 in let f = mine.epoch in omega (arith, e, f, epoch)) (let e = mine.sound.fits in omega (arith, e, epoch, met)) in
         subst (λ (n : ℕ). Law c p s k (here (TakesTurn turn)) (Some (WeakTurnIs (n + 1))) (knows (here LoadsWeak)) s.ghost) epoch
-        (subst (λ (u : Worker). Law c p s k (here (TakesTurn turn)) (Some (WeakTurnIs (((team c).worker k).epoch + 1))) (has_turn u) s.ghost) is.as_known law)
+        (subst (λ (u : Known). Law c p s k (here (TakesTurn turn)) (Some (WeakTurnIs (((team c).worker k).epoch + 1))) (has_turn u) s.ghost) is.as_known law)
 
     takes_turn : StepsSo c p s k (here (TakesTurn turn))
     takes_turn =
@@ -218,7 +218,7 @@ module _ (c : Configuration) (p : Plain) (s : Stands c p) (k : ℕ) (y : Held) (
       epoch_now : w.epoch ≡ (era c).epoch
       epoch_now =
           let now = (s.invariant.cells.chain.pass k (At u) is.below has).now.0 in
-          (own z is).epoch ∙ sym (ap (λ (x : Worker). x.epoch) is.as_known) ∙ now
+          (own z is).epoch ∙ sym (ap (λ (x : Known). x.epoch) is.as_known) ∙ now
 
       old_start : space_start w.layout.pages (to_space (w.epoch + 1)) ≡ (era c).old_start
       old_start = ap (λ n. space_start n (to_space (w.epoch + 1))) (pages z is) ∙ ap (λ e. space_start c.pages (from_space e)) epoch_now ∙ sym (old_start_is c)

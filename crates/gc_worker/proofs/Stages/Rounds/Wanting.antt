@@ -20,8 +20,8 @@ use Rattle.fault_duty.specs.Duty as duty
 use Rattle.fault_duty.specs.Duty.{Round}
 use Rattle.fault_duty.specs.Soundness.{FitsCaller}
 use Rattle.heap_state.specs.Configuration.{Configuration, Stands, table, era, memory, team}
-use Rattle.heap_state.specs.Worker.{Worker}
-use Rattle.heap_state.specs.Worker as workers
+use Rattle.heap_state.specs.Known.{Known}
+use Rattle.heap_state.specs.Known as workers
 use Rattle.heap_laws.specs.Scanning.Claims.{MayClaim}
 use Rattle.heap_laws.proofs.Steps.Answers.{areas_are_read}
 use Rattle.gc_worker.specs.declared.stage.back.Back.{Back}
@@ -32,8 +32,8 @@ use Rattle.gc_worker.specs.Workers.Held.{Held}
 use Rattle.gc_worker.specs.Workers.Knows.{knows}
 use Rattle.gc_worker.proofs.Words.Areas.{area_now, area_says, is_space}
 use Rattle.gc_worker.proofs.Stages.Rounds.Claiming.{begins, earlier_now, start_now, board_now}
-use Rattle.gc_worker.proofs.Stages.Rounds.Going.{round, at, goes_on, ends, loads_it, same_pages}
-use Rattle.gc_worker.proofs.Stages.Rounds.Words.{page_now, page_says}
+use Rattle.gc_worker.proofs.Stages.Rounds.NextRoundStage.{round, at, goes_on, ends, loads_it, same_pages}
+use Rattle.gc_worker.proofs.Stages.Rounds.RoundWords.{page_now, page_says}
 use Rattle.gc_worker.proofs.Words.RowSteps.{nothing}
 
 module _ (c : Configuration) (p : Plain) (s : Stands c p) (k : ℕ) (y : Held) (d : Round) (back : Back) where
@@ -133,7 +133,7 @@ module _ (c : Configuration) (p : Plain) (s : Stands c p) (k : ℕ) (y : Held) (
     front_now : d.epoch ≡ (era c).epoch → duty.front_of d area ≡ (memory c).front
     front_now now =
         let read = (areas_are_read c p s).front k is.below in
-        let e : ((team c).worker k).epoch ≡ d.epoch = ap (λ (v : Worker). v.epoch) is.as_known in
+        let e : ((team c).worker k).epoch ≡ d.epoch = ap (λ (v : Known). v.epoch) is.as_known in
         let n = same_pages c p s k y d back (LoadsFrontFor found w) is in
         let here : space_start c.pages (to_space ((team c).worker k).epoch) + ((table c).area (to_space ((team c).worker k).epoch)).front ≡ (memory c).front = read.now (e ∙ now) in
         subst (λ m. space_start m space + area.front ≡ (memory c).front) (sym n)
@@ -144,7 +144,7 @@ module _ (c : Configuration) (p : Plain) (s : Stands c p) (k : ℕ) (y : Held) (
       earlier = earlier_now c p s k y d back (LoadsFrontFor found w) is w.page w.says refl refl waits;
       full = λ now. elim served [
         | inl at_board ↦ inl (at_board ∙ board_now c p s k y d back (LoadsFrontFor found w) is)
-        | inr in_space ↦ inr (full_now (sym (ap (λ (v : Worker). v.epoch) is.as_known) ∙ now) in_space)
+        | inr in_space ↦ inr (full_now (sym (ap (λ (v : Known). v.epoch) is.as_known) ∙ now) in_space)
       ];
     }
       where

@@ -24,7 +24,7 @@ use Rattle.fault_duty.specs.Duty.{Round}
 use Rattle.fault_duty.specs.Soundness.{IsOwnClaim}
 use Rattle.heap_state.specs.Configuration.{Configuration, Stands, table, era, memory, team}
 use Rattle.heap_state.specs.Memory.Entries.{Entry, PageIs}
-use Rattle.heap_state.specs.Worker.{Worker, Quest}
+use Rattle.heap_state.specs.Known.{Known, Quest}
 use Rattle.heap_state.proofs.Puts.{put_at}
 use Rattle.heap_laws.specs.Lifting.{configuration_after}
 use Rattle.heap_laws.specs.Scanning.Claims.{ClaimsPage, WinsPage, begins_scan, scan_from}
@@ -38,11 +38,11 @@ use Rattle.gc_worker.specs.Workers.Held.{Held}
 use Rattle.gc_worker.specs.Workers.Knows.{knows, claim_with, looked_all, scan_of, quest_at}
 use Rattle.gc_worker.specs.Steps.Turned.{turned, served_by, told_round, Silent}
 use Rattle.gc_worker.proofs.Words.Eras.{board_is}
-use Rattle.gc_worker.proofs.Workers.Parts.{refit}
-use Rattle.gc_worker.proofs.Stages.Gate.Words.{wants}
-use Rattle.gc_worker.proofs.Stages.Rounds.Going.{round, at, done, ends, fits_done, own_stock_same, same_pages}
-use Rattle.gc_worker.proofs.Stages.Rounds.Words.{page_now, page_says}
-use Rattle.gc_worker.proofs.Stages.Scan.GoingOn.{still_back}
+use Rattle.gc_worker.proofs.Workers.KeptParts.{refit}
+use Rattle.gc_worker.proofs.Stages.Gate.GateWords.{wants}
+use Rattle.gc_worker.proofs.Stages.Rounds.NextRoundStage.{round, at, done, ends, fits_done, own_stock_same, same_pages}
+use Rattle.gc_worker.proofs.Stages.Rounds.RoundWords.{page_now, page_says}
+use Rattle.gc_worker.proofs.Stages.Scan.ScanKnowledge.{still_back}
 use Rattle.gc_worker.proofs.Words.RowSteps.{Law, quiet, exchanges, prepared}
 use Rattle.atom_store.specs.declared.turn.Turn.TheVariants.{Finished}
 
@@ -87,7 +87,7 @@ module _ (c : Configuration) (p : Plain) (s : Stands c p) (k : ℕ) (y : Held) (
   worker_is = own.worker ∙ (is.fits.stage.0.worker ∙ is.fits.number)
 
   pub epoch_is : ((team c).worker k).epoch ≡ q.epoch
-  epoch_is = ap (λ (w : Worker). w.epoch) is.as_known ∙ sym own.epoch
+  epoch_is = ap (λ (w : Known). w.epoch) is.as_known ∙ sym own.epoch
 
   abbrev entry : Entry
   entry = PageIs q.page (Scanning q.epoch q.worker)
@@ -102,10 +102,10 @@ module _ (c : Configuration) (p : Plain) (s : Stands c p) (k : ℕ) (y : Held) (
 
   pub wins_page : page_now c q.page ≡ encode_page q.found → WinsPage (era c) (memory c) (team c) k (claim_with q (looked_all q) true)
   wins_page same = record {
-    claims = ap (λ (w : Worker). w.claim) is.as_known;
+    claims = ap (λ (w : Known). w.claim) is.as_known;
     looked = looked_by q.in_place (nat_eq q.page (board_page q.layout.pages)) refl refl;
     sure = refl;
-    idle = ap (λ (w : Worker). w.scan) is.as_known;
+    idle = ap (λ (w : Known). w.scan) is.as_known;
     unchanged = word_is same;
   }
 
@@ -140,7 +140,7 @@ module _ (c : Configuration) (p : Plain) (s : Stands c p) (k : ℕ) (y : Held) (
       subst (λ (e : ℕ). Law c p s k x (Some (PageIs q.page (Scanning e k))) (begins_scan ((team c).worker k) (claim_with q (looked_all q) true)) s.ghost) epoch_is t in
       let v : Law c p s k x (Some entry) (begins_scan ((team c).worker k) (claim_with q (looked_all q) true)) s.ghost =
       subst (λ (j : ℕ). Law c p s k x (Some (PageIs q.page (Scanning q.epoch j))) (begins_scan ((team c).worker k) (claim_with q (looked_all q) true)) s.ghost) (sym worker_is) u in
-      subst (λ (w : Worker). Law c p s k x (Some entry) w s.ghost) (ap (λ (w : Worker). begins_scan w (claim_with q (looked_all q) true)) is.as_known ∙ knows_scan) v
+      subst (λ (w : Known). Law c p s k x (Some entry) w s.ghost) (ap (λ (w : Known). begins_scan w (claim_with q (looked_all q) true)) is.as_known ∙ knows_scan) v
 
   same_layout : q.layout ≡ y.layout
   same_layout = own.layout ∙ is.fits.stage.0.layout

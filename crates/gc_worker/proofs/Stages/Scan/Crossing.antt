@@ -8,11 +8,11 @@ use Rattle.page_scan.specs.Scanning.{Scanning}
 use Rattle.page_scan.specs.declared.scan_stage.ScanStage.TheVariants as scan_stage
 use Rattle.heap_state.specs.Configuration.{Configuration, Stands, era, memory, team, table}
 use Rattle.heap_state.specs.Memory.Table.{table_of, word_in}
-use Rattle.heap_state.specs.Worker.{Worker}
+use Rattle.heap_state.specs.Known.{Known}
 use Rattle.heap_laws.specs.Answers.{ScanAnswers}
 use Rattle.heap_laws.specs.Scanning.Words.{IsScanning}
 use Rattle.heap_laws.proofs.Lifting.Configurations.{board_at}
-use Rattle.heap_laws.proofs.Scanning.Records.{reads_crossing}
+use Rattle.heap_laws.proofs.Scanning.ScannedRecords.{reads_crossing}
 use Rattle.heap_laws.proofs.Steps.Answers.{scans_are_answered}
 use Rattle.gc_worker.specs.declared.stage.back.Back.{Back}
 use Rattle.gc_worker.specs.declared.stage.Stage.TheVariants.{Scans}
@@ -20,8 +20,8 @@ use Rattle.gc_worker.specs.Steps.Goes.{Is, Goes, StepsSo}
 use Rattle.gc_worker.specs.Workers.Held.{Held}
 use Rattle.gc_worker.specs.Workers.Knows.{knows, scan_of}
 use Rattle.gc_worker.specs.Steps.Turned.{turned}
-use Rattle.gc_worker.proofs.Stages.Gate.Words.{wants}
-use Rattle.gc_worker.proofs.Stages.Scan.GoingOn.{going_fits}
+use Rattle.gc_worker.proofs.Stages.Gate.GateWords.{wants}
+use Rattle.gc_worker.proofs.Stages.Scan.ScanKnowledge.{going_fits}
 use Rattle.gc_worker.proofs.Words.RowSteps.{Law, quiet, loads, prepared}
 
 -- the crossing is the word that stands in its row
@@ -47,7 +47,7 @@ module _ (c : Configuration) (p : Plain) (s : Stands c p) (k : ℕ) (y : Held) (
     not_board e = let b = board_at c in let i = in_space in omega (arith, b, i, e)
 
     scans : IsScanning (team c) k (scan_of at_cross scan_stage.LoadsCross)
-    scans = record { scans = ap (λ (w : Worker). w.scan) is.as_known; asks_nothing = ap (λ (w : Worker). w.quest) is.as_known }
+    scans = record { scans = ap (λ (w : Known). w.scan) is.as_known; asks_nothing = ap (λ (w : Known). w.quest) is.as_known }
 
     answers : ScanAnswers (era c) (memory c) s.ghost (scan_of at_cross scan_stage.LoadsCross)
     answers = scans_are_answered (era c) (memory c) (team c) s.ghost k (scan_of at_cross scan_stage.LoadsCross) (prepared c p s k x is) scans

@@ -12,7 +12,7 @@ use Rattle.page_scan.specs.declared.scanned_record.ScannedRecord.{ScannedRecord}
 use Rattle.page_scan.specs.declared.scan_stage.ScanStage.TheVariants as scan_stage
 use Rattle.heap_state.specs.Configuration.{Configuration, Stands, era, memory, team}
 use Rattle.heap_state.specs.Memory.FieldSpan.{first_field, fields_end, next_scanned}
-use Rattle.heap_state.specs.Worker.{Scan}
+use Rattle.heap_state.specs.Known.{Scan}
 use Rattle.heap_laws.specs.Scanning.Words.{scanning, scan_headed}
 use Rattle.heap_laws.proofs.Lifting.Configurations.{board_at}
 use Rattle.heap_laws.specs.Composing.{IsAtMost}
@@ -25,7 +25,7 @@ use Rattle.gc_worker.specs.Steps.Goes.{Is, Goes}
 use Rattle.gc_worker.specs.Workers.Held.{Held}
 use Rattle.gc_worker.specs.Workers.Knows.{knows, scan_of, seen_record}
 use Rattle.gc_worker.specs.Steps.Turned.{turned, told, Silent}
-use Rattle.gc_worker.proofs.Stages.Scan.GoingOn.{scans_to, going_fits}
+use Rattle.gc_worker.proofs.Stages.Scan.ScanKnowledge.{scans_to, going_fits}
 use Rattle.gc_worker.proofs.Stages.Scan.Passing.{gone_to, goes_on_less, goes_on_sound, goes_on_fits}
 use Rattle.gc_worker.proofs.Words.RowSteps.{Law, quiet}
 

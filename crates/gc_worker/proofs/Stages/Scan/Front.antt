@@ -16,11 +16,11 @@ use Rattle.page_scan.specs.declared.scan_stage.ScanStage.TheVariants as scan_sta
 use Rattle.page_scan.specs.Soundness as scan_sound
 use Rattle.heap_state.specs.Configuration.{Configuration, Stands, era, memory, team, table}
 use Rattle.heap_state.specs.Memory.Table.{table_of, word_in}
-use Rattle.heap_state.specs.Worker.{Worker, Scan}
+use Rattle.heap_state.specs.Known.{Known, Scan}
 use Rattle.heap_state.proofs.Table.LaidOut.{table_pages}
 use Rattle.heap_laws.specs.Scanning.Words.{scanning, IsScanning}
 use Rattle.heap_laws.proofs.Lifting.Configurations.{board_at}
-use Rattle.heap_laws.proofs.Scanning.Records.{reads_front}
+use Rattle.heap_laws.proofs.Scanning.ScannedRecords.{reads_front}
 use Rattle.heap_laws.proofs.Steps.Composing.{steps_forget}
 use Rattle.gc_worker.specs.declared.stage.back.Back.{Back}
 use Rattle.gc_worker.specs.declared.stage.Stage.TheVariants.{Scans}
@@ -28,9 +28,9 @@ use Rattle.gc_worker.specs.Steps.Goes.{Is, Goes, StepsSo}
 use Rattle.gc_worker.specs.Workers.Held.{Held}
 use Rattle.gc_worker.specs.Workers.Fits.{Fits}
 use Rattle.gc_worker.specs.Workers.Knows.{knows, scan_of}
-use Rattle.gc_worker.proofs.Stages.Gate.Words.{wants}
+use Rattle.gc_worker.proofs.Stages.Gate.GateWords.{wants}
 use Rattle.heap_laws.proofs.Steps.Forgotten.{of_scan}
-use Rattle.gc_worker.proofs.Stages.Scan.GoingOn.{scans_to, going_fits, ended_fits}
+use Rattle.gc_worker.proofs.Stages.Scan.ScanKnowledge.{scans_to, going_fits, ended_fits}
 use Rattle.gc_worker.proofs.Words.RowSteps.{Law, quiet, loads, prepared}
 
 -- a space's area is what its word says
@@ -60,10 +60,10 @@ module _ (c : Configuration) (p : Plain) (s : Stands c p) (k : ℕ) (y : Held) (
     word = word_in c.pages c.words (Area (to_space v.epoch))
 
     scans : IsScanning (team c) k now
-    scans = record { scans = ap (λ (w : Worker). w.scan) is.as_known; asks_nothing = ap (λ (w : Worker). w.quest) is.as_known }
+    scans = record { scans = ap (λ (w : Known). w.scan) is.as_known; asks_nothing = ap (λ (w : Known). w.quest) is.as_known }
 
     of_now : v.epoch ≡ (era c).epoch
-    of_now = is.fits.stage.0.epoch ∙ (ap (λ (w : Worker). w.epoch) (sym is.as_known) ∙ (s.invariant.workers k is.below).present now scans.scans)
+    of_now = is.fits.stage.0.epoch ∙ (ap (λ (w : Known). w.epoch) (sym is.as_known) ∙ (s.invariant.workers k is.below).present now scans.scans)
 
     in_space : v.page < 2 * c.pages
     in_space = let f = is.fits.stage.0.sound.fits.1 in let l = is.fits.stage.0.layout in let n = is.fits.pages in rw (l, n) at f

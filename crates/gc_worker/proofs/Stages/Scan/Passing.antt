@@ -12,7 +12,7 @@ use Rattle.page_scan.specs.declared.scan_stage.ScanStage.TheVariants as scan_sta
 use Rattle.page_scan.specs.declared.spot.Spot.TheVariants.{InRecord}
 use Rattle.heap_state.specs.Memory.Era.{Era}
 use Rattle.heap_state.specs.Memory.FieldSpan.{next_scanned}
-use Rattle.heap_state.specs.Worker.{Scan}
+use Rattle.heap_state.specs.Known.{Scan}
 use Rattle.heap_laws.specs.Composing.{IsAtMost}
 use Rattle.heap_laws.specs.Scanning.Words.{scanning, is_past}
 use Rattle.gc_worker.specs.declared.stage.back.Back.{Back}
@@ -21,7 +21,7 @@ use Rattle.gc_worker.specs.Workers.Fits.{Fits, FitsScan, FitsBack, FitsTaskBack,
 use Rattle.gc_worker.specs.Workers.Held.{Held}
 use Rattle.gc_worker.specs.Workers.Knows.{knows, scan_of, seen_record}
 use Rattle.heap_laws.proofs.Steps.Forgotten.{of_scan}
-use Rattle.gc_worker.proofs.Stages.Scan.GoingOn.{scans_to, going_fits, ended_fits}
+use Rattle.gc_worker.proofs.Stages.Scan.ScanKnowledge.{scans_to, going_fits, ended_fits}
 
 module _ (y : Held) (v : Scanning) (back : Back) (r : ScannedRecord) (z : ℕ) where
   abbrev x : Held

@@ -19,7 +19,7 @@ use Rattle.gc_worker.specs.Workers.Fits.{Fits, FitsScan, FitsBack, FitsTaskBack,
 use Rattle.gc_worker.specs.Workers.Held.{Held}
 use Rattle.gc_worker.specs.Workers.Knows.{knows, scan_of, seen_record, scan_at}
 use Rattle.heap_laws.proofs.Steps.Forgotten.{of_scan}
-use Rattle.gc_worker.proofs.Stages.Scan.GoingOn.{scans_to, going_fits, ended_fits}
+use Rattle.gc_worker.proofs.Stages.Scan.ScanKnowledge.{scans_to, going_fits, ended_fits}
 use Rattle.gc_worker.proofs.Stages.Scan.Passing.{goes_on_less, goes_on_sound, goes_on_fits}
 
 module _ (y : Held) (v : Scanning) (back : Back) where

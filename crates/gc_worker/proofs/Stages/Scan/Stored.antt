@@ -13,7 +13,7 @@ use Rattle.page_scan.specs.declared.asked.Asked.{Asked}
 use Rattle.page_scan.specs.declared.scan_stage.ScanStage.TheVariants as scan_stage
 use Rattle.heap_state.specs.Configuration.{Configuration, Stands, era, memory, team}
 use Rattle.heap_state.specs.Memory.Entries.{Entry, WordIs}
-use Rattle.heap_state.specs.Worker.{Worker, Scan, Quest, Scanned}
+use Rattle.heap_state.specs.Known.{Known, Scan, Quest, Scanned}
 use Rattle.heap_state.proofs.Table.LaidOut.{laid_out}
 use Rattle.heap_laws.specs.Scanning.Words.{scanning, past_word, HasFound}
 use Rattle.heap_laws.proofs.Lifting.Configurations.{board_at}
@@ -24,8 +24,8 @@ use Rattle.gc_worker.specs.declared.stage.Stage.TheVariants.{Scans}
 use Rattle.gc_worker.specs.Steps.Goes.{Is, Goes, StepsSo}
 use Rattle.gc_worker.specs.Workers.Held.{Held}
 use Rattle.gc_worker.specs.Workers.Knows.{knows, scan_at}
-use Rattle.gc_worker.proofs.Stages.Gate.Words.{wants}
-use Rattle.gc_worker.proofs.Stages.Scan.GoingOn.{scans_to}
+use Rattle.gc_worker.proofs.Stages.Gate.GateWords.{wants}
+use Rattle.gc_worker.proofs.Stages.Scan.ScanKnowledge.{scans_to}
 use Rattle.gc_worker.proofs.Stages.Scan.Spots.{at_field, passes_less, passes_sound, passes_fits}
 use Rattle.gc_worker.proofs.Words.RowSteps.{Law, quiet, stores, row_fits, prepared}
 
@@ -50,10 +50,10 @@ module _ (c : Configuration) (p : Plain) (s : Stands c p) (k : ℕ) (y : Held) (
     on = let f = is.fits.stage.0.sound.fits in subst (λ n. scan_sound.IsOnPage n u.page asked.spot) (ap (λ l. l.pages) is.fits.stage.0.layout ∙ is.fits.pages) f
 
     asks : ((team c).worker k).quest ≡ Some quest
-    asks = ap (λ (w : Worker). w.quest) is.as_known
+    asks = ap (λ (w : Known). w.quest) is.as_known
 
     found : HasFound (era c) (team c) k now quest to
-    found = record { scans = ap (λ (w : Worker). w.scan) is.as_known; quest = asks; origin = refl; found = refl; at = at_field y v back (era c) c.pages (board_at c) asked.spot on }
+    found = record { scans = ap (λ (w : Known). w.scan) is.as_known; quest = asks; origin = refl; found = refl; at = at_field y v back (era c) c.pages (board_at c) asked.spot on }
 
     -- the copy lies in the space, so that its address fits a pointer
     short : to < 2 ^ 32
@@ -71,7 +71,7 @@ module _ (c : Configuration) (p : Plain) (s : Stands c p) (k : ℕ) (y : Held) (
         stored (passes_less y v back (era c) c.pages (board_at c) asked.spot on)
       where
         stored : Law c p s k x (Some entry) (scanning (knows x) (past_word (era c) now)) s.ghost
-        stored = rw is.as_known at (fields.stores (era c) (memory c) (team c) s.ghost k now quest to (pointer_word to) (prepared c p s k x is) found (ap (λ (w : Worker). w.linking) is.as_known) (decode-pointer_word to short))
+        stored = rw is.as_known at (fields.stores (era c) (memory c) (team c) s.ghost k now quest to (pointer_word to) (prepared c p s k x is) found (ap (λ (w : Known). w.linking) is.as_known) (decode-pointer_word to short))
 
     goes : Goes c p s k (Some entry) x Done
     goes = quiet c p s k x (Some entry) Done s.ghost is.below law refl

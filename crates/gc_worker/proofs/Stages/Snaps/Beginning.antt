@@ -21,11 +21,11 @@ use Rattle.gate_core.specs.declared.snap.snapped.Snapped.TheVariants.{NotYet}
 use Rattle.gate_core.specs.Snap.{Snapping, looked, told_at}
 use Rattle.heap_state.specs.Configuration.{Configuration, Stands, table, era, memory, team}
 use Rattle.heap_state.specs.Memory.Entries.{SnapIs}
-use Rattle.heap_state.specs.Worker.{Worker}
+use Rattle.heap_state.specs.Known.{Known}
 use Rattle.heap_laws.specs.Fields.Held.{with_mutator}
 use Rattle.heap_laws.specs.Fields.Stores.{IsAs}
 use Rattle.heap_laws.specs.Saving.Snapping.{about_to_clear}
-use Rattle.heap_laws.proofs.Gate.Counts as counts
+use Rattle.heap_laws.proofs.Gate.GateCounts as counts
 use Rattle.heap_laws.proofs.Saving.Snappers.{snappers_step}
 use Rattle.gc_worker.specs.declared.stage.Stage.TheVariants.{BeginsCheckpoint}
 use Rattle.gc_worker.specs.Plain.Seen.{seen}
@@ -38,9 +38,9 @@ use Rattle.gc_worker.proofs.Plain.AnswerSteps.{LawTo, IsIts, next_as, own_mutato
 use Rattle.gc_worker.proofs.Plain.Effects.{call_answers}
 use Rattle.gc_worker.proofs.Plain.OnlySnap.{snap_takes, snaps_alone}
 use Rattle.gc_worker.proofs.Stages.Gate.Resuming.{end_none}
-use Rattle.gc_worker.proofs.Stages.Gate.Words.{wants, gate_now, gate_says}
+use Rattle.gc_worker.proofs.Stages.Gate.GateWords.{wants, gate_now, gate_says}
 use Rattle.gc_worker.proofs.Words.RowSteps.{becomes, exchanges, loads, nothing, prepared}
-use Rattle.gc_worker.proofs.Workers.Parts.{has_room, refit}
+use Rattle.gc_worker.proofs.Workers.KeptParts.{has_room, refit}
 
 module _ (c : Configuration) (p : Plain) (s : Stands c p) (k : ℕ) (y : Held) where
   abbrev snapping : SnapStage → Snapping
@@ -127,10 +127,10 @@ module _ (c : Configuration) (p : Plain) (s : Stands c p) (k : ℕ) (y : Held) w
 
     law : LawTo c p s k x (Some (SnapIs (y.snap + 1))) (knows z) s.ghost (with_mutator (with_heap p (took p.heap)) k (plain.went_on q))
     law =
-        subst (λ (w : Worker). LawTo c p s k x (Some (SnapIs (y.snap + 1))) (about_to_clear w z.account gate) s.ghost (with_mutator (with_heap p (took p.heap)) k (plain.went_on q))) is.as_known
-        (snappers_step (era c) (memory c) (team c) s.ghost p k (y.snap + 1) z.account gate (plain.went_on q) (prepared c p s k x is) (ap (λ (w : Worker). w.post) is.as_known) s.shown
-        (sym (ap (λ (w : Worker). w.account.serial) is.as_known)) unended
-        (subst (λ (w : Worker). IsAs s.ghost p.heap k (about_to_clear w z.account gate) (plain.went_on q)) (sym is.as_known) as_plain))
+        subst (λ (w : Known). LawTo c p s k x (Some (SnapIs (y.snap + 1))) (about_to_clear w z.account gate) s.ghost (with_mutator (with_heap p (took p.heap)) k (plain.went_on q))) is.as_known
+        (snappers_step (era c) (memory c) (team c) s.ghost p k (y.snap + 1) z.account gate (plain.went_on q) (prepared c p s k x is) (ap (λ (w : Known). w.post) is.as_known) s.shown
+        (sym (ap (λ (w : Known). w.account.serial) is.as_known)) unended
+        (subst (λ (w : Known). IsAs s.ghost p.heap k (about_to_clear w z.account gate) (plain.went_on q)) (sym is.as_known) as_plain))
 
     fits : Fits c.pages c.mutators k z
     fits = record {

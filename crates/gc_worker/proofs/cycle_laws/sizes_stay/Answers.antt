@@ -1,4 +1,4 @@
-use Rattle.gc_worker.proofs.Cycles.Sizes.{seen_flips_double, sizes_are_within, sizes_hold, sizes_stay}
+use Rattle.gc_worker.proofs.Cycles.SizesOfSpaces.{seen_flips_double, sizes_are_within, sizes_hold, sizes_stay}
 use Rattle.gc_worker.proofs.cycle_laws.sizes_stay.Goals as goal
 
 pub returns-clause-stay : goal.returns-clause-stay

@@ -1,4 +1,4 @@
-use Rattle.gc_worker.proofs.History.Checkpoints.{histories_count_checkpoints, histories_keep_the_last_checkpoint}
+use Rattle.gc_worker.proofs.History.CheckpointsOfHistories.{histories_count_checkpoints, histories_keep_the_last_checkpoint}
 use Rattle.gc_worker.proofs.history_laws.histories_keep_the_last_checkpoint.Goals as goal
 
 pub returns-clause-last : goal.returns-clause-last

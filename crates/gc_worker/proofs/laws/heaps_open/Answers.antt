@@ -1,4 +1,4 @@
-use Rattle.gc_worker.proofs.Between.Opening.{heaps_open}
+use Rattle.gc_worker.proofs.Between.OpenedHeap.{heaps_open}
 use Rattle.gc_worker.proofs.laws.heaps_open.Goals as goal
 
 pub returns : goal.returns

@@ -1,4 +1,4 @@
-use Rattle.gc_worker.proofs.Plain.LostCells.{lost_cells_are_empty}
+use Rattle.gc_worker.proofs.Plain.CellTargets.LostCells.{lost_cells_are_empty}
 use Rattle.gc_worker.proofs.laws.lost_cells_are_empty.Goals as goal
 
 pub returns : goal.returns

@@ -1,4 +1,4 @@
-use Rattle.gc_worker.proofs.Words.Rows.{places_fit}
+use Rattle.gc_worker.proofs.Words.WorkerRows.{places_fit}
 use Rattle.gc_worker.proofs.laws.places_fit.Goals as goal
 
 pub returns : goal.returns

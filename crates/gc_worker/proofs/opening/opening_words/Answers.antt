@@ -1,7 +1,7 @@
 use Rattle.std.proofs.Common.{◌≡◌, ◌∙◌, replicate, rules, sym}
 use Rattle.space_map.specs.Table.{whole_length}
 use Rattle.heap_laws.specs.Opening.{opening_entries}
-use Rattle.gc_worker.proofs.Between.Opening.{opening_words_are, written_in}
+use Rattle.gc_worker.proofs.Between.OpenedHeap.{opening_words_are, written_in}
 use Rattle.gc_worker.proofs.opening.opening_words.Goals as goal
 
 pub returns : goal.returns

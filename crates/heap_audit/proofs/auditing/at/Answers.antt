@@ -1,7 +1,7 @@
 use Rattle.std.proofs.Common.{sym, ap, ◌∙◌}
 use Rattle.heap_audit.specs.Verdict.{at_told}
 use Rattle.heap_audit.specs.declared.verdict.At.TheVariants.{Word}
-use Rattle.heap_audit.proofs.Verdicts.{board_word_stands, word_stands}
+use Rattle.heap_audit.proofs.WrongPlaces.Verdicts.{board_word_stands, word_stands}
 use Rattle.heap_audit.proofs.auditing.at.Goals as goal
 
 pub returns-in-Board : goal.returns-in-Board

@@ -1,4 +1,4 @@
-use Rattle.heap_audit.proofs.Verdicts.{says_yes}
+use Rattle.heap_audit.proofs.WrongPlaces.Verdicts.{says_yes}
 use Rattle.heap_audit.proofs.auditing.audit.Goals as goal
 
 pub returns-clause-yes : goal.returns-clause-yes

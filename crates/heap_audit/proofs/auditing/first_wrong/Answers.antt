@@ -1,8 +1,8 @@
 use Rattle.std.proofs.Common.{Option, subst, rules}
 use Rattle.dump_text.specs.Reading.{dump_view}
 use Rattle.heap_audit.specs.Places.{TellsFirstUnseen}
-use Rattle.heap_audit.specs.declared.place.Place.{Place}
-use Rattle.heap_audit.proofs.Verdicts.{tells_none, told_by, told_is_said}
+use Rattle.heap_audit.specs.declared.places.place.Place.{Place}
+use Rattle.heap_audit.proofs.WrongPlaces.Verdicts.{tells_none, told_by, told_is_said}
 use Rattle.heap_audit.proofs.auditing.first_wrong.Goals as goal
 
 pub returns : goal.returns

@@ -3,7 +3,7 @@ use Rattle.dump_text.specs.Reading.{dump_view}
 use Rattle.dump_text.specs.Said.{dump_said}
 use Rattle.plain_state.specs.State.{Plain}
 use Rattle.heap_audit.specs.Places.{HasForm}
-use Rattle.heap_audit.proofs.Verdicts.{has_form}
+use Rattle.heap_audit.proofs.WrongPlaces.Verdicts.{has_form}
 use Rattle.heap_audit.proofs.auditing.verdict_on.Goals as goal
 
 pub first_wrong-requires-clause-form : goal.first_wrong-requires-clause-form

@@ -1,4 +1,4 @@
-use Rattle.heap_audit.proofs.AllPlaces.{places_show_all}
+use Rattle.heap_audit.proofs.WrongPlaces.AllPlaces.{places_show_all}
 use Rattle.heap_audit.proofs.laws.places_show_what_is_represented.Goals as goal
 
 pub returns : goal.returns

@@ -1,7 +1,7 @@
 use Rattle.std.proofs.Common.{◌∙◌, get_or, refl, arith}
 use Rattle.std.proofs.Math.ListN.{length-set}
 use Rattle.heap_audit.specs.declared.walks.RecordAt.{RecordAt}
-use Rattle.heap_audit.proofs.Begins.{notes_all, notes_more}
+use Rattle.heap_audit.proofs.WalkedSpaces.Begins.{notes_all, notes_more}
 use Rattle.heap_audit.proofs.walks.begins.Goals as goal
 
 pub loop-found-preserved : goal.loop-found-preserved

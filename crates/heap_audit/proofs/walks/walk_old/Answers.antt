@@ -6,7 +6,7 @@ use Rattle.heap_audit.specs.Firsts.{TellsFirst}
 use Rattle.heap_audit.specs.Told.{dump_told}
 use Rattle.heap_audit.specs.Breaks.{BreaksOld}
 use Rattle.heap_audit.specs.Walks.{BreaksOver, epoch_before, space_walked, walked}
-use Rattle.heap_audit.proofs.SpaceWalks.{first_old, ok_with, walked_old}
+use Rattle.heap_audit.proofs.WalkedSpaces.SpaceWalks.{first_old, ok_with, walked_old}
 use Rattle.heap_audit.proofs.walks.walk_old.Goals as goal
 
 pub returns-clause-met : goal.returns-clause-met

@@ -3,9 +3,9 @@ use Rattle.heap_state.specs.Memory.Walk.{Walked}
 use Rattle.heap_audit.specs.Firsts.{TellsFirst}
 use Rattle.heap_audit.specs.Told.{dump_told, extent_of}
 use Rattle.heap_audit.specs.Walks.{BreaksOver, break_on, space_walked, walk_on, walked}
-use Rattle.heap_audit.specs.declared.stretch.Stretch.TheVariants.{Copies, New}
+use Rattle.heap_audit.specs.declared.walks.stretch.Stretch.TheVariants.{Copies, New}
 use Rattle.heap_audit.specs.declared.told_heap.Extent.{Extent}
-use Rattle.heap_audit.proofs.SpaceWalks.{breaks_none, breaks_some, walked_none}
+use Rattle.heap_audit.proofs.WalkedSpaces.SpaceWalks.{breaks_none, breaks_some, walked_none}
 use Rattle.heap_audit.proofs.walks.walk_space.Goals as goal
 
 pub returns-in_default-clause-met : goal.returns-in_default-clause-met

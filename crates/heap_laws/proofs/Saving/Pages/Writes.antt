@@ -12,11 +12,11 @@ use Rattle.heap_state.specs.Memory.Era.{Era, Memory, era_of, memory_of}
 use Rattle.heap_state.specs.Memory.Table.{Table}
 use Rattle.heap_state.specs.Saving.Frozen.{IsPageOf}
 use Rattle.heap_state.specs.Saving.Words.{saves_of, AreFormedSaves}
-use Rattle.heap_state.specs.Worker.{Team, Stock}
+use Rattle.heap_state.specs.Known.{Team, Stock}
 use Rattle.heap_laws.specs.Allocation.Stocks.{HasStock}
 use Rattle.heap_laws.specs.Saving.Pages.{MarksNew, SaysAreFound, NoneIsOfLater, WritesOn, WritesRecord, WritesBoard, WritesStock, IsOpenNow, WrittenPagesAreOpen, StockPagesAreMarked}
 use Rattle.heap_laws.specs.Steps.{Ready}
-use Rattle.heap_laws.proofs.Saving.Pages.Stages.{pages_are_saved}
+use Rattle.heap_laws.proofs.Saving.Pages.PageSaves.{pages_are_saved}
 use Rattle.heap_laws.proofs.Saving.Pictures.{used_fits, within_pages}
 use Rattle.heap_laws.proofs.Saving.Sparing.{new_pages_are_loose}
 use Rattle.heap_laws.proofs.Saving.Stores.{saves_are_read}

@@ -1,4 +1,4 @@
-use Rattle.heap_state.proofs.Requested.Standing.{runs_on}
+use Rattle.heap_state.proofs.Requested.RequestedStands.{runs_on}
 use Rattle.heap_state.proofs.Worked.Broken.{wrong, early, short}
 use Rattle.heap_state.proofs.laws.broken_configurations_are_told.Goals as goal
 

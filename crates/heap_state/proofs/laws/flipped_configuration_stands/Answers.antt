@@ -1,4 +1,4 @@
-use Rattle.heap_state.proofs.Flipped.Standing.{worked_out_flipped}
+use Rattle.heap_state.proofs.Flipped.FlippedStands.{worked_out_flipped}
 use Rattle.heap_state.proofs.laws.flipped_configuration_stands.Goals as goal
 
 pub returns : goal.returns

@@ -1,4 +1,4 @@
-use Rattle.heap_state.proofs.Requested.Standing.{worked_out_requested}
+use Rattle.heap_state.proofs.Requested.RequestedStands.{worked_out_requested}
 use Rattle.heap_state.proofs.laws.requested_configuration_stands.Goals as goal
 
 pub returns : goal.returns

@@ -1,5 +1,5 @@
 use Rattle.std.proofs.Common.{sym}
-use Rattle.heap_state.proofs.Table.Places.{word_in-row}
+use Rattle.heap_state.proofs.Table.StoredRows.{word_in-row}
 use Rattle.heap_state.proofs.Table.Spelled.{spelled}
 use Rattle.heap_state.proofs.laws.rows_are_read.Goals as goal
 

@@ -5,7 +5,7 @@ use Rattle.heap_words.specs.Decoded.{PointerWord, HeaderWord, decode}
 use Rattle.plain_state.specs.declared.value.Identity.{Identity}
 use Rattle.heap_state.specs.Memory.Era.{Era}
 use Rattle.heap_state.specs.Invariant.Ghost.{Here, header_kind}
-use Rattle.heap_state.specs.Worker.{Origin, Register, Scanned, Quest, Copy, Scan}
+use Rattle.heap_state.specs.Known.{Origin, Register, Scanned, Quest, Copy, Scan}
 use Rattle.space_map.specs.Spaces.{page_of, first_word}
 
 -- the word that a quest began from still leads to the old place: a register of who is late, the first not forwarded; or

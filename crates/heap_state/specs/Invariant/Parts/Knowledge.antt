@@ -8,7 +8,7 @@ use Rattle.space_map.specs.declared.gate_word.GateWord.{GateWord}
 use Rattle.space_map.specs.declared.spaces.TheConstants.{PAGE_WORDS}
 use Rattle.heap_state.specs.Memory.Era.{Era}
 use Rattle.heap_state.specs.Invariant.Ghost.{Leads, Lands}
-use Rattle.heap_state.specs.Worker.{Post, Outside, Stopped, Snapping, Passage, Enter, Park, Request, RequestSnap, Clear, Forwarded, Resume, Leave, Reset, Role, FieldRole, NumberRole, TargetRole, UnknownRole, Access, is_live, is_running, is_asking, is_gone, is_behind}
+use Rattle.heap_state.specs.Known.{Post, Outside, Stopped, Snapping, Passage, Enter, Park, Request, RequestSnap, Clear, Forwarded, Resume, Leave, Reset, Role, FieldRole, NumberRole, TargetRole, UnknownRole, Access, is_live, is_running, is_asking, is_gone, is_behind}
 
 -- ---- epochs and the gate
 

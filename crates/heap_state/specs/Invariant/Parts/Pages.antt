@@ -4,7 +4,7 @@ use Rattle.space_map.specs.declared.page_word.PageWord.{PageWord}
 use Rattle.space_map.specs.declared.page_word.PageWord.TheVariants.{Open, Scanning}
 use Rattle.space_map.specs.PageWord.{age_of}
 use Rattle.heap_state.specs.Memory.Era.{Era}
-use Rattle.heap_state.specs.Worker.{Worker, Scan}
+use Rattle.heap_state.specs.Known.{Known, Scan}
 use Rattle.space_map.specs.Spaces.{page_of, first_word}
 use Rattle.space_map.specs.declared.spaces.TheConstants.{PAGE_WORDS}
 
@@ -51,5 +51,5 @@ pub record Sizes (E : Era) (request : Bool) : Type 0 where
   pub below : request ≡ false → E.old_span ≤ E.span
 
 -- whoever a page's word names scans that page
-pub record ScannedBy (E : Era) (count : ℕ) (page : ℕ → PageWord) (worker : ℕ → Worker) : Type 0 where
+pub record ScannedBy (E : Era) (count : ℕ) (page : ℕ → PageWord) (worker : ℕ → Known) : Type 0 where
   pub scanned : (p k : ℕ) → page p ≡ Scanning E.epoch k → (k < count) × ((r : Scan) × ((worker k).scan ≡ Some r) × (r.page ≡ p))

@@ -7,7 +7,7 @@ use Rattle.space_map.specs.declared.page_word.PageWord.TheVariants.{Open, Scanni
 use Rattle.space_map.specs.PageWord.{age_of}
 use Rattle.heap_state.specs.Memory.Era.{Era}
 use Rattle.heap_state.specs.Invariant.Ghost.{Leads, Here}
-use Rattle.heap_state.specs.Worker.{SeenHeader, SeenRecord, Scan, Round, Claim, Look, LastLook}
+use Rattle.heap_state.specs.Known.{SeenHeader, SeenRecord, Scan, Round, Claim, Look, LastLook}
 use Rattle.heap_state.specs.Invariant.Parts.Pages.{Quiet, IsLastOpen}
 use Rattle.heap_state.specs.Memory.FieldSpan.{first_field, fields_end}
 use Rattle.space_map.specs.Spaces.{page_of, first_word}

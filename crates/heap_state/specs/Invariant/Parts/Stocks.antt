@@ -6,7 +6,7 @@ use Rattle.space_map.specs.declared.page_word.PageWord.TheVariants.{Open}
 use Rattle.space_map.specs.PageWord.{age_of}
 use Rattle.heap_state.specs.Memory.Era.{Era}
 use Rattle.heap_state.specs.Invariant.Parts.Records.{WalkComesTo}
-use Rattle.heap_state.specs.Worker.{Worker, Stock, IsNotAhead}
+use Rattle.heap_state.specs.Known.{Known, Stock, IsNotAhead}
 use Rattle.space_map.specs.Spaces.{page_of, first_word}
 use Rattle.space_map.specs.declared.spaces.TheConstants.{PAGE_WORDS}
 
@@ -30,12 +30,12 @@ pub record Stocked (E : Era) (low : ℕ) (size heap : ℕ → ℕ) (page : ℕ �
   pub on_page : (q.at % PAGE_WORDS ≡ 0) ⊎ (q.end ≤ first_word (page_of q.at + 1))
 
 -- Each stock of this epoch is as it should be, and no two share a word.
-pub record Stocks (E : Era) (low count : ℕ) (size heap : ℕ → ℕ) (page : ℕ → PageWord) (worker : ℕ → Worker) : Type 0 where
+pub record Stocks (E : Era) (low count : ℕ) (size heap : ℕ → ℕ) (page : ℕ → PageWord) (worker : ℕ → Known) : Type 0 where
   pub stocked : (k : ℕ) → k < count → (q : Stock) → (worker k).stock ≡ Some q → q.epoch ≡ E.epoch → Stocked E low size heap page q
   pub apart : (j k : ℕ) → j < count → k < count → j ≢ k → (p q : Stock) → (worker j).stock ≡ Some p → (worker k).stock ≡ Some q
       → p.epoch ≡ E.epoch → q.epoch ≡ E.epoch → (p.end ≤ q.at) ⊎ (q.end ≤ p.at)
 
 -- a record is of a mutator that there is, which has made as many records as its serial says, or more
-pub record Numbered (mutators : ℕ) (size : ℕ → ℕ) (identity : ℕ → Identity) (worker : ℕ → Worker) : Type 0 where
+pub record Numbered (mutators : ℕ) (size : ℕ → ℕ) (identity : ℕ → Identity) (worker : ℕ → Known) : Type 0 where
   pub maker : (a : ℕ) → 0 < size a → (identity a).mutator < mutators
   pub last : (a : ℕ) → 0 < size a → (identity a).serial ≤ (worker (identity a).mutator).account.serial

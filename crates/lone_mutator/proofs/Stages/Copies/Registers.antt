@@ -11,7 +11,7 @@ use Rattle.forwarding.specs.Taken.{stage_after, told}
 use Rattle.heap_state.specs.Configuration.{Configuration, Stands, table, era, memory, team}
 use Rattle.heap_state.specs.Memory.Table.{Table, table_of}
 use Rattle.heap_state.specs.Saving.Words.{Saves}
-use Rattle.heap_state.specs.Worker.{Quest, Register, is_late}
+use Rattle.heap_state.specs.Known.{Quest, Register, is_late}
 use Rattle.gc_worker.specs.declared.stage.forwarding_register.ForwardingRegister.{ForwardingRegister}
 use Rattle.gc_worker.specs.declared.stage.Stage.TheVariants.{Forwards}
 use Rattle.gc_worker.specs.Workers.Held.{Held, at_stage}
@@ -22,11 +22,11 @@ use Rattle.lone_mutator.specs.Law.{Lowers, IsAlone, StepsLower, saves}
 use Rattle.lone_mutator.specs.Lone.{GoesOnPlacing}
 use Rattle.lone_mutator.specs.Potential.{due_in, growing_left, size_in}
 use Rattle.lone_mutator.specs.Copies.{copy_left}
-use Rattle.lone_mutator.proofs.Stages.Gate.Counts.{knowing}
+use Rattle.lone_mutator.proofs.Stages.Gate.LoneGateCounts.{knowing}
 use Rattle.lone_mutator.proofs.Steps.Owed.{OwesAll, pays}
-use Rattle.lone_mutator.proofs.Stages.Copies.Going.{CopyGoes, CopyIsAlone, copy_goes, pays_due}
-use Rattle.lone_mutator.proofs.Stages.Copies.Reading.{IsFirstWord, reads_first}
-use Rattle.lone_mutator.proofs.Epochs.Pages.{untraced_behind}
+use Rattle.lone_mutator.proofs.Stages.Copies.CopyCosts.{CopyGoes, CopyIsAlone, copy_goes, pays_due}
+use Rattle.lone_mutator.proofs.Stages.Copies.CopyReads.{IsFirstWord, reads_first}
+use Rattle.lone_mutator.proofs.Epochs.EpochPages.{untraced_behind}
 
 module _ (c : Configuration) (p : Plain) (s : Stands c p) (y : Held) (w : ForwardingRegister) (a : IsAlone c (at_stage y (Forwards w))) where
   abbrev x : Held

@@ -15,7 +15,7 @@ use Rattle.page_scan.specs.Taken as scan_taken
 use Rattle.heap_state.specs.Configuration.{Configuration, Stands, table, era, memory, team}
 use Rattle.heap_state.specs.Memory.Table.{Table, table_of}
 use Rattle.heap_state.specs.Saving.Words.{Saves}
-use Rattle.heap_state.specs.Worker.{Worker, Quest, Scanned}
+use Rattle.heap_state.specs.Known.{Known, Quest, Scanned}
 use Rattle.gc_worker.specs.declared.stage.back.Back.{Back}
 use Rattle.gc_worker.specs.declared.stage.Stage.TheVariants.{Evacuates}
 use Rattle.gc_worker.specs.Workers.Fits.{HasAsked}
@@ -24,12 +24,12 @@ use Rattle.gc_worker.specs.Workers.Knows.{copy_at, cursor_asked, quest_for, scan
 use Rattle.gc_worker.specs.Steps.Turned.{turned_copy}
 use Rattle.lone_mutator.specs.Law.{Lowers, IsAlone, StepsLower, saves}
 use Rattle.lone_mutator.specs.Potential.{back_left, size_in}
-use Rattle.lone_mutator.proofs.Stages.Gate.Counts.{knowing, present}
+use Rattle.lone_mutator.proofs.Stages.Gate.LoneGateCounts.{knowing, present}
 use Rattle.lone_mutator.proofs.Steps.GoingBack.{runs}
 use Rattle.lone_mutator.proofs.Steps.Owed.{OwesAll, pays}
-use Rattle.lone_mutator.proofs.Stages.Copies.Going.{CopyGoes, CopyIsAlone, copy_goes}
-use Rattle.lone_mutator.proofs.Stages.Copies.Reading.{IsFirstWord, reads_first}
-use Rattle.lone_mutator.proofs.Epochs.Pages.{untraced_scanning}
+use Rattle.lone_mutator.proofs.Stages.Copies.CopyCosts.{CopyGoes, CopyIsAlone, copy_goes}
+use Rattle.lone_mutator.proofs.Stages.Copies.CopyReads.{IsFirstWord, reads_first}
+use Rattle.lone_mutator.proofs.Epochs.EpochPages.{untraced_scanning}
 
 -- a scan that is answered has as much left as one that asks
 answered-left : (z : Scanning) (stage : ScanStage) (v : Evacuation) (to : ℕ) → HasAsked v stage
@@ -63,7 +63,7 @@ module _ (c : Configuration) (p : Plain) (s : Stands c p) (y : Held) (v : Evacua
         pages = ap (λ l. l.pages) own.layout ∙ a.is.fits.pages;
         own = own.worker ∙ a.is.fits.number;
         now = own.of_epoch ∙ present c p s x a (runs back a.remembers.stands.1);
-        untraced = untraced_scanning (era c) (memory c) (team c) s.ghost s.invariant a.one (scan_of z z.stage) (ap (λ (w : Worker). w.scan) a.is.as_known);
+        untraced = untraced_scanning (era c) (memory c) (team c) s.ghost s.invariant a.one (scan_of z z.stage) (ap (λ (w : Known). w.scan) a.is.as_known);
         meets = meets;
         stands = a.remembers.stands.0;
         quiet = a.remembers.quiet;

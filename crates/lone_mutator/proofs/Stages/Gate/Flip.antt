@@ -22,20 +22,20 @@ use Rattle.heap_state.specs.Memory.Entries.{AreaIs, GateIs, SizeIs, WeakIs}
 use Rattle.heap_state.specs.Memory.Table.{Table}
 use Rattle.heap_state.specs.Functions.{put}
 use Rattle.heap_state.specs.Invariant.Parts.Knowledge.{Resets}
-use Rattle.heap_state.specs.Worker.{Reset}
+use Rattle.heap_state.specs.Known.{Reset}
 use Rattle.heap_state.proofs.Puts.{put_other}
 use Rattle.gc_worker.specs.declared.stage.Stage.TheVariants.{Flips}
 use Rattle.gc_worker.specs.Laws.Growth.{Grows}
 use Rattle.gc_worker.specs.Workers.Held.{Held, at_stage, has_seen_flip}
 use Rattle.gc_worker.specs.Steps.Turned.{told_flip, turned, turned_flip}
 use Rattle.gc_worker.proofs.Words.Areas.{area_says, is_space}
-use Rattle.gc_worker.proofs.Words.Sizes.{grown_within, next_grows}
+use Rattle.gc_worker.proofs.Words.GrownSizes.{grown_within, next_grows}
 use Rattle.gc_worker.proofs.Stages.Flip.Flipping.{unmoved}
-use Rattle.gc_worker.proofs.Stages.Gate.Words.{gate_now, gate_says}
+use Rattle.gc_worker.proofs.Stages.Gate.GateWords.{gate_now, gate_says}
 use Rattle.lone_mutator.specs.Bound.{growths, longest_tracing}
 use Rattle.lone_mutator.specs.Law.{IsAlone, Lowers, LowersWhereTold, StepsLower, saves}
 use Rattle.lone_mutator.specs.Potential.{due_in, flips_left, growing_left, later_left, size_in}
-use Rattle.lone_mutator.proofs.Stages.Gate.Counts.{knowing, none_behind, running_is}
+use Rattle.lone_mutator.proofs.Stages.Gate.LoneGateCounts.{knowing, none_behind, running_is}
 use Rattle.lone_mutator.proofs.Steps.Owed.{exchanges, loads, stores, wants}
 use Rattle.lone_mutator.proofs.Epochs.Cost.{due_le_longest}
 use Rattle.lone_mutator.proofs.Epochs.Growths.{flips_cost-le, growths-le, growths-once}

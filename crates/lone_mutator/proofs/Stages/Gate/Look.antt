@@ -25,13 +25,13 @@ use Rattle.gc_worker.specs.Plain.Seen.{seen}
 use Rattle.gc_worker.specs.declared.calls.did.Did.TheVariants.{Done}
 use Rattle.gc_worker.specs.Steps.Stepped.{awaits_at}
 use Rattle.gc_worker.specs.Steps.Turned.{Answers, Silent, acted, acts, begins, looked_by, passes, serves_snap, started, told_acted, told_action, told_gate, told_start, went_on}
-use Rattle.gc_worker.proofs.Stages.Gate.Words.{gate_says}
+use Rattle.gc_worker.proofs.Stages.Gate.GateWords.{gate_says}
 use Rattle.lone_mutator.specs.Bound.{flip_cost, most_flips}
 use Rattle.lone_mutator.specs.Law.{IsAlone, LowersWhereTold, StepsLower, saves}
 use Rattle.lone_mutator.specs.Potential.{flip_left, flips_left, size_in}
-use Rattle.lone_mutator.proofs.Stages.Gate.Counts.{no_request}
+use Rattle.lone_mutator.proofs.Stages.Gate.LoneGateCounts.{no_request}
 use Rattle.lone_mutator.proofs.Epochs.Growths.{flips_cost-le, flips_cost-most, growths-few}
-use Rattle.lone_mutator.proofs.Steps.GoingOn.{goes_back, goes_placing}
+use Rattle.lone_mutator.proofs.Steps.ResumedCosts.{goes_back, goes_placing}
 use Rattle.lone_mutator.proofs.Steps.Owed.{loads, wants}
 
 flips_left-le : (n size : ℕ) (x : Held) → flips_left n size x ≤ most_flips

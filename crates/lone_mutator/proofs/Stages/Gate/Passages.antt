@@ -29,14 +29,14 @@ use Rattle.gc_worker.specs.Workers.Fits.{FitsTaskAfter, IsMaking, MayRequest}
 use Rattle.gc_worker.specs.Workers.Held.{Held, at_stage}
 use Rattle.gc_worker.specs.Steps.Turned.{Pointed, after_request, epoch_in_gate, epoch_said, first_pointer, forwards_it, goes_on, in_epoch, passes, runs_on, turned, turned_gate}
 use Rattle.gc_worker.proofs.Stages.Gate.Passing.{resumes_so}
-use Rattle.gc_worker.proofs.Stages.Gate.Words.{gate_now, gate_says}
+use Rattle.gc_worker.proofs.Stages.Gate.GateWords.{gate_now, gate_says}
 use Rattle.gate_core.specs.Recall as recall
 use Rattle.lone_mutator.specs.Bound.{flips_cost, growths, longest_placing, recall_cost, whole_cost}
 use Rattle.lone_mutator.specs.Lone.{GoesOnLooking, GoesOnPlacing}
 use Rattle.lone_mutator.specs.Potential.{after_left, due_in, flip_left, flips_left, growing_left, potential_in, size_in}
 use Rattle.lone_mutator.specs.Law.{IsAlone, Lowers, StepsLower, saves}
-use Rattle.lone_mutator.proofs.Stages.Gate.Counts.{and_false, is_clear_so, knowing, no_request, none_behind, none_live}
-use Rattle.lone_mutator.proofs.Steps.GoingOn.{GoesAt, goes_placing}
+use Rattle.lone_mutator.proofs.Stages.Gate.LoneGateCounts.{and_false, is_clear_so, knowing, no_request, none_behind, none_live}
+use Rattle.lone_mutator.proofs.Steps.ResumedCosts.{GoesAt, goes_placing}
 use Rattle.lone_mutator.proofs.Steps.Owed.{exchanges, loads, wants}
 
 same_so : (own epoch : ℕ) → own ≡ epoch → nat_lt own epoch ≡ false

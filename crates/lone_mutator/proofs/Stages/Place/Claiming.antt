@@ -30,15 +30,15 @@ use Rattle.gc_worker.specs.declared.task.Task.{Task}
 use Rattle.gc_worker.specs.Workers.Held.{Held, at_stage, fields_for, target_for}
 use Rattle.gc_worker.specs.Steps.Turned.{Silent, asks_flip, checkpoints, end_by_shortage, ended, full_by, is_full, passes, told_end, told_full, told_place, turned_place}
 use Rattle.gc_worker.proofs.Words.Areas.{area_says, is_space}
-use Rattle.gc_worker.proofs.Stages.Rounds.Words.{traced_now, traced_word}
+use Rattle.gc_worker.proofs.Stages.Rounds.RoundWords.{traced_now, traced_word}
 use Rattle.lone_mutator.specs.Bound.{flip_cost, flips_cost}
 use Rattle.lone_mutator.specs.Law.{IsAlone, Lowers, LowersWhereTold, StepsLower, saves}
 use Rattle.lone_mutator.specs.Lone.{PlaceStands}
 use Rattle.lone_mutator.specs.Potential.{due_in, flips_left, size_in}
 use Rattle.lone_mutator.specs.Tracing.{tracing_due}
-use Rattle.lone_mutator.proofs.Stages.Gate.Counts.{knowing, present}
+use Rattle.lone_mutator.proofs.Stages.Gate.LoneGateCounts.{knowing, present}
 use Rattle.lone_mutator.proofs.Steps.Owed.{exchanges, loads, wants}
-use Rattle.lone_mutator.proofs.Steps.Sizes.{size_in-within}
+use Rattle.lone_mutator.proofs.Steps.EpochSize.{size_in-within}
 use Rattle.lone_mutator.proofs.Epochs.Cost.{due_traced, due_still, due_untraced}
 use Rattle.lone_mutator.proofs.Epochs.Growths.{flips_cost-less, growths-below}
 

@@ -40,12 +40,12 @@ use Rattle.lone_mutator.specs.Bound.{guard_cost}
 use Rattle.lone_mutator.specs.Law.{IsAlone, Lowers, LowersWhereTold, Pays, StepsLower, said, saves}
 use Rattle.lone_mutator.specs.Lone.{NobodyElseAnnounces, PlaceStands}
 use Rattle.lone_mutator.specs.Potential.{due_in, place_left, potential_in, size_in}
-use Rattle.lone_mutator.proofs.Stages.Gate.Counts.{present}
+use Rattle.lone_mutator.proofs.Stages.Gate.LoneGateCounts.{present}
 use Rattle.lone_mutator.proofs.Stages.Place.Claiming.{at, placing}
-use Rattle.lone_mutator.proofs.Steps.GoingOn.{goes_writing}
+use Rattle.lone_mutator.proofs.Steps.ResumedCosts.{goes_writing}
 use Rattle.lone_mutator.proofs.Steps.Owed.{stores, stores_any, wants}
 use Rattle.lone_mutator.proofs.Epochs.Cost.{due_opened}
-use Rattle.lone_mutator.proofs.Epochs.Saves.{saving_in-kept}
+use Rattle.lone_mutator.proofs.Epochs.CheckpointDebt.{saving_in-kept}
 
 module _ (c : Configuration) (p : Plain) (s : Stands c p) (y : Held) (run : Run) (header : Header) where
   abbrev on : PlaceStage → Held

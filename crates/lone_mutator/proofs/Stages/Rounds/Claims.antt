@@ -13,7 +13,7 @@ use Rattle.fault_duty.specs.declared.duty_stage.DutyStage.TheVariants.{Claims}
 use Rattle.fault_duty.specs.Duty
 use Rattle.fault_duty.specs.Duty.{Round, at_stage}
 use Rattle.heap_state.specs.Memory.Era.{Era, Memory}
-use Rattle.lone_mutator.proofs.Stages.Rounds.Rounds.{RoundIsAlone, RoundGoes}
+use Rattle.lone_mutator.proofs.Stages.Rounds.LoneRounds.{RoundIsAlone, RoundGoes}
 
 module _ (E : Era) (m : Memory) (d : Round) (a : RoundIsAlone E m d) (q : Claiming) (same : q.found ≡ m.page q.page) (own : q.epoch ≡ d.epoch) where
   -- the claim at a stage

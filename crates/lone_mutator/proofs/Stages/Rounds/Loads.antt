@@ -27,19 +27,19 @@ use Rattle.gc_worker.specs.declared.stage.back.Back.{Back}
 use Rattle.gc_worker.specs.Workers.Held.{Held}
 use Rattle.gc_worker.specs.Workers.Knows.{knows}
 use Rattle.gc_worker.proofs.Words.Areas.{area_now, area_says, is_space}
-use Rattle.gc_worker.proofs.Stages.Gate.Words.{gate_now, gate_says}
-use Rattle.fault_duty.proofs.Lowering.{to_start-le}
+use Rattle.gc_worker.proofs.Stages.Gate.GateWords.{gate_now, gate_says}
+use Rattle.fault_duty.proofs.RoundMeasure.{to_start-le}
 use Rattle.gc_worker.proofs.Stages.Rounds.Choosing.{front_for}
-use Rattle.gc_worker.proofs.Stages.Rounds.Going.{round, at, same_pages}
-use Rattle.gc_worker.proofs.Stages.Rounds.Words.{traced_word, page_now, page_says, announced_now, announced_word}
+use Rattle.gc_worker.proofs.Stages.Rounds.NextRoundStage.{round, at, same_pages}
+use Rattle.gc_worker.proofs.Stages.Rounds.RoundWords.{traced_word, page_now, page_says, announced_now, announced_word}
 use Rattle.lone_mutator.specs.Law.{IsAlone, StepsLower}
 use Rattle.lone_mutator.specs.Rounds.{EndsTraced}
-use Rattle.lone_mutator.proofs.Stages.Rounds.Rounds.{RoundGoes}
+use Rattle.lone_mutator.proofs.Stages.Rounds.LoneRounds.{RoundGoes}
 use Rattle.lone_mutator.proofs.Stages.Rounds.Claims.{at_place, at_gate}
-use Rattle.lone_mutator.proofs.Stages.Rounds.Ends.{at_gate_again, at_area, at_page_again, at_filling, at_area_again}
-use Rattle.lone_mutator.proofs.Stages.Rounds.Going.{alone, loads_it, worker_epoch, worker_now}
-use Rattle.lone_mutator.proofs.Stages.Rounds.Looks as looks
-use Rattle.lone_mutator.proofs.Stages.Rounds.Traced.{ends_traced}
+use Rattle.lone_mutator.proofs.Stages.Rounds.EndLooks.{at_gate_again, at_area, at_page_again, at_filling, at_area_again}
+use Rattle.lone_mutator.proofs.Stages.Rounds.NextRoundCost.{alone, loads_it, worker_epoch, worker_now}
+use Rattle.lone_mutator.proofs.Stages.Rounds.RoundLooks as looks
+use Rattle.lone_mutator.proofs.Stages.Rounds.TracedRoundCosts.{ends_traced}
 
 module _ (c : Configuration) (p : Plain) (s : Stands c p) (y : Held) (d : Round) (back : Back) where
   abbrev round_at : DutyStage → Round

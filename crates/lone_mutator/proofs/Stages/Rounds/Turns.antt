@@ -20,7 +20,7 @@ use Rattle.fault_duty.specs.Duty.{Round, at_stage, walk_went}
 use Rattle.heap_state.specs.Memory.Era.{Era, Memory}
 use Rattle.lone_mutator.specs.Potential.{walk_ahead_at}
 use Rattle.lone_mutator.specs.Rounds.{TurnStands}
-use Rattle.lone_mutator.proofs.Stages.Rounds.Rounds.{RoundGoes}
+use Rattle.lone_mutator.proofs.Stages.Rounds.LoneRounds.{RoundGoes}
 
 -- ---- who has the turn
 

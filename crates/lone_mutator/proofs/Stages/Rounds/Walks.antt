@@ -12,7 +12,7 @@ use Rattle.cell_walk.specs.declared.walk_stage.WalkStage.TheVariants.{LoadsTurn,
 use Rattle.cell_walk.specs.Left.{advances}
 use Rattle.cell_walk.specs.Theorems.{HasTurn}
 use Rattle.cell_walk.specs.Walking.{Walking, most_cells}
-use Rattle.cell_walk.proofs.RowsFit.{rows_fit}
+use Rattle.cell_walk.proofs.WalkRows.{rows_fit}
 use Rattle.fault_duty.specs.declared.duty_stage.DutyStage.{DutyStage}
 use Rattle.fault_duty.specs.declared.duty_stage.DutyStage.TheVariants.{Walks}
 use Rattle.fault_duty.specs.Duty as duty
@@ -22,18 +22,18 @@ use Rattle.heap_state.specs.Cells.{HasWalker}
 use Rattle.heap_state.specs.Configuration.{Configuration, Stands, table, era, memory, team}
 use Rattle.heap_state.specs.Memory.Entries.{Entry, WeakTurnIs, WordIs, with_entry}
 use Rattle.heap_state.specs.Memory.Table.{Table, word_in}
-use Rattle.heap_state.specs.Worker.{Worker}
+use Rattle.heap_state.specs.Known.{Known}
 use Rattle.gc_worker.specs.declared.stage.back.Back.{Back}
 use Rattle.gc_worker.specs.Workers.Held.{Held}
-use Rattle.gc_worker.proofs.Stages.Rounds.Going.{round, at, same_pages}
+use Rattle.gc_worker.proofs.Stages.Rounds.NextRoundStage.{round, at, same_pages}
 use Rattle.gc_worker.proofs.Stages.Rounds.Walking.{turn_word}
 use Rattle.lone_mutator.specs.Bound.{walk_cost}
 use Rattle.lone_mutator.specs.Law.{Lowers, IsAlone, StepsLower, saves}
 use Rattle.lone_mutator.specs.Potential.{again_left, due_in, left_in, round_left, size_in}
 use Rattle.lone_mutator.specs.Tracing.{tracing_left}
 use Rattle.lone_mutator.proofs.Epochs.Cost.{due_untraced, left_turned}
-use Rattle.lone_mutator.proofs.Stages.Rounds.Going.{era_epoch, loads_it}
-use Rattle.lone_mutator.proofs.Stages.Rounds.Rounds.{RoundGoes, left_again}
+use Rattle.lone_mutator.proofs.Stages.Rounds.NextRoundCost.{era_epoch, loads_it}
+use Rattle.lone_mutator.proofs.Stages.Rounds.LoneRounds.{RoundGoes, left_again}
 use Rattle.lone_mutator.proofs.Stages.Rounds.Turns.{at_turn, goes_on_walking}
 use Rattle.lone_mutator.proofs.Steps.GoingBack.{same_back}
 use Rattle.lone_mutator.proofs.Steps.Owed.{wants, exchanges, stores}
@@ -80,7 +80,7 @@ module _ (c : Configuration) (p : Plain) (s : Stands c p) (y : Held) (d : Round)
         let member = other.member in
         let first : other.worker ≡ 0 = omega (arith, one, member) in
         let walks : is_some ((team c).worker 0).pass ≡ true = ap (λ (k : ℕ). is_some ((team c).worker k).pass) (sym first) ∙ other.walks in
-        let rests = ap (λ (u : Worker). is_some u.pass) a.is.as_known in
+        let rests = ap (λ (u : Known). is_some u.pass) a.is.as_known in
         let both = sym walks ∙ rests in
         cc
 

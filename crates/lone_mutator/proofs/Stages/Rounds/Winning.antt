@@ -22,7 +22,7 @@ use Rattle.heap_state.specs.Configuration.{Configuration, Stands, table, era, me
 use Rattle.heap_state.specs.Memory.Entries.{Entry, PageIs, with_entry}
 use Rattle.heap_state.specs.Memory.Table.{Table}
 use Rattle.heap_state.specs.Invariant.Parts.Scanning.{Claims}
-use Rattle.heap_state.specs.Worker.{Claim, Worker}
+use Rattle.heap_state.specs.Known.{Claim, Known}
 use Rattle.gc_worker.specs.declared.stage.back.Back.{Back}
 use Rattle.gc_worker.specs.declared.stage.Stage.TheVariants.{Scans}
 use Rattle.gc_worker.specs.Workers.Held.{Held}
@@ -30,14 +30,14 @@ use Rattle.gc_worker.specs.Workers.Knows.{claim_with, looked_all}
 use Rattle.gc_worker.specs.Steps.Turned.{served_by, turned}
 use Rattle.gc_worker.proofs.Plain.Quiet.{rounds_are_quiet}
 use Rattle.gc_worker.proofs.Words.Eras.{board_is, start_is, span_within}
-use Rattle.gc_worker.proofs.Stages.Rounds.Going.{round, at, same_pages}
-use Rattle.gc_worker.proofs.Stages.Rounds.Words.{page_now, page_says}
+use Rattle.gc_worker.proofs.Stages.Rounds.NextRoundStage.{round, at, same_pages}
+use Rattle.gc_worker.proofs.Stages.Rounds.RoundWords.{page_now, page_says}
 use Rattle.lone_mutator.specs.Law.{Lowers, IsAlone, StepsLower, saves}
 use Rattle.lone_mutator.specs.Potential.{again_left, due_in, left_in, round_left, size_in}
 use Rattle.lone_mutator.specs.Bound.{page_cost}
 use Rattle.lone_mutator.proofs.Steps.GoingBack.{same_back}
-use Rattle.lone_mutator.proofs.Stages.Rounds.Rounds.{left_again}
-use Rattle.lone_mutator.proofs.Stages.Rounds.Going.{of_epoch, era_epoch, worker_now}
+use Rattle.lone_mutator.proofs.Stages.Rounds.LoneRounds.{left_again}
+use Rattle.lone_mutator.proofs.Stages.Rounds.NextRoundCost.{of_epoch, era_epoch, worker_now}
 use Rattle.lone_mutator.proofs.Steps.Owed.{wants, exchanges, owes_quietly}
 use Rattle.lone_mutator.proofs.Epochs.Cost.{IsToBeTraced, due_untraced, left_claimed}
 
@@ -94,7 +94,7 @@ module _ (c : Configuration) (p : Plain) (s : Stands c p) (y : Held) (d : Round)
     claim = claim_with q (looked_all q) true
 
     knows_claim : Claims (era c) (memory c).front (memory c).gate.behind s.ghost.size s.ghost.writer (memory c).page ((team c).worker 0).epoch claim
-    knows_claim = (s.invariant.workers 0 a.is.below).pages.claim claim (ap (λ (w : Worker). w.claim) a.is.as_known)
+    knows_claim = (s.invariant.workers 0 a.is.below).pages.claim claim (ap (λ (w : Known). w.claim) a.is.as_known)
 
     -- a page of the space up to FRONT is one of those to be traced
     in_space : (era c).start ≤ first_word q.page → first_word q.page < (memory c).front → IsToBeTraced c.pages (era c).epoch q.page

@@ -1,4 +1,4 @@
-use Rattle.page_saves.proofs.GoingOn.{guards_go_on}
+use Rattle.page_saves.proofs.SaveGoesOn.{guards_go_on}
 use Rattle.page_saves.proofs.laws.looks_go_on.Goals as goal
 
 pub returns : goal.returns

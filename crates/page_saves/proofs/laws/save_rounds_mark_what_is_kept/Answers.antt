@@ -1,5 +1,5 @@
 use Rattle.page_saves.proofs.Finding.{rounds_mark_what_is_kept}
-use Rattle.page_saves.proofs.Reading.{rounds_read_first}
+use Rattle.page_saves.proofs.SaveRoundReads.{rounds_read_first}
 use Rattle.page_saves.proofs.laws.save_rounds_mark_what_is_kept.Goals as goal
 
 pub returns-clause-reads_first : goal.returns-clause-reads_first

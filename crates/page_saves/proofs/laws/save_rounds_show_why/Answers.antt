@@ -1,6 +1,6 @@
 use Rattle.page_saves.proofs.Hindrances.{hindrances_are_found}
-use Rattle.page_saves.proofs.Reading.{none_runs_is_shown}
-use Rattle.page_saves.proofs.Rounds.{shows_nothing, saves_page, marks_done}
+use Rattle.page_saves.proofs.SaveRoundReads.{none_runs_is_shown}
+use Rattle.page_saves.proofs.SaveRoundEffects.{shows_nothing, saves_page, marks_done}
 use Rattle.page_saves.proofs.laws.save_rounds_show_why.Goals as goal
 
 pub returns-clause-none_runs : goal.returns-clause-none_runs

@@ -1,5 +1,5 @@
 use Rattle.page_saves.proofs.Ordering.{won_saves_copy, ended_saves_copied}
-use Rattle.page_saves.proofs.Saving.{begins, takes, ends}
+use Rattle.page_saves.proofs.SaveEffects.{begins, takes, ends}
 use Rattle.page_saves.proofs.laws.saves_copy_pages.Goals as goal
 
 pub returns-clause-begins : goal.returns-clause-begins

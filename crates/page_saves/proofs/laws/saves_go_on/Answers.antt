@@ -1,4 +1,4 @@
-use Rattle.page_saves.proofs.GoingOn.{saves_go_on}
+use Rattle.page_saves.proofs.SaveGoesOn.{saves_go_on}
 use Rattle.page_saves.proofs.laws.saves_go_on.Goals as goal
 
 pub returns : goal.returns

@@ -1,5 +1,5 @@
 use Rattle.page_scan.proofs.Boards.{boards}
-use Rattle.page_scan.proofs.Pages.{pages}
+use Rattle.page_scan.proofs.ScannedPages.{pages}
 use Rattle.page_scan.proofs.WorkedPacked.{worked_are_packed}
 use Rattle.page_scan.proofs.laws.pages_are_scanned.Goals as goal
 

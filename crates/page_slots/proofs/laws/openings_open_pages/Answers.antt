@@ -1,4 +1,4 @@
-use Rattle.page_slots.proofs.Opening.{opens}
+use Rattle.page_slots.proofs.OpeningEffects.{opens}
 use Rattle.page_slots.proofs.laws.openings_open_pages.Goals as goal
 
 pub returns : goal.returns

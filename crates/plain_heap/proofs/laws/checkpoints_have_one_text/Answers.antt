@@ -1,4 +1,4 @@
-use Rattle.plain_heap.proofs.Checkpoints.{one_checkpoint, one_text}
+use Rattle.plain_heap.proofs.OneCheckpoint.{one_checkpoint, one_text}
 use Rattle.plain_heap.proofs.laws.checkpoints_have_one_text.Goals as goal
 
 pub returns-clause-checkpoint : goal.returns-clause-checkpoint

@@ -1,4 +1,4 @@
-use Rattle.plain_heap.proofs.Checkpoints.{same_is_reached, same_is_printed}
+use Rattle.plain_heap.proofs.OneCheckpoint.{same_is_reached, same_is_printed}
 use Rattle.plain_heap.proofs.laws.only_reached_records_are_printed.Goals as goal
 
 pub returns-clause-reached : goal.returns-clause-reached

@@ -1,4 +1,4 @@
-use Rattle.plain_heap.proofs.Calls.Checkpoints.{only_snap_begins}
+use Rattle.plain_heap.proofs.Calls.BegunCheckpoints.{only_snap_begins}
 use Rattle.plain_heap.proofs.laws.only_snap_begins_checkpoints.Goals as goal
 
 pub returns : goal.returns

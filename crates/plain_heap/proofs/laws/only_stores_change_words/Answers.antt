@@ -1,4 +1,4 @@
-use Rattle.plain_heap.proofs.Calls.Records.{exchanges_find_the_word, loads_take_the_word, only_stores_change_words}
+use Rattle.plain_heap.proofs.Calls.RecordsAfterCalls.{exchanges_find_the_word, loads_take_the_word, only_stores_change_words}
 use Rattle.plain_heap.proofs.laws.only_stores_change_words.Goals as goal
 
 pub returns-clause-stores : goal.returns-clause-stores

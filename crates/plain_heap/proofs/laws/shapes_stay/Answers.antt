@@ -1,5 +1,5 @@
-use Rattle.plain_heap.proofs.Calls.Cells.{cells_stay}
-use Rattle.plain_heap.proofs.Calls.Records.{shapes_stay}
+use Rattle.plain_heap.proofs.Calls.MadeCells.{cells_stay}
+use Rattle.plain_heap.proofs.Calls.RecordsAfterCalls.{shapes_stay}
 use Rattle.plain_heap.proofs.laws.shapes_stay.Goals as goal
 
 pub returns-clause-shapes : goal.returns-clause-shapes

@@ -1,4 +1,4 @@
-use Rattle.plain_heap.proofs.Orders.Cells.{tracing_needs_cells}
+use Rattle.plain_heap.proofs.Orders.NoCells.{tracing_needs_cells}
 use Rattle.plain_heap.proofs.Orders.Tracing.{tracing_is_done_once, tracing_needs_flip}
 use Rattle.plain_heap.proofs.Reaching.Emptying.{emptied_of_lost_cells}
 use Rattle.plain_heap.proofs.laws.tracing_empties_cells.Goals as goal

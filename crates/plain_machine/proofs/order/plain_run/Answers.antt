@@ -2,7 +2,7 @@ use Rattle.std.proofs.Common.{take, sym, subst, ◌∙◌, arith}
 use Rattle.plain_heap.specs.declared.mark.Mark.TheVariants.{Step}
 use Rattle.plain_heap.specs.Order.{Story, first_story, opening, story}
 use Rattle.plain_machine.specs.Search.{Keeps}
-use Rattle.plain_heap.proofs.Orders.Cells.{first-none, opening-none, story_after-none}
+use Rattle.plain_heap.proofs.Orders.NoCells.{first-none, opening-none, story_after-none}
 use Rattle.plain_heap.proofs.Orders.Stories.{story_after-more}
 use Rattle.plain_heap.proofs.Reaching.Emptying.{none-to_empty}
 use Rattle.plain_heap.proofs.States.Reached.{plain-consistent}

@@ -2,7 +2,7 @@ use Rattle.std.proofs.Common.{◌≤◌, length, sym, rules, arith}
 use Rattle.std.proofs.lemmas.Grind.{common_steps}
 use Rattle.std.proofs.lemmas.Option.{slice_get_past}
 use Rattle.std.proofs.lemmas.List.{get_or_read}
-use Rattle.plain_heap.proofs.States.Steps.{stepped-past, stepped-none, stepped-ended, stepped-executed, stepped-stopped, written_back, step-takes_memory}
+use Rattle.plain_heap.proofs.States.MutatorSteps.{stepped-past, stepped-none, stepped-ended, stepped-executed, stepped-stopped, written_back, step-takes_memory}
 use Rattle.plain_machine.proofs.state.plain_step.Goals.{in-Ok, in-Err-Ended, in-Err-OutOfMemory}
 use Rattle.plain_machine.proofs.state.plain_step.Goals as goal
 

@@ -1,7 +1,7 @@
 use Rattle.std.proofs.Common.{◌≡◌, ◌+◌, false, length, replicate, arith, rules}
 use Rattle.std.proofs.lemmas.List.{length-replicate}
-use Rattle.plain_state.proofs.Lists.{slice_get-of_replicate}
-use Rattle.program_text.proofs.Listings.Targets.{target_kept, marked_more}
+use Rattle.plain_state.proofs.Elements.{slice_get-of_replicate}
+use Rattle.program_text.proofs.Listings.JumpTargets.{target_kept, marked_more}
 use Rattle.program_text.proofs.listing.targets.Goals as goal
 
 pub loop-instr-init : goal.loop-instr-init

@@ -2,7 +2,7 @@ use Rattle.std.proofs.Common.{◌∙◌, ap, sym}
 use Rattle.heap_words.specs.Word.{tag_of}
 use Rattle.heap_words.proofs.Tags.{tag_of-header_word}
 use Rattle.record_layout.proofs.Rereading.{header_in-decode, header_in-none}
-use Rattle.record_layout.proofs.Parts.{header_word-parts}
+use Rattle.record_layout.proofs.WordParts.{header_word-parts}
 use Rattle.record_layout.proofs.reading.read.Goals as goal
 
 pub returns-in-Header-clause-one_spelling : goal.returns-in-Header-clause-one_spelling

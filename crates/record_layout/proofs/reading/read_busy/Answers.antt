@@ -1,6 +1,6 @@
 use Rattle.std.proofs.Common.{◌/◌, ◌^◌, ◌∙◌, sym, refl, arith}
 use Rattle.record_layout.proofs.Rereading.{busy_in-decode, busy_in-none}
-use Rattle.record_layout.proofs.Parts.{narrowed, too_wide, form_bits, form_from_bits, busy_word-parts, busy_word-form, busy_word-rest}
+use Rattle.record_layout.proofs.WordParts.{narrowed, too_wide, form_bits, form_from_bits, busy_word-parts, busy_word-form, busy_word-rest}
 use Rattle.record_layout.proofs.reading.read_busy.Goals as goal
 
 pub returns-then-w-ne-BUSY-clause-decoded : goal.returns-then-w-ne-BUSY-clause-decoded

@@ -2,7 +2,7 @@ use Rattle.std.proofs.Common.{◌∙◌, sym, subst, refl, arith}
 use Rattle.std.specs.Prelude.{IsSome}
 use Rattle.heap_words.proofs.Forwards.{copy_in-short, copy_in-some}
 use Rattle.record_layout.proofs.Rereading.{forward_in-decode, forward_in-no_copy}
-use Rattle.record_layout.proofs.Parts.{form_bits, form_from_bits, forward_word-parts}
+use Rattle.record_layout.proofs.WordParts.{form_bits, form_from_bits, forward_word-parts}
 use Rattle.record_layout.proofs.reading.read_forward.Goals as goal
 
 pub returns-in_err-addr-clause-decoded : goal.returns-in_err-addr-clause-decoded

@@ -1,4 +1,4 @@
-use Rattle.worker_progress.proofs.Whole.{machines_go_on}
+use Rattle.worker_progress.proofs.WholeProgress.{machines_go_on}
 use Rattle.worker_progress.proofs.laws.machines_go_on.Goals as goal
 
 pub returns : goal.returns

@@ -1,4 +1,4 @@
-use Rattle.ael_jobs.proofs.Parsed.{never_another}
+use Rattle.ael_jobs.proofs.Inputs.Parsed.{never_another}
 use Rattle.ael_jobs.proofs.arguments.words.job_named.Goals as goal
 
 pub returns-in-asm-clause-value : goal.returns-in-asm-clause-value

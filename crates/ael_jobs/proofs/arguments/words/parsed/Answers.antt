@@ -4,7 +4,7 @@ use Rattle.std.proofs.lemmas.Result.{IfOk-weaker}
 use Rattle.clap.specs.Simple.{App, subcommand_of, subcommand_rows_of}
 use Rattle.clap.specs.Takes.{takes}
 use Rattle.simple_commands.specs.declared.parsing.WordsError.TheVariants.{Refused}
-use Rattle.ael_jobs.proofs.Parsed.{exact, known}
+use Rattle.ael_jobs.proofs.Inputs.Parsed.{exact, known}
 use Rattle.ael_jobs.proofs.arguments.words.parsed.Goals as goal
 
 pub parse-requires : goal.parse-requires

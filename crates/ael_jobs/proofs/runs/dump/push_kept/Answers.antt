@@ -1,5 +1,5 @@
 use Rattle.dump_text.specs.Text.{AreKept, kept_line}
-use Rattle.ael_jobs.proofs.Seeing.{so_more, told_more}
+use Rattle.ael_jobs.proofs.Printed.Seeing.{so_more, told_more}
 use Rattle.ael_jobs.proofs.runs.dump.push_kept.Goals as goal
 
 pub loop-w-preserved : goal.loop-w-preserved

@@ -1,6 +1,6 @@
 use Rattle.std.proofs.Common.{rules}
 use Rattle.dump_text.specs.Text.{AreRegisters, words_line}
-use Rattle.ael_jobs.proofs.Seeing.{so_more, told_more}
+use Rattle.ael_jobs.proofs.Printed.Seeing.{so_more, told_more}
 use Rattle.ael_jobs.proofs.runs.dump.push_registers.Goals as goal
 
 pub loop-m-preserved : goal.loop-m-preserved

@@ -2,7 +2,7 @@ use Rattle.std.proofs.Common.{◌++◌}
 use Rattle.std.specs.List.{flat_map}
 use Rattle.std.specs.String.{string_bytes}
 use Rattle.dump_text.specs.Text.{AreRegisters, words_line}
-use Rattle.ael_jobs.proofs.Seeing.{IsSoBefore, TextsToldSoFar}
+use Rattle.ael_jobs.proofs.Printed.Seeing.{IsSoBefore, TextsToldSoFar}
 use Rattle.ael_jobs.proofs.runs.dump.push_registers.Given as goal
 
 abbrev pub invariant-loop-m : goal.invariant-loop-m

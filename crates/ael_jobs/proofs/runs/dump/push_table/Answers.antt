@@ -1,7 +1,7 @@
 use Rattle.std.proofs.Common.{◌++◌, codes, append_assoc}
 use lib.Utf8.{encode}
 use Rattle.dump_text.specs.Text.{IsWord, word_text}
-use Rattle.ael_jobs.proofs.Seeing.{so_more, told_more}
+use Rattle.ael_jobs.proofs.Printed.Seeing.{so_more, told_more}
 use Rattle.ael_jobs.proofs.runs.dump.push_table.Goals as goal
 
 pub loop-place-preserved : goal.loop-place-preserved

@@ -1,7 +1,7 @@
 use Rattle.std.proofs.Common.{◌++◌, codes}
 use Rattle.std.specs.String.{string_bytes}
 use Rattle.dump_text.specs.Text.{IsWord, table_lines, word_text}
-use Rattle.ael_jobs.proofs.Seeing.{IsSoBefore, TextsToldSoFar}
+use Rattle.ael_jobs.proofs.Printed.Seeing.{IsSoBefore, TextsToldSoFar}
 use Rattle.ael_jobs.proofs.runs.dump.push_table.Given as goal
 
 abbrev pub invariant-loop-place : goal.invariant-loop-place

@@ -1,5 +1,5 @@
 use Rattle.std.proofs.Common.{arith}
-use Rattle.ael_jobs.proofs.Seeing.{fit_words}
+use Rattle.ael_jobs.proofs.Printed.Seeing.{fit_words}
 use Rattle.ael_jobs.proofs.runs.dump.push_words.Goals as goal
 
 pub returns-clause-words : goal.returns-clause-words

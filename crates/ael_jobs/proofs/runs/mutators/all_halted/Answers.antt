@@ -1,5 +1,5 @@
 use Rattle.std.proofs.Common.{sym, ◌∙◌}
-use Rattle.ael_jobs.proofs.Seeing.{halts_more, halts_not}
+use Rattle.ael_jobs.proofs.Printed.Seeing.{halts_more, halts_not}
 use Rattle.ael_jobs.proofs.runs.mutators.all_halted.Goals as goal
 
 pub loop-m-preserved : goal.loop-m-preserved

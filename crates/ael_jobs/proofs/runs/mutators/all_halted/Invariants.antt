@@ -1,4 +1,4 @@
-use Rattle.ael_jobs.proofs.Seeing.{HaltsBelow}
+use Rattle.ael_jobs.proofs.Printed.Seeing.{HaltsBelow}
 use Rattle.ael_jobs.proofs.runs.mutators.all_halted.Given as goal
 
 abbrev pub invariant-loop-m : goal.invariant-loop-m

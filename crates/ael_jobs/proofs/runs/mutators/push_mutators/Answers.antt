@@ -1,5 +1,5 @@
 use Rattle.ael_jobs.specs.Runs.Run.{HasFitEnd}
-use Rattle.ael_jobs.proofs.Seeing.{seen_is, so_more, tells_more}
+use Rattle.ael_jobs.proofs.Printed.Seeing.{seen_is, so_more, tells_more}
 use Rattle.ael_jobs.proofs.runs.mutators.push_mutators.Goals as goal
 
 pub loop-m-preserved : goal.loop-m-preserved

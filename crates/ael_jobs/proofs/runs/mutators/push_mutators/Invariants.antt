@@ -2,7 +2,7 @@ use Rattle.std.proofs.Common.{◌++◌}
 use Rattle.std.specs.Prelude.{string_bytes}
 use Rattle.plain_heap.specs.Print.{lines_seen}
 use Rattle.ael_jobs.specs.Runs.Run.{HasFitEnd}
-use Rattle.ael_jobs.proofs.Seeing.{IsSoBefore, LinesToldSoFar}
+use Rattle.ael_jobs.proofs.Printed.Seeing.{IsSoBefore, LinesToldSoFar}
 use Rattle.ael_jobs.proofs.runs.mutators.push_mutators.Given as goal
 
 abbrev pub invariant-loop-m : goal.invariant-loop-m

@@ -1,5 +1,5 @@
 use Rattle.std.proofs.Common.{sym, ◌∙◌}
-use Rattle.ael_jobs.proofs.Seeing.{went_out, went_done, went_otherwise}
+use Rattle.ael_jobs.proofs.Printed.Seeing.{went_out, went_done, went_otherwise}
 use Rattle.ael_jobs.proofs.runs.mutators.verdict.Goals as goal
 
 pub returns-then-not-all_ended : goal.returns-then-not-all_ended

@@ -3,7 +3,7 @@ use Rattle.std.proofs.lemmas.Fn.{filter_same}
 use Rattle.plain_heap.specs.declared.mark.Mark.{Mark}
 use Rattle.plain_heap.specs.Order.{story}
 use Rattle.plain_heap.specs.Tracing.{has_weak, is_traced, untraced}
-use Rattle.plain_heap.proofs.Orders.Cells.{tracing_needs_cells}
+use Rattle.plain_heap.proofs.Orders.NoCells.{tracing_needs_cells}
 use Rattle.ael_jobs.proofs.runs.orders.shown_order.Goals as goal
 
 -- in a program without `weak` this order is shown

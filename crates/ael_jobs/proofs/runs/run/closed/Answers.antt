@@ -1,4 +1,4 @@
-use Rattle.ael_jobs.proofs.Threading.{has_closed, is_whole}
+use Rattle.ael_jobs.proofs.WholeRuns.Threading.{has_closed, is_whole}
 use Rattle.ael_jobs.proofs.runs.run.closed.Goals as goal
 
 pub new-requires : goal.new-requires

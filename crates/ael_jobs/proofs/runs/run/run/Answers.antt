@@ -1,9 +1,9 @@
 use Rattle.std.proofs.Common.{◌∙◌, ap, ℕ}
 use Rattle.std.specs.Global.{Vec}
 use Rattle.std.proofs.lemmas.Result.{IfOk-weaker}
-use Rattle.gc_core.proofs.Events.Opening.{limit_fits}
+use Rattle.gc_core.proofs.Events.OpenedCore.{limit_fits}
 use Rattle.ael_jobs.specs.Runs.Simulation.{config}
-use Rattle.ael_jobs.proofs.Threading.{run_is}
+use Rattle.ael_jobs.proofs.WholeRuns.Threading.{run_is}
 use Rattle.ael_jobs.proofs.runs.run.run.Goals as goal
 
 pub returns : goal.returns

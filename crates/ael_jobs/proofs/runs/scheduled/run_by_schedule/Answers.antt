@@ -1,6 +1,6 @@
 use Rattle.std.proofs.Common.{◌∙◌}
 use Rattle.ael_jobs.specs.Runs.Schedule.{scheduled_by}
-use Rattle.ael_jobs.proofs.Agreeing.{runs_agree}
+use Rattle.ael_jobs.proofs.WholeRuns.Agreeing.{runs_agree}
 use Rattle.ael_jobs.proofs.runs.scheduled.run_by_schedule.Goals as goal
 
 pub returns-clause-core : goal.returns-clause-core

@@ -1,7 +1,7 @@
 use Rattle.std.proofs.Common.{◌≡◌, ◌+◌, sym, ap, ◌∙◌, arith}
 use Rattle.gc_core.proofs.Runs.EventByEvent.{comes_on, came_over, came_out}
 use Rattle.ael_jobs.specs.Runs.ToCome.{to_come}
-use Rattle.ael_jobs.proofs.Noting.{comes_on_noted, came_over_noted, came_out_noted}
+use Rattle.ael_jobs.proofs.WholeRuns.Noting.{comes_on_noted, came_over_noted, came_out_noted}
 use Rattle.ael_jobs.proofs.runs.scheduled.run_noting.Goals as goal
 
 pub loop-preserved : goal.loop-preserved

@@ -3,7 +3,7 @@ use Rattle.gc_core.proofs.Runs.EventByEvent.{HasComeTo}
 use Rattle.std.proofs.Common.{◌≡◌, ◌+◌, ℕ}
 use Rattle.ael_jobs.specs.Runs.Noted.{HasNoted}
 use Rattle.ael_jobs.specs.Runs.ToCome.{to_come}
-use Rattle.ael_jobs.proofs.Noting.{HasCome}
+use Rattle.ael_jobs.proofs.WholeRuns.Noting.{HasCome}
 use Rattle.ael_jobs.proofs.runs.scheduled.run_noting.Given as goal
 
 abbrev pub invariant-loop : goal.invariant-loop

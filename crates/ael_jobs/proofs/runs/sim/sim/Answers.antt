@@ -1,9 +1,9 @@
 use Rattle.std.proofs.Common.{refl, ◌∙◌}
 use Rattle.std.proofs.lemmas.Result.{IfOk-weaker}
-use Rattle.gc_core.proofs.Events.Opening.{limit_fits}
+use Rattle.gc_core.proofs.Events.OpenedCore.{limit_fits}
 use Rattle.ael_jobs.specs.Runs.Run.{IsRunOf, Scheduled}
 use Rattle.ael_jobs.specs.Runs.Simulation.{config, simulated_run, scheduled}
-use Rattle.ael_jobs.proofs.Simulating.{run_size, simulated}
+use Rattle.ael_jobs.proofs.WholeRuns.Simulating.{run_size, simulated}
 use Rattle.ael_jobs.proofs.runs.sim.sim.Goals as goal
 
 pub returns : goal.returns

@@ -1,6 +1,6 @@
 use Rattle.std.proofs.Common.{◌≤◌, ◌++◌, length, take, rules, arith}
 use Rattle.std.proofs.lemmas.List.{take-append-le}
-use Rattle.ael_jobs.proofs.Growing.{all_came, few_more, front_more, past_limit}
+use Rattle.ael_jobs.proofs.Inputs.Growing.{all_came, few_more, front_more, past_limit}
 use Rattle.ael_jobs.proofs.streams.reading.read_all.Goals as goal
 
 pub returns-in_err-extend_from_slice-in-Bytes-clause-bounded : goal.returns-in_err-extend_from_slice-in-Bytes-clause-bounded

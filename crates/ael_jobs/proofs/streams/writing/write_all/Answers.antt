@@ -1,5 +1,5 @@
 use Rattle.std.proofs.Common.{refl, ◌∙◌}
-use Rattle.ael_jobs.proofs.Growing.{wrote_more, wrote_some}
+use Rattle.ael_jobs.proofs.Inputs.Growing.{wrote_more, wrote_some}
 use Rattle.ael_jobs.proofs.streams.writing.write_all.Goals as goal
 
 pub returns-in-Failed-clause-err : goal.returns-in-Failed-clause-err

@@ -1,5 +1,5 @@
 use Rattle.std.proofs.Common.{◌≡◌, length}
-use Rattle.ael_jobs.proofs.Growing.{Wrote}
+use Rattle.ael_jobs.proofs.Inputs.Growing.{Wrote}
 use Rattle.ael_jobs.proofs.streams.writing.write_all.Given as goal
 
 abbrev pub invariant-loop-rest : goal.invariant-loop-rest

@@ -5,7 +5,7 @@ use Rattle.gc_worker.proofs.Workers.Printing.{may_execute_silent}
 use Rattle.ael_threads.specs.Calls.{Called, CalledBy}
 use Rattle.ael_threads.specs.Seats.{IsMine, Seated}
 use Rattle.ael_threads.proofs.WholeCalls.Seen.{called, mine_more}
-use Rattle.ael_runtime.specs.Known.{IsKnown}
+use Rattle.ael_runtime.specs.KnownLengths.{IsKnown}
 use Rattle.ael_runtime.proofs.KnownLengths.{known_then}
 use Rattle.ael_runtime.proofs.SeenCalls.{executed, may_trap}
 use Rattle.ael_runtime.proofs.local.Local.call.Goals as goal

@@ -6,7 +6,7 @@ use Rattle.gc_worker.specs.declared.calls.did.Did.{Did}
 use Rattle.gc_worker.proofs.Workers.Printing.{may_execute_all}
 use Rattle.ael_threads.specs.declared.view.Plan.{Plan}
 use Rattle.ael_threads.specs.Calls.{Called}
-use Rattle.ael_threads.specs.Running.{Work}
+use Rattle.ael_threads.specs.Runs.Running.{Work}
 use Rattle.ael_threads.proofs.ProgramRuns.Executions.{executing_ends, executing_more, is_done, next_call, next_jumps, out_of_turns, read_off}
 use Rattle.ael_threads.proofs.ProgramRuns.Programs.{call_may_begin}
 use Rattle.ael_threads.proofs.mutator.Mutator.executes.Goals as goal

@@ -1,5 +1,5 @@
 -- it is at its next instruction
-use Rattle.ael_threads.specs.Running.{Executing}
+use Rattle.ael_threads.specs.Runs.Running.{Executing}
 use Rattle.ael_threads.proofs.mutator.Mutator.executes.Given as goal
 
 abbrev pub invariant-loop-executed : goal.invariant-loop-executed

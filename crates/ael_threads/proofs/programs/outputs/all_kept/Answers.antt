@@ -1,7 +1,7 @@
 use Rattle.std.proofs.Common.{◌≡◌, ◌+◌, ◌<◌, ◌≤◌, ◌++◌, ℕ, [], arith, sym, ◌∙◌, ap, subst, map, vec_len}
 use Rattle.std.proofs.lemmas.List.{append-nil, map-append}
 use Rattle.std.proofs.lemmas.Simd.{map-map}
-use Rattle.ael_threads.specs.Outputs.{seat_kept}
+use Rattle.ael_threads.specs.Runs.Outputs.{seat_kept}
 use Rattle.ael_threads.specs.Readers.{SeatedScanner, seated}
 use Rattle.ael_threads.proofs.Lists.Elements.{made_all, made_more}
 use Rattle.ael_threads.proofs.programs.outputs.all_kept.Goals as goal

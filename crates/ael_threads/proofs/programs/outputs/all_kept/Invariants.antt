@@ -1,6 +1,6 @@
 -- what the workers so far keep
 use Rattle.std.proofs.Common.{◌≡◌, ◌≤◌, ◌+◌, ◌++◌, map, take, vec_capacity, vec_len}
-use Rattle.ael_threads.specs.Outputs.{seat_kept}
+use Rattle.ael_threads.specs.Runs.Outputs.{seat_kept}
 use Rattle.ael_threads.specs.Readers.{SeatedScanner}
 use Rattle.ael_threads.proofs.programs.outputs.all_kept.Given as goal
 

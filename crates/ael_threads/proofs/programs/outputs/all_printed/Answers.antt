@@ -1,6 +1,6 @@
 use Rattle.std.proofs.Common.{◌+◌, ◌≤◌, ℕ, [], refl, sym, ◌∙◌, ap, subst, length, map}
 use Rattle.std.proofs.lemmas.List.{map_push}
-use Rattle.ael_threads.specs.Outputs.{printed_by, seat_seen}
+use Rattle.ael_threads.specs.Runs.Outputs.{printed_by, seat_seen}
 use Rattle.ael_threads.proofs.Lists.Elements.{has_room, made_all, made_more}
 use Rattle.ael_threads.proofs.programs.outputs.all_printed.Goals as goal
 

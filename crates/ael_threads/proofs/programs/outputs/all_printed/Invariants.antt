@@ -1,6 +1,6 @@
 -- those of the mutators so far
 use Rattle.std.proofs.Common.{◌≡◌, ◌≤◌, length, map, take, vec_capacity, vec_len}
-use Rattle.ael_threads.specs.Outputs.{printed_by, seat_seen}
+use Rattle.ael_threads.specs.Runs.Outputs.{printed_by, seat_seen}
 use Rattle.ael_threads.proofs.programs.outputs.all_printed.Given as goal
 
 abbrev pub invariant-loop-mutator : goal.invariant-loop-mutator

@@ -1,6 +1,6 @@
 use Rattle.std.proofs.Common.{◌+◌, ◌≤◌, ℕ, [], refl, sym, ◌∙◌, ap, subst, length}
 use Rattle.gc_worker.specs.Workers.Held.{Held}
-use Rattle.ael_threads.specs.Outputs.{seat_registers}
+use Rattle.ael_threads.specs.Runs.Outputs.{seat_registers}
 use Rattle.ael_threads.specs.Seats.{Seated}
 use Rattle.ael_threads.specs.declared.mutator.Mutator.TheInside.{Inside}
 use Rattle.ael_threads.proofs.Lists.Elements.{has_room, made_all, made_more}

@@ -1,6 +1,6 @@
 -- those of the mutators so far
 use Rattle.std.proofs.Common.{◌≡◌, ◌≤◌, length, map, take, vec_capacity, vec_len}
-use Rattle.ael_threads.specs.Outputs.{seat_registers}
+use Rattle.ael_threads.specs.Runs.Outputs.{seat_registers}
 use Rattle.ael_threads.proofs.programs.outputs.all_registers.Given as goal
 
 abbrev pub invariant-loop-mutator : goal.invariant-loop-mutator

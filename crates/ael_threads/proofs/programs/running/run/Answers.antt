@@ -3,9 +3,9 @@ use Rattle.atomic_table.specs.Seated.{TableId}
 use Rattle.ael_threads.specs.declared.view.Plan.{Plan}
 use Rattle.ael_threads.specs.Histories.{Each}
 use Rattle.ael_threads.specs.Opened.{new_scanners, plan_of}
-use Rattle.ael_threads.specs.Outputs.{HasEnd, IsToldOnClose, Runs}
+use Rattle.ael_threads.specs.Runs.Outputs.{HasEnd, IsToldOnClose, Runs}
 use Rattle.ael_threads.specs.Readers.{SeatedScanner}
-use Rattle.ael_threads.specs.Running.{AreReady, AreScanning}
+use Rattle.ael_threads.specs.Runs.Running.{AreReady, AreScanning}
 use Rattle.ael_threads.specs.Seats.{Seated, new_callers}
 use Rattle.ael_threads.proofs.ProgramRuns.StartAndEnd.{all_back, all_ended, all_ready, all_scanning, callers_length, mutators_of, of_ok, scanners_length, scanners_of, were_scanning}
 use Rattle.ael_threads.proofs.ProgramRuns.Outputs.{runs_told}

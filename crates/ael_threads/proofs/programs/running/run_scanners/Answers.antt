@@ -1,6 +1,6 @@
 use Rattle.std.proofs.Common.{sym, subst, rules}
 use Rattle.ael_threads.specs.Readers.{SeatedScanner}
-use Rattle.ael_threads.specs.Running.{ScannerIsGone, RunsAsScanner}
+use Rattle.ael_threads.specs.Runs.Running.{ScannerIsGone, RunsAsScanner}
 use Rattle.ael_threads.proofs.ProgramRuns.StartAndEnd.{each_scanned}
 use Rattle.ael_threads.proofs.programs.running.run_scanners.Goals as goal
 

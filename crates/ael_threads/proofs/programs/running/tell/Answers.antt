@@ -3,7 +3,7 @@ use Rattle.space_map.specs.Spaces.{Layout, to_space}
 use Rattle.space_map.specs.Table.{Area, Gate, Traced, place_of}
 use Rattle.gc_worker.specs.Readers.{live_said}
 use Rattle.gc_worker.specs.Steps.Turned.{epoch_said}
-use Rattle.ael_threads.specs.Outputs.{seat_registers, seat_seen}
+use Rattle.ael_threads.specs.Runs.Outputs.{seat_registers, seat_seen}
 use Rattle.ael_threads.proofs.ProgramRuns.Outputs.{word_read}
 use Rattle.ael_threads.proofs.programs.running.tell.Goals as goal
 

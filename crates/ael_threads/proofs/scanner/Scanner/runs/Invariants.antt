@@ -1,6 +1,6 @@
 -- it makes no calls
 use Rattle.std.proofs.Common.{◌≡◌, ℕ}
-use Rattle.ael_threads.specs.Running.{RunsAsScanner}
+use Rattle.ael_threads.specs.Runs.Running.{RunsAsScanner}
 use Rattle.ael_threads.proofs.scanner.Scanner.runs.Given as goal
 
 abbrev pub invariant-loop : goal.invariant-loop

@@ -1,10 +1,10 @@
 use Rattle.std.proofs.Common.{◌≡◌, ◌+◌, ◌≤◌, ℕ, List, [], length, sym, subst, ap, ◌∙◌, arith}
 use Rattle.atomic_table.specs.Table as table
 use Rattle.space_map.specs.declared.spaces.TheConstants.{MOST_MUTATORS, MOST_SCANNERS}
-use Rattle.gc_worker.proofs.Between.Opening.{opening_words-length}
+use Rattle.gc_worker.proofs.Between.OpenedHeap.{opening_words-length}
 use Rattle.ael_threads.specs.declared.view.Plan.{Plan}
 use Rattle.ael_threads.specs.Rule.{RuleHolds, crew, first_view}
-use Rattle.ael_threads.proofs.TableRule.Opening.{opens_kept}
+use Rattle.ael_threads.proofs.TableRule.OpenedRule.{opens_kept}
 use Rattle.ael_threads.proofs.shared.Shared.open_by.Goals as goal
 
 pub of_words-requires : goal.of_words-requires

@@ -10,7 +10,7 @@ use Rattle.atom_store.specs.Step.{place_in}
 use Rattle.space_map.specs.Table.{whole_length}
 use Rattle.gc_worker.specs.Workers.Held.{Held}
 use Rattle.gc_worker.specs.Steps.Wanted.{wanted}
-use Rattle.gc_worker.proofs.Words.Rows.{places_fit}
+use Rattle.gc_worker.proofs.Words.WorkerRows.{places_fit}
 use Rattle.ael_threads.specs.declared.view.Hand.{Hand}
 use Rattle.ael_threads.specs.declared.view.Plan.{Plan}
 use Rattle.ael_threads.specs.declared.view.View.{View}

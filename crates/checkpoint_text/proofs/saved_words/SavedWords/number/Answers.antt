@@ -1,4 +1,4 @@
-use Rattle.checkpoint_text.proofs.Places.{snap_is}
+use Rattle.checkpoint_text.proofs.CheckpointPlaces.{snap_is}
 use Rattle.checkpoint_text.proofs.saved_words.SavedWords.number.Goals as goal
 
 pub returns : goal.returns

@@ -2,7 +2,7 @@ use Rattle.std.proofs.Common.{ap, ◌∙◌, unwrap_or, Option}
 use Rattle.space_map.specs.declared.save_word.SaveWord.{SaveWord}
 use Rattle.space_map.specs.declared.save_word.SaveWord.TheVariants.{Unsaved}
 use Rattle.heap_state.specs.Saving.Words.{save_said_in, saves_of}
-use Rattle.checkpoint_text.proofs.Places.{save_is}
+use Rattle.checkpoint_text.proofs.CheckpointPlaces.{save_is}
 use Rattle.checkpoint_text.proofs.saved_words.SavedWords.save.Goals as goal
 
 pub returns : goal.returns

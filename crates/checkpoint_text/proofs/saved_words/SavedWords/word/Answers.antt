@@ -1,6 +1,6 @@
 use Rattle.std.proofs.Common.{◌≡◌, ℕ, true, false, sym, ◌∙◌, subst, arith}
 use Rattle.heap_state.specs.Saving.Words.{reads_saved, saves_of}
-use Rattle.checkpoint_text.proofs.Places.{beyond_is, heap_is, image_is}
+use Rattle.checkpoint_text.proofs.CheckpointPlaces.{beyond_is, heap_is, image_is}
 use Rattle.checkpoint_text.proofs.saved_words.SavedWords.word.Goals as goal
 
 pub returns-then-address-heap_len : goal.returns-then-address-heap_len

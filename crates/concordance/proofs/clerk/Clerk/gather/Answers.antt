@@ -6,8 +6,8 @@ use Rattle.ael_threads.specs.Seats.{plain_after_seen}
 use Rattle.concordance_text.specs.declared.part.Part.{Part}
 use Rattle.concordance_text.specs.Parts.{mentions_of_part}
 use Rattle.concordance_text.specs.Rows.{AreRowsOf, rows_of}
-use Rattle.concordance.proofs.Gathered.Parts.{no_rows, part_gathered, part_leads}
-use Rattle.concordance.proofs.Gathered.Places.{read_nothing, read_on}
+use Rattle.concordance.proofs.Gathered.TextParts.{no_rows, part_gathered, part_leads}
+use Rattle.concordance.proofs.Gathered.NotedPlaces.{read_nothing, read_on}
 use Rattle.concordance.proofs.Gathered.Reads.{whole_heap}
 use Rattle.concordance.proofs.clerk.Clerk.gather.Goals as goal
 

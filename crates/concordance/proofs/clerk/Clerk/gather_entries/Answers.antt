@@ -3,7 +3,7 @@ use Rattle.std.proofs.lemmas.Bool.{false≢true}
 use Rattle.plain_state.specs.declared.value.Value.TheVariants.{Number}
 use Rattle.concordance_text.specs.Rows.{rows_of, with_lines}
 use Rattle.concordance.specs.Gathering.{LeadsToEntry, whole_desk_of, whole_register, with_notes}
-use Rattle.concordance.proofs.Gathered.Places.{read_nothing, read_on}
+use Rattle.concordance.proofs.Gathered.NotedPlaces.{read_nothing, read_on}
 use Rattle.concordance.proofs.Gathered.Walks.{all_entries, entries_on, entry_kept, entry_may_get, next_entry}
 use Rattle.concordance.proofs.clerk.Clerk.gather_entries.Goals as goal
 

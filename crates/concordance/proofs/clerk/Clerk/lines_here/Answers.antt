@@ -2,7 +2,7 @@ use Rattle.std.proofs.Common.{◌≡◌, ◌≢◌, ℕ, ◌∙◌, ap, arith, r
 use Rattle.std.proofs.lemmas.Bool.{false≢true}
 use Rattle.plain_state.specs.declared.value.Value.TheVariants.{Number}
 use Rattle.concordance.specs.Gathering.{whole_desk_of, whole_register}
-use Rattle.concordance.proofs.Gathered.Places.{read_on}
+use Rattle.concordance.proofs.Gathered.NotedPlaces.{read_on}
 use Rattle.concordance.proofs.Gathered.Walks.{all_lines, line_may_get, lines_more, next_kept, next_line, number_read, number_taken}
 use Rattle.concordance.proofs.clerk.Clerk.lines_here.Goals as goal
 

@@ -1,5 +1,5 @@
 use Rattle.std.proofs.Common.{◌≢◌, ℕ, ◌+◌, ◌<◌, ◌≤◌, ◌∙◌, length, slice_index_or, ap, arith, subst}
-use Rattle.concordance.proofs.Gathered.Places.{read_on}
+use Rattle.concordance.proofs.Gathered.NotedPlaces.{read_on}
 use Rattle.concordance.proofs.Gathered.Walks.{all_letters_taken, letter_fits, letter_read, letter_taken, letters_kept, letters_more}
 use Rattle.concordance.proofs.clerk.Clerk.word_here.Goals as goal
 

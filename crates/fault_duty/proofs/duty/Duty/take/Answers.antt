@@ -1,6 +1,6 @@
 use Rattle.std.proofs.Common.{subst}
 use Rattle.fault_duty.specs.Soundness.{IsSoundRound}
-use Rattle.fault_duty.proofs.Lowering.{left-taken}
+use Rattle.fault_duty.proofs.RoundMeasure.{left-taken}
 use Rattle.fault_duty.proofs.duty.Duty.take.Goals as goal
 
 pub returns-clause-lowers : goal.returns-clause-lowers

@@ -1,5 +1,5 @@
 use Rattle.std.proofs.Common.{◌≡◌, ◌+◌, length, true, refl, ap, ◌∙◌, arith}
-use Rattle.gc_worker.proofs.Between.Opening.{many}
+use Rattle.gc_worker.proofs.Between.OpenedHeap.{many}
 use Rattle.gc_core.proofs.Events.Lawful.{lawful_opening}
 use Rattle.gc_core.proofs.machine.Core.open.Goals as goal
 

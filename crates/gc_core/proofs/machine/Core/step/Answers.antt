@@ -5,8 +5,8 @@ use Rattle.gc_core.specs.Inside.{core_in}
 use Rattle.gc_core.specs.Law.{IsLawful}
 use Rattle.gc_core.specs.Run.{all_ended}
 use Rattle.gc_core.proofs.Told.Readers.{read_held}
-use Rattle.gc_core.proofs.Events.Steps.{IsWorkerOfCore, WorkerIsReady, readies_soundly, has_counted, is_ready, steps_soundly, may_step, has_room, stepped_told, stepped_core}
-use Rattle.gc_core.proofs.Events.Ends.{ends_are_told}
+use Rattle.gc_core.proofs.Events.CoreSteps.{IsWorkerOfCore, WorkerIsReady, readies_soundly, has_counted, is_ready, steps_soundly, may_step, has_room, stepped_told, stepped_core}
+use Rattle.gc_core.proofs.Events.ToldEnds.{ends_are_told}
 use Rattle.gc_core.proofs.Events.Lawful.{lawful_after}
 use Rattle.gc_core.proofs.machine.Core.step.Goals as goal
 use Rattle.gc_core.proofs.machine.Core.step.Goals.{After-index_mut-slot, After-ready, After-step}

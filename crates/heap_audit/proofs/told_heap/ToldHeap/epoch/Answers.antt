@@ -1,4 +1,4 @@
-use Rattle.heap_audit.proofs.ToldWords.{epoch_is}
+use Rattle.heap_audit.proofs.ShownRecords.ToldWords.{epoch_is}
 use Rattle.heap_audit.proofs.told_heap.ToldHeap.epoch.Goals as goal
 
 pub returns : goal.returns

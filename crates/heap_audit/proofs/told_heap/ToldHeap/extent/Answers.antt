@@ -1,8 +1,8 @@
 use Rattle.std.proofs.Common.{◌∙◌, ◌+◌, ◌*◌, ap, sym, arith}
 use Rattle.space_map.specs.Spaces.{space_start}
 use Rattle.heap_audit.specs.Told.{dump_told}
-use Rattle.heap_audit.proofs.SpaceWalks.{extent_fits, starts}
-use Rattle.heap_audit.proofs.ToldWords.{pages_is}
+use Rattle.heap_audit.proofs.WalkedSpaces.SpaceWalks.{extent_fits, starts}
+use Rattle.heap_audit.proofs.ShownRecords.ToldWords.{pages_is}
 use Rattle.heap_audit.proofs.told_heap.ToldHeap.extent.Goals as goal
 
 pub overflow_add-result : goal.overflow_add-result

@@ -1,4 +1,4 @@
-use Rattle.heap_audit.proofs.ToldWords.{front_is}
+use Rattle.heap_audit.proofs.ShownRecords.ToldWords.{front_is}
 use Rattle.heap_audit.proofs.told_heap.ToldHeap.front.Goals as goal
 
 pub returns : goal.returns

@@ -1,5 +1,5 @@
 use Rattle.std.proofs.Common.{◌∙◌, ◌+◌, ap}
-use Rattle.heap_audit.proofs.ToldWords.{differs, traced_is}
+use Rattle.heap_audit.proofs.ShownRecords.ToldWords.{differs, traced_is}
 use Rattle.heap_audit.proofs.told_heap.ToldHeap.is_copying.Goals as goal
 
 pub returns : goal.returns

@@ -1,4 +1,4 @@
-use Rattle.heap_audit.proofs.ToldWords.{low_is}
+use Rattle.heap_audit.proofs.ShownRecords.ToldWords.{low_is}
 use Rattle.heap_audit.proofs.told_heap.ToldHeap.low.Goals as goal
 
 pub returns : goal.returns

@@ -1,7 +1,7 @@
 use Rattle.std.proofs.Common.{◌≡◌, ◌∙◌, ◌+◌, sym, ap}
 use Rattle.std.proofs.lemmas.Bool.{eq-eqb, eqb-true}
 use Rattle.heap_audit.specs.Told.{dump_told}
-use Rattle.heap_audit.proofs.ToldWords.{turn_is}
+use Rattle.heap_audit.proofs.ShownRecords.ToldWords.{turn_is}
 use Rattle.heap_audit.proofs.told_heap.ToldHeap.may_have_emptied.Goals as goal
 
 pub returns-then-is_copying : goal.returns-then-is_copying

@@ -5,7 +5,7 @@ use Rattle.plain_state.specs.declared.value.Identity.{Identity}
 use Rattle.record_layout.specs.Layout.{header_in}
 use Rattle.heap_state.specs.Meaning.Denotes.{own_header_in}
 use Rattle.heap_audit.specs.Told.{dump_told}
-use Rattle.heap_audit.proofs.OwnHeaders.{decode-forward, identity_by, named-forwarded, named-in_place, named_header, named_own}
+use Rattle.heap_audit.proofs.ShownRecords.OwnHeaders.{decode-forward, identity_by, named-forwarded, named-in_place, named_header, named_own}
 use Rattle.heap_audit.proofs.told_heap.ToldHeap.named.Goals as goal
 use Rattle.heap_audit.proofs.told_heap.ToldHeap.named.Goals.{in-Some+in_ok-header-in-Some, in-None+in_ok-header-in-None}
 

@@ -3,7 +3,7 @@ use Rattle.heap_words.specs.Decoded.{decode}
 use Rattle.record_layout.specs.Layout.{header_in}
 use Rattle.heap_state.specs.Kept.{kept_at}
 use Rattle.heap_audit.specs.Told.{dump_told}
-use Rattle.heap_audit.proofs.OwnHeaders.{decode-busy, kept_nowhere, kept_there, no_header, own-kept, own-placed}
+use Rattle.heap_audit.proofs.ShownRecords.OwnHeaders.{decode-busy, kept_nowhere, kept_there, no_header, own-kept, own-placed}
 use Rattle.heap_audit.proofs.told_heap.ToldHeap.own_header.Goals as goal
 
 pub returns-in_default : goal.returns-in_default

@@ -1,4 +1,4 @@
-use Rattle.heap_audit.proofs.ToldWords.{size_is}
+use Rattle.heap_audit.proofs.ShownRecords.ToldWords.{size_is}
 use Rattle.heap_audit.proofs.told_heap.ToldHeap.size.Goals as goal
 
 pub returns : goal.returns

@@ -1,5 +1,5 @@
 use Rattle.std.proofs.Common.{arith}
-use Rattle.heap_audit.proofs.ToldWords.{none_is, word_is}
+use Rattle.heap_audit.proofs.ShownRecords.ToldWords.{none_is, word_is}
 use Rattle.heap_audit.proofs.told_heap.ToldHeap.word.Goals as goal
 
 pub returns-then-address-board_page : goal.returns-then-address-board_page

@@ -3,7 +3,7 @@ use Rattle.std.specs.Prelude.{IsTrue, ◌↔◌, nat_lt}
 use Rattle.std.proofs.lemmas.Bool.{le-ltb}
 use Rattle.heap_state.specs.Meaning.Represents.{LeadsToRecord}
 use Rattle.heap_audit.specs.Told.{dump_told}
-use Rattle.heap_audit.proofs.Begins.{leads_by, past_is}
+use Rattle.heap_audit.proofs.WalkedSpaces.Begins.{leads_by, past_is}
 use Rattle.heap_audit.proofs.walks.Walks.leads.Goals as goal
 
 pub returns-then-address-begins : goal.returns-then-address-begins

@@ -9,9 +9,9 @@ use Rattle.heap_audit.specs.Breaks.{BreaksAt}
 use Rattle.heap_audit.specs.Told.{dump_told}
 use Rattle.heap_audit.specs.Walks.{walked}
 use Rattle.heap_audit.specs.declared.walks.RecordAt.{RecordAt}
-use Rattle.heap_audit.proofs.Begins.{Notes, begins_in}
-use Rattle.heap_audit.proofs.SpaceWalks.{both_breaks, both_found, found_within, now_breaks, now_found}
-use Rattle.heap_audit.proofs.ToldWords.{pages_is}
+use Rattle.heap_audit.proofs.WalkedSpaces.Begins.{Notes, begins_in}
+use Rattle.heap_audit.proofs.WalkedSpaces.SpaceWalks.{both_breaks, both_found, found_within, now_breaks, now_found}
+use Rattle.heap_audit.proofs.ShownRecords.ToldWords.{pages_is}
 use Rattle.heap_audit.proofs.walks.Walks.of.Goals as goal
 use Rattle.heap_audit.proofs.walks.Walks.of.Goals.{then-is_copying+in_ok-broken, else-is_copying}
 

@@ -1,5 +1,5 @@
 use Rattle.std.proofs.Common.{◌∙◌, sym, arith}
-use Rattle.heap_words.proofs.Reading.{number_in-number, number_in-none, number_in-spelling}
+use Rattle.heap_words.proofs.TaggedWords.{number_in-number, number_in-none, number_in-spelling}
 use Rattle.heap_words.proofs.word.Word.as_number.Goals as goal
 
 pub returns-in-Number-clause-decoded : goal.returns-in-Number-clause-decoded

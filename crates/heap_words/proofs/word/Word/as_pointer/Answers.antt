@@ -1,5 +1,5 @@
 use Rattle.std.proofs.Common.{◌∙◌, sym}
-use Rattle.heap_words.proofs.Reading.{pointer_in-narrowed, pointer_in-none, pointer_in-spelling}
+use Rattle.heap_words.proofs.TaggedWords.{pointer_in-narrowed, pointer_in-none, pointer_in-spelling}
 use Rattle.heap_words.proofs.word.Word.as_pointer.Goals as goal
 
 pub returns-in-Pointer-clause-decoded : goal.returns-in-Pointer-clause-decoded

@@ -6,7 +6,7 @@ use Rattle.page_scan.specs.Scanning.{Scanning}
 use Rattle.page_scan.specs.Soundness.{FitsStage}
 use Rattle.page_scan.specs.Taken.{by_word, scan_end}
 use Rattle.page_scan.specs.declared.scan_stage.ScanStage.{ScanStage}
-use Rattle.page_scan.proofs.Lowering.{by_word-lt}
+use Rattle.page_scan.proofs.ScanMeasure.{by_word-lt}
 use Rattle.page_scan.proofs.scan.Scan.has_loaded.Goals as goal
 
 pub returns-in-LoadsWord-clause-lowers : goal.returns-in-LoadsWord-clause-lowers

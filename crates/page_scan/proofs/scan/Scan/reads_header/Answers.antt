@@ -1,5 +1,5 @@
 use Rattle.std.proofs.Common.{sym, ◌∙◌}
-use Rattle.page_scan.proofs.Headers.{by_header-header, by_header-none, told-HasStep}
+use Rattle.page_scan.proofs.ReadHeaders.{by_header-header, by_header-none, told-HasStep}
 use Rattle.page_scan.proofs.scan.Scan.reads_header.Goals as goal
 
 pub goes_by_kind-requires-clause-sound : goal.goes_by_kind-requires-clause-sound

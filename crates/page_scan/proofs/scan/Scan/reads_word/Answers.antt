@@ -1,5 +1,5 @@
 use Rattle.heap_words.specs.Decoded.{decode}
-use Rattle.page_scan.proofs.Words.{by_word-none, pointer-is}
+use Rattle.page_scan.proofs.ReadWords.{by_word-none, pointer-is}
 use Rattle.page_scan.proofs.scan.Scan.reads_word.Goals as goal
 
 pub reads_pointer-requires-clause-sound : goal.reads_pointer-requires-clause-sound

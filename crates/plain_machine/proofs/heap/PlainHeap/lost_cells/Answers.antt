@@ -1,4 +1,4 @@
-use Rattle.plain_machine.proofs.Found.Lists.{mutators_more}
+use Rattle.plain_machine.proofs.Found.ListedCells.{mutators_more}
 use Rattle.plain_machine.proofs.heap.PlainHeap.lost_cells.Goals as goal
 
 pub loop-m-preserved : goal.loop-m-preserved

@@ -1,6 +1,6 @@
 use Rattle.std.proofs.Common.{sym, ◌∙◌}
 use Rattle.plain_state.specs.State.{Plain}
-use Rattle.plain_machine.proofs.Found.Cells.{lost_listed, none_listed}
+use Rattle.plain_machine.proofs.Found.FoundCells.{lost_listed, none_listed}
 use Rattle.plain_machine.proofs.state.PlainState.cells_to_empty.Goals as goal
 
 pub returns-then-not-has_cells : goal.returns-then-not-has_cells

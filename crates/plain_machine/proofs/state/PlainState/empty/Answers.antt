@@ -1,6 +1,6 @@
 use Rattle.std.proofs.Common.{ap, length, ◌∙◌}
 use Rattle.plain_state.specs.State.{Heap}
-use Rattle.plain_machine.proofs.Found.Cells.{emptied_makers}
+use Rattle.plain_machine.proofs.Found.FoundCells.{emptied_makers}
 use Rattle.plain_machine.proofs.state.PlainState.empty.Goals as goal
 
 pub invariant_of-self : goal.invariant_of-self

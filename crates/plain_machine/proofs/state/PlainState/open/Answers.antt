@@ -1,6 +1,6 @@
 use Rattle.std.proofs.Common.{arith, rules}
 use Rattle.std.proofs.lemmas.List.{length-replicate}
-use Rattle.plain_heap.proofs.States.Opening.{opening-replicate}
+use Rattle.plain_heap.proofs.States.OpeningState.{opening-replicate}
 use Rattle.plain_machine.proofs.state.PlainState.open.Goals as goal
 
 pub returns : goal.returns

@@ -1,8 +1,8 @@
 use Rattle.std.proofs.Common.{◌<◌, ap, length, slice_get, subst, sym, ◌∙◌}
 use Rattle.space_map.specs.Table.{table_length}
 use Rattle.ael_jobs.specs.Runs.Told.{RunReport}
-use Rattle.ael_jobs.proofs.Tables.{word_taken}
-use Rattle.ael_jobs.proofs.Threading.{word_there}
+use Rattle.ael_jobs.proofs.Printed.Tables.{word_taken}
+use Rattle.ael_jobs.proofs.WholeRuns.Threading.{word_there}
 use Rattle.ael_jobs.proofs.runs.closed_heap.ClosedHeapReport.word.Goals as goal
 
 pub returns : goal.returns

@@ -1,5 +1,5 @@
 use Rattle.std.proofs.Common.{arith, rules}
-use Rattle.ael_jobs.proofs.Known.{stays, write_failed, write_none, write_took}
+use Rattle.ael_jobs.proofs.Inputs.KnownBytes.{stays, write_failed, write_none, write_took}
 use Rattle.ael_jobs.proofs.streams.standard.StdSinkSink.write.Goals as goal
 
 pub loop-preserved : goal.loop-preserved

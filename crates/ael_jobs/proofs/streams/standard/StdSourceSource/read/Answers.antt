@@ -1,5 +1,5 @@
 use Rattle.std.proofs.Common.{arith, rules}
-use Rattle.ael_jobs.proofs.Known.{read_bytes, read_end, stays}
+use Rattle.ael_jobs.proofs.Inputs.KnownBytes.{read_bytes, read_end, stays}
 use Rattle.ael_jobs.proofs.streams.standard.StdSourceSource.read.Goals as goal
 
 pub loop-preserved : goal.loop-preserved

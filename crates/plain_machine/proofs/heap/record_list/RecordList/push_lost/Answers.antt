@@ -1,5 +1,5 @@
 use Rattle.std.proofs.Common.{sym, ◌∙◌}
-use Rattle.plain_machine.proofs.Found.Lists.{kept_more, lost_more}
+use Rattle.plain_machine.proofs.Found.ListedCells.{kept_more, lost_more}
 use Rattle.plain_machine.proofs.heap.record_list.RecordList.push_lost.Goals.{then-is_lost+in_ok-push, else-is_lost}
 use Rattle.plain_machine.proofs.heap.record_list.RecordList.push_lost.Goals as goal
 

@@ -1,4 +1,4 @@
-use Rattle.ael_jobs.proofs.Rounds.{first_round}
+use Rattle.ael_jobs.proofs.WholeRuns.WorkerRounds.{first_round}
 use Rattle.ael_jobs.proofs.runs.scheduler.listing.Listing.new.Goals as goal
 
 pub returns : goal.returns

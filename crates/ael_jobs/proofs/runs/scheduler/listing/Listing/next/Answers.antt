@@ -1,5 +1,5 @@
 use Rattle.std.proofs.Common.{arith}
-use Rattle.ael_jobs.proofs.Rounds.{HasItemAtHand, ready_names, ready_later, ready_now, ready_next, ready_again}
+use Rattle.ael_jobs.proofs.WholeRuns.WorkerRounds.{HasItemAtHand, ready_names, ready_later, ready_now, ready_next, ready_again}
 use Rattle.ael_jobs.proofs.runs.scheduler.listing.Listing.next.Goals as goal
 use Rattle.ael_jobs.proofs.runs.scheduler.listing.Listing.next.Goals.{After-self-2-1, then-self-eq0, then-self, else-self, else-self-eq0}
 

@@ -1,0 +1,4 @@
+pub mod InputLines
+pub mod Growing
+pub mod KnownBytes
+pub mod Parsed

@@ -1,0 +1,5 @@
+pub mod Hex
+pub mod Seeing
+pub mod LastCheckpoints
+pub mod Dumps
+pub mod Tables

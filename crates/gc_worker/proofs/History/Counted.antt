@@ -1,0 +1,5 @@
+pub mod Sums
+pub mod Tallies
+pub mod TalliedSteps
+pub mod TalliedTasks
+pub mod OpeningTallies

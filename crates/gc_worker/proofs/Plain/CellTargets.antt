@@ -1,0 +1,5 @@
+pub mod Emptied
+pub mod EmptyCells
+pub mod Followed
+pub mod KeptCells
+pub mod LostCells

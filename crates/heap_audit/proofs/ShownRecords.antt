@@ -1,0 +1,9 @@
+pub mod ToldWords
+pub mod OwnHeaders
+pub mod RecordWords
+pub mod RecordsSoFar
+pub mod OwnedFirst
+pub mod CopiedNames
+pub mod EmptiedCells
+pub mod ShownHeads
+pub mod FoundWords

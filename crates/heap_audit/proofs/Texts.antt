@@ -1,0 +1,11 @@
+pub mod Fronts
+pub mod OrderMarks
+pub mod EndTexts
+pub mod OneLine
+pub mod WrongLines
+pub mod Orders
+pub mod SeenLines
+pub mod AllLines
+pub mod Dumps
+pub mod WholePart
+pub mod FirstDifference

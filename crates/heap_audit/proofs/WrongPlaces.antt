@@ -1,0 +1,4 @@
+pub mod AllPlaces
+pub mod PlainShows
+pub mod FirstPlaces
+pub mod Verdicts

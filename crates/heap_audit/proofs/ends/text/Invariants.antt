@@ -1,6 +1,0 @@
-use Rattle.std.proofs.Common.{◌≡◌, drop}
-use Rattle.heap_audit.specs.Ends.{text_at}
-use Rattle.heap_audit.proofs.ends.text.Given as goal
-
-abbrev pub invariant-loop-b : goal.invariant-loop-b
-invariant-loop-b l = text_at (drop l.b-index l.wanted) l.rest ≡ text_at l.wanted l.bytes

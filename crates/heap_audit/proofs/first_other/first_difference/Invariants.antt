@@ -1,9 +1,0 @@
-use Rattle.std.proofs.Common.{◌+◌, ◌≤◌, drop}
-use Rattle.heap_audit.proofs.FirstDifference.{Alike}
-use Rattle.heap_audit.proofs.first_other.first_difference.Given as goal
-
-abbrev pub invariant-loop-b : goal.invariant-loop-b
-invariant-loop-b l = record {
-  alike : Alike l.wanted l.told l.rest (drop l.b-index l.told) l.line;
-  few : l.line ≤ l.b-index + 1;
-}

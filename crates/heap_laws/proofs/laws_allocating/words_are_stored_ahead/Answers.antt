@@ -1,5 +1,0 @@
-use Rattle.heap_laws.proofs.Allocation.Ahead.{stores_ahead}
-use Rattle.heap_laws.proofs.laws_allocating.words_are_stored_ahead.Goals as goal
-
-pub returns : goal.returns
-returns c = stores_ahead

@@ -1,5 +1,0 @@
-use Rattle.heap_laws.proofs.Cells.Published.{publishing_carries_chain}
-use Rattle.heap_laws.proofs.laws_cells.publishing_carries_chain.Goals as goal
-
-pub returns : goal.returns
-returns c = publishing_carries_chain

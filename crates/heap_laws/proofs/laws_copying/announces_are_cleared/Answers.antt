@@ -1,5 +1,0 @@
-use Rattle.heap_laws.proofs.Copying.Laws.{announces_are_cleared}
-use Rattle.heap_laws.proofs.laws_copying.announces_are_cleared.Goals as goal
-
-pub returns : goal.returns
-returns c = announces_are_cleared

@@ -1,5 +1,0 @@
-use Rattle.heap_laws.proofs.Copying.Cells.{cells_are_linked}
-use Rattle.heap_laws.proofs.laws_copying.cells_are_linked.Goals as goal
-
-pub returns : goal.returns
-returns c = cells_are_linked

@@ -1,5 +1,0 @@
-use Rattle.heap_laws.proofs.Copying.Laws.{copies_are_published}
-use Rattle.heap_laws.proofs.laws_copying.copies_are_published.Goals as goal
-
-pub returns : goal.returns
-returns c = copies_are_published

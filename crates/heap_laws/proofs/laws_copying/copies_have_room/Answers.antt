@@ -1,5 +1,0 @@
-use Rattle.heap_laws.proofs.Copying.Room.{copies_have_room}
-use Rattle.heap_laws.proofs.laws_copying.copies_have_room.Goals as goal
-
-pub returns : goal.returns
-returns c = copies_have_room

@@ -1,5 +1,0 @@
-use Rattle.heap_laws.proofs.Copying.Laws.{places_are_aimed}
-use Rattle.heap_laws.proofs.laws_copying.places_are_aimed.Goals as goal
-
-pub returns : goal.returns
-returns c = places_are_aimed

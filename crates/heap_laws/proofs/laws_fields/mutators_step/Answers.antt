@@ -1,5 +1,0 @@
-use Rattle.heap_laws.proofs.Fields.Laws.{mutators_step}
-use Rattle.heap_laws.proofs.laws_fields.mutators_step.Goals as goal
-
-pub returns : goal.returns
-returns c = mutators_step

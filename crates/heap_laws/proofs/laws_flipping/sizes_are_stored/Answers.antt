@@ -1,5 +1,0 @@
-use Rattle.heap_laws.proofs.Flipping.Sizes.{sizes_are_stored}
-use Rattle.heap_laws.proofs.laws_flipping.sizes_are_stored.Goals as goal
-
-pub returns : goal.returns
-returns c = sizes_are_stored

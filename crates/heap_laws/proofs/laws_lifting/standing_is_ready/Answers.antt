@@ -1,5 +1,0 @@
-use Rattle.heap_laws.proofs.Lifting.Configurations.{ready}
-use Rattle.heap_laws.proofs.laws_lifting.standing_is_ready.Goals as goal
-
-pub returns : goal.returns
-returns c = ready

@@ -1,5 +1,0 @@
-use Rattle.heap_laws.proofs.Saving.Snappers.{snappers_step}
-use Rattle.heap_laws.proofs.laws_saving.snaps.snappers_step.Goals as goal
-
-pub returns : goal.returns
-returns c = snappers_step

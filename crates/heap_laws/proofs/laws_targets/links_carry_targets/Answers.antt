@@ -1,5 +1,0 @@
-use Rattle.heap_laws.proofs.Targets.Rows.{storing_link_carries_targets}
-use Rattle.heap_laws.proofs.laws_targets.links_carry_targets.Goals as goal
-
-pub returns : goal.returns
-returns c = storing_link_carries_targets

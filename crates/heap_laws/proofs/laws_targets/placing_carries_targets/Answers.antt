@@ -1,8 +1,0 @@
-use Rattle.heap_laws.proofs.Targets.Placed.{placing_carries_targets, new_targets_are_stored}
-use Rattle.heap_laws.proofs.laws_targets.placing_carries_targets.Goals as goal
-
-pub returns-clause-places : goal.returns-clause-places
-returns-clause-places c = placing_carries_targets
-
-pub returns-clause-stored : goal.returns-clause-stored
-returns-clause-stored c = new_targets_are_stored

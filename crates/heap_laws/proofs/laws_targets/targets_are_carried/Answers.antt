@@ -1,5 +1,0 @@
-use Rattle.heap_laws.proofs.Targets.Carried.{targets_are_carried}
-use Rattle.heap_laws.proofs.laws_targets.targets_are_carried.Goals as goal
-
-pub returns : goal.returns
-returns c = targets_are_carried

@@ -1,5 +1,0 @@
-use Rattle.heap_laws.proofs.Targets.Rows.{unread_rows_carry_targets}
-use Rattle.heap_laws.proofs.laws_targets.unread_rows_carry_targets.Goals as goal
-
-pub returns : goal.returns
-returns c = unread_rows_carry_targets

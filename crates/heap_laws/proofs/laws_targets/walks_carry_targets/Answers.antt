@@ -1,5 +1,0 @@
-use Rattle.heap_laws.proofs.Targets.Walked.{replacing_carries_targets}
-use Rattle.heap_laws.proofs.laws_targets.walks_carry_targets.Goals as goal
-
-pub returns : goal.returns
-returns c = replacing_carries_targets

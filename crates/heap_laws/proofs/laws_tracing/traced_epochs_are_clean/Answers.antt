@@ -1,9 +1,0 @@
-use Rattle.heap_laws.proofs.Tracing.Copied.{copies_reachable}
-use Rattle.heap_laws.proofs.Tracing.Traced.{leads_nowhere}
-use Rattle.heap_laws.proofs.laws_tracing.traced_epochs_are_clean.Goals as goal
-
-pub returns-clause-clean : goal.returns-clause-clean
-returns-clause-clean c = leads_nowhere
-
-pub returns-clause-copied : goal.returns-clause-copied
-returns-clause-copied c = copies_reachable

@@ -1,5 +1,0 @@
-use Rattle.heap_laws.proofs.Tracing.Live.{traced_is_live}
-use Rattle.heap_laws.proofs.laws_tracing.traced_epochs_have_copied.Goals as goal
-
-pub returns : goal.returns
-returns c = traced_is_live

@@ -1,5 +1,0 @@
-use Rattle.heap_laws.proofs.Tracing.Turns.{turns_are_taken}
-use Rattle.heap_laws.proofs.laws_tracing.turns_are_taken.Goals as goal
-
-pub returns : goal.returns
-returns c = turns_are_taken

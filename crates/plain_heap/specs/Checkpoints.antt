@@ -1,0 +1,3 @@
+pub mod Checkpoint
+pub mod WorkedCheckpoint
+pub mod LastCheckpoint
