@@ -6,7 +6,7 @@ ghost use Rattle.ael_jobs.specs.Calls.Concordance.{ConcordEnds, LargeHeapsSuffic
 ghost use Rattle.ael_jobs.specs.Calls.Headline.{IsAlwaysTheSame, CallIsAnswered, IsComplete, PrintsListing, PrintsPlainly};
 
 use crate::answering::answer;
-use ael_jobs::{Sink, Source, finish, read_words};
+use ael_jobs::{Sink, Source, ael_still, finish, read_words};
 use std::alloc::Global;
 use std::marker::Sync;
 use std::sync::Wait;
@@ -33,6 +33,11 @@ pub fn ael<R: Threads + Wait + Sync, S: Source, O: Sink, E: Sink>(
     ensures audits { AuditEnds (call_of S.Source O.Sink E.Sink words.now src.old src.new out.old out.new err.old err.new result) }
     ensures says_yes { SaysYesToTrueOutputs (call_of S.Source O.Sink E.Sink words.now src.old src.new out.old out.new err.old err.new result) }
 {
-    let answer = answer(rt, alloc, read_words(alloc, words), src);
-    finish(&answer, out, err)
+    match ael_still(alloc, words, src, out, err) {
+        Some(code) => code,
+        None => {
+            let answer = answer(rt, alloc, read_words(alloc, words), src);
+            finish(&answer, out, err)
+        }
+    }
 }
