@@ -4,7 +4,8 @@ ghost use Rattle.std.specs.Prelude.{◌≡◌, ◌≢◌, ◌<◌, ◌≤◌, tr
 ghost use Rattle.plain_state.specs.declared.end.End.{End};
 ghost use Rattle.plain_state.specs.declared.sizes.TheConstants.{REGISTERS};
 ghost use Rattle.plain_state.specs.State.{serial_of};
-ghost use Rattle.mutator_asm.specs.declared.instr.Instr.TheVariants.{Snap};
+ghost use Rattle.mutator_asm.specs.declared.instr.Instr.TheVariants.{Ld, Snap};
+ghost use Rattle.mutator_asm.specs.declared.operand.Operand.TheVariants as operands;
 ghost use Rattle.mutator_asm.specs.Program.{is_valid};
 ghost use Rattle.gc_worker.specs.declared.calls.did.Did.TheVariants.{Done, Trap};
 ghost use Rattle.gc_worker.specs.declared.stage.Stage.TheVariants.{Gone};
@@ -17,7 +18,7 @@ ghost use Rattle.ael_threads.specs.Seats.{IsMine};
 ghost use Rattle.ael_runtime.specs.Calling.{HadEffect, IsSure, WasTrapped};
 ghost use Rattle.ael_runtime.specs.Reading.{SeesSame, held, len_of, number, value_number, seen_heap};
 
-use crate::measured::{Measured, known_after};
+use crate::measured::{Measured, known_after, known_after_load};
 use ael_threads::{Did, Mutator, Reg, Shared};
 use mutator_asm::Instr;
 use plain_state::End;
@@ -97,6 +98,21 @@ impl<'h> Local<'h> {
             Did::Done => {}
             Did::Trap(_) => unreachable!("its operands are what it asks for"),
         }
+    }
+
+    /// It makes an `ld` that has its effect, whatever others do meanwhile.
+    #[inline(always)]
+    pub(crate) fn loads<R: Wait>(&mut self, rt: &R, into: u8, base: u8, value: u64)
+        requires valid { IsTrue (is_valid (Ld into base (operands.Number value))) }
+        requires no_end { self.old.worker.account.end ≡ None }
+        requires sure { IsSure self.old (Ld into base (operands.Number value)) }
+        ensures of_heap { self.new.table ≡ self.old.table }
+        ensures executed { HadEffect self.old (Ld into base (operands.Number value)) self.new }
+    {
+        if !self.mutator.load(rt, self.heap, into, base, value) {
+            unreachable!("its operands are what it asks for")
+        }
+        self.known = known_after_load(self.known, into);
     }
 
     /// Whether the record in a register is known to have this word, so that it need not be looked at.

@@ -1,6 +1,9 @@
 //! The length that is known of a record, so that it need not be looked at each time.
 
-ghost use Rattle.std.specs.Prelude.{◌≡◌, true};
+ghost use Rattle.std.specs.Prelude.{◌≡◌, ℕ, true};
+ghost use Rattle.mutator_asm.specs.declared.instr.Instr.TheVariants.{Ld};
+ghost use Rattle.mutator_asm.specs.declared.operand.Operand.{Operand};
+ghost use Rattle.gc_worker.specs.declared.calls.did.Did.TheVariants.{Done};
 ghost use Rattle.ael_runtime.specs.KnownLengths.{StaysKnown, SparesRegister};
 
 use ael_threads::Did;
@@ -30,6 +33,17 @@ pub(crate) fn known_after(known: Option<Measured>, instr: Instr, did: Did) -> Op
 {
     match (known, did) {
         (Some(measured), Did::Done) if spares(instr, measured.register) => known,
+        _ => None,
+    }
+}
+
+/// What is still known after a load into a register that had its effect.
+#[inline(always)]
+pub(crate) fn known_after_load(known: Option<Measured>, into: u8) -> Option<Measured>
+    ensures { (base : ℕ) (x : Operand) → StaysKnown known (Ld into base x) Done result }
+{
+    match known {
+        Some(measured) if measured.register != into => known,
         _ => None,
     }
 }

@@ -169,7 +169,7 @@ impl<'h> Local<'h> {
         ensures fails { IfErr result (λ why. WordFails self.old of at why self.new) }
     {
         self.reach(rt, of, at)?;
-        self.does(rt, Instr::Ld(to, of, Operand::Number(at)));
+        self.loads(rt, to, of, at);
         Ok(())
     }
 

@@ -8,3 +8,4 @@ pub mod StepKeeps
 pub mod AllowedSteps
 pub mod GateLooks
 pub mod OpenedRule
+pub mod SeatSteps

@@ -8,3 +8,4 @@ pub mod OneMore
 pub mod AfterSnap
 pub mod AtRest
 pub mod Seen
+pub mod Direct

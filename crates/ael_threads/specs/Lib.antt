@@ -14,3 +14,4 @@ pub mod Refusals
 pub mod Rounds
 pub mod ActsInRow
 pub mod GateLooks
+pub mod Direct

@@ -1,20 +1,26 @@
 //! A worker with its seat.
 
 ghost use Rattle.std.specs.Prelude.{◌≡◌, ◌<◌, [], Some};
+ghost use Rattle.mutator_asm.specs.declared.instr.Instr.TheVariants.{Ld};
+ghost use Rattle.mutator_asm.specs.declared.operand.Operand.TheVariants as operands;
 ghost use Rattle.gc_worker.specs.declared.task.Task.TheVariants.{Calls, Stops};
 ghost use Rattle.gc_worker.specs.Laws.Between.{IsIdle, with_task};
 ghost use Rattle.gc_worker.specs.Laws.Cycles.{IsInCall};
 ghost use Rattle.gc_worker.specs.Workers.Fits.{MayBegin, MayStop};
 ghost use Rattle.gc_worker.specs.Steps.Stepped.{MayExecute};
+ghost use Rattle.ael_threads.specs.Direct.{BeginsCall};
 ghost use Rattle.ael_threads.specs.Seats.{Absorbs, Acts, Heads, FitsTable, IsMine, Seated, ShowsSeen};
 
 use crate::shared::{Both, Learn, Shared};
 use crate::view::View;
 use atomic_table::Seat;
 use crossbeam_utils::CachePadded;
-use gc_worker::{Stepped, Worker};
-use mutator_asm::Instr;
+use gc_worker::{
+    Answered, Stepped, Worker, loads_header, loads_value, looks_at_record, looks_at_value,
+};
+use mutator_asm::{Instr, Operand};
 use plain_state::End;
+use record_access::role_stored;
 use std::marker::{Brand, Model};
 
 /// A worker with a seat. Contracts see which table it is of, what its code holds, and what its seat knows.
@@ -79,6 +85,62 @@ impl Caller {
         };
         let reply = h.step::<Brand>(worker, &mut self.seat, step);
         worker.take::<Site>(reply)
+    }
+
+    /// Begins `ld` with a number as index, and makes its loads at once, up to the first that finds anything but the common case: a gate
+    /// without a request, open pages, and a record of fields or of plain numbers that has the value. Then the call is executed, unless
+    /// the worker catches up.
+    #[inline(always)]
+    pub fn begin_load(&mut self, h: &Shared, into: u8, base: u8, value: u64) -> Answered
+        requires table { self.old.table ≡ h.now.table.shared.table_id }
+        requires idle { IsIdle self.old.worker }
+        requires may_begin { MayBegin self.old.worker.account self.old.worker.registers (Some (Calls (Ld into base (operands.Number value)))) }
+        ensures table { self.new.table ≡ self.old.table }
+        ensures same { (self.new.worker.number ≡ self.old.worker.number) × (self.new.worker.mutators ≡ self.old.worker.mutators) }
+        ensures begun { BeginsCall self.old (Calls (Ld into base (operands.Number value))) result self.new }
+    {
+        let worker: &mut Worker = &mut self.worker;
+        let seat = &mut self.seat;
+        if !worker.looks() {
+            worker.begin_load(into, base, value);
+            return Answered::Open;
+        }
+        let instr = Instr::Ld(into, base, Operand::Number(value));
+        let gate = h.loads::<Brand>(worker, instr, None, seat, worker.gate_place());
+        let Some(at) = worker.record_at(gate, base) else {
+            return worker.load_at_gate(into, base, value, gate);
+        };
+        let stage = looks_at_record(at, value, into);
+        let page = h.loads::<Brand>(worker, instr, Some(stage), seat, worker.page_place(at));
+        if !worker.is_open(at, page) {
+            return worker.load_at_page(into, base, value, at, page);
+        }
+        let stage = loads_header(at, value, into);
+        let header = h.loads::<Brand>(worker, instr, Some(stage), seat, worker.word_place(at));
+        let Some(role) = role_stored(header, value) else {
+            return worker.load_at_header(into, base, value, at, header);
+        };
+        let value_at = worker.value_at(at, value);
+        let last = Some(loads_value(at, value, role, into));
+        if worker.is_near(at, value) {
+            let word = h.loads::<Brand>(worker, instr, last, seat, worker.word_place(value_at));
+            worker.has_loaded(into, role, word);
+            return Answered::Executed;
+        }
+        let stage = looks_at_value(at, value, role, into);
+        let page = h.loads::<Brand>(
+            worker,
+            instr,
+            Some(stage),
+            seat,
+            worker.page_place(value_at),
+        );
+        if !worker.is_open(value_at, page) {
+            return worker.load_at_value_page(into, base, value, at, role, page);
+        }
+        let word = h.loads::<Brand>(worker, instr, last, seat, worker.word_place(value_at));
+        worker.has_loaded(into, role, word);
+        Answered::Executed
     }
 
     /// Takes in another caller, with its calls.

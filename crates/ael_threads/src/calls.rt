@@ -2,6 +2,8 @@
 
 ghost use Rattle.std.specs.Prelude.{◌≡◌, true, None, Some, is_some};
 ghost use Rattle.plain_state.specs.declared.end.End.{End};
+ghost use Rattle.mutator_asm.specs.declared.instr.Instr.TheVariants.{Ld};
+ghost use Rattle.mutator_asm.specs.declared.operand.Operand.TheVariants as operands;
 ghost use Rattle.gc_worker.specs.declared.stage.Stage.TheVariants.{Gone};
 ghost use Rattle.gc_worker.specs.declared.task.Task.{Task};
 ghost use Rattle.gc_worker.specs.declared.task.Task.TheVariants.{Calls};
@@ -9,13 +11,14 @@ ghost use Rattle.gc_worker.specs.Steps.Stepped.{MayExecute, awaits};
 ghost use Rattle.gc_worker.specs.Workers.Fits.{MayBegin};
 ghost use Rattle.ael_threads.specs.ActsInRow.{MakesSome, is_answer, is_idle};
 ghost use Rattle.ael_threads.specs.Calls.{Called, CalledBy, GoesOn, Halts, StaysSilent, IsUnderWay, Tries};
+ghost use Rattle.ael_threads.specs.Direct.{CalledSo};
 ghost use Rattle.ael_threads.specs.Seats.{Acts, Seated};
 
 use crate::mutator::Mutator;
 use crate::shared::Shared;
 use crate::site::Apart;
 use crossbeam_utils::Backoff;
-use gc_worker::{Did, Stepped};
+use gc_worker::{Answered, Did, Stepped};
 use mutator_asm::Instr;
 use std::sync::Wait;
 
@@ -58,6 +61,37 @@ impl Mutator {
     {
         self.begin(instr);
         self.comes_to::<R, Site>(rt, h)
+    }
+
+    /// Makes one `ld` with a number as index, as `exec` does, in few machine instructions in the common case. It says whether the call was
+    /// executed; else the mutator has its end.
+    #[inline(always)]
+    pub fn load<R: Wait>(&mut self, rt: &R, h: &Shared, into: u8, base: u8, value: u64) -> bool
+        requires table { self.old.table ≡ h.now.table.shared.table_id }
+        requires no_end { self.old.worker.account.end ≡ None }
+        requires no_task { self.old.worker.task ≡ None }
+        requires may_begin { MayBegin self.old.worker.account self.old.worker.registers (Some (Calls (Ld into base (operands.Number value)))) }
+        ensures table { self.new.table ≡ self.old.table }
+        ensures called { CalledSo self.old (Calls (Ld into base (operands.Number value))) result self.new }
+    {
+        match self.caller.begin_load(h, into, base, value) {
+            Answered::Executed => true,
+            Answered::Ended => false,
+            Answered::Open => self.comes_so(rt, h),
+        }
+    }
+
+    /// Makes acts, up to the effect or end of the task that it has begun, and says whether it was executed.
+    #[inline(never)]
+    fn comes_so<R: Wait>(&mut self, rt: &R, h: &Shared) -> bool
+        requires table { self.old.table ≡ h.now.table.shared.table_id }
+        ensures table { self.new.table ≡ self.old.table }
+        ensures called { (a : Seated) (task : Task) → IsUnderWay a task self.old → CalledSo a task result self.new }
+    {
+        match self.comes_to::<R, Apart>(rt, h) {
+            Did::Done => true,
+            Did::Trap(_) => false,
+        }
     }
 
     /// Makes acts, up to the effect or end of the task that it has begun.

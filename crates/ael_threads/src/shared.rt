@@ -1,9 +1,13 @@
 //! The words that threads share, and how a step is made on them.
 
 ghost use Rattle.std.specs.Prelude.{◌≡◌, ◌<◌, ◌≤◌, ◌+◌, [], Some};
+ghost use Rattle.atom_store.specs.declared.reply.Reply.TheVariants.{Value};
+ghost use Rattle.atom_store.specs.declared.step.Step.TheVariants.{Load};
 ghost use Rattle.gc_worker.specs.Workers.Held.{Held};
 ghost use Rattle.gc_worker.specs.Laws.Step.{nobody};
+ghost use Rattle.gc_worker.specs.Steps.Direct.{ahead};
 ghost use Rattle.gc_worker.specs.Steps.Wanted.{wanted};
+ghost use Rattle.ael_threads.specs.Direct.{IsReady};
 ghost use Rattle.ael_threads.specs.Rule.{RuleHolds, first_view, spent_view};
 ghost use Rattle.ael_threads.specs.Seats.{Heads, FitsTable, IsMine, Learns, Moves, Plays, ShowsSeen, both_of, first_number, first_of, others_of};
 
@@ -11,6 +15,8 @@ use crate::view::{Plan, View};
 use atom_store::{Reply, Step};
 use atomic_table::{Join, Play, Seat, Split, Table, TableRule};
 use gc_worker::Worker;
+use mutator_asm::Instr;
+use record_access::AccessStage;
 use std::alloc::Global;
 use std::marker::{Brand, PhantomData};
 
@@ -74,6 +80,27 @@ pub struct Shared {
 }
 
 impl Shared {
+    /// Loads a word for a worker whose code is still at its look. In the proofs it is ahead: at the look that begins this instruction, or at
+    /// this stage of its access.
+    #[inline(always)]
+    pub(crate) fn loads<J: Now>(
+        &self,
+        worker: &Worker,
+        instr: Instr,
+        stage: Option<AccessStage>,
+        seat: &mut Seat<u8, View>,
+        place: usize,
+    ) -> u64
+        requires table { seat.old.table_id ≡ self.now.table.shared.table_id }
+        requires now { J.now ≡ ahead worker.now instr stage }
+        requires want { wanted (ahead worker.now instr stage) ≡ Some (Load place) }
+        requires ready { IsReady (record { table = seat.old.table_id; worker = ahead worker.now instr stage; knows = seat.old.me.0 }) }
+        ensures table { (seat.new.table_id ≡ seat.old.table_id) × (seat.new.me.1 ≡ seat.old.me.1) }
+        ensures moved { Moves seat.old.me.0 (first_number seat.old.me.0.hands) (ahead worker.now instr stage) (Value result) seat.new.me.0 }
+    {
+        self.table.shared.load::<Turn<J>>(seat, place)
+    }
+
     /// Makes one step of the seat, whose worker wants it.
     pub(crate) fn step<J: Now>(
         &self,

@@ -12,3 +12,4 @@ pub mod Saves
 pub mod Checkpoints
 pub mod Guards
 pub mod Recalls
+pub mod Direct

@@ -5,3 +5,4 @@ pub mod Goes
 pub mod Stepped
 pub mod Made
 pub mod AtRest
+pub mod Direct

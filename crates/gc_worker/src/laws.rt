@@ -12,6 +12,7 @@ ghost use Rattle.gc_worker.specs.Workers.Counted.{CountedFit, CountsAreApart};
 ghost use Rattle.gc_worker.specs.Laws.Represented.{RepresentedWorkersStand};
 ghost use Rattle.gc_worker.specs.Laws.Stories.{StoriesKeep, StoriesOpen};
 ghost use Rattle.gc_worker.specs.Laws.Lost.{LostCellsAreEmpty};
+ghost use Rattle.gc_worker.specs.Steps.Direct.{LoadsGoByStages};
 
 /// A step of a worker is of a word of the table, and the worker may take the reply. What stood for a plain state before stands after
 /// it for the state that the answer leaves; if it tells that the epoch is traced, for that in which those cells are empty whose targets are
@@ -51,6 +52,11 @@ pub fn checkpoints_are_kept()
 /// finish the checkpoint has all of its pages saved.
 pub fn checkpoints_are_safe()
     ensures { CheckpointsAreSafe }
+{}
+
+/// What a direct `ld` reads takes the worker of the proofs from its look to the value's word, stage by stage, and tells nothing.
+pub fn direct_loads_go_by_stages()
+    ensures { LoadsGoByStages }
 {}
 
 /// The place of a step is in the table, by what the worker holds alone.

@@ -35,8 +35,8 @@ pub use history_laws::{
 };
 pub use laws::{
     answers_leave_the_others, beginnings_are_kept, checkpoints_are_begun, checkpoints_are_kept,
-    checkpoints_are_safe, counts_are_apart, ended_machines_make_way, heaps_open,
-    lost_cells_are_empty, pages_are_opened_by_claims, places_fit, readying_stands,
+    checkpoints_are_safe, counts_are_apart, direct_loads_go_by_stages, ended_machines_make_way,
+    heaps_open, lost_cells_are_empty, pages_are_opened_by_claims, places_fit, readying_stands,
     registers_lead_back, scanners_go_last, steps_keep, stories_keep, tasks_may_begin,
     traced_pages_are_open, what_is_represented_stands, what_stands_is_so, what_was_copied_was_live,
     who_is_gone_saw_why, workers_go_on, workers_want,
@@ -51,6 +51,8 @@ pub use stage::forwarding_register::ForwardingRegister;
 pub use stage::goal::Goal;
 pub use stage::write::Write;
 pub use steps::allocating::Making;
+pub use steps::answered::Answered;
+pub use steps::direct::loading::{loads_header, loads_value, looks_at_record, looks_at_value};
 pub use steps::stepped::Stepped;
 pub use task::Task;
 pub use worker::Worker;

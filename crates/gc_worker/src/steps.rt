@@ -2,7 +2,9 @@
 
 pub mod acting;
 pub mod allocating;
+pub mod answered;
 pub mod checkpoints;
+pub mod direct;
 pub mod guarding;
 pub mod instructions;
 pub mod looking;

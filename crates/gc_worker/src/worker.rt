@@ -27,7 +27,7 @@ use std::marker::Model;
 /// One worker of the collected heap. It names its next step and takes the reply; who has the words makes the step.
 #[derive(Drop)]
 pub struct Worker {
-    state: State,
+    pub(crate) state: State,
 }
 
 impl Model for Worker {

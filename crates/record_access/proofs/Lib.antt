@@ -2,3 +2,4 @@ pub mod Read
 pub mod StoredWords
 pub mod AccessRows
 pub mod AccessMeasure
+pub mod StoredValues

@@ -3,3 +3,4 @@ pub mod Access
 pub mod StoredWord
 pub mod HeldUp
 pub mod Rows
+pub mod StoredValue

@@ -19,12 +19,15 @@ mod field_access;
 mod laws;
 mod mixed_access;
 mod record_access;
+mod stored_value;
 
 pub use access::Access;
 pub use access_stage::AccessStage;
+pub use access_words::held;
 pub use accessed::Accessed;
 pub use board_access::{BoardAccess, BoardSwap, BoardUse};
 pub use field_access::{FieldAccess, FieldExchange, FieldUse, Role};
 pub use laws::{accesses_are_worked_out, accesses_go_on};
 pub use mixed_access::MixedAccess;
 pub use record_access::{RecordAccess, RecordUse};
+pub use stored_value::role_stored;
