@@ -1,4 +1,4 @@
-use Rattle.std.proofs.Common.{◌≡◌, Bool, true, false, Some, None, refl, sym, ◌∙◌, subst}
+use Rattle.std.proofs.Common.{◌≡◌, Bool, Some, None, sym, ◌∙◌, subst}
 use Rattle.gc_worker.specs.declared.calls.did.Did.TheVariants.{Done, Trap}
 use Rattle.gc_worker.specs.declared.task.Task.TheVariants.{Calls}
 use Rattle.mutator_asm.specs.declared.instr.Instr.TheVariants.{Ld}
