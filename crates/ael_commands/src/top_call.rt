@@ -3,10 +3,10 @@
 ghost use Rattle.ael_jobs.specs.Calls.Audits.{AuditEnds, SaysYesToTrueOutputs};
 ghost use Rattle.ael_jobs.specs.Calls.Call.{call_of};
 ghost use Rattle.ael_jobs.specs.Calls.Concordance.{ConcordEnds, LargeHeapsSuffice, PrintsConcordance};
-ghost use Rattle.ael_jobs.specs.Calls.Headline.{IsAlwaysTheSame, CallIsAnswered, IsComplete, PrintsListing, PrintsPlainly};
+ghost use Rattle.ael_jobs.specs.Calls.Headline.{IsAlwaysTheSame, CallIsAnswered, HeadlineHolds, IsComplete, PrintsListing, PrintsPlainly};
 
 use crate::answering::answer;
-use ael_jobs::{Sink, Source, ael_still, finish, read_words};
+use ael_jobs::{Sink, Source, finish, read_words};
 use std::alloc::Global;
 use std::marker::Sync;
 use std::sync::Wait;
@@ -33,11 +33,20 @@ pub fn ael<R: Threads + Wait + Sync, S: Source, O: Sink, E: Sink>(
     ensures audits { AuditEnds (call_of S.Source O.Sink E.Sink words.now src.old src.new out.old out.new err.old err.new result) }
     ensures says_yes { SaysYesToTrueOutputs (call_of S.Source O.Sink E.Sink words.now src.old src.new out.old out.new err.old err.new result) }
 {
-    match ael_still(alloc, words, src, out, err) {
-        Some(code) => code,
-        None => {
-            let answer = answer(rt, alloc, read_words(alloc, words), src);
-            finish(&answer, out, err)
-        }
-    }
+    whole_call(rt, alloc, words, src, out, err)
+}
+
+/// The same, with all of it in one clause.
+fn whole_call<R: Threads + Wait + Sync, S: Source, O: Sink, E: Sink>(
+    rt: &R,
+    alloc: Global,
+    words: &[String],
+    src: &mut S,
+    out: &mut O,
+    err: &mut E,
+) -> u8
+    ensures { HeadlineHolds (call_of S.Source O.Sink E.Sink words.now src.old src.new out.old out.new err.old err.new result) }
+{
+    let answer = answer(rt, alloc, read_words(alloc, words), src);
+    finish(&answer, out, err)
 }

@@ -9,7 +9,7 @@ use Rattle.plain_state.specs.State.{Heap, Mutator, Plain, record_of}
 use Rattle.plain_state.proofs.Elements.{set-found, slice_get-replicate, slice_get-set_other}
 use Rattle.mutator_asm.specs.declared.instr.Instr.{Instr}
 use Rattle.plain_heap.specs.declared.action.Action.{Action}
-use Rattle.plain_heap.specs.declared.action.Action.TheVariants.{Sets, Links, Makes, Measures, Loads, Stores, Compares, Gets, Swaps}
+use Rattle.plain_heap.specs.declared.action.Action.TheVariants.{Loads, Stores, Compares}
 use Rattle.plain_heap.specs.Action.{action}
 use Rattle.plain_heap.specs.Call.{After, call, performed, store_in, value_in}
 use Rattle.plain_heap.specs.Step.{settled}
@@ -31,17 +31,11 @@ module _ (m : ℕ) (heap : Heap) (k : Mutator) where
   AsMany a = length a.mutator.registers ≡ length k.registers
 
   performed-count : (act : Action) → IfOk (performed m heap k act) AsMany
-  performed-count (Sets d v) = length-set k.registers d v
-  performed-count (Links d target) = length-set k.registers d _
-  performed-count (Makes kind d n v) = length-set k.registers d _
-  performed-count (Measures d i) = length-set k.registers d _
   performed-count (Loads d i x) = if_ok-bind AsMany (value_in heap i x) _ (λ v. length-set k.registers d v)
   performed-count (Stores i x v) = if_ok-bind AsMany (value_in heap i x) _ (λ old. if_ok-bind AsMany (store_in heap i (record_of heap i) x v) _ (λ h. refl))
   performed-count (Compares d i x expected v) =
       performed_exchange m heap k d i x expected v AsMany (length-set k.registers d _) (if_ok-bind AsMany (store_in heap i (record_of heap i) x v) _ (λ h. length-set k.registers d _))
-  performed-count (Gets d x) = length-set k.registers d _
-  performed-count (Swaps d x v) = length-set k.registers d _
-  performed-count _ = refl
+  performed-count _ = first_of (simp length-set, cc)
 
   call-count : (i : Instr) → IfOk (call m heap k i) AsMany
   unfolding call

@@ -1,4 +1,5 @@
+pub mod NextStages
+pub mod StoredRows
 pub mod Placing
-pub mod Marking
 pub mod Reserving
 pub mod AllocationRows

@@ -1,143 +1,43 @@
--- What an allocation's step does to the words, by its stage.
-use Rattle.std.proofs.Common.{◌≡◌, ◌≢◌, ℕ, ◌+◌, ◌*◌, ◌^◌, ◌<◌, ◌≤◌, ◌==◌, Bool, true, false, cond, nat_lt, inl, inr, List, slice_index, Option, Some, None, arith, refl, sym, ap, subst, ◌∙◌}
-use Rattle.std.proofs.lemmas.Bool.{cases_eq, cases_lt}
-use Rattle.std.proofs.lemmas.Bool.Decides.{nat_tests}
-use Rattle.atom_store.specs.declared.reply.Reply.{Reply}
+-- What an allocation's step makes of the words, by its stage: what it has made ready, the record that it places, and that each page that it opens
+-- was marked as new before, if a checkpoint was begun.
+use Rattle.std.proofs.Common.{◌≡◌, ◌≢◌, ℕ, ◌+◌, ◌*◌, ◌<◌, ◌≤◌, Bool, true, false, cond, nat_le, List, slice_index, Option, Some, None, arith, refl, ap, subst, ◌∙◌}
+use Rattle.std.proofs.lemmas.Option.{same_Some}
 use Rattle.atom_store.specs.declared.reply.Reply.TheVariants as reply
-use Rattle.atom_store.specs.declared.step.Step.TheVariants.{Store}
+use Rattle.atom_store.specs.declared.step.Step.TheVariants as step
 use Rattle.atom_store.specs.declared.turn.Turn.{Turn}
-use Rattle.atom_store.specs.declared.turn.Turn.TheVariants.{More, Finished}
+use Rattle.atom_store.specs.declared.turn.Turn.TheVariants.{Finished}
 use Rattle.atom_store.specs.Acts.{MakesStep, after_next_step}
 use Rattle.atom_store.specs.Step.{words_after}
+use Rattle.atom_store.specs.StepOn.{Store}
 use Rattle.atom_store.proofs.Acting.{no_step}
-use Rattle.atom_store.proofs.StepWords.{slice_index-words_after, slice_index-stored}
+use Rattle.atom_store.proofs.StepWords.{slice_index-words_after}
 use Rattle.heap_words.specs.declared.kind.Kind.{Kind}
 use Rattle.heap_words.specs.declared.kind.Kind.TheVariants.{Fields, Raw, Mixed, Weak}
 use Rattle.heap_words.specs.Decoded.{encode}
 use Rattle.heap_words.specs.Word.{number_word}
+use Rattle.record_layout.specs.declared.header.Header.{Header}
 use Rattle.record_layout.specs.Layout.{header_says}
 use Rattle.space_map.specs.declared.area_word.AreaWord.{AreaWord}
 use Rattle.space_map.specs.declared.page_word.PageWord.TheVariants.{Open}
 use Rattle.space_map.specs.declared.save_word.SaveWord.TheVariants.{New}
 use Rattle.space_map.specs.AreaWord.{decode_area}
 use Rattle.space_map.specs.PageWord.{decode_page, encode_page}
+use Rattle.space_map.specs.SaveWord.{decode_save, encode_save}
 use Rattle.space_map.specs.Spaces.{page_of}
-use Rattle.space_map.specs.Table.{Row, Page, HeapWord, SaveOf, IsRow, place_of, save_place_of}
-use Rattle.space_map.specs.SaveWord.{encode_save}
-use Rattle.space_map.specs.TableWords.{row_word, HoldsTable}
-use Rattle.space_map.proofs.PageWords.{decode_page-encode_page}
-use Rattle.space_map.proofs.Rows.{place_of-apart, place_of-lt, save_place_of-ge}
+use Rattle.space_map.specs.Table.{Page, HeapWord, SaveOf, place_of}
+use Rattle.space_map.specs.TableWords.{HoldsTable}
+use Rattle.space_map.specs.WholeTable.{Within, Behind, HoldsWhole, whole_word}
 use Rattle.alloc_end.specs.declared.fitting.Fitting.{Fitting}
 use Rattle.alloc_end.specs.declared.new_pages.NewPages.{NewPages}
 use Rattle.alloc_end.specs.declared.allocated.Allocated.{Allocated}
 use Rattle.alloc_end.specs.declared.allocated.Allocated.TheVariants.{Placed, Full}
 use Rattle.alloc_end.specs.declared.place_stage.PlaceStage.{PlaceStage}
-use Rattle.alloc_end.specs.declared.place_stage.PlaceStage.TheVariants.{LoadsArea, ExchangesArea, StoresZero, StoresNew, OpensPage, StoresCount, StoresTarget, StoresLink, StoresHeader, Ended}
-use Rattle.alloc_end.specs.Place.{Placing, at_stage, size_of, pages_for, words_for, fits, shortage, place_machine, stores_first, told, told_at, taken_at, looked_at_area, readies, cleared, after_opening}
+use Rattle.alloc_end.specs.declared.place_stage.PlaceStage.TheVariants.{LoadsTraced, LoadsArea, ExchangesArea, StoresZero, StoresNew, OpensPage, StoresCount, StoresTarget, StoresLink, StoresHeader, Ended}
+use Rattle.alloc_end.specs.Place.{Placing, begun, at_stage, wants_at, size_of, words_for, fits, shortage, place_machine, stores_first, told, taken_at, looked_at_area, readies, cleared, after_opening}
 use Rattle.alloc_end.specs.Soundness.{IsSoundPlacing}
-use Rattle.alloc_end.specs.Theorems.{area_word, AreZero, AreOpen, AreCleared, IsRunReady, AwaitsHeader, IsReady, PlacesRecord, zeros_from}
-
--- ---- stores in heap words and page words
-
-word_apart : (n a b : ℕ) → a ≢ b → place_of n (HeapWord a) ≢ place_of n (HeapWord b)
-unfolding place_of
-word_apart n a b apart same = apart (omega arith)
-
-page_word_apart : (n page a : ℕ) → page ≤ 2 * n → a ≤ 128 * n + 63 → place_of n (Page page) ≢ place_of n (HeapWord a)
-page_word_apart n page a is_page is_word = place_of-apart n (Page page) (HeapWord a) is_page is_word (λ same. cc)
-
-page_apart : (n page other : ℕ) → page ≢ other → place_of n (Page page) ≢ place_of n (Page other)
-unfolding place_of
-page_apart n page other apart same = apart (omega arith)
-
--- after a store in a word of the heap its other words are what they were
-other_word : (n a b value : ℕ) (before after : List ℕ) → after ≡ words_after (Store (place_of n (HeapWord b)) value) before → a ≢ b
-    → row_word n (HeapWord a) after ≡ row_word n (HeapWord a) before
-other_word n a b value before after makes apart =
-    ap (row_word n (HeapWord a)) makes ∙ slice_index-words_after (Store (place_of n (HeapWord b)) value) before (place_of n (HeapWord a)) (word_apart n a b apart)
-
-this_word : (n a value : ℕ) (before after : List ℕ) → HoldsTable n before → a ≤ 128 * n + 63
-    → after ≡ words_after (Store (place_of n (HeapWord a)) value) before → row_word n (HeapWord a) after ≡ value
-this_word n a value before after whole is_word makes =
-    let inside = place_of-lt n (HeapWord a) is_word in
-    ap (row_word n (HeapWord a)) makes ∙ slice_index-stored (place_of n (HeapWord a)) value before (omega (arith, inside, whole))
-
--- so do page words, and words of the heap after a store in a page word
-page_stays : (n page b value : ℕ) (before after : List ℕ) → page ≤ 2 * n → b ≤ 128 * n + 63
-    → after ≡ words_after (Store (place_of n (HeapWord b)) value) before → row_word n (Page page) after ≡ row_word n (Page page) before
-page_stays n page b value before after is_page is_word makes =
-    ap (row_word n (Page page)) makes
-    ∙ slice_index-words_after (Store (place_of n (HeapWord b)) value) before (place_of n (Page page)) (page_word_apart n page b is_page is_word)
-
-word_stays : (n a page value : ℕ) (before after : List ℕ) → page ≤ 2 * n → a ≤ 128 * n + 63
-    → after ≡ words_after (Store (place_of n (Page page)) value) before → row_word n (HeapWord a) after ≡ row_word n (HeapWord a) before
-word_stays n a page value before after is_page is_word makes =
-    ap (row_word n (HeapWord a)) makes
-    ∙ slice_index-words_after (Store (place_of n (Page page)) value) before (place_of n (HeapWord a)) (λ same. page_word_apart n page a is_page is_word (sym same))
-
-other_page : (n page other value : ℕ) (before after : List ℕ) → after ≡ words_after (Store (place_of n (Page other)) value) before → page ≢ other
-    → row_word n (Page page) after ≡ row_word n (Page page) before
-other_page n page other value before after makes apart =
-    ap (row_word n (Page page)) makes ∙ slice_index-words_after (Store (place_of n (Page other)) value) before (place_of n (Page page)) (page_apart n page other apart)
-
-this_page : (n page value : ℕ) (before after : List ℕ) → HoldsTable n before → page ≤ 2 * n
-    → after ≡ words_after (Store (place_of n (Page page)) value) before → row_word n (Page page) after ≡ value
-this_page n page value before after whole is_page makes =
-    let inside = place_of-lt n (Page page) is_page in
-    ap (row_word n (Page page)) makes ∙ slice_index-stored (place_of n (Page page)) value before (omega (arith, inside, whole))
-
--- so do all rows that each table has, after a store behind them
-pub row_before : (n page value : ℕ) (row : Row) (before after : List ℕ) → IsRow n row
-    → after ≡ words_after (Store (save_place_of n (SaveOf page)) value) before → row_word n row after ≡ row_word n row before
-row_before n page value row before after is makes =
-    let inside = place_of-lt n row is in
-    let behind = save_place_of-ge n (SaveOf page) in
-    ap (row_word n row) makes
-    ∙ slice_index-words_after (Store (save_place_of n (SaveOf page)) value) before (place_of n row) (λ same. omega (arith, inside, behind, same))
-
--- ---- zeros and open pages
-
-zero_more : (n from next : ℕ) (before after : List ℕ) → HoldsTable n before → next ≤ 128 * n → AreZero n from next before
-    → after ≡ words_after (Store (place_of n (HeapWord next)) 0) before → AreZero n from (next + 1) after
-zero_more n from next before after whole below zero makes a low high =
-    elim (cases_lt a next) [
-      | inl earlier ↦ other_word n a next 0 before after makes (omega arith) ∙ zero a low earlier
-      | inr later ↦ let here : a ≡ next = omega arith in rw here (this_word n next 0 before after whole (omega arith) makes)
-    ]
-
-zero_stays : (n from upto page value : ℕ) (before after : List ℕ) → page ≤ 2 * n → upto ≤ 128 * n → AreZero n from upto before
-    → after ≡ words_after (Store (place_of n (Page page)) value) before → AreZero n from upto after
-zero_stays n from upto page value before after is_page below zero makes a low high =
-    word_stays n a page value before after is_page (omega arith) makes ∙ zero a low high
-
--- behind the word that is written
-zero_behind : (n from behind at upto value : ℕ) (before after : List ℕ) → AreZero n from upto before → from ≤ behind → at < behind
-    → after ≡ words_after (Store (place_of n (HeapWord at)) value) before → AreZero n behind upto after
-zero_behind n from behind at upto value before after zero later past makes a low high =
-    other_word n a at value before after makes (omega arith) ∙ zero a (omega arith) high
-
--- so they are, if 0 is stored in any word
-zero_kept : (n from upto at : ℕ) (before after : List ℕ) → HoldsTable n before → at ≤ 128 * n → AreZero n from upto before
-    → after ≡ words_after (Store (place_of n (HeapWord at)) 0) before → AreZero n from upto after
-zero_kept n from upto at before after whole inside zero makes a low high =
-    elim (cases_eq a at) [
-      | inl here ↦ rw here (this_word n at 0 before after whole (omega (arith, inside)) makes)
-      | inr apart ↦ other_word n a at 0 before after makes apart ∙ zero a low high
-    ]
-
-open_more : (n epoch from next : ℕ) (before after : List ℕ) → HoldsTable n before → next ≤ 2 * n → epoch < 2 ^ 32 → AreOpen n epoch from next before
-    → after ≡ words_after (Store (place_of n (Page next)) (encode_page (Open epoch))) before → AreOpen n epoch from (next + 1) after
-open_more n epoch from next before after whole below late opened makes page low high =
-    elim (cases_lt page next) [
-      | inl earlier ↦ ap decode_page (other_page n page next (encode_page (Open epoch)) before after makes (omega arith)) ∙ opened page low earlier
-      | inr later ↦ let here : page ≡ next = omega arith in
-          rw here (ap decode_page (this_page n next (encode_page (Open epoch)) before after whole below makes) ∙ decode_page-encode_page (Open epoch) late)
-    ]
-
-open_stays : (n epoch from upto a value : ℕ) (before after : List ℕ) → upto ≤ 2 * n → a ≤ 128 * n + 63 → AreOpen n epoch from upto before
-    → after ≡ words_after (Store (place_of n (HeapWord a)) value) before → AreOpen n epoch from upto after
-open_stays n epoch from upto a value before after below is_word opened makes page low high =
-    ap decode_page (page_stays n page a value before after (omega arith) is_word makes) ∙ opened page low high
+use Rattle.alloc_end.specs.Theorems.{area_word, AreZero, AreOpen, AreCleared, IsRunReady, AwaitsHeader, IsReady, PlacesRecord, zeros_from, AreNew, AreMarked, NoneIsMarkedYet, OpenedPagesAreNew}
+use Rattle.alloc_end.proofs.NextStages.{cleared_on, last_step, opened_on, readied}
+use Rattle.alloc_end.proofs.StoredRows.{new_more, new_stays, open_more, open_stays, other_word, row_before, this_word, zero_behind, zero_kept, zero_more, zero_stays}
 
 -- ---- what is made ready
 
@@ -160,22 +60,13 @@ ready_by_exchange p f false found words = tt
 
 -- the pages are as they are to be, whether the next one is marked first or not
 ready_next : (p : Placing) (new : NewPages) (words : List ℕ) → AreCleared p new words → IsReadyAt p (readies p.snap new) words
-ready_next p new words cleared = by_test (p.snap == 0)
-  where
-    by_test : (b : Bool) → IsReadyAt p (cond b (OpensPage new) (StoresNew new)) words
-    by_test true = cleared
-    by_test false = cleared
+ready_next p new words are = readied (λ stage. IsReadyAt p stage words) p.snap new (λ none. are) (λ some. are)
 
 ready_by_zero : (p : Placing) (new : NewPages) (words : List ℕ) → new.next < new.first + words_for p.header → AreZero p.layout.pages new.first (new.next + 1) words
     → IsReadyAt p (cleared (words_for p.header) p.snap new) words
-ready_by_zero p new words below zero = by_test (nat_lt (new.next + 1) (new.first + words_for p.header)) refl
-  where
-    by_test : (b : Bool) → nat_lt (new.next + 1) (new.first + words_for p.header) ≡ b
-        → IsReadyAt p (cond b (StoresZero (record { first = new.first; next = new.next + 1 })) (readies p.snap (record { first = new.first; next = page_of new.first }))) words
-    by_test true test = zero
-    by_test false test =
-        let last : new.first + words_for p.header ≤ new.next + 1 = grind (arith, nat_tests) in
-        ready_next p (record { first = new.first; next = page_of new.first }) words (λ a low high. zero a low (omega arith), λ page low high. absurd (omega arith))
+ready_by_zero p new words below zero =
+    cleared_on (λ stage. IsReadyAt p stage words) (words_for p.header) p.snap new (λ more. zero)
+    (λ last. ready_next p (record { first = new.first; next = page_of new.first }) words (λ a low high. zero a low (omega (arith, high, last)), λ page low high. absurd (omega (arith, low, high))))
 
 zeros_from-pos : (kind : Kind) → 0 < zeros_from kind
 zeros_from-pos Fields = omega arith
@@ -200,21 +91,15 @@ ready_first p Weak words is room ready = ready
 
 ready_by_page : (p : Placing) (new : NewPages) (words : List ℕ) → AreZero p.layout.pages new.first (new.first + words_for p.header) words
     → AreOpen p.layout.pages p.epoch (page_of new.first) (new.next + 1) words → IsReady (after_opening p new) (after_opening p new).stage words
-ready_by_page p new words zero open_pages = by_test (nat_lt (new.next + 1) (page_of new.first + pages_for (size_of p.header))) refl
-  where
-    by_test : (b : Bool) → nat_lt (new.next + 1) (page_of new.first + pages_for (size_of p.header)) ≡ b
-        → let next = cond b (at_stage p (readies p.snap (record { first = new.first; next = new.next + 1 })))
-        (record p { run = record { at = new.first; end = new.first + words_for p.header }; stage = stores_first p.header.kind })
-        in IsReady next next.stage words
-    by_test true test = ready_next p (record { first = new.first; next = new.next + 1 }) words (zero, open_pages)
-    by_test false test =
-        let last : page_of new.first + pages_for (size_of p.header) ≤ new.next + 1 = grind (arith, nat_tests) in
-        ready_first (record p { run = record { at = new.first; end = new.first + words_for p.header }; stage = stores_first p.header.kind }) p.header.kind words refl
-        (omega arith) (zero, λ page low high. open_pages page low (omega arith))
+ready_by_page p new words zero open_pages =
+    opened_on (λ next. IsReady next next.stage words) p new (λ more. ready_next p (record { first = new.first; next = new.next + 1 }) words (zero, open_pages))
+    (λ last.
+    ready_first (record p { run = record { at = new.first; end = new.first + words_for p.header }; stage = stores_first p.header.kind }) p.header.kind words refl
+    (omega arith) (zero, λ page low high. open_pages page low (omega (arith, high, last))))
 
 -- the count of a mixed record's fields is stored
 count_stored : (p : Placing) (before after : List ℕ) → HoldsTable p.layout.pages before → p.header.kind ≡ Mixed → p.run.at + 1 < p.run.end → p.run.end ≤ 128 * p.layout.pages
-    → IsRunReady p before → after ≡ words_after (Store (place_of p.layout.pages (HeapWord (p.run.at + 1))) (number_word p.fields)) before → AwaitsHeader p after
+    → IsRunReady p before → after ≡ words_after (step.Store (place_of p.layout.pages (HeapWord (p.run.at + 1))) (number_word p.fields)) before → AwaitsHeader p after
 count_stored p before after whole is room inside ready makes =
     let n : ℕ = p.layout.pages in
     let at : ℕ = p.run.at in
@@ -229,7 +114,7 @@ count_stored p before after whole is room inside ready makes =
 
 -- a cell's target is stored
 target_stored : (p : Placing) (before after : List ℕ) → HoldsTable p.layout.pages before → p.header.kind ≡ Weak → p.run.at + 1 < p.run.end → p.run.end ≤ 128 * p.layout.pages
-    → IsRunReady p before → after ≡ words_after (Store (place_of p.layout.pages (HeapWord (p.run.at + 1))) p.target) before → AwaitsHeader p after
+    → IsRunReady p before → after ≡ words_after (step.Store (place_of p.layout.pages (HeapWord (p.run.at + 1))) p.target) before → AwaitsHeader p after
 target_stored p before after whole is room inside ready makes =
     let n : ℕ = p.layout.pages in
     let at : ℕ = p.run.at in
@@ -244,7 +129,7 @@ target_stored p before after whole is room inside ready makes =
 
 -- a cell's link is stored, which was 0 before
 link_stored : (p : Placing) (before after : List ℕ) → HoldsTable p.layout.pages before → p.header.kind ≡ Weak → p.run.at + 2 < p.run.end → p.run.end ≤ 128 * p.layout.pages
-    → AwaitsHeader p before → after ≡ words_after (Store (place_of p.layout.pages (HeapWord (p.run.at + 2))) 0) before → AwaitsHeader (at_stage p StoresHeader) after
+    → AwaitsHeader p before → after ≡ words_after (step.Store (place_of p.layout.pages (HeapWord (p.run.at + 2))) 0) before → AwaitsHeader (at_stage p StoresHeader) after
 link_stored p before after whole is room inside awaits makes =
     let n : ℕ = p.layout.pages in
     let at : ℕ = p.run.at in
@@ -309,46 +194,10 @@ never_placed_at_area p traced size at (Some area) tells = by_test (fits traced (
     by_test false e = cc
 never_placed_at_area p traced size at None tells = cc
 
-pub never_ends_at_exchange : (p : Placing) (f : Fitting) (r : Reply) (result : Allocated) → told (taken_at (at_stage p (ExchangesArea f)) (ExchangesArea f) r) ≡ Finished result → ⊥
-never_ends_at_exchange p f reply.Won result tells = cc
-never_ends_at_exchange p f _ result tells = cc
-
-never_ends_at_next : (snap : ℕ) (new : NewPages) (result : Allocated) → told_at (readies snap new) ≡ Finished result → ⊥
-never_ends_at_next snap new result tells = by_test (snap == 0) tells
-  where
-    by_test : (b : Bool) → told_at (cond b (OpensPage new) (StoresNew new)) ≡ Finished result → ⊥
-    by_test true e = cc
-    by_test false e = cc
-
-pub never_ends_at_zero : (p : Placing) (new : NewPages) (result : Allocated) → told (at_stage p (cleared (words_for p.header) p.snap new)) ≡ Finished result → ⊥
-never_ends_at_zero p new result tells = by_test (nat_lt (new.next + 1) (new.first + words_for p.header)) tells
-  where
-    by_test : (b : Bool) → told (at_stage p (cond b (StoresZero (record { first = new.first; next = new.next + 1 })) (readies p.snap (record { first = new.first; next = page_of new.first })))) ≡ Finished result → ⊥
-    by_test true e = cc
-    by_test false e = never_ends_at_next p.snap (record { first = new.first; next = page_of new.first }) result e
-
-never_ends_at_first : (kind : Kind) (result : Allocated) → told_at (stores_first kind) ≡ Finished result → ⊥
-never_ends_at_first Fields result e = cc
-never_ends_at_first _ result e = cc
-
-pub never_ends_at_page : (p : Placing) (new : NewPages) (result : Allocated) → told (after_opening p new) ≡ Finished result → ⊥
-never_ends_at_page p new result tells = by_test (nat_lt (new.next + 1) (page_of new.first + pages_for (size_of p.header))) tells
-  where
-    by_test : (b : Bool) → told (cond b (at_stage p (readies p.snap (record { first = new.first; next = new.next + 1 })))
-        (record p { run = record { at = new.first; end = new.first + words_for p.header }; stage = stores_first p.header.kind })) ≡ Finished result → ⊥
-    by_test true e = never_ends_at_next p.snap (record { first = new.first; next = new.next + 1 }) result e
-    by_test false e = never_ends_at_first p.header.kind result e
-
-pub more_never_ends : (result : Allocated) → More ≡ Finished result → ⊥
-more_never_ends result e = cc
-
 pub places : (p : Placing) (stage : PlaceStage) (before after : List ℕ) (at : ℕ) → IsSoundPlacing (at_stage p stage) → HoldsTable p.layout.pages before
     → IsReady (at_stage p stage) stage before → MakesStep place_machine (at_stage p stage) before after (Finished (Placed at))
     → PlacesRecord (at_stage p stage) before after at
 places p (LoadsArea traced size) before after at sound whole is acts = absurd (never_placed_at_area p traced size at (decode_area (area_word p before)) acts.tells)
-places p (ExchangesArea f) before after at sound whole is acts = absurd (never_ends_at_exchange p f _ (Placed at) acts.tells)
-places p (StoresZero new) before after at sound whole is acts = absurd (never_ends_at_zero p new (Placed at) acts.tells)
-places p (OpensPage new) before after at sound whole is acts = absurd (never_ends_at_page p new (Placed at) acts.tells)
 places p StoresHeader before after at sound whole is acts = subst (PlacesRecord (at_stage p StoresHeader) before after) same record_placed
   where
     same : p.run.at ≡ at
@@ -369,7 +218,80 @@ places p StoresHeader before after at sound whole is acts = subst (PlacesRecord 
           opened = open_stays p.layout.pages p.epoch (page_of p.run.at) (page_of p.run.end) p.run.at (encode (header_says p.header)) before after (omega arith) (omega arith) is.opened acts.makes;
           run_goes_on = refl;
           others = λ place apart. ap (λ ws. slice_index ws place) acts.makes
-              ∙ slice_index-words_after (Store (place_of p.layout.pages (HeapWord p.run.at)) (encode (header_says p.header))) before place apart;
+              ∙ slice_index-words_after (step.Store (place_of p.layout.pages (HeapWord p.run.at)) (encode (header_says p.header))) before place apart;
         }
-places p (Ended result) before after at sound whole is acts = absurd (no_step acts.has_step)
-places p _ before after at sound whole is acts = absurd (more_never_ends (Placed at) acts.tells)
+places p stage before after at sound whole is acts = absurd (last_step p stage before after (Placed at) acts)
+
+-- ---- pages marked as new
+
+marked_first : (p : Placing) (kind : Kind) (words : List ℕ) → AreMarked p (stores_first kind) words
+marked_first p Fields words = tt
+marked_first p _ words = tt
+
+pub none_yet : NoneIsMarkedYet
+none_yet layout run header epoch fields snap target words = by_test (nat_le (run.at + size_of header) run.end)
+  where
+    by_test : (b : Bool) → AreMarked (begun layout run header epoch fields snap target) (cond b (stores_first header.kind) LoadsTraced) words
+    by_test true = marked_first (begun layout run header epoch fields snap target) header.kind words
+    by_test false = tt
+
+-- at the stage that it has come to
+abbrev IsMarkedAt : Placing → PlaceStage → List ℕ → Type 0
+IsMarkedAt p stage words = AreMarked (at_stage p stage) stage words
+
+marked_by_area : (p : Placing) (traced : Bool) (size : ℕ) (o : Option AreaWord) (words : List ℕ) → IsMarkedAt p (looked_at_area p traced size o) words
+marked_by_area p traced size (Some area) words = by_test (fits traced (words_for p.header) area)
+  where
+    by_test : (b : Bool) → IsMarkedAt p (cond b (ExchangesArea (record { traced = traced; area = area })) (Ended (Full (shortage traced size p.header area)))) words
+    by_test true = tt
+    by_test false = tt
+marked_by_area p traced size None words = tt
+
+marked_by_exchange : (p : Placing) (f : Fitting) (b : Bool) (found : ℕ) (words : List ℕ)
+    → let next = taken_at (at_stage p (ExchangesArea f)) (ExchangesArea f) (cond b reply.Won (reply.Lost found)) in AreMarked next next.stage words
+marked_by_exchange p f true found words = tt
+marked_by_exchange p f false found words = tt
+
+-- before the next page, those up to it are marked, if a checkpoint was begun
+marked_next : (p : Placing) (new : NewPages) (words : List ℕ) → (0 < p.snap → AreNew p.layout.pages p.snap (page_of new.first) new.next words) → IsMarkedAt p (readies p.snap new) words
+marked_next p new words are = readied (λ stage. IsMarkedAt p stage words) p.snap new (λ none some. absurd (omega (arith, none, some))) are
+
+marked_by_zero : (p : Placing) (new : NewPages) (words : List ℕ) → IsMarkedAt p (cleared (words_for p.header) p.snap new) words
+marked_by_zero p new words =
+    cleared_on (λ stage. IsMarkedAt p stage words) (words_for p.header) p.snap new (λ more. tt)
+    (λ last. marked_next p (record { first = new.first; next = page_of new.first }) words (λ some page low high. absurd (omega (arith, low, high))))
+
+marked_by_page : (p : Placing) (new : NewPages) (words : List ℕ) → (0 < p.snap → AreNew p.layout.pages p.snap (page_of new.first) (new.next + 1) words)
+    → AreMarked (after_opening p new) (after_opening p new).stage words
+marked_by_page p new words are =
+    opened_on (λ next. AreMarked next next.stage words) p new (λ more. marked_next p (record { first = new.first; next = new.next + 1 }) words are)
+    (λ last. marked_first (record p { run = record { at = new.first; end = new.first + words_for p.header }; stage = stores_first p.header.kind }) p.header.kind words)
+
+pub marked : (p : Placing) (stage : PlaceStage) (before after : List ℕ) (turn : Turn Allocated) → IsSoundPlacing (at_stage p stage) → HoldsWhole p.layout before
+    → AreMarked (at_stage p stage) stage before → MakesStep place_machine (at_stage p stage) before after turn
+    → let next = after_next_step place_machine (at_stage p stage) before in AreMarked next next.stage after
+marked p (LoadsArea traced size) before after turn sound whole is acts = marked_by_area p traced size (decode_area (area_word p before)) after
+marked p (ExchangesArea f) before after turn sound whole is acts = marked_by_exchange p f _ (area_word p before) after
+marked p (StoresZero new) before after turn sound whole is acts = marked_by_zero p new after
+marked p (StoresNew new) before after turn sound whole is acts =
+    let pages = sound.stage.0 in
+    λ some. new_more p.layout p.snap (page_of new.first) new.next before after whole sound.room some sound.snap (omega (arith, pages)) is acts.makes
+marked p (OpensPage new) before after turn sound whole is acts =
+    let stage = sound.stage in
+    marked_by_page p new after
+    (λ some. new_stays p.layout.pages p.snap (page_of new.first) (new.next + 1) new.next (encode_page (Open p.epoch)) before after (omega (arith, stage)) (is some) acts.makes)
+marked p (Ended result) before after turn sound whole is acts = absurd (no_step acts.has_step)
+marked p _ before after turn sound whole is acts = tt
+
+-- ---- the page that is opened
+
+opened_at : (p : Placing) (stage : PlaceStage) (words : List ℕ) (page value : ℕ) → IsSoundPlacing (at_stage p stage) → AreMarked p stage words → 0 < p.snap
+    → wants_at p stage ≡ Some (Store (Within (Page page)) value) → decode_save (whole_word p.layout.pages (Behind (SaveOf page)) words) ≡ Some (New p.snap)
+opened_at p (OpensPage new) words page value sound is some wants =
+    let here : new.next ≡ page = (let e = same_Some _ _ wants in cc) in
+    let stage = sound.stage in
+    is some page (omega (arith, stage, here)) (omega (arith, here))
+opened_at p _ words page value sound is some wants = absurd (cc)
+
+pub opened_are_new : OpenedPagesAreNew
+opened_are_new p words page value sound is some wants = opened_at p p.stage words page value sound is some wants

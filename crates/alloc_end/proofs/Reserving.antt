@@ -6,7 +6,6 @@ use Rattle.atom_store.specs.declared.step.Step.TheVariants.{Exchange}
 use Rattle.atom_store.specs.declared.turn.Turn.{Turn}
 use Rattle.atom_store.specs.declared.turn.Turn.TheVariants.{Finished}
 use Rattle.atom_store.specs.Acts.{MakesStep}
-use Rattle.atom_store.proofs.Acting.{no_step}
 use Rattle.atom_store.proofs.StepWords.{slice_index-words_after, slice_index-won, won_exactly}
 use Rattle.space_map.specs.declared.area_word.AreaWord.{AreaWord}
 use Rattle.space_map.specs.AreaWord.{decode_area, encode_area, part_end}
@@ -20,11 +19,11 @@ use Rattle.alloc_end.specs.declared.shortage.Shortage.{Shortage}
 use Rattle.alloc_end.specs.declared.allocated.Allocated.{Allocated}
 use Rattle.alloc_end.specs.declared.allocated.Allocated.TheVariants.{Placed, Full}
 use Rattle.alloc_end.specs.declared.place_stage.PlaceStage.{PlaceStage}
-use Rattle.alloc_end.specs.declared.place_stage.PlaceStage.TheVariants.{LoadsTraced, LoadsSize, LoadsArea, ExchangesArea, StoresZero, OpensPage, StoresHeader, Ended}
-use Rattle.alloc_end.specs.Place.{Placing, at_stage, words_for, kept_room, room_in, fits, area_after, first_claimed, shortage, place_machine, told, taken_at, looked_at_area}
+use Rattle.alloc_end.specs.declared.place_stage.PlaceStage.TheVariants.{LoadsTraced, LoadsSize, LoadsArea, ExchangesArea, StoresHeader, Ended}
+use Rattle.alloc_end.specs.Place.{Placing, at_stage, words_for, kept_room, room_in, fits, area_after, shortage, place_machine, told, taken_at, looked_at_area}
 use Rattle.alloc_end.specs.Soundness.{IsSoundPlacing}
 use Rattle.alloc_end.specs.Theorems.{area_word, LooksAtTraced, LooksAtSize, ShowsShortage, ClaimsPages, LosesPages}
-use Rattle.alloc_end.proofs.Placing.{never_ends_at_exchange, never_ends_at_zero, never_ends_at_page, more_never_ends}
+use Rattle.alloc_end.proofs.NextStages.{last_step}
 
 -- ---- TRACED
 
@@ -54,8 +53,7 @@ kept_room-lt true area owed = omega arith
 kept_room-lt false area owed = owed
 
 stage_by : (p : Placing) (f : Fitting) (b : Bool) (found : ℕ) → b ≡ true
-    → (taken_at (at_stage p (ExchangesArea f)) (ExchangesArea f) (cond b reply.Won (reply.Lost found))).stage
-    ≡ StoresZero (record { first = first_claimed p f; next = first_claimed p f })
+    → (taken_at (at_stage p (ExchangesArea f)) (ExchangesArea f) (cond b reply.Won (reply.Lost found))).stage ≡ (taken_at (at_stage p (ExchangesArea f)) (ExchangesArea f) reply.Won).stage
 stage_by p f true found is = refl
 stage_by p f false found is = cc
 
@@ -143,12 +141,8 @@ pub fulls : (p : Placing) (stage : PlaceStage) (before after : List ℕ) (s : Sh
 fulls p (LoadsArea traced size) before after s acts =
     let found = short p traced size s (decode_area (area_word p before)) acts.tells in
     subst (ShowsShortage (at_stage p (LoadsArea traced size)) before after) (sym found.numbers) (shows p traced size found.area before after found.is found.test acts.makes)
-fulls p (ExchangesArea f) before after s acts = absurd (never_ends_at_exchange p f _ (Full s) acts.tells)
-fulls p (StoresZero new) before after s acts = absurd (never_ends_at_zero p new (Full s) acts.tells)
-fulls p (OpensPage new) before after s acts = absurd (never_ends_at_page p new (Full s) acts.tells)
 fulls p StoresHeader before after s acts = absurd (header_never_full p.run.at s acts.tells)
-fulls p (Ended result) before after s acts = absurd (no_step acts.has_step)
-fulls p _ before after s acts = absurd (more_never_ends (Full s) acts.tells)
+fulls p stage before after s acts = absurd (last_step p stage before after (Full s) acts)
 
 refuses : (words kept room : ℕ) → room < words + kept → nat_le (words + kept) room ≡ false
 refuses words kept room less = grind (arith, nat_tests)

@@ -38,6 +38,7 @@ pub fn allocations_go_on()
 {}
 
 /// Allocations, worked out step by step with all words as numbers.
+#[tactic(auto, unfolding(heap_words::specs::Word::header_word, space_map::specs::AreaWord::decode_area, space_map::specs::AreaWord::area_in, space_map::specs::AreaWord::encode_area, space_map::specs::PageWord::encode_page, space_map::specs::Table::place_of, heap_words::specs::Word::number_word, space_map::specs::SaveWord::encode_save, space_map::specs::Table::save_place_of))]
 pub fn rows_are_worked_out()
     ensures first_pair_is_placed { FirstPairIsPlaced }
     ensures next_record_is_placed { NextRecordIsPlaced }

@@ -12,11 +12,11 @@ use Rattle.space_map.specs.TableWords.{row_word}
 use Rattle.cell_walk.specs.declared.linked_cell.LinkedCell.{LinkedCell}
 use Rattle.cell_walk.specs.declared.walk_end.WalkEnd.TheVariants.{Passed, Another}
 use Rattle.cell_walk.specs.declared.walk_stage.WalkStage.{WalkStage}
-use Rattle.cell_walk.specs.declared.walk_stage.WalkStage.TheVariants.{LoadsTurn, TakesTurn, LoadsWeak, LoadsTarget, LoadsTargetHeader, StoresTarget, LoadsLink, Ended}
+use Rattle.cell_walk.specs.declared.walk_stage.WalkStage.TheVariants.{TakesTurn, LoadsWeak, LoadsTarget, LoadsTargetHeader, StoresTarget, LoadsLink, Ended}
 use Rattle.cell_walk.specs.Chains.{AreApart, IsChain, IsNotOf, LeadsAlong, LeadsBack, LieBesideOld, entry_passed, heap_in, target_passed, target_place, target_said, words_passed}
 use Rattle.cell_walk.specs.Taken.{along, by_target, is_old, replacement, stage_after, walk_machine}
 use Rattle.cell_walk.specs.Theorems.{ChainsAreWalked}
-use Rattle.cell_walk.specs.Walking.{Walking, most_cells}
+use Rattle.cell_walk.specs.Walking.{Walking, begun, most_cells}
 use Rattle.cell_walk.proofs.Along.{along-next}
 use Rattle.cell_walk.proofs.Runs.{Runs, at_last, in_more, no_step_runs, one_step_runs, then_runs}
 
@@ -38,6 +38,10 @@ module _ (l : Layout) (epoch : ℕ) (words : List ℕ) where
   -- the walk at this stage, and the words then
   abbrev walk_at : WalkStage → List ℕ → Working Walking
   walk_at x now = record { machine = record { layout = l; epoch = epoch; stage = x }; words = now }
+
+  -- one that has done nothing yet
+  abbrev at_first : Working Walking
+  at_first = record { machine = begun l epoch; words = words }
 
   -- from the one to the other in at most so many steps
   abbrev Goes : Working Walking → Working Walking → ℕ → Type 0
@@ -157,15 +161,15 @@ module _ (l : Layout) (epoch : ℕ) (words : List ℕ) where
   after_exchange : (found : ℕ) → Bool → Working Walking
   after_exchange found b = walk_at (stage_after l epoch (TakesTurn found) (if b then Won else Lost found)) (if b then with_turn else words)
 
-  takes_turn : row_word l.pages WeakTurn words < epoch + 1 → Goes (walk_at LoadsTurn words) (walk_at LoadsWeak with_turn) 2
+  takes_turn : row_word l.pages WeakTurn words < epoch + 1 → Goes at_first (walk_at LoadsWeak with_turn) 2
   unfolding after_exchange
   takes_turn earlier =
       let found : ℕ = row_word l.pages WeakTurn words in
       let free : nat_lt epoch found ≡ false = grind (arith, nat_tests) in
       let same : (found == found) ≡ true = grind (arith, nat_tests) in
-      let read : Goes (walk_at LoadsTurn words) (walk_at (TakesTurn found) words) 1 =
-      subst (λ b. Goes (walk_at LoadsTurn words) (walk_at (if b then Ended (Another found) else TakesTurn found) words) 1) free
-      (one_step_runs walk_machine (walk_at LoadsTurn words)) in
+      let read : Goes at_first (walk_at (TakesTurn found) words) 1 =
+      subst (λ b. Goes at_first (walk_at (if b then Ended (Another found) else TakesTurn found) words) 1) free
+      (one_step_runs walk_machine at_first) in
       let won : Goes (walk_at (TakesTurn found) words) (walk_at LoadsWeak with_turn) 1 =
       subst (λ b. Goes (walk_at (TakesTurn found) words) (after_exchange found b) 1) same (one_step_runs walk_machine (walk_at (TakesTurn found) words)) in
       then_runs walk_machine _ _ _ 1 1 read won
@@ -178,7 +182,7 @@ module _ (l : Layout) (epoch : ℕ) (words : List ℕ) where
   all_unread cell = record { target = turn_else (cell + 1); link = turn_else (cell + 2); old = λ address back. turn_else address }
 
   walks : (cells : List ℕ) → IsChain l epoch words cells → row_word l.pages WeakTurn words < epoch + 1
-      → Goes (walk_at LoadsTurn words) (walk_at (Ended Passed) (words_passed l epoch words cells)) (4 * most_cells l.pages + 3)
+      → Goes at_first (walk_at (Ended Passed) (words_passed l epoch words cells)) (4 * most_cells l.pages + 3)
   walks cells chain earlier =
       let most : ℕ = most_cells l.pages in
       let ended : Working Walking = walk_at (Ended Passed) (words_passed l epoch words cells) in

@@ -1,5 +1,6 @@
 -- Whose the turn is.
-use Rattle.std.proofs.Common.{◌≡◌, ℕ, ◌+◌, ◌-◌, ◌≤◌, ◌⊎◌, inl, inr, List, arith, refl, ap, ◌∙◌}
+use Rattle.std.proofs.Common.{◌≡◌, ℕ, ◌+◌, ◌-◌, ◌≤◌, ◌⊎◌, inl, inr, Bool, true, false, List, arith, refl, sym, ap, ◌∙◌, subst, ⊎_elim}
+use Rattle.std.specs.Prelude.{⊤}
 use Rattle.atom_store.specs.declared.reply.Reply.{Reply}
 use Rattle.atom_store.specs.declared.reply.Reply.TheVariants as reply
 use Rattle.atom_store.specs.declared.step.Step.TheVariants.{Exchange}
@@ -38,6 +39,44 @@ wins v x r fits = λ has. inl has
 
 pub turns_are_won : TurnsAreWon
 turns_are_won v r sound has = wins v v.stage r sound.fits has
+
+-- ---- before the turn is taken
+
+-- the walk is at no cell
+abbrev pub IsOffCells : WalkStage → Type 0
+IsOffCells (LoadsTarget cell) = ⊥
+IsOffCells (LoadsTargetHeader cell old) = ⊥
+IsOffCells (StoresTarget cell word) = ⊥
+IsOffCells (LoadsLink cell) = ⊥
+IsOffCells _ = ⊤
+
+-- the reply takes a walk that has the turn on
+abbrev pub walks_on : WalkStage → Reply → Bool
+walks_on LoadsWeak (reply.Value w) = true
+walks_on (LoadsTarget cell) (reply.Value w) = true
+walks_on (LoadsTargetHeader cell old) (reply.Value w) = true
+walks_on (StoresTarget cell word) reply.Done = true
+walks_on (LoadsLink cell) (reply.Value w) = true
+walks_on _ _ = false
+
+-- any other changes nothing, or comes to no cell
+else_off_cells : (l : Layout) (epoch : ℕ) (x : WalkStage) (r : Reply) → walks_on x r ≡ false
+    → (stage_after l epoch x r ≡ x) ⊎ IsOffCells (stage_after l epoch x r)
+else_off_cells l epoch LoadsTurn (reply.Value w) other = inr (of_turn IsOffCells epoch w (λ past. tt) (λ before. tt))
+else_off_cells l epoch (TakesTurn found) reply.Won other = inr tt
+else_off_cells l epoch (TakesTurn found) (reply.Lost w) other = inr tt
+else_off_cells l epoch LoadsWeak (reply.Value w) other = absurd (cc)
+else_off_cells l epoch (LoadsTarget cell) (reply.Value w) other = absurd (cc)
+else_off_cells l epoch (LoadsTargetHeader cell old) (reply.Value w) other = absurd (cc)
+else_off_cells l epoch (StoresTarget cell word) reply.Done other = absurd (cc)
+else_off_cells l epoch (LoadsLink cell) (reply.Value w) other = absurd (cc)
+else_off_cells l epoch x r other = inl refl
+
+-- so a stage at a cell that it comes to is the one from which it comes
+pub else_stays : (l : Layout) (epoch : ℕ) (x : WalkStage) (r : Reply) → walks_on x r ≡ false
+    → (z : WalkStage) → (IsOffCells z → ⊥) → stage_after l epoch x r ≡ z → x ≡ z
+else_stays l epoch x r other z at_cell after =
+    ⊎_elim (λ same. sym same ∙ after) (λ off. absurd (at_cell (subst IsOffCells after off))) (else_off_cells l epoch x r other)
 
 -- ---- another has it
 

@@ -128,20 +128,17 @@ module _ (m : ℕ) (heap : Heap) (k : Mutator) where
 -- ---- the board and new records
 
 pub does_leave_board : (desk : Desk) (i : Instr) → CanDo desk i → IsTrue (leaves_board i)
-does_leave_board desk (instrs.Get d x) can = absurd can
-does_leave_board desk (instrs.Put x a) can = absurd can
-does_leave_board desk (instrs.Swap d x) can = absurd can
-does_leave_board desk (instrs.Weak d a) can = absurd can
 does_leave_board desk (instrs.Li d n) can = refl
-does_leave_board desk _ can = refl
+does_leave_board desk (instrs.Mov d a) can = refl
+does_leave_board desk (instrs.Ld d a x) can = refl
+does_leave_board desk (instrs.St a x b) can = refl
+does_leave_board desk (instrs.Len d a) can = refl
+does_leave_board desk _ can = absurd can
 
 pub makes_leave_board : (desk : Desk) (i : Instr) → CanMake desk i → IsTrue (leaves_board i)
-makes_leave_board desk (instrs.Get d x) can = absurd can
-makes_leave_board desk (instrs.Put x a) can = absurd can
-makes_leave_board desk (instrs.Swap d x) can = absurd can
-makes_leave_board desk (instrs.Weak d a) can = absurd can
-makes_leave_board desk (instrs.Li d n) can = absurd can
-makes_leave_board desk _ can = refl
+makes_leave_board desk (instrs.New d x) can = refl
+makes_leave_board desk (instrs.Raw d x) can = refl
+makes_leave_board desk _ can = absurd can
 
 pub does_none : (k : Mutator) (desk : Desk) (i : Instr) → CanDo desk i → making_in (action k i) ≡ None
 does_none k desk (instrs.New d x) can = absurd can

@@ -38,6 +38,7 @@ pub fn walks_stay_sound()
 {}
 
 /// Rounds of the duty, worked out step by step with all words as numbers.
+#[tactic(auto, unfolding(space_map::specs::AreaWord::decode_area, space_map::specs::AreaWord::area_in, space_map::specs::GateWord::decode_gate, space_map::specs::GateWord::gate_in, space_map::specs::PageWord::encode_page, space_map::specs::PageWord::decode_page, space_map::specs::Table::place_of, heap_words::specs::Decoded::decode, heap_words::specs::Word::tag_of, heap_words::specs::Word::number_word, heap_words::specs::Word::pointer_word))]
 pub fn rows_are_worked_out()
     ensures board_is_claimed { BoardIsClaimed }
     ensures filling_page_is_claimed { FillingPageIsClaimed }

@@ -1,5 +1,5 @@
 -- What a copy's address comes from.
-use Rattle.std.proofs.Common.{◌≡◌, ℕ, ◌+◌, Some, refl, sym, ap, ◌∙◌, subst, ◌⊎◌, inl, inr}
+use Rattle.std.proofs.Common.{◌≡◌, ℕ, Some, refl, sym, ap, ◌∙◌, subst, ◌⊎◌, inl, inr}
 use Rattle.atom_store.specs.declared.reply.Reply.{Reply}
 use Rattle.atom_store.specs.declared.reply.Reply.TheVariants.{Value, Done, Won}
 use Rattle.atom_store.specs.declared.turn.Turn.TheVariants.{More, Finished}
@@ -8,8 +8,8 @@ use Rattle.space_map.specs.declared.area_word.AreaWord.{AreaWord}
 use Rattle.heap_words.specs.Word.{busy_word}
 use Rattle.space_map.specs.AreaWord.{encode_area}
 use Rattle.space_map.specs.Spaces.{to_space}
-use Rattle.space_map.specs.Table.{Area, HeapWord, Announce}
-use Rattle.atom_store.specs.declared.step.Step.TheVariants.{Store, Exchange}
+use Rattle.space_map.specs.Table.{Area, HeapWord}
+use Rattle.atom_store.specs.declared.step.Step.TheVariants.{Exchange}
 use Rattle.forwarding.specs.declared.evac_stage.EvacStage.{EvacStage}
 use Rattle.forwarding.specs.declared.evac_stage.EvacStage.TheVariants.{LoadsHeader, TakesHeader, Announces, Reserves, StoresHeader, LoadsWord, StoresWord, StoresCross, StoresForward, Clears, Ended}
 use Rattle.forwarding.specs.declared.kept_header.KeptHeader.{KeptHeader}
@@ -153,7 +153,7 @@ announces_first v reply kept area =
     let P : EvacStage → Reply → EvacStage → Type 0 = λ x reply z. z ≡ Reserves kept area
     → ((other : AreaWord) × (x ≡ Reserves kept other) × (other.front ≡ area.front))
     ⊎ ((reply ≡ Done) × (x ≡ Announces kept area)
-    × (wanted_at v.layout v.addr v.epoch v.worker x ≡ Some (Store (place v (Announce v.worker)) (front_of v.layout v.epoch area + 1)))) in
+    × (wanted_at v.layout v.addr v.epoch v.worker x ≡ wanted_at v.layout v.addr v.epoch v.worker (Announces kept area))) in
     of_each_way v.layout v.epoch P (record {
       stays = λ x reply is. inl (area, is, refl);
       follows = λ w len a f is. absurd (cc);
@@ -164,7 +164,7 @@ announces_first v reply kept area =
       announces = λ of seen is.
           let same_kept : of ≡ kept = cc in
           let same : seen ≡ area = cc in
-          inr (refl, (cc), ap (λ (z : AreaWord). Some (Store (place v (Announce v.worker)) (front_of v.layout v.epoch z + 1))) same);
+          inr (refl, (cc), ap (λ (z : AreaWord). wanted_at v.layout v.addr v.epoch v.worker (Announces kept z)) same);
       reserves = λ of seen is. absurd (cc);
       tries_again = λ of seen w other front is.
           let same_kept : of ≡ kept = cc in

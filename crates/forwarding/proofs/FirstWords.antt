@@ -6,14 +6,13 @@ use Rattle.record_layout.specs.declared.header.Header.{Header}
 use Rattle.record_layout.specs.declared.forward.Forward.{Forward}
 use Rattle.record_layout.specs.Layout.{header_in, forward_in, header_says, forward_says}
 use Rattle.record_layout.proofs.Rereading.{header_in-said, forward_in-said}
-use Rattle.forwarding.specs.declared.evac_stage.EvacStage.TheVariants.{LoadsHeader, TakesHeader, Ended}
+use Rattle.forwarding.specs.declared.evac_stage.EvacStage.TheVariants.{LoadsHeader, Ended}
 use Rattle.forwarding.specs.Taken.{by_first_word}
 
 pub by_first_word-forward : (w : ℕ) (f : Forward) → f.addr < 2 ^ 32 → w ≡ encode (forward_says f) → by_first_word w (decode w) ≡ Ended f.addr
 by_first_word-forward w f in_range spelled = ap (by_first_word w) (ap decode spelled ∙ decode-forward_word f.len f.addr f.short in_range)
 
-pub by_first_word-header : (w : ℕ) (h : Header) → w ≡ encode (header_says h)
-    → by_first_word w (decode w) ≡ TakesHeader (record { word = w; kind = h.kind; len = h.len })
+pub by_first_word-header : (w : ℕ) (h : Header) → w ≡ encode (header_says h) → by_first_word w (decode w) ≡ by_first_word w (header_says h)
 by_first_word-header w h spelled =
     ap (by_first_word w) (ap decode spelled ∙ decode-header_word h.kind h.len h.serial h.mutator h.short h.counted)
 

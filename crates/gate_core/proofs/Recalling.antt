@@ -13,7 +13,7 @@ use Rattle.space_map.specs.TableWords.{row_word}
 use Rattle.gate_core.specs.declared.recall.recalled.Recalled.{Recalled}
 use Rattle.gate_core.specs.declared.recall.recall_stage.RecallStage.{RecallStage}
 use Rattle.gate_core.specs.declared.recall.recall_stage.RecallStage.TheVariants.{LoadsSnap, LoadsDone, Ended}
-use Rattle.gate_core.specs.Checkpoints.{Recalls, RecallsTellWhatTheyRead}
+use Rattle.gate_core.specs.Checkpoints.{IsWhatWasRead, RecallsTellWhatTheyRead}
 use Rattle.gate_core.specs.Recall.{Recalling, begun, recall_machine, wanted, told_at, number_in, running_of, read_snap, read_done, next_stage, taken, left_at, advances_at}
 use Rattle.gate_core.specs.Soundness.{IsSoundRecalling, FitsRecallStage}
 
@@ -92,7 +92,7 @@ module _ (layout : Layout) (met : ℕ → List ℕ) where
   abbrev HasRead : ℕ → RecallStage → Type 0
   HasRead n LoadsSnap = ⊤
   HasRead n (LoadsDone number) = WasLoaded n number
-  HasRead n (Ended result) = Recalls layout met n result
+  HasRead n (Ended result) = IsWhatWasRead layout met n result
 
   by_snap : (n : ℕ) (o : Option ℕ) → number_in (snap_met n) ≡ o → HasRead (suc n) (read_snap o)
   by_snap n (Some number) is = record { step = n; earlier = omega arith; is = number_is (snap_met n) number is }
@@ -113,7 +113,7 @@ module _ (layout : Layout) (met : ℕ → List ℕ) where
   by_done n number None was is = record { step = was.step; earlier = (let e = was.earlier in omega arith); is = was.is }
 
   -- nothing is read after the end
-  by_end : (n : ℕ) (result : Recalled) → Recalls layout met n result → Recalls layout met (suc n) result
+  by_end : (n : ℕ) (result : Recalled) → IsWhatWasRead layout met n result → IsWhatWasRead layout met (suc n) result
   by_end n result r = record {
     snap_at = r.snap_at;
     done_at = r.done_at;
@@ -143,8 +143,8 @@ module _ (layout : Layout) (met : ℕ → List ℕ) where
       let before = reads n in
       subst (λ (r : Recalling). Reads (suc n) (after_step recall_machine r (wanted r) (met n))) (sym before.is) (one_more n before.stage before.has_read)
 
-  tells : (n : ℕ) (stage : RecallStage) (result : Recalled) → HasRead n stage → told_at stage ≡ Finished result → Recalls layout met n result
-  tells n (Ended found) result was e = let same : found ≡ result = cc in subst (λ (x : Recalled). Recalls layout met n x) same was
+  tells : (n : ℕ) (stage : RecallStage) (result : Recalled) → HasRead n stage → told_at stage ≡ Finished result → IsWhatWasRead layout met n result
+  tells n (Ended found) result was e = let same : found ≡ result = cc in subst (λ (x : Recalled). IsWhatWasRead layout met n x) same was
   tells n LoadsSnap result was e = absurd (cc)
   tells n (LoadsDone number) result was e = absurd (cc)
 

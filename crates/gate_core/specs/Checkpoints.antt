@@ -27,7 +27,7 @@ use Rattle.gate_core.specs.Soundness.{IsSoundPassing, IsSoundSnapping}
 
 -- The number told is the one that was loaded at some step, as that of the last checkpoint begun. The number of the last one
 -- finished was loaded later: if it is the same, none is told to run, and else this one is.
-pub record Recalls (layout : Layout) (met : ℕ → List ℕ) (steps : ℕ) (result : Recalled) : Type 0 where
+pub record IsWhatWasRead (layout : Layout) (met : ℕ → List ℕ) (steps : ℕ) (result : Recalled) : Type 0 where
   pub snap_at : ℕ
   pub done_at : ℕ
   pub earlier : snap_at < done_at
@@ -39,7 +39,7 @@ pub record Recalls (layout : Layout) (met : ℕ → List ℕ) (steps : ℕ) (res
 -- whatever words each step meets, whoever wrote them
 abbrev pub RecallsTellWhatTheyRead : Type 0
 RecallsTellWhatTheyRead = (layout : Layout) (met : ℕ → List ℕ) (steps : ℕ) (result : Recalled)
-    → recall.told (among recall_machine (recall.begun layout) met steps) ≡ Finished result → Recalls layout met steps result
+    → recall.told (among recall_machine (recall.begun layout) met steps) ≡ Finished result → IsWhatWasRead layout met steps result
 
 abbrev pub RecallsChangeNothing : Type 0
 RecallsChangeNothing = (r : Recalling) (before after : List ℕ) (turn : Turn Recalled) → MakesStep recall_machine r before after turn → after ≡ before

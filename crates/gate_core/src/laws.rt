@@ -27,6 +27,7 @@ pub fn passages_and_flips_go_on()
 {}
 
 /// Each passage of the gate and a flip, worked out step by step with all words as numbers.
+#[tactic(auto, unfolding(space_map::specs::AreaWord::decode_area, space_map::specs::AreaWord::area_in, space_map::specs::AreaWord::encode_area, space_map::specs::GateWord::decode_gate, space_map::specs::GateWord::gate_in, space_map::specs::GateWord::encode_gate, space_map::specs::Table::place_of))]
 pub fn rows_are_worked_out()
     ensures attaches { Attaches }
     ensures requests { Requests }
@@ -78,6 +79,7 @@ pub fn recalls_and_snaps_go_on()
 {}
 
 /// What runs, the beginning of a checkpoint and its request, worked out step by step with all words as numbers.
+#[tactic(auto, unfolding(space_map::specs::GateWord::decode_gate, space_map::specs::GateWord::gate_in, space_map::specs::GateWord::encode_gate, space_map::specs::Table::place_of))]
 pub fn checkpoint_rows_are_worked_out()
     ensures recalls_none { RecallsNone }
     ensures recalls_first { RecallsFirst }

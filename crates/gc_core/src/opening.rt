@@ -43,8 +43,8 @@ fn slots(alloc: Global, spaces: Spaces, mutators: u8, count: u8) -> Result<Vec<S
 
 impl<'p> Core<'p> {
     /// A core in which nobody has made a step, and each mutator may execute so many instructions, 1 to 10,000,000. `BadPages` comes exactly
-    /// for fewer than 4 pages at first, for fewer in all than at first, or for more than `MOST_PAGES`. The words and the room for the most numbers
-    /// of each mutator are taken here; no later call takes memory.
+    /// for fewer than `FEWEST_PAGES` at first, for fewer in all than at first, or for more than `MOST_PAGES`. The words and the room for the
+    /// most numbers of each mutator are taken here; no later call takes memory.
     pub fn open(
         alloc: Global,
         program: &'p Program,

@@ -4,6 +4,7 @@ pub mod Begun
 pub mod Readying
 pub mod Beginning
 pub mod Wanting
+pub mod NextStages
 pub mod Gone
 pub mod Last
 pub mod OpenedHeap

@@ -10,6 +10,6 @@ pub mod Look
 pub mod Snaps
 pub mod Saves
 pub mod Checkpoints
-pub mod Guards
-pub mod Recalls
+pub mod Guard
+pub mod Recall
 pub mod Direct

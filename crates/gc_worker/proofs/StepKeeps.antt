@@ -55,8 +55,8 @@ use Rattle.gc_worker.proofs.Stages.Rounds.RoundWords.{page_age, traced_word}
 use Rattle.gc_worker.proofs.Stages.Copies.WholeCopies.{evacuates, forwards}
 use Rattle.gc_worker.proofs.Stages.Place.AllocationStages.{places}
 use Rattle.gc_worker.proofs.Stages.Scan.ScanStages.{scans}
-use Rattle.gc_worker.proofs.Stages.Recalls.Recalling.{recalls}
-use Rattle.gc_worker.proofs.Stages.Guards.GuardLooks.{guards}
+use Rattle.gc_worker.proofs.Stages.Recall.Recalling.{recalls}
+use Rattle.gc_worker.proofs.Stages.Guard.GuardLooks.{guards}
 use Rattle.gc_worker.proofs.Stages.Checkpoints.SaveRounds.{checkpoints}
 use Rattle.gc_worker.proofs.Stages.Snaps.Beginning.{snaps}
 use Rattle.gc_worker.proofs.Between.KeptTasks.{workers_go_on}

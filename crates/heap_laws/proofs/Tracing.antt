@@ -1,3 +1,4 @@
+pub mod SecondLooks
 pub mod TracingLoads
 pub mod TracedExchange
 pub mod Copied

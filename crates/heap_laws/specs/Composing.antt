@@ -1,6 +1,7 @@
 -- Steps one after another: what is one atomic step may be several changes of what a worker knows. And a worker may forget.
 use Rattle.std.specs.Prelude.{◌≡◌, ℕ, true, false, Option, Some, None, is_some, ◌⊎◌}
 use Rattle.plain_state.specs.State.{Plain}
+use Rattle.heap_state.specs.Cells.{SameGround}
 use Rattle.heap_state.specs.Memory.Entries.{Entry}
 use Rattle.heap_state.specs.Memory.Era.{Era, Memory}
 use Rattle.heap_state.specs.Invariant.Ghost.{Ghost}
@@ -79,12 +80,12 @@ LessAtGate w v = record {
   asks : (is_asking w.post ≡ true) ⊎ (is_some w.gate_step ≡ true) → w.traced_seen ≡ v.traced_seen;
 }
 
--- Of the chain of copied cells it knows the same, and if it walks over the chain, it knows the same of its second look.
+-- Of the chain of copied cells it knows the same, and if it walks over the chain, its walk rests on the same.
 abbrev pub SameAtChain : (w v : Known) → Type 0
 SameAtChain w v = record {
   linking : w.linking ≡ v.linking;
   pass : w.pass ≡ v.pass;
-  walks : is_some v.pass ≡ true → w.last_look ≡ v.last_look;
+  ground : is_some v.pass ≡ true → SameGround w v;
 }
 
 -- worker w knows at most what v knows, and scans the same page as far, if it scans

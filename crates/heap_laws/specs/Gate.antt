@@ -10,6 +10,7 @@ use Rattle.heap_state.specs.Invariant.Inductive.{Invariant}
 use Rattle.heap_state.specs.Known.{Known, Team, Scanner, Running, Stopped, Flipping, Snapping, Gone, Passage, Enter, Park, Request, RequestSnap, Clear, Forwarded, Resume, Leave, GateStep, is_running}
 use Rattle.heap_state.specs.Memory.Entries.{GateIs}
 use Rattle.heap_state.specs.Invariant.Parts.Knowledge.{Passes}
+use Rattle.heap_laws.specs.Composing.{ends_round}
 use Rattle.heap_laws.specs.Steps.{Ready, Steps}
 
 -- the gate after a passage
@@ -25,7 +26,7 @@ gate_after Leave gate = record gate { live = gate.live - 1; running = gate.runni
 
 -- the worker that comes into an epoch: what it had claimed and read in an older one is of no use
 abbrev pub into_epoch : Known → ℕ → Known
-into_epoch w epoch = record w { epoch = epoch; done = 0; stock = None; round = None; claim = None; look = None; last_look = None; gate_step = None }
+into_epoch w epoch = record (ends_round w) { epoch = epoch; done = 0; stock = None; gate_step = None }
 
 -- the worker that runs no more: it knows of no page any more that it is open, and of no size
 abbrev pub out_of_run : Known → Known

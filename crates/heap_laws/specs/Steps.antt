@@ -16,7 +16,7 @@ use Rattle.heap_state.specs.Functions.{put}
 use Rattle.heap_state.specs.Invariant.Ghost.{Ghost}
 use Rattle.heap_state.specs.Invariant.Inductive.{Invariant, Knows}
 use Rattle.heap_state.specs.Meaning.Values.{Shown}
-use Rattle.heap_state.specs.Cells.{KnowsCopy}
+use Rattle.heap_state.specs.Cells.{KnowsCopy, SameGround}
 use Rattle.heap_state.specs.Known.{Known, Team, is_cleared}
 use Rattle.space_map.specs.declared.spaces.TheConstants.{PAGE_WORDS, MOST_MUTATORS, MOST_SCANNERS}
 
@@ -136,12 +136,12 @@ pub record StepsTo (E : Era) (m : Memory) (team : Team) (g : Ghost) (k : ℕ) (e
 -- ---- what others read of a worker
 
 -- Worker w has the cell to link and the walk over the chain that u has. If it has a cell to link, it has still found the copy that it
--- asks for; if it walks, it knows the same of its second look. It hasn't stored WEAK for a flip since.
+-- asks for; if it walks, its walk rests on the same. It hasn't stored WEAK for a flip since.
 pub record SameInChain (w u : Known) : Type 0 where
   pub linking : w.linking ≡ u.linking
   pub pass : w.pass ≡ u.pass
   pub asked : is_some u.linking ≡ true → KnowsCopy u → KnowsCopy w
-  pub look : is_some u.pass ≡ true → w.last_look ≡ u.last_look
+  pub ground : is_some u.pass ≡ true → SameGround w u
   pub cleared : is_cleared w.reset ≡ true → is_cleared u.reset ≡ true
 
 -- The worker w has the post, epoch, account, registers, stock and scan of u, and its part in the chain of copied cells. These are what

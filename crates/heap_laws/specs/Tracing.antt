@@ -121,11 +121,15 @@ ClaimingFillingPageKeeps = (E : Era) (m : Memory) (team : Team) (g : Ghost) (k :
 abbrev pub has_turn : Known → Known
 has_turn w = record w { pass = Some Begins }
 
--- The exchange of WEAKTURN is won, from a word below the one that says that the turn of the worker's epoch is taken. The TRACED that the
--- second look keeps is of that epoch.
+-- Worker k wins the exchange: WEAKTURN is a word below the one that says that the turn of the worker's epoch is taken. The TRACED that
+-- the second look keeps is of that epoch.
+pub record WinsTurn (turn : ℕ) (team : Team) (k : ℕ) (l : LastLook) : Type 0 where
+  pub looks : (team.worker k).last_look ≡ Some l
+  pub of_epoch : (team.worker k).epoch ≤ l.traced
+  pub free : turn < (team.worker k).epoch + 1
+
 abbrev pub TurnsAreTaken : Type 0
-TurnsAreTaken = (E : Era) (m : Memory) (team : Team) (g : Ghost) (k : ℕ) (l : LastLook) → Ready E m team g k
-    → (team.worker k).last_look ≡ Some l → (team.worker k).epoch ≤ l.traced → m.weak_turn < (team.worker k).epoch + 1
+TurnsAreTaken = (E : Era) (m : Memory) (team : Team) (g : Ghost) (k : ℕ) (l : LastLook) → Ready E m team g k → WinsTurn m.weak_turn team k l
     → Steps E m team g k (Some (WeakTurnIs ((team.worker k).epoch + 1))) (has_turn (team.worker k)) g
 
 -- ---- TRACED is exchanged

@@ -2,3 +2,4 @@ pub mod Teams
 pub mod Frames
 pub mod Idle
 pub mod Posts
+pub mod Walkers

@@ -93,6 +93,10 @@ pub record Passing (E : Era) (m : Memory) (turn : ℕ) (g : Ghost) (r : Ranks) (
   pub at : (v : Visit) → q ≡ At v → Visits E m g r v
   pub passed : (a : ℕ) → 0 < r.rank a → passed_from r q ≤ r.rank a → ¬ (Leads E (m.heap (a + 1)))
 
+-- what a walk rests on is the same of both: the worker's epoch, and what it knows of its second look
+abbrev pub SameGround : (w u : Known) → Type 0
+SameGround w u = (w.epoch ≡ u.epoch) × (w.last_look ≡ u.last_look)
+
 -- some worker walks
 pub record HasWalker (team : Team) : Type 0 where
   pub worker : ℕ

@@ -4,8 +4,8 @@ pub mod Scan
 pub mod Place
 pub mod Access
 pub mod Gate
-pub mod Recalls
+pub mod Recall
 pub mod Snaps
 pub mod SaveCosts
-pub mod Guards
+pub mod Guard
 pub mod Checkpoints

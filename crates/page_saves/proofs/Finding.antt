@@ -23,16 +23,18 @@ use Rattle.page_saves.specs.declared.save_round_stage.SaveRoundStage.{SaveRoundS
 use Rattle.page_saves.specs.declared.save_round_stage.SaveRoundStage.TheVariants.{LoadsGate, LoadsSnap, LoadsDone, LoadsGateAgain, LoadsPage, LoadsSave, Saves, ExchangesDone, Ended}
 use Rattle.page_saves.specs.declared.save_state.SaveState.{SaveState}
 use Rattle.page_saves.specs.declared.save_state.SaveState.TheVariants.{Waits, Copying, Kept, Past}
-use Rattle.page_saves.specs.RoundTheorems.{HasLoaded, loaded, FoundKept, FoundSaid, WasNotOpen, WasSaved, IsBegun, ByMutator, ByScanner, RoundsMarkWhatIsKept, round_after, word_of_row}
+use Rattle.page_saves.specs.RoundTheorems.{HasLoaded, loaded, FoundHindrance, FoundKept, FoundSaid, HindrancesAreFound, LooksAtPage, WasBeingSaved, WasNotOpen, WasOfLater, WasSaved, IsBegun, ByMutator, ByScanner, OfLater, BusyBefore, BusyHere, RoundsMarkWhatIsKept, ShowsByPage, ShowsNothingToSave, round_after, word_of_row}
 use Rattle.page_saves.specs.Save.{PageSaving}
 use Rattle.page_saves.specs.Save as save
 use Rattle.page_saves.specs.SaveRound
-use Rattle.page_saves.specs.SaveRound.{SavingRound, wanted, at_stage, save_round_machine}
+use Rattle.page_saves.specs.SaveRound.{SavingRound, at_stage, save_round_machine}
 use Rattle.page_saves.specs.SaveState.{state_of}
 use Rattle.page_saves.specs.SoundRound.{IsRoundPage}
 use Rattle.space_map.specs.WholeTable.{Within, Behind}
 use Rattle.page_saves.proofs.Guarding.{kept_is}
+use Rattle.page_saves.proofs.PageLooks.{of_page}
 use Rattle.page_saves.proofs.PageOrder.{IsOrNot, Board, Other, board_or_not}
+use Rattle.page_saves.proofs.SaveRoundEffects.{shows_nothing}
 use Rattle.page_saves.proofs.SaveRoundReads.{now, later, then_at}
 use Rattle.page_saves.proofs.RoundEnds.{says_state}
 
@@ -119,7 +121,7 @@ passed_by K B r page (Some word) is has = busy_found K B r page word has
 passed_by K B r page None is has = passed_found K B r page is has
 
 -- a look at SAVE keeps what a look at the page had
-pub as_page : (K B : ℕ → Type 0) (r : SavingRound) (page : ℕ) (busy : Option ℕ) → HasFound K B r (LoadsSave page busy) → HasFound K B r (LoadsPage page busy)
+as_page : (K B : ℕ → Type 0) (r : SavingRound) (page : ℕ) (busy : Option ℕ) → HasFound K B r (LoadsSave page busy) → HasFound K B r (LoadsPage page busy)
 as_page K B r page (Some word) has = has
 as_page K B r page None has = has
 
@@ -131,7 +133,7 @@ as_save K B r page None has = has
 
 module _ (begun : SavingRound) (met : ℕ → List ℕ) where
   -- the page was not open, or its state was that of a saved or new one
-  pub data Found (n pages epoch number page : ℕ) : Type 0 where
+  data Found (n pages epoch number page : ℕ) : Type 0 where
     NotOpen : (load : HasLoaded begun met n pages (Within (Page page))) → loaded load ≢ encode_page (Open epoch) → Found n pages epoch number page
     IsSaved : (load : HasLoaded begun met n pages (Behind (SaveOf page))) (says : SaveWord) → decode_save (loaded load) ≡ Some says → state_of says number ≡ Kept
         → Found n pages epoch number page
@@ -141,23 +143,23 @@ module _ (begun : SavingRound) (met : ℕ → List ℕ) where
   later_found n pages epoch number page (IsSaved load says reads is) = IsSaved (later begun met n pages (Behind (SaveOf page)) load) says reads is
 
   -- the word was loaded as what is said of a page, and says that a worker saves it for the checkpoint
-  abbrev pub FoundBusy : (n pages number word : ℕ) → Type 0
+  abbrev FoundBusy : (n pages number word : ℕ) → Type 0
   FoundBusy n pages number word = (worker : ℕ) × FoundSaid begun met n pages word (save_word.Saving number worker)
 
   -- a word that is loaded now, as what is said of the page
-  pub said_now : (n : ℕ) (r : SavingRound) (page : ℕ) (busy : Option ℕ) (word : ℕ) (says : SaveWord) → round_after begun met n ≡ at_stage r (LoadsSave page busy)
+  said_now : (n : ℕ) (r : SavingRound) (page : ℕ) (busy : Option ℕ) (word : ℕ) (says : SaveWord) → round_after begun met n ≡ at_stage r (LoadsSave page busy)
       → word ≡ word_of_row r (Behind (SaveOf page)) (met n) → decode_save word ≡ Some says → FoundSaid begun met (suc n) r.layout.pages word says
   said_now n r page busy word says is same reads =
       record { page = page; load = now begun met n (at_stage r (LoadsSave page busy)) r.layout.pages (Behind (SaveOf page)) is refl; same = same; reads = reads }
 
-  pub later_busy : (n pages number word : ℕ) → FoundBusy n pages number word → FoundBusy (suc n) pages number word
+  later_busy : (n pages number word : ℕ) → FoundBusy n pages number word → FoundBusy (suc n) pages number word
   later_busy n pages number word (worker, said) =
       (worker, record { page = said.page; load = later begun met n pages (Behind (SaveOf said.page)) said.load; same = said.same; reads = said.reads })
 
-  abbrev pub FoundAt : ℕ → SavingRound → SaveRoundStage → Type 0
+  abbrev FoundAt : ℕ → SavingRound → SaveRoundStage → Type 0
   FoundAt n r stage = HasFound (Found n r.layout.pages r.epoch r.number) (FoundBusy n r.layout.pages r.number) r stage
 
-  abbrev pub FoundBy : ℕ → SavingRound → Type 0
+  abbrev FoundBy : ℕ → SavingRound → Type 0
   FoundBy n r = FoundAt n r r.stage
 
   found_later : (n : ℕ) (r : SavingRound) (stage : SaveRoundStage) → FoundAt n r stage → FoundAt (suc n) r stage
@@ -204,16 +206,13 @@ module _ (begun : SavingRound) (met : ℕ → List ℕ) where
 
   at_page : (n : ℕ) (r : SavingRound) (page : ℕ) (busy : Option ℕ) → round_after begun met n ≡ at_stage r (LoadsPage page busy) → FoundAt n r (LoadsPage page busy)
       → FoundAt (suc n) r (SaveRound.looked_at_page r page busy (word_of_row r (Within (Page page)) (met n)))
-  at_page n r page busy is has = by_test (nat_eq (word_of_row r (Within (Page page)) (met n)) (encode_page (Open r.epoch))) refl
-    where
-      by_test : (b : Bool) → nat_eq (word_of_row r (Within (Page page)) (met n)) (encode_page (Open r.epoch)) ≡ b
-          → FoundAt (suc n) r (cond b (LoadsSave page busy) (SaveRound.passed_page r page busy))
-      by_test true test = as_save (Found (suc n) r.layout.pages r.epoch r.number) (FoundBusy (suc n) r.layout.pages r.number) r page busy (found_later n r (LoadsPage page busy) has)
-      by_test false test =
-          let other : word_of_row r (Within (Page page)) (met n) ≢ encode_page (Open r.epoch) = grind (arith, nat_tests) in
-          let load = now begun met n (at_stage r (LoadsPage page busy)) r.layout.pages (Within (Page page)) is refl in
-          passed_by (Found (suc n) r.layout.pages r.epoch r.number) (FoundBusy (suc n) r.layout.pages r.number) r page busy (NotOpen load other)
-          (found_later n r (LoadsPage page busy) has)
+  at_page n r page busy is has =
+      of_page (FoundAt (suc n) r) r page busy (word_of_row r (Within (Page page)) (met n))
+      (λ opened. as_save (Found (suc n) r.layout.pages r.epoch r.number) (FoundBusy (suc n) r.layout.pages r.number) r page busy (found_later n r (LoadsPage page busy) has))
+      (λ other.
+      let load = now begun met n (at_stage r (LoadsPage page busy)) r.layout.pages (Within (Page page)) is refl in
+      passed_by (Found (suc n) r.layout.pages r.epoch r.number) (FoundBusy (suc n) r.layout.pages r.number) r page busy (NotOpen load other)
+      (found_later n r (LoadsPage page busy) has))
 
   by_state : (n : ℕ) (r : SavingRound) (page : ℕ) (busy : Option ℕ) (says : SaveWord) (state : SaveState) → round_after begun met n ≡ at_stage r (LoadsSave page busy)
       → decode_save (word_of_row r (Behind (SaveOf page)) (met n)) ≡ Some says → state_of says r.number ≡ state → FoundAt n r (LoadsSave page busy)
@@ -266,7 +265,7 @@ module _ (begun : SavingRound) (met : ℕ → List ℕ) where
   begins (ByMutator layout epoch worker is) = subst (FoundBy 0) (sym is) tt
   begins (ByScanner layout mutators worker is) = subst (FoundBy 0) (sym is) tt
 
-  pub holds : IsBegun begun → (n : ℕ) → FoundBy n (round_after begun met n)
+  holds : IsBegun begun → (n : ℕ) → FoundBy n (round_after begun met n)
   unfolding among
   holds new zero = begins new
   holds new (suc n) = let r : SavingRound = round_after begun met n in keeps n r r.stage refl (holds new n)
@@ -288,3 +287,39 @@ rounds_mark_what_is_kept begun met n r new is at some page fits =
     let has : FoundBy begun met n r = subst (FoundBy begun met n) is (holds begun met new n) in
     let all : FoundAt begun met n r ExchangesDone = subst (FoundAt begun met n r) at has in
     told_found begun met n r.layout.pages r.epoch r.number page some (all page (in_round r page fits))
+
+-- ---- the word that is told at a look, if there is nothing to do now
+
+module _ (begun : SavingRound) (met : ℕ → List ℕ) where
+  -- the word that the round has kept
+  kept : (n pages number found word : ℕ) → FoundBusy begun met n pages number found → Some found ≡ Some word → FoundHindrance begun met (suc n) pages number word
+  kept n pages number found word has same =
+      let e : found ≡ word = cc in
+      let then = later_busy begun met n pages number word (subst (FoundBusy begun met n pages number) e has) in
+      WasBeingSaved then.0 then.1
+
+  by_kept : (n : ℕ) (r : SavingRound) (page : ℕ) (busy : Option ℕ) (word : ℕ) → FoundAt begun met n r (LoadsPage page busy) → busy ≡ Some word
+      → FoundHindrance begun met (suc n) r.layout.pages r.number word
+  by_kept n r page (Some found) word has same = kept n r.layout.pages r.number found word has same
+  by_kept n r page None word has same = cc
+
+  by_page : (n : ℕ) (r : SavingRound) (page : ℕ) (busy : Option ℕ) (word : ℕ) → round_after begun met n ≡ at_stage r (LoadsSave page busy)
+      → FoundAt begun met n r (LoadsPage page busy) → ShowsByPage (at_stage r (LoadsSave page busy)) page busy (word_of_row r (Behind (SaveOf page)) (met n)) word
+      → FoundHindrance begun met (suc n) r.layout.pages r.number word
+  by_page n r page busy word is has (OfLater same says reads less) = WasOfLater says (said_now begun met n r page busy word says is same reads) less
+  by_page n r page busy word is has (BusyBefore same last) = by_kept n r page busy word has same
+  by_page n r page busy word is has (BusyHere same worker reads last) =
+      WasBeingSaved worker (said_now begun met n r page busy word (save_word.Saving r.number worker) is same reads)
+
+  at_look : (n : ℕ) (r : SavingRound) (stage : SaveRoundStage) (word : ℕ) → LooksAtPage stage → round_after begun met n ≡ at_stage r stage → FoundAt begun met n r stage
+      → ShowsNothingToSave (at_stage r stage) stage (met n) word → FoundHindrance begun met (suc n) r.layout.pages r.number word
+  at_look n r (LoadsPage page busy) word at is has shows = by_kept n r page busy word has shows.1
+  at_look n r (LoadsSave page busy) word at is has shows = by_page n r page busy word is (as_page _ _ r page busy has) shows
+  at_look n r _ word at is has shows = elim at [ ]
+
+pub hindrances_are_found : HindrancesAreFound
+hindrances_are_found begun met n r after word new is at acts =
+    let found = subst (FoundBy begun met n) is (holds begun met new n) in
+    let next : suc n ≡ n + 1 = omega arith in
+    subst (λ (m : ℕ). FoundHindrance begun met m r.layout.pages r.number word) next
+    (at_look begun met n r r.stage word at is found (shows_nothing r r.stage (met n) after word acts).0)

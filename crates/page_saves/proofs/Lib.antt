@@ -6,8 +6,8 @@ pub mod SaveEffects
 pub mod Ordering
 pub mod Guarding
 pub mod RoundEnds
+pub mod PageLooks
 pub mod SaveRoundEffects
 pub mod SaveRoundReads
 pub mod Finding
-pub mod Hindrances
 pub mod Staying

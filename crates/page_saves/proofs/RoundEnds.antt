@@ -1,5 +1,5 @@
--- What a save round tells, by the stage at which it tells it: which results can come there, and what they show.
-use Rattle.std.proofs.Common.{◌≡◌, ◌≢◌, ℕ, ◌+◌, ◌^◌, ◌<◌, Bool, true, false, cond, nat_eq, nat_lt, List, Option, Some, None, arith, refl, ap, ◌∙◌}
+-- What a save round tells, by the stage at which it tells it, if that is no look at a page: which results can come there, and what they show.
+use Rattle.std.proofs.Common.{◌≡◌, ◌≢◌, ℕ, ◌^◌, ◌<◌, Bool, true, false, cond, nat_eq, nat_lt, List, Option, Some, None, arith, refl, ap}
 use Rattle.std.proofs.lemmas.Bool.Decides.{nat_tests}
 use Rattle.atom_store.specs.declared.reply.Reply.{Reply}
 use Rattle.atom_store.specs.declared.reply.Reply.TheVariants as reply
@@ -9,22 +9,20 @@ use Rattle.atom_store.specs.declared.turn.Turn.TheVariants.{More, Finished}
 use Rattle.atom_store.specs.Acts.{MakesStep, after_next_step}
 use Rattle.atom_store.specs.Runs.{after_step}
 use Rattle.space_map.specs.declared.gate_word.GateWord.{GateWord}
-use Rattle.space_map.specs.declared.page_word.PageWord.TheVariants.{Open}
 use Rattle.space_map.specs.declared.save_word.SaveWord.{SaveWord}
 use Rattle.space_map.specs.declared.save_word.SaveWord.TheVariants as save_word
 use Rattle.space_map.specs.GateWord.{decode_gate}
-use Rattle.space_map.specs.PageWord.{encode_page}
-use Rattle.space_map.specs.SaveWord.{decode_save, number_of}
+use Rattle.space_map.specs.SaveWord.{number_of}
 use Rattle.space_map.specs.Table.{Gate}
 use Rattle.page_saves.specs.declared.save_caller.SaveCaller.{SaveCaller}
 use Rattle.page_saves.specs.declared.save_caller.SaveCaller.TheVariants.{Mutates, Scans}
 use Rattle.page_saves.specs.declared.save_end.SaveEnd.{SaveEnd}
 use Rattle.page_saves.specs.declared.save_round_end.SaveRoundEnd.{SaveRoundEnd}
 use Rattle.page_saves.specs.declared.save_round_end.SaveRoundEnd.TheVariants.{NoneRuns, Marked, NothingNow}
-use Rattle.page_saves.specs.declared.save_round_stage.SaveRoundStage.TheVariants.{LoadsSnap, LoadsPage, LoadsSave, Saves, ExchangesDone, Ended}
+use Rattle.page_saves.specs.declared.save_round_stage.SaveRoundStage.TheVariants.{LoadsSnap, Saves, ExchangesDone, Ended}
 use Rattle.page_saves.specs.declared.save_state.SaveState.{SaveState}
-use Rattle.page_saves.specs.declared.save_state.SaveState.TheVariants.{Waits, Copying, Kept, Past}
-use Rattle.page_saves.specs.RoundTheorems.{ShowsAllLeft, IsLastPage, ShowsByPage, OfLater, BusyBefore, BusyHere, word_of_row}
+use Rattle.page_saves.specs.declared.save_state.SaveState.TheVariants.{Waits, Copying, Past}
+use Rattle.page_saves.specs.RoundTheorems.{ShowsAllLeft, word_of_row}
 use Rattle.page_saves.specs.Save.{PageSaving, save_machine}
 use Rattle.page_saves.specs.Save as save
 use Rattle.page_saves.specs.SaveRound
@@ -109,38 +107,7 @@ number_is word number is = by_test (nat_lt word (2 ^ 32)) is
     by_test true e = cc
     by_test false e = cc
 
--- ---- at the pages
-
--- behind the last page the word was told by which a page was found being saved
-pub record PassedEnds (r : SavingRound) (page : ℕ) (busy : Option ℕ) (result : SaveRoundEnd) : Type 0 where
-  pub word : ℕ
-  pub told_word : result ≡ NothingNow word
-  pub busy_page : busy ≡ Some word
-  pub last : IsLastPage r page
-
-passed_ends : (r : SavingRound) (page : ℕ) (busy : Option ℕ) (result : SaveRoundEnd) → told_at (SaveRound.passed_page r page busy) ≡ Finished result
-    → PassedEnds r page busy result
-passed_ends r page busy result tells = by_test (nat_lt (SaveRound.page_after r page) (SaveRound.to_page r + r.layout.pages)) refl tells
-  where
-    after : IsLastPage r page → (busy : Option ℕ) → told_at (SaveRound.after_pages busy) ≡ Finished result → PassedEnds r page busy result
-    after last (Some word) e = record { word = word; told_word = cc; busy_page = refl; last = last }
-    after last None e = cc
-
-    by_test : (b : Bool) → nat_lt (SaveRound.page_after r page) (SaveRound.to_page r + r.layout.pages) ≡ b
-        → told_at (cond b (LoadsPage (SaveRound.page_after r page) busy) (SaveRound.after_pages busy)) ≡ Finished result → PassedEnds r page busy result
-    by_test true test e = cc
-    by_test false test e = after (grind (arith, nat_tests)) busy e
-
--- and the page isn't open
-pub page_ends : (r : SavingRound) (page loaded : ℕ) (busy : Option ℕ) (result : SaveRoundEnd) → told_at (SaveRound.looked_at_page r page busy loaded) ≡ Finished result
-    → PassedEnds r page busy result × (loaded ≢ encode_page (Open r.epoch))
-page_ends r page loaded busy result tells = by_test (nat_eq loaded (encode_page (Open r.epoch))) refl tells
-  where
-    by_test : (b : Bool) → nat_eq loaded (encode_page (Open r.epoch)) ≡ b
-        → told_at (cond b (LoadsSave page busy) (SaveRound.passed_page r page busy)) ≡ Finished result
-        → PassedEnds r page busy result × (loaded ≢ encode_page (Open r.epoch))
-    by_test true test e = cc
-    by_test false test e = (passed_ends r page busy result e, grind (arith, nat_tests))
+-- ---- what is said of a page
 
 pub within_copying : (says : SaveWord) (number : ℕ) → number_of says ≡ number → state_within says ≡ Copying → (worker : ℕ) × (says ≡ save_word.Saving number worker)
 within_copying (save_word.Saving found worker) number same is = (worker, ap (λ (c : ℕ). save_word.Saving c worker) same)
@@ -163,34 +130,6 @@ says_state says number = by_tests (nat_lt (number_of says) number) (nat_eq (numb
     by_tests true same a b = record { copying = λ e. absurd (cc); past = λ e. absurd (cc) }
     by_tests false true a b = record { copying = λ e. within_copying says number (grind (arith, nat_tests)) e; past = λ e. absurd (within_never_past says e) }
     by_tests false false a b = record { copying = λ e. absurd (cc); past = λ e. grind (arith, nat_tests) }
-
--- a word was told by what is said of the page, or was said of one before it
-pub record SaveEnds (r : SavingRound) (page loaded : ℕ) (busy : Option ℕ) (result : SaveRoundEnd) : Type 0 where
-  pub word : ℕ
-  pub told_word : result ≡ NothingNow word
-  pub shows : ShowsByPage r page busy loaded word
-
--- the word by which this page was found being saved
-loaded_word : (loaded word : ℕ) → Some loaded ≡ Some word → word ≡ loaded
-loaded_word loaded word same = cc
-
-state_ends : (r : SavingRound) (page loaded : ℕ) (busy : Option ℕ) (result : SaveRoundEnd) (says : SaveWord) (state : SaveState) → state_of says r.number ≡ state
-    → decode_save loaded ≡ Some says → told_at (SaveRound.looked_by r page busy loaded says state) ≡ Finished result → SaveEnds r page loaded busy result
-state_ends r page loaded busy result says Waits is reads tells = cc
-state_ends r page loaded busy result says Copying is reads tells =
-    let ends = passed_ends r page (Some loaded) result tells in
-    let by = (says_state says r.number).copying is in
-    let same = loaded_word loaded ends.word ends.busy_page in
-    record { word = ends.word; told_word = ends.told_word; shows = BusyHere same by.0 (ap decode_save same ∙ reads ∙ ap Some by.1) ends.last }
-state_ends r page loaded busy result says Kept is reads tells =
-    let ends = passed_ends r page busy result tells in record { word = ends.word; told_word = ends.told_word; shows = BusyBefore ends.busy_page ends.last }
-state_ends r page loaded busy result says Past is reads tells =
-    record { word = loaded; told_word = cc; shows = OfLater refl says reads ((says_state says r.number).past is) }
-
-pub look_ends : (r : SavingRound) (page loaded : ℕ) (busy : Option ℕ) (result : SaveRoundEnd) (o : Option SaveWord) → decode_save loaded ≡ o
-    → told_at (SaveRound.looked_at_save r page busy loaded o) ≡ Finished result → SaveEnds r page loaded busy result
-look_ends r page loaded busy result (Some says) reads tells = state_ends r page loaded busy result says (state_of says r.number) refl reads tells
-look_ends r page loaded busy result None reads tells = cc
 
 -- ---- the save's step is the round's
 

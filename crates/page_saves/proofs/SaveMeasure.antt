@@ -33,6 +33,7 @@ use Rattle.page_saves.specs.SaveState.{state_of}
 use Rattle.page_saves.specs.SoundGuard.{FitsGuardStage}
 use Rattle.page_saves.specs.SoundRound.{IsRoundPage, FitsSaveRoundStage}
 use Rattle.page_saves.specs.SoundSave.{FitsSaveStage}
+use Rattle.page_saves.proofs.PageLooks.{of_page}
 use Rattle.page_saves.proofs.PageOrder.{pages_left_gt, further}
 
 -- ---- the save
@@ -138,11 +139,9 @@ passed_lt r page busy few fits = by_test (nat_lt (SaveRound.page_after r page) (
 
 by_page : (r : SavingRound) (page : ℕ) (busy : Option ℕ) (word : ℕ) → IsPageCount r.layout.pages → IsRoundPage r page
     → left_at r (SaveRound.looked_at_page r page busy word) < 2 * pages_left r page + 130
-by_page r page busy word few fits = by_test (nat_eq word _)
-  where
-    by_test : (same : Bool) → left_at r (cond same (LoadsSave page busy) (SaveRound.passed_page r page busy)) < 2 * pages_left r page + 130
-    by_test true = omega arith
-    by_test false = let fewer = passed_lt r page busy few fits in omega (arith, fewer)
+by_page r page busy word few fits =
+    of_page (λ z. left_at r z < 2 * pages_left r page + 130) r page busy word (λ opened. omega arith)
+    (λ other. let fewer = passed_lt r page busy few fits in omega (arith, fewer))
 
 by_state : (r : SavingRound) (page : ℕ) (busy : Option ℕ) (word : ℕ) (says : SaveWord) (state : SaveState) → IsPageCount r.layout.pages → IsRoundPage r page
     → left_at r (SaveRound.looked_by r page busy word says state) < 2 * pages_left r page + 129

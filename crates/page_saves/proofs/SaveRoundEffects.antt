@@ -1,5 +1,5 @@
 -- What a save round's step does to the words, by what it then tells.
-use Rattle.std.proofs.Common.{◌≡◌, ℕ, ◌-◌, List, Some, slice_index, arith, refl, sym, ap, ◌∙◌, subst}
+use Rattle.std.proofs.Common.{◌≡◌, ℕ, ◌-◌, List, slice_index, arith, refl, sym, ap, ◌∙◌, subst}
 use Rattle.std.specs.Prelude.{⊤}
 use Rattle.atom_store.specs.declared.reply.Reply.{Reply}
 use Rattle.atom_store.specs.declared.reply.Reply.TheVariants as reply
@@ -10,20 +10,20 @@ use Rattle.atom_store.specs.Step.{reply_of}
 use Rattle.atom_store.proofs.Acting.{no_step}
 use Rattle.atom_store.proofs.StepWords.{slice_index-words_after, slice_index-won, won_exactly, lost_tells_another, words_after-lost}
 use Rattle.space_map.specs.GateWord.{decode_gate}
-use Rattle.space_map.specs.SaveWord.{decode_save}
 use Rattle.space_map.specs.Spaces.{Layout}
-use Rattle.space_map.specs.Table.{Gate, SnapNumber, LastSaved, Page, SaveOf}
+use Rattle.space_map.specs.Table.{Gate, SnapNumber, LastSaved}
 use Rattle.page_saves.specs.declared.save_end.SaveEnd.{SaveEnd}
 use Rattle.page_saves.specs.declared.save_end.SaveEnd.TheVariants as save_end
 use Rattle.page_saves.specs.declared.save_round_end.SaveRoundEnd.{SaveRoundEnd}
 use Rattle.page_saves.specs.declared.save_round_end.SaveRoundEnd.TheVariants.{NoneRuns, Saved, Marked, NothingNow}
 use Rattle.page_saves.specs.declared.save_round_stage.SaveRoundStage.{SaveRoundStage}
-use Rattle.page_saves.specs.declared.save_round_stage.SaveRoundStage.TheVariants.{LoadsGate, LoadsSnap, LoadsDone, LoadsGateAgain, LoadsPage, LoadsSave, Saves, ExchangesDone, Ended}
+use Rattle.page_saves.specs.declared.save_round_stage.SaveRoundStage.TheVariants.{LoadsGate, LoadsSnap, LoadsDone, LoadsGateAgain, Saves, ExchangesDone, Ended}
 use Rattle.page_saves.specs.RoundTheorems.{SavesPage, MarksDone, ShowsNothingToSave, word_of_row}
 use Rattle.page_saves.specs.SaveRound
 use Rattle.page_saves.specs.SaveRound.{SavingRound, at_stage, told, taken_at, save_round_machine}
 use Rattle.page_saves.specs.SoundRound.{IsSoundSaveRound}
-use Rattle.space_map.specs.WholeTable.{Within, Behind, HoldsWhole, whole_place_of}
+use Rattle.space_map.specs.WholeTable.{Within, HoldsWhole, whole_place_of}
+use Rattle.page_saves.proofs.PageLooks.{looks_end}
 use Rattle.page_saves.proofs.RoundEnds
 use Rattle.page_saves.proofs.SaveEffects as saving
 use Rattle.space_map.proofs.WholeRows.{whole_place_of-lt}
@@ -55,16 +55,6 @@ shows_nothing r LoadsGateAgain before after word acts =
     let ends = RoundEnds.gate_again_ends (at_stage r LoadsGateAgain) loaded (NothingNow word) (decode_gate loaded) acts.tells in
     let same = same_word word loaded ends.told_word in
     (record { gate = ends.gate; read = same; says = ap decode_gate same ∙ ends.is; other = ends.other }, acts.makes)
-shows_nothing r (LoadsPage page busy) before after word acts =
-    let loaded : ℕ = word_of_row r (Within (Page page)) before in
-    let ends = RoundEnds.page_ends (at_stage r (LoadsPage page busy)) page loaded busy (NothingNow word) acts.tells in
-    let same = same_word word ends.0.word ends.0.told_word in
-    ((ends.1, ends.0.busy_page ∙ ap Some (sym same), ends.0.last), acts.makes)
-shows_nothing r (LoadsSave page busy) before after word acts =
-    let loaded : ℕ = word_of_row r (Behind (SaveOf page)) before in
-    let ends = RoundEnds.look_ends (at_stage r (LoadsSave page busy)) page loaded busy (NothingNow word) (decode_save loaded) refl acts.tells in
-    let same = same_word word ends.word ends.told_word in
-    (rw same ends.shows, acts.makes)
 shows_nothing r (Saves s) before after word acts =
     let ends = RoundEnds.saving_ends r s before after (NothingNow word) acts in
     let tells = ends.is ∙ ap Finished (save_taken ends.outcome word ends.told_end) in
@@ -75,6 +65,9 @@ shows_nothing r ExchangesDone before after word acts =
     let another = lost_tells_another p (r.number - 1) r.number word before lost in
     ((another.0, another.1), acts.makes ∙ words_after-lost p (r.number - 1) r.number word before lost)
 shows_nothing r (Ended result) before after word acts = absurd (no_step acts.has_step)
+shows_nothing r stage before after word acts =
+    let ends = looks_end r stage before after (NothingNow word) tt acts in
+    (subst (ShowsNothingToSave (at_stage r stage) stage before) (sym (same_word word ends.word ends.told_word)) ends.shows, ends.stays)
 
 -- ---- at the looks
 
@@ -95,14 +88,11 @@ word_told r LoadsSnap before after result at acts =
 word_told r LoadsGateAgain before after result at acts =
     let loaded : ℕ = word_of_row r (Within Gate) before in
     let ends = RoundEnds.gate_again_ends (at_stage r LoadsGateAgain) loaded result (decode_gate loaded) acts.tells in (loaded, ends.told_word)
-word_told r (LoadsPage page busy) before after result at acts =
-    let loaded : ℕ = word_of_row r (Within (Page page)) before in
-    let ends = RoundEnds.page_ends (at_stage r (LoadsPage page busy)) page loaded busy result acts.tells in (ends.0.word, ends.0.told_word)
-word_told r (LoadsSave page busy) before after result at acts =
-    let loaded : ℕ = word_of_row r (Behind (SaveOf page)) before in
-    let ends = RoundEnds.look_ends (at_stage r (LoadsSave page busy)) page loaded busy result (decode_save loaded) refl acts.tells in (ends.word, ends.told_word)
+word_told r LoadsDone before after result at acts = absurd at
+word_told r (Saves s) before after result at acts = absurd at
+word_told r ExchangesDone before after result at acts = absurd at
 word_told r (Ended last) before after result at acts = absurd (no_step acts.has_step)
-word_told r _ before after result at acts = elim at [ ]
+word_told r stage before after result at acts = let ends = looks_end r stage before after result tt acts in (ends.word, ends.told_word)
 
 -- ---- no checkpoint runs
 

@@ -1,34 +1,24 @@
 -- What a save round has read by the time that it looks at pages.
-use Rattle.std.proofs.Common.{◌≡◌, ℕ, zero, suc, ◌+◌, Bool, true, false, cond, nat_eq, nat_lt, List, Option, Some, None, arith, refl, sym, ap, ◌∙◌, subst}
+use Rattle.std.proofs.Common.{◌≡◌, ℕ, zero, suc, Bool, true, false, cond, nat_eq, List, Option, Some, None, arith, refl, sym, ap, ◌∙◌, subst}
 use Rattle.std.specs.Prelude.{⊤}
 use Rattle.std.proofs.lemmas.Bool.Decides.{nat_tests}
-use Rattle.atom_store.specs.declared.reply.Reply.TheVariants.{Won, Lost}
 use Rattle.atom_store.specs.declared.step.Step.{Step}
 use Rattle.atom_store.specs.declared.step.Step.TheVariants.{Load}
-use Rattle.atom_store.specs.declared.turn.Turn.{Turn}
-use Rattle.atom_store.specs.declared.turn.Turn.TheVariants.{More, Finished}
 use Rattle.atom_store.specs.Runs.{among, after_step}
+use Rattle.atom_store.specs.Step.{reply_of}
 use Rattle.space_map.specs.declared.gate_word.GateWord.{GateWord}
-use Rattle.space_map.specs.declared.save_word.SaveWord.{SaveWord}
 use Rattle.space_map.specs.GateWord.{decode_gate}
-use Rattle.space_map.specs.PageWord.{encode_page}
-use Rattle.space_map.specs.declared.page_word.PageWord.TheVariants.{Open}
-use Rattle.space_map.specs.Table.{Gate, SnapNumber, LastSaved, Page, SaveOf}
+use Rattle.space_map.specs.Table.{Gate, SnapNumber, LastSaved}
 use Rattle.page_saves.specs.declared.save_caller.SaveCaller.{SaveCaller}
 use Rattle.page_saves.specs.declared.save_caller.SaveCaller.TheVariants.{Mutates, Scans}
-use Rattle.page_saves.specs.declared.save_end.SaveEnd.{SaveEnd}
 use Rattle.page_saves.specs.declared.save_round_end.SaveRoundEnd.TheVariants.{NoneRuns, NothingNow}
 use Rattle.page_saves.specs.declared.save_round_stage.SaveRoundStage.{SaveRoundStage}
-use Rattle.page_saves.specs.declared.save_round_stage.SaveRoundStage.TheVariants.{LoadsGate, LoadsSnap, LoadsDone, LoadsGateAgain, LoadsPage, LoadsSave, Saves, ExchangesDone, Ended}
-use Rattle.page_saves.specs.declared.save_state.SaveState.{SaveState}
-use Rattle.page_saves.specs.declared.save_state.SaveState.TheVariants.{Waits, Copying, Kept, Past}
+use Rattle.page_saves.specs.declared.save_round_stage.SaveRoundStage.TheVariants.{LoadsGate, LoadsSnap, LoadsDone, LoadsGateAgain, Ended}
 use Rattle.page_saves.specs.RoundTheorems.{HasLoaded, HasEpoch, HasReadSnap, HasReadDone, HasReadAll, IsBegun, ByMutator, ByScanner, IsAtPages, NoneRunsIsShown, RoundsReadFirst, round_after, word_of_row}
-use Rattle.page_saves.specs.Save.{PageSaving}
-use Rattle.page_saves.specs.Save as save
 use Rattle.page_saves.specs.SaveRound
 use Rattle.page_saves.specs.SaveRound.{SavingRound, wanted, at_stage, save_round_machine}
-use Rattle.page_saves.specs.SaveState.{state_of}
-use Rattle.space_map.specs.WholeTable.{WholeRow, Within, Behind, whole_place_of}
+use Rattle.space_map.specs.WholeTable.{WholeRow, Within, whole_place_of}
+use Rattle.page_saves.proofs.PageLooks.{IsPastReads, goes_past}
 use Rattle.page_saves.proofs.RoundEnds.{number_is}
 use Rattle.page_saves.proofs.SaveRoundEffects.{none_runs}
 
@@ -146,48 +136,19 @@ module _ (begun : SavingRound) (met : ℕ → List ℕ) where
   abbrev All : ℕ → SavingRound → Type 0
   All n r = HasReadAll begun met n r.layout.pages r.epoch r.number r.caller
 
-  at_after : (n : ℕ) (r : SavingRound) (busy : Option ℕ) → All n r → HasReadBy n (at_stage r (SaveRound.after_pages busy))
-  at_after n r (Some word) has = tt
-  at_after n r None has = has
+  all_past : (n : ℕ) (r : SavingRound) (stage : SaveRoundStage) → IsPastReads stage → All n r → HasReadBy n (at_stage r stage)
+  all_past n r LoadsGate past has = absurd past
+  all_past n r LoadsSnap past has = absurd past
+  all_past n r LoadsDone past has = absurd past
+  all_past n r LoadsGateAgain past has = absurd past
+  all_past n r (Ended result) past has = tt
+  all_past n r _ past has = has
 
-  at_passed : (n : ℕ) (r : SavingRound) (page : ℕ) (busy : Option ℕ) → All n r → HasReadBy n (at_stage r (SaveRound.passed_page r page busy))
-  at_passed n r page busy has = by_test (nat_lt (SaveRound.page_after r page) (SaveRound.to_page r + r.layout.pages))
-    where
-      by_test : (b : Bool) → HasReadBy n (at_stage r (cond b (LoadsPage (SaveRound.page_after r page) busy) (SaveRound.after_pages busy)))
-      by_test true = has
-      by_test false = at_after n r busy has
-
-  at_page : (n : ℕ) (r : SavingRound) (page : ℕ) (busy : Option ℕ) (word : ℕ) → All n r → HasReadBy n (at_stage r (SaveRound.looked_at_page r page busy word))
-  at_page n r page busy word has = by_test (nat_eq word (encode_page (Open r.epoch)))
-    where
-      by_test : (b : Bool) → HasReadBy n (at_stage r (cond b (LoadsSave page busy) (SaveRound.passed_page r page busy)))
-      by_test true = has
-      by_test false = at_passed n r page busy has
-
-  by_state : (n : ℕ) (r : SavingRound) (page : ℕ) (busy : Option ℕ) (word : ℕ) (says : SaveWord) (state : SaveState) → All n r
-      → HasReadBy n (at_stage r (SaveRound.looked_by r page busy word says state))
-  by_state n r page busy word says Waits has = has
-  by_state n r page busy word says Copying has = at_passed n r page (Some word) has
-  by_state n r page busy word says Kept has = at_passed n r page busy has
-  by_state n r page busy word says Past has = tt
-
-  at_save : (n : ℕ) (r : SavingRound) (page : ℕ) (busy : Option ℕ) (word : ℕ) (o : Option SaveWord) → All n r
-      → HasReadBy n (at_stage r (SaveRound.looked_at_save r page busy word o))
-  at_save n r page busy word (Some says) has = by_state n r page busy word says (state_of says r.number) has
-  at_save n r page busy word None has = has
-
-  went : (n : ℕ) (r : SavingRound) (s : PageSaving) (turn : Turn SaveEnd) → All n r → HasReadBy n (at_stage r (SaveRound.save_went s turn))
-  went n r s More has = has
-  went n r s (Finished result) has = tt
-
-  at_saving : (n : ℕ) (r : SavingRound) (s : PageSaving) (o : Option Step) (words : List ℕ) → All n r
-      → HasReadBy n (after_step save_round_machine (at_stage r (Saves s)) o words)
-  at_saving n r s None words has = has
-  at_saving n r s (Some step) words has = went n r _ _ has
-
-  at_end : (n : ℕ) (r : SavingRound) (won : Bool) (word : ℕ) → HasReadBy n (SaveRound.taken_at (at_stage r ExchangesDone) ExchangesDone (cond won Won (Lost word)))
-  at_end n r true word = tt
-  at_end n r false word = tt
+  keeps_all : (n : ℕ) (r : SavingRound) (stage : SaveRoundStage) (o : Option Step) (words : List ℕ) → IsPastReads stage → All n r
+      → HasReadBy n (after_step save_round_machine (at_stage r stage) o words)
+  keeps_all n r stage None words past has = all_past n r stage past has
+  keeps_all n r stage (Some step) words past has =
+      let goes = goes_past r stage (reply_of step words) past in subst (HasReadBy n) (sym goes.is) (all_past n r goes.next goes.past has)
 
   -- ---- all
 
@@ -196,13 +157,9 @@ module _ (begun : SavingRound) (met : ℕ → List ℕ) where
   keeps n r LoadsSnap is has = at_snap n r (SaveRound.number_in (word_of_row r (Within SnapNumber) (met n))) is refl has
   keeps n r LoadsDone is has = at_done n r (SaveRound.number_in (word_of_row r (Within LastSaved) (met n))) is refl has
   keeps n r LoadsGateAgain is has = at_gate_again n r (decode_gate (word_of_row r (Within Gate) (met n))) is refl has
-  keeps n r (LoadsPage page busy) is has =
-      at_page (suc n) r page busy (word_of_row r (Within (Page page)) (met n)) (later_all n r.layout.pages r.epoch r.number r.caller has)
-  keeps n r (LoadsSave page busy) is has =
-      at_save (suc n) r page busy (word_of_row r (Behind (SaveOf page)) (met n)) _ (later_all n r.layout.pages r.epoch r.number r.caller has)
-  keeps n r (Saves s) is has = at_saving (suc n) r s (save.wanted s) (met n) (later_all n r.layout.pages r.epoch r.number r.caller has)
-  keeps n r ExchangesDone is has = at_end (suc n) r _ _
   keeps n r (Ended result) is has = tt
+  keeps n r stage is has =
+      keeps_all (suc n) r stage (wanted (at_stage r stage)) (met n) tt (later_all n r.layout.pages r.epoch r.number r.caller has)
 
   begins : IsBegun begun → HasReadBy 0 begun
   begins (ByMutator layout epoch worker is) = subst (HasReadBy 0) (sym is) tt
@@ -219,11 +176,12 @@ module _ (begun : SavingRound) (met : ℕ → List ℕ) where
   at_done_number n r _ number at same has = cc
 
   at_pages : (n : ℕ) (r : SavingRound) (stage : SaveRoundStage) → IsAtPages stage → HasReadAt n r stage → All n r
-  at_pages n r (LoadsPage page busy) at has = has
-  at_pages n r (LoadsSave page busy) at has = has
-  at_pages n r (Saves s) at has = has
-  at_pages n r ExchangesDone at has = has
-  at_pages n r _ at has = elim at [ ]
+  at_pages n r LoadsGate at has = absurd at
+  at_pages n r LoadsSnap at has = absurd at
+  at_pages n r LoadsDone at has = absurd at
+  at_pages n r LoadsGateAgain at has = absurd at
+  at_pages n r (Ended result) at has = absurd at
+  at_pages n r _ at has = has
 
 pub rounds_read_first : RoundsReadFirst
 rounds_read_first begun met n r new is at =

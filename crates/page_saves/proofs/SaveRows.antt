@@ -1,10 +1,17 @@
 -- Machines that go on want a step on a row of the table, and write only what is said of pages, saved words and the number of the last
--- checkpoint that is done.
-use Rattle.std.proofs.Common.{◌≡◌, ℕ, ◌≤◌, arith, refl, ap, subst}
+-- checkpoint that is done. A round goes on if the rows that it loads say something of their kind.
+use Rattle.std.proofs.Common.{◌≡◌, ℕ, ◌^◌, ◌<◌, ◌≤◌, Bool, true, false, cond, List, Some, is_some, arith, refl, ap, subst}
 use Rattle.std.specs.Prelude.{option_map}
+use Rattle.std.proofs.lemmas.Bool.{lt-ltb}
+use Rattle.std.proofs.lemmas.Option.{same_Some}
+use Rattle.atom_store.specs.declared.reply.Reply.TheVariants.{Won, Lost}
+use Rattle.atom_store.specs.declared.step.Step.{Step}
+use Rattle.atom_store.specs.Step.{reply_of}
 use Rattle.atom_store.specs.StepOn.{IsOn, WritesOnly, step_at}
+use Rattle.space_map.specs.GateWord.{decode_gate}
+use Rattle.space_map.specs.SaveWord.{decode_save}
 use Rattle.space_map.specs.Spaces.{Layout, board_page}
-use Rattle.space_map.specs.Table.{LastSaved, SaveOf, ImageOf}
+use Rattle.space_map.specs.Table.{Gate, SnapNumber, LastSaved, SaveOf, ImageOf}
 use Rattle.page_saves.specs.declared.guard_stage.GuardStage.{GuardStage}
 use Rattle.page_saves.specs.declared.guard_stage.GuardStage.TheVariants as guard_stage
 use Rattle.page_saves.specs.declared.save_round_stage.SaveRoundStage.{SaveRoundStage}
@@ -20,7 +27,8 @@ use Rattle.page_saves.specs.SaveRound as round
 use Rattle.page_saves.specs.SoundGuard.{FitsGuardStage, IsGuardGoing}
 use Rattle.page_saves.specs.SoundRound.{FitsSaveRoundStage, IsSaveRoundGoing}
 use Rattle.page_saves.specs.SoundSave.{FitsSaveStage, IsSaveGoing}
-use Rattle.space_map.specs.WholeTable.{WholeRow, Within, Behind, IsWholeRow, whole_place_of}
+use Rattle.space_map.specs.WholeTable.{WholeRow, Within, Behind, IsWholeRow, whole_place_of, whole_word}
+use Rattle.page_saves.proofs.SaveGoesOn.{saves_go_on}
 
 -- ---- the save
 
@@ -83,3 +91,33 @@ module _ (Q : WholeRow → Type 0) (done : Q (Within LastSaved)) (saves : (page 
   round_writes r (round_stage.Saves s) = save_writes s s.stage
   round_writes r round_stage.ExchangesDone = done
   round_writes r stage = tt
+
+-- ---- what is read
+
+-- the rows that a round loads say something of their kind
+pub record RowsSay (n : ℕ) (words : List ℕ) : Type 0 where
+  pub gate : is_some (decode_gate (whole_word n (Within Gate) words)) ≡ true
+  pub snap : whole_word n (Within SnapNumber) words < 2 ^ 32
+  pub done : whole_word n (Within LastSaved) words < 2 ^ 32
+  pub saves : (page : ℕ) → page ≤ board_page n → is_some (decode_save (whole_word n (Behind (SaveOf page)) words)) ≡ true
+
+exchanged : (won : Bool) (word : ℕ) → round.advances_at round_stage.ExchangesDone (cond won Won (Lost word)) ≡ true
+exchanged true word = refl
+exchanged false word = refl
+
+module _ (r : SavingRound) (step : Step) (words : List ℕ) (say : RowsSay r.layout.pages words) where
+  abbrev GoesOn : SaveRoundStage → Step → Type 0
+  GoesOn stage z = round.advances_at stage (reply_of z words) ≡ true
+
+  -- so each reply takes it on
+  pub round_goes_on : (stage : SaveRoundStage) → FitsSaveRoundStage r stage → round.wanted_at r stage ≡ Some step → GoesOn stage step
+  round_goes_on round_stage.LoadsGate fits wants = subst (GoesOn round_stage.LoadsGate) (same_Some _ _ wants) say.gate
+  round_goes_on round_stage.LoadsSnap fits wants = subst (GoesOn round_stage.LoadsSnap) (same_Some _ _ wants) (lt-ltb _ (2 ^ 32) say.snap)
+  round_goes_on round_stage.LoadsDone fits wants = subst (GoesOn round_stage.LoadsDone) (same_Some _ _ wants) (lt-ltb _ (2 ^ 32) say.done)
+  round_goes_on round_stage.LoadsGateAgain fits wants = subst (GoesOn round_stage.LoadsGateAgain) (same_Some _ _ wants) say.gate
+  round_goes_on (round_stage.LoadsPage page busy) fits wants = subst (GoesOn (round_stage.LoadsPage page busy)) (same_Some _ _ wants) refl
+  round_goes_on (round_stage.LoadsSave page busy) fits wants =
+      subst (GoesOn (round_stage.LoadsSave page busy)) (same_Some _ _ wants) (say.saves page fits.in_table)
+  round_goes_on (round_stage.Saves s) fits wants = saves_go_on s step words wants
+  round_goes_on round_stage.ExchangesDone fits wants = subst (GoesOn round_stage.ExchangesDone) (same_Some _ _ wants) (exchanged _ _)
+  round_goes_on (round_stage.Ended result) fits wants = absurd (cc)

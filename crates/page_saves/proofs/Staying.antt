@@ -6,12 +6,10 @@ use Rattle.atom_store.specs.declared.reply.Reply.TheVariants.{Value, Done, Won, 
 use Rattle.atom_store.specs.declared.turn.Turn.{Turn}
 use Rattle.atom_store.specs.declared.turn.Turn.TheVariants.{More, Finished}
 use Rattle.space_map.specs.declared.gate_word.GateWord.{GateWord}
-use Rattle.space_map.specs.declared.page_word.PageWord.TheVariants.{Open}
 use Rattle.space_map.specs.declared.save_word.SaveWord.{SaveWord}
 use Rattle.space_map.specs.declared.save_word.SaveWord.TheVariants as save_word
 use Rattle.space_map.specs.declared.spaces.TheConstants.{LAST_WORKER}
 use Rattle.space_map.specs.GateWord.{decode_gate}
-use Rattle.space_map.specs.PageWord.{encode_page}
 use Rattle.space_map.specs.SaveWord.{decode_save, number_of}
 use Rattle.space_map.specs.Spaces.{Layout, IsPageCount, board_page}
 use Rattle.space_map.proofs.GateWords.{GateFits-decode_gate}
@@ -39,6 +37,7 @@ use Rattle.page_saves.specs.SaveState.{state_of, state_within}
 use Rattle.page_saves.specs.SoundGuard.{IsSoundGuard, FitsGuardStage}
 use Rattle.page_saves.specs.SoundRound.{IsSoundSaveRound, IsRoundPage, FitsSaveRoundStage}
 use Rattle.page_saves.specs.SoundSave.{IsSoundSave, IsOwnSave, IsSaveGoing, FitsSaveStage}
+use Rattle.page_saves.proofs.PageLooks.{of_page}
 use Rattle.page_saves.proofs.PageOrder.{to_page-le, IsOrNot, Board, Other, board_or_not}
 
 -- ---- the save
@@ -239,11 +238,7 @@ by_gate_again r word (Some gate) = by_test (nat_eq gate.epoch r.epoch)
 by_gate_again r word None = tt
 
 by_page : (r : SavingRound) (page : ℕ) (busy : Option ℕ) (word : ℕ) → IsRoundPage r page → FitsSaveRoundStage r (SaveRound.looked_at_page r page busy word)
-by_page r page busy word fits = by_test (nat_eq word (encode_page (Open r.epoch)))
-  where
-    by_test : (b : Bool) → FitsSaveRoundStage r (cond b (LoadsSave page busy) (SaveRound.passed_page r page busy))
-    by_test true = fits
-    by_test false = by_passed r page busy fits
+by_page r page busy word fits = of_page (FitsSaveRoundStage r) r page busy word (λ opened. fits) (λ other. by_passed r page busy fits)
 
 by_state : (r : SavingRound) (page : ℕ) (busy : Option ℕ) (word : ℕ) (says : SaveWord) (state : SaveState) → IsReady r → IsRoundPage r page → decode_save word ≡ Some says
     → state_of says r.number ≡ state → FitsSaveRoundStage r (SaveRound.looked_by r page busy word says state)

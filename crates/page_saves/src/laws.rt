@@ -70,6 +70,7 @@ pub fn save_rounds_go_on()
 {}
 
 /// Saves, looks and rounds, worked out step by step with all words as numbers.
+#[tactic(auto, unfolding(space_map::specs::GateWord::decode_gate, space_map::specs::GateWord::gate_in, space_map::specs::PageWord::encode_page, space_map::specs::SaveWord::decode_save, space_map::specs::SaveWord::encode_save, space_map::specs::Table::place_of, space_map::specs::Table::save_place_of))]
 pub fn rows_are_worked_out()
     ensures page_is_saved { PageIsSaved }
     ensures lost_save_ends { LostSaveEnds }

@@ -6,16 +6,16 @@ use Rattle.std.proofs.lemmas.Bool.Decides.{nat_tests}
 use Rattle.atom_store.specs.Runs.{Working, alone}
 use Rattle.heap_words.specs.Decoded.{Decoded, PointerWord, decode}
 use Rattle.heap_words.specs.Word.{pointer_word}
-use Rattle.space_map.specs.Spaces.{Layout, first_word, board_page}
+use Rattle.space_map.specs.Spaces.{Layout, board_page}
 use Rattle.space_map.specs.Table.{HeapWord, place_of, table_length}
 use Rattle.page_scan.specs.declared.ending.Ending.{Ending}
 use Rattle.page_scan.specs.declared.scan_stage.ScanStage.{ScanStage}
-use Rattle.page_scan.specs.declared.scan_stage.ScanStage.TheVariants.{LoadsCross, LoadsWord, Asks, StoresCopy, Ended}
+use Rattle.page_scan.specs.declared.scan_stage.ScanStage.TheVariants.{LoadsWord, Asks, StoresCopy, Ended}
 use Rattle.page_scan.specs.declared.spot.Spot.{Spot}
 use Rattle.page_scan.specs.declared.spot.Spot.TheVariants.{OnBoard, InRecord}
 use Rattle.page_scan.specs.Answering.{LeadsBack, ReplacesPointers, answered_by, answering, heap_in}
 use Rattle.page_scan.specs.Fields.{IsOnBoard}
-use Rattle.page_scan.specs.Scanning.{Scanning, address_of}
+use Rattle.page_scan.specs.Scanning.{Scanning, address_of, first_stage}
 use Rattle.page_scan.specs.Taken.{board_words, by_word, is_old, passes_word}
 use Rattle.page_scan.specs.Theorems.{ScansBoards}
 use Rattle.page_scan.proofs.Replacing.{Replaced, begun-Replaced, unread, passed, stored, ended-Replaced}
@@ -121,7 +121,7 @@ boards l epoch in_place words answer n ending whole =
         page = board_page l.pages;
         epoch = epoch;
         in_place = in_place;
-        stage = if b then LoadsWord (OnBoard (first_word (board_page l.pages))) else LoadsCross;
+        stage = first_stage b (board_page l.pages);
       };
       words = words;
     } in

@@ -14,7 +14,7 @@ use Rattle.heap_state.specs.Kept.{size_said}
 use Rattle.heap_words.specs.FirstWords.{is_header}
 use Rattle.heap_words.specs.Word.{pointer_word}
 use Rattle.space_map.specs.AreaWord.{decode_area}
-use Rattle.space_map.specs.Spaces.{Layout, to_space, first_word, board_page}
+use Rattle.space_map.specs.Spaces.{Layout, to_space, board_page}
 use Rattle.space_map.specs.Table.{Area, HeapWord, place_of}
 use Rattle.page_scan.specs.declared.ending.Ending.{Ending}
 use Rattle.page_scan.specs.declared.headed_record.HeadedRecord.{HeadedRecord}
@@ -25,7 +25,7 @@ use Rattle.page_scan.specs.declared.spot.Spot.{Spot}
 use Rattle.page_scan.specs.declared.spot.Spot.TheVariants.{OnBoard, InRecord}
 use Rattle.page_scan.specs.Answering.{IsPacked, LeadsBack, ReplacesPointers, answered_by, answering, crossing_in, heap_in}
 use Rattle.page_scan.specs.Fields.{IsFieldOn, record_begins, first_said, fields_said}
-use Rattle.page_scan.specs.Scanning.{Scanning, address_of}
+use Rattle.page_scan.specs.Scanning.{Scanning, address_of, first_stage}
 use Rattle.page_scan.specs.Taken.{by_area, by_count, by_header, by_kind, by_word, enters, goes_on_at, is_count, is_old, passes_word, record_at}
 use Rattle.page_scan.specs.Theorems.{ScansPages}
 use Rattle.page_scan.proofs.Packed.{IsCounted, begins-next, begins-le, field-below, field-of, first, first-before, last, last-before}
@@ -393,7 +393,7 @@ pages l page epoch in_place words front answer n ending lies =
         page = page;
         epoch = epoch;
         in_place = in_place;
-        stage = if b then LoadsWord (OnBoard (first_word page)) else LoadsCross;
+        stage = first_stage b page;
       };
       words = words;
     } in

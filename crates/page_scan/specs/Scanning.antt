@@ -18,6 +18,10 @@ pub record Scanning : Type 0 where
   pub in_place : Bool
   pub stage : ScanStage
 
+-- where the scan of a page begins, of the board or of another
+abbrev pub first_stage : (is_board : Bool) → (page : ℕ) → ScanStage
+first_stage is_board page = if is_board then LoadsWord (OnBoard (first_word page)) else LoadsCross
+
 -- a scan that has done nothing yet: the board has no records, and all its words are looked at
 abbrev pub begun : Layout → (page epoch : ℕ) → Bool → Scanning
 begun l page epoch in_place = record {
@@ -25,7 +29,7 @@ begun l page epoch in_place = record {
   page = page;
   epoch = epoch;
   in_place = in_place;
-  stage = if page == board_page l.pages then LoadsWord (OnBoard (first_word page)) else LoadsCross;
+  stage = first_stage (page == board_page l.pages) page;
 }
 
 -- the scan has not ended

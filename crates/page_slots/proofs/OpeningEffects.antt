@@ -16,10 +16,10 @@ use Rattle.page_slots.specs.declared.open_stage.OpenStage.{OpenStage}
 use Rattle.page_slots.specs.declared.open_stage.OpenStage.TheVariants.{StoresOpen, Ended}
 use Rattle.page_slots.specs.Open.{Opening, open_machine}
 use Rattle.page_slots.specs.Soundness.{IsSoundOpening}
-use Rattle.page_slots.specs.Theorems.{OpensPage}
+use Rattle.page_slots.specs.Theorems.{LeavesPageOpen}
 
 pub opens : (o : Opening) (stage : OpenStage) (before after : List ℕ) (outcome : Opened) → IsSoundOpening o → HoldsTable o.layout.pages before
-    → MakesStep open_machine (record o { stage = stage }) before after (Finished outcome) → OpensPage o before after
+    → MakesStep open_machine (record o { stage = stage }) before after (Finished outcome) → LeavesPageOpen o before after
 opens o StoresOpen before after outcome sound whole acts =
     let place : ℕ = place_of o.layout.pages (Page o.page) in
     let inside = place_of-lt o.layout.pages (Page o.page) sound.page in

@@ -45,10 +45,10 @@ TakenPagesShowIt = (c : Claiming) (before after : List ℕ) (word : ℕ) → IsS
 -- ---- the opening
 
 -- the page's word says then that the page is open in this epoch; no other word changes
-pub record OpensPage (o : Opening) (before after : List ℕ) : Type 0 where
+pub record LeavesPageOpen (o : Opening) (before after : List ℕ) : Type 0 where
   pub is : decode_page (row_word o.layout.pages (Page o.page) after) ≡ Some (page_word.Open o.epoch)
   pub others : ChangesOnly o.layout.pages (Page o.page) before after
 
 abbrev pub OpenedPagesAreOpen : Type 0
 OpenedPagesAreOpen = (o : Opening) (before after : List ℕ) (outcome : Opened) → IsSoundOpening o → HoldsTable o.layout.pages before
-    → MakesStep open_machine o before after (Finished outcome) → OpensPage o before after
+    → MakesStep open_machine o before after (Finished outcome) → LeavesPageOpen o before after

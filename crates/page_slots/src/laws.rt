@@ -27,6 +27,7 @@ pub fn openings_go_on()
 {}
 
 /// A claim and an opening, worked out step by step with all words as numbers.
+#[tactic(auto, unfolding(space_map::specs::GateWord::decode_gate, space_map::specs::GateWord::gate_in, space_map::specs::PageWord::encode_page, space_map::specs::Table::place_of))]
 pub fn rows_are_worked_out()
     ensures full_page { FullPageIsClaimed }
     ensures announced { AnnouncedPlaceHinders }

@@ -2,6 +2,7 @@ pub mod CallOutcomes
 pub mod Single
 pub mod Rest
 pub mod RecordsAfterCalls
+pub mod ActionsOf
 pub mod MadeCells
 pub mod KeptCells
 pub mod Named

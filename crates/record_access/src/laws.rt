@@ -12,6 +12,7 @@ pub fn accesses_go_on()
 {}
 
 /// Accesses, worked out step by step with all words as numbers.
+#[tactic(auto, unfolding(heap_words::specs::Decoded::decode, heap_words::specs::Word::tag_of, heap_words::specs::Word::number_word, heap_words::specs::Word::pointer_word, space_map::specs::PageWord::decode_page, space_map::specs::Table::place_of))]
 pub fn accesses_are_worked_out()
     ensures lost_swap_is_tried_again { LostSwapIsTriedAgain }
     ensures lost_exchange_is_compared_again { LostExchangeIsComparedAgain }

@@ -60,17 +60,13 @@ linked-lt r = by_kind (is_cell r.kept)
 pub copies_lower : (v : Evacuation) (stage : EvacStage) (r : Reply) → FitsStage v.layout.pages v.addr stage → advances stage r ≡ true
     → left_at (stage_after v.layout v.epoch stage r) < left_at stage
 copies_lower v LoadsHeader (Value word) fits t = by_word word (decode word) t
-copies_lower v (TakesHeader kept) Won fits t = omega arith
 copies_lower v (LoadsArea kept) (Value word) fits t = by_front kept (decode_area word) t
-copies_lower v (Announces kept area) Done fits t = omega arith
 copies_lower v (Reserves kept area) Won fits t = within kept fits.0.short
 copies_lower v (StoresHeader r) Done fits t = let c = copied-lt r 1 (omega arith) (omega arith) in omega (arith, c)
-copies_lower v (LoadsWord r i) (Value word) fits t = omega arith
 copies_lower v (StoresWord r w) Done fits t = let few = fits.2 in let c = copied-lt r (w.number + 1) (omega arith) (omega (arith, few)) in omega (arith, c)
 copies_lower v (StoresCross r page) Done fits t = let reaches = fits.2 in crossed-lt r (page + 1) (r.to + size_of r.kept - first_word page) (omega (arith, reaches))
 copies_lower v (StoresForward r) Done fits t = linked-lt r
-copies_lower v (LoadsWeak to) (Value word) fits t = omega arith
-copies_lower v (StoresLink to head) Done fits t = omega arith
-copies_lower v (TakesWeak to head) Won fits t = omega arith
-copies_lower v (Clears to) Done fits t = omega arith
+copies_lower v stage (Value word) fits t = first_of (omega arith, cc)
+copies_lower v stage Done fits t = first_of (omega arith, cc)
+copies_lower v stage Won fits t = first_of (omega arith, cc)
 copies_lower v stage r fits t = cc

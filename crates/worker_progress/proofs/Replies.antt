@@ -137,18 +137,10 @@ module _ (c : Configuration) (p : Plain) (s : Stands c p) (k : ℕ) where
   -- ---- allocations
 
   pub placing : (a : place.Placing) (stage : PlaceStage) (q : Step) → a.layout.pages ≡ c.pages → place.wanted_at a stage ≡ Some q → On (place.advances_at stage) q
-  placing a place_stage.LoadsTraced q same asked = subst (On (place.advances_at place_stage.LoadsTraced)) (same_Some _ q asked) (Advances refl)
-  placing a (place_stage.LoadsSize traced) q same asked = subst (On (place.advances_at (place_stage.LoadsSize traced))) (same_Some _ q asked) (Advances refl)
   placing a (place_stage.LoadsArea traced size) q same asked = subst (On (place.advances_at (place_stage.LoadsArea traced size))) (same_Some _ q asked) (Advances (says_area a.layout.pages same a.epoch))
   placing a (place_stage.ExchangesArea f) q same asked = subst (On (place.advances_at (place_stage.ExchangesArea f))) (same_Some _ q asked) (won_or_lost _ _ _ _ refl)
-  placing a (place_stage.StoresZero new) q same asked = subst (On (place.advances_at (place_stage.StoresZero new))) (same_Some _ q asked) (Advances refl)
-  placing a (place_stage.StoresNew new) q same asked = subst (On (place.advances_at (place_stage.StoresNew new))) (same_Some _ q asked) (Advances refl)
-  placing a (place_stage.OpensPage new) q same asked = subst (On (place.advances_at (place_stage.OpensPage new))) (same_Some _ q asked) (Advances refl)
-  placing a place_stage.StoresCount q same asked = subst (On (place.advances_at place_stage.StoresCount)) (same_Some _ q asked) (Advances refl)
-  placing a place_stage.StoresTarget q same asked = subst (On (place.advances_at place_stage.StoresTarget)) (same_Some _ q asked) (Advances refl)
-  placing a place_stage.StoresLink q same asked = subst (On (place.advances_at place_stage.StoresLink)) (same_Some _ q asked) (Advances refl)
-  placing a place_stage.StoresHeader q same asked = subst (On (place.advances_at place_stage.StoresHeader)) (same_Some _ q asked) (Advances refl)
   placing a (place_stage.Ended result) q same asked = absurd (cc)
+  placing a stage q same asked = subst (On (place.advances_at stage)) (same_Some _ q asked) (Advances refl)
 
   -- ---- claims and rounds
 
@@ -225,20 +217,9 @@ module _ (c : Configuration) (p : Plain) (s : Stands c p) (k : ℕ) where
     pub copying : (stage : EvacStage) → evac.wanted_at v.layout v.addr v.epoch v.worker stage ≡ Some q → (stage ≡ evac_stage.LoadsHeader → On (evac_left.advances evac_stage.LoadsHeader) first_step)
         → On (evac_left.advances stage) q
     copying evac_stage.LoadsHeader asked first = subst (On (evac_left.advances evac_stage.LoadsHeader)) (same_Some _ q asked) (first refl)
-    copying (evac_stage.TakesHeader kept) asked first = subst (On (evac_left.advances (evac_stage.TakesHeader kept))) (same_Some _ q asked) (won_or_lost _ _ _ _ refl)
     copying (evac_stage.LoadsArea kept) asked first = subst (On (evac_left.advances (evac_stage.LoadsArea kept))) (same_Some _ q asked) (Advances (says_area v.layout.pages same v.epoch))
-    copying (evac_stage.Announces kept area) asked first = subst (On (evac_left.advances (evac_stage.Announces kept area))) (same_Some _ q asked) (Advances refl)
-    copying (evac_stage.Reserves kept area) asked first = subst (On (evac_left.advances (evac_stage.Reserves kept area))) (same_Some _ q asked) (won_or_lost _ _ _ _ refl)
-    copying (evac_stage.StoresHeader r) asked first = subst (On (evac_left.advances (evac_stage.StoresHeader r))) (same_Some _ q asked) (Advances refl)
-    copying (evac_stage.LoadsWord r i) asked first = subst (On (evac_left.advances (evac_stage.LoadsWord r i))) (same_Some _ q asked) (Advances refl)
-    copying (evac_stage.StoresWord r w) asked first = subst (On (evac_left.advances (evac_stage.StoresWord r w))) (same_Some _ q asked) (Advances refl)
-    copying (evac_stage.StoresCross r page) asked first = subst (On (evac_left.advances (evac_stage.StoresCross r page))) (same_Some _ q asked) (Advances refl)
-    copying (evac_stage.StoresForward r) asked first = subst (On (evac_left.advances (evac_stage.StoresForward r))) (same_Some _ q asked) (Advances refl)
-    copying (evac_stage.LoadsWeak to) asked first = subst (On (evac_left.advances (evac_stage.LoadsWeak to))) (same_Some _ q asked) (Advances refl)
-    copying (evac_stage.StoresLink to head) asked first = subst (On (evac_left.advances (evac_stage.StoresLink to head))) (same_Some _ q asked) (Advances refl)
-    copying (evac_stage.TakesWeak to head) asked first = subst (On (evac_left.advances (evac_stage.TakesWeak to head))) (same_Some _ q asked) (won_or_lost _ _ _ _ refl)
-    copying (evac_stage.Clears to) asked first = subst (On (evac_left.advances (evac_stage.Clears to))) (same_Some _ q asked) (Advances refl)
     copying (evac_stage.Ended to) asked first = absurd (cc)
+    copying stage asked first = subst (On (evac_left.advances stage)) (same_Some _ q asked) (first_of (search (refl, Advances), search (refl, won_or_lost)))
 
   -- ---- accesses, of which those that end need nothing
 
@@ -283,12 +264,10 @@ module _ (c : Configuration) (p : Plain) (s : Stands c p) (k : ℕ) where
 
   module _ (v : scan.Scanning) (q : Step) (same : v.layout.pages ≡ c.pages) where
     pub scanning : (stage : ScanStage) → scan.wanted_at v.layout v.page v.epoch stage ≡ Some q → IsThere v stage → On (scan_left.advances stage) q
-    scanning scan_stage.LoadsCross asked there = subst (On (scan_left.advances scan_stage.LoadsCross)) (same_Some _ q asked) (Advances refl)
     scanning (scan_stage.LoadsFirst at) asked there = subst (On (scan_left.advances (scan_stage.LoadsFirst at))) (same_Some _ q asked) (Advances there)
     scanning (scan_stage.LoadsCount h) asked there = subst (On (scan_left.advances (scan_stage.LoadsCount h))) (same_Some _ q asked) (Advances there)
-    scanning (scan_stage.LoadsWord spot) asked there = subst (On (scan_left.advances (scan_stage.LoadsWord spot))) (same_Some _ q asked) (Advances refl)
     scanning (scan_stage.Asks ask) asked there = absurd (cc)
-    scanning (scan_stage.StoresCopy ask to) asked there = subst (On (scan_left.advances (scan_stage.StoresCopy ask to))) (same_Some _ q asked) (Advances refl)
     scanning (scan_stage.LoadsFront r) asked there = subst (On (scan_left.advances (scan_stage.LoadsFront r))) (same_Some _ q asked) (Advances (says_area v.layout.pages same v.epoch))
     scanning (scan_stage.LoadsNext r) asked there = subst (On (scan_left.advances (scan_stage.LoadsNext r))) (same_Some _ q asked) (Advances there)
     scanning (scan_stage.Ended ending) asked there = absurd (cc)
+    scanning stage asked there = subst (On (scan_left.advances stage)) (same_Some _ q asked) (Advances refl)

@@ -84,6 +84,7 @@ use Rattle.gc_worker.proofs.Stages.Copies.Finding.{answers}
 use Rattle.gc_worker.proofs.Stages.Copies.Hosts.{Host, ForScan, ForRegister}
 use Rattle.gc_worker.proofs.Stages.Copies.Hosts as hosts
 use Rattle.gc_worker.proofs.Workers.Members.{member}
+use Rattle.alloc_end.proofs.NextStages.{lowers as allocations_lower}
 use Rattle.page_scan.proofs.ScanMeasure.{lowers as scans_lower}
 use Rattle.record_access.proofs.AccessMeasure.{accesses_lower}
 use Rattle.worker_progress.proofs.Replies.{TakesOn, Advances, Loses, Waits, MeetsBusy, On, accessing, copying, flipping, loads_header, opening, passing, placing, says_gate, scanning, serving, IsThere, word_at, word_is}
@@ -91,7 +92,7 @@ use Rattle.worker_progress.proofs.CopyProgress.{copies_lower}
 use Rattle.gc_worker.proofs.MachineEnds.Each.{RoundsAgain, accesses_end, allocations_end, flips_end, guards_end, guards_so, openings_end, passages_end, recalls_end, registers_end, rounds_end, scans_end, snaps_end}
 use Rattle.worker_progress.proofs.CheckpointReads.{MeetsSaving, SavesAre, looking, recalling, rounding, snapping}
 use Rattle.worker_progress.proofs.LooksAgain.{IsDone, looks_done}
-use Rattle.worker_progress.proofs.ProgressMeasure.{allocations_lower, flips_lower, openings_lower, passages_lower}
+use Rattle.worker_progress.proofs.ProgressMeasure.{flips_lower, openings_lower, passages_lower}
 use Rattle.gc_worker.proofs.Stages.Scan.ScannedCounts.{count_there}
 use Rattle.gc_worker.proofs.Stages.Scan.ScannedHeaders.{answer2, first_header, heap_word}
 use Rattle.gc_worker.proofs.Stages.Scan.ScanStages.{scans}

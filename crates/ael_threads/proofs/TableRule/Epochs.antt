@@ -4,11 +4,11 @@ use mathlib.Core.List.{IsPrefix}
 use Rattle.plain_state.specs.State.{Plain}
 use Rattle.heap_state.specs.Configuration.{era, team}
 use Rattle.heap_state.specs.Known.{Known}
-use Rattle.gc_worker.specs.declared.stage.back.Back.TheVariants.{ToAccess, ToTarget, ToPlace, ToScanner, ToSnap}
+use Rattle.gc_worker.specs.declared.stage.back.Back.TheVariants.{ToScanner}
 use Rattle.gc_worker.specs.declared.calls.entry.Entry.{Entry}
 use Rattle.gc_worker.specs.declared.calls.entry.Entry.TheVariants.{Exchanged, Made, Emptied}
 use Rattle.gc_worker.specs.declared.stage.Stage.{Stage}
-use Rattle.gc_worker.specs.declared.stage.Stage.TheVariants.{Accesses, BeginsCheckpoint, Checkpoints, Evacuates, Flips, Forwards, Gone, Guards, Looks, Opens, Passes, Places, Recalls, Scans, Serves}
+use Rattle.gc_worker.specs.declared.stage.Stage.TheVariants.{Serves}
 use Rattle.gc_worker.specs.declared.task.Task.{Task}
 use Rattle.gc_worker.specs.Laws.Between.{IsSo, is_present}
 use Rattle.gc_worker.specs.Workers.Fits.{Fits, FitsTask}
@@ -68,25 +68,9 @@ module _ (h : Heap) (p o : Plain) (st : WorkersStand h p o) (k : ℕ) (below : k
           omega (arith, t, e)
 
       by_stage : (stage : Stage) → x.stage ≡ stage → FitsTask x stage → x.epoch ≤ epoch_of h.pages h.words
-      by_stage (Serves d (ToAccess a)) at f = present_at (Serves d (ToAccess a)) at refl
-      by_stage (Serves d ToPlace) at f = present_at (Serves d ToPlace) at refl
-      by_stage (Serves d (ToTarget a)) at f = present_at (Serves d (ToTarget a)) at refl
-      by_stage (Serves d ToSnap) at f = present_at (Serves d ToSnap) at refl
       by_stage (Serves d ToScanner) at f = absurd (let none : None ≡ Some task = sym f ∙ is in cc)
-      by_stage Looks at f = rests_at Looks at refl
-      by_stage (Passes g after) at f = rests_at (Passes g after) at refl
-      by_stage (Flips g) at f = rests_at (Flips g) at refl
-      by_stage (Forwards w) at f = rests_at (Forwards w) at refl
-      by_stage (Accesses a) at f = rests_at (Accesses a) at refl
-      by_stage (Places z) at f = rests_at (Places z) at refl
-      by_stage (Scans s back) at f = rests_at (Scans s back) at refl
-      by_stage (Evacuates v s back) at f = rests_at (Evacuates v s back) at refl
-      by_stage (Opens z s back) at f = rests_at (Opens z s back) at refl
-      by_stage (Recalls r after) at f = rests_at (Recalls r after) at refl
-      by_stage (Guards g write) at f = rests_at (Guards g write) at refl
-      by_stage (Checkpoints r goal) at f = rests_at (Checkpoints r goal) at refl
-      by_stage (BeginsCheckpoint s) at f = rests_at (BeginsCheckpoint s) at refl
-      by_stage Gone at f = rests_at Gone at refl
+      by_stage (Serves d back) at f = present_at (Serves d back) at refl
+      by_stage stage at f = rests_at stage at refl
 
 -- ---- flips
 

@@ -17,7 +17,7 @@ use Rattle.mutator_asm.specs.declared.instr.Instr.{Instr}
 use Rattle.mutator_asm.specs.declared.instr.Instr.TheVariants as instrs
 use Rattle.mutator_asm.specs.declared.operand.Operand.TheVariants as operands
 use Rattle.plain_heap.specs.declared.action.Action.{Action}
-use Rattle.plain_heap.specs.declared.action.Action.TheVariants.{Loads, Stores, Compares, Puts, Swaps}
+use Rattle.plain_heap.specs.declared.action.Action.TheVariants.{Loads, Stores, Compares, Puts}
 use Rattle.plain_heap.specs.Action.{◌>>=◌, action, register}
 use Rattle.plain_heap.specs.Call.{After, board_word, call, may_hold, performed, store_in, value_in}
 use Rattle.plain_heap.specs.Step.{settled}
@@ -110,9 +110,7 @@ module _ (m : ℕ) (heap : Heap) (k : Mutator) where
   performed-long (Compares d i x expected v) =
       performed_exchange m heap k d i x expected v (λ (a : After). AsLong a.heap) refl
       (if_ok-then AsLong (λ (a : After). AsLong a.heap) (store_in heap i (record_of heap i) x v) _ (stored-long i x v (record_of heap i)) (λ h same. same))
-  performed-long (Puts x v) = length-set heap.board x v
-  performed-long (Swaps d x v) = length-set heap.board x v
-  performed-long _ = refl
+  performed-long _ = first_of (simp length-set, cc)
 
   call-long : (instr : Instr) → IfOk (call m heap k instr) (λ a. AsLong a.heap)
   unfolding call

@@ -87,11 +87,6 @@ given_none n mutators m x now task fits none is call = none_at x none x.stage fi
 
 pub answers_in_call : (x : Held) (reply : Reply) (task : Task) (did : Did) (stage : Stage) → told_at x stage reply ≡ Answers task did → IsPastLook stage → IsInCall stage
 answers_in_call x reply task did (Passes g after) e past = absurd (let e = e in cc)
-answers_in_call x reply task did (Flips g) e past = tt
-answers_in_call x reply task did (Accesses a) e past = tt
-answers_in_call x reply task did (Places p) e past = tt
-answers_in_call x reply task did (Guards g write) e past = tt
-answers_in_call x reply task did (BeginsCheckpoint s) e past = tt
 answers_in_call x reply task did _ e past = past
 
 -- ---- who is in a call was in it before, unless it looked
@@ -119,11 +114,6 @@ module _ (x : Held) where
 
   in_call_at : (reply : Reply) (stage : Stage) → x.stage ≡ stage → FitsTask x stage → IsPastLook stage → IsInCall (turned_at x stage reply).stage → IsInCall stage
   in_call_at reply (Passes g after) is task past call = gate_in (gate.taken g reply) after (gate.told (gate.taken g reply)) task past (λ own. subst IsInCall is own) call
-  in_call_at reply (Flips f) is task past call = tt
-  in_call_at reply (Accesses a) is task past call = tt
-  in_call_at reply (Places p) is task past call = tt
-  in_call_at reply (Guards g write) is task past call = tt
-  in_call_at reply (BeginsCheckpoint s) is task past call = tt
   in_call_at reply _ is task past call = past
 
 pub was_in_call : (n mutators m : ℕ) (x : Held) (reply : Reply) → Fits n mutators m x → IsPastLook x.stage → IsInCall (turned x reply).stage → IsInCall x.stage

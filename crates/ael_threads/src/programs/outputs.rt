@@ -21,9 +21,10 @@ pub struct Printed {
     pub end: End,
 }
 
-/// What is told of a run: the layout of its heap; what each mutator printed; how often the spaces were exchanged, and the words copied since, where all are; the
-/// words in each mutator's registers; what each worker keeps, the mutators first: the header of a record that it copies, and the address
-/// that it has reserved for it and one more, or zeros; and the words of the table, which tell the last checkpoint if they can be begun.
+/// What is told of a run: the layout of its heap; what each mutator printed; how often the spaces were exchanged, and the words copied since,
+/// if all are; the words in each mutator's registers; what each worker keeps, the mutators first: the header of a record that it copies, and
+/// the address that it has reserved for it and one more, or zeros; and the words of the table, which tell the last checkpoint if they can be
+/// begun.
 #[derive(Drop)]
 pub struct Outputs {
     pub spaces: Spaces,

@@ -42,7 +42,7 @@ use Rattle.page_scan.specs.Taken as scan_taken
 use Rattle.page_slots.specs.declared.opened.Opened.{Opened}
 use Rattle.page_slots.specs.Open as open_page
 use Rattle.plain_heap.specs.declared.action.Action.{Action}
-use Rattle.plain_heap.specs.declared.action.Action.TheVariants.{Sets, Jumps, Links, Prints, Makes, Measures, Loads, Stores, Compares, Gets, Puts, Swaps, Snaps}
+use Rattle.plain_heap.specs.declared.action.Action.TheVariants.{Sets, Jumps, Links, Prints, Snaps}
 use Rattle.plain_heap.specs.Action.{action}
 use Rattle.record_access.specs.declared.access.Access.{Access}
 use Rattle.record_access.specs.declared.accessed.Accessed.{Accessed}
@@ -115,14 +115,7 @@ module _ (x : Held) where
     by_action (Links d target) = at_once (acts (begins x) (Links d target)) (refl, refl, refl, refl) refl tt
     by_action (Prints n) = at_once (acts (begins x) (Prints n)) (refl, refl, refl, refl) refl tt
     by_action Snaps = snap_if (may_snap x)
-    by_action (Makes kind d n v) = turns (acts (begins x) (Makes kind d n v)) Silent (refl, refl, refl, refl) refl
-    by_action (Measures d i) = turns (acts (begins x) (Measures d i)) Silent (refl, refl, refl, refl) refl
-    by_action (Loads d i n) = turns (acts (begins x) (Loads d i n)) Silent (refl, refl, refl, refl) refl
-    by_action (Stores i n v) = turns (acts (begins x) (Stores i n v)) Silent (refl, refl, refl, refl) refl
-    by_action (Compares d i n u v) = turns (acts (begins x) (Compares d i n u v)) Silent (refl, refl, refl, refl) refl
-    by_action (Gets d n) = turns (acts (begins x) (Gets d n)) Silent (refl, refl, refl, refl) refl
-    by_action (Puts n v) = turns (acts (begins x) (Puts n v)) Silent (refl, refl, refl, refl) refl
-    by_action (Swaps d n v) = turns (acts (begins x) (Swaps d n v)) Silent (refl, refl, refl, refl) refl
+    by_action act = turns (acts (begins x) act) Silent (refl, refl, refl, refl) refl
 
     stops_at : (why : End) → Turns x (ended (begins x) why) (Answers task (Trap why))
     stops_at why = turns (ended (begins x) why) (Answers task (Trap why)) (refl, refl, refl, refl) (record { asked = asked; rests = refl; after = (refl, refl) })

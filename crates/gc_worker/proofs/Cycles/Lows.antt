@@ -10,14 +10,13 @@ use Rattle.atom_store.specs.declared.step.Step.{Step}
 use Rattle.atom_store.specs.declared.step.Step.TheVariants.{Store, Exchange}
 use Rattle.atom_store.specs.Step.{words_after, reply_of}
 use Rattle.atom_store.specs.StepOn.{StepOn, WritesOnly, step_at}
-use Rattle.atom_store.specs.StepOn as on
 use Rattle.space_map.specs.declared.area_word.AreaWord.{AreaWord}
 use Rattle.space_map.specs.declared.gate_word.GateWord.{GateWord}
 use Rattle.space_map.specs.declared.spaces.TheConstants.{PAGE_WORDS}
 use Rattle.space_map.specs.AreaWord.{AreaFits, decode_area, encode_area}
 use Rattle.space_map.specs.GateWord.{decode_gate}
 use Rattle.space_map.specs.Spaces.{to_space}
-use Rattle.space_map.specs.Table.{Row, Gate, Area, Size, place_of, table_length}
+use Rattle.space_map.specs.Table.{Row, Area, Size, place_of, table_length}
 use Rattle.space_map.specs.WholeTable.{WholeRow, whole_place_of}
 use Rattle.space_map.proofs.AreaWords.{decode_area-encode_area}
 use Rattle.alloc_end.specs.declared.fitting.Fitting.{Fitting}
@@ -39,15 +38,6 @@ use Rattle.gate_core.specs.declared.flipped.Flipped.TheVariants as flipped
 use Rattle.gate_core.specs.declared.reset.Reset as resets
 use Rattle.gate_core.specs.Flip.{Flipping, area_reset}
 use Rattle.gate_core.specs.Flip as flip
-use Rattle.gate_core.specs.Gate as gate
-use Rattle.gate_core.specs.Recall as recall
-use Rattle.gate_core.specs.Snap as snap
-use Rattle.page_saves.specs.Guard as guard
-use Rattle.page_saves.specs.SaveRound as save_round
-use Rattle.page_saves.proofs.SaveRows.{guard_by_rows, guard_writes, round_by_rows, round_writes}
-use Rattle.gate_core.proofs.GateRows.{passage_writes, recall_writes, snap_writes}
-use Rattle.page_scan.specs.Scanning as scan
-use Rattle.page_scan.proofs.ScanRows as scan_rows
 use Rattle.page_slots.specs.Open as open_page
 use Rattle.page_slots.proofs.ClaimRows.{opening_writes}
 use Rattle.heap_state.specs.Configuration.{Configuration, table, era}
@@ -56,20 +46,19 @@ use Rattle.heap_state.specs.Memory.Table.{word_in}
 use Rattle.heap_state.specs.Known.{Reset, Known}
 use Rattle.heap_state.proofs.Table.StoredRows.{word_in-row, word_in-same, word_in-other}
 use Rattle.gc_worker.specs.Laws.Cycles.{words_claimed, claimed_at, claimed_by_placing, low_said, low_at, low_of, size_of as size_in_use, LowGoes, LowFallsByClaims}
-use Rattle.record_access.specs.Access as access
 use Rattle.gc_worker.specs.declared.stage.Stage.{Stage}
-use Rattle.gc_worker.specs.declared.stage.Stage.TheVariants.{Looks, Passes, Flips, Forwards, Accesses, Places, Serves, Scans, Evacuates, Opens, Recalls, Guards, Checkpoints, BeginsCheckpoint, Gone}
+use Rattle.gc_worker.specs.declared.stage.Stage.TheVariants.{Flips, Places, Serves, Opens}
 use Rattle.gc_worker.specs.Steps.Goes.{Is}
 use Rattle.gc_worker.specs.Workers.Held.{Held, at_stage}
 use Rattle.gc_worker.specs.Laws.Step.{Heap, FlipsWhereTold, WorkersStand, read, held_at, epoch_of}
 use Rattle.gc_worker.specs.Steps.Turned.{Told, Marks, epoch_in_gate, told, told_at, told_flip}
 use Rattle.gc_worker.specs.Steps.Wanted.{wanted, wanted_at}
-use Rattle.record_access.proofs.AccessRows as access_rows
 use Rattle.gc_worker.proofs.Words.Areas.{area_says, is_space}
 use Rattle.gc_worker.proofs.Between.Pages.Claims.{NoMark, flips_at}
 use Rattle.gc_worker.proofs.Between.Pages.Written.{Elsewhere, IsNoArea, IsNoSize, area_stays, size_stays, whole_area_stays}
 use Rattle.gc_worker.proofs.Words.Eras.{old_span_is}
 use Rattle.gc_worker.proofs.Words.GrownSizes.{size_now}
+use Rattle.gc_worker.proofs.Words.WorkerRows.{OfCopy, OnRow, WritesSuch, writes_such}
 use Rattle.gc_worker.proofs.Stages.Gate.GateWords.{gate_says}
 use Rattle.gc_worker.proofs.Workers.Members.{member}
 use Rattle.gc_worker.proofs.StepKeeps.{steps_keep}
@@ -271,31 +260,18 @@ module _ (h : Heap) (p o : Plain) (k : ℕ) (x : Held) (st : WorkersStand h p o)
   places z (ExchangesArea f) q is asked = subst (Lows (Places (record z { stage = ExchangesArea f }))) (same_Some _ q asked) (claims_low z f is)
   places z stage q is asked = quiet_on_whole (Places (record z { stage = stage })) q z.layout.pages (place.wants_at z stage) refl tt asked
 
+  other_machines : (stage : Stage) (q : Step) → claimed_at stage (reply_of q words) ≡ 0 → x.layout.pages ≡ n → WritesSuch IsNoArea (at_stage x stage) (wanted_at x stage) → wanted_at x stage ≡ Some q
+      → Lows stage q
+  other_machines stage q none pages (OnRow on writes same) asked = quiet_on_whole stage q x.layout.pages on none writes (sym same ∙ asked)
+  other_machines stage q none pages (OfCopy e v copy same) asked = stays stage q none (copies v v.stage q (ap (λ l. l.pages) copy.layout ∙ pages) copy.sound.fits (sym same ∙ asked))
+
   by_stage : (stage : Stage) (q : Step) → Is c k (at_stage x stage) → wanted_at x stage ≡ Some q → Lows stage q
-  by_stage Looks q is asked = quiet Looks q x.layout.pages (Some (on.Load Gate)) refl tt asked
-  by_stage (Passes g after) q is asked = quiet (Passes g after) q g.layout.pages (gate.wants_at g g.stage) refl (passage_writes IsNoArea tt g g.stage) asked
   by_stage (Flips f) q is asked = stays (Flips f) q refl (flips f f.stage q is asked)
-  by_stage (Forwards w) q is asked =
-      let copy = is.fits.stage.copy in
-      stays (Forwards w) q refl (copies w.evac w.evac.stage q (ap (λ l. l.pages) copy.layout ∙ is.fits.pages) copy.sound.fits asked)
-  by_stage (Accesses a) q is asked = quiet (Accesses a) q a.spaces.pages (Some (access.wants_at a.spaces a.stage)) refl (access_rows.writes IsNoArea (λ addr. tt) a.spaces a.stage) asked
   by_stage (Places z) q is asked = places z z.stage q is asked
   by_stage (Serves d back) q is asked =
       quiet (Serves d back) q d.layout.pages (duty.wants_at d d.stage) refl (duty_rows.writes IsNoArea tt tt (λ page. tt) (λ addr. tt) d d.stage) (sym (duty_rows.by_rows d d.stage is.fits.stage.0.sound.stage) ∙ asked)
-  by_stage (Scans s back) q is asked = quiet (Scans s back) q s.layout.pages (scan.wants_at s.page s.epoch s.stage) refl (scan_rows.writes IsNoArea (λ addr. tt) s.page s.epoch s.stage) asked
-  by_stage (Evacuates v s back) q is asked =
-      let copy = is.fits.stage.0 in
-      stays (Evacuates v s back) q refl (copies v v.stage q (ap (λ l. l.pages) copy.layout ∙ is.fits.pages) copy.sound.fits asked)
   by_stage (Opens s z back) q is asked = quiet (Opens s z back) q s.layout.pages (open_page.wants_at s s.stage) refl (opening_writes IsNoArea (λ page. tt) s s.stage) asked
-  by_stage (Recalls r after) q is asked = quiet (Recalls r after) q r.layout.pages (recall.wants_at r.stage) refl (recall_writes IsNoArea r.stage) asked
-  by_stage (Guards g write) q is asked =
-      quiet_on_whole (Guards g write) q g.layout.pages (guard.wants_at g g.stage) refl (guard_writes (Elsewhere IsNoArea) tt (λ page. tt) (λ addr. tt) g g.stage)
-      (sym (guard_by_rows g g.stage is.fits.stage.sound.stage) ∙ asked)
-  by_stage (Checkpoints r goal) q is asked =
-      quiet_on_whole (Checkpoints r goal) q r.layout.pages (save_round.wants_at r r.stage) refl (round_writes (Elsewhere IsNoArea) tt (λ page. tt) (λ addr. tt) r r.stage)
-      (sym (round_by_rows r r.stage is.fits.stage.sound.stage) ∙ asked)
-  by_stage (BeginsCheckpoint s) q is asked = quiet (BeginsCheckpoint s) q s.layout.pages (snap.wants_at s s.stage) refl (snap_writes IsNoArea tt s s.stage) asked
-  by_stage Gone q is asked = absurd (let e = asked in cc)
+  by_stage stage q is asked = other_machines stage q refl is.fits.pages (writes_such IsNoArea tt tt tt (λ addr. tt) (at_stage x stage) stage tt is.fits.stage) asked
 
   -- ---- a flip
 

@@ -1,23 +1,19 @@
 -- What an allocation claims is set aside for the record that the mutator's instruction makes.
-use Rattle.std.proofs.Common.{◌≡◌, ℕ, ◌+◌, ◌*◌, ◌≤◌, ◌==◌, Bool, true, false, cond, nat_lt, Option, Some, None, is_some, refl, ap, sym, subst, ◌∙◌, arith}
+use Rattle.std.proofs.Common.{◌≡◌, ℕ, ◌+◌, ◌*◌, ◌≤◌, ◌==◌, Bool, true, false, cond, Option, Some, None, is_some, refl, ap, sym, subst, ◌∙◌, arith}
 use Rattle.plain_state.specs.State.{Plain}
 use Rattle.atom_store.specs.declared.reply.Reply.{Reply}
 use Rattle.atom_store.specs.declared.reply.Reply.TheVariants as replies
 use Rattle.space_map.specs.declared.spaces.TheConstants.{PAGE_WORDS}
-use Rattle.space_map.specs.Spaces.{page_of}
-use Rattle.heap_words.specs.declared.kind.Kind.{Kind}
-use Rattle.heap_words.specs.declared.kind.Kind.TheVariants.{Fields, Raw, Mixed, Weak}
 use Rattle.record_layout.specs.declared.header.Header.{Header}
 use Rattle.atom_store.specs.declared.turn.Turn.{Turn}
 use Rattle.atom_store.specs.declared.turn.Turn.TheVariants.{More, Finished}
 use Rattle.alloc_end.specs.declared.allocated.Allocated.{Allocated}
-use Rattle.alloc_end.specs.declared.run.Run.{Run}
-use Rattle.alloc_end.specs.declared.new_pages.NewPages.{NewPages}
 use Rattle.alloc_end.specs.declared.place_stage.PlaceStage.{PlaceStage}
-use Rattle.alloc_end.specs.declared.place_stage.PlaceStage.TheVariants.{LoadsTraced, LoadsSize, LoadsArea, StoresZero, StoresNew, OpensPage, StoresCount, StoresTarget, StoresLink, StoresHeader, Ended}
-use Rattle.alloc_end.specs.Place.{Placing, pages_for, size_of, stores_first, words_for}
+use Rattle.alloc_end.specs.declared.place_stage.PlaceStage.TheVariants.{LoadsTraced, LoadsSize, LoadsArea, ExchangesArea, StoresHeader, Ended}
+use Rattle.alloc_end.specs.Place.{Placing, pages_for, size_of, words_for}
 use Rattle.alloc_end.specs.Place as place
 use Rattle.alloc_end.specs.Soundness.{IsPlacingGoing}
+use Rattle.alloc_end.proofs.NextStages.{HasFoundRoom, may_end, room_stays}
 use Rattle.page_saves.specs.declared.may_write.MayWrite.{MayWrite}
 use Rattle.page_saves.specs.Guard.{Guarding}
 use Rattle.page_saves.specs.Guard as guard
@@ -63,9 +59,26 @@ guarded_aside x z (Some page) = by_test (x.running == 0)
     by_test true = refl
     by_test false = refl
 
+-- if room was found, its pages are set aside
+for_room : (z : Placing) (stage : PlaceStage) → HasFoundRoom stage → set_aside_by z stage ≡ words_for z.header
+for_room z LoadsTraced found = absurd found
+for_room z (LoadsSize traced) found = absurd found
+for_room z (LoadsArea traced size) found = absurd found
+for_room z (ExchangesArea f) found = absurd found
+for_room z (Ended result) found = absurd found
+for_room z _ found = refl
+
+-- a turn that doesn't end it
+goes_on : (turn : Turn Allocated) → ((result : Allocated) → turn ≡ Finished result → ⊥) → turn ≡ More
+goes_on More ends = refl
+goes_on (Finished result) ends = absurd (ends result refl)
+
 module _ (x : Held) (z : Placing) (task : IsMaking x.account x.registers x.task) where
+  abbrev at_place : PlaceStage → Placing
+  at_place stage = record z { stage = stage }
+
   abbrev at : PlaceStage → Held
-  at stage = at_stage x (Places (record z { stage = stage }))
+  at stage = at_stage x (Places (at_place stage))
 
   -- after a step of the allocation, which then is this
   abbrev After : PlaceStage → (claims : ℕ) → Placing → Type 0
@@ -77,25 +90,15 @@ module _ (x : Held) (z : Placing) (task : IsMaking x.account x.registers x.task)
       subst (λ (t : Turn Allocated). SetsAside (at stage) claims (turned_place (at stage) next t) (told_place (at stage) t)) (sym more)
       (subst (λ (aside : ℕ). claims + set_aside (at stage) ≤ aside) (sym (guarded_aside (at stage) next (place.writes_on next next.stage))) keeps)
 
-  -- on to a page, whether it is marked first or not
-  readied : (stage : PlaceStage) → set_aside_by z stage ≡ words_for z.header → (other : NewPages) → After stage 0 (record z { stage = place.readies z.snap other })
-  readied stage asked other = by_test (z.snap == 0)
-    where
-      by_test : (b : Bool) → After stage 0 (record z { stage = cond b (OpensPage other) (StoresNew other) })
-      by_test true = within stage 0 (record z { stage = OpensPage other }) refl (omega (arith, asked))
-      by_test false = within stage 0 (record z { stage = StoresNew other }) refl (omega (arith, asked))
-
-  clears : (new some other : NewPages) (b : Bool) → After (StoresZero new) 0 (record z { stage = cond b (StoresZero some) (place.readies z.snap other) })
-  clears new some other true = within (StoresZero new) 0 (record z { stage = StoresZero some }) refl (omega arith)
-  clears new some other false = readied (StoresZero new) refl other
-
-  opens : (new other : NewPages) (run : Run) (kind : Kind) (b : Bool)
-      → After (OpensPage new) 0 (cond b (record z { stage = place.readies z.snap other }) (record z { run = run; stage = stores_first kind }))
-  opens new other run kind true = readied (OpensPage new) refl other
-  opens new other run Fields false = within (OpensPage new) 0 (record z { run = run; stage = StoresHeader }) refl (omega arith)
-  opens new other run Raw false = within (OpensPage new) 0 (record z { run = run; stage = StoresHeader }) refl (omega arith)
-  opens new other run Mixed false = within (OpensPage new) 0 (record z { run = run; stage = StoresCount }) refl (omega arith)
-  opens new other run Weak false = within (OpensPage new) 0 (record z { run = run; stage = StoresTarget }) refl (omega arith)
+  -- where it still has found room
+  stays_aside : (stage : PlaceStage) (reply : Reply) → HasFoundRoom stage → place.told (place.taken_at (at_place stage) stage reply) ≡ More
+      → After stage 0 (place.taken_at (at_place stage) stage reply)
+  stays_aside stage reply found more =
+      let next : Placing = place.taken_at (at_place stage) stage reply in
+      let kept = room_stays z stage reply found more in
+      let was = for_room z stage found in
+      let is = for_room next next.stage kept.0 ∙ ap words_for kept.1 in
+      within stage 0 next more (omega (arith, was, is))
 
   places : After StoresHeader 0 (place.placed z)
   places =
@@ -105,22 +108,13 @@ module _ (x : Held) (z : Placing) (task : IsMaking x.account x.registers x.task)
   by_place LoadsTraced reply going = nothing (at LoadsTraced) (turned (at LoadsTraced) reply) 0 refl refl (told (at LoadsTraced) reply)
   by_place (LoadsSize traced) reply going = nothing (at (LoadsSize traced)) (turned (at (LoadsSize traced)) reply) 0 refl refl (told (at (LoadsSize traced)) reply)
   by_place (LoadsArea traced size) reply going = nothing (at (LoadsArea traced size)) (turned (at (LoadsArea traced size)) reply) 0 refl refl (told (at (LoadsArea traced size)) reply)
-  by_place (StoresZero new) replies.Done going =
-      clears new (record { first = new.first; next = new.next + 1 }) (record { first = new.first; next = page_of new.first }) (nat_lt (new.next + 1) (new.first + words_for z.header))
-  by_place (StoresNew new) replies.Done going = within (StoresNew new) 0 (record z { stage = OpensPage new }) refl (omega arith)
-  by_place (OpensPage new) replies.Done going =
-      opens new (record { first = new.first; next = new.next + 1 }) (record { at = new.first; end = new.first + words_for z.header }) z.header.kind (nat_lt (new.next + 1) (page_of new.first + pages_for (size_of z.header)))
-  by_place StoresCount replies.Done going = within StoresCount 0 (record z { stage = StoresHeader }) refl (omega arith)
-  by_place StoresCount _ going = within StoresCount 0 (record z { stage = StoresCount }) refl (omega arith)
-  by_place StoresTarget replies.Done going = within StoresTarget 0 (record z { stage = StoresLink }) refl (omega arith)
-  by_place StoresTarget _ going = within StoresTarget 0 (record z { stage = StoresTarget }) refl (omega arith)
-  by_place StoresLink replies.Done going = within StoresLink 0 (record z { stage = StoresHeader }) refl (omega arith)
-  by_place StoresLink _ going = within StoresLink 0 (record z { stage = StoresLink }) refl (omega arith)
+  by_place (ExchangesArea f) (replies.Value _) going = omega arith
+  by_place (ExchangesArea f) _ going = omega arith
   by_place StoresHeader replies.Done going = places
-  by_place StoresHeader _ going = within StoresHeader 0 (record z { stage = StoresHeader }) refl (omega arith)
+  by_place StoresHeader _ going = within StoresHeader 0 (at_place StoresHeader) refl (omega arith)
   by_place (Ended result) reply going = absurd going
-  by_place _ (replies.Value _) going = omega arith
-  by_place _ _ going = omega arith
+  by_place stage reply going =
+      stays_aside stage reply tt (goes_on (place.told (place.taken_at (at_place stage) stage reply)) (λ result ends. may_end z stage reply result going ends))
 
 -- a look before a write leaves what is set aside
 looks : (x y : Held) (g h : Guarding) (z : Placing) (turn : Turn MayWrite) → SetsAside (at_stage x (Guards g (OfPlace z))) 0 (turned_guard y h (OfPlace z) turn) Silent
@@ -175,14 +169,8 @@ module _ (h : Heap) (p o : Plain) (k : ℕ) (y : Held) (st : WorkersStand h p o)
   few_by stage = let a = asks y z.header task.1 in most a stage
     where
       most : words_for z.header ≡ PAGE_WORDS * pages_needed y → (stage : PlaceStage) → set_aside_by z stage ≤ PAGE_WORDS * pages_needed y
-      most a (StoresZero new) = omega (arith, a)
-      most a (StoresNew new) = omega (arith, a)
-      most a (OpensPage new) = omega (arith, a)
-      most a StoresCount = omega (arith, a)
-      most a StoresTarget = omega (arith, a)
-      most a StoresLink = omega (arith, a)
-      most a StoresHeader = omega (arith, a)
-      most a stage = omega arith
+      most a LoadsTraced = omega arith
+      most a stage = omega (arith, a)
 
   for_record : IsForRecord p k y
   for_record = record { few = subst (λ (n : ℕ). n ≤ PAGE_WORDS * pages_needed y) (sym aside) (few_by z.stage); makes = λ some. its_record }

@@ -9,9 +9,8 @@ use Rattle.atom_store.specs.declared.step.Step.{Step}
 use Rattle.atom_store.specs.declared.step.Step.TheVariants.{Store}
 use Rattle.atom_store.specs.Step.{words_after, reply_of}
 use Rattle.atom_store.specs.StepOn.{StepOn, WritesOnly, step_at}
-use Rattle.atom_store.specs.StepOn as on
 use Rattle.space_map.specs.Spaces.{to_space}
-use Rattle.space_map.specs.Table.{Row, Gate, Size, place_of}
+use Rattle.space_map.specs.Table.{Row, Size, place_of}
 use Rattle.space_map.specs.WholeTable.{WholeRow, whole_place_of}
 use Rattle.alloc_end.specs.declared.place_stage.PlaceStage.{PlaceStage}
 use Rattle.alloc_end.specs.declared.place_stage.PlaceStage.TheVariants.{ExchangesArea}
@@ -28,15 +27,6 @@ use Rattle.gate_core.specs.declared.flip_stage.FlipStage.TheVariants as flip_sta
 use Rattle.gate_core.specs.declared.reset.Reset as resets
 use Rattle.gate_core.specs.Flip.{Flipping, next_size}
 use Rattle.gate_core.specs.Flip as flip
-use Rattle.gate_core.specs.Gate as gate
-use Rattle.gate_core.specs.Recall as recall
-use Rattle.gate_core.specs.Snap as snap
-use Rattle.page_saves.specs.Guard as guard
-use Rattle.page_saves.specs.SaveRound as save_round
-use Rattle.page_saves.proofs.SaveRows.{guard_by_rows, guard_writes, round_by_rows, round_writes}
-use Rattle.gate_core.proofs.GateRows.{passage_writes, recall_writes, snap_writes}
-use Rattle.page_scan.specs.Scanning as scan
-use Rattle.page_scan.proofs.ScanRows as scan_rows
 use Rattle.page_slots.specs.Open as open_page
 use Rattle.page_slots.proofs.ClaimRows.{opening_writes}
 use Rattle.heap_state.specs.Configuration.{Configuration, era, memory}
@@ -48,18 +38,17 @@ use Rattle.heap_state.proofs.Puts.{some_same}
 use Rattle.heap_state.proofs.Table.StoredRows.{word_in-other, word_in-same}
 use Rattle.gc_worker.specs.Laws.Cycles.{SeenFlipsDouble, SizeGoes, SizesAreWithin, SizesHold, SizesHoldAt, SizesStay, size_of}
 use Rattle.gc_worker.specs.Laws.Growth.{Grows}
-use Rattle.record_access.specs.Access as access
 use Rattle.gc_worker.specs.declared.stage.Stage.{Stage}
-use Rattle.gc_worker.specs.declared.stage.Stage.TheVariants.{Looks, Passes, Flips, Forwards, Accesses, Places, Serves, Scans, Evacuates, Opens, Recalls, Guards, Checkpoints, BeginsCheckpoint, Gone}
+use Rattle.gc_worker.specs.declared.stage.Stage.TheVariants.{Flips, Places, Serves, Opens}
 use Rattle.gc_worker.specs.Steps.Goes.{Is}
 use Rattle.gc_worker.specs.Workers.Held.{Held, at_stage, has_seen_flip}
 use Rattle.gc_worker.specs.Laws.Step.{Heap, FlipsOnce, FlipsWhereTold, WorkersStand, read, held_at, epoch_of}
 use Rattle.gc_worker.specs.Steps.Turned.{Told, Marks, told, told_at, told_flip}
 use Rattle.gc_worker.specs.Steps.Wanted.{wanted, wanted_at}
-use Rattle.record_access.proofs.AccessRows as access_rows
 use Rattle.gc_worker.proofs.Words.Areas.{is_space}
 use Rattle.gc_worker.proofs.Words.Eras.{old_span_is, span_is}
 use Rattle.gc_worker.proofs.Words.GrownSizes.{next_grows, size_now, size_within}
+use Rattle.gc_worker.proofs.Words.WorkerRows.{OfCopy, OnRow, WritesSuch, writes_such}
 use Rattle.gc_worker.proofs.Between.Pages.Claims.{flips_at}
 use Rattle.gc_worker.proofs.Between.Pages.Written.{Elsewhere, IsNoSize, whole_size_stays}
 use Rattle.gc_worker.proofs.Cycles.Lows.{exchanges_at, of_now, size_beside}
@@ -156,25 +145,17 @@ module _ (h : Heap) (p o : Plain) (k : ℕ) (x : Held) (st : WorkersStand h p o)
 
     -- ---- each stage
 
+    other_machines : (stage : Stage) (q : Step) → WritesSuch IsNoSize (at_stage x stage) (wanted_at x stage) → wanted_at x stage ≡ Some q → Leaves q
+    other_machines stage q (OnRow on writes same) asked = beside_whole x.layout.pages on q writes (sym same ∙ asked)
+    other_machines stage q (OfCopy e v copy same) asked = copies v v.stage q (sym same ∙ asked)
+
     by_stage : (stage : Stage) (q : Step) → Is c k (at_stage x stage) → wanted_at x stage ≡ Some q → Leaves q
-    by_stage Looks q is asked = beside x.layout.pages (Some (on.Load Gate)) q tt asked
-    by_stage (Passes g after) q is asked = beside g.layout.pages (gate.wants_at g g.stage) q (passage_writes IsNoSize tt g g.stage) asked
     by_stage (Flips f) q is asked = flips f f.stage q is asked
-    by_stage (Forwards w) q is asked = copies w.evac w.evac.stage q asked
-    by_stage (Accesses a) q is asked = beside a.spaces.pages (Some (access.wants_at a.spaces a.stage)) q (access_rows.writes IsNoSize (λ addr. tt) a.spaces a.stage) asked
     by_stage (Places z) q is asked = places z z.stage q is asked
     by_stage (Serves d back) q is asked =
         beside d.layout.pages (duty.wants_at d d.stage) q (duty_rows.writes IsNoSize tt tt (λ page. tt) (λ addr. tt) d d.stage) (sym (duty_rows.by_rows d d.stage is.fits.stage.0.sound.stage) ∙ asked)
-    by_stage (Scans s back) q is asked = beside s.layout.pages (scan.wants_at s.page s.epoch s.stage) q (scan_rows.writes IsNoSize (λ addr. tt) s.page s.epoch s.stage) asked
-    by_stage (Evacuates v s back) q is asked = copies v v.stage q asked
     by_stage (Opens s z back) q is asked = beside s.layout.pages (open_page.wants_at s s.stage) q (opening_writes IsNoSize (λ page. tt) s s.stage) asked
-    by_stage (Recalls r after) q is asked = beside r.layout.pages (recall.wants_at r.stage) q (recall_writes IsNoSize r.stage) asked
-    by_stage (Guards g write) q is asked =
-        beside_whole g.layout.pages (guard.wants_at g g.stage) q (guard_writes (Elsewhere IsNoSize) tt (λ page. tt) (λ addr. tt) g g.stage) (sym (guard_by_rows g g.stage is.fits.stage.sound.stage) ∙ asked)
-    by_stage (Checkpoints r goal) q is asked =
-        beside_whole r.layout.pages (save_round.wants_at r r.stage) q (round_writes (Elsewhere IsNoSize) tt (λ page. tt) (λ addr. tt) r r.stage) (sym (round_by_rows r r.stage is.fits.stage.sound.stage) ∙ asked)
-    by_stage (BeginsCheckpoint s) q is asked = beside s.layout.pages (snap.wants_at s s.stage) q (snap_writes IsNoSize tt s s.stage) asked
-    by_stage Gone q is asked = absurd (let e = asked in cc)
+    by_stage stage q is asked = other_machines stage q (writes_such IsNoSize tt tt tt (λ addr. tt) (at_stage x stage) stage tt is.fits.stage) asked
 
   this_stays : (q : Step) → Is c k x → wanted x ≡ Some q → word_in n (words_after q words) (Size here) ≡ word_in n words (Size here)
   this_stays q is asked = by_stage here (is_space (epoch_of n words)) (λ (size : ℕ). size ≡ word_in n words (Size here)) refl stores_beside x.stage q is asked

@@ -1,5 +1,5 @@
 -- A mutator whose registers show those of its plain one makes the record that the plain one makes.
-use Rattle.std.proofs.Common.{◌≡◌, ℕ, ◌<◌, ◌&&◌, Bool, true, false, cond, nat_lt, length, Result, Ok, Err, slice_index, refl, sym, ap, ◌∙◌, arith}
+use Rattle.std.proofs.Common.{◌≡◌, ℕ, ◌<◌, ◌&&◌, Bool, true, false, length, Result, Ok, Err, slice_index, refl, sym, ap, ◌∙◌, arith}
 use Rattle.std.specs.Prelude.{⊤, IsTrue}
 use Rattle.std.specs.Result.{IfOk}
 use Rattle.std.proofs.lemmas.Bool.{and_parts, ltb-true}
@@ -7,16 +7,12 @@ use Rattle.std.proofs.lemmas.List.{get_or-map}
 use Rattle.std.proofs.lemmas.Option.{get_or_from_slice_get}
 use Rattle.heap_words.specs.Decoded.{Decoded, NumberWord, PointerWord, decode}
 use Rattle.plain_state.specs.declared.end.End.{End}
-use Rattle.plain_state.specs.declared.end.End.TheVariants.{OutputFull}
 use Rattle.plain_state.specs.declared.kind.Kind.{Kind}
 use Rattle.plain_state.specs.declared.kind.Kind.TheVariants.{Fields, Raw, Mixed, Weak}
-use Rattle.plain_state.specs.declared.operation.Operation.{Operation}
-use Rattle.plain_state.specs.declared.operation.Operation.TheVariants as operations
-use Rattle.plain_state.specs.declared.sizes.TheConstants.{MOST_PRINTED, REGISTERS}
+use Rattle.plain_state.specs.declared.sizes.TheConstants.{REGISTERS}
 use Rattle.plain_state.specs.declared.value.Identity.{Identity}
 use Rattle.plain_state.specs.declared.value.Value.{Value}
 use Rattle.plain_state.specs.declared.value.Value.TheVariants.{Number, Reference}
-use Rattle.plain_state.specs.Operation.{applied}
 use Rattle.plain_state.specs.State.{Mutator}
 use Rattle.mutator_asm.specs.declared.instr.Instr.{Instr}
 use Rattle.mutator_asm.specs.declared.instr.Instr.TheVariants as instrs
@@ -24,9 +20,10 @@ use Rattle.mutator_asm.specs.declared.operand.Operand.{Operand}
 use Rattle.mutator_asm.specs.declared.operand.Operand.TheVariants as operands
 use Rattle.mutator_asm.specs.Program.{is_operand, is_register, is_valid}
 use Rattle.plain_heap.specs.declared.action.Action.{Action}
-use Rattle.plain_heap.specs.declared.action.Action.TheVariants.{Makes, Prints}
-use Rattle.plain_heap.specs.Action.{◌>>=◌, action, allocates, board_place, computes, length_of, mixed_length, mixes, as_number, operand, reference_in, register}
-use Rattle.plain_heap.proofs.Calls.CallOutcomes.{if_ok-bind, if_ok-is}
+use Rattle.plain_heap.specs.declared.action.Action.TheVariants.{Makes}
+use Rattle.plain_heap.specs.Action.{◌>>=◌, action, allocates, length_of, mixed_length, mixes, as_number, operand, reference_in, register}
+use Rattle.plain_heap.proofs.Calls.ActionsOf.{IsActionOf, is_action_of, makes_record}
+use Rattle.plain_heap.proofs.Calls.CallOutcomes.{if_ok-is}
 use Rattle.gc_worker.specs.Laws.Between.{ShowsRegisters}
 use Rattle.gc_worker.specs.Workers.Fits.{IsMaking}
 use Rattle.gc_worker.specs.Workers.Held.{Held}
@@ -113,17 +110,9 @@ module _ (x : Held) (q : Mutator) (eight : length x.registers ≡ REGISTERS) (va
       by_reference (Err why) is = tt
 
   -- what makes no record
-  module _ (theirs : Result Action End) where
-    abbrev IsSo : Result Action End → Type 0
-    IsSo o = IfOk o (IsSameRecord theirs)
-
-    computed : (operation : Operation) (d a b : ℕ) → IsSo (computes operation sight d a b)
-    computed operation d a b =
-        if_ok-bind _ (as_number (register sight a)) _ (λ y. if_ok-bind _ (as_number (register sight b)) _ (λ z. if_ok-bind _ (applied operation y z) _ (λ n. tt)))
-
-    printed : (n : ℕ) (fits : Bool) → IsSo (cond fits (Ok (Prints n)) (Err OutputFull))
-    printed n true = tt
-    printed n false = tt
+  none_same : (theirs : Result Action End) (i : Instr) (o : Result Action End) → makes_record i ≡ false → IfOk o (IsActionOf i) → IfOk o (IsSameRecord theirs)
+  none_same theirs i (Ok (Makes kind d n v)) other is = absurd (let both : true ≡ false = sym is.0 ∙ other in cc)
+  none_same theirs i _ other is = tt
 
   second : (d : ℕ) (b : Bool) → (is_register d && b) ≡ true → b ≡ true
   second d b valid = (and_parts (is_register d) b valid).1
@@ -134,22 +123,7 @@ module _ (x : Held) (q : Mutator) (eight : length x.registers ≡ REGISTERS) (va
   makes_same (instrs.Raw d y) valid = allocated Raw d y (second d _ valid)
   makes_same (instrs.Mix d y z) valid = let l = and_parts (is_register d && is_operand y) (is_operand z) valid in mixed d y z (second d (is_operand y) l.0) l.1
   makes_same (instrs.Weak d a) valid = cell d a (ltb-true a REGISTERS (second d _ valid))
-  makes_same (instrs.Add d a b) valid = computed _ operations.Add d a b
-  makes_same (instrs.Sub d a b) valid = computed _ operations.Sub d a b
-  makes_same (instrs.Mul d a b) valid = computed _ operations.Mul d a b
-  makes_same (instrs.Div d a b) valid = computed _ operations.Div d a b
-  makes_same (instrs.Rem d a b) valid = computed _ operations.Rem d a b
-  makes_same (instrs.Lt d a b) valid = computed _ operations.Lt d a b
-  makes_same (instrs.Jr a) valid = if_ok-bind _ (as_number (register sight a)) _ (λ n. tt)
-  makes_same (instrs.Ld d a y) valid = if_ok-bind _ (reference_in (register sight a)) _ (λ i. if_ok-bind _ (operand sight y) _ (λ n. tt))
-  makes_same (instrs.St a y b) valid = if_ok-bind _ (reference_in (register sight a)) _ (λ i. if_ok-bind _ (operand sight y) _ (λ n. tt))
-  makes_same (instrs.Cas d a y b c) valid = if_ok-bind _ (reference_in (register sight a)) _ (λ i. if_ok-bind _ (operand sight y) _ (λ n. tt))
-  makes_same (instrs.Len d a) valid = if_ok-bind _ (reference_in (register sight a)) _ (λ i. tt)
-  makes_same (instrs.Get d y) valid = if_ok-bind _ (board_place sight y) _ (λ n. tt)
-  makes_same (instrs.Put y a) valid = if_ok-bind _ (board_place sight y) _ (λ n. tt)
-  makes_same (instrs.Swap d y) valid = if_ok-bind _ (board_place sight y) _ (λ n. tt)
-  makes_same (instrs.Out a) valid = if_ok-bind _ (as_number (register sight a)) _ (λ n. printed _ n (nat_lt (length sight.printed) MOST_PRINTED))
-  makes_same _ valid = tt
+  makes_same i valid = none_same (action q i) i (action sight i) refl (is_action_of sight i)
 
   pub makes_its_record : (making : IsMaking x.account x.registers x.task) → (v : Value) × (action q making.executes.instr ≡ Ok (Makes making.making.kind making.making.into making.making.len v))
   makes_its_record making =

@@ -1,24 +1,21 @@
 -- The record that an instruction makes: `new`, `raw` and `mix` make one, of the length that their operands name, `weak` makes a cell, and no other does.
-use Rattle.std.proofs.Common.{◌≡◌, ℕ, ◌+◌, Bool, true, false, Option, Some, None, Result, Ok, Err, nat_lt, if◌then◌else◌, length, refl, ap, sym, subst, ◌∙◌}
+use Rattle.std.proofs.Common.{◌≡◌, ℕ, ◌+◌, true, false, Option, Some, None, Result, Ok, Err, refl, ap, sym, subst, ◌∙◌}
 use Rattle.std.specs.Bool.{⊤}
+use Rattle.std.specs.Result.{IfOk}
 use Rattle.mutator_asm.specs.declared.operand.Operand.{Operand}
 use Rattle.mutator_asm.specs.declared.instr.Instr.{Instr}
 use Rattle.mutator_asm.specs.declared.instr.Instr.TheVariants as instrs
 use Rattle.plain_state.specs.declared.end.End.{End}
-use Rattle.plain_state.specs.declared.end.End.TheVariants.{OutputFull}
 use Rattle.plain_state.specs.declared.kind.Kind.{Kind}
 use Rattle.plain_state.specs.declared.kind.Kind.TheVariants as kinds
-use Rattle.plain_state.specs.declared.operation.Operation.{Operation}
-use Rattle.plain_state.specs.declared.operation.Operation.TheVariants as operations
-use Rattle.plain_state.specs.declared.sizes.TheConstants.{MOST_PRINTED}
 use Rattle.plain_state.specs.declared.value.Identity.{Identity}
 use Rattle.plain_state.specs.declared.value.Value.{Value}
 use Rattle.plain_state.specs.declared.value.Value.TheVariants.{Number, Reference}
-use Rattle.plain_state.specs.Operation.{applied}
 use Rattle.plain_state.specs.State.{Mutator}
 use Rattle.plain_heap.specs.declared.action.Action.{Action}
-use Rattle.plain_heap.specs.declared.action.Action.TheVariants.{Makes, Prints}
-use Rattle.plain_heap.specs.Action.{◌>>=◌, action, allocates, board_place, computes, as_number, length_of, mixed_length, mixes, operand, reference_in, register}
+use Rattle.plain_heap.specs.declared.action.Action.TheVariants.{Makes}
+use Rattle.plain_heap.specs.Action.{◌>>=◌, action, allocates, length_of, mixed_length, mixes, operand, reference_in, register}
+use Rattle.plain_heap.proofs.Calls.ActionsOf.{IsActionOf, is_action_of, makes_record}
 use Rattle.heap_words.specs.Word.{pointer_word}
 use Rattle.alloc_end.specs.declared.run.Run.{Run}
 use Rattle.gc_worker.specs.declared.task.Task.{Task}
@@ -27,18 +24,6 @@ use Rattle.gc_worker.specs.Workers.Fits.{IsMaking}
 use Rattle.gc_worker.specs.Workers.Held.{Held, making_for}
 use Rattle.gc_worker.specs.Steps.Stepped.{IsCall, instr_due, seen_by}
 use Rattle.gc_worker.specs.Steps.Turned.{loads, with_record}
-
-no_record_then : {A : Type 0} (o : Result A End) (f : A → Result Action End) → ((a : A) → making_in (f a) ≡ None) → making_in (o >>= f) ≡ None
-no_record_then (Ok a) f h = h a
-no_record_then (Err why) f h = refl
-
-computes_no_record : (operation : Operation) (q : Mutator) (d a b : ℕ) → making_in (computes operation q d a b) ≡ None
-computes_no_record operation q d a b =
-    no_record_then (as_number (register q a)) _ (λ x. no_record_then (as_number (register q b)) _ (λ y. no_record_then (applied operation x y) _ (λ n. refl)))
-
-prints_no_record : (n : ℕ) (few : Bool) → making_in (if few then Ok (Prints n) else Err OutputFull) ≡ None
-prints_no_record n true = refl
-prints_no_record n false = refl
 
 -- the action that makes a mixed record of these fields and this length
 abbrev made_mixed : (d : ℕ) → ℕ × ℕ → Result Action End
@@ -69,25 +54,17 @@ makes_of q (instrs.Mix d fields raw) = mixed_made q d fields raw
 makes_of q (instrs.Weak d a) = cell_made q d a
 makes_of q instr = None
 
+none_made : (instr : Instr) (o : Result Action End) → makes_record instr ≡ false → IfOk o (IsActionOf instr) → making_in o ≡ None
+none_made instr (Ok (Makes kind d n v)) other is = absurd (let both : true ≡ false = sym is.0 ∙ other in cc)
+none_made instr _ other is = refl
+
 pub made_of : (q : Mutator) (instr : Instr) → making_in (action q instr) ≡ makes_of q instr
 unfolding action
-made_of q (instrs.Add d a b) = computes_no_record operations.Add q d a b
-made_of q (instrs.Sub d a b) = computes_no_record operations.Sub q d a b
-made_of q (instrs.Mul d a b) = computes_no_record operations.Mul q d a b
-made_of q (instrs.Div d a b) = computes_no_record operations.Div q d a b
-made_of q (instrs.Rem d a b) = computes_no_record operations.Rem q d a b
-made_of q (instrs.Lt d a b) = computes_no_record operations.Lt q d a b
-made_of q (instrs.Jr a) = no_record_then (as_number (register q a)) _ (λ n. refl)
+made_of q (instrs.New d x) = refl
+made_of q (instrs.Raw d x) = refl
 made_of q (instrs.Mix d fields raw) = ap making_in (mixed_makes q d fields raw)
-made_of q (instrs.Ld d a x) = no_record_then (reference_in (register q a)) _ (λ i. no_record_then (operand q x) _ (λ n. refl))
-made_of q (instrs.St a x b) = no_record_then (reference_in (register q a)) _ (λ i. no_record_then (operand q x) _ (λ n. refl))
-made_of q (instrs.Cas d a x b c) = no_record_then (reference_in (register q a)) _ (λ i. no_record_then (operand q x) _ (λ n. refl))
-made_of q (instrs.Len d a) = no_record_then (reference_in (register q a)) _ (λ i. refl)
-made_of q (instrs.Get d x) = no_record_then (board_place q x) _ (λ n. refl)
-made_of q (instrs.Put x a) = no_record_then (board_place q x) _ (λ n. refl)
-made_of q (instrs.Swap d x) = no_record_then (board_place q x) _ (λ n. refl)
-made_of q (instrs.Out a) = no_record_then (as_number (register q a)) _ (λ n. prints_no_record n (nat_lt (length q.printed) MOST_PRINTED))
-made_of q _ = refl
+made_of q (instrs.Weak d a) = refl
+made_of q instr = none_made instr (action q instr) refl (is_action_of q instr)
 
 -- ---- the register that leads to it
 

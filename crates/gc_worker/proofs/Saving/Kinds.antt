@@ -14,11 +14,11 @@ use Rattle.gc_worker.proofs.Saving.Checkpoints.CheckpointStages.{checkpoints}
 use Rattle.gc_worker.proofs.Saving.Collector.KeptCopies.{evacuates, forwards}
 use Rattle.gc_worker.proofs.Saving.Flips.{flips}
 use Rattle.gc_worker.proofs.Saving.Gates.{gates}
-use Rattle.gc_worker.proofs.Saving.Mutators.Guards.{guards}
+use Rattle.gc_worker.proofs.Saving.Mutators.KeptGuards.{guards}
 use Rattle.gc_worker.proofs.Saving.Mutators.KeptLooks.{looks}
 use Rattle.gc_worker.proofs.Saving.Collector.Opens.{opens}
 use Rattle.gc_worker.proofs.Saving.Mutators.KeptAllocations.{places}
-use Rattle.gc_worker.proofs.Saving.Mutators.Recalls.{recalls}
+use Rattle.gc_worker.proofs.Saving.Mutators.KeptRecalls.{recalls}
 use Rattle.gc_worker.proofs.Saving.Collector.DutyRounds.{serves}
 use Rattle.gc_worker.proofs.Saving.Collector.Scans.{scans}
 use Rattle.gc_worker.proofs.Saving.Snaps.{begins_checkpoint}

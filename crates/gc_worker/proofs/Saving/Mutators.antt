@@ -1,6 +1,6 @@
 pub mod KeptLooks
 pub mod KeptSaves
-pub mod Guards
-pub mod Recalls
+pub mod KeptGuards
+pub mod KeptRecalls
 pub mod Accesses
 pub mod KeptAllocations

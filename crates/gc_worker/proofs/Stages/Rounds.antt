@@ -1,4 +1,5 @@
 pub mod RoundWords
+pub mod SecondLook
 pub mod NextRoundStage
 pub mod TracedRounds
 pub mod Beginning

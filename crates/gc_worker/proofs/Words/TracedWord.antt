@@ -7,7 +7,7 @@ use Rattle.atom_store.specs.declared.step.Step.{Step}
 use Rattle.atom_store.specs.declared.step.Step.TheVariants as step
 use Rattle.atom_store.specs.Step.{words_after, reply_of}
 use Rattle.atom_store.specs.StepOn.{StepOn, Load, Store, Exchange, WritesOnly, step_at}
-use Rattle.space_map.specs.Table.{Row, Gate, Traced, SaveOf, ImageOf, place_of, save_place_of}
+use Rattle.space_map.specs.Table.{Row, Traced, SaveOf, ImageOf, place_of, save_place_of}
 use Rattle.space_map.specs.WholeTable.{WholeRow, Within, Behind, whole_place_of}
 use Rattle.alloc_end.specs.declared.place_stage.PlaceStage.{PlaceStage}
 use Rattle.alloc_end.specs.declared.place_stage.PlaceStage.TheVariants as place_stage
@@ -27,28 +27,18 @@ use Rattle.gate_core.specs.declared.flip_stage.FlipStage.{FlipStage}
 use Rattle.gate_core.specs.declared.flip_stage.FlipStage.TheVariants as flip_stage
 use Rattle.gate_core.specs.Flip.{Flipping}
 use Rattle.gate_core.specs.Flip as flip
-use Rattle.gate_core.specs.Gate as gate
-use Rattle.gate_core.specs.Recall as recall
-use Rattle.gate_core.specs.Snap as snap
-use Rattle.gate_core.proofs.GateRows.{passage_writes, recall_writes, snap_writes}
-use Rattle.page_saves.specs.Guard as guard
-use Rattle.page_saves.specs.SaveRound as save_round
-use Rattle.page_saves.proofs.SaveRows.{guard_by_rows, guard_writes, round_by_rows, round_writes}
-use Rattle.page_scan.specs.Scanning as scan
-use Rattle.page_scan.proofs.ScanRows as scan_rows
 use Rattle.page_slots.specs.Open as open_page
 use Rattle.page_slots.proofs.ClaimRows.{claim_writes, opening_writes}
 use Rattle.heap_state.specs.Configuration.{Configuration}
 use Rattle.heap_state.specs.Memory.Table.{word_in}
 use Rattle.gc_worker.specs.declared.stage.Stage.{Stage}
-use Rattle.gc_worker.specs.declared.stage.Stage.TheVariants.{Looks, Passes, Flips, Forwards, Accesses, Places, Serves, Scans, Evacuates, Opens, Recalls, Guards, Checkpoints, BeginsCheckpoint, Gone}
-use Rattle.record_access.specs.Access as access
+use Rattle.gc_worker.specs.declared.stage.Stage.TheVariants.{Flips, Places, Serves, Opens}
 use Rattle.gc_worker.specs.Steps.Goes.{Is}
 use Rattle.gc_worker.specs.Steps.Turned.{Empties, told, told_at, told_round}
 use Rattle.gc_worker.specs.Steps.Wanted.{wanted, wanted_at}
 use Rattle.gc_worker.specs.Workers.Held.{Held, at_stage}
 use Rattle.gc_worker.proofs.Between.Pages.Written.{Elsewhere, row_stays}
-use Rattle.record_access.proofs.AccessRows as access_rows
+use Rattle.gc_worker.proofs.Words.WorkerRows.{OfCopy, OnRow, WritesSuch, writes_such}
 
 -- ---- rows
 
@@ -122,24 +112,16 @@ module _ (n : ℕ) (words : List ℕ) where
     abbrev Goes : Stage → Step → Type 0
     Goes stage q = Stays q ⊎ (told_at x stage (reply_of q words) ≡ Empties)
 
+    other_machines : (stage : Stage) (q : Step) → WritesSuch IsOther (at_stage x stage) (wanted_at x stage) → wanted_at x stage ≡ Some q → Stays q
+    other_machines stage q (OnRow on writes same) asked = beside_whole x.layout.pages on q writes (sym same ∙ asked)
+    other_machines stage q (OfCopy e v copy same) asked = copies v v.stage q (sym same ∙ asked)
+
     by_stage : (stage : Stage) (q : Step) → Is c k (at_stage x stage) → wanted_at x stage ≡ Some q → Goes stage q
-    by_stage Looks q is asked = inl (beside x.layout.pages (Some (Load Gate)) q tt asked)
-    by_stage (Passes g after) q is asked = inl (beside g.layout.pages (gate.wants_at g g.stage) q (passage_writes IsOther tt g g.stage) asked)
     by_stage (Flips f) q is asked = inl (flips f f.stage q asked)
-    by_stage (Forwards w) q is asked = inl (copies w.evac w.evac.stage q asked)
-    by_stage (Accesses a) q is asked = inl (beside a.spaces.pages (Some (access.wants_at a.spaces a.stage)) q (access_rows.writes IsOther (λ addr. tt) a.spaces a.stage) asked)
     by_stage (Places z) q is asked = inl (places z z.stage q asked)
     by_stage (Serves d back) q is asked = rounds d d.stage q is.fits.stage.0.sound.stage asked
-    by_stage (Scans s back) q is asked = inl (beside s.layout.pages (scan.wants_at s.page s.epoch s.stage) q (scan_rows.writes IsOther (λ addr. tt) s.page s.epoch s.stage) asked)
-    by_stage (Evacuates v s back) q is asked = inl (copies v v.stage q asked)
     by_stage (Opens s z back) q is asked = inl (beside s.layout.pages (open_page.wants_at s s.stage) q (opening_writes IsOther (λ page. tt) s s.stage) asked)
-    by_stage (Recalls r after) q is asked = inl (beside r.layout.pages (recall.wants_at r.stage) q (recall_writes IsOther r.stage) asked)
-    by_stage (Guards g write) q is asked =
-        inl (beside_whole g.layout.pages (guard.wants_at g g.stage) q (guard_writes (Elsewhere IsOther) tt (λ page. tt) (λ addr. tt) g g.stage) (sym (guard_by_rows g g.stage is.fits.stage.sound.stage) ∙ asked))
-    by_stage (Checkpoints r goal) q is asked =
-        inl (beside_whole r.layout.pages (save_round.wants_at r r.stage) q (round_writes (Elsewhere IsOther) tt (λ page. tt) (λ addr. tt) r r.stage) (sym (round_by_rows r r.stage is.fits.stage.sound.stage) ∙ asked))
-    by_stage (BeginsCheckpoint s) q is asked = inl (beside s.layout.pages (snap.wants_at s s.stage) q (snap_writes IsOther tt s s.stage) asked)
-    by_stage Gone q is asked = absurd (let e = asked in cc)
+    by_stage stage q is asked = inl (other_machines stage q (writes_such IsOther tt tt tt (λ addr. tt) (at_stage x stage) stage tt is.fits.stage) asked)
 
     pub traced_goes : (q : Step) → Is c k x → wanted x ≡ Some q → Stays q ⊎ (told x (reply_of q words) ≡ Empties)
     traced_goes q is asked = by_stage x.stage q is asked

@@ -5,8 +5,9 @@ use Rattle.plain_state.specs.declared.end.End.{End}
 use Rattle.plain_state.specs.State.{Mutator}
 use Rattle.mutator_asm.specs.declared.instr.Instr.{Instr}
 use Rattle.mutator_asm.specs.declared.instr.Instr.TheVariants as instrs
+use Rattle.mutator_asm.specs.declared.operand.Operand.{Operand}
 use Rattle.mutator_asm.specs.declared.operand.Operand.TheVariants as operands
-use Rattle.plain_heap.specs.Action.{action}
+use Rattle.plain_heap.specs.Action.{action, operand}
 use Rattle.record_layout.specs.declared.header.Header.{Header}
 use Rattle.atom_store.specs.declared.turn.Turn.{Turn}
 use Rattle.atom_store.specs.declared.turn.Turn.TheVariants.{More, Finished}
@@ -63,20 +64,15 @@ use Rattle.gc_worker.specs.Plain.Seen.{Making, making_in, seen}
 use Rattle.gc_worker.specs.Steps.Turned.{Silent, after_request, asks_flip, begins_checkpoint, checkpoints, end_by_shortage, ended, full_by, goes_back, goes_on, guards_place, is_full, loads, of_round, passed_by, places, recalled, rounded, rounded_by, runs_on, told_access, told_effect, told_end, told_flip, told_full, told_place, told_snap, traced_by, turned_access, turned_copy, turned_flip, turned_gate, turned_guard, turned_opening, turned_place, turned_recall, turned_round, turned_save_round, turned_scan, turned_snap, went_on, with_record}
 use Rattle.gc_worker.proofs.Plain.NewRecords.{made, made_is}
 
--- no action depends on the count
+-- no action depends on the count, since no operand does
+same_operand : (m : Mutator) (count : ℕ) (x : Operand) → operand (record m { executed = count }) x ≡ operand m x
+same_operand m count (operands.Reg r) = refl
+same_operand m count _ = refl
+
 same_action : (m : Mutator) (count : ℕ) (i : Instr) → action (record m { executed = count }) i ≡ action m i
 unfolding action
-same_action m count (instrs.Mix _ (operands.Reg _) (operands.Reg _)) = refl
-same_action m count (instrs.New _ (operands.Reg _)) = refl
-same_action m count (instrs.Raw _ (operands.Reg _)) = refl
-same_action m count (instrs.Mix _ _ (operands.Reg _)) = refl
-same_action m count (instrs.Ld _ _ (operands.Reg _)) = refl
-same_action m count (instrs.St _ (operands.Reg _) _) = refl
-same_action m count (instrs.Cas _ _ (operands.Reg _) _ _) = refl
-same_action m count (instrs.Get _ (operands.Reg _)) = refl
-same_action m count (instrs.Put (operands.Reg _) _) = refl
-same_action m count (instrs.Swap _ (operands.Reg _)) = refl
-same_action m count _ = refl
+same_action m count (instrs.Mix d fields raw) = simp same_operand
+same_action m count _ = first_of (simp same_operand, cc)
 
 module _ (count : ℕ) (x : Held) where
   abbrev y : Held

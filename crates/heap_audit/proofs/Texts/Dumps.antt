@@ -5,7 +5,7 @@ use Rattle.std.proofs.lemmas.List.{append_assoc, length-replicate}
 use Rattle.std.specs.List.{flat_map, AllByRecursion}
 use Rattle.std.specs.Prelude.{IfErr, IfOk}
 use Rattle.space_map.specs.declared.spaces.TheConstants.{MOST_MUTATORS}
-use Rattle.heap_state.specs.Kept.{Kept}
+use Rattle.heap_state.specs.Kept.{nothing_kept}
 use Rattle.space_map.specs.Table.{table_length}
 use Rattle.dump_text.specs.Lines.{IsFirstWrong, NamesFirstWrong, first_lines}
 use Rattle.dump_text.specs.Text.{AreKept, AreRegisters, BeginsDump, Counts, Dumped, IsDump, IsWord, are_counts, counts_of, dump_head, dump_text, kept_line, table_lines, words_line}
@@ -84,9 +84,6 @@ no_registers = 0 ∷ 0 ∷ 0 ∷ 0 ∷ 0 ∷ 0 ∷ 0 ∷ 0 ∷ []
 are_registers : AreRegisters no_registers
 unfolding no_registers
 are_registers = let z = zero_word in (refl, (z, (z, (z, (z, (z, (z, (z, (z, tt)))))))))
-
-abbrev nothing_kept : Kept
-nothing_kept = record { header = 0; place = 0 }
 
 all_same : {A : Type 0} (P : A → Type 0) (x : A) (n : ℕ) → P x → AllByRecursion P (replicate n x)
 all_same P x zero h = tt

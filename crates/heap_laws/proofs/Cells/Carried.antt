@@ -1,7 +1,7 @@
 -- A step that leaves what the chain of copied cells is made of: what is known of it is known after the step.
 use Rattle.std.proofs.Common.{◌≡◌, ◌≢◌, ℕ, ◌+◌, ◌<◌, ◌≤◌, true, Some, is_some, refl, sym, ap, ◌∙◌, arith}
 use Rattle.plain_state.specs.declared.kind.Kind.TheVariants.{Weak}
-use Rattle.heap_state.specs.Cells.{Ranks, IsCopiedCell, MayCopy, KnowsCopy, Links, Linked, TargetsOld, Passing, Chain}
+use Rattle.heap_state.specs.Cells.{Ranks, IsCopiedCell, MayCopy, KnowsCopy, Links, Linked, TargetsOld, Passing, SameGround, Chain}
 use Rattle.heap_state.specs.Memory.Era.{Era, Memory}
 use Rattle.heap_state.specs.Functions.{put}
 use Rattle.heap_state.specs.Invariant.Ghost.{Ghost}
@@ -26,10 +26,10 @@ links_stay E m later g h r w u l traced cells same licence o = record {
 
 -- what the walker knows
 pub passing_stays : (E : Era) (m later : Memory) (turn : ℕ) (g h : Ghost) (r : Ranks) (w u : Known) (q : Pass) → later.traced ≡ m.traced → ((a : ℕ) → 0 < r.rank a → later.heap (a + 1) ≡ m.heap (a + 1))
-    → h.copy ≡ g.copy → ((b : ℕ) → 0 < g.size b → 0 < h.size b) → w.epoch ≡ u.epoch → w.last_look ≡ u.last_look → Passing E m turn g r u q → Passing E later turn h r w q
-passing_stays E m later turn g h r w u q traced targets copy stands epoch look o = record {
-  now = (epoch ∙ o.now.0, rw traced o.now.1, o.now.2);
-  look = (o.look.0, look ∙ o.look.1, o.look.2 ∙ sym traced);
+    → h.copy ≡ g.copy → ((b : ℕ) → 0 < g.size b → 0 < h.size b) → SameGround w u → Passing E m turn g r u q → Passing E later turn h r w q
+passing_stays E m later turn g h r w u q traced targets copy stands ground o = record {
+  now = (ground.0 ∙ o.now.0, rw traced o.now.1, o.now.2);
+  look = (o.look.0, ground.1 ∙ o.look.1, o.look.2 ∙ sym traced);
   at = λ v e. let z = o.at v e in record {
     linked = z.linked;
     few = z.few;
@@ -103,11 +103,11 @@ module _ (E : Era) (m later : Memory) (weak turn : ℕ) (team : Team) (g h : Gho
 module _ (E : Era) (m later : Memory) (weak turn : ℕ) (team : Team) (g h : Ghost) (r : Ranks) (k : ℕ) (w : Known) (carries : CarriesChain E m later team g h) (on : GoesOnInChain E w (team.worker k))
     (chain : Chain E m weak turn team g r) where
   -- while one walks the epoch isn't traced, and ranks are those of copied cells
-  passes : (j : ℕ) (q : Pass) (x : Known) → j < team.count → (team.worker j).pass ≡ Some q → x.epoch ≡ (team.worker j).epoch → x.last_look ≡ (team.worker j).last_look → Passing E later turn h r x q
-  passes j q x y e epoch look =
+  passes : (j : ℕ) (q : Pass) (x : Known) → j < team.count → (team.worker j).pass ≡ Some q → SameGround x (team.worker j) → Passing E later turn h r x q
+  passes j q x y e ground =
       let o = chain.pass j q y e in
       passing_stays E m later turn g h r x (team.worker j) q carries.traced (λ a p. carries.targets a ((chain.linked o.now.1).ranked a p).0)
-      (carries.copies (record { worker = j; member = y; walks = ap is_some e })) carries.stands epoch look o
+      (carries.copies (record { worker = j; member = y; walks = ap is_some e })) carries.stands ground o
 
   links : (j : ℕ) (l : Linking) (x : Known) → j < team.count → (team.worker j).linking ≡ Some l → (KnowsCopy (team.worker j) → MayCopy E (team.worker j) → MayCopy E x × KnowsCopy x) → Links E later h r x l
   links j l x y e licence =
@@ -123,8 +123,8 @@ module _ (E : Era) (m later : Memory) (weak turn : ℕ) (team : Team) (g h : Gho
     others_link = λ j l y d e. links j l (team.worker j) y e (λ q z. (z, q));
     own_link = λ l y e. let f : (team.worker k).linking ≡ Some l = sym on.linking ∙ e in links k l w y f (on.licence (ap is_some f));
     same_cell = ap cell_to_link on.linking;
-    others_pass = λ j q y d e. passes j q (team.worker j) y e refl refl;
-    own_pass = λ q y e. let f : (team.worker k).pass ≡ Some q = sym on.pass ∙ e in let z = on.look (ap is_some f) in passes k q w y f z.0 z.1;
+    others_pass = λ j q y d e. passes j q (team.worker j) y e (refl, refl);
+    own_pass = λ q y e. let f : (team.worker k).pass ≡ Some q = sym on.pass ∙ e in passes k q w y f (on.ground (ap is_some f));
     same_pass = ap is_some on.pass;
     cleared = on.cleared;
     three = carries.three;

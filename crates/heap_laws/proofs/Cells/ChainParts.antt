@@ -11,6 +11,7 @@ use Rattle.heap_state.specs.Invariant.Inductive.{Invariant}
 use Rattle.heap_state.specs.Known.{Known, Team, Linking, Pass, Reset, cell_to_link, is_cleared}
 use Rattle.heap_state.proofs.Puts.{each_put, put_at, put_other}
 use Rattle.heap_state.proofs.Workers.Posts.{flips_ask}
+use Rattle.heap_state.proofs.Workers.Walkers.{quiet_in_walk}
 use Rattle.heap_laws.specs.Steps.{with_worker}
 use Rattle.heap_laws.proofs.Scanning.Scanners.{open_scan, scans_last}
 
@@ -87,9 +88,7 @@ module _ (E : Era) (m : Memory) (weak turn : ℕ) (team : Team) (g : Ghost) (r :
   -- while one walks nobody scans or is late
   pub none_copies : (j k : ℕ) (q : Pass) → j < team.count → k < team.count → (team.worker j).pass ≡ Some q → ¬ (MayCopy E (team.worker k))
   none_copies j k q y z e may =
-      let p = chain.pass j q y e in
-      let l = p.look.0 in
-      let now = ((inv.workers j y).pages.last_look l p.look.1).now p.now.0 (sym p.look.2) in
+      let now = quiet_in_walk j inv y (chain.pass j q y e) in
       ⊎_elim
       (λ s. let c = scans_last E m team g inv k s.0 z s.1 now.0 in open_scan (now.1 s.0.page c.0 c.1) c.2)
       (λ late. absurd (let c = (inv.workers k z).licensed.counted late in let n = now.0.none in omega (arith, c, n)))

@@ -2,7 +2,7 @@
 use Rattle.std.proofs.Common.{◌≡◌, ℕ, ◌<◌, true, Option, Some, None, is_some, refl, sym, ap, ◌∙◌, subst, ⊎_elim, inl, inr, arith}
 use Rattle.plain_state.specs.Layout.{is_field}
 use Rattle.plain_state.specs.declared.kind.Kind.TheVariants.{Weak}
-use Rattle.heap_state.specs.Cells.{Ranks, IsCopiedCell, KnowsCopy, Chain}
+use Rattle.heap_state.specs.Cells.{Ranks, IsCopiedCell, KnowsCopy, SameGround, Chain}
 use Rattle.heap_state.specs.Memory.Entries.{Entry, WordIs, WeakIs, WeakTurnIs}
 use Rattle.heap_state.specs.Memory.Era.{Era, Memory}
 use Rattle.heap_state.specs.Invariant.Ghost.{Ghost, IsField, Here}
@@ -52,7 +52,7 @@ still_in_chain E w u post epoch scan s = record {
   pass = s.pass;
   cleared = s.cleared;
   licence = λ l knows may. (⊎_elim (λ e. inl (scan e.0 e.1)) (λ late. inr (rw (post, epoch) late)) may, s.asked l knows);
-  look = λ walks. (epoch, s.look walks);
+  ground = s.ground;
 }
 
 -- one that scans as before
@@ -70,17 +70,17 @@ less_in_chain w u quest reset same = record {
   linking = same.linking;
   pass = same.pass;
   asked = λ _ knows. (knows.0, quest ∙ knows.1, knows.2);
-  look = same.walks;
+  ground = same.ground;
   cleared = less_cleared w.reset u.reset reset;
 }
 
 -- who asks for no copy has none to link
-pub idle_in_chain : (w u : Known) → u.quest ≡ None → w.linking ≡ u.linking → w.pass ≡ u.pass → w.last_look ≡ u.last_look → w.reset ≡ u.reset → SameInChain w u
-idle_in_chain w u idle linking pass look reset = record {
+pub idle_in_chain : (w u : Known) → u.quest ≡ None → w.linking ≡ u.linking → w.pass ≡ u.pass → SameGround w u → w.reset ≡ u.reset → SameInChain w u
+idle_in_chain w u idle linking pass ground reset = record {
   linking = linking;
   pass = pass;
   asked = λ _ knows. none≢some (sym idle ∙ knows.1);
-  look = λ _. look;
+  ground = λ _. ground;
   cleared = λ e. rw reset at e;
 }
 

@@ -22,7 +22,7 @@ pub may_copy_still : (E : Era) (w u : Known) → w.post ≡ u.post → w.epoch �
 may_copy_still E w u post epoch scan asked knows may = (may_copy_now E w u post epoch scan may, asked knows)
 
 pub may_copy : (E : Era) (w u : Known) → SameBesideLinking w u → KnowsCopy u → MayCopy E u → MayCopy E w × KnowsCopy w
-may_copy E w u same knows may = may_copy_still E w u same.post same.epoch same.scan same.asked knows may
+may_copy E w u same knows may = may_copy_still E w u same.post same.ground.0 same.scan same.asked knows may
 
 -- ---- rows
 

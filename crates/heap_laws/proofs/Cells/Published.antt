@@ -42,7 +42,7 @@ module _ (E : Era) (m later : Memory) (weak turn : ℕ) (team : Team) (g : Ghost
   kind = (inv.copied.target c.from c.to stands placed.1).6
 
   may_copies : MayCopy E (team.worker k) → MayCopy E w × KnowsCopy w
-  may_copies y = (may_copy_now E w (team.worker k) like.post like.epoch like.scan y, knows)
+  may_copies y = (may_copy_now E w (team.worker k) like.post like.ground.0 like.scan y, knows)
 
   may : MayCopy E (team.worker k)
   may = me.licensed.licensed c has
@@ -103,7 +103,7 @@ module _ (E : Era) (m later : Memory) (weak turn : ℕ) (team : Team) (g : Ghost
     pass = like.pass;
     cleared = λ e. rw like.reset at e;
     licence = λ _ _ y. may_copies y;
-    look = λ _. (like.epoch, like.last_look);
+    ground = λ _. like.ground;
   }) chain
 
   -- ---- of a cell

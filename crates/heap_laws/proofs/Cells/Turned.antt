@@ -8,10 +8,12 @@ use Rattle.heap_state.specs.Invariant.Ghost.{Ghost}
 use Rattle.heap_state.specs.Known.{Known, Team, LastLook, Linking, Pass, Begins, Done, cell_to_link}
 use Rattle.heap_state.proofs.Puts.{put_at, proj_put, some_same, none≢some}
 use Rattle.heap_laws.specs.Cells.Walks.{SameBesidePass, TakingTurnCarriesChain, IsWalked, WalkIsDone, TracingCarriesChain}
+use Rattle.heap_laws.specs.Tracing.{WinsTurn}
 use Rattle.heap_laws.specs.Steps.{Ready, WritesRow, InTraced, InWeakTurn, Beside, with_worker, with_traced, with_weak_turn}
 use Rattle.heap_laws.proofs.Cells.Carried.{links_stay}
 use Rattle.heap_laws.proofs.Cells.Ended.{ended}
 use Rattle.heap_laws.proofs.Cells.Linked.{may_copy_still}
+use Rattle.heap_laws.proofs.Tracing.SecondLooks.{looked_twice}
 use Rattle.heap_laws.proofs.Cells.ChainParts.{chain_of, cell_in, value_in, none_copies}
 
 -- ---- rows
@@ -28,16 +30,16 @@ traced_memory _ is = absurd (cc)
 
 -- ---- the turn is taken
 
-module _ (E : Era) (m : Memory) (weak turn : ℕ) (team : Team) (g : Ghost) (r : Ranks) (k : ℕ) (l : LastLook) (w : Known) (ready : Ready E m team g k) (looks : (team.worker k).last_look ≡ Some l)
-    (of_epoch : (team.worker k).epoch ≤ l.traced) (free : turn < (team.worker k).epoch + 1) (gets : w.pass ≡ Some Begins) (like : SameBesidePass w (team.worker k)) (chain : Chain E m weak turn team g r) where
+module _ (E : Era) (m : Memory) (weak turn : ℕ) (team : Team) (g : Ghost) (r : Ranks) (k : ℕ) (l : LastLook) (w : Known) (ready : Ready E m team g k) (wins : WinsTurn turn team k l)
+    (gets : w.pass ≡ Some Begins) (like : SameBesidePass w (team.worker k)) (chain : Chain E m weak turn team g r) where
   past : (team.worker k).epoch ≤ E.epoch
   past = (ready.invariant.workers k ready.member).timely.past
 
   now : (team.worker k).epoch ≡ E.epoch
-  now = let t = chain.top in omega (arith, t, free, past)
+  now = let t = chain.top in omega (arith, t, wins.free, past)
 
   was : turn ≡ E.epoch
-  was = let t = chain.top in omega (arith, t, free, past)
+  was = let t = chain.top in omega (arith, t, wins.free, past)
 
   untraced : m.traced ≤ E.epoch
   untraced = ⊎_elim
@@ -47,9 +49,9 @@ module _ (E : Era) (m : Memory) (weak turn : ℕ) (team : Team) (g : Ghost) (r :
 
   same_traced : l.traced ≡ m.traced
   same_traced =
-      let a = ((ready.invariant.workers k ready.member).pages.last_look l looks).earlier in
+      let a = (looked_twice ready wins.looks).earlier in
       let b = ready.invariant.tracing.bottom in
-      omega (arith, a, b, of_epoch, now, untraced)
+      omega (arith, a, b, wins.of_epoch, now, untraced)
 
   -- nobody walks
   nobody : (j : ℕ) (q : Pass) → j < team.count → ¬ ((team.worker j).pass ≡ Some q)
@@ -66,8 +68,8 @@ module _ (E : Era) (m : Memory) (weak turn : ℕ) (team : Team) (g : Ghost) (r :
 
   own : Passing E later turned g r w Begins
   own = record {
-    now = (like.epoch ∙ now, untraced, ap (λ z. z + 1) now);
-    look = (l, like.last_look ∙ looks, same_traced);
+    now = (like.ground.0 ∙ now, untraced, ap (λ z. z + 1) now);
+    look = (l, like.ground.1 ∙ wins.looks, same_traced);
     at = λ v e. absurd (cc);
     passed = λ a p le. absurd (let z = ((chain.linked untraced).ranked a p).1 in omega (arith, z, le));
   }
@@ -79,7 +81,7 @@ module _ (E : Era) (m : Memory) (weak turn : ℕ) (team : Team) (g : Ghost) (r :
     linked = λ le. let o = chain.linked le in record { ranked = o.ranked; alone = o.alone; head = o.head; link = o.link };
     all = λ le a c z. let o = chain.all le a c z in record { worker = o.worker; member = o.member; links = cell_then o.worker ∙ o.links };
     others_link = λ j x y _ e. let o = chain.linking j x y e in links_stay E m later g g r (team.worker j) (team.worker j) x refl (λ _ c. c) refl (λ q z. (z, q)) o;
-    own_link = λ x y e. let o = chain.linking k x y (sym like.linking ∙ e) in links_stay E m later g g r w (team.worker k) x refl (λ _ c. c) refl (may_copy_still E w (team.worker k) like.post like.epoch like.scan like.asked) o;
+    own_link = λ x y e. let o = chain.linking k x y (sym like.linking ∙ e) in links_stay E m later g g r w (team.worker k) x refl (λ _ c. c) refl (may_copy_still E w (team.worker k) like.post like.ground.0 like.scan like.asked) o;
     own_apart = λ j a y z d e f. d (chain.apart j k a y z f (sym (ap cell_to_link like.linking) ∙ e));
     others_pass = λ j q y _ e. absurd (nobody j q y e);
     own_pass = λ q _ e. rw (← some_same (sym gets ∙ e)) own;
@@ -91,9 +93,9 @@ module _ (E : Era) (m : Memory) (weak turn : ℕ) (team : Team) (g : Ghost) (r :
   }) chain.apart chain.one
 
 pub taking_turn_carries_chain : TakingTurnCarriesChain
-taking_turn_carries_chain E m later weak turn team g r k l w ready looks of_epoch free gets writes like chain =
+taking_turn_carries_chain E m later weak turn team g r k l w ready wins gets writes like chain =
     let s : later ≡ with_weak_turn m ((team.worker k).epoch + 1) = turn_memory writes refl in
-    rw s (takes_turn E m weak turn team g r k l w ready looks of_epoch free gets like chain)
+    rw s (takes_turn E m weak turn team g r k l w ready wins gets like chain)
 
 -- ---- the walk is done
 

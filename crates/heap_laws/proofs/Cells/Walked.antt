@@ -41,12 +41,12 @@ module _ (E : Era) (m later : Memory) (weak turn : ℕ) (team : Team) (g : Ghost
     cells = λ a c. rw front c;
     links = λ le a y. links a ((chain.linked le).ranked a y).0;
     others_link = λ j l y _ e. keeps_links j l (team.worker j) y e refl refl refl (λ z. z);
-    own_link = λ l y e. keeps_links k l w y (sym like.linking ∙ e) like.post like.epoch like.scan like.asked;
+    own_link = λ l y e. keeps_links k l w y (sym like.linking ∙ e) like.post like.ground.0 like.scan like.asked;
     same_cell = ap cell_to_link like.linking;
     others_pass = λ j x y d e. absurd (others j x y d e);
     own_pass = λ x _ e. rw (← some_same (sym gets ∙ e)) (record {
-      now = (like.epoch ∙ before.now.0, rw traced before.now.1, before.now.2);
-      look = (before.look.0, like.last_look ∙ before.look.1, before.look.2 ∙ sym traced);
+      now = (like.ground.0 ∙ before.now.0, rw traced before.now.1, before.now.2);
+      look = (before.look.0, like.ground.1 ∙ before.look.1, before.look.2 ∙ sym traced);
       at = at;
       passed = passed;
     });

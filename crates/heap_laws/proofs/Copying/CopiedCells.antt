@@ -155,7 +155,7 @@ module _ (E : Era) (m : Memory) (team : Team) (g : Ghost) (k : ℕ) (l : Linking
   after n = with_worker team k (with_linking me n)
 
   like : (n : Option Linking) → SameBesideLinking (with_linking me n) me
-  like n = record { post = refl; epoch = refl; scan = refl; asked = λ y. y; last_look = refl; reset = refl; pass = refl }
+  like n = record { post = refl; ground = (refl, refl); scan = refl; asked = λ y. y; reset = refl; pass = refl }
 
   -- WEAK has this word, and the cells are known
   relinked : (n : Option Linking) (word : ℕ) → Cells E (with_weak m word) (after n) g → Preserves E m (with_weak m word) team (after n) g g

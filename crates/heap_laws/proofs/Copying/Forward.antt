@@ -344,7 +344,7 @@ module _ {E : Era} {m : Memory} {team : Team} {g : Ghost} {k : ℕ} {c : Copy} {
       let below = below_board ready c.from (let o = mine.old in omega (arith, o)) in
       of_chain {m = m} (record { weak = refl; weak_turn = refl })
       (publishing_carries_chain E m (with_word m c.from v) m.weak m.weak_turn team g before.ranks k c v w' ready has res free (InWord c.from v (let o = mine.old in omega (arith, below, o))) cell (found, refl, refl)
-      (record { post = refl; epoch = refl; scan = refl; asked = λ _. (found, refl, refl); last_look = refl; reset = refl; pass = refl }) before.chain)
+      (record { post = refl; ground = (refl, refl); scan = refl; asked = λ _. (found, refl, refl); reset = refl; pass = refl }) before.chain)
       (publishing_carries_targets E m (with_word m c.from v) m.weak m.weak_turn team g before.ranks k c v ready has res full (InWord c.from v (let o = mine.old in omega (arith, below, o))) before.chain before.targets)
 
   pub invariant : Invariant E (with_word m (c.from + 0) v) (with_worker team k w') g'

@@ -33,4 +33,4 @@ knows_copying E gate traced front low old_front old_low old_owed g page cross an
 
 -- and it has the same part in the chain of copied cells
 pub copies_in_chain : (E : Era) (w : Known) (c : Copy) → GoesOnInChain E (copying w c) w
-copies_in_chain E w c = in_chain E (copying w c) w refl refl refl (record { linking = refl; pass = refl; asked = λ _ y. y; look = λ _. refl; cleared = λ e. e })
+copies_in_chain E w c = in_chain E (copying w c) w refl refl refl (record { linking = refl; pass = refl; asked = λ _ y. y; ground = λ _. (refl, refl); cleared = λ e. e })

@@ -82,7 +82,7 @@ module _ (E : Era) (m : Memory) (team : Team) (g : Ghost) (k : ℕ) (inv : Invar
         assumption
 
     goes : GoesOnInChain E w' (team.worker k)
-    goes = record { linking = refl; pass = refl; cleared = λ e. e; licence = λ l knows _. absurd (none_links l knows); look = λ _. (refl, refl) }
+    goes = record { linking = refl; pass = refl; cleared = λ e. e; licence = λ l knows _. absurd (none_links l knows); ground = λ _. (refl, refl) }
 
     invariant : Invariant E m (with_worker team k w') g
     invariant =
@@ -172,7 +172,7 @@ asks_for_register E m team g k a ready has idle leads =
     let q : Quest = record { old = a; origin = Register (team.worker k).done; found = None } in
     let st : 0 < g.size a = pointer_lands g.size g.writer ((team.worker k).registers (team.worker k).done) a (is_clean.lands (team.worker k).done has.left) leads in
     learnt (learns E m team g k (asking_for (team.worker k) a) inv
-    (let c = idle_in_chain (asking_for (team.worker k) a) (team.worker k) idle refl refl refl refl in
+    (let c = idle_in_chain (asking_for (team.worker k) a) (team.worker k) idle refl refl (refl, refl) refl in
     assumption) (λ t e. (t, e, refl))
     (let origin : (r : Quest) → Some q ≡ Some r → IsOrigin E g.size g.writer g.kind m.heap (is_late E.epoch (team.worker k)) (team.worker k).done (team.worker k).registers (team.worker k).scan r.old r.origin = λ r e. rw (← some_same e) (has.late, refl, has.left, leads) in
     let seeks : (r : Quest) → Some q ≡ Some r → Seeks E g.size g.writer g.copy r = λ r e. rw (← some_same e) (record { old = (st, old.0, old.1); found = λ b f. none≢some f }) in

@@ -173,7 +173,7 @@ module _ (E : Era) (m : Memory) (team : Team) (g : Ghost) (k : ℕ) (r : Reset) 
       let p5 : OldPages E front m.page = record { old = λ p l n. absurd (omega (arith, at_start, l, n)) } in
       let p6 = stocks_put team.worker k w' (λ _ e. e) inv.stocks in
       let p7 = numbered_put team.worker k w' refl inv.numbered in
-      let goes : GoesOnInChain E w' (team.worker k) = record { linking = refl; pass = refl; cleared = λ e. rw has e; licence = λ _ knows may. (may, knows); look = λ _. (refl, refl) } in
+      let goes : GoesOnInChain E w' (team.worker k) = record { linking = refl; pass = refl; cleared = λ e. rw has e; licence = λ _ knows may. (may, knows); ground = λ _. (refl, refl) } in
       let p10 = same_keeps E m (with_old_area m front low u) team g g k w' (assumption) (assumption) (assumption) goes inv.cells in
       let p8 = team_put team.count KnowsNow team.worker k w' others own in
       assumption

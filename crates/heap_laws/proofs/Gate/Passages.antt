@@ -3,7 +3,7 @@ use Rattle.std.proofs.Common.{◌≡◌, ◌≢◌, ℕ, ◌+◌, ◌-◌, ◌<�
 use Rattle.std.proofs.lemmas.Bool.{eq-eqb}
 use Rattle.space_map.specs.declared.gate_word.GateWord.{GateWord}
 use Rattle.space_map.specs.declared.page_word.PageWord.TheVariants.{Open}
-use Rattle.heap_state.specs.Cells.{KnowsCopy}
+use Rattle.heap_state.specs.Cells.{KnowsCopy, SameGround}
 use Rattle.heap_state.specs.Memory.Era.{Era, Memory}
 use Rattle.heap_state.specs.Functions.{count_one}
 use Rattle.heap_state.specs.Invariant.Ghost.{Ghost}
@@ -72,13 +72,13 @@ module _ (E : Era) (m : Memory) (team : Team) (g : Ghost) (k : ℕ) (s : GateSte
 
   -- who was not late, or has nothing to link, has the same part in the chain of copied cells
   goes : (u : Known) → u.linking ≡ w.linking → u.pass ≡ w.pass → u.reset ≡ w.reset → u.quest ≡ w.quest → u.scan ≡ w.scan
-      → (is_late E.epoch w ≡ true → KnowsCopy w → ⊥) → (is_some w.pass ≡ true → (u.epoch ≡ w.epoch) × (u.last_look ≡ w.last_look)) → GoesOnInChain E u w
-  goes u linking pass reset quest scan none_links look = record {
+      → (is_late E.epoch w ≡ true → KnowsCopy w → ⊥) → (is_some w.pass ≡ true → SameGround u w) → GoesOnInChain E u w
+  goes u linking pass reset quest scan none_links ground = record {
     linking = linking;
     pass = pass;
     cleared = λ e. rw reset at e;
     licence = λ _ knows may. (⊎_elim (λ y. inl (y.0, scan ∙ y.1)) (λ y. absurd (none_links y knows)) may, (knows.0, quest ∙ knows.1, knows.2));
-    look = look;
+    ground = ground;
   }
 
   -- ---- in

@@ -48,7 +48,7 @@ module _ (E : Era) (m : Memory) (team : Team) (g : Ghost) (k : ℕ) (inv : Invar
         registers = refl;
         scan = refl;
         stock = λ q e. none≢some e;
-        goes = record { linking = refl; pass = refl; cleared = λ e. e; licence = λ _ knows _. absurd (no_quest knows.0 knows.1); look = λ walks. none_is_some free walks };
+        goes = record { linking = refl; pass = refl; cleared = λ e. e; licence = λ _ knows _. absurd (no_quest knows.0 knows.1); ground = λ walks. none_is_some free walks };
         none_left = λ r l y d. true_false (not_late E.epoch) y;
       })
       m.gate

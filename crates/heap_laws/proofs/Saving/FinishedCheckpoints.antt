@@ -8,7 +8,7 @@ use Rattle.heap_state.specs.Memory.Table.{Table}
 use Rattle.heap_state.specs.Saving.Words.{Saves, IsInProgress}
 use Rattle.heap_state.specs.Saving.Frozen.{Frozen, IsSafe, MayBeSaved}
 use Rattle.heap_state.specs.Saving.Savers.{Saver, SaveRound}
-use Rattle.heap_state.specs.Saving.Parts.{SavingWords, Recalls, SavesRound, KnowsSaving, SavingStands}
+use Rattle.heap_state.specs.Saving.Parts.{SavingWords, RecalledStands, SavesRound, KnowsSaving, SavingStands}
 use Rattle.heap_laws.specs.Saving.Rows.{HasPassedAll, AllAreSaved, SparesNone}
 use Rattle.heap_laws.specs.Saving.Rounds.{CheckpointsEnd}
 use Rattle.heap_laws.proofs.Saving.Forgotten.{each_is_forgotten}
@@ -67,7 +67,7 @@ module _ (t : Table) (s : Saves) (z : Frozen) (c : ℕ) (all : AllAreSaved s z c
 
   -- ---- what a worker knows
 
-  recalls_finished : (w : Saver) → Recalls t s z w → Recalls t finished z w
+  recalls_finished : (w : Saver) → RecalledStands t s z w → RecalledStands t finished z w
   recalls_finished w r = record {
     runs = r.runs;
     snap = r.snap;

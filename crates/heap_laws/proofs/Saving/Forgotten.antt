@@ -4,7 +4,7 @@ use Rattle.heap_state.specs.Memory.Table.{Table}
 use Rattle.heap_state.specs.Saving.Words.{Saves}
 use Rattle.heap_state.specs.Saving.Frozen.{Frozen}
 use Rattle.heap_state.specs.Saving.Savers.{Saver, SaveRound, FirstReads, NoReads}
-use Rattle.heap_state.specs.Saving.Parts.{Recalls, Guarded, ReadsTell, KnowsSaving}
+use Rattle.heap_state.specs.Saving.Parts.{RecalledStands, Guarded, ReadsTell, KnowsSaving}
 use Rattle.heap_state.proofs.Puts.{true_false, none≢some}
 use Rattle.heap_laws.specs.Saving.Snapping.{saver_after_request, saver_running}
 use Rattle.heap_laws.specs.Saving.Rounds.{KnowsNoMore, SaversForget, KeepsSavingAs, RunsKeepSaving, saver_stopped, EachIsForgotten, saver_unsettled, saver_unguarded, saver_unmarked, saver_after_reads, saver_after_round}
@@ -14,7 +14,7 @@ use Rattle.heap_laws.proofs.Saving.SavingWorkers.{has_won_as, steps_are_spared}
 
 -- a reading that another worker has too
 pub recalls_as : (t : Table) (s : Saves) (z : Frozen) (v w : Saver) → w.runs ≡ true → w.reads_done ≡ v.reads_done → w.snap ≡ v.snap → w.running ≡ v.running
-    → Recalls t s z v → Recalls t s z w
+    → RecalledStands t s z v → RecalledStands t s z w
 recalls_as t s z v w runs reads_done snap running r = record {
   runs = runs;
   snap = snap ∙ r.snap;

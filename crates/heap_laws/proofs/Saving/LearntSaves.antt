@@ -10,7 +10,7 @@ use Rattle.heap_state.specs.Memory.Table.{Table}
 use Rattle.heap_state.specs.Saving.Words.{Saves, IsInProgress}
 use Rattle.heap_state.specs.Saving.Frozen.{Frozen, IsPageOf, IsSafe, MayBeSaved}
 use Rattle.heap_state.specs.Saving.Savers.{Saver, SaveStep, SaveRound, FirstReads, NoReads, GateRead, SnapRead, DoneRead, HasPassed}
-use Rattle.heap_state.specs.Saving.Parts.{SavingWords, Recalls, ReadsTell, SavesRound, BeginsSave, IsSaving, KnowsSaving, HasWonSave}
+use Rattle.heap_state.specs.Saving.Parts.{SavingWords, RecalledStands, ReadsTell, SavesRound, BeginsSave, IsSaving, KnowsSaving, HasWonSave}
 use Rattle.heap_state.proofs.Puts.{true_false, none≢some, some_same}
 use Rattle.heap_laws.specs.Saving.Rounds.{round_begun, round_past, IsNextPage, round_passing, RoundsFollow, running_by, save_begun, LearnsOfSaves, RecallsSnap, RecallsDone, FindsRest, BeginsRound, ReadsGate, ReadsSnap, ReadsDone, ReadsGateAgain, FindsOpen, PassesClosed, PassesKept, PassesBusy, BeginsSaving, SaversLearn, NumbersFit, NumbersStay}
 use Rattle.heap_laws.proofs.Saving.SavingWorkers.{has_won_as, asker_knows, saver_changes}
@@ -196,16 +196,16 @@ module _ (t : Table) (s : Saves) (z : Frozen) where
   -- ---- what a mutator has read
 
   recalled_snap : (v : Saver) (number : ℕ) → v.runs ≡ true → s.snap ≡ number
-      → Recalls t s z (record v { recalled = true; reads_done = true; snap = number; running = 0; settled = false })
+      → RecalledStands t s z (record v { recalled = true; reads_done = true; snap = number; running = 0; settled = false })
   recalled_snap v number runs is =
       record { runs = runs; snap = sym is; none = λ read. true_false read refl; one = λ some. absurd (omega (arith, some)) }
 
-  recalled_none : (v : Saver) → s.done ≡ v.snap → Recalls t s z v → Recalls t s z (record v { reads_done = false; running = 0; guarded = None })
+  recalled_none : (v : Saver) → s.done ≡ v.snap → RecalledStands t s z v → RecalledStands t s z (record v { reads_done = false; running = 0; guarded = None })
   recalled_none v same r =
       let snap = r.snap in
       record { runs = r.runs; snap = snap; none = λ read zero. omega (arith, snap, same); one = λ some. absurd (omega (arith, some)) }
 
-  recalled_one : (v : Saver) → SavingWords t s z → s.done ≢ v.snap → Recalls t s z v → Recalls t s z (record v { reads_done = false; running = v.snap; guarded = None })
+  recalled_one : (v : Saver) → SavingWords t s z → s.done ≢ v.snap → RecalledStands t s z v → RecalledStands t s z (record v { reads_done = false; running = v.snap; guarded = None })
   recalled_one v w other r =
       let runs = moves w (rw (← r.snap) other) in
       let snap = r.snap in
@@ -216,8 +216,8 @@ module _ (t : Table) (s : Saves) (z : Frozen) where
         one = λ some. (snap, w.traced runs, rw snap (w.ran runs));
       }
 
-  recalled_done : (v : Saver) → SavingWords t s z → Recalls t s z v
-      → Recalls t s z (record v { reads_done = false; running = running_by v.snap s.done; guarded = None })
+  recalled_done : (v : Saver) → SavingWords t s z → RecalledStands t s z v
+      → RecalledStands t s z (record v { reads_done = false; running = running_by v.snap s.done; guarded = None })
   recalled_done v w r = ⊎_elim
       (λ (same : s.done ≡ v.snap). rw (eq-eqb s.done v.snap same) (recalled_none v same r))
       (λ (other : s.done ≢ v.snap). rw (ne_eqb s.done v.snap other) (recalled_one v w other r))

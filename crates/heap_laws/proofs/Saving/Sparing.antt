@@ -25,6 +25,7 @@ use Rattle.heap_laws.specs.Steps.{Ready}
 use Rattle.heap_laws.specs.Tracing.{WinsTraced}
 use Rattle.heap_laws.proofs.Scanning.Claimed as claimed
 use Rattle.heap_laws.proofs.Scanning.Scanners.{open_age}
+use Rattle.heap_laws.proofs.Tracing.SecondLooks.{looked_twice}
 use Rattle.heap_laws.proofs.Tracing.TracedExchange.{leads_nowhere, traces}
 
 -- ---- what traces an epoch
@@ -79,7 +80,7 @@ module _ (E : Era) (m : Memory) (team : Team) (g : Ghost) (k : ℕ) (ready : Rea
 
   nobody_traces : (l : LastLook) → WinsTraced m team k l → m.traced ≡ E.epoch + 1 → ⊥
   nobody_traces l wins traced =
-      let a = (me.pages.last_look l wins.looks).earlier in
+      let a = (looked_twice ready wins.looks).earlier in
       let b = wins.unchanged in
       let c = me.timely.past in
       omega (arith, traced, a, b, c)

@@ -9,7 +9,7 @@ use Rattle.heap_state.specs.Memory.Table.{Table}
 use Rattle.heap_state.specs.Saving.Words.{Saves}
 use Rattle.heap_state.specs.Saving.Frozen.{Frozen, IsPageOf, IsSafe, MayBeSaved}
 use Rattle.heap_state.specs.Saving.Savers.{Saver, SaveRound, FirstReads, NoReads, GateRead, SnapRead, DoneRead}
-use Rattle.heap_state.specs.Saving.Parts.{SavingWords, Recalls, Settles, ReadsTell, SavesRound, KnowsSaving}
+use Rattle.heap_state.specs.Saving.Parts.{SavingWords, RecalledStands, Settles, ReadsTell, SavesRound, KnowsSaving}
 
 -- The table u is t but for what a checkpoint in progress doesn't read. It has the same epoch, traced if it was. A page that is open
 -- was so, or is opened in this epoch with a SAVE of the last checkpoint. What is held and not saved stays.
@@ -59,7 +59,7 @@ module _ (t u : Table) (s : Saves) (z : Frozen) (l : Leaves t u s z) where
   traced_after : (v : ℕ) → t.gate.epoch ≡ v → t.traced ≡ v + 1 → u.traced ≡ v + 1
   traced_after v now traced = let is : t.traced ≡ t.gate.epoch + 1 = omega arith in l.traced is ∙ traced
 
-  recalls_after : (w : Saver) → Recalls t s z w → Recalls u s z w
+  recalls_after : (w : Saver) → RecalledStands t s z w → RecalledStands u s z w
   recalls_after w r = record {
     runs = r.runs;
     snap = r.snap;

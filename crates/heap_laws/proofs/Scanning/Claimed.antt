@@ -186,7 +186,7 @@ module _ (E : Era) (m : Memory) (team : Team) (g : Ghost) (k : ℕ) (q : Claim) 
 
   -- who had a cell to link still may copy
   goes : GoesOnInChain E w' (team.worker k)
-  goes = record { linking = refl; pass = refl; cleared = λ e. e; licence = λ _ knows _. (inl (scan_from q, refl), knows); look = λ _. (refl, refl) }
+  goes = record { linking = refl; pass = refl; cleared = λ e. e; licence = λ _ knows _. (inl (scan_from q, refl), knows); ground = λ _. (refl, refl) }
 
   pub claims : ClaimsPage E m team g k q
   claims = record {

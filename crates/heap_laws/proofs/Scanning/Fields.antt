@@ -104,7 +104,7 @@ asks E m team g k s a ready is at going leads low high =
     let q : Quest = record { old = a; origin = Scanned s.cursor; found = None } in
     let st : 0 < g.size a = pointer_lands g.size g.writer (m.heap s.cursor) a (inv.landing.lands s.cursor h) leads in
     learnt (learns E m team g k (asking (team.worker k) q) inv
-    (let c = idle_in_chain (asking (team.worker k) q) (team.worker k) is.asks_nothing refl refl refl refl in
+    (let c = idle_in_chain (asking (team.worker k) q) (team.worker k) is.asks_nothing refl refl (refl, refl) refl in
     assumption) (λ t e. (t, e, refl))
     (let origin : (r : Quest) → Some q ≡ Some r → IsOrigin E g.size g.writer g.kind m.heap (is_late E.epoch (team.worker k)) (team.worker k).done (team.worker k).registers (team.worker k).scan r.old r.origin = λ r e. rw (← some_same e) ((s, is.scans, refl, at.on_page, going), h, leads) in
     let seeks : (r : Quest) → Some q ≡ Some r → Seeks E g.size g.writer g.copy r = λ r e. rw (← some_same e) (record { old = (st, low, high); found = λ b f. none≢some f }) in
@@ -180,7 +180,7 @@ module _ (E : Era) (m : Memory) (team : Team) (g : Ghost) (k : ℕ) (s : Scan) (
   own = knows_on E m team g k s inv ready.member has.scans copy.copies_nothing heap' t on (scans_slot slot m.heap k s (known.scan s has.scans))
 
   goes : GoesOnInChain E w' (team.worker k)
-  goes = record { linking = refl; pass = refl; cleared = λ e. e; licence = λ l _ _. none_is_some linked l; look = λ _. (refl, refl) }
+  goes = record { linking = refl; pass = refl; cleared = λ e. e; licence = λ l _ _. none_is_some linked l; ground = λ _. (refl, refl) }
 
   invariant : Invariant E (with_word m s.cursor v) (with_worker team k w') g
   invariant =

@@ -17,7 +17,7 @@ use Rattle.heap_state.proofs.Records.Holding.{writer}
 use Rattle.heap_state.proofs.Puts.{put_at, put_other, each_put, some_same, none≢some}
 use Rattle.heap_state.specs.Memory.Entries.{PageIs}
 use Rattle.heap_laws.specs.Cells.Frames.{GoesOnInChain}
-use Rattle.heap_laws.specs.Scanning.Claims.{HasScanned, ends_scan, OpensPage}
+use Rattle.heap_laws.specs.Scanning.Claims.{HasScanned, ends_scan, OpensScannedPage}
 use Rattle.heap_laws.specs.Steps.{Ready, Steps, InPage, with_page}
 use Rattle.heap_laws.proofs.Frames.PageWords.{Turns, quiet_turns, scans_beside, knows_turns}
 use Rattle.heap_laws.proofs.Frames.NewPages.{PageTurns}
@@ -146,10 +146,10 @@ module _ (E : Era) (m : Memory) (team : Team) (g : Ghost) (k : ℕ) (s : Scan) (
     pass = refl;
     cleared = λ e. e;
     licence = λ _ knows _. not_late E.epoch (team.worker k) of_now (no_origin knows.0.old knows.0.origin (me.origin knows.0 knows.1));
-    look = λ _. (refl, refl);
+    ground = λ _. (refl, refl);
   }
 
-  pub opens : OpensPage E m team g k s
+  pub opens : OpensScannedPage E m team g k s
   opens = record {
     now = of_now;
     was = mine.claimed;

@@ -81,7 +81,7 @@ module _ (E : Era) (m : Memory) (team : Team) (g : Ghost) (k : ℕ) (s : Scan) (
   -- a load after which the scan goes on
   pub goes_on : (team.worker k).quest ≡ None → (t : Scan) → ScanGoesOn E m.front g.size g.writer g.kind m.heap s t → Preserves E m m team (with_worker team k (scanning (team.worker k) t)) g g
   goes_on idle t on = learns E m team g k (scanning (team.worker k) t) inv
-      (let c = idle_in_chain (scanning (team.worker k) t) (team.worker k) idle refl refl refl refl in
+      (let c = idle_in_chain (scanning (team.worker k) t) (team.worker k) idle refl refl (refl, refl) refl in
       assumption)
       (same_page t on.page) (knows_on m.heap t on (me.scan s scans))
 

@@ -47,7 +47,7 @@ of_round w claim look still less_claim less_look = record {
   round = λ _ e. absurd (cc);
   pages = let no_look : (l : LastLook) → None ≡ Some l → w.last_look ≡ Some l = λ _ e. absurd (cc) in assumption (same_at_pages w);
   gate = same_at_gate w;
-  chain = record { linking = refl; pass = refl; walks = λ walks. absurd (let q = sym (ap is_some still) ∙ walks in cc) };
+  chain = record { linking = refl; pass = refl; ground = λ walks. absurd (let q = sym (ap is_some still) ∙ walks in cc) };
 }
 
 pub rounds_are_forgotten : RoundsAreForgotten

@@ -24,9 +24,10 @@ use Rattle.heap_laws.proofs.Scanning.Scanners.{open_scan, scans_last, copies_las
 use Rattle.heap_laws.proofs.Targets.Frames.{made_put}
 use Rattle.heap_laws.proofs.Targets.ShownEmptied.{shown_traced}
 use Rattle.heap_laws.proofs.Targets.Walked.{tracing_carries_targets}
+use Rattle.heap_laws.proofs.Tracing.SecondLooks.{looked_twice}
 
 pub sleeper_loses_traced : SleeperLosesTraced
-sleeper_loses_traced E m team g k l ready looks past won = let o = (ready.invariant.workers k ready.member).pages.last_look l looks in let a = o.late past in let b = o.earlier in omega (arith, a, b, won)
+sleeper_loses_traced E m team g k l ready looks past won = let o = looked_twice ready looks in let a = o.late past in let b = o.earlier in omega (arith, a, b, won)
 
 module _ (E : Era) (m : Memory) (team : Team) (g : Ghost) (k : ℕ) (l : LastLook) (ready : Ready E m team g k) (wins : WinsTraced m team k l) where
   abbrev inv : Invariant E m team g
@@ -45,7 +46,7 @@ module _ (E : Era) (m : Memory) (team : Team) (g : Ghost) (k : ℕ) (l : LastLoo
       (cases_lt (team.worker k).epoch E.epoch)
 
   mine : LastLooks E m.traced m.gate.behind m.front m.page (team.worker k).epoch l
-  mine = me.pages.last_look l wins.looks
+  mine = looked_twice ready wins.looks
 
   now : Quiet E m.gate.behind m.front m.page × IsLastOpen E m.front m.page
   now = mine.now of_now wins.unchanged

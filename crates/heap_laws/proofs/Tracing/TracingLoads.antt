@@ -3,6 +3,7 @@ use Rattle.std.proofs.Common.{◌≡◌, ◌≢◌, ℕ, ◌+◌, ◌*◌, ◌/�
 use Rattle.std.proofs.lemmas.Bool.{cases_eq}
 use Rattle.space_map.specs.declared.page_word.PageWord.{PageWord}
 use Rattle.space_map.specs.PageWord.{age_of}
+use Rattle.heap_state.specs.Cells.{SameGround}
 use Rattle.heap_state.specs.Memory.Era.{Era, Memory}
 use Rattle.heap_state.specs.Invariant.Ghost.{Ghost}
 use Rattle.heap_state.specs.Invariant.Inductive.{Invariant, Knows}
@@ -12,6 +13,7 @@ use Rattle.heap_state.specs.Known.{Team, Round, Claim, Look, LastLook}
 use Rattle.heap_state.proofs.Puts.{some_same, none≢some}
 use Rattle.heap_laws.specs.Steps.{with_worker, Preserves}
 use Rattle.heap_laws.specs.Tracing.{in_round, ReadingTracedKeeps, ReadingRoundFrontKeeps, looking, look_begun, BeginningLookKeeps, LookingAtFrontKeeps, LookingAtBoardKeeps, LookingAtPageKeeps, LookingAtFillingPageKeeps, LooksAgain, about_to_trace, LookingAgainKeeps, filling_claim, about_to_fill, ClaimingFillingPageKeeps}
+use Rattle.heap_laws.proofs.Cells.Kept.{none_is_some}
 use Rattle.heap_laws.proofs.Steps.Learning.{learns, learnt}
 use Rattle.heap_laws.proofs.Scanning.Scanners.{open_age}
 
@@ -161,7 +163,7 @@ looks_again E m team g k l ready still again filled =
     let inv = ready.invariant in
     let me = inv.workers k ready.member in
     learnt (learns E m team g k (about_to_trace (team.worker k) l) inv
-    (let look : is_some (team.worker k).pass ≡ true → Some (record { traced = l.traced }) ≡ (team.worker k).last_look = λ walks. absurd (let q = sym (ap is_some still) ∙ walks in cc) in assumption)
+    (let ground : is_some (team.worker k).pass ≡ true → SameGround (about_to_trace (team.worker k) l) (team.worker k) = λ walks. none_is_some still walks in assumption)
     (λ s e. (s, e, refl))
     (let c : (q : LastLook) → Some (record { traced = l.traced }) ≡ Some q → LastLooks E m.traced m.gate.behind m.front m.page (team.worker k).epoch q = λ q e. rw (← some_same e) (looks_last E m team g k l inv ready.member again filled) in
     let none : (q : Look) → None ≡ Some q → Looks E m.gate.behind m.front m.page (team.worker k).epoch q = λ q e. none≢some e in

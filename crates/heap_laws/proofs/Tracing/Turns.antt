@@ -6,13 +6,12 @@ use Rattle.heap_state.specs.Memory.Era.{Era, Memory}
 use Rattle.heap_state.specs.Invariant.Ghost.{Ghost}
 use Rattle.heap_state.specs.Known.{Known, Team, LastLook}
 use Rattle.heap_laws.specs.Steps.{Ready, Steps, InWeakTurn, with_worker, with_weak_turn}
-use Rattle.heap_laws.specs.Tracing.{has_turn, TurnsAreTaken}
+use Rattle.heap_laws.specs.Tracing.{has_turn, WinsTurn, TurnsAreTaken}
 use Rattle.heap_laws.proofs.Cells.Kept.{targets_stay}
 use Rattle.heap_laws.proofs.Cells.Turned.{taking_turn_carries_chain}
 use Rattle.heap_laws.proofs.Steps.Learning.{links}
 
-module _ (E : Era) (m : Memory) (team : Team) (g : Ghost) (k : ℕ) (l : LastLook) (ready : Ready E m team g k) (looks : (team.worker k).last_look ≡ Some l)
-    (of_epoch : (team.worker k).epoch ≤ l.traced) (free : m.weak_turn < (team.worker k).epoch + 1) where
+module _ (E : Era) (m : Memory) (team : Team) (g : Ghost) (k : ℕ) (l : LastLook) (ready : Ready E m team g k) (wins : WinsTurn m.weak_turn team k l) where
   abbrev turn : ℕ
   turn = (team.worker k).epoch + 1
 
@@ -22,7 +21,7 @@ module _ (E : Era) (m : Memory) (team : Team) (g : Ghost) (k : ℕ) (l : LastLoo
   cells : Cells E (with_weak_turn m turn) (with_worker team k next) g
   cells = record {
     ranks = ready.invariant.cells.ranks;
-    chain = taking_turn_carries_chain E m (with_weak_turn m turn) m.weak m.weak_turn team g ready.invariant.cells.ranks k l next ready looks of_epoch free refl (InWeakTurn turn) (assumption)
+    chain = taking_turn_carries_chain E m (with_weak_turn m turn) m.weak m.weak_turn team g ready.invariant.cells.ranks k l next ready wins refl (InWeakTurn turn) (assumption)
         ready.invariant.cells.chain;
     targets = targets_stay (InWeakTurn turn) tt ready.invariant.cells.targets;
   }
@@ -32,7 +31,7 @@ module _ (E : Era) (m : Memory) (team : Team) (g : Ghost) (k : ℕ) (l : LastLoo
   of_now =
       let top = ready.invariant.cells.chain.top in
       let past = (ready.invariant.workers k ready.member).timely.past in
-      omega (arith, top, free, past)
+      omega (arith, top, wins.free, past)
 
   takes_turn : Steps E m team g k (Some (WeakTurnIs turn)) next g
   takes_turn = record {

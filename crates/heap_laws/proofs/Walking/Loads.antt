@@ -15,7 +15,7 @@ use Rattle.heap_laws.proofs.Targets.Walked.{targets_are_found}
 
 -- but for its walk, the worker is as it was
 pub same_beside : (w : Known) (q : Pass) → SameBesidePass (walking w q) w
-same_beside w q = record { post = refl; epoch = refl; scan = refl; asked = λ y. y; last_look = refl; reset = refl; linking = refl }
+same_beside w q = record { post = refl; ground = (refl, refl); scan = refl; asked = λ y. y; reset = refl; linking = refl }
 
 -- what the walker knows changes, where the chain stands after it
 module _ (E : Era) (m : Memory) (team : Team) (g : Ghost) (k : ℕ) (ready : Ready E m team g k) where

@@ -3,7 +3,7 @@ use Rattle.std.specs.Prelude.{◌≡◌, ◌≢◌, ℕ, ◌+◌, ◌<◌, ◌�
 use Rattle.plain_state.specs.declared.kind.Kind.TheVariants.{Weak}
 use Rattle.space_map.specs.declared.area_word.AreaWord.{AreaWord}
 use Rattle.space_map.specs.Spaces.{to_space}
-use Rattle.heap_state.specs.Cells.{Ranks, IsCopiedCell, MayCopy, KnowsCopy, HasWalker, Chain}
+use Rattle.heap_state.specs.Cells.{Ranks, IsCopiedCell, MayCopy, KnowsCopy, SameGround, HasWalker, Chain}
 use Rattle.heap_state.specs.Memory.Entries.{Entry, GateIs, AreaIs, PageIs, CrossIs, WordIs, AnnounceIs, SnapIs, LastSavedIs, SaveIs, ImageIs}
 use Rattle.heap_state.specs.Memory.Era.{Era, Memory, from_space}
 use Rattle.heap_state.specs.Invariant.Ghost.{Ghost}
@@ -13,13 +13,13 @@ use Rattle.heap_laws.specs.Steps.{Ready, WritesRow, with_worker}
 -- ---- what the chain reads
 
 -- The worker w has the cell to link and the walk of u. If it has a cell to link, it may still copy and has found the copy that it asks
--- for; and if it walks it is of the same epoch and knows the same of its second look.
+-- for; and if it walks, its walk rests on the same.
 pub record GoesOnInChain (E : Era) (w u : Known) : Type 0 where
   pub linking : w.linking ≡ u.linking
   pub pass : w.pass ≡ u.pass
   pub cleared : is_cleared w.reset ≡ true → is_cleared u.reset ≡ true
   pub licence : is_some u.linking ≡ true → KnowsCopy u → MayCopy E u → MayCopy E w × KnowsCopy w
-  pub look : is_some u.pass ≡ true → (w.epoch ≡ u.epoch) × (w.last_look ≡ u.last_look)
+  pub ground : is_some u.pass ≡ true → SameGround w u
 
 -- the same records stand and are written, of the same kinds and with the same copies
 pub record SameCells (g h : Ghost) : Type 0 where

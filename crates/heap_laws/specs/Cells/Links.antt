@@ -2,7 +2,7 @@
 use Rattle.std.specs.Prelude.{◌≡◌, ℕ, ◌+◌, true, false, Some, None}
 use Rattle.space_map.specs.declared.area_word.AreaWord.{AreaWord}
 use Rattle.space_map.specs.Spaces.{to_space}
-use Rattle.heap_state.specs.Cells.{Ranks, KnowsCopy, Chain}
+use Rattle.heap_state.specs.Cells.{Ranks, KnowsCopy, SameGround, Chain}
 use Rattle.heap_state.specs.Functions.{put}
 use Rattle.heap_state.specs.Memory.Entries.{WordIs, AreaIs, WeakIs}
 use Rattle.heap_state.specs.Memory.Era.{Era, Memory}
@@ -15,10 +15,9 @@ use Rattle.heap_laws.specs.Steps.{Ready, WritesRow, IsAreaNow, with_worker}
 -- but for the cell to link, the chain reads of worker w what it reads of u
 pub record SameBesideLinking (w u : Known) : Type 0 where
   pub post : w.post ≡ u.post
-  pub epoch : w.epoch ≡ u.epoch
+  pub ground : SameGround w u
   pub scan : w.scan ≡ u.scan
   pub asked : KnowsCopy u → KnowsCopy w
-  pub last_look : w.last_look ≡ u.last_look
   pub reset : w.reset ≡ u.reset
   pub pass : w.pass ≡ u.pass
 

@@ -2,30 +2,29 @@
 use Rattle.std.specs.Prelude.{◌≡◌, ℕ, ◌+◌, ◌-◌, ◌*◌, ◌<◌, ◌≤◌, ◌⊎◌, true, false, Some, None, is_some}
 use Rattle.heap_words.specs.declared.kind.Kind.{Kind as HeaderKind}
 use Rattle.heap_words.specs.Decoded.{NumberWord, PointerWord, HeaderWord, ForwardWord, decode}
-use Rattle.heap_state.specs.Cells.{Ranks, KnowsCopy, IsCopiedCell, TargetsOld, ReplacesTarget, Chain}
+use Rattle.heap_state.specs.Cells.{Ranks, KnowsCopy, SameGround, IsCopiedCell, TargetsOld, ReplacesTarget, Chain}
 use Rattle.heap_state.specs.Memory.Entries.{WordIs, TracedIs, WeakTurnIs}
 use Rattle.heap_state.specs.Memory.Era.{Era, Memory}
 use Rattle.heap_state.specs.Invariant.Ghost.{Ghost, Leads}
 use Rattle.heap_state.specs.Known.{Known, Team, LastLook, Visit, Pass, Begins, At, Done}
 use Rattle.heap_laws.specs.Steps.{Ready, WritesRow, with_worker}
+use Rattle.heap_laws.specs.Tracing.{WinsTurn}
 
 -- but for the walk, the chain reads of worker w what it reads of u
 pub record SameBesidePass (w u : Known) : Type 0 where
   pub post : w.post ≡ u.post
-  pub epoch : w.epoch ≡ u.epoch
+  pub ground : SameGround w u
   pub scan : w.scan ≡ u.scan
   pub asked : KnowsCopy u → KnowsCopy w
-  pub last_look : w.last_look ≡ u.last_look
   pub reset : w.reset ≡ u.reset
   pub linking : w.linking ≡ u.linking
 
 -- ---- the turn
 
--- The exchange of WEAKTURN is won, from a word below the one that says that the turn of the worker's epoch is taken. The second look
--- has read a TRACED of that epoch.
+-- the exchange of WEAKTURN is won
 abbrev pub TakingTurnCarriesChain : Type 0
 TakingTurnCarriesChain = (E : Era) (m later : Memory) (weak turn : ℕ) (team : Team) (g : Ghost) (r : Ranks) (k : ℕ) (l : LastLook) (w : Known) → Ready E m team g k
-    → (team.worker k).last_look ≡ Some l → (team.worker k).epoch ≤ l.traced → turn < (team.worker k).epoch + 1 → w.pass ≡ Some Begins
+    → WinsTurn turn team k l → w.pass ≡ Some Begins
     → WritesRow E m (Some (WeakTurnIs ((team.worker k).epoch + 1))) later → SameBesidePass w (team.worker k)
     → Chain E m weak turn team g r → Chain E later weak ((team.worker k).epoch + 1) (with_worker team k w) g r
 

@@ -94,11 +94,11 @@ abbrev pub ends_scan : Known → Known
 ends_scan w = record w { scan = None }
 
 -- who opens a page is of the current epoch, and what it does keeps all
-pub record OpensPage (E : Era) (m : Memory) (team : Team) (g : Ghost) (k : ℕ) (s : Scan) : Type 0 where
+pub record OpensScannedPage (E : Era) (m : Memory) (team : Team) (g : Ghost) (k : ℕ) (s : Scan) : Type 0 where
   pub now : (team.worker k).epoch ≡ E.epoch
   pub was : m.page s.page ≡ Scanning E.epoch k
   pub steps : Steps E m team g k (Some (PageIs s.page (Open (team.worker k).epoch))) (ends_scan (team.worker k)) g
 
 abbrev pub OpeningKeeps : Type 0
 OpeningKeeps = (E : Era) (m : Memory) (team : Team) (g : Ghost) (k : ℕ) (s : Scan) → Ready E m team g k → HasScanned team k s
-    → OpensPage E m team g k s
+    → OpensScannedPage E m team g k s

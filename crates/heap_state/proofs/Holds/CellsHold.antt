@@ -20,6 +20,7 @@ use Rattle.heap_state.proofs.Puts.{some_same, none≢some}
 use Rattle.heap_state.proofs.Records.Holding.{uncopied_here}
 use Rattle.heap_state.proofs.Represents.Owning.{owns}
 use Rattle.heap_state.proofs.Walks.WalksBelowFront.{copied_complete, copied_sound}
+use Rattle.heap_state.proofs.Workers.Walkers.{quiet_in_walk}
 use Rattle.heap_state.proofs.Walks.InHeap.{lay, now_sound, still_copying}
 
 -- ---- the list of the linked cells
@@ -151,7 +152,7 @@ module _ (c : Configuration) (g : Ghost) (formed : IsFormed c.pages c.words) (in
           let w = chain.walker copying turn in
           let q = some_of ((team c).worker w.worker).pass w.walks in
           let p = chain.pass w.worker q.0 w.member q.1 in
-          ((inv.workers w.worker w.member).pages.last_look p.look.0 p.look.1).now p.now.0 (sym p.look.2)
+          quiet_in_walk w.worker inv w.member p
         where
           some_of : (o : Option Pass) → is_some o ≡ true → (q : Pass) × (o ≡ Some q)
           some_of None e = absurd (cc)

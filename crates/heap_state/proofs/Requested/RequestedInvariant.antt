@@ -14,7 +14,7 @@ use Rattle.heap_state.specs.Memory.Table.{Table}
 use Rattle.heap_state.specs.Examples.Requested.{requested, requested_entries, snapping_mutator}
 use Rattle.heap_state.specs.Functions.{put, sum_below}
 use Rattle.heap_state.specs.Invariant.Ghost.{Here, Leads}
-use Rattle.heap_state.specs.Invariant.Inductive.{Knows}
+use Rattle.heap_state.specs.Invariant.Inductive.{Knows, KnowsAtPages}
 use Rattle.heap_state.specs.Invariant.Parts.Copies.{Copied, Room}
 use Rattle.heap_state.specs.Invariant.Parts.Crossing.{Crossing}
 use Rattle.heap_state.specs.Invariant.Parts.Gate.{Counted, Staffed}
@@ -26,6 +26,7 @@ use Rattle.heap_state.specs.Invariant.Parts.Records.{Laid, NewWritten}
 use Rattle.heap_state.specs.Invariant.Parts.Stocks.{Stocks, Stocked, Numbered}
 use Rattle.heap_state.specs.Known.{Known, Team, Stock, Scan}
 use Rattle.heap_state.proofs.Puts.{none≢some, some_same, true_false}
+use Rattle.heap_state.proofs.Workers.Idle.{at_rest, nothing_at_pages}
 use Rattle.heap_state.proofs.Flipped.FlippedInvariant.{flipped_ghost, heap, page, size, none, identity, only, blank_word, zero_word, first_register, number_lands, pointer_lands, each_page, before, staffed_alone}
 
 abbrev pub requested_table : Table
@@ -175,6 +176,9 @@ clean = record {
     here : ¬ (Leads requested_era (pointer_word 192))
     here l = let q : PointerWord 192 ≡ PointerWord l.0 = sym first_register ∙ l.1 in let s : 192 ≡ l.0 = cc in omega (arith, s, l.2)
 
+at_pages : KnowsAtPages requested_era 1 0 requested_table.gate.behind size none page snapping_mutator
+at_pages = let idle : KnowsAtPages requested_era 1 0 requested_table.gate.behind size none page (at_rest snapping_mutator) = nothing_at_pages snapping_mutator in assumption
+
 pub mutator_knows : KnowsHere 0 snapping_mutator
 mutator_knows = record {
   timely = record { past = omega arith; live = λ l. inl refl; running = λ r. refl; asking = λ a. refl; rest = λ r. refl; below = omega arith };
@@ -193,7 +197,7 @@ mutator_knows = record {
   present = λ s e. none≢some e;
   scan = λ s e. none≢some e;
   stepping = λ s e. none≢some e;
-  pages = record { round = λ r e. none≢some e; claim = λ q e. none≢some e; look = λ l e. none≢some e; last_look = λ l e. none≢some e };
+  pages = at_pages;
   seen_traced = λ e. (inr refl, refl);
   asks = λ e. refl;
   size_seen = λ p e. none≢some e;

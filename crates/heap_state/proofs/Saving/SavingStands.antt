@@ -8,7 +8,7 @@ use Rattle.heap_state.specs.Examples.Saving.{saving_workers, saving_mutator, fro
 use Rattle.heap_state.specs.Functions.{put}
 use Rattle.heap_state.specs.Saving.Frozen.{IsPageOf, IsSafe, MayBeSaved}
 use Rattle.heap_state.specs.Saving.Savers.{SaveStep, SaveRound, HasPassed}
-use Rattle.heap_state.specs.Saving.Parts.{SavingWords, KnowsSaving, Recalls, Guarded, IsSaving, SavesRound, HasWonSave, SavingStands}
+use Rattle.heap_state.specs.Saving.Parts.{SavingWords, KnowsSaving, RecalledStands, Guarded, IsSaving, SavesRound, HasWonSave, SavingStands}
 use Rattle.heap_state.proofs.Puts.{none≢some, some_same, true_false}
 use Rattle.heap_state.proofs.Saving.CheckpointWords.{saving_table, saving_saves, save_3, save_8, each_page, held_page, image_then, board_then}
 
@@ -65,7 +65,7 @@ words = record {
 abbrev KnowsHere : ℕ → Type 0
 KnowsHere k = KnowsSaving saving_table saving_saves frozen_heap k (saving_workers k)
 
-recalls : Recalls saving_table saving_saves frozen_heap saving_mutator
+recalls : RecalledStands saving_table saving_saves frozen_heap saving_mutator
 recalls = record { runs = refl; snap = refl; none = λ d e. absurd (omega (arith, e)); one = λ l. (refl, refl, safe) }
 
 guarded : Guarded saving_saves saving_mutator 3

@@ -32,7 +32,7 @@ pub record SavingWords (t : Table) (s : Saves) (z : Frozen) : Type 0 where
 
 -- A running mutator that has read SNAP: SNAP is still so. Once it has read DONE too: if no checkpoint was in progress then, none is;
 -- else that one was, and the epoch is traced.
-pub record Recalls (t : Table) (s : Saves) (z : Frozen) (w : Saver) : Type 0 where
+pub record RecalledStands (t : Table) (s : Saves) (z : Frozen) (w : Saver) : Type 0 where
   pub runs : w.runs ≡ true
   pub snap : w.snap ≡ s.snap
   pub none : w.reads_done ≡ false → w.running ≡ 0 → IsAtRest s
@@ -87,7 +87,7 @@ pub record SavesRound (t : Table) (s : Saves) (z : Frozen) (r : SaveRound) : Typ
 
 -- what worker k knows of checkpoints
 pub record KnowsSaving (t : Table) (s : Saves) (z : Frozen) (k : ℕ) (w : Saver) : Type 0 where
-  pub recalls : w.recalled ≡ true → Recalls t s z w
+  pub recalls : w.recalled ≡ true → RecalledStands t s z w
   pub settles : w.settled ≡ true → Settles t s w
   pub still : (gate : GateWord) → w.still ≡ Some gate → (w.asks ≡ true) × (t.gate ≡ gate) × (gate.running ≡ 0)
   pub guarded : (page : ℕ) → w.guarded ≡ Some page → Guarded s w page

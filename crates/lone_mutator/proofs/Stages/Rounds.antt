@@ -6,6 +6,5 @@ pub mod NextRoundCost
 pub mod TracedRoundCosts
 pub mod Loads
 pub mod Winning
-pub mod Turns
 pub mod Walks
 pub mod RoundCosts

@@ -19,9 +19,9 @@ use Rattle.lone_mutator.proofs.Stages.Copies.Scanned.{evacuates}
 use Rattle.lone_mutator.proofs.Stages.Gate.Flip.{flips_by}
 use Rattle.lone_mutator.proofs.Stages.Gate.Look.{looks}
 use Rattle.lone_mutator.proofs.Stages.Gate.Passages.{loads_gate, exchanges_gate}
-use Rattle.lone_mutator.proofs.Stages.Guards.{guards}
+use Rattle.lone_mutator.proofs.Stages.Guard.{guards}
 use Rattle.lone_mutator.proofs.Stages.Place.AllocationCosts.{places}
-use Rattle.lone_mutator.proofs.Stages.Recalls.{recalls}
+use Rattle.lone_mutator.proofs.Stages.Recall.{recalls}
 use Rattle.lone_mutator.proofs.Stages.Rounds.RoundCosts.{serves}
 use Rattle.lone_mutator.proofs.Stages.Scan.PageOpening.{opens}
 use Rattle.lone_mutator.proofs.Stages.Scan.ScanCosts.{scans_page}

@@ -12,13 +12,12 @@ use Rattle.plain_state.specs.Operation.{applied}
 use Rattle.plain_state.specs.State.{Record, Heap, Mutator, made_by, record_of, serial_of}
 use Rattle.plain_state.specs.Writing.{with_value, with_records, stored, took}
 use Rattle.mutator_asm.specs.declared.instr.Instr.{Instr}
-use Rattle.mutator_asm.specs.declared.instr.Instr.TheVariants as instrs
 use Rattle.plain_heap.specs.declared.action.Action.{Action}
 use Rattle.plain_heap.specs.declared.action.Action.TheVariants.{Sets, Jumps, Links, Prints, Makes, Measures, Loads, Stores, Compares, Snaps}
 use Rattle.plain_heap.specs.Action.{◌>>=◌, are_same, next_of, action}
 use Rattle.plain_heap.specs.Call.{After, value_in, values_of, may_hold, store_in, filled, jumped, went_on, set_register, loads, allocated, performed, call}
 use Rattle.plain_heap.specs.Alone.{leaves_board}
-use Rattle.plain_heap.proofs.Calls.Named.{Spells, Names, named}
+use Rattle.plain_heap.proofs.Calls.Named.{Names, named, spells_numbers}
 use Rattle.plain_heap.proofs.Alone.Owned.{LeadsToOwn, OwnsRecords, register-own, word-own, held-own, loads-own, jumps-own, stores-own, fills-own, gains-own}
 use Rattle.plain_heap.proofs.Calls.CallOutcomes.{computed}
 
@@ -177,14 +176,8 @@ module _ (m : ℕ) (heap other : Heap) (k : Mutator) (same : made_by other m ≡
   performed-alike Snaps is = snaps-alike
   performed-alike _ is = absurd is.0
 
-  spells : (i : Instr) → leaves_board i ≡ true → Spells (LeadsToOwn m) ⊥ i
-  spells (instrs.Get d x) leaves = cc
-  spells (instrs.Put x a) leaves = cc
-  spells (instrs.Swap d x) leaves = cc
-  spells _ leaves = tt
-
   action-own : (i : Instr) → leaves_board i ≡ true → IfOk (action k i) (Names (LeadsToOwn m) ⊥ k)
-  action-own i leaves = named (LeadsToOwn m) ⊥ k (λ r. register-own m k r own.registers) tt (λ b. tt) (λ operation a b is_a is_b. computed (applied operation a b)) i (spells i leaves)
+  action-own i leaves = named (LeadsToOwn m) ⊥ k (λ r. register-own m k r own.registers) tt (λ b. tt) (λ operation a b is_a is_b. computed (applied operation a b)) i (spells_numbers (LeadsToOwn m) ⊥ (λ n. tt) i leaves)
 
   acts_as : (o : Result Action End) → IfOk o (Names (LeadsToOwn m) ⊥ k) → IsAlike (o >>= performed m heap k) (o >>= performed m other k)
   acts_as (Ok act) is = performed-alike act is

@@ -1,35 +1,28 @@
 -- What an instruction does to cells: it changes none, and makes none, unless it is `weak`.
-use Rattle.std.proofs.Common.{◌≡◌, ◌≢◌, ◌⊎◌, inl, inr, ℕ, zero, suc, ◌<◌, ◌≤◌, Bool, true, false, cond, nat_lt, List, [], ◌∷◌, ◌++◌, length, Option, Some, None, Result, Ok, Err, refl, ap, sym, ◌∙◌, ⊎_elim, get_or-set_same, get_or-set_other}
+use Rattle.std.proofs.Common.{◌≡◌, ◌≢◌, ◌⊎◌, inl, inr, ℕ, zero, suc, ◌<◌, ◌≤◌, Bool, true, false, cond, List, [], ◌∷◌, ◌++◌, length, Option, Some, None, Result, Ok, Err, refl, ap, sym, ◌∙◌, ⊎_elim, get_or-set_same, get_or-set_other}
 use Rattle.std.specs.Bool.{⊤}
 use Rattle.std.specs.Option.{option_map}
 use Rattle.std.specs.Result.{IfOk}
 use Rattle.std.proofs.lemmas.Bool.{cases_eq, cases_lt}
 use Rattle.std.proofs.lemmas.List.{set_past}
 use Rattle.std.proofs.lemmas.Option.{same_Some}
+use Rattle.std.proofs.lemmas.Result.{IfOk-weaker}
 use Rattle.plain_state.specs.declared.end.End.{End}
-use Rattle.plain_state.specs.declared.end.End.TheVariants.{OutputFull}
-use Rattle.plain_state.specs.declared.kind.Kind.{Kind}
-use Rattle.plain_state.specs.declared.kind.Kind.TheVariants.{Fields, Raw}
-use Rattle.plain_state.specs.declared.operation.Operation.{Operation}
-use Rattle.plain_state.specs.declared.operation.Operation.TheVariants as operations
-use Rattle.plain_state.specs.declared.sizes.TheConstants.{MOST_PRINTED}
 use Rattle.plain_state.specs.declared.value.Identity.{Identity}
 use Rattle.plain_state.specs.declared.value.Value.{Value}
 use Rattle.plain_state.specs.declared.value.Value.TheVariants.{Number}
-use Rattle.plain_state.specs.Operation.{applied}
 use Rattle.plain_state.specs.State.{Record, Heap, Mutator, at_serial, made_by, record_of}
 use Rattle.plain_state.specs.Writing.{filled, gained, stored}
 use Rattle.plain_state.proofs.Gained.{gained_elsewhere}
 use Rattle.plain_state.proofs.Stored.{stored_elsewhere}
 use Rattle.mutator_asm.specs.declared.instr.Instr.{Instr}
-use Rattle.mutator_asm.specs.declared.instr.Instr.TheVariants as instrs
-use Rattle.mutator_asm.specs.declared.operand.Operand.{Operand}
 use Rattle.plain_heap.specs.declared.action.Action.{Action}
-use Rattle.plain_heap.specs.declared.action.Action.TheVariants.{Prints, Makes, Loads, Stores, Compares}
-use Rattle.plain_heap.specs.Action.{◌>>=◌, action, allocates, are_same, as_number, board_place, computes, length_of, mixed_length, mixes, operand, reference_in, register}
+use Rattle.plain_heap.specs.declared.action.Action.TheVariants.{Makes, Loads, Stores, Compares}
+use Rattle.plain_heap.specs.Action.{◌>>=◌, action, are_same}
 use Rattle.plain_heap.specs.Call.{After, call, is_cell, loads, performed, value_in}
 use Rattle.plain_heap.specs.Records.{CellsStay, RecordShape, record_word, shape}
 use Rattle.plain_heap.specs.Tracing.{is_weak}
+use Rattle.plain_heap.proofs.Calls.ActionsOf.{IsActionOf, is_action_of}
 use Rattle.plain_heap.proofs.Calls.CallOutcomes.{if_ok-bind, if_ok-is}
 use Rattle.plain_heap.proofs.Calls.RecordsAfterCalls.{exchanged, goes_on, performed_as, stored_shape}
 use Rattle.plain_heap.proofs.Reaching.Emptying.{NoCells}
@@ -41,50 +34,12 @@ abbrev MakesNoCell : Action → Type 0
 MakesNoCell (Makes kind d n v) = is_cell kind ≡ false
 MakesNoCell _ = ⊤
 
-module _ (k : Mutator) where
-  -- whatever comes after it makes none
-  Then : {A : Type 0} (o : Result A End) (f : A → Result Action End) → ((a : A) → IfOk (f a) MakesNoCell) → IfOk (o >>= f) MakesNoCell
-  Then o f next = if_ok-bind MakesNoCell o f next
+no_cell_by : (i : Instr) (act : Action) → is_weak i ≡ false → IsActionOf i act → MakesNoCell act
+no_cell_by i (Makes kind d n v) other is = is.1 ∙ other
+no_cell_by i _ other is = tt
 
-  computes_none : (operation : Operation) (d a b : ℕ) → IfOk (computes operation k d a b) MakesNoCell
-  computes_none operation d a b = Then (as_number (register k a)) _ (λ a. Then (as_number (register k b)) _ (λ b. Then (applied operation a b) _ (λ n. tt)))
-
-  allocates_none : (kind : Kind) (d : ℕ) (x : Operand) → is_cell kind ≡ false → IfOk (allocates k kind d x) MakesNoCell
-  allocates_none kind d x is = Then (operand k x) _ (λ x. Then (length_of x) _ (λ n. is))
-
-  mixes_none : (d : ℕ) (fields raw : Operand) → IfOk (mixes k d fields raw) MakesNoCell
-  mixes_none d fields raw = Then (operand k fields) _ (λ fields. Then (operand k raw) _ (λ raw. Then (mixed_length fields raw) _ (λ n. refl)))
-
-  board_none : (x : Operand) (f : ℕ → Result Action End) → ((x : ℕ) → IfOk (f x) MakesNoCell) → IfOk (board_place k x >>= f) MakesNoCell
-  board_none x f next = Then (board_place k x) f next
-
-  prints_none : (n : ℕ) (few : Bool) → IfOk (cond few (Ok (Prints n)) (Err OutputFull)) MakesNoCell
-  prints_none n true = tt
-  prints_none n false = tt
-
-  pub makes_no_cell : (i : Instr) → is_weak i ≡ false → IfOk (action k i) MakesNoCell
-  unfolding action
-  makes_no_cell (instrs.Add d a b) other = computes_none operations.Add d a b
-  makes_no_cell (instrs.Sub d a b) other = computes_none operations.Sub d a b
-  makes_no_cell (instrs.Mul d a b) other = computes_none operations.Mul d a b
-  makes_no_cell (instrs.Div d a b) other = computes_none operations.Div d a b
-  makes_no_cell (instrs.Rem d a b) other = computes_none operations.Rem d a b
-  makes_no_cell (instrs.Lt d a b) other = computes_none operations.Lt d a b
-  makes_no_cell (instrs.Jr a) other = Then (as_number (register k a)) _ (λ n. tt)
-  makes_no_cell (instrs.New d x) other = allocates_none Fields d x refl
-  makes_no_cell (instrs.Raw d x) other = allocates_none Raw d x refl
-  makes_no_cell (instrs.Mix d fields raw) other = mixes_none d fields raw
-  makes_no_cell (instrs.Weak d a) other = absurd (cc)
-  makes_no_cell (instrs.Ld d a x) other = Then (reference_in (register k a)) _ (λ i. Then (operand k x) _ (λ x. tt))
-  makes_no_cell (instrs.St a x b) other = Then (reference_in (register k a)) _ (λ i. Then (operand k x) _ (λ x. tt))
-  makes_no_cell (instrs.Cas d a x b c) other = Then (reference_in (register k a)) _ (λ i. Then (operand k x) _ (λ x. tt))
-  makes_no_cell (instrs.Len d a) other = Then (reference_in (register k a)) _ (λ i. tt)
-  makes_no_cell (instrs.Get d x) other = board_none x _ (λ x. tt)
-  makes_no_cell (instrs.Put x a) other = board_none x _ (λ x. tt)
-  makes_no_cell (instrs.Swap d x) other = board_none x _ (λ x. tt)
-  makes_no_cell (instrs.Out a) other = Then (as_number (register k a)) _ (λ n. prints_none n (nat_lt (length k.printed) MOST_PRINTED))
-  makes_no_cell instrs.Halt other = tt
-  makes_no_cell _ other = tt
+makes_no_cell : (k : Mutator) (i : Instr) → is_weak i ≡ false → IfOk (action k i) MakesNoCell
+makes_no_cell k i other = IfOk-weaker (action k i) (IsActionOf i) MakesNoCell (λ act is. no_cell_by i act other is) (is_action_of k i)
 
 module _ (m : ℕ) (heap : Heap) (k : Mutator) (i : Identity) where
   -- ---- a cell stays

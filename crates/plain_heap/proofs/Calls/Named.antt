@@ -20,6 +20,7 @@ use Rattle.mutator_asm.specs.declared.operand.Operand.{Operand}
 use Rattle.plain_heap.specs.declared.action.Action.{Action}
 use Rattle.plain_heap.specs.declared.action.Action.TheVariants.{Sets, Jumps, Links, Prints, Makes, Measures, Loads, Stores, Compares, Gets, Puts, Swaps, Snaps}
 use Rattle.plain_heap.specs.Action.{◌>>=◌, register, as_number, reference_in, is_zero, is_reference, are_same, operand, next_of, length_of, in_record, on_board, board_place, computes, allocates, mixed_length, mixes, prints, action}
+use Rattle.plain_heap.specs.Alone.{leaves_board}
 use Rattle.plain_heap.proofs.Calls.CallOutcomes.{if_ok-bind, if_ok-then}
 
 -- P holds of the numbers that an instruction spells, and B where it names the board
@@ -32,6 +33,17 @@ Spells P B (instrs.Get d x) = B
 Spells P B (instrs.Put x a) = B
 Spells P B (instrs.Swap d x) = B
 Spells P B _ = ⊤
+
+-- an instruction that leaves the board alone spells numbers alone
+pub spells_numbers : (P : Value → Type 0) (B : Type 0) → ((n : ℕ) → P (Number n)) → (i : Instr) → leaves_board i ≡ true → Spells P B i
+spells_numbers P B number (instrs.Li d n) leaves = number n
+spells_numbers P B number (instrs.Jmp target) leaves = number target
+spells_numbers P B number (instrs.Jz a target) leaves = number target
+spells_numbers P B number (instrs.Jal d target) leaves = number target
+spells_numbers P B number (instrs.Get d x) leaves = cc
+spells_numbers P B number (instrs.Put x a) leaves = cc
+spells_numbers P B number (instrs.Swap d x) leaves = cc
+spells_numbers P B number _ leaves = tt
 
 -- a new record of this kind may have so many values: a mixed one has its fields among them, and a word more for their count; a cell has one
 abbrev pub FitsKind : Kind → (values : ℕ) → Type 0

@@ -26,6 +26,8 @@ use Rattle.heap_state.specs.Memory.Table.{page_word_in, word_in}
 use Rattle.heap_state.specs.Known.{Known}
 use Rattle.heap_state.proofs.Puts.{none≢some}
 use Rattle.heap_state.proofs.Table.StoredRows.{word_in-row}
+use Rattle.heap_laws.proofs.Lifting.Configurations.{ready}
+use Rattle.heap_laws.proofs.Tracing.SecondLooks.{looked_twice}
 use Rattle.gc_worker.specs.declared.stage.back.Back.{Back}
 use Rattle.gc_worker.specs.declared.stage.Stage.{Stage}
 use Rattle.gc_worker.specs.declared.stage.Stage.TheVariants.{Serves}
@@ -41,6 +43,7 @@ use Rattle.gc_worker.proofs.Between.Pages.Claims.{of_now}
 use Rattle.gc_worker.proofs.Workers.Members.{member}
 use Rattle.gc_worker.proofs.Stages.Rounds.Walking.{turn_word}
 use Rattle.gc_worker.proofs.Stages.Rounds.RoundWords.{page_age, traced_word}
+use Rattle.gc_worker.proofs.Stages.Rounds.SecondLook.{looked_in}
 
 -- ---- the words
 
@@ -134,7 +137,7 @@ module _ (h : Heap) (p o : Plain) (k : ℕ) (st : WorkersStand h p o) (y : Held)
     loses_traced =
         let e : ((team c).worker k).epoch ≡ d.epoch = ap (λ (w : Known). w.epoch) is.as_known in
         let now = of_now h p o st in
-        let look = (st.stands.invariant.workers k is.below).pages.last_look (record { traced = found }) (ap (λ (w : Known). w.last_look) is.as_known) in
+        let look = looked_twice {l = record { traced = found }} (ready c p st.stands k is.below) (looked_in is refl) in
         let late = look.late (omega (arith, now, e, past)) in
         let earlier = look.earlier in
         let w = traced_word c in

@@ -10,7 +10,7 @@ use Rattle.space_map.specs.declared.page_word.PageWord.TheVariants.{Open, Scanni
 use Rattle.space_map.specs.PageWord.{age_of, encode_page}
 use Rattle.space_map.specs.AreaWord.{encode_area, part_end}
 use Rattle.space_map.specs.Spaces.{Layout, to_space}
-use Rattle.space_map.specs.Table.{Gate, Area, Page, place_of}
+use Rattle.space_map.specs.Table.{Area, Page, place_of}
 use Rattle.heap_state.specs.Configuration.{Configuration, Stands, table, era, team}
 use Rattle.heap_state.specs.Known.{Known, Stock}
 use Rattle.heap_laws.proofs.Lifting.Configurations.{ready}
@@ -30,15 +30,7 @@ use Rattle.forwarding.specs.Soundness as evac_sound
 use Rattle.gate_core.specs.declared.flip_stage.FlipStage.{FlipStage}
 use Rattle.gate_core.specs.declared.flip_stage.FlipStage.TheVariants as flip_stage
 use Rattle.gate_core.specs.Flip as flip
-use Rattle.gate_core.specs.Gate as gate
-use Rattle.gate_core.specs.Recall as recall
-use Rattle.gate_core.specs.Snap as snap
-use Rattle.gate_core.proofs.GateRows.{passage_writes, recall_writes, snap_writes}
-use Rattle.page_saves.specs.Guard as guard
-use Rattle.page_saves.specs.SaveRound as save_round
-use Rattle.page_saves.proofs.SaveRows.{guard_by_rows, guard_writes, round_by_rows, round_writes}
 use Rattle.page_scan.specs.Scanning as scan
-use Rattle.page_scan.proofs.ScanRows as scan_rows
 use Rattle.page_slots.specs.declared.claim_stage.ClaimStage.{ClaimStage}
 use Rattle.page_slots.specs.declared.claim_stage.ClaimStage.TheVariants as claim_stage
 use Rattle.page_slots.specs.declared.open_stage.OpenStage.{OpenStage}
@@ -46,22 +38,19 @@ use Rattle.page_slots.specs.declared.open_stage.OpenStage.TheVariants as open_st
 use Rattle.page_slots.specs.Claim as claim
 use Rattle.page_slots.specs.Open as open_page
 use Rattle.gc_worker.specs.declared.stage.back.Back.{Back}
-use Rattle.gc_worker.specs.declared.stage.goal.Goal.{Goal}
-use Rattle.gc_worker.specs.declared.stage.write.Write.{Write}
 use Rattle.gc_worker.specs.declared.stage.Stage.{Stage}
-use Rattle.gc_worker.specs.declared.stage.Stage.TheVariants.{Looks, Passes, Flips, Forwards, Accesses, Places, Serves, Scans, Evacuates, Opens, Recalls, Guards, Checkpoints, BeginsCheckpoint, Gone}
-use Rattle.record_access.specs.Access as access
+use Rattle.gc_worker.specs.declared.stage.Stage.TheVariants.{Flips, Places, Serves, Opens}
 use Rattle.gc_worker.specs.Steps.Goes.{Is}
 use Rattle.gc_worker.specs.Workers.Held.{Held, at_stage}
 use Rattle.gc_worker.specs.Workers.Knows.{opened_to, scan_of}
 use Rattle.gc_worker.specs.Steps.Turned.{PageWon, won, won_at, won_by, won_in}
 use Rattle.gc_worker.specs.Steps.Wanted.{wanted, wanted_at}
-use Rattle.record_access.proofs.AccessRows as access_rows
 use Rattle.gc_worker.proofs.Words.Areas.{is_space}
 use Rattle.gc_worker.proofs.Words.Eras.{board_is}
+use Rattle.gc_worker.proofs.Words.WorkerRows.{OfCopy, OnRow, WritesSuch, writes_such}
 use Rattle.gc_worker.proofs.Stages.OpenedPage.{of_page}
 use Rattle.gc_worker.proofs.Stages.Rounds.RoundWords.{page_age}
-use Rattle.gc_worker.proofs.Between.Pages.Written.{Elsewhere, IsOther}
+use Rattle.gc_worker.proofs.Between.Pages.Written.{IsOther}
 use Rattle.gc_worker.proofs.Between.Pages.Leaving.{Same, New, Wins, LeavesPages, LeavesBy, nothing_left, this, spares, spares_whole, stores_other, exchanges_area, written, age_now, writes_page, stores_page}
 
 module _ (c : Configuration) (p : Plain) (s : Stands c p) (k : ℕ) (x : Held) where
@@ -181,42 +170,21 @@ module _ (c : Configuration) (p : Plain) (s : Stands c p) (k : ℕ) (x : Held) w
       (walk_rows.writes IsOther tt (λ addr. tt) v.epoch v.stage)
   rounds d back stage is = spares c p s d.layout.pages (own d.layout is.fits.stage.0.layout is.fits.pages) (duty.wants_at d stage) (won_in stage) tt
 
-  -- ---- saves
+  -- ---- the other machines
 
-  guards : (g : guard.Guarding) (write : Write) → Kind (Guards g write)
-  guards g write is =
-      let f = is.fits.stage in
-      subst (λ (o : Option Step). LeavesBy c o none) (sym (guard_by_rows g g.stage f.sound.stage))
-      (spares_whole c p s g.layout.pages (own g.layout f.layout is.fits.pages) (guard.wants_at g g.stage) none (guard_writes (Elsewhere IsOther) tt (λ page. tt) (λ addr. tt) g g.stage))
-
-  save_rounds : (r : save_round.SavingRound) (goal : Goal) → Kind (Checkpoints r goal)
-  save_rounds r goal is =
-      let f = is.fits.stage in
-      subst (λ (o : Option Step). LeavesBy c o none) (sym (round_by_rows r r.stage f.sound.stage))
-      (spares_whole c p s r.layout.pages (own r.layout f.layout is.fits.pages) (save_round.wants_at r r.stage) none (round_writes (Elsewhere IsOther) tt (λ page. tt) (λ addr. tt) r r.stage))
+  beside : (stage : Stage) → x.layout.pages ≡ c.pages → WritesSuch IsOther (at_stage x stage) (wanted_at x stage) → LeavesBy c (wanted_at x stage) none
+  beside stage pages (OnRow on writes same) = subst (λ (o : Option Step). LeavesBy c o none) (sym same) (spares_whole c p s x.layout.pages pages on none writes)
+  beside stage pages (OfCopy e v f same) =
+      subst (λ (o : Option Step). LeavesBy c o none) (sym same) (copies v.layout v.addr v.epoch v.worker (own v.layout f.layout pages) v.stage f.sound.fits)
 
   -- ---- the whole
 
   by_stage : (stage : Stage) → Kind stage
-  by_stage Looks is = spares c p s x.layout.pages is.fits.pages (Some (on.Load Gate)) none tt
-  by_stage (Passes g after) is = spares c p s g.layout.pages (own g.layout is.fits.stage.layout is.fits.pages) (gate.wants_at g g.stage) none (passage_writes IsOther tt g g.stage)
   by_stage (Flips f) is = flips f f.stage is
-  by_stage (Forwards w) is =
-      let f = is.fits.stage.copy in
-      copies w.evac.layout w.evac.addr w.evac.epoch w.evac.worker (own w.evac.layout f.layout is.fits.pages) w.evac.stage f.sound.fits
-  by_stage (Accesses a) is = spares c p s a.spaces.pages (own a.spaces is.fits.stage.layout is.fits.pages) (Some (access.wants_at a.spaces a.stage)) none (access_rows.writes IsOther (λ addr. tt) a.spaces a.stage)
   by_stage (Places z) is = places z z.stage is
   by_stage (Serves d back) is = rounds d back d.stage is
-  by_stage (Scans z back) is = spares c p s z.layout.pages (own z.layout is.fits.stage.0.layout is.fits.pages) (scan.wants_at z.page z.epoch z.stage) none (scan_rows.writes IsOther (λ addr. tt) z.page z.epoch z.stage)
-  by_stage (Evacuates v z back) is =
-      let f = is.fits.stage.0 in
-      copies v.layout v.addr v.epoch v.worker (own v.layout f.layout is.fits.pages) v.stage f.sound.fits
   by_stage (Opens o z back) is = opens o z back o.stage is
-  by_stage (Recalls r after) is = spares c p s r.layout.pages (own r.layout is.fits.stage.layout is.fits.pages) (recall.wants_at r.stage) none (recall_writes IsOther r.stage)
-  by_stage (Guards g write) is = guards g write is
-  by_stage (Checkpoints r goal) is = save_rounds r goal is
-  by_stage (BeginsCheckpoint z) is = spares c p s z.layout.pages (own z.layout is.fits.stage.layout is.fits.pages) (snap.wants_at z z.stage) none (snap_writes IsOther tt z z.stage)
-  by_stage Gone is = λ q asked. absurd (cc)
+  by_stage stage is = beside stage is.fits.pages (writes_such IsOther tt tt tt (λ addr. tt) (at_stage x stage) stage tt is.fits.stage)
 
   pub leaves : Is c k x → LeavesBy c (wanted x) (won x)
   leaves is = by_stage x.stage is

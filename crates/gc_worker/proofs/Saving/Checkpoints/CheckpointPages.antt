@@ -30,6 +30,7 @@ use Rattle.page_saves.specs.declared.save_round_stage.SaveRoundStage.{SaveRoundS
 use Rattle.page_saves.specs.declared.save_round_stage.SaveRoundStage.TheVariants.{LoadsPage, LoadsSave, Saves, ExchangesDone, Ended}
 use Rattle.page_saves.specs.declared.save_state.SaveState.{SaveState}
 use Rattle.page_saves.specs.declared.save_state.SaveState.TheVariants.{Waits, Copying, Kept, Past}
+use Rattle.page_saves.specs.RoundTheorems.{LooksAtPage}
 use Rattle.page_saves.specs.Save as save
 use Rattle.page_saves.specs.SaveRound as save_round
 use Rattle.page_saves.specs.SaveRound.{SavingRound, after_pages, looked_at_save, looked_by, page_after, passed_page, to_page}
@@ -247,7 +248,7 @@ module _ (c : Configuration) (p : Plain) (z : Frozen) (saver : ℕ → Saver) (k
         (PassesClosed (now r page (is_some busy)) page refl (next_page (LoadsPage page busy) b refl refl page fits some (is_some busy)) (closed (eqb-false word (encode_page (Open r.epoch)) test)))))
         (ap (λ (t : Bool). round r (cond t (LoadsSave page busy) (passed_page r page busy))) test)
 
-    pub loads_page : (q : Step) → wanted x ≡ Some q → SavesStep c p saver k x q
+    loads_page : (q : Step) → wanted x ≡ Some q → SavesStep c p saver k x q
     loads_page = loads_it c p z saver k y (round r (LoadsPage page busy)) goal b (Within (Page page)) fits.in_table refl (page_by (word == encode_page (Open r.epoch)) refl)
 
   -- ---- what SAVE says
@@ -334,8 +335,16 @@ module _ (c : Configuration) (p : Plain) (z : Frozen) (saver : ℕ → Saver) (k
     looks_by says is false true test same = own_by says is (eqb-true (number_of says) r.number same) (rw (test, same) refl)
     looks_by says is false false test same = ends_past says is (rw (test, same) refl)
 
-    pub loads_save : (q : Step) → wanted x_save ≡ Some q → SavesStep c p saver k x_save q
+    loads_save : (q : Step) → wanted x_save ≡ Some q → SavesStep c p saver k x_save q
     loads_save =
         let says = (saves c).save page in
         loads_it c p z saver k y (round r (LoadsSave page busy)) goal b (Behind (SaveOf page)) fits_save.in_table refl
         (looks_by says refl (nat_lt (number_of says) r.number) (number_of says == r.number) refl refl)
+
+  -- ---- each look
+
+  pub looks : (stage : SaveRoundStage) → LooksAtPage stage → Before c p z saver k (Stage stage) → (q : Step) → wanted (Stage stage) ≡ Some q
+      → SavesStep c p saver k (Stage stage) q
+  looks (LoadsPage page busy) at b = loads_page page busy b
+  looks (LoadsSave page busy) at b = loads_save page busy b
+  looks _ at b = elim at [ ]

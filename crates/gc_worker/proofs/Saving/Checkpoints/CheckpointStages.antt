@@ -25,7 +25,7 @@ use Rattle.heap_laws.proofs.Saving.LearntSaves.{rounds_follow}
 use Rattle.page_saves.specs.declared.save_end.SaveEnd.TheVariants as save_end
 use Rattle.page_saves.specs.declared.save_round_end.SaveRoundEnd.TheVariants.{Saved, Marked, NothingNow}
 use Rattle.page_saves.specs.declared.save_round_stage.SaveRoundStage.{SaveRoundStage}
-use Rattle.page_saves.specs.declared.save_round_stage.SaveRoundStage.TheVariants.{LoadsGate, LoadsSnap, LoadsDone, LoadsGateAgain, LoadsPage, LoadsSave, Saves, ExchangesDone, Ended}
+use Rattle.page_saves.specs.declared.save_round_stage.SaveRoundStage.TheVariants.{LoadsGate, LoadsSnap, LoadsDone, LoadsGateAgain, Saves, ExchangesDone, Ended}
 use Rattle.page_saves.specs.declared.save_stage.SaveStage.{SaveStage}
 use Rattle.page_saves.specs.declared.save_stage.SaveStage.TheVariants as save_stage
 use Rattle.page_saves.specs.Save as save
@@ -42,7 +42,7 @@ use Rattle.gc_worker.specs.Workers.Saves.{page_save_at, save_step, saver_of}
 use Rattle.gc_worker.proofs.Saving.Frame.Answers.{keeps_snaps}
 use Rattle.gc_worker.proofs.Saving.Checkpoints.CheckpointRoundEnds.{By, comes_to, ends_round, ends_save, marked_ends, no_reads, nothing_ends, pages, saved_ends, table_pages, without_round}
 use Rattle.gc_worker.proofs.Saving.Checkpoints.First.{loads_done, loads_gate, loads_gate_again, loads_snap}
-use Rattle.gc_worker.proofs.Saving.Checkpoints.CheckpointPages.{loads_page, loads_save}
+use Rattle.gc_worker.proofs.Saving.Checkpoints.CheckpointPages.{looks}
 use Rattle.gc_worker.proofs.Saving.Frame.Read.{done_now, wants_so}
 use Rattle.gc_worker.proofs.Saving.Frame.StepRows.{SavedBy, exchanges_so, kept_by}
 use Rattle.gc_worker.proofs.Saving.Mutators.KeptSaves.{Comes, saves_page}
@@ -137,11 +137,10 @@ module _ (c : Configuration) (p : Plain) (z : Frozen) (saver : ℕ → Saver) (k
   by_stage LoadsSnap b = loads_snap c p z saver k y r goal b
   by_stage LoadsDone b = loads_done c p z saver k y r goal b
   by_stage LoadsGateAgain b = loads_gate_again c p z saver k y r goal b
-  by_stage (LoadsPage page busy) b = loads_page c p z saver k y r goal page busy b
-  by_stage (LoadsSave page busy) b = loads_save c p z saver k y r goal page busy b
   by_stage (Saves s) b = saves_it s b
   by_stage ExchangesDone b = marks b
   by_stage (Ended result) b = absurd b.is.fits.stage.going
+  by_stage stage b = looks c p z saver k y r goal stage tt b
 
   -- a step of a round keeps what is kept of checkpoints
   pub checkpoints : Before c p z saver k (at_stage y (Checkpoints r goal)) → (q : Step) → wanted (at_stage y (Checkpoints r goal)) ≡ Some q

@@ -6,13 +6,13 @@ use Rattle.atom_store.specs.declared.step.Step.TheVariants.{Load, Store, Exchang
 use Rattle.space_map.specs.declared.page_word.PageWord.TheVariants.{Scanning}
 use Rattle.space_map.specs.PageWord.{encode_page}
 use Rattle.space_map.specs.Spaces.{Layout, page_of, to_space}
-use Rattle.space_map.specs.Table.{Announce, Area, Gate, HeapWord, Page, Traced, WeakHead, WeakTurn, place_of}
+use Rattle.space_map.specs.Table.{Area, Gate, HeapWord, Page, Traced, WeakTurn, place_of}
 use Rattle.page_slots.specs.declared.claim_stage.ClaimStage.{ClaimStage}
 use Rattle.page_slots.specs.declared.claim_stage.ClaimStage.TheVariants as claim_stage
 use Rattle.page_slots.specs.Claim.{Claiming}
 use Rattle.cell_walk.specs.declared.linked_cell.LinkedCell.{LinkedCell}
 use Rattle.cell_walk.specs.declared.walk_stage.WalkStage.{WalkStage}
-use Rattle.cell_walk.specs.declared.walk_stage.WalkStage.TheVariants.{LoadsTurn, TakesTurn, LoadsWeak, LoadsTarget, LoadsTargetHeader, StoresTarget, LoadsLink}
+use Rattle.cell_walk.specs.declared.walk_stage.WalkStage.TheVariants.{TakesTurn, StoresTarget}
 use Rattle.cell_walk.specs.declared.walk_stage.WalkStage.TheVariants as walk_stage
 use Rattle.cell_walk.specs.Walking.{Walking}
 use Rattle.fault_duty.specs.declared.duty_stage.DutyStage.{DutyStage}
@@ -38,6 +38,7 @@ use Rattle.gc_worker.proofs.Saving.Frame.Forgetting as by_row
 use Rattle.gc_worker.proofs.Saving.Frame.Rounding.{round_less}
 use Rattle.gc_worker.proofs.Saving.Frame.Step.{Before, prepared, saves}
 use Rattle.gc_worker.proofs.Stages.Rounds.Winning as winning
+use Rattle.gc_worker.proofs.Stages.Rounds.SecondLook.{looked_in}
 use Rattle.gc_worker.proofs.Stages.Rounds.RoundWords.{page_now, traced_now, traced_word}
 use Rattle.gc_worker.proofs.Plain.Quiet.{rounds_are_quiet}
 
@@ -86,8 +87,8 @@ module _ (c : Configuration) (p : Plain) (z : Frozen) (saver : ℕ → Saver) (k
         (ap (λ (n : ℕ). Some (Exchange (place_of n (Page q.page)) (encode_page q.found) (encode_page (Scanning q.epoch q.worker)))) (winning.pages c p b.stands k y d back q b.is))
 
   claims : (q : Claiming) (stage : ClaimStage) → Before c p z saver k (here (Claims (record q { stage = stage }))) → SavesSo c p saver k (here (Claims (record q { stage = stage })))
-  claims q (claim_stage.LooksAtPlace n) b = loads (Claims (record q { stage = claim_stage.LooksAtPlace n })) b (place_of q.layout.pages (Announce n)) refl
-  claims q claim_stage.LooksAtGate b = loads (Claims (record q { stage = claim_stage.LooksAtGate })) b (place_of q.layout.pages Gate) refl
+  claims q (claim_stage.LooksAtPlace n) b = loads (Claims (record q { stage = claim_stage.LooksAtPlace n })) b _ refl
+  claims q claim_stage.LooksAtGate b = loads (Claims (record q { stage = claim_stage.LooksAtGate })) b _ refl
   claims q claim_stage.Exchanges b = exchanges_page q b
   claims q (claim_stage.Ended result) b =
       by_row.nothing c p z saver k (here (Claims (record q { stage = claim_stage.Ended result }))) b (forgets (Claims (record q { stage = claim_stage.Ended result })) b) refl
@@ -120,14 +121,10 @@ module _ (c : Configuration) (p : Plain) (z : Frozen) (saver : ℕ → Saver) (k
         (ap (λ (n : ℕ). Some (Store (place_of n (HeapWord (cell.at + 1))) word)) n)
 
     by_walk : (stage : WalkStage) → Before c p z saver k (here (walks_at stage)) → SavesSo c p saver k (here (walks_at stage))
-    by_walk LoadsTurn b = loads_it LoadsTurn b (place_of w.layout.pages WeakTurn) refl
     by_walk (TakesTurn turn) b = exchanges_turn turn b
-    by_walk LoadsWeak b = loads_it LoadsWeak b (place_of w.layout.pages WeakHead) refl
-    by_walk (LoadsTarget cell) b = loads_it (LoadsTarget cell) b (place_of w.layout.pages (HeapWord (cell.at + 1))) refl
-    by_walk (LoadsTargetHeader cell old) b = loads_it (LoadsTargetHeader cell old) b (place_of w.layout.pages (HeapWord old)) refl
     by_walk (StoresTarget cell word) b = stores_target cell word b
-    by_walk (LoadsLink cell) b = loads_it (LoadsLink cell) b (place_of w.layout.pages (HeapWord (cell.at + 2))) refl
     by_walk (walk_stage.Ended end) b = by_row.nothing c p z saver k (here (walks_at (walk_stage.Ended end))) b (forgets (walks_at (walk_stage.Ended end)) b) refl
+    by_walk stage b = loads_it stage b _ refl
 
   -- ---- TRACED is exchanged
 
@@ -136,7 +133,7 @@ module _ (c : Configuration) (p : Plain) (z : Frozen) (saver : ℕ → Saver) (k
     traced_spared same =
         let look : LastLook = record { traced = traced } in
         let law = traced_is_spared (table c) (saves c) z (team c) b.stands.ghost saver k look b.saving (prepared c p z saver k (here (Traces traced)) b)
-        (record { looks = ap (λ (w : Known). w.last_look) b.is.as_known; unchanged = traced_word c ∙ same; walked = ap (λ (w : Known). w.pass) b.is.as_known }) in
+        (record { looks = looked_in b.is refl; unchanged = traced_word c ∙ same; walked = ap (λ (w : Known). w.pass) b.is.as_known }) in
         subst (λ (w : Known). Spares (table c) (saves c) z (team c).count saver (Some (TracedIs (w.epoch + 1)))) b.is.as_known law
 
     exchanges_traced : SavesSo c p saver k (here (Traces traced))

@@ -3,10 +3,10 @@ use Rattle.std.proofs.Common.{◌≡◌, ℕ, ◌+◌, Some, refl, ap, ◌∙◌
 use Rattle.plain_state.specs.State.{Plain}
 use Rattle.atom_store.specs.declared.step.Step.TheVariants.{Load, Store}
 use Rattle.heap_words.specs.Word.{pointer_word}
-use Rattle.space_map.specs.Spaces.{Layout, to_space}
-use Rattle.space_map.specs.Table.{Area, Cross, HeapWord, IsRow, place_of}
+use Rattle.space_map.specs.Spaces.{Layout}
+use Rattle.space_map.specs.Table.{HeapWord, IsRow, place_of}
 use Rattle.page_scan.specs.declared.scan_stage.ScanStage.{ScanStage}
-use Rattle.page_scan.specs.declared.scan_stage.ScanStage.TheVariants.{LoadsCross, LoadsFirst, LoadsCount, LoadsWord, Asks, StoresCopy, LoadsFront, LoadsNext, Ended}
+use Rattle.page_scan.specs.declared.scan_stage.ScanStage.TheVariants.{Asks, StoresCopy, Ended}
 use Rattle.page_scan.specs.declared.spot.Spot.{Spot}
 use Rattle.page_scan.specs.declared.spot.Spot.TheVariants.{OnBoard, InRecord}
 use Rattle.page_scan.specs.Scanning.{Scanning, address_of}
@@ -69,16 +69,11 @@ module _ (c : Configuration) (p : Plain) (z : Frozen) (saver : ℕ → Saver) (k
         (next ∙ ap (λ (n : ℕ). Some (Store (place_of n (HeapWord addr)) word)) pages)
 
   by_stage : (stage : ScanStage) (b : Before c p z saver k (here stage)) → Owes stage b
-  by_stage LoadsCross b = loads LoadsCross b (place_of u.layout.pages (Cross u.page)) refl
-  by_stage (LoadsFirst at) b = loads (LoadsFirst at) b (place_of u.layout.pages (HeapWord at)) refl
-  by_stage (LoadsCount h) b = loads (LoadsCount h) b (place_of u.layout.pages (HeapWord (h.at + 1))) refl
-  by_stage (LoadsWord spot) b = loads (LoadsWord spot) b (place_of u.layout.pages (HeapWord (address_of spot))) refl
   by_stage (Asks asked) b = by_row.nothing c p z saver k (here (Asks asked)) b (forgets (Asks asked) b) refl
   by_stage (StoresCopy asked to) b =
       stores (StoresCopy asked to) b (address_of asked.spot) (pointer_word to) (on_row u.layout.pages u.page asked.spot b.is.fits.stage.0.sound.fits) refl
-  by_stage (LoadsFront r) b = loads (LoadsFront r) b (place_of u.layout.pages (Area (to_space u.epoch))) refl
-  by_stage (LoadsNext r) b = loads (LoadsNext r) b (place_of u.layout.pages (HeapWord r.next)) refl
   by_stage (Ended ending) b = by_row.nothing c p z saver k (here (Ended ending)) b (forgets (Ended ending) b) refl
+  by_stage stage b = loads stage b _ refl
 
 pub scans : (c : Configuration) (p : Plain) (z : Frozen) (saver : ℕ → Saver) (k : ℕ) (x : Held) (s : Scanning) (back : Back)
     → Before c p z saver k (at_stage x (Scans s back)) → SavesSo c p saver k (at_stage x (Scans s back))

@@ -23,7 +23,7 @@ use Rattle.heap_laws.specs.Saving.Sparing.{MayStoreOn, StoresAtRest, StoresGuard
 use Rattle.heap_laws.proofs.Saving.Sparing.{stores_are_spared}
 use Rattle.record_access.specs.declared.access.Access.{Access}
 use Rattle.record_access.specs.declared.access_stage.AccessStage.{AccessStage}
-use Rattle.record_access.specs.declared.access_stage.AccessStage.TheVariants.{LooksAtRecord, LoadsHeader, LooksAtCount, LoadsCount, LooksAtField, LoadsField, StoresField, LoadsForCas, ExchangesField, LooksAtBoard, LoadsBoard, StoresBoard, LoadsForSwap, SwapsBoard}
+use Rattle.record_access.specs.declared.access_stage.AccessStage.TheVariants.{LooksAtField, StoresField, ExchangesField, StoresBoard, SwapsBoard}
 use Rattle.record_access.specs.declared.accessed.Accessed.TheVariants.{Faults, Awaits, Brings, Stored, Fails}
 use Rattle.gc_worker.specs.declared.stage.after.After.TheVariants as afters
 use Rattle.gc_worker.specs.declared.stage.back.Back.TheVariants.{ToAccess, ToTarget}
@@ -49,11 +49,8 @@ use Rattle.gc_worker.proofs.Saving.Frame.Step.{Before, KeepsSnaps, SavesStep, sa
 -- no access is that of `snap`
 never_snaps : (stage : AccessStage) → IsAccessOf Snaps stage → ⊥
 never_snaps (LooksAtField f usage) is = is
-never_snaps (LoadsField f into) is = is
-never_snaps (StoresField f new) is = is
-never_snaps (LoadsForCas f e) is = is
 never_snaps (ExchangesField f e old) is = is.0
-never_snaps _ is = cc
+never_snaps _ is = first_of (assumption, cc)
 
 differs : (act : Action) (stage : AccessStage) → IsAccessOf act stage → is_snaps act ≡ false
 differs Snaps stage is = absurd (never_snaps stage is)
@@ -169,16 +166,7 @@ module _ (c : Configuration) (p : Plain) (z : Frozen) (saver : ℕ → Saver) (k
       let small = b.is.fits.stage.sound.stage in stores_on (StoresBoard word new) b (board_at y.layout word) new (on_board word small) (board_within (StoresBoard word new) b word small) refl
   by_stage (SwapsBoard s old) b =
       let small = b.is.fits.stage.sound.stage.0 in exchanges_on (SwapsBoard s old) b (board_at y.layout s.word) s.new (on_board s.word small) (board_within (SwapsBoard s old) b s.word small) old refl
-  by_stage (LooksAtRecord r) b = loads_on (LooksAtRecord r) b _ refl
-  by_stage (LoadsHeader r) b = loads_on (LoadsHeader r) b _ refl
-  by_stage (LooksAtCount m) b = loads_on (LooksAtCount m) b _ refl
-  by_stage (LoadsCount m) b = loads_on (LoadsCount m) b _ refl
-  by_stage (LooksAtField f usage) b = loads_on (LooksAtField f usage) b _ refl
-  by_stage (LoadsField f into) b = loads_on (LoadsField f into) b _ refl
-  by_stage (LoadsForCas f e) b = loads_on (LoadsForCas f e) b _ refl
-  by_stage (LooksAtBoard d) b = loads_on (LooksAtBoard d) b _ refl
-  by_stage (LoadsBoard word into) b = loads_on (LoadsBoard word into) b _ refl
-  by_stage (LoadsForSwap s) b = loads_on (LoadsForSwap s) b _ refl
+  by_stage stage b = loads_on stage b _ refl
 
   pub accesses : (a : Access) → Before c p z saver k (at_stage y (Accesses a)) → (q : Step) → wanted (at_stage y (Accesses a)) ≡ Some q → SavesStep c p saver k (at_stage y (Accesses a)) q
   accesses a b =

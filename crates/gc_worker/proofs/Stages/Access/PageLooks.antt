@@ -13,7 +13,7 @@ use Rattle.heap_state.specs.Configuration.{Configuration, Stands, table, era}
 use Rattle.heap_state.specs.Invariant.Parts.Knowledge as parts
 use Rattle.heap_state.specs.Known as workers
 use Rattle.record_access.specs.declared.access_stage.AccessStage.{AccessStage}
-use Rattle.record_access.specs.declared.access_stage.AccessStage.TheVariants.{LooksAtRecord, LoadsHeader, LooksAtCount, LoadsCount, LooksAtField, LoadsField, StoresField, LoadsForCas, LooksAtBoard, LoadsBoard, StoresBoard, LoadsForSwap}
+use Rattle.record_access.specs.declared.access_stage.AccessStage.TheVariants.{LooksAtRecord, LoadsHeader, LooksAtCount, LoadsCount, LooksAtField, LoadsField, LooksAtBoard, StoresBoard}
 use Rattle.record_access.specs.declared.accessed.Accessed.TheVariants.{Faults}
 use Rattle.record_access.specs.declared.board_access.BoardUse.{BoardUse}
 use Rattle.record_access.specs.declared.board_access.BoardUse.TheVariants as board_uses
@@ -22,7 +22,7 @@ use Rattle.record_access.specs.declared.field_access.FieldUse.{FieldUse}
 use Rattle.record_access.specs.declared.field_access.FieldUse.TheVariants as field_uses
 use Rattle.record_access.specs.declared.mixed_access.MixedAccess.{MixedAccess}
 use Rattle.record_access.specs.declared.record_access.RecordAccess.{RecordAccess}
-use Rattle.record_access.specs.Access.{GoesTo, Comes, IsHeapAddress, FitsStage, answered, let_through, looked, is_at_target, page_step, count_at, field_at}
+use Rattle.record_access.specs.Access.{GoesTo, Comes, IsHeapAddress, FitsStage, answered, let_through, looked, is_at_target, page_step, count_at, field_at, uses_board, uses_field}
 use Rattle.record_access.specs.Access as access
 use Rattle.gc_worker.specs.Workers.Fits.{IsAccessing, IsFaulting}
 use Rattle.gc_worker.specs.Steps.Goes.{Is, Goes, StepsSo}
@@ -129,22 +129,21 @@ module _ (c : Configuration) (p : Plain) (s : Stands c p) (k : ℕ) (y : Held) w
     low : (usage : FieldUse) (is : Is c k (at c p s k y (LooksAtField f usage))) → (era c).start ≤ field_at f
     low usage is = let i = (in_field usage is).inside.0 in omega (arith, i)
 
+    used_fits : (usage : FieldUse) → FitsStage y.layout.pages (LooksAtField f usage) → FitsStage y.layout.pages (uses_field f usage)
+    used_fits (field_uses.Stores new) fits = fits.0
+    used_fits _ fits = fits
+
     pub looks_at_field : (usage : FieldUse) → Is c k (at c p s k y (LooksAtField f usage)) → StepsSo c p s k (at c p s k y (LooksAtField f usage))
     looks_at_field (field_uses.Loads into) is =
         let fits = is.fits.stage.sound.stage in
         looks (LooksAtField f (field_uses.Loads into)) is (LoadsField f into) (page_of (field_at f)) refl (λ word. refl) (λ word. tt) (λ e. e) (page_within y.layout.pages (field_at f) fits.0)
         (in_space (LooksAtField f (field_uses.Loads into)) is (field_at f) (low (field_uses.Loads into) is)) refl (λ g e. it_only c p s k y (LooksAtField f (field_uses.Loads into)) is (known_access f) g (in_field (field_uses.Loads into) is) e)
         (record { act = is.fits.task.act; executes = is.fits.task.executes; is = is.fits.task.is }) fits
-    looks_at_field (field_uses.Stores new) is =
+    looks_at_field usage is =
         let fits = is.fits.stage.sound.stage in
-        looks (LooksAtField f (field_uses.Stores new)) is (StoresField f new) (page_of (field_at f)) refl (λ word. refl) (λ word. tt) (λ e. absurd (cc)) (page_within y.layout.pages (field_at f) fits.0)
-        (in_space (LooksAtField f (field_uses.Stores new)) is (field_at f) (low (field_uses.Stores new) is)) refl (λ g e. it_only c p s k y (LooksAtField f (field_uses.Stores new)) is (known_access f) g (in_field (field_uses.Stores new) is) e)
-        (record { act = is.fits.task.act; executes = is.fits.task.executes; is = is.fits.task.is }) fits.0
-    looks_at_field (field_uses.Compares e) is =
-        let fits = is.fits.stage.sound.stage in
-        looks (LooksAtField f (field_uses.Compares e)) is (LoadsForCas f e) (page_of (field_at f)) refl (λ word. refl) (λ word. tt) (λ e. absurd (cc)) (page_within y.layout.pages (field_at f) fits.0)
-        (in_space (LooksAtField f (field_uses.Compares e)) is (field_at f) (low (field_uses.Compares e) is)) refl (λ g e'. it_only c p s k y (LooksAtField f (field_uses.Compares e)) is (known_access f) g (in_field (field_uses.Compares e) is) e')
-        (record { act = is.fits.task.act; executes = is.fits.task.executes; is = is.fits.task.is }) fits
+        looks (LooksAtField f usage) is (uses_field f usage) (page_of (field_at f)) refl (λ word. refl) (λ word. tt) (λ e. absurd (cc)) (page_within y.layout.pages (field_at f) fits.0)
+        (in_space (LooksAtField f usage) is (field_at f) (low usage is)) refl (λ g e. it_only c p s k y (LooksAtField f usage) is (known_access f) g (in_field usage is) e)
+        (record { act = is.fits.task.act; executes = is.fits.task.executes; is = is.fits.task.is }) (used_fits usage fits)
 
   -- ---- the board
 
@@ -156,12 +155,9 @@ module _ (c : Configuration) (p : Plain) (s : Stands c p) (k : ℕ) (y : Held) w
     board_within = omega arith
 
     pub looks_at_board : (usage : BoardUse) → Is c k (at c p s k y (on_board usage)) → StepsSo c p s k (at c p s k y (on_board usage))
-    looks_at_board (board_uses.Loads into) is =
-        looks (on_board (board_uses.Loads into)) is (LoadsBoard word into) (board_page y.layout.pages) refl (λ w. refl) (λ w. tt) (λ e. absurd (cc)) board_within (inl refl) refl (λ f e. absurd (cc))
-        (record { act = is.fits.task.act; executes = is.fits.task.executes; is = is.fits.task.is }) is.fits.stage.sound.stage
     looks_at_board (board_uses.Stores new) is =
         looks (on_board (board_uses.Stores new)) is (StoresBoard word new) (board_page y.layout.pages) refl (λ w. refl) (λ w. tt) (λ e. absurd (cc)) board_within (inl refl) refl (λ f e. absurd (cc))
         (record { act = is.fits.task.act; executes = is.fits.task.executes; is = is.fits.task.is }) is.fits.stage.sound.stage.0
-    looks_at_board (board_uses.Swaps into new) is =
-        looks (on_board (board_uses.Swaps into new)) is (LoadsForSwap (record { word = word; into = into; new = new })) (board_page y.layout.pages) refl (λ w. refl) (λ w. tt) (λ e. absurd (cc)) board_within (inl refl) refl
-        (λ f e. absurd (cc)) (record { act = is.fits.task.act; executes = is.fits.task.executes; is = is.fits.task.is }) is.fits.stage.sound.stage
+    looks_at_board usage is =
+        looks (on_board usage) is (uses_board word usage) (board_page y.layout.pages) refl (λ w. refl) (λ w. tt) (λ e. absurd (cc)) board_within (inl refl) refl (λ f e. absurd (cc))
+        (record { act = is.fits.task.act; executes = is.fits.task.executes; is = is.fits.task.is }) is.fits.stage.sound.stage

@@ -1,26 +1,17 @@
 -- A round for the checkpoint in progress goes on: it is its worker's own, in a mutator's epoch, and for the number that the mutator knows.
-use Rattle.std.proofs.Common.{◌≡◌, ℕ, ◌^◌, Bool, true, false, cond, nat_lt, Option, Some, None, refl}
+use Rattle.std.proofs.Common.{◌≡◌, ℕ, ◌^◌, Bool, true, false, cond, nat_lt, Option, Some, None, refl, sym, subst}
 use Rattle.atom_store.specs.declared.reply.Reply.{Reply}
-use Rattle.atom_store.specs.declared.reply.Reply.TheVariants.{Value, Won, Lost}
+use Rattle.atom_store.specs.declared.reply.Reply.TheVariants.{Value}
 use Rattle.space_map.specs.declared.gate_word.GateWord.{GateWord}
-use Rattle.atom_store.specs.declared.turn.Turn.{Turn}
-use Rattle.atom_store.specs.declared.turn.Turn.TheVariants.{More, Finished}
-use Rattle.space_map.specs.declared.save_word.SaveWord.{SaveWord}
 use Rattle.space_map.specs.GateWord.{decode_gate}
-use Rattle.space_map.specs.SaveWord.{decode_save}
 use Rattle.page_saves.specs.declared.save_caller.SaveCaller.{SaveCaller}
 use Rattle.page_saves.specs.declared.save_caller.SaveCaller.TheVariants.{Mutates, Scans}
-use Rattle.page_saves.specs.declared.save_round_end.SaveRoundEnd.TheVariants.{NoneRuns, Marked, NothingNow}
+use Rattle.page_saves.specs.declared.save_round_end.SaveRoundEnd.TheVariants.{NoneRuns, NothingNow}
 use Rattle.page_saves.specs.declared.save_round_stage.SaveRoundStage.{SaveRoundStage}
-use Rattle.page_saves.specs.declared.save_round_stage.SaveRoundStage.TheVariants.{LoadsGate, LoadsSnap, LoadsDone, LoadsGateAgain, LoadsPage, LoadsSave, Saves, ExchangesDone, Ended}
-use Rattle.page_saves.specs.declared.save_end.SaveEnd.{SaveEnd}
-use Rattle.page_saves.specs.declared.save_state.SaveState.{SaveState}
-use Rattle.page_saves.specs.declared.save_state.SaveState.TheVariants.{Waits, Copying, Kept, Past}
-use Rattle.page_saves.specs.Save as save
-use Rattle.page_saves.specs.Save.{PageSaving}
-use Rattle.page_saves.specs.SaveState.{state_of}
+use Rattle.page_saves.specs.declared.save_round_stage.SaveRoundStage.TheVariants.{LoadsGate, LoadsSnap, LoadsDone, LoadsGateAgain, Ended}
 use Rattle.page_saves.specs.SaveRound as save_round
 use Rattle.page_saves.specs.SaveRound.{SavingRound, all_left, taken_at}
+use Rattle.page_saves.proofs.PageLooks.{IsPastReads, goes_past}
 use Rattle.gc_worker.specs.Workers.Fits.{HasReadNumber, IsRoundOfMutator}
 use Rattle.gc_worker.specs.Workers.Held.{Held}
 
@@ -82,34 +73,11 @@ module _ (x : Held) (r : SavingRound) where
 
   -- ---- where it goes on
 
-  apart_of_pages : (busy : Option ℕ) → IsApart (save_round.after_pages busy)
-  apart_of_pages (Some word) = tt
-  apart_of_pages None = tt
-
-  apart_by_next : (page : ℕ) (busy : Option ℕ) (more : Bool) → IsApart (cond more (LoadsPage page busy) (save_round.after_pages busy))
-  apart_by_next page busy true = tt
-  apart_by_next page busy false = apart_of_pages busy
-
-  apart_passed : (page : ℕ) (busy : Option ℕ) → IsApart (save_round.passed_page r page busy)
-  apart_passed page busy = apart_by_next (save_round.page_after r page) busy _
-
-  apart_by_open : (page : ℕ) (busy : Option ℕ) (opened : Bool) → IsApart (cond opened (LoadsSave page busy) (save_round.passed_page r page busy))
-  apart_by_open page busy true = tt
-  apart_by_open page busy false = apart_passed page busy
-
-  apart_by_state : (page : ℕ) (busy : Option ℕ) (word : ℕ) (says : SaveWord) (state : SaveState) → IsApart (save_round.looked_by r page busy word says state)
-  apart_by_state page busy word says Waits = tt
-  apart_by_state page busy word says Copying = apart_passed page (Some word)
-  apart_by_state page busy word says Kept = apart_passed page busy
-  apart_by_state page busy word says Past = tt
-
-  apart_at_save : (page : ℕ) (busy : Option ℕ) (word : ℕ) (o : Option SaveWord) → IsApart (save_round.looked_at_save r page busy word o)
-  apart_at_save page busy word (Some says) = apart_by_state page busy word says (state_of says r.number)
-  apart_at_save page busy word None = tt
-
-  apart_saving : (s : PageSaving) (turn : Turn SaveEnd) → IsApart (save_round.save_went s turn)
-  apart_saving s More = tt
-  apart_saving s (Finished result) = tt
+  -- no more looks at the gate come behind the first loads
+  apart_past : (stage : SaveRoundStage) → IsPastReads stage → IsApart stage
+  apart_past LoadsGate past = absurd past
+  apart_past LoadsGateAgain past = absurd past
+  apart_past _ past = tt
 
   -- a mutator's begins with its pages
   apart_begun : (own : SaveCaller) → own ≡ Mutates → IsApart (save_round.when_one_runs r own)
@@ -135,15 +103,16 @@ module _ (x : Held) (r : SavingRound) where
     at_snap word true same = record { caller = caller; epoch = epoch; number = same }
     at_snap word false same = goes_to LoadsSnap tt
 
+    past_own : r.number ≡ x.snap → (stage : SaveRoundStage) (reply : Reply) → IsPastReads stage → IsRoundOfMutator x (after r stage reply)
+    past_own same stage reply past =
+        let goes = goes_past r stage reply past in
+        subst (IsRoundOfMutator x) (sym goes.is) (goes_on same goes.next (apart_past goes.next goes.past))
+
     pub stays_own : (stage : SaveRoundStage) (reply : Reply) → HasReadNumber x stage r.number → ReadsOwn x stage reply → IsRoundOfMutator x (after r stage reply)
     stays_own LoadsGate reply number reads = absurd number
     stays_own LoadsGateAgain reply number reads = absurd number
     stays_own LoadsSnap (Value word) number reads = at_snap word (nat_lt word (2 ^ 32)) reads
     stays_own LoadsSnap _ number reads = goes_to LoadsSnap tt
     stays_own LoadsDone (Value word) number reads = goes_on number _ (apart_at_done (save_round.number_in word))
-    stays_own (LoadsPage page busy) (Value word) number reads = goes_on number _ (apart_by_open page busy _)
-    stays_own (LoadsSave page busy) (Value word) number reads = goes_on number _ (apart_at_save page busy word (decode_save word))
-    stays_own (Saves s) reply number reads = goes_on number _ (apart_saving (save.taken s reply) (save.told (save.taken s reply)))
-    stays_own ExchangesDone Won number reads = goes_on number (Ended Marked) tt
-    stays_own ExchangesDone (Lost word) number reads = goes_on number (Ended (NothingNow word)) tt
-    stays_own stage reply number reads = goes_to stage number
+    stays_own LoadsDone _ number reads = goes_to LoadsDone number
+    stays_own stage reply number reads = past_own number stage reply tt

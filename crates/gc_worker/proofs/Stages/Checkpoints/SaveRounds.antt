@@ -1,25 +1,28 @@
 -- A round for the checkpoint in progress, at each of its stages: it teaches its worker nothing of the epoch.
 use Rattle.std.proofs.Common.{◌≡◌, ℕ, ◌-◌, Bool, true, false, Some, refl, ap, subst, ◌∙◌}
-use Rattle.std.specs.Prelude.{◌&&◌, not}
+use Rattle.std.specs.Prelude.{◌&&◌, not, option_map}
 use Rattle.plain_state.specs.State.{Plain}
 use Rattle.atom_store.specs.declared.reply.Reply.{Reply}
 use Rattle.atom_store.specs.declared.reply.Reply.TheVariants.{Value, Won}
 use Rattle.atom_store.specs.declared.step.Step.TheVariants.{Load, Exchange}
 use Rattle.atom_store.specs.declared.turn.Turn.{Turn}
 use Rattle.atom_store.specs.declared.turn.Turn.TheVariants.{More, Finished}
+use Rattle.atom_store.specs.StepOn.{IsOn, step_at}
+use Rattle.atom_store.specs.StepOn as on_row
 use Rattle.space_map.specs.Spaces.{Layout}
-use Rattle.space_map.specs.Table.{Gate, SnapNumber, LastSaved, Page, SaveOf}
-use Rattle.space_map.specs.WholeTable.{WholeRow, Within, Behind, IsWholeRow, whole_place_of}
+use Rattle.space_map.specs.Table.{SnapNumber, LastSaved}
+use Rattle.space_map.specs.WholeTable.{WholeRow, Within, IsWholeRow, whole_place_of}
 use Rattle.heap_state.specs.Configuration.{Configuration, Stands}
 use Rattle.heap_state.specs.Memory.Entries.{LastSavedIs, word_in_whole}
 use Rattle.heap_state.specs.Memory.Table.{word_in}
 use Rattle.heap_state.specs.Known.{is_running}
 use Rattle.page_saves.specs.declared.save_round_stage.SaveRoundStage.{SaveRoundStage}
-use Rattle.page_saves.specs.declared.save_round_stage.SaveRoundStage.TheVariants.{LoadsGate, LoadsSnap, LoadsDone, LoadsGateAgain, LoadsPage, LoadsSave, Saves, ExchangesDone, Ended}
+use Rattle.page_saves.specs.declared.save_round_stage.SaveRoundStage.TheVariants.{LoadsSnap, Saves, ExchangesDone, Ended}
 use Rattle.page_saves.specs.declared.save_round_end.SaveRoundEnd.{SaveRoundEnd}
 use Rattle.page_saves.specs.SaveRound as save_round
 use Rattle.page_saves.specs.SaveRound.{SavingRound}
 use Rattle.page_saves.specs.SoundRound.{IsSaveRoundGoing}
+use Rattle.page_saves.proofs.SaveRows.{round_by_rows, round_rows_fit}
 use Rattle.page_saves.proofs.Staying.{round_stays}
 use Rattle.gc_worker.specs.declared.stage.goal.Goal.{Goal}
 use Rattle.gc_worker.specs.declared.stage.goal.Goal.TheVariants.{ForFlip, ForSnap, ForScanner}
@@ -147,9 +150,13 @@ module _ (c : Configuration) (p : Plain) (s : Stands c p) (k : ℕ) (y : Held) w
 
   module _ (r : SavingRound) (goal : Goal) where
     -- a load of another row than SNAP
-    loads_past : (stage : SaveRoundStage) (row : WholeRow) (is : Is c k (at y (round r stage) goal)) → IsPastSnap stage → IsWholeRow r.layout.pages row
-        → wanted (at y (round r stage) goal) ≡ Some (Load (whole_place_of r.layout.pages row)) → StepsSo c p s k (at y (round r stage) goal)
-    loads_past stage row is past is_row want = loads_it (round r stage) goal is row is_row want (reads_past (at y (round r stage) goal) goal stage _ past)
+    loads_past : (stage : SaveRoundStage) (row : WholeRow) (is : Is c k (at y (round r stage) goal)) → IsPastSnap stage
+        → save_round.wants_at (round r stage) stage ≡ Some (on_row.Load row) → StepsSo c p s k (at y (round r stage) goal)
+    loads_past stage row is past wants =
+        let fits = is.fits.stage.sound.stage in
+        loads_it (round r stage) goal is row (subst (IsOn (IsWholeRow r.layout.pages)) wants (round_rows_fit (round r stage) stage fits is.fits.stage.going))
+        (round_by_rows (round r stage) stage fits ∙ ap (option_map (step_at (whole_place_of r.layout.pages))) wants)
+        (reads_past (at y (round r stage) goal) goal stage _ past)
 
     -- DONE is exchanged
     marks : Is c k (at y (round r ExchangesDone) goal) → StepsSo c p s k (at y (round r ExchangesDone) goal)
@@ -163,12 +170,7 @@ module _ (c : Configuration) (p : Plain) (s : Stands c p) (k : ℕ) (y : Held) w
         (λ other. untaught c p s k x is _ (untaught_by q goal is _ (reads_past x goal ExchangesDone _ tt))))
 
     by_stage : (stage : SaveRoundStage) → Is c k (at y (round r stage) goal) → StepsSo c p s k (at y (round r stage) goal)
-    by_stage LoadsGate is = loads_past LoadsGate (Within Gate) is tt tt refl
     by_stage LoadsSnap is = loads_it (round r LoadsSnap) goal is (Within SnapNumber) tt refl (snap_reads r goal is)
-    by_stage LoadsDone is = loads_past LoadsDone (Within LastSaved) is tt tt refl
-    by_stage LoadsGateAgain is = loads_past LoadsGateAgain (Within Gate) is tt tt refl
-    by_stage (LoadsPage page busy) is = loads_past (LoadsPage page busy) (Within (Page page)) is tt is.fits.stage.sound.stage.in_table refl
-    by_stage (LoadsSave page busy) is = loads_past (LoadsSave page busy) (Behind (SaveOf page)) is tt is.fits.stage.sound.stage.in_table refl
     by_stage (Saves z) is =
         let own = is.fits.stage.sound.stage.1 in
         let x = at y (round r (Saves z)) goal in
@@ -176,6 +178,7 @@ module _ (c : Configuration) (p : Plain) (s : Stands c p) (k : ℕ) (y : Held) w
         (λ reply. untaught_by (round r (Saves z)) goal is reply (reads_past x goal (Saves z) reply tt)) own.sound own.going refl
     by_stage ExchangesDone is = marks is
     by_stage (Ended result) is = absurd is.fits.stage.going
+    by_stage stage is = loads_past stage _ is tt refl
 
     pub checkpoints : Is c k (at_stage y (Checkpoints r goal)) → StepsSo c p s k (at_stage y (Checkpoints r goal))
     checkpoints is = by_stage r.stage is

@@ -4,7 +4,7 @@ use Rattle.plain_state.specs.State.{Plain}
 use Rattle.atom_store.specs.declared.reply.Reply.{Reply}
 use Rattle.atom_store.specs.declared.reply.Reply.TheVariants.{Value, Done}
 use Rattle.atom_store.specs.declared.step.Step.TheVariants.{Load, Store}
-use Rattle.heap_words.specs.Decoded.{Decoded, ForwardWord, decode}
+use Rattle.heap_words.specs.Decoded.{Decoded, ForwardWord, HeaderWord, decode}
 use Rattle.heap_words.proofs.Ranges.{header_bounds, forward_bounds}
 use Rattle.space_map.specs.Table.{HeapWord, Announce, place_of}
 use Rattle.forwarding.specs.declared.evac_stage.EvacStage.{EvacStage}
@@ -87,7 +87,7 @@ module _ (c : Configuration) (p : Plain) (s : Stands c p) (k : ℕ) (y : Held) (
       let below = answers.below in
       let board = board_is c in
       let pages = has_pages y v c.pages c.mutators k o LoadsHeader is.fits in
-      stays c p s k y o v LoadsHeader (TakesHeader (record { word = first_word; kind = kind; len = len })) (Value first_word) is (ap (by_first_word first_word) e) refl refl refl refl
+      stays c p s k y o v LoadsHeader (by_first_word first_word (HeaderWord kind len serial mutator)) (Value first_word) is (ap (by_first_word first_word) e) refl refl refl refl
       (record { serial = serial; mutator = mutator; says = e; short = (header_bounds first_word kind len serial mutator e).0; inside = omega (arith, below, board, pages, of_size, is_size) })
   by_word size d is_size e (KeptBy len j of_size other) finds =
       stays c p s k y o v LoadsHeader LoadsHeader (Value first_word) is (ap (by_first_word first_word) e) refl refl refl refl tt

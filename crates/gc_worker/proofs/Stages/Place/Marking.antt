@@ -1,7 +1,6 @@
 -- If a checkpoint was begun, a page that was claimed and cleared is marked as new before it is opened. To the proofs of the heap it is one
 -- that is to be opened.
-use Rattle.std.proofs.Common.{◌≡◌, ℕ, ◌*◌, ◌≤◌, ◌==◌, Bool, true, false, cond, Some, refl, ap, arith}
-use Rattle.std.proofs.lemmas.Bool.{eqb-false}
+use Rattle.std.proofs.Common.{◌≡◌, ℕ, ◌*◌, ◌≤◌, true, Some, refl, ap, arith}
 use Rattle.plain_state.specs.State.{Plain}
 use Rattle.atom_store.specs.declared.step.Step.TheVariants.{Store}
 use Rattle.atom_store.specs.declared.reply.Reply.TheVariants.{Done}
@@ -12,10 +11,11 @@ use Rattle.space_map.specs.Table.{SaveOf}
 use Rattle.space_map.specs.WholeTable.{Behind, whole_place_of}
 use Rattle.alloc_end.specs.declared.new_pages.NewPages.{NewPages}
 use Rattle.alloc_end.specs.declared.place_stage.PlaceStage.{PlaceStage}
-use Rattle.alloc_end.specs.declared.place_stage.PlaceStage.TheVariants.{StoresNew, OpensPage}
+use Rattle.alloc_end.specs.declared.place_stage.PlaceStage.TheVariants.{StoresNew}
 use Rattle.alloc_end.specs.declared.run.Run.{Run}
-use Rattle.alloc_end.specs.Place.{size_of, pages_for, readies, told}
+use Rattle.alloc_end.specs.Place.{size_of, pages_for, readies, taken, told}
 use Rattle.alloc_end.specs.Soundness.{FitsPlaceStage, IsAtPage, IsPlacingGoing}
+use Rattle.alloc_end.proofs.NextStages.{readied}
 use Rattle.heap_state.specs.Configuration.{Configuration, Stands}
 use Rattle.heap_state.specs.Memory.Entries.{SaveIs}
 use Rattle.gc_worker.specs.Steps.Goes.{Is, StepsSo}
@@ -35,9 +35,6 @@ module _ (c : Configuration) (p : Plain) (s : Stands c p) (k : ℕ) (y : Held) (
   module _ (new : NewPages) where
     -- ---- the next page is marked, or opened
 
-    abbrev by_test : Bool → PlaceStage
-    by_test none = cond none (OpensPage new) (StoresNew new)
-
     module _ (before : PlaceStage) where
       abbrev by : PlaceStage → Held
       by stage = turned_place (here before) (placing c p s k y run header stage) (told (placing c p s k y run header stage))
@@ -45,47 +42,23 @@ module _ (c : Configuration) (p : Plain) (s : Stands c p) (k : ℕ) (y : Held) (
       abbrev tells : PlaceStage → Told
       tells stage = told_place (here before) (told (placing c p s k y run header stage))
 
-      comes_by : (none : Bool) → by (by_test none) ≡ here (by_test none)
-      comes_by true = refl
-      comes_by false = refl
-
       pub readied_comes : by (readies y.snap new) ≡ here (readies y.snap new)
-      readied_comes = comes_by (y.snap == 0)
-
-      silent_by : (none : Bool) → tells (by_test none) ≡ Silent
-      silent_by true = refl
-      silent_by false = refl
+      readied_comes = readied (λ stage. by stage ≡ here stage) y.snap new (λ none. refl) (λ some. refl)
 
       pub readied_silent : tells (readies y.snap new) ≡ Silent
-      readied_silent = silent_by (y.snap == 0)
-
-    going_by : (none : Bool) → IsPlacingGoing (by_test none)
-    going_by true = tt
-    going_by false = tt
+      readied_silent = readied (λ stage. tells stage ≡ Silent) y.snap new (λ none. refl) (λ some. refl)
 
     pub readied_going : IsPlacingGoing (readies y.snap new)
-    readied_going = going_by (y.snap == 0)
-
-    rest_by : (none : Bool) → LeavesShortRun run header (by_test none)
-    rest_by true = tt
-    rest_by false = tt
+    readied_going = readied IsPlacingGoing y.snap new (λ none. tt) (λ some. tt)
 
     pub readied_rest : LeavesShortRun run header (readies y.snap new)
-    readied_rest = rest_by (y.snap == 0)
+    readied_rest = readied (LeavesShortRun run header) y.snap new (λ none. tt) (λ some. tt)
 
-    known_by : (none : Bool) → knows (here (by_test none)) ≡ knows (here (OpensPage new))
-    known_by true = refl
-    known_by false = refl
-
-    pub readied_known : knows (here (readies y.snap new)) ≡ knows (here (OpensPage new))
-    readied_known = known_by (y.snap == 0)
+    pub readied_known : knows (here (readies y.snap new)) ≡ knows (here (StoresNew new))
+    readied_known = readied (λ stage. knows (here stage) ≡ knows (here (StoresNew new))) y.snap new (λ none. refl) (λ some. refl)
 
     pub readied_fits : IsAtPage y.layout.pages (pages_for (size_of header)) new → FitsPlaceStage y.layout.pages (pages_for (size_of header)) y.snap run header (readies y.snap new)
-    readied_fits at_page = fits_by (y.snap == 0) refl
-      where
-        fits_by : (none : Bool) → (y.snap == 0) ≡ none → FitsPlaceStage y.layout.pages (pages_for (size_of header)) y.snap run header (by_test none)
-        fits_by true test = at_page
-        fits_by false test = let other = eqb-false y.snap 0 test in (at_page, omega (arith, other))
+    readied_fits at_page = readied (FitsPlaceStage y.layout.pages (pages_for (size_of header)) y.snap run header) y.snap new (λ none. at_page) (λ some. (at_page, some))
 
     -- ---- the mark
 
@@ -99,13 +72,16 @@ module _ (c : Configuration) (p : Plain) (s : Stands c p) (k : ℕ) (y : Held) (
       room : y.layout.checkpoints ≡ true
       room = marks_with_room y.layout y.snap is.fits.stage.sound.room is.fits.stage.sound.stage.1
 
+      abbrev next : PlaceStage
+      next = (taken (placing c p s k y run header (StoresNew new)) Done).stage
+
       opens_next : TeachesNothing c p s k x Done
       opens_next = record {
         same = refl;
         silent = refl;
         none = refl;
         takes = record { pages = is.fits.stage.sound.pages; run = is.fits.stage.sound.run; fields = is.fits.stage.sound.fields; cell = is.fits.stage.sound.cell; epoch = is.fits.stage.sound.epoch; snap = is.fits.stage.sound.snap; room = is.fits.stage.sound.room; stage = is.fits.stage.sound.stage.0 };
-        fits = replace c p s k y run header (StoresNew new) (OpensPage new) is tt tt is.fits.stage.sound.stage.0;
+        fits = replace c p s k y run header (StoresNew new) next is tt tt is.fits.stage.sound.stage.0;
       }
 
       pub stores_new : StepsSo c p s k x

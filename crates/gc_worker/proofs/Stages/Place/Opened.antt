@@ -14,7 +14,7 @@ use Rattle.space_map.specs.Spaces.{page_of, first_word}
 use Rattle.space_map.specs.Table.{Page, place_of}
 use Rattle.alloc_end.specs.declared.new_pages.NewPages.{NewPages}
 use Rattle.alloc_end.specs.declared.place_stage.PlaceStage.{PlaceStage}
-use Rattle.alloc_end.specs.declared.place_stage.PlaceStage.TheVariants.{OpensPage}
+use Rattle.alloc_end.specs.declared.place_stage.PlaceStage.TheVariants.{StoresNew, OpensPage}
 use Rattle.alloc_end.specs.declared.run.Run.{Run}
 use Rattle.alloc_end.specs.Place.{Placing, size_of, pages_for, readies, words_for, stores_first, told}
 use Rattle.alloc_end.specs.Soundness.{IsSoundPlacing}
@@ -154,7 +154,7 @@ module _ (c : Configuration) (p : Plain) (s : Stands c p) (k : ℕ) (y : Held) (
     stock_then : (b : Bool) → test_of ≡ b → stocked (knows x) (opened_further stock) ≡ knows (then b)
     stock_then true test =
         let e : first_word new.next + 64 ≡ first_word (new.next + 1) = omega arith in
-        (λ i. record (knows (here (OpensPage further))) { stock = Some (record { epoch = y.epoch; at = new.first; end = new.first + words; zeroed = new.first + words; opened = e i; ahead = [] }) })
+        (λ i. record (knows (here (StoresNew further))) { stock = Some (record { epoch = y.epoch; at = new.first; end = new.first + words; zeroed = new.first + words; opened = e i; ahead = [] }) })
         ∙ sym (readied_known c p s k y run header further)
     stock_then false test =
         let l = ltb-false (new.next + 1) (page_of new.first + asked) test in let f = is.fits.stage.sound.stage in

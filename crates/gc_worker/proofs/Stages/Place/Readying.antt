@@ -10,7 +10,7 @@ use Rattle.space_map.specs.Spaces.{page_of, first_word}
 use Rattle.space_map.specs.Table.{HeapWord, place_of}
 use Rattle.alloc_end.specs.declared.new_pages.NewPages.{NewPages}
 use Rattle.alloc_end.specs.declared.place_stage.PlaceStage.{PlaceStage}
-use Rattle.alloc_end.specs.declared.place_stage.PlaceStage.TheVariants.{StoresZero, OpensPage}
+use Rattle.alloc_end.specs.declared.place_stage.PlaceStage.TheVariants.{StoresZero, StoresNew}
 use Rattle.alloc_end.specs.declared.run.Run.{Run}
 use Rattle.alloc_end.specs.Place.{size_of, pages_for, readies, words_for, told}
 use Rattle.alloc_end.specs.Soundness.{FitsPlaceStage, IsPlacingGoing}
@@ -75,7 +75,7 @@ module _ (c : Configuration) (p : Plain) (s : Stands c p) (k : ℕ) (y : Held) (
         let l = ltb-false (new.next + 1) (new.first + words) test in let f = is.fits.stage.sound.stage in
         let all : new.next + 1 ≡ new.first + words = omega (arith, l, f) in
         let whole : new.first ≡ first_word (page_of new.first) = omega (arith, aligned) in
-        (λ i. record (knows (here (OpensPage pages))) { stock = Some (record { epoch = y.epoch; at = new.first; end = new.first + words; zeroed = all i; opened = whole i; ahead = [] }) })
+        (λ i. record (knows (here (StoresNew pages))) { stock = Some (record { epoch = y.epoch; at = new.first; end = new.first + words; zeroed = all i; opened = whole i; ahead = [] }) })
         ∙ sym (readied_known c p s k y run header pages)
 
     abbrev by : PlaceStage → Held

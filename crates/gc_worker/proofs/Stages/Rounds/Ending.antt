@@ -44,6 +44,7 @@ use Rattle.gc_worker.proofs.Stages.Gate.GateWords.{wants, gate_now, gate_says}
 use Rattle.fault_duty.proofs.RoundMeasure.{to_start-le}
 use Rattle.gc_worker.proofs.Stages.Rounds.Choosing.{front_for, first_choice}
 use Rattle.gc_worker.proofs.Stages.Rounds.NextRoundStage.{rests, round, at, done, goes_on, ends, ends_marked, ended_known, own_stock_same, loads_it, same_pages}
+use Rattle.gc_worker.proofs.Stages.Rounds.SecondLook.{looked_in}
 use Rattle.gc_worker.proofs.Stages.Rounds.RoundWords.{traced_now, traced_word, page_now, page_says}
 use Rattle.gc_worker.proofs.Plain.AnswerSteps.{LawTo}
 use Rattle.gc_worker.proofs.Plain.CellTargets.EmptyCells.{same_empty, traced_after}
@@ -78,20 +79,17 @@ module _ (c : Configuration) (p : Plain) (s : Stands c p) (k : ℕ) (y : Held) (
     walked : ((team c).worker k).pass ≡ Some Done
     walked = ap (λ (w : Known). w.pass) is.as_known
 
-    looked : ((team c).worker k).last_look ≡ Some (record { traced = traced })
-    looked = ap (λ (w : Known). w.last_look) is.as_known
-
     -- who has walked over the chain has the turn, and nobody else changes TRACED
     turn : Passing (era c) (memory c) (memory c).weak_turn s.ghost s.invariant.cells.ranks ((team c).worker k) Done
     turn = s.invariant.cells.chain.pass k Done is.below walked
 
     stays : traced_now c ≡ traced
     stays =
-        let same : turn.look.0 ≡ record { traced = traced } = some_same (sym turn.look.1 ∙ looked) in
+        let same : turn.look.0 ≡ record { traced = traced } = some_same (sym turn.look.1 ∙ looked_in is refl) in
         sym (traced_word c) ∙ (sym turn.look.2 ∙ ap (λ (l : LastLook). l.traced) same)
 
     wins : WinsTraced (memory c) (team c) k (record { traced = traced })
-    wins = record { looks = looked; unchanged = traced_word c ∙ stays; walked = walked }
+    wins = record { looks = looked_in is refl; unchanged = traced_word c ∙ stays; walked = walked }
 
     abbrev y' : Held
     y' = back_from (done c p s k y d back) back

@@ -48,6 +48,7 @@ use Rattle.gc_worker.specs.Workers.Knows.{knows, pass_of, visited}
 use Rattle.gc_worker.proofs.Stages.Scan.ScannedHeaders.{heap_word}
 use Rattle.gc_worker.proofs.Stages.Gate.GateWords.{wants}
 use Rattle.gc_worker.proofs.Stages.Rounds.NextRoundStage.{round, at, goes_on, ends, same_pages}
+use Rattle.gc_worker.proofs.Stages.Rounds.SecondLook.{looked_in}
 use Rattle.gc_worker.proofs.Words.Eras.{board_is, start_is, old_start_is, spaces_apart, span_within, old_span_within}
 use Rattle.gc_worker.proofs.Words.RowSteps.{Law, exchanges, loads, nothing, prepared, row_fits, stores}
 
@@ -172,8 +173,11 @@ module _ (c : Configuration) (p : Plain) (s : Stands c p) (k : ℕ) (y : Held) (
         let mine = own (TakesTurn turn) is in
         let epoch : ((team c).worker k).epoch ≡ w.epoch = ap (λ (u : Known). u.epoch) is.as_known ∙ sym mine.epoch in
         let met = turn_word c ∙ same in
-        let law = turns_are_taken (era c) (memory c) (team c) s.ghost k l (prepared c p s k (here (TakesTurn turn)) is) (ap (λ (u : Known). u.last_look) is.as_known)
-        (let e = (untraced (TakesTurn turn) is).0 in let f = mine.epoch in omega (arith, e, f, epoch)) (let e = mine.sound.fits in omega (arith, e, epoch, met)) in
+        let law = turns_are_taken (era c) (memory c) (team c) s.ghost k l (prepared c p s k (here (TakesTurn turn)) is) (record {
+          looks = looked_in is refl;
+          of_epoch = let e = (untraced (TakesTurn turn) is).0 in let f = mine.epoch in omega (arith, e, f, epoch);
+          free = let e = mine.sound.fits in omega (arith, e, epoch, met);
+        }) in
         subst (λ (n : ℕ). Law c p s k (here (TakesTurn turn)) (Some (WeakTurnIs (n + 1))) (knows (here LoadsWeak)) s.ghost) epoch
         (subst (λ (u : Known). Law c p s k (here (TakesTurn turn)) (Some (WeakTurnIs (((team c).worker k).epoch + 1))) (has_turn u) s.ghost) is.as_known law)
 

@@ -8,14 +8,12 @@ use Rattle.atom_store.specs.declared.reply.Reply.TheVariants.{Won, Lost}
 use Rattle.space_map.specs.declared.spaces.TheConstants.{LAST_WORKER}
 use Rattle.space_map.specs.declared.page_word.PageWord.TheVariants.{Scanning}
 use Rattle.space_map.specs.PageWord.{encode_page, decode_page, age_of}
-use Rattle.space_map.specs.Spaces.{Layout, IsPageCount, board_page, first_word}
+use Rattle.space_map.specs.Spaces.{Layout, IsPageCount, board_page}
 use Rattle.space_map.specs.Table.{Page, place_of}
 use Rattle.space_map.proofs.PageWords.{decode_page-encode_page}
 use Rattle.page_slots.specs.declared.claim_stage.ClaimStage.TheVariants.{Exchanges}
 use Rattle.page_slots.specs.Claim.{Claiming}
 use Rattle.page_scan.specs.declared.scan_stage.ScanStage.{ScanStage}
-use Rattle.page_scan.specs.declared.scan_stage.ScanStage.TheVariants.{LoadsCross, LoadsWord}
-use Rattle.page_scan.specs.declared.spot.Spot.TheVariants.{OnBoard}
 use Rattle.page_scan.specs.Scanning as scan
 use Rattle.page_scan.specs.Soundness as scan_sound
 use Rattle.fault_duty.specs.declared.duty_stage.DutyStage.TheVariants.{Claims}
@@ -113,16 +111,16 @@ module _ (c : Configuration) (p : Plain) (s : Stands c p) (k : ℕ) (y : Held) (
   wins_it same = claimed_laws.claims (era c) (memory c) (team c) s.ghost k (claim_with q (looked_all q) true) (prepared c p s k x is) (wins_page same)
 
   abbrev first : Bool → ScanStage
-  first b = cond b (LoadsWord (OnBoard (first_word q.page))) LoadsCross
+  first b = scan.first_stage b q.page
 
   abbrev no_quest : Option Quest
   no_quest = None
 
-  scan_same : (b : Bool) → nat_eq q.page (board_page y.layout.pages) ≡ b → scan_from (claim_with q (looked_all q) true) ≡ scan_of begun (cond b (LoadsWord (OnBoard (first_word q.page))) LoadsCross)
+  scan_same : (b : Bool) → nat_eq q.page (board_page y.layout.pages) ≡ b → scan_from (claim_with q (looked_all q) true) ≡ scan_of begun (first b)
   scan_same true test = refl
   scan_same false test = refl
 
-  quest_same : (b : Bool) → nat_eq q.page (board_page y.layout.pages) ≡ b → no_quest ≡ quest_at (cond b (LoadsWord (OnBoard (first_word q.page))) LoadsCross)
+  quest_same : (b : Bool) → nat_eq q.page (board_page y.layout.pages) ≡ b → no_quest ≡ quest_at (first b)
   quest_same true test = refl
   quest_same false test = refl
 

@@ -1,8 +1,5 @@
 use Rattle.gc_worker.proofs.Cycles.SetAside.{claims_are_set_aside, set_aside_is_for_records}
 use Rattle.gc_worker.proofs.cycle_laws.claims_are_for_records.Goals as goal
 
-pub returns-clause-set_aside : goal.returns-clause-set_aside
-returns-clause-set_aside c = claims_are_set_aside
-
-pub returns-clause-records : goal.returns-clause-records
-returns-clause-records c = set_aside_is_for_records
+pub returns : goal.returns
+returns c = record { set_aside = claims_are_set_aside; records = set_aside_is_for_records }

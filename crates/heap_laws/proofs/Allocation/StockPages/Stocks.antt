@@ -33,7 +33,7 @@ stocked_knows E m g k w q now p =
 
 -- its part in the chain of copied cells is the same, whatever its stock and its account
 pub stocked_in_chain : (E : Era) (w : Known) (stock : Option Stock) (account : Account) → GoesOnInChain E (record w { stock = stock; account = account }) w
-stocked_in_chain E w stock account = in_chain E (record w { stock = stock; account = account }) w refl refl refl (record { linking = refl; pass = refl; asked = λ _ k. k; look = λ _. refl; cleared = λ c. c })
+stocked_in_chain E w stock account = in_chain E (record w { stock = stock; account = account }) w refl refl refl (record { linking = refl; pass = refl; asked = λ _ k. k; ground = λ _. (refl, refl); cleared = λ c. c })
 
 -- ---- words stored ahead
 

@@ -10,7 +10,7 @@ use Rattle.heap_state.specs.Memory.Table.{Table}
 use Rattle.heap_state.specs.Saving.Words.{Saves, IsInProgress}
 use Rattle.heap_state.specs.Saving.Frozen.{Frozen, IsSafe, MayBeSaved}
 use Rattle.heap_state.specs.Saving.Savers.{Saver, SaveStep, SaveRound}
-use Rattle.heap_state.specs.Saving.Parts.{SavingWords, Recalls, Guarded, SavesRound, IsSaving, KnowsSaving, HasWonSave, SavingStands}
+use Rattle.heap_state.specs.Saving.Parts.{SavingWords, RecalledStands, Guarded, SavesRound, IsSaving, KnowsSaving, HasWonSave, SavingStands}
 use Rattle.heap_state.proofs.Puts.{put_at, put_same, put_other, each_put, team_put}
 use Rattle.heap_laws.proofs.Saving.Pages.Safe.{may_still, begins_still, reads_still, round_still}
 
@@ -85,7 +85,7 @@ module _ (t : Table) (s : Saves) (z : Frozen) (k page : ℕ) (v : SaveWord) (m :
 
   -- ---- what a worker knows
 
-  recalls_marked : (w : Saver) → Recalls t s z w → Recalls t after z w
+  recalls_marked : (w : Saver) → RecalledStands t s z w → RecalledStands t after z w
   recalls_marked w r = record {
     runs = r.runs;
     snap = r.snap;
@@ -93,7 +93,7 @@ module _ (t : Table) (s : Saves) (z : Frozen) (k page : ℕ) (v : SaveWord) (m :
     one = λ some. let one = r.one some in (one.0, one.1, may_after w.running t.gate.epoch one.2);
   }
 
-  guarded_marked : (w : Saver) (p : ℕ) → Recalls t s z w → Guarded s w p → Guarded after w p
+  guarded_marked : (w : Saver) (p : ℕ) → RecalledStands t s z w → Guarded s w p → Guarded after w p
   guarded_marked w p r g =
       let number : w.running ≡ s.snap = (r.one g.recalled.1).0 in
       record {

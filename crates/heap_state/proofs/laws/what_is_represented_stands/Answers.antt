@@ -1,8 +1,5 @@
 use Rattle.heap_state.proofs.Represents.Represented.{represented_stands, represented_in_cycle}
 use Rattle.heap_state.proofs.laws.what_is_represented_stands.Goals as goal
 
-pub returns-clause-stands : goal.returns-clause-stands
-returns-clause-stands c = represented_stands
-
-pub returns-clause-in_cycle : goal.returns-clause-in_cycle
-returns-clause-in_cycle c = represented_in_cycle
+pub returns : goal.returns
+returns c = record { stands = represented_stands; in_cycle = represented_in_cycle }

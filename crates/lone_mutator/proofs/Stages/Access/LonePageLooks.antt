@@ -4,7 +4,7 @@ use Rattle.std.proofs.lemmas.Bool.{eqb-true, eq-eqb}
 use Rattle.plain_state.specs.State.{Plain}
 use Rattle.plain_state.specs.declared.value.Value.TheVariants.{Reference}
 use Rattle.plain_heap.specs.declared.action.Action.{Action}
-use Rattle.plain_heap.specs.declared.action.Action.TheVariants.{Measures, Loads, Stores, Compares, Swaps}
+use Rattle.plain_heap.specs.declared.action.Action.TheVariants.{Measures, Loads, Stores, Compares}
 use Rattle.atom_store.specs.declared.step.Step.TheVariants.{Load}
 use Rattle.atom_store.specs.declared.reply.Reply.TheVariants.{Value}
 use Rattle.space_map.specs.declared.page_word.PageWord.{PageWord}
@@ -21,7 +21,7 @@ use Rattle.heap_state.specs.Invariant.Parts.Knowledge as parts
 use Rattle.heap_state.proofs.Table.LaidOut.{laid_out}
 use Rattle.heap_laws.specs.Fields.Words.{IsLedTo}
 use Rattle.record_access.specs.declared.access_stage.AccessStage.{AccessStage}
-use Rattle.record_access.specs.declared.access_stage.AccessStage.TheVariants.{LooksAtRecord, LoadsHeader, LooksAtCount, LoadsCount, LooksAtField, LoadsField, StoresField, LoadsForCas, LooksAtBoard, LoadsBoard, StoresBoard, LoadsForSwap}
+use Rattle.record_access.specs.declared.access_stage.AccessStage.TheVariants.{LooksAtRecord, LoadsHeader, LooksAtCount, LoadsCount, LooksAtField, LoadsField, LooksAtBoard, LoadsBoard}
 use Rattle.record_access.specs.declared.accessed.Accessed.TheVariants.{Faults}
 use Rattle.record_access.specs.declared.board_access.BoardUse.{BoardUse}
 use Rattle.record_access.specs.declared.board_access.BoardUse.TheVariants as board_uses
@@ -33,7 +33,7 @@ use Rattle.record_access.specs.declared.record_access.RecordAccess.{RecordAccess
 use Rattle.gc_worker.specs.declared.stage.back.Back.{Back}
 use Rattle.gc_worker.specs.declared.stage.back.Back.TheVariants.{ToAccess, ToTarget}
 use Rattle.gc_worker.specs.declared.stage.Stage.TheVariants.{Serves}
-use Rattle.record_access.specs.Access.{GoesTo, Comes, IsHeapAddress, answered, count_at, field_at, is_at_target, left_at, let_through, looked, page_step}
+use Rattle.record_access.specs.Access.{GoesTo, Comes, IsHeapAddress, answered, count_at, field_at, is_at_target, left_at, let_through, looked, page_step, uses_board, uses_field}
 use Rattle.gc_worker.specs.Steps.Access.{begun}
 use Rattle.record_access.specs.Access as access
 use Rattle.gc_worker.specs.Workers.Fits.{ExecutesAction}
@@ -192,12 +192,9 @@ module _ (c : Configuration) (p : Plain) (s : Stands c p) (y : Held) where
     looks_at_field (field_uses.Loads into) a =
         looks (LooksAtField f (field_uses.Loads into)) a tt (LoadsField f into) (page_of (field_at f)) refl (λ word. refl) (within_heap y.layout.pages (field_at f) a.is.fits.stage.sound.stage.0 a.is.fits.pages)
         (field_open (field_uses.Loads into) a) tt (omega arith)
-    looks_at_field (field_uses.Stores new) a =
-        looks (LooksAtField f (field_uses.Stores new)) a tt (StoresField f new) (page_of (field_at f)) refl (λ word. refl) (within_heap y.layout.pages (field_at f) a.is.fits.stage.sound.stage.0 a.is.fits.pages)
-        (field_open (field_uses.Stores new) a) tt (omega arith)
-    looks_at_field (field_uses.Compares e) a =
-        looks (LooksAtField f (field_uses.Compares e)) a tt (LoadsForCas f e) (page_of (field_at f)) refl (λ word. refl) (within_heap y.layout.pages (field_at f) a.is.fits.stage.sound.stage.0 a.is.fits.pages)
-        (field_open (field_uses.Compares e) a) tt (omega arith)
+    looks_at_field usage a =
+        looks (LooksAtField f usage) a tt (uses_field f usage) (page_of (field_at f)) refl (λ word. refl) (within_heap y.layout.pages (field_at f) a.is.fits.stage.sound.stage.0 a.is.fits.pages)
+        (field_open usage a) tt (omega arith)
 
   module _ (word : ℕ) where
     abbrev on_board : BoardUse → AccessStage
@@ -212,8 +209,5 @@ module _ (c : Configuration) (p : Plain) (s : Stands c p) (y : Held) where
     pub looks_at_board : (usage : BoardUse) → IsAlone c (at c p s 0 y (on_board usage)) → StepsLower c (at c p s 0 y (on_board usage))
     looks_at_board (board_uses.Loads into) a =
         looks (on_board (board_uses.Loads into)) a tt (LoadsBoard word into) (board_page y.layout.pages) refl (λ w. refl) (let n = a.is.fits.pages in omega (arith, n)) (board_open y.layout.pages a.is.fits.pages) tt (omega arith)
-    looks_at_board (board_uses.Stores new) a =
-        looks (on_board (board_uses.Stores new)) a tt (StoresBoard word new) (board_page y.layout.pages) refl (λ w. refl) (let n = a.is.fits.pages in omega (arith, n)) (board_open y.layout.pages a.is.fits.pages) tt (omega arith)
-    looks_at_board (board_uses.Swaps into new) a =
-        looks (on_board (board_uses.Swaps into new)) a tt (LoadsForSwap (record { word = word; into = into; new = new })) (board_page y.layout.pages) refl (λ w. refl) (let n = a.is.fits.pages in omega (arith, n))
-        (board_open y.layout.pages a.is.fits.pages) tt (omega arith)
+    looks_at_board usage a =
+        looks (on_board usage) a tt (uses_board word usage) (board_page y.layout.pages) refl (λ w. refl) (let n = a.is.fits.pages in omega (arith, n)) (board_open y.layout.pages a.is.fits.pages) tt (omega arith)

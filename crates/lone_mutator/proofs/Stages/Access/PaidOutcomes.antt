@@ -7,7 +7,7 @@ use Rattle.space_map.specs.Spaces.{page_of}
 use Rattle.heap_state.specs.Configuration.{Configuration, Stands, table}
 use Rattle.heap_state.specs.Memory.Table.{Table}
 use Rattle.record_access.specs.declared.access_stage.AccessStage.{AccessStage}
-use Rattle.record_access.specs.declared.access_stage.AccessStage.TheVariants.{LooksAtField, LoadsField, StoresField, LoadsForCas}
+use Rattle.record_access.specs.declared.access_stage.AccessStage.TheVariants.{LooksAtField, LoadsField}
 use Rattle.record_access.specs.declared.accessed.Accessed.TheVariants.{Brings, Stored, Fails}
 use Rattle.record_access.specs.declared.field_access.FieldAccess.{FieldAccess}
 use Rattle.record_access.specs.declared.field_access.FieldUse.{FieldUse}
@@ -82,14 +82,12 @@ module _ (c : Configuration) (p : Plain) (s : Stands c p) (y : Held) (stage : Ac
   module _ (f : FieldAccess) (behind : 3 + wait_for f.role + guard_cost < access_left c.pages (own c p s 0 y stage)) where
     field_by : (usage : FieldUse) (b : Bool) → Owed (table c) (GoesTo (cond b (uses_field f usage) (LooksAtField f usage)))
     field_by (field_uses.Loads into) true = goes (LoadsField f into) tt (omega (arith, behind))
-    field_by (field_uses.Stores new) true = goes (StoresField f new) tt (omega (arith, behind))
-    field_by (field_uses.Compares e) true = goes (LoadsForCas f e) tt (omega (arith, behind))
+    field_by usage true = goes (uses_field f usage) tt (omega (arith, behind))
     field_by usage false = goes (LooksAtField f usage) tt (omega (arith, behind))
 
     target_by : f.role ≡ roles.Target → (usage : FieldUse) (b : Bool) → Owed (table c) (WaitsAt (cond b (uses_field f usage) (LooksAtField f usage)))
     target_by is (field_uses.Loads into) true = let wait = ap wait_for is in waits (LoadsField f into) (omega (arith, behind, wait))
-    target_by is (field_uses.Stores new) true = let wait = ap wait_for is in waits (StoresField f new) (omega (arith, behind, wait))
-    target_by is (field_uses.Compares e) true = let wait = ap wait_for is in waits (LoadsForCas f e) (omega (arith, behind, wait))
+    target_by is usage true = let wait = ap wait_for is in waits (uses_field f usage) (omega (arith, behind, wait))
     target_by is usage false = let wait = ap wait_for is in waits (LooksAtField f usage) (omega (arith, behind, wait))
 
     role_by : (usage : FieldUse) (role : Role) → f.role ≡ role → Owed (table c) (goes_at role (goes_to_field f usage))

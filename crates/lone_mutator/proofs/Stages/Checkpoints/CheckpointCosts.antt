@@ -10,7 +10,7 @@ use Rattle.heap_state.specs.Memory.Entries.{Entry, LastSavedIs}
 use Rattle.heap_state.specs.Memory.Table.{word_in}
 use Rattle.heap_state.specs.Saving.Written.{saves_with}
 use Rattle.page_saves.specs.declared.save_round_stage.SaveRoundStage.{SaveRoundStage}
-use Rattle.page_saves.specs.declared.save_round_stage.SaveRoundStage.TheVariants.{LoadsGate, LoadsSnap, LoadsDone, LoadsGateAgain, LoadsPage, LoadsSave, Saves, ExchangesDone, Ended}
+use Rattle.page_saves.specs.declared.save_round_stage.SaveRoundStage.TheVariants.{LoadsGate, LoadsSnap, LoadsDone, LoadsGateAgain, Saves, ExchangesDone, Ended}
 use Rattle.page_saves.specs.SaveRound.{SavingRound}
 use Rattle.gc_worker.specs.declared.stage.goal.Goal.{Goal}
 use Rattle.gc_worker.specs.declared.stage.Stage.{Stage}
@@ -25,7 +25,7 @@ use Rattle.lone_mutator.specs.Saving.{saving_in}
 use Rattle.lone_mutator.proofs.Epochs.CheckpointDebt.{saving-some, saving_rests}
 use Rattle.lone_mutator.proofs.Steps.Owed.{OwesAll, exchanges_any, wants}
 use Rattle.lone_mutator.proofs.Stages.Checkpoints.NextCheckpointCost.{marked_so, mutates, of_mutator, own_snap, pages, stands}
-use Rattle.lone_mutator.proofs.Stages.Checkpoints.SaveRoundLoads.{loads_done, loads_page, loads_save, loads_snap}
+use Rattle.lone_mutator.proofs.Stages.Checkpoints.SaveRoundLoads.{loads_done, loads_snap, looks}
 use Rattle.lone_mutator.proofs.Stages.Checkpoints.RoundSaves.{saves_it}
 
 module _ (c : Configuration) (p : Plain) (s : Stands c p) (y : Held) (r : SavingRound) (goal : Goal) where
@@ -87,11 +87,10 @@ module _ (c : Configuration) (p : Plain) (s : Stands c p) (y : Held) (r : Saving
   by_stage LoadsSnap a = loads_snap c p s y r goal a
   by_stage LoadsDone a = loads_done c p s y r goal a
   by_stage LoadsGateAgain a = absurd (of_mutator c p s y r goal LoadsGateAgain a).number
-  by_stage (LoadsPage page busy) a = loads_page c p s y r goal page busy a
-  by_stage (LoadsSave page busy) a = loads_save c p s y r goal page busy a
   by_stage (Saves v) a = saves_it c p s y r goal v v.stage a
   by_stage ExchangesDone a = exchanges_done a
   by_stage (Ended result) a = absurd a.is.fits.stage.going
+  by_stage stage a = looks c p s y r goal stage tt a
 
   pub saves_pages : IsAlone c (at_stage y (Checkpoints r goal)) → StepsLower c (at_stage y (Checkpoints r goal))
   saves_pages a = by_stage r.stage a

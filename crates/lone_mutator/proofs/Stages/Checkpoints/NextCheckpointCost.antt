@@ -10,7 +10,6 @@ use Rattle.space_map.specs.WholeTable.{WholeRow, IsWholeRow, whole_place_of}
 use Rattle.gate_core.specs.declared.passage.Passage.TheVariants.{Request}
 use Rattle.heap_state.specs.Configuration.{Configuration, Stands, table}
 use Rattle.heap_state.specs.Memory.Entries.{word_in_whole}
-use Rattle.heap_state.specs.Saving.Parts.{Recalls}
 use Rattle.heap_state.specs.Known.{is_running}
 use Rattle.page_saves.specs.declared.save_round_end.SaveRoundEnd.TheVariants.{NoneRuns, Saved, Marked}
 use Rattle.page_saves.specs.declared.save_round_stage.SaveRoundStage.{SaveRoundStage}
@@ -26,7 +25,6 @@ use Rattle.gc_worker.specs.Workers.Begun.{IsPastGoal}
 use Rattle.gc_worker.specs.Workers.Fits.{IsRoundFor, IsRoundOfMutator}
 use Rattle.gc_worker.specs.Workers.Held.{Held}
 use Rattle.gc_worker.specs.Workers.Knows.{post_for}
-use Rattle.gc_worker.specs.Workers.Saves.{saver_of}
 use Rattle.gc_worker.proofs.Stages.Checkpoints.NextCheckpointStage.{round}
 use Rattle.gc_worker.proofs.Stages.Checkpoints.Rounded.{at}
 use Rattle.lone_mutator.specs.Law.{IsAlone, Lowers, SavesStand, StepsLower, saves}
@@ -86,12 +84,9 @@ module _ (c : Configuration) (p : Plain) (s : Stands c p) (y : Held) (r : Saving
   pub pages : r.layout.pages ≡ c.pages
   pages = ap (λ (l : Layout). l.pages) a.is.fits.stage.layout ∙ a.is.fits.pages
 
-  recalls : Recalls (table c) (saves c) stands.frozen (saver_of x)
-  recalls = stands.knows.recalls (let room = a.is.fits.stage.room in let runs = runs_by goal mutates in rw (room, runs) refl)
-
   -- SNAP is as the mutator read it when it began to run
   pub own_snap : y.snap ≡ (saves c).snap
-  own_snap = recalls.snap
+  own_snap = (stands.knows.recalls (let room = a.is.fits.stage.room in let runs = runs_by goal mutates in rw (room, runs) refl)).snap
 
   -- ---- it goes on
 

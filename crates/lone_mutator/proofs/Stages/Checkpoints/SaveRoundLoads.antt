@@ -23,6 +23,7 @@ use Rattle.page_saves.specs.declared.save_round_stage.SaveRoundStage.{SaveRoundS
 use Rattle.page_saves.specs.declared.save_round_stage.SaveRoundStage.TheVariants.{LoadsSnap, LoadsDone, LoadsPage, LoadsSave, Saves, ExchangesDone, Ended}
 use Rattle.page_saves.specs.declared.save_state.SaveState.{SaveState}
 use Rattle.page_saves.specs.declared.save_state.SaveState.TheVariants.{Waits, Kept}
+use Rattle.page_saves.specs.RoundTheorems.{LooksAtPage}
 use Rattle.page_saves.specs.Save as save
 use Rattle.page_saves.specs.SaveRound as save_round
 use Rattle.page_saves.specs.SaveRound.{SavingRound, after_pages, first_page, found_done, found_snap, looked_at_save, looked_by, number_in, page_after, passed_page, to_page}
@@ -141,7 +142,7 @@ module _ (c : Configuration) (p : Plain) (s : Stands c p) (y : Held) (r : Saving
     by_page true takes = goes_on c p s y r goal (LoadsPage page busy) a (Value word) (round r (LoadsSave page busy)) takes refl refl refl a.remembers.stands.0 refl
     by_page false takes = passes (LoadsPage page busy) a page busy (Value word) refl a.remembers.stands.0 refl takes
 
-    pub loads_page : StepsLower c (Stage (LoadsPage page busy))
+    loads_page : StepsLower c (Stage (LoadsPage page busy))
     loads_page =
         loads_it c p s y r goal (LoadsPage page busy) a (Within (Page page))
         (let in_table = a.is.fits.stage.sound.stage.in_table in let n = pages c p s y r goal (LoadsPage page busy) a in omega (arith, in_table, n)) refl
@@ -200,8 +201,15 @@ module _ (c : Configuration) (p : Plain) (s : Stands c p) (y : Held) (r : Saving
         let same = ap number_of is in
         absurd (omega (arith, young, low, other, own, same))
 
-    pub loads_save : StepsLower c z
+    loads_save : StepsLower c z
     loads_save =
         let says = (saves c).save page in
         loads_it c p s y r goal (LoadsSave page busy) a (Behind (SaveOf page)) below refl
         (looks_by says refl (nat_lt (number_of says) r.number) (number_of says == r.number) refl refl)
+
+  -- ---- each look
+
+  pub looks : (stage : SaveRoundStage) → LooksAtPage stage → IsAlone c (Stage stage) → StepsLower c (Stage stage)
+  looks (LoadsPage page busy) at a = loads_page page busy a
+  looks (LoadsSave page busy) at a = loads_save page busy a
+  looks _ at a = elim at [ ]

@@ -106,21 +106,8 @@ module _ (c : Configuration) (p : Plain) (s : Stands c p) (y : Held) (w : Forwar
     next = next_by (first_pointer copied.registers (8 - (w.register + 1)) (w.register + 1)) (found copied.registers (8 - (w.register + 1)) (w.register + 1))
 
   by_stage : (after : Table) (stage : EvacStage) → CopyGoes c.pages t after v (at stage) → Lowers c.pages (saves c) t after x (turned_register x (with_evac w (at stage)) (told stage))
-  by_stage after LoadsHeader goes = goes_on after LoadsHeader goes
-  by_stage after (TakesHeader kept) goes = goes_on after (TakesHeader kept) goes
-  by_stage after (LoadsArea kept) goes = goes_on after (LoadsArea kept) goes
-  by_stage after (Announces kept area) goes = goes_on after (Announces kept area) goes
-  by_stage after (Reserves kept area) goes = goes_on after (Reserves kept area) goes
-  by_stage after (StoresHeader r) goes = goes_on after (StoresHeader r) goes
-  by_stage after (LoadsWord r i) goes = goes_on after (LoadsWord r i) goes
-  by_stage after (StoresWord r word) goes = goes_on after (StoresWord r word) goes
-  by_stage after (StoresCross r page) goes = goes_on after (StoresCross r page) goes
-  by_stage after (StoresForward r) goes = goes_on after (StoresForward r) goes
-  by_stage after (LoadsWeak to) goes = goes_on after (LoadsWeak to) goes
-  by_stage after (StoresLink to head) goes = goes_on after (StoresLink to head) goes
-  by_stage after (TakesWeak to head) goes = goes_on after (TakesWeak to head) goes
-  by_stage after (Clears to) goes = goes_on after (Clears to) goes
   by_stage after (Ended to) goes = next after to goes
+  by_stage after stage goes = goes_on after stage goes
 
   pub forwards : StepsLower c x
   forwards q asked =

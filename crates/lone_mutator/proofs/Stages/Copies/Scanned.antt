@@ -91,21 +91,8 @@ module _ (c : Configuration) (p : Plain) (s : Stands c p) (y : Held) (v : Evacua
     }
 
     by_stage : (stage : EvacStage) → CopyGoes c.pages t after v (at stage) → Lowers c.pages (saves c) t after x (turned_copy x (at stage) z back (told stage))
-    by_stage LoadsHeader goes = goes_on LoadsHeader goes
-    by_stage (TakesHeader kept) goes = goes_on (TakesHeader kept) goes
-    by_stage (LoadsArea kept) goes = goes_on (LoadsArea kept) goes
-    by_stage (Announces kept area) goes = goes_on (Announces kept area) goes
-    by_stage (Reserves kept area) goes = goes_on (Reserves kept area) goes
-    by_stage (StoresHeader r) goes = goes_on (StoresHeader r) goes
-    by_stage (LoadsWord r i) goes = goes_on (LoadsWord r i) goes
-    by_stage (StoresWord r w) goes = goes_on (StoresWord r w) goes
-    by_stage (StoresCross r page) goes = goes_on (StoresCross r page) goes
-    by_stage (StoresForward r) goes = goes_on (StoresForward r) goes
-    by_stage (LoadsWeak to) goes = goes_on (LoadsWeak to) goes
-    by_stage (StoresLink to head) goes = goes_on (StoresLink to head) goes
-    by_stage (TakesWeak to head) goes = goes_on (TakesWeak to head) goes
-    by_stage (Clears to) goes = goes_on (Clears to) goes
     by_stage (Ended to) goes = answers to goes
+    by_stage stage goes = goes_on stage goes
 
   pub evacuates : StepsLower c x
   evacuates q asked =

@@ -1,42 +1,134 @@
--- The walk of a lone mutator over the chain of cells: the turn is won, which pays for the walk, and each of its steps leaves less to pay.
-use Rattle.std.proofs.Common.{◌≡◌, ℕ, ◌+◌, ◌≤◌, true, ⊎_elim, Some, refl, sym, ap, subst, ◌∙◌, arith}
+-- The walk of a lone mutator over the chain of cells: the turn is free and is won, which pays for the walk, and each of its steps leaves less to
+-- pay, to the chain's end.
+use Rattle.std.proofs.Common.{◌≡◌, ℕ, ◌+◌, ◌-◌, ◌≤◌, ⊎_elim, true, false, nat_lt, Some, refl, sym, ap, subst, ◌∙◌, arith}
 use Rattle.std.specs.Prelude.{is_some}
+use Rattle.std.proofs.lemmas.Bool.{le-ltb}
 use Rattle.plain_state.specs.State.{Plain}
-use Rattle.atom_store.specs.declared.reply.Reply.TheVariants.{Value}
+use Rattle.atom_store.specs.declared.reply.Reply.{Reply}
+use Rattle.atom_store.specs.declared.reply.Reply.TheVariants.{Value, Done}
 use Rattle.atom_store.specs.declared.step.Step.TheVariants.{Load, Store, Exchange}
+use Rattle.atom_store.specs.declared.turn.Turn.TheVariants.{More}
+use Rattle.heap_words.specs.Decoded.{decode}
 use Rattle.space_map.specs.Spaces.{Layout, to_space}
 use Rattle.space_map.specs.Table.{Row, IsRow, WeakHead, WeakTurn, HeapWord, place_of}
 use Rattle.cell_walk.specs.declared.linked_cell.LinkedCell.{LinkedCell}
+use Rattle.cell_walk.specs.declared.walk_end.WalkEnd.TheVariants.{Passed, Another}
 use Rattle.cell_walk.specs.declared.walk_stage.WalkStage.{WalkStage}
 use Rattle.cell_walk.specs.declared.walk_stage.WalkStage.TheVariants.{LoadsTurn, TakesTurn, LoadsWeak, LoadsTarget, LoadsTargetHeader, StoresTarget, LoadsLink, Ended}
 use Rattle.cell_walk.specs.Left.{advances}
+use Rattle.cell_walk.specs.Taken.{stage_after, told}
 use Rattle.cell_walk.specs.Theorems.{HasTurn}
 use Rattle.cell_walk.specs.Walking.{Walking, most_cells}
+use Rattle.cell_walk.proofs.Along.{of_along, of_target}
 use Rattle.cell_walk.proofs.WalkRows.{rows_fit}
 use Rattle.fault_duty.specs.declared.duty_stage.DutyStage.{DutyStage}
-use Rattle.fault_duty.specs.declared.duty_stage.DutyStage.TheVariants.{Walks}
+use Rattle.fault_duty.specs.declared.duty_stage.DutyStage.TheVariants.{Walks, Traces}
 use Rattle.fault_duty.specs.Duty as duty
-use Rattle.fault_duty.specs.Duty.{Round}
+use Rattle.fault_duty.specs.Duty.{Round, at_stage, walk_went}
 use Rattle.fault_duty.specs.Soundness.{IsOwnWalk}
 use Rattle.heap_state.specs.Cells.{HasWalker}
 use Rattle.heap_state.specs.Configuration.{Configuration, Stands, table, era, memory, team}
-use Rattle.heap_state.specs.Memory.Entries.{Entry, WeakTurnIs, WordIs, with_entry}
-use Rattle.heap_state.specs.Memory.Table.{Table, word_in}
 use Rattle.heap_state.specs.Known.{Known}
+use Rattle.heap_state.specs.Memory.Entries.{Entry, WeakTurnIs, WordIs, with_entry}
+use Rattle.heap_state.specs.Memory.Era.{Era, Memory}
+use Rattle.heap_state.specs.Memory.Table.{Table, word_in}
 use Rattle.gc_worker.specs.declared.stage.back.Back.{Back}
 use Rattle.gc_worker.specs.Workers.Held.{Held}
 use Rattle.gc_worker.proofs.Stages.Rounds.NextRoundStage.{round, at, same_pages}
 use Rattle.gc_worker.proofs.Stages.Rounds.Walking.{turn_word}
 use Rattle.lone_mutator.specs.Bound.{walk_cost}
 use Rattle.lone_mutator.specs.Law.{Lowers, IsAlone, StepsLower, saves}
-use Rattle.lone_mutator.specs.Potential.{again_left, due_in, left_in, round_left, size_in}
+use Rattle.lone_mutator.specs.Potential.{again_left, due_in, left_in, round_left, size_in, walk_ahead_at}
+use Rattle.lone_mutator.specs.Rounds.{TurnStands}
 use Rattle.lone_mutator.specs.Tracing.{tracing_left}
 use Rattle.lone_mutator.proofs.Epochs.Cost.{due_untraced, left_turned}
-use Rattle.lone_mutator.proofs.Stages.Rounds.NextRoundCost.{era_epoch, loads_it}
 use Rattle.lone_mutator.proofs.Stages.Rounds.LoneRounds.{RoundGoes, left_again}
-use Rattle.lone_mutator.proofs.Stages.Rounds.Turns.{at_turn, goes_on_walking}
+use Rattle.lone_mutator.proofs.Stages.Rounds.NextRoundCost.{era_epoch, loads_it}
 use Rattle.lone_mutator.proofs.Steps.GoingBack.{same_back}
 use Rattle.lone_mutator.proofs.Steps.Owed.{wants, exchanges, stores}
+
+-- ---- who has the turn
+
+-- keeps it
+keeps_turn : (l : Layout) (e : ℕ) (z : WalkStage) (r : Reply) → HasTurn z → HasTurn (stage_after l e z r)
+keeps_turn l e LoadsWeak (Value w) has = of_along HasTurn (most_cells l.pages) w (λ at is some. tt) tt
+keeps_turn l e (LoadsTarget cell) (Value w) has = of_target HasTurn l e cell (decode w) (λ old leads back. tt) tt
+keeps_turn l e (LoadsTargetHeader cell old) (Value w) has = tt
+keeps_turn l e (StoresTarget cell word) Done has = tt
+keeps_turn l e (LoadsLink cell) (Value w) has = of_along HasTurn (cell.most - 1) w (λ at is some. tt) tt
+keeps_turn l e LoadsTurn r has = absurd has
+keeps_turn l e (TakesTurn found) r has = absurd has
+keeps_turn l e z r has = has
+
+-- pays for its walk itself
+none_ahead : (d : Round) (z : WalkStage) → HasTurn z → walk_ahead_at d z ≡ 0
+none_ahead d LoadsTurn has = absurd has
+none_ahead d (TakesTurn found) has = absurd has
+none_ahead d z has = refl
+
+-- and needs no more what it had read of WEAKTURN
+none_read : (turn : ℕ) (z : WalkStage) → HasTurn z → TurnStands turn z
+none_read turn (TakesTurn found) has = absurd has
+none_read turn z has = tt
+
+module _ (E : Era) (m : Memory) (d : Round) (traced : ℕ) (v : Walking) (is : traced ≡ m.traced) where
+  abbrev walk_at : WalkStage → Walking
+  walk_at z = record v { stage = z }
+
+  abbrev walks_at : WalkStage → DutyStage
+  walks_at z = Walks traced (walk_at z)
+
+  -- ---- the turn is free, and is to be taken
+
+  at_turn : v.layout.pages ≡ d.layout.pages → v.epoch ≡ E.epoch → m.weak_turn ≤ E.epoch → RoundGoes E m d (walks_at LoadsTurn) (Value m.weak_turn)
+  at_turn pages epoch free =
+      let test : nat_lt v.epoch m.weak_turn ≡ false = le-ltb v.epoch m.weak_turn (omega (arith, free, epoch)) in
+      let cells = ap most_cells pages in
+      record {
+        next = walks_at (TakesTurn m.weak_turn);
+        same = rw test refl;
+        more = refl;
+        found = (is, refl);
+        untraced = λ back known. known;
+        advances = refl;
+        steps = λ less. omega (arith, cells);
+      }
+
+  -- ---- with the turn
+
+  module _ (z : WalkStage) (r : Reply) (has : HasTurn z) (on : advances z r ≡ true) where
+    onward : (next : WalkStage) → stage_after v.layout v.epoch z r ≡ next → HasTurn next → told next ≡ More → RoundGoes E m d (walks_at z) r
+    onward next after turn more = record {
+      next = walks_at next;
+      same = ap (λ (n : WalkStage). at_stage d (walk_went traced (walk_at n) (told n))) after ∙ ap (λ t. at_stage d (walk_went traced (walk_at next) t)) more;
+      more = refl;
+      found = (is, none_read m.weak_turn next turn);
+      untraced = λ back known. known;
+      advances = on;
+      steps = λ less. let here = none_ahead d z has in let there = none_ahead (at_stage d (walks_at next)) next turn in omega (arith, less, here, there);
+    }
+
+    -- all cells are passed
+    passes : stage_after v.layout v.epoch z r ≡ Ended Passed → RoundGoes E m d (walks_at z) r
+    passes after = record {
+      next = Traces traced;
+      same = ap (λ (n : WalkStage). at_stage d (walk_went traced (walk_at n) (told n))) after;
+      more = refl;
+      found = is;
+      untraced = λ back known. known;
+      advances = on;
+      steps = λ less. let here = none_ahead d z has in omega (arith, less, here);
+    }
+
+    by_next : (next : WalkStage) → stage_after v.layout v.epoch z r ≡ next → HasTurn next → RoundGoes E m d (walks_at z) r
+    by_next LoadsTurn after turn = absurd turn
+    by_next (TakesTurn found) after turn = absurd turn
+    by_next (Ended Passed) after turn = passes after
+    by_next (Ended (Another word)) after turn = absurd turn
+    by_next next after turn = onward next after turn refl
+
+    goes_on_walking : RoundGoes E m d (walks_at z) r
+    goes_on_walking = by_next (stage_after v.layout v.epoch z r) refl (keeps_turn v.layout v.epoch z r has)
 
 module _ (c : Configuration) (p : Plain) (s : Stands c p) (y : Held) (d : Round) (back : Back) (traced : ℕ) (w : Walking) where
   abbrev stage_at : WalkStage → DutyStage

@@ -1,8 +1,5 @@
 use Rattle.heap_laws.proofs.Targets.Placed.{placing_carries_targets, new_targets_are_stored}
 use Rattle.heap_laws.proofs.laws.targets.placing_carries_targets.Goals as goal
 
-pub returns-clause-places : goal.returns-clause-places
-returns-clause-places c = placing_carries_targets
-
-pub returns-clause-stored : goal.returns-clause-stored
-returns-clause-stored c = new_targets_are_stored
+pub returns : goal.returns
+returns c = record { places = placing_carries_targets; stored = new_targets_are_stored }

@@ -1,8 +1,5 @@
 use Rattle.heap_laws.proofs.Walking.Loads.{walks_begin, walks_go_on}
 use Rattle.heap_laws.proofs.laws.walking.linked_cells_are_walked.Goals as goal
 
-pub returns-clause-begins : goal.returns-clause-begins
-returns-clause-begins c = walks_begin
-
-pub returns-clause-goes_on : goal.returns-clause-goes_on
-returns-clause-goes_on c = walks_go_on
+pub returns : goal.returns
+returns c = record { begins = walks_begin; goes_on = walks_go_on }
